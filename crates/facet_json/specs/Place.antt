@@ -1,0 +1,149 @@
+-- Where a reader stands in a document that is not whole yet, what goes on there, and what else is refused with (RFC 8259, sections 2 to 5).
+use Rattle.std.specs.Prelude.{◌≡◌, ◌≢◌, ℕ, zero, suc, Bool, true, false, List, Option, Some, None, codes, slice_range}
+use Rattle.facet_json.specs.Number.{Number}
+use Rattle.facet_json.specs.Number as numbers
+use Rattle.facet_json.specs.Token.{Span, Kind, Token, Fault, FaultKind}
+use Rattle.facet_json.specs.Token as token
+use Rattle.facet_json.specs.Tokens.{Tokens, ended, refused, next}
+use Rattle.facet_json.specs.Node.{Node, Spells, is_scalar, is_string}
+use Rattle.facet_json.specs.Tree.{Tree}
+use Rattle.facet_json.specs.Meaning.{Meaning, tree_of, text_of}
+
+-- where no value has begun yet, or what stands in front within the innermost open container
+pub data Place : Type 0 where
+  root : Place
+  -- behind `{`, or behind a comma in an object
+  before_key : Place
+  after_key : Place
+  after_colon : Place
+  after_member : Place
+  -- behind `[`, or behind a comma in an array
+  before_item : Place
+  after_item : Place
+
+-- a scalar or an opening bracket
+abbrev pub begins_value : Kind → Bool
+begins_value token.object_start = true
+begins_value token.array_start = true
+begins_value kind = is_scalar kind
+
+abbrev pub is_colon : Kind → Bool
+is_colon token.colon = true
+is_colon _ = false
+
+abbrev pub goes_on_member : Kind → Bool
+goes_on_member token.comma = true
+goes_on_member token.object_end = true
+goes_on_member _ = false
+
+abbrev pub goes_on_item : Kind → Bool
+goes_on_item token.comma = true
+goes_on_item token.array_end = true
+goes_on_item _ = false
+
+abbrev pub begins_key : Kind → Bool
+begins_key token.object_end = true
+begins_key kind = is_string kind
+
+abbrev pub begins_item : Kind → Bool
+begins_item token.array_end = true
+begins_item kind = begins_value kind
+
+-- whether a document may go on at the place with such a token
+abbrev pub goes_on : Place → Kind → Bool
+goes_on root kind = begins_value kind
+goes_on before_key kind = begins_key kind
+goes_on after_key kind = is_colon kind
+goes_on after_colon kind = begins_value kind
+goes_on after_member kind = goes_on_member kind
+goes_on before_item kind = begins_item kind
+goes_on after_item kind = goes_on_item kind
+
+-- ---- refusals
+
+-- what is wrong, with the texts that the error holds
+pub data Complaint : Type 0 where
+  unexpected_char : (character : ℕ) (expected : List ℕ) → Complaint
+  unexpected_eof : (expected : List ℕ) → Complaint
+  unexpected_token : (got expected : List ℕ) → Complaint
+  invalid_utf8 : Complaint
+  invalid_value : (message : List ℕ) → Complaint
+  type_mismatch : (expected got : List ℕ) → Complaint
+  number_out_of_range : (target_type : List ℕ) → Complaint
+  missing_field : (field : List ℕ) → Complaint
+  out_of_memory : Complaint
+  save_limit : Complaint
+
+-- the number that the program prints
+abbrev pub code_of : Complaint → ℕ
+code_of (unexpected_char character expected) = 1
+code_of (unexpected_eof expected) = 2
+code_of (unexpected_token got expected) = 3
+code_of invalid_utf8 = 4
+code_of (invalid_value message) = 5
+code_of (type_mismatch expected got) = 6
+code_of (number_out_of_range target_type) = 7
+code_of (missing_field field) = 8
+code_of out_of_memory = 9
+code_of save_limit = 10
+
+pub record Refusal : Type 0 where
+  pub complaint : Complaint
+  pub span : Option Span
+
+abbrev pub refusal_at : Complaint → Span → Refusal
+refusal_at complaint span = record { complaint = complaint; span = Some span }
+
+-- how a number is called in a refusal
+abbrev pub number_name : Option Number → List ℕ
+number_name None = codes "Number"
+number_name (Some (numbers.u64 n)) = codes "U64"
+number_name (Some (numbers.u128 n)) = codes "U128"
+number_name (Some (numbers.i64 n)) = codes "I64"
+number_name (Some (numbers.i128 n)) = codes "I128"
+number_name (Some (numbers.decimal text)) = codes "Decimal"
+
+-- how a token of the buffer is called in a refusal
+abbrev pub kind_name : List ℕ → Kind → List ℕ
+kind_name buffer token.object_start = codes "ObjectStart"
+kind_name buffer token.object_end = codes "ObjectEnd"
+kind_name buffer token.array_start = codes "ArrayStart"
+kind_name buffer token.array_end = codes "ArrayEnd"
+kind_name buffer token.colon = codes "Colon"
+kind_name buffer token.comma = codes "Comma"
+kind_name buffer token.null = codes "Null"
+kind_name buffer token.true_literal = codes "True"
+kind_name buffer token.false_literal = codes "False"
+kind_name buffer (token.string start finish has_escapes) = codes "String"
+kind_name buffer (token.number start finish hint) = number_name (numbers.number (slice_range buffer start finish) hint)
+
+-- what is expected in front of an item where this token stands
+abbrev pub expected_item : Kind → List ℕ
+expected_item token.comma = codes "value or ']'"
+expected_item token.colon = codes "value or ']'"
+expected_item _ = codes "value"
+
+-- what is expected at the place where this token stands, with which the document can't go on
+abbrev pub expected_at : Place → Kind → List ℕ
+expected_at root kind = codes "value"
+expected_at before_key kind = codes "field name or '}'"
+expected_at after_key kind = codes "':'"
+expected_at after_colon kind = codes "value"
+expected_at after_member kind = codes "',' or '}'"
+expected_at before_item kind = expected_item kind
+expected_at after_item kind = codes "',' or ']'"
+
+-- the complaint at the end of the input
+abbrev pub complaint_at_end : Place → Complaint
+complaint_at_end root = unexpected_eof (codes "value")
+complaint_at_end before_key = unexpected_eof (codes "field name or '}'")
+complaint_at_end after_key = unexpected_token (codes "Eof") (codes "':'")
+complaint_at_end after_colon = unexpected_eof (codes "value")
+complaint_at_end after_member = unexpected_eof (codes "',' or '}'")
+complaint_at_end before_item = unexpected_eof (codes "value or ']'")
+complaint_at_end after_item = unexpected_eof (codes "',' or ']'")
+
+-- the complaint of a fault
+abbrev pub complaint_of_fault : FaultKind → Complaint
+complaint_of_fault (token.unexpected_char c) = unexpected_char c (codes "valid JSON token")
+complaint_of_fault (token.unexpected_eof text) = unexpected_eof text

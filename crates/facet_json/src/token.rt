@@ -1,0 +1,94 @@
+//! Tokens of JSON text (RFC 8259, section 2), and what is wrong where no token stands.
+
+use crate::span::Span;
+
+/// What stands in a number, from its bytes alone.
+#[derive(Debug, Clone, Copy, PartialEq)]
+pub enum NumberHint {
+    /// Digits alone.
+    Unsigned,
+    /// A minus and digits.
+    Signed,
+    /// A dot or an exponent mark stands in it.
+    Float,
+}
+
+/// What a scanner cuts off its buffer. Offsets are in bytes of the buffer.
+#[derive(Debug, Clone, PartialEq, Drop)]
+pub enum Token {
+    /// `{`
+    ObjectStart,
+    /// `}`
+    ObjectEnd,
+    /// `[`
+    ArrayStart,
+    /// `]`
+    ArrayEnd,
+    /// `:`
+    Colon,
+    /// `,`
+    Comma,
+    /// `null`
+    Null,
+    /// `true`
+    True,
+    /// `false`
+    False,
+    /// A string.
+    String {
+        /// Where the content starts, behind the quote.
+        start: usize,
+        /// Where the content ends, at the closing quote.
+        end: usize,
+        /// Whether a backslash stands in the content.
+        has_escapes: bool,
+    },
+    /// A number.
+    Number {
+        /// Where its first byte is.
+        start: usize,
+        /// Where it ends.
+        end: usize,
+        /// What stands in it.
+        hint: NumberHint,
+    },
+    /// The end of the input.
+    Eof,
+    /// The buffer ends inside of what may be a longer token or comment.
+    NeedMore {
+        /// Where that token or comment starts.
+        consumed: usize,
+    },
+}
+
+/// A token and the bytes that it takes.
+#[derive(Debug, Clone, PartialEq, Drop)]
+pub struct SpannedToken {
+    /// The token.
+    pub token: Token,
+    /// Its bytes.
+    pub span: Span,
+}
+
+/// Why the bytes at some place are no token.
+#[derive(Debug, Clone, PartialEq, Drop)]
+pub enum ScanErrorKind {
+    /// No token goes on with this byte, shown as the character of its code.
+    UnexpectedChar(char),
+    /// The input ends inside of what the text names.
+    UnexpectedEof(&'static str),
+    /// Bytes that are not UTF-8.
+    InvalidUtf8,
+}
+
+/// What is wrong, and where.
+#[derive(Debug, Clone, PartialEq, Drop)]
+pub struct ScanError {
+    /// What is wrong.
+    pub kind: ScanErrorKind,
+    /// The bytes that it is about.
+    pub span: Span,
+}
+
+/// A token, or what is wrong where none stands.
+pub type ScanResult = Result<SpannedToken, ScanError>;
