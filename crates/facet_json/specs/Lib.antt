@@ -12,6 +12,7 @@ pub mod Meaning
 pub mod Document
 pub mod Place
 pub mod Refusal
+pub mod Reading
 pub mod Quoted
 pub mod Text
 pub mod Views

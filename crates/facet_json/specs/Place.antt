@@ -94,6 +94,10 @@ pub record Refusal : Type 0 where
 abbrev pub refusal_at : Complaint → Span → Refusal
 refusal_at complaint span = record { complaint = complaint; span = Some span }
 
+-- a growth was refused, which has no place in the input
+abbrev pub no_memory : Refusal
+no_memory = record { complaint = out_of_memory; span = None }
+
 -- how a number is called in a refusal
 abbrev pub number_name : Option Number → List ℕ
 number_name None = codes "Number"

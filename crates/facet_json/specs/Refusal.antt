@@ -1,5 +1,5 @@
 -- Fronts of documents, and how an input without a document is refused: at the first token with which the front can't go on.
-use Rattle.std.specs.Prelude.{◌≡◌, ℕ, zero, Bool, true, false, List, length, Option, Some, None, IsSome, codes}
+use Rattle.std.specs.Prelude.{◌≡◌, ℕ, zero, Bool, true, false, cond, List, length, Option, Some, None, IsSome, codes}
 use Rattle.facet_json.specs.Token.{Span, Kind, Token, Fault}
 use Rattle.facet_json.specs.Token as token
 use Rattle.facet_json.specs.Gap.{plain}
@@ -31,6 +31,16 @@ pub data Begins (m : Meaning) : Place → Tokens → Place → Tokens → Type 0
   in_member : (place here : Place) (first key mark : Token) (name : List ℕ) (inner ts rest : Tokens) → first.kind ≡ token.object_start → PassesMembers m inner (next key (next mark ts)) → is_string key.kind ≡ true → text_of (m key) ≡ Some name → mark.kind ≡ token.colon → Begins m after_colon ts here rest → Begins m place (next first inner) here rest
   behind_member : (place : Place) (first key mark : Token) (name : List ℕ) (inner ts rest : Tokens) (node : Node) (value : Tree) → first.kind ≡ token.object_start → PassesMembers m inner (next key (next mark ts)) → is_string key.kind ≡ true → text_of (m key) ≡ Some name → mark.kind ≡ token.colon → Spells ts node rest → tree_of m node ≡ Some value → Begins m place (next first inner) after_member rest
 
+abbrev pub is_number : Kind → Bool
+is_number (token.number start finish hint) = true
+is_number _ = false
+
+-- No document goes on at the place with the first of the tokens.
+abbrev pub StaysAt : Place → Tokens → Type 0
+StaysAt place ended = Unit {0}
+StaysAt place (refused f) = Unit {0}
+StaysAt place (next t rest) = goes_on place t.kind ≡ false
+
 -- a string or a number, whose text is judged before its place
 abbrev pub needs_meaning : Kind → Bool
 needs_meaning (token.string start finish has_escapes) = true
@@ -54,10 +64,18 @@ pub record RefusesFrom (buffer : List ℕ) (m : Meaning) (complains : Token → 
 
 -- ---- thin documents
 
--- what is wrong with a string or number that isn't thin, or isn't UTF-8
+-- a string that holds a backslash, or a number that isn't unsigned or doesn't fit 64 bits
+abbrev pub not_read_yet : Complaint
+not_read_yet = invalid_value (codes "not read yet")
+
+-- what is wrong with a string without a meaning
+abbrev pub thin_text_complaint : Bool → Complaint
+thin_text_complaint has_escapes = cond has_escapes not_read_yet invalid_utf8
+
+-- what is wrong with a string or number without a meaning
 abbrev pub thin_complaint : Kind → Complaint
-thin_complaint (token.string start finish false) = invalid_utf8
-thin_complaint _ = invalid_value (codes "not read yet")
+thin_complaint (token.string start finish has_escapes) = thin_text_complaint has_escapes
+thin_complaint _ = not_read_yet
 
 abbrev pub ThinComplains : Token → Refusal → Type 0
 ThinComplains t refusal = refusal ≡ refusal_at (thin_complaint t.kind) t.span

@@ -1,5 +1,5 @@
 -- What the types of the code stand for in the definitions. The one file of the definitions that names types of the code.
-use Rattle.std.specs.Prelude.{◌≡◌, ℕ, Bool, List, [], ◌∷◌, map, Option, Some, None, Result, Ok, Err, string_bytes, vec_items}
+use Rattle.std.specs.Prelude.{◌≡◌, ℕ, Bool, List, [], ◌∷◌, map, Option, Some, None, Result, Ok, Err, IfOk, codes, length, slice_range, ◌≤◌, ◌==◌, true, false, string_bytes, vec_items}
 use Rattle.std.specs.Option.{option_map}
 use Rattle.std.specs.declared.string.String.{String}
 use Rattle.std.specs.declared.alloc.Global.{Global}
@@ -17,16 +17,28 @@ use Rattle.facet_json.specs.declared.token.ScanError.{ScanError}
 use Rattle.facet_json.specs.declared.error.DeserializeErrorKind.{DeserializeErrorKind}
 use Rattle.facet_json.specs.declared.error.DeserializeErrorKind.TheVariants as error
 use Rattle.facet_json.specs.declared.error.DeserializeError.{DeserializeError}
+use Rattle.facet_json.specs.declared.place.Place.{Place as RustPlace}
+use Rattle.facet_json.specs.declared.place.Place.TheVariants as places
+use Rattle.facet_json.specs.declared.materialized.TokenKind.{TokenKind}
+use Rattle.facet_json.specs.declared.materialized.TokenKind.TheVariants as kinds
+use Rattle.facet_json.specs.declared.materialized.MaterializedToken.{MaterializedToken}
 use Rattle.facet_json.specs.declared.tree.Tree.{Tree as RustTree, fold-Tree}
 use Rattle.facet_json.specs.declared.tree.Tree.TheOpen.{Tree-F}
+use Rattle.std.specs.List.{list_any}
+use Rattle.facet_json.specs.Bytes.{backslash}
+use Rattle.facet_json.specs.Number.{is_number as is_number_text}
 use Rattle.facet_json.specs.Gap.{Mode, plain, jsonc}
 use Rattle.facet_json.specs.Number.{Hint, unsigned, signed, float}
 use Rattle.facet_json.specs.Token.{Span, Kind, Token, FaultKind, Fault}
 use Rattle.facet_json.specs.Token as token
 use Rattle.facet_json.specs.Cut.{Cut, nothing_left, fault}
 use Rattle.facet_json.specs.Cut as cut
-use Rattle.facet_json.specs.Place.{Complaint, Refusal}
+use Rattle.facet_json.specs.Place.{Place, Complaint, Refusal}
 use Rattle.facet_json.specs.Place as place
+use Rattle.facet_json.specs.Tokens.{Tokens, next, ended}
+use Rattle.facet_json.specs.Node.{is_string}
+use Rattle.facet_json.specs.Meaning.{thin_meaning_of}
+use Rattle.facet_json.specs.Refusal.{is_number, needs_meaning, thin_complaint}
 use Rattle.facet_json.specs.Tree.{Tree, Trees, no_trees, Pairs, no_pairs}
 use Rattle.facet_json.specs.Tree as tree
 
@@ -90,6 +102,95 @@ complaint_of error.SaveLimit = place.save_limit
 
 abbrev pub refusal_of : DeserializeError → Refusal
 refusal_of e = record { complaint = complaint_of e.kind; span = option_map span_of e.span }
+
+-- how a scan's refusal is passed on
+abbrev pub scan_complaint : ScanErrorKind → Complaint
+scan_complaint (scan.UnexpectedChar c) = place.unexpected_char c (codes "valid JSON token")
+scan_complaint (scan.UnexpectedEof text) = place.unexpected_eof text.now
+scan_complaint scan.InvalidUtf8 = place.invalid_utf8
+
+abbrev pub scan_refusal : ScanError → Refusal
+scan_refusal e = place.refusal_at (scan_complaint e.kind) (span_of e.span)
+
+abbrev pub place_of : RustPlace → Place
+place_of places.Root = place.root
+place_of places.BeforeKey = place.before_key
+place_of places.AfterKey = place.after_key
+place_of places.AfterColon = place.after_colon
+place_of places.AfterMember = place.after_member
+place_of places.BeforeItem = place.before_item
+place_of places.AfterItem = place.after_item
+
+-- the end is answered with an empty span at the end of the input
+abbrev pub EndsAt : ℕ → Result SpannedToken ScanError → Type 0
+EndsAt n r = IfOk r (λ t. t.token ≡ code.Eof → span_of t.span ≡ record { offset = n; len = 0 })
+
+-- what a kind of token of the buffer is read as, where only thin tokens are read
+abbrev pub IsReadAs : List ℕ → Kind → TokenKind → Type 0
+IsReadAs buffer kind kinds.ObjectStart = kind ≡ token.object_start
+IsReadAs buffer kind kinds.ObjectEnd = kind ≡ token.object_end
+IsReadAs buffer kind kinds.ArrayStart = kind ≡ token.array_start
+IsReadAs buffer kind kinds.ArrayEnd = kind ≡ token.array_end
+IsReadAs buffer kind kinds.Colon = kind ≡ token.colon
+IsReadAs buffer kind kinds.Comma = kind ≡ token.comma
+IsReadAs buffer kind kinds.Null = kind ≡ token.null
+IsReadAs buffer kind kinds.True = kind ≡ token.true_literal
+IsReadAs buffer kind kinds.False = kind ≡ token.false_literal
+IsReadAs buffer kind (kinds.String s) = (is_string kind ≡ true) × (thin_meaning_of buffer kind ≡ Some (tree.text s.now))
+IsReadAs buffer kind (kinds.U64 n) = (is_number kind ≡ true) × (thin_meaning_of buffer kind ≡ Some (tree.u64 n))
+
+-- the slices that a token names are within the buffer, and hold what it says; it is neither the end nor a call for more bytes
+abbrev pub CanBeRead : List ℕ → RustToken → Type 0
+CanBeRead buffer (code.String start finish has_escapes) = (start ≤ finish) × (finish ≤ length buffer) × (has_escapes ≡ list_any (λ b. b == backslash) (slice_range buffer start finish))
+CanBeRead buffer (code.Number start finish h) = (start ≤ finish) × (finish ≤ length buffer) × (is_number_text (slice_range buffer start finish) (hint_of h) ≡ true)
+CanBeRead buffer code.Eof = ⊥
+CanBeRead buffer (code.NeedMore consumed) = ⊥
+CanBeRead buffer _ = Unit {0}
+
+-- a token without a meaning, and how it is refused
+pub record IsMeaningless (buffer : List ℕ) (kind : Kind) (s : Span) (refusal : Refusal) : Type 0 where
+  pub judged : needs_meaning kind ≡ true
+  pub meaningless : thin_meaning_of buffer kind ≡ None
+  pub refused : refusal ≡ place.refusal_at (thin_complaint kind) s
+
+-- The first of the tokens is read so.
+pub record IsReadFirst (buffer : List ℕ) (ts : Tokens) (t : MaterializedToken) (after : Tokens) : Type 0 where
+  pub first : Token
+  pub is_first : ts ≡ next first after
+  pub read : IsReadAs buffer first.kind t.kind
+  pub spans : first.span ≡ span_of t.span
+
+-- how a kind is called in a refusal
+abbrev pub name_of : TokenKind → List ℕ
+name_of kinds.ObjectStart = codes "ObjectStart"
+name_of kinds.ObjectEnd = codes "ObjectEnd"
+name_of kinds.ArrayStart = codes "ArrayStart"
+name_of kinds.ArrayEnd = codes "ArrayEnd"
+name_of kinds.Colon = codes "Colon"
+name_of kinds.Comma = codes "Comma"
+name_of kinds.Null = codes "Null"
+name_of kinds.True = codes "True"
+name_of kinds.False = codes "False"
+name_of (kinds.String s) = codes "String"
+name_of (kinds.U64 n) = codes "U64"
+
+-- one kind that looks so; texts and numbers are refused alike whatever they hold
+abbrev pub sample : TokenKind → Kind
+sample kinds.ObjectStart = token.object_start
+sample kinds.ObjectEnd = token.object_end
+sample kinds.ArrayStart = token.array_start
+sample kinds.ArrayEnd = token.array_end
+sample kinds.Colon = token.colon
+sample kinds.Comma = token.comma
+sample kinds.Null = token.null
+sample kinds.True = token.true_literal
+sample kinds.False = token.false_literal
+sample (kinds.String s) = token.string 0 0 false
+sample (kinds.U64 n) = token.number 0 0 unsigned
+
+-- what is wrong with the token at a place where no document goes on with it
+abbrev pub misplaced_complaint : Place → TokenKind → Complaint
+misplaced_complaint p kind = place.unexpected_token (name_of kind) (place.expected_at p (sample kind))
 
 -- ---- trees
 

@@ -2,13 +2,21 @@
 #![tactic(auto)]
 
 mod error;
+mod materialized;
 mod mode;
+mod number;
+mod place;
+mod plain_cut;
+mod reader;
 mod span;
+mod thin;
 mod token;
 mod tree;
 
 pub use error::{DeserializeError, DeserializeErrorKind};
 pub use mode::Mode;
+pub use plain_cut::cut;
+pub use reader::from_slice;
 pub use span::Span;
 pub use token::{NumberHint, ScanError, ScanErrorKind, ScanResult, SpannedToken, Token};
 pub use tree::Tree;
