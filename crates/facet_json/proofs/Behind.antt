@@ -79,7 +79,7 @@ pub data MembersStand (m : Meaning) (ts : Tokens) (last : Token) (rest : Tokens)
   first_member : FirstMember m ts last rest → MembersStand m ts last rest
 
 module _ (m : Meaning) where
-  items_stand : {ts rest : Tokens} {nodes : Nodes} {last : Token} (values : Trees) → SpellsItems ts nodes last rest → trees_of m nodes ≡ Some values → ItemsStand m ts last rest
+  pub items_stand : {ts rest : Tokens} {nodes : Nodes} {last : Token} (values : Trees) → SpellsItems ts nodes last rest → trees_of m nodes ≡ Some values → ItemsStand m ts last rest
   unfolding trees_of
   items_stand values (closed last rest e) has = no_more refl e
   items_stand values (item_and_comma ts others rest node nodes separator last s e r) has =
@@ -89,7 +89,7 @@ module _ (m : Meaning) where
       let both = put_item-some (tree_of m node) (Some no_trees) values has in
       first_item (record { node = node; value = both.0; after = next last rest; reads = record { spells = s; has_tree = both.2 }; behind = at_bracket e })
 
-  members_stand : {ts rest : Tokens} {ms : Members} {last : Token} (values : Pairs) → SpellsMembers ts ms last rest → pairs_of m ms ≡ Some values → MembersStand m ts last rest
+  pub members_stand : {ts rest : Tokens} {ms : Members} {last : Token} (values : Pairs) → SpellsMembers ts ms last rest → pairs_of m ms ≡ Some values → MembersStand m ts last rest
   unfolding pairs_of
   members_stand values (ended_members last rest e) has = no_more refl e
   members_stand values (member_and_comma ts others rest key mark node ms separator last k c s e r) has =

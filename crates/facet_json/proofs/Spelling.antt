@@ -17,7 +17,8 @@ pub record Starts (ts : Tokens) : Type 0 where
   pub here : ts ≡ next first others
   pub begins : begins_value first.kind ≡ true
 
-scalar_begins : (kind : Kind) → is_scalar kind ≡ true → begins_value kind ≡ true
+-- A scalar is a value.
+pub scalar_begins : (kind : Kind) → is_scalar kind ≡ true → begins_value kind ≡ true
 scalar_begins object_start e = refl
 scalar_begins array_start e = refl
 scalar_begins object_end e = e

@@ -2,4 +2,4 @@
 
 mod documents;
 
-pub use documents::{one_document, one_spelling};
+pub use documents::{one_document, one_spelling, refused_has_none};
