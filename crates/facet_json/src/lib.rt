@@ -3,6 +3,7 @@
 
 mod error;
 mod materialized;
+pub mod laws;
 mod mode;
 mod number;
 mod place;

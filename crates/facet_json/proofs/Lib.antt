@@ -1,0 +1,4 @@
+pub mod Spelling
+pub mod Fronts
+pub mod Behind
+pub mod Refused

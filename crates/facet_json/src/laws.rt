@@ -1,0 +1,5 @@
+//! What the definitions of `specs/` mean: each function has a law for its contract, and no effect.
+
+mod documents;
+
+pub use documents::{one_document, one_spelling, refused_has_none};

@@ -1,0 +1,21 @@
+//! Laws about documents: which tokens spell a value, and which value.
+
+ghost use Rattle.facet_json.specs.Laws.{OneDocument, OneSpelling, RefusedHasNone};
+
+/// Tokens spell at most one value, and no spelling is a proper front of another's.
+pub fn one_spelling()
+    ensures { OneSpelling }
+{
+}
+
+/// An input has at most one document.
+pub fn one_document()
+    ensures { OneDocument }
+{
+}
+
+/// An input that is refused where thin documents are read has no thin document.
+pub fn refused_has_none()
+    ensures { RefusedHasNone }
+{
+}
