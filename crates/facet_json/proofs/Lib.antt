@@ -1,0 +1,4 @@
+pub mod GapBounds
+pub mod NumberFronts
+pub mod Starts
+pub mod CutBounds
