@@ -93,11 +93,11 @@ slice_get-within (x ∷ bytes) (suc n) b e = omega (arith, slice_get-within byte
 -- ---- bytes of the buffer
 
 -- The next n bytes at a place.
-slice_at : (buffer bytes : List ℕ) (at n : ℕ) → drop at buffer ≡ bytes → slice_range buffer at (at + n) ≡ take n bytes
+pub slice_at : (buffer bytes : List ℕ) (at n : ℕ) → drop at buffer ≡ bytes → slice_range buffer at (at + n) ≡ take n bytes
 slice_at buffer bytes at n e = let m : at + n - at ≡ n = omega arith in ap (λ k. take k (drop at buffer)) m ∙ ap (take n) e
 
 -- What stands behind one more byte.
-drop_next : (buffer bytes : List ℕ) (at b : ℕ) → drop at buffer ≡ b ∷ bytes → drop (suc at) buffer ≡ bytes
+pub drop_next : (buffer bytes : List ℕ) (at b : ℕ) → drop at buffer ≡ b ∷ bytes → drop (suc at) buffer ≡ bytes
 drop_next buffer bytes at b e =
     let m : suc at ≡ at + 1 = omega arith in
     ap (λ k. drop k buffer) m ∙ sym (drop-drop 1 at buffer) ∙ ap (drop 1) e

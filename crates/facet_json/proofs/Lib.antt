@@ -2,3 +2,4 @@ pub mod GapBounds
 pub mod NumberFronts
 pub mod Starts
 pub mod CutBounds
+pub mod TokensSteps
