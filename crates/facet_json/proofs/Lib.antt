@@ -2,3 +2,8 @@ pub mod Spelling
 pub mod Fronts
 pub mod Behind
 pub mod Refused
+pub mod GapBounds
+pub mod NumberFronts
+pub mod Starts
+pub mod CutBounds
+pub mod TokensSteps
