@@ -1,1 +1,2 @@
 pub mod CharAt
+pub mod DecodeLaws
