@@ -1,2 +1,3 @@
 pub mod CharAt
 pub mod DecodeLaws
+pub mod PlainText
