@@ -7,3 +7,6 @@ pub mod NumberFronts
 pub mod Starts
 pub mod CutBounds
 pub mod TokensSteps
+pub mod CharAt
+pub mod DecodeLaws
+pub mod PlainText
