@@ -11,7 +11,7 @@ use Rattle.facet_json.specs.Document.{Reads}
 use Rattle.facet_json.specs.Refusal.{PassesItems, PassesMembers}
 use Rattle.facet_json.specs.Refusal as fronts
 use Rattle.facet_json.proofs.Spelling.{Spells-starts, not_first, one_spelling}
-use Rattle.facet_json.proofs.Fronts.{ReadsItems, ReadsMembers}
+use Rattle.facet_json.specs.Reading.{ReadsItems, ReadsMembers}
 
 -- the first item's tree and the others'
 put_item-some : (a : Option Tree) (b : Option Trees) (all : Trees) → put_item a b ≡ Some all → (t : Tree) × (others : Trees) × (a ≡ Some t) × (b ≡ Some others)

@@ -12,22 +12,11 @@ use Rattle.facet_json.specs.Meaning.{Meaning, tree_of, trees_of, pairs_of, text_
 use Rattle.facet_json.specs.Document.{Reads}
 use Rattle.facet_json.specs.Refusal.{PassesItems, PassesMembers}
 use Rattle.facet_json.specs.Refusal as fronts
+use Rattle.facet_json.specs.Reading.{ReadsItems, ReadsMembers}
 use Rattle.facet_json.specs.Views as views
 use Rattle.facet_json.proofs.Spelling.{Starts, Spells-starts, not_first, one_spelling}
 
 -- ---- what stands up to a closing bracket
-
--- Items with these trees stand up to the closing bracket.
-pub record ReadsItems (m : Meaning) (ts : Tokens) (values : Trees) (last : Token) (rest : Tokens) : Type 0 where
-  pub nodes : Nodes
-  pub spells : SpellsItems ts nodes last rest
-  pub has_trees : trees_of m nodes ≡ Some values
-
--- Members with these keys and trees stand up to the closing brace.
-pub record ReadsMembers (m : Meaning) (ts : Tokens) (values : Pairs) (last : Token) (rest : Tokens) : Type 0 where
-  pub members : Members
-  pub spells : SpellsMembers ts members last rest
-  pub has_pairs : pairs_of m members ≡ Some values
 
 module _ (m : Meaning) where
   pub ReadsItems-closed : (last : Token) (rest : Tokens) → last.kind ≡ token.array_end → ReadsItems m (next last rest) no_trees last rest

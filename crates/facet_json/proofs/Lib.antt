@@ -10,3 +10,5 @@ pub mod TokensSteps
 pub mod CharAt
 pub mod DecodeLaws
 pub mod PlainText
+pub mod Scans
+pub mod Misplaced

@@ -12,7 +12,7 @@ use Rattle.facet_json.specs.Refusal.{Begins, nothing, in_item, behind_item, behi
 use Rattle.facet_json.specs.Refusal as fronts
 use Rattle.facet_json.specs.Laws.{RefusedHasNone}
 use Rattle.facet_json.proofs.Spelling.{scalar_begins}
-use Rattle.facet_json.proofs.Fronts.{ReadsItems, ReadsMembers}
+use Rattle.facet_json.specs.Reading.{ReadsItems, ReadsMembers}
 use Rattle.facet_json.proofs.Behind as behind
 use Rattle.facet_json.proofs.Behind.{BehindItem, at_comma, at_bracket, BehindMember, at_brace, ItemsStand, no_more, first_item, items_stand, MembersStand, first_member, members_stand}
 

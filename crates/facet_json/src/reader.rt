@@ -1,13 +1,14 @@
 //! Reads the tree of a document, byte by byte and by recursion.
 
-ghost use Rattle.std.specs.Prelude.{◌≡◌, ◌≤◌, ◌<◌, ◌+◌, ◌⊎◌, length, IfOk, IfErr, IfSome, OnOk, MatchResult};
+ghost use Rattle.std.specs.Prelude.{◌≡◌, ◌≢◌, ◌≤◌, ◌<◌, ◌+◌, ◌⊎◌, length, IfOk, IfErr, IfSome, OnOk, MatchResult};
+ghost use Rattle.facet_json.specs.declared.materialized.TokenKind.TheVariants.{ArrayEnd};
 ghost use Rattle.facet_json.specs.Token.{array_start, object_start};
 ghost use Rattle.facet_json.specs.Tokens.{Tokens};
 ghost use Rattle.facet_json.specs.Tree.{Tree as SpecTree};
 ghost use Rattle.facet_json.specs.Node.{Node};
 ghost use Rattle.facet_json.specs.Meaning.{thin_meaning};
 ghost use Rattle.facet_json.specs.Document.{IsThinDocument};
-ghost use Rattle.facet_json.specs.Place.{after_key, no_memory};
+ghost use Rattle.facet_json.specs.Place.{after_key, before_item, no_memory};
 ghost use Rattle.facet_json.specs.Refusal.{RefusesThin};
 ghost use Rattle.facet_json.specs.Reading.{left, ReadsValue, ReadsList, ReadsObject, IsColonNext, StopsAt, StopsFrom, StopsBehind, TakesValue};
 ghost use Rattle.facet_json.specs.Views.{refusal_of, place_of, kind_of, span_of, tree_view, trees_view, pairs_view, IsReadFirst, IsReadAs, IsMeaningless, CanBeRead};
@@ -95,7 +96,8 @@ impl<'a> Reader<'a> {
         first: MaterializedToken<'a>,
         place: Place,
     ) -> Result<Tree, DeserializeError<'t>>
-        requires { TakesValue (place_of place) }
+        requires place { TakesValue (place_of place) }
+        requires first { place_of place ≡ before_item → first.kind ≢ ArrayEnd }
         ensures same { self.new.buffer.now ≡ self.old.buffer.now }
         ensures forward { self.old.position ≤ self.new.position }
         ensures value { IfOk result (λ t. (ts : Tokens) → IsReadFirst self.old.buffer.now ts first.entry (left self.old.buffer.now self.old.position)
