@@ -1,1 +1,3 @@
 pub mod GrowthOfGap
+pub mod GrowthOfNumber
+pub mod GrowthOfText
