@@ -1,5 +1,5 @@
 -- What more bytes leave of the gap at the front of a buffer.
-use Rattle.std.proofs.Common.{◌≡◌, ◌≢◌, ℕ, zero, suc, Bool, true, false, cond, ◌==◌, ◌&&◌, List, [], ◌∷◌, ◌++◌, drop, Option, Some, None, refl, sym, ap, ◌∙◌}
+use Rattle.std.proofs.Common.{◌≡◌, ◌≢◌, ℕ, zero, suc, ◌≤◌, Bool, true, false, cond, ◌==◌, ◌&&◌, List, [], ◌∷◌, ◌++◌, length, drop, Option, Some, None, refl, sym, ap, ◌∙◌, arith}
 use Rattle.std.proofs.lemmas.Bool.{eqb-true, and_parts}
 use Rattle.facet_json.specs.Bytes.{is_space, slash, star, line_feed}
 use Rattle.facet_json.specs.Gap.{Mode, plain, jsonc, Input, whole, growing, OpensBlock, OpensLine, one_more, through_block_end, through_line_end, with_mark, with_line_mark, comment_len, piece_len, gap_len_from}
@@ -69,6 +69,14 @@ comment_by-none false true o p None m bytes longer k j e = absurd (j refl refl)
 comment_by-none false true o p (Some i) m bytes longer k j e = cc
 comment_by-none false false o p l m bytes longer k j e = refl
 
+with_mark-none : (o : Option ℕ) → with_mark o ≡ 0 → o ≡ None
+with_mark-none None e = refl
+with_mark-none (Some n) e = cc
+
+-- A block comment that is no piece of a gap is the beginning of one.
+pub block_begins : (bytes : List ℕ) → piece_len jsonc growing (slash ∷ star ∷ bytes) ≡ 0 → IsBeginning jsonc (slash ∷ star ∷ bytes)
+block_begins bytes e = IsBeginning.block bytes (opens_block bytes (with_mark-none _ e))
+
 comment_len-keeps : (bytes more : List ℕ) (n : ℕ) → comment_len growing bytes ≡ suc n → comment_len whole (bytes ++ more) ≡ suc n
 comment_len-keeps [] more n e = cc
 comment_len-keeps (a ∷ []) more n e = cc
@@ -133,6 +141,18 @@ gap_len-ends mode input zero (b ∷ bytes) = by_piece (λ n. gap_len-ends mode i
       (n : ℕ) → piece_len mode input (b ∷ bytes) ≡ n → piece_len mode input (drop (gap_len_from mode input 0 (b ∷ bytes)) (b ∷ bytes)) ≡ 0
   by_piece further zero e = rw (gap_len-none mode input b bytes e) e
   by_piece further (suc n) e = rw (gap_len-some mode input b bytes n e) (further n)
+
+-- The gap is a front of the bytes.
+pub gap_len-le : (mode : Mode) (input : Input) (inside : ℕ) (bytes : List ℕ) → gap_len_from mode input inside bytes ≤ length bytes
+unfolding gap_len_from
+gap_len-le mode input inside [] = omega arith
+gap_len-le mode input (suc inside) (b ∷ bytes) = omega (arith, gap_len-le mode input inside bytes)
+gap_len-le mode input zero (b ∷ bytes) = by_piece (λ n. gap_len-le mode input n bytes) (piece_len mode input (b ∷ bytes)) refl
+  where
+  by_piece : ((n : ℕ) → gap_len_from mode input n bytes ≤ length bytes) →
+      (n : ℕ) → piece_len mode input (b ∷ bytes) ≡ n → gap_len_from mode input 0 (b ∷ bytes) ≤ suc (length bytes)
+  by_piece further zero e = rw (gap_len-none mode input b bytes e) (omega arith)
+  by_piece further (suc n) e = rw (gap_len-some mode input b bytes n e) (omega (arith, further n))
 
 -- The gap of a growing buffer stays under more bytes, where these follow nothing but an end and what is left begins nothing longer.
 abbrev Stays : Mode → List ℕ → List ℕ → ℕ → Type 0

@@ -3,7 +3,10 @@ use Rattle.std.proofs.Common.{◌≡◌, ◌≢◌, ℕ, zero, suc, ◌+◌, ◌
 use Rattle.std.proofs.lemmas.Bool.{eqb-true, eqb-false, eq-eqb, or_cases, cases_lt}
 use Rattle.std.proofs.lemmas.List.{take_all, length-take, length-drop, drop-append-le, drop-drop}
 use Rattle.facet_json.specs.Bytes.{is_digit, is_exponent_mark, is_sign, minus, dot}
-use Rattle.facet_json.specs.Number.{AreDigits, IsMinus, IsFraction, IsExponentSign, IsExponent, IsNumeral, IsNumber, digits_len, minus_len, fraction_len, sign_len, exponent_len, Parts, parts, parts_len, is_some_len, parts_hint, starts_number, is_bare}
+use Rattle.facet_json.specs.Gap.{Mode}
+use Rattle.facet_json.specs.Cut.{Cut, cut_number}
+use Rattle.facet_json.specs.Open.{IsBeginning}
+use Rattle.facet_json.specs.Number.{Hint, AreDigits, IsMinus, IsFraction, IsExponentSign, IsExponent, IsNumeral, IsNumber, digits_len, minus_len, fraction_len, sign_len, exponent_len, Parts, parts, parts_len, is_some_len, parts_hint, starts_number, is_bare}
 
 -- ---- each length is at most that of the bytes
 
@@ -169,3 +172,45 @@ is_numeral b bytes start all =
       whole = sym (take_all _ text (omega arith)) ∙ take_parts p.sign p.digits p.fraction p.exponent text;
       starts = λ e. omega (arith, starts_some b bytes start, ap length (take-add p.sign p.digits text ∙ e), length-take (p.sign + p.digits) text);
       kind = refl }
+
+one_or_none : (t : Bool) (n : ℕ) → suc n ≡ cond t 1 0 → (t ≡ true) × (n ≡ 0)
+one_or_none true n e = (refl, omega arith)
+one_or_none false n e = cc
+
+-- Bytes that are nothing but a minus.
+bare_is_minus : (b : ℕ) (bytes : List ℕ) → length (b ∷ bytes) ≡ (parts (b ∷ bytes)).sign → b ∷ bytes ≡ minus ∷ []
+unfolding parts
+bare_is_minus b [] e = rw (eqb-true b minus (one_or_none (b == minus) 0 e).0)
+bare_is_minus b (c ∷ bytes) e = let none = one_or_none (b == minus) (suc (length bytes)) e in cc (none.1)
+
+minus_is_bare : (bytes : List ℕ) → bytes ≡ minus ∷ [] → is_bare (parts bytes) ≡ true
+unfolding parts
+minus_is_bare bytes e = rw e
+
+-- Bytes whose longest numeral goes to their end are a number or a minus, which may go on.
+number_begins : (mode : Mode) (b : ℕ) (bytes : List ℕ) → starts_number b ≡ true → parts_len (parts (b ∷ bytes)) ≡ length (b ∷ bytes) → IsBeginning mode (b ∷ bytes)
+number_begins mode b bytes start all = by_bare (is_bare (parts (b ∷ bytes))) refl
+  where
+  by_bare : (t : Bool) → is_bare (parts (b ∷ bytes)) ≡ t → IsBeginning mode (b ∷ bytes)
+  by_bare true t = rw (bare_is_minus b bytes (sym all ∙ eqb-true _ _ t)) (IsBeginning.minus_alone mode)
+  by_bare false t =
+      IsBeginning.number mode _ _ (record { numeral = is_numeral b bytes start all; more = λ e. let bare = minus_is_bare _ e in cc })
+
+cut_number_by : (at : ℕ) (bytes more : List ℕ) (n : ℕ) (hint : Hint) (bare : Bool) → bytes ≢ [] → cut_number at (bytes ++ more) n hint bare ≡ cut_number at bytes n hint bare
+cut_number_by at bytes more n hint false some = refl
+cut_number_by at [] more n hint true some = absurd (some refl)
+cut_number_by at (b ∷ bytes) more n hint true some = refl
+
+-- what is cut of a number
+abbrev pub number_at : ℕ → List ℕ → Parts → Cut
+number_at at bytes p = cut_number at bytes (parts_len p) (parts_hint p) (is_bare p)
+
+-- A number that ends before the end of the bytes is cut alike from more bytes.
+pub cut_number-stays : (mode : Mode) (at b : ℕ) (bytes more : List ℕ) → starts_number b ≡ true → (IsBeginning mode (b ∷ bytes) → ⊥) →
+    number_at at (bytes ++ more) (parts (b ∷ bytes ++ more)) ≡ number_at at bytes (parts (b ∷ bytes))
+cut_number-stays mode at b bytes more start shut =
+    let p = parts (b ∷ bytes) in
+    let within : parts_len p < length (b ∷ bytes) = omega (arith, parts_len-le (b ∷ bytes), λ (e : parts_len p ≡ length (b ∷ bytes)). shut (number_begins mode b bytes start e)) in
+    let some : bytes ≢ [] = λ e. omega (arith, starts_some b bytes start, ap length e) in
+    ap (number_at at (bytes ++ more)) (parts-stays (b ∷ bytes) more within)
+    ∙ cut_number_by at bytes more (parts_len p) (parts_hint p) (is_bare p) some

@@ -1,3 +1,4 @@
+pub mod Growth
 pub mod GrowthOfGap
 pub mod GrowthOfNumber
 pub mod GrowthOfText
