@@ -1,0 +1,5 @@
+use Rattle.facet_json.proofs.Growth as growth
+use Rattle.facet_json.proofs.laws.growth.cut_stays.Goals as goal
+
+pub returns : goal.returns
+returns c = growth.cut_stays
