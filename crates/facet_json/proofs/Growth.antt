@@ -1,13 +1,12 @@
 -- What is cut where a buffer isn't open is cut alike from every longer buffer with that front.
-use Rattle.std.proofs.Common.{◌≡◌, ◌≢◌, ℕ, zero, suc, ◌+◌, ◌≤◌, Bool, true, false, cond, ◌==◌, ◌||◌, ◌&&◌, List, [], ◌∷◌, ◌++◌, length, take, drop, Option, Some, None, refl, sym, ap, ◌∙◌, arith, codes}
+use Rattle.std.proofs.Common.{◌≡◌, ℕ, ◌+◌, ◌≤◌, Bool, true, false, cond, ◌==◌, List, [], ◌∷◌, ◌++◌, length, drop, refl, sym, ap, ◌∙◌, arith}
 use Rattle.std.proofs.lemmas.Bool.{eqb-true, cond_both}
 use Rattle.std.proofs.lemmas.List.{drop-append-le, append-nil, drop-drop, length-drop}
 use Rattle.facet_json.specs.Bytes.{quote, slash, star, left_brace, right_brace, left_bracket, right_bracket}
 use Rattle.facet_json.specs.Bytes as bytes
-use Rattle.facet_json.specs.Gap.{Mode, plain, jsonc, Input, whole, growing, piece_len, gap_len, gap_len_from}
-use Rattle.facet_json.specs.Number.{starts_number, parts}
-use Rattle.facet_json.specs.Cut.{IsLiteral, Cut, nothing_left, Start, punctuation, letter, opens_text, opens_number, opens_comment, opens_nothing, start_of, common_len, cut_word, cut_slash, cut_by, cut_here, past_gap, cut}
-use Rattle.facet_json.specs.Token.{Kind}
+use Rattle.facet_json.specs.Gap.{Mode, plain, jsonc, growing, piece_len, gap_len}
+use Rattle.facet_json.specs.Number.{starts_number}
+use Rattle.facet_json.specs.Cut.{IsLiteral, nothing_left, Start, punctuation, letter, opens_text, opens_number, opens_comment, opens_nothing, start_of, cut_slash, cut_by, cut_here, past_gap, cut}
 use Rattle.facet_json.specs.Open.{IsBeginning, IsOpen}
 use Rattle.facet_json.specs.Laws.{CutStays}
 use Rattle.facet_json.proofs.GrowthOfGap.{block_begins, gap_len-le, gap_len-ends, gap_len-stays}
@@ -26,7 +25,7 @@ Fits b opens_nothing = Unit {0}
 -- A byte that may begin something is one that does.
 start_fits : (b : ℕ) → Fits b (start_of b)
 unfolding start_of
-start_fits b = 
+start_fits b =
     cond_both (b == left_brace) _ _ (Fits b) (λ e. tt) (λ e.
     cond_both (b == right_brace) _ _ (Fits b) (λ e. tt) (λ e.
     cond_both (b == left_bracket) _ _ (Fits b) (λ e. tt) (λ e.
@@ -45,42 +44,48 @@ cond-same true x y z never = absurd (never refl)
 cond-same false x y z never = refl
 
 -- A slash is cut alike from more bytes.
-cut_slash-stays : (mode : Mode) (at : ℕ) (bytes more : List ℕ) → (IsBeginning mode (slash ∷ bytes) → ⊥) → piece_len mode growing (slash ∷ bytes) ≡ 0 →
+cut_slash-stays : (mode : Mode) (at : ℕ) (bytes more : List ℕ) → (IsBeginning mode (slash ∷ bytes) → ⊥) →
+    piece_len mode growing (slash ∷ bytes) ≡ 0 →
     cut_slash mode at (bytes ++ more) ≡ cut_slash mode at bytes
 cut_slash-stays plain at bytes more shut none = refl
 cut_slash-stays jsonc at [] more shut none = absurd (shut IsBeginning.slash_alone)
 cut_slash-stays jsonc at (b ∷ bytes) more shut none = cond-same (b == star) _ _ _ closed
   where
-  closed : (b == star) ≡ true → ⊥
-  closed t =
-      let is : b ≡ star = eqb-true b star t in
-      shut (rw is (block_begins bytes (rw is at none)))
+    closed : (b == star) ≡ true → ⊥
+    closed t =
+        let is : b ≡ star = eqb-true b star t in
+        shut (rw is (block_begins bytes (rw is at none)))
 
 -- What a start says of the byte, and that what is left begins nothing longer: it is cut alike from more bytes.
-cut_by-stays : (start : Start) (mode : Mode) (at b : ℕ) (bytes more : List ℕ) → Fits b start → (IsBeginning mode (b ∷ bytes) → ⊥) →
+cut_by-stays : (start : Start) (mode : Mode) (at b : ℕ) (bytes more : List ℕ) → Fits b start →
+    (IsBeginning mode (b ∷ bytes) → ⊥) →
     piece_len mode growing (b ∷ bytes) ≡ 0 → cut_by start mode at b (bytes ++ more) ≡ cut_by start mode at b bytes
 cut_by-stays (punctuation kind) mode at b bytes more fits shut none = refl
 cut_by-stays (letter word kind) mode at b bytes more fits shut none =
     cut_word-stays at (b ∷ bytes) more word kind
     (λ others e some. shut (IsBeginning.literal mode (b ∷ bytes) others kind (rw (← e) fits) (λ nil. cc) some))
-cut_by-stays opens_text mode at b bytes more fits shut none = cut_text-stays mode at bytes more (λ i. shut (rw fits i))
+cut_by-stays opens_text mode at b bytes more fits shut none =
+    cut_text-stays mode at bytes more (λ i. shut (rw fits i))
 cut_by-stays opens_number mode at b bytes more fits shut none = cut_number-stays mode at b bytes more fits shut
 cut_by-stays opens_comment mode at b bytes more fits shut none =
     cut_slash-stays mode at bytes more (λ i. shut (rw fits i)) (rw (← fits) none)
 cut_by-stays opens_nothing mode at b bytes more fits shut none = refl
 
-cut_here-stays : (mode : Mode) (at : ℕ) (bytes more : List ℕ) → (bytes ≡ [] → more ≡ []) → (IsBeginning mode bytes → ⊥) →
+cut_here-stays : (mode : Mode) (at : ℕ) (bytes more : List ℕ) → (bytes ≡ [] → more ≡ []) →
+    (IsBeginning mode bytes → ⊥) →
     piece_len mode growing bytes ≡ 0 → cut_here mode at (bytes ++ more) ≡ cut_here mode at bytes
 unfolding cut_here
 cut_here-stays mode at [] more last shut none = rw (last refl)
-cut_here-stays mode at (b ∷ bytes) more last shut none = cut_by-stays (start_of b) mode at b bytes more (start_fits b) shut none
+cut_here-stays mode at (b ∷ bytes) more last shut none =
+    cut_by-stays (start_of b) mode at b bytes more (start_fits b) shut none
 
 -- where the gap of a growing buffer ends
 abbrev past_growing_gap : List ℕ → ℕ → Mode → ℕ
 past_growing_gap buffer position mode = position + gap_len mode growing (drop position buffer)
 
 -- The gap ends where that of the growing buffer does.
-past_gap-stays : (buffer more : List ℕ) (position : ℕ) (mode : Mode) → position ≤ length buffer → (IsOpen buffer position mode → ⊥) →
+past_gap-stays : (buffer more : List ℕ) (position : ℕ) (mode : Mode) → position ≤ length buffer →
+    (IsOpen buffer position mode → ⊥) →
     (drop (past_growing_gap buffer position mode) buffer ≡ [] → more ≡ []) →
     past_gap (buffer ++ more) position mode ≡ past_growing_gap buffer position mode
 past_gap-stays buffer more position mode within shut last =
@@ -90,7 +95,8 @@ past_gap-stays buffer more position mode within shut last =
     (ap (λ n. position + n) (gap_len-stays mode 0 rest more (λ e. last (sym behind ∙ e)) (λ i. shut (rw (← behind) i))))
 
 -- What is cut where the buffer isn't open is cut behind the gap of the growing buffer.
-cut_as_growing : (buffer more : List ℕ) (position : ℕ) (mode : Mode) → position ≤ length buffer → (IsOpen buffer position mode → ⊥) →
+cut_as_growing : (buffer more : List ℕ) (position : ℕ) (mode : Mode) → position ≤ length buffer →
+    (IsOpen buffer position mode → ⊥) →
     (drop (past_growing_gap buffer position mode) buffer ≡ [] → more ≡ []) →
     cut (buffer ++ more) position mode ≡ cut_here mode (past_growing_gap buffer position mode) (drop (past_growing_gap buffer position mode) buffer)
 unfolding cut

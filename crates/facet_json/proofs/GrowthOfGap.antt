@@ -1,7 +1,7 @@
 -- What more bytes leave of the gap at the front of a buffer.
-use Rattle.std.proofs.Common.{◌≡◌, ◌≢◌, ℕ, zero, suc, ◌≤◌, Bool, true, false, cond, ◌==◌, ◌&&◌, List, [], ◌∷◌, ◌++◌, length, drop, Option, Some, None, refl, sym, ap, ◌∙◌, arith}
+use Rattle.std.proofs.Common.{◌≡◌, ℕ, zero, suc, ◌≤◌, Bool, true, false, cond, ◌==◌, ◌&&◌, List, [], ◌∷◌, ◌++◌, length, drop, Option, Some, None, refl, sym, ap, ◌∙◌, arith}
 use Rattle.std.proofs.lemmas.Bool.{eqb-true, and_parts}
-use Rattle.facet_json.specs.Bytes.{is_space, slash, star, line_feed}
+use Rattle.facet_json.specs.Bytes.{is_space, slash, star}
 use Rattle.facet_json.specs.Gap.{Mode, plain, jsonc, Input, whole, growing, OpensBlock, OpensLine, one_more, through_block_end, through_line_end, with_mark, with_line_mark, comment_len, piece_len, gap_len_from}
 use Rattle.facet_json.specs.Open.{IsBeginning}
 
@@ -15,12 +15,14 @@ one_more-keeps None p k n e = cc
 one_more-keeps (Some m) p k n e = rw (k m refl) e
 
 -- A length found here or further on stays as the one further on does.
-pub cond-keeps : (t : Bool) (here : ℕ) (o p : Option ℕ) → Keeps o p → Keeps (cond t (Some here) (one_more o)) (cond t (Some here) (one_more p))
+pub cond-keeps : (t : Bool) (here : ℕ) (o p : Option ℕ) → Keeps o p →
+    Keeps (cond t (Some here) (one_more o)) (cond t (Some here) (one_more p))
 cond-keeps true here o p k n e = e
 cond-keeps false here o p k n e = one_more-keeps o p k n e
 
 -- Nothing is found here or further on: it is neither.
-pub cond-none : (t : Bool) (here : ℕ) (o : Option ℕ) → cond t (Some here) (one_more o) ≡ None → (t ≡ false) × (o ≡ None)
+pub cond-none : (t : Bool) (here : ℕ) (o : Option ℕ) → cond t (Some here) (one_more o) ≡ None →
+    (t ≡ false) × (o ≡ None)
 cond-none true here o e = cc
 cond-none false here None e = (refl, refl)
 cond-none false here (Some n) e = cc
@@ -60,7 +62,8 @@ comment_by-keeps false true o p (Some i) m bytes longer n k j e = rw (j i refl) 
 comment_by-keeps false false o p l m bytes longer n k j e = cc
 
 -- Where no comment is closed and none is open, there is none.
-comment_by-none : (t u : Bool) (o p l m : Option ℕ) (bytes longer : List ℕ) → (t ≡ true → o ≡ None → ⊥) → (u ≡ true → l ≡ None → ⊥) →
+comment_by-none : (t u : Bool) (o p l m : Option ℕ) (bytes longer : List ℕ) → (t ≡ true → o ≡ None → ⊥) →
+    (u ≡ true → l ≡ None → ⊥) →
     cond t (with_mark o) (cond u (with_line_mark growing bytes l) 0) ≡ 0 →
     cond t (with_mark p) (cond u (with_line_mark whole longer m) 0) ≡ 0
 comment_by-none true u None p l m bytes longer k j e = absurd (k refl refl)
@@ -74,32 +77,37 @@ with_mark-none None e = refl
 with_mark-none (Some n) e = cc
 
 -- A block comment that is no piece of a gap is the beginning of one.
-pub block_begins : (bytes : List ℕ) → piece_len jsonc growing (slash ∷ star ∷ bytes) ≡ 0 → IsBeginning jsonc (slash ∷ star ∷ bytes)
+pub block_begins : (bytes : List ℕ) → piece_len jsonc growing (slash ∷ star ∷ bytes) ≡ 0 →
+    IsBeginning jsonc (slash ∷ star ∷ bytes)
 block_begins bytes e = IsBeginning.block bytes (opens_block bytes (with_mark-none _ e))
 
-comment_len-keeps : (bytes more : List ℕ) (n : ℕ) → comment_len growing bytes ≡ suc n → comment_len whole (bytes ++ more) ≡ suc n
+comment_len-keeps : (bytes more : List ℕ) (n : ℕ) → comment_len growing bytes ≡ suc n →
+    comment_len whole (bytes ++ more) ≡ suc n
 comment_len-keeps [] more n e = cc
 comment_len-keeps (a ∷ []) more n e = cc
-comment_len-keeps (a ∷ b ∷ bytes) more n e = comment_by-keeps _ _ _ _ _ _ bytes (bytes ++ more) n (block_end-keeps bytes more) (line_end-keeps bytes more) e
+comment_len-keeps (a ∷ b ∷ bytes) more n e =
+    comment_by-keeps _ _ _ _ _ _ bytes (bytes ++ more) n (block_end-keeps bytes more) (line_end-keeps bytes more) e
 
 no_slash : (t u v : Bool) (m n : ℕ) → (t ≡ true → ⊥) → cond (t && u) m (cond (t && v) n 0) ≡ 0
 no_slash true u v m n k = absurd (k refl)
 no_slash false u v m n k = refl
 
-comment_len-none : (a : ℕ) (bytes more : List ℕ) → (IsBeginning jsonc (a ∷ bytes) → ⊥) → comment_len growing (a ∷ bytes) ≡ 0 → comment_len whole (a ∷ bytes ++ more) ≡ 0
+comment_len-none : (a : ℕ) (bytes more : List ℕ) → (IsBeginning jsonc (a ∷ bytes) → ⊥) →
+    comment_len growing (a ∷ bytes) ≡ 0 → comment_len whole (a ∷ bytes ++ more) ≡ 0
 comment_len-none a [] [] shut e = refl
 comment_len-none a [] (b ∷ more) shut e =
     no_slash (a == slash) _ _ _ _ (λ t. shut (rw (eqb-true a slash t) IsBeginning.slash_alone))
 comment_len-none a (b ∷ bytes) more shut e = comment_by-none _ _ _ _ _ _ bytes (bytes ++ more) at_block at_line e
   where
-  at_block : (a == slash) && (b == star) ≡ true → through_block_end bytes ≡ None → ⊥
-  at_block t none =
-      let both = and_parts _ _ t in
-      shut (rw (eqb-true a slash both.0, eqb-true b star both.1) (IsBeginning.block bytes (opens_block bytes none)))
-  at_line : (a == slash) && (b == slash) ≡ true → through_line_end bytes ≡ None → ⊥
-  at_line t none =
-      let both = and_parts _ _ t in
-      shut (rw (eqb-true a slash both.0, eqb-true b slash both.1) (IsBeginning.line bytes (opens_line bytes none)))
+    at_block : (a == slash) && (b == star) ≡ true → through_block_end bytes ≡ None → ⊥
+    at_block t none =
+        let both = and_parts _ _ t in
+        shut (rw (eqb-true a slash both.0, eqb-true b star both.1) (IsBeginning.block bytes (opens_block bytes none)))
+
+    at_line : (a == slash) && (b == slash) ≡ true → through_line_end bytes ≡ None → ⊥
+    at_line t none =
+        let both = and_parts _ _ t in
+        shut (rw (eqb-true a slash both.0, eqb-true b slash both.1) (IsBeginning.line bytes (opens_line bytes none)))
 
 blank_or-keeps : (t : Bool) (m n k : ℕ) → (m ≡ suc k → n ≡ suc k) → cond t 1 m ≡ suc k → cond t 1 n ≡ suc k
 blank_or-keeps true m n k h e = e
@@ -110,49 +118,59 @@ blank_or-none true m n h e = e
 blank_or-none false m n h e = h e
 
 -- A piece of a gap in a growing buffer stays.
-piece_len-keeps : (mode : Mode) (bytes more : List ℕ) (n : ℕ) → piece_len mode growing bytes ≡ suc n → piece_len mode whole (bytes ++ more) ≡ suc n
+piece_len-keeps : (mode : Mode) (bytes more : List ℕ) (n : ℕ) → piece_len mode growing bytes ≡ suc n →
+    piece_len mode whole (bytes ++ more) ≡ suc n
 piece_len-keeps plain [] more n e = cc
 piece_len-keeps plain (b ∷ bytes) more n e = e
 piece_len-keeps jsonc [] more n e = cc
-piece_len-keeps jsonc (b ∷ bytes) more n e = blank_or-keeps (is_space b) _ _ n (comment_len-keeps (b ∷ bytes) more n) e
+piece_len-keeps jsonc (b ∷ bytes) more n e =
+    blank_or-keeps (is_space b) _ _ n (comment_len-keeps (b ∷ bytes) more n) e
 
 -- Where no piece of a gap stands and none may begin, none comes to stand.
-piece_len-none : (mode : Mode) (b : ℕ) (bytes more : List ℕ) → (IsBeginning mode (b ∷ bytes) → ⊥) → piece_len mode growing (b ∷ bytes) ≡ 0 → piece_len mode whole (b ∷ bytes ++ more) ≡ 0
+piece_len-none : (mode : Mode) (b : ℕ) (bytes more : List ℕ) → (IsBeginning mode (b ∷ bytes) → ⊥) →
+    piece_len mode growing (b ∷ bytes) ≡ 0 → piece_len mode whole (b ∷ bytes ++ more) ≡ 0
 piece_len-none plain b bytes more shut e = e
 piece_len-none jsonc b bytes more shut e = blank_or-none (is_space b) _ _ (comment_len-none b bytes more shut) e
 
-gap_len-none : (mode : Mode) (input : Input) (b : ℕ) (bytes : List ℕ) → piece_len mode input (b ∷ bytes) ≡ 0 → gap_len_from mode input 0 (b ∷ bytes) ≡ 0
+gap_len-none : (mode : Mode) (input : Input) (b : ℕ) (bytes : List ℕ) → piece_len mode input (b ∷ bytes) ≡ 0 →
+    gap_len_from mode input 0 (b ∷ bytes) ≡ 0
 unfolding gap_len_from
 gap_len-none mode input b bytes e = rw (e, gap_len_from)
 
-gap_len-some : (mode : Mode) (input : Input) (b : ℕ) (bytes : List ℕ) (n : ℕ) → piece_len mode input (b ∷ bytes) ≡ suc n →
+gap_len-some : (mode : Mode) (input : Input) (b : ℕ) (bytes : List ℕ) (n : ℕ) →
+    piece_len mode input (b ∷ bytes) ≡ suc n →
     gap_len_from mode input 0 (b ∷ bytes) ≡ suc (gap_len_from mode input n bytes)
 unfolding gap_len_from
 gap_len-some mode input b bytes n e = rw (e, gap_len_from)
 
 -- No piece of a gap stands behind the longest gap.
-pub gap_len-ends : (mode : Mode) (input : Input) (inside : ℕ) (bytes : List ℕ) → piece_len mode input (drop (gap_len_from mode input inside bytes) bytes) ≡ 0
+pub gap_len-ends : (mode : Mode) (input : Input) (inside : ℕ) (bytes : List ℕ) →
+    piece_len mode input (drop (gap_len_from mode input inside bytes) bytes) ≡ 0
 unfolding gap_len_from
 gap_len-ends mode input inside [] = refl
 gap_len-ends mode input (suc inside) (b ∷ bytes) = gap_len-ends mode input inside bytes
-gap_len-ends mode input zero (b ∷ bytes) = by_piece (λ n. gap_len-ends mode input n bytes) (piece_len mode input (b ∷ bytes)) refl
+gap_len-ends mode input zero (b ∷ bytes) =
+    by_piece (λ n. gap_len-ends mode input n bytes) (piece_len mode input (b ∷ bytes)) refl
   where
-  by_piece : ((n : ℕ) → piece_len mode input (drop (gap_len_from mode input n bytes) bytes) ≡ 0) →
-      (n : ℕ) → piece_len mode input (b ∷ bytes) ≡ n → piece_len mode input (drop (gap_len_from mode input 0 (b ∷ bytes)) (b ∷ bytes)) ≡ 0
-  by_piece further zero e = rw (gap_len-none mode input b bytes e) e
-  by_piece further (suc n) e = rw (gap_len-some mode input b bytes n e) (further n)
+    by_piece : ((n : ℕ) → piece_len mode input (drop (gap_len_from mode input n bytes) bytes) ≡ 0) →
+        (n : ℕ) → piece_len mode input (b ∷ bytes) ≡ n →
+        piece_len mode input (drop (gap_len_from mode input 0 (b ∷ bytes)) (b ∷ bytes)) ≡ 0
+    by_piece further zero e = rw (gap_len-none mode input b bytes e) e
+    by_piece further (suc n) e = rw (gap_len-some mode input b bytes n e) (further n)
 
 -- The gap is a front of the bytes.
-pub gap_len-le : (mode : Mode) (input : Input) (inside : ℕ) (bytes : List ℕ) → gap_len_from mode input inside bytes ≤ length bytes
+pub gap_len-le : (mode : Mode) (input : Input) (inside : ℕ) (bytes : List ℕ) →
+    gap_len_from mode input inside bytes ≤ length bytes
 unfolding gap_len_from
 gap_len-le mode input inside [] = omega arith
 gap_len-le mode input (suc inside) (b ∷ bytes) = omega (arith, gap_len-le mode input inside bytes)
-gap_len-le mode input zero (b ∷ bytes) = by_piece (λ n. gap_len-le mode input n bytes) (piece_len mode input (b ∷ bytes)) refl
+gap_len-le mode input zero (b ∷ bytes) =
+    by_piece (λ n. gap_len-le mode input n bytes) (piece_len mode input (b ∷ bytes)) refl
   where
-  by_piece : ((n : ℕ) → gap_len_from mode input n bytes ≤ length bytes) →
-      (n : ℕ) → piece_len mode input (b ∷ bytes) ≡ n → gap_len_from mode input 0 (b ∷ bytes) ≤ suc (length bytes)
-  by_piece further zero e = rw (gap_len-none mode input b bytes e) (omega arith)
-  by_piece further (suc n) e = rw (gap_len-some mode input b bytes n e) (omega (arith, further n))
+    by_piece : ((n : ℕ) → gap_len_from mode input n bytes ≤ length bytes) →
+        (n : ℕ) → piece_len mode input (b ∷ bytes) ≡ n → gap_len_from mode input 0 (b ∷ bytes) ≤ suc (length bytes)
+    by_piece further zero e = rw (gap_len-none mode input b bytes e) (omega arith)
+    by_piece further (suc n) e = rw (gap_len-some mode input b bytes n e) (omega (arith, further n))
 
 -- The gap of a growing buffer stays under more bytes, where these follow nothing but an end and what is left begins nothing longer.
 abbrev Stays : Mode → List ℕ → List ℕ → ℕ → Type 0

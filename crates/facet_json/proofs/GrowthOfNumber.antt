@@ -1,12 +1,12 @@
 -- What more bytes leave of a number at the front of a buffer.
-use Rattle.std.proofs.Common.{◌≡◌, ◌≢◌, ℕ, zero, suc, ◌+◌, ◌-◌, ◌≤◌, ◌<◌, Bool, true, false, cond, ◌==◌, ◌||◌, List, [], ◌∷◌, ◌++◌, length, take, drop, refl, sym, ap, ◌∙◌, arith, take-add, append_assoc, inl, inr, ⊎_elim}
-use Rattle.std.proofs.lemmas.Bool.{eqb-true, eqb-false, eq-eqb, or_cases, cases_lt}
-use Rattle.std.proofs.lemmas.List.{take_all, length-take, length-drop, drop-append-le, drop-drop}
+use Rattle.std.proofs.Common.{◌≡◌, ◌≢◌, ℕ, suc, ◌+◌, ◌≤◌, ◌<◌, Bool, true, false, cond, ◌==◌, ◌||◌, List, [], ◌∷◌, ◌++◌, length, take, drop, refl, sym, ap, ◌∙◌, arith, take-add}
+use Rattle.std.proofs.lemmas.Bool.{eqb-true}
+use Rattle.std.proofs.lemmas.List.{take_all, length-take, length-drop, drop-append-le}
 use Rattle.facet_json.specs.Bytes.{is_digit, is_exponent_mark, is_sign, minus, dot}
 use Rattle.facet_json.specs.Gap.{Mode}
 use Rattle.facet_json.specs.Cut.{Cut, cut_number}
 use Rattle.facet_json.specs.Open.{IsBeginning}
-use Rattle.facet_json.specs.Number.{Hint, AreDigits, IsMinus, IsFraction, IsExponentSign, IsExponent, IsNumeral, IsNumber, digits_len, minus_len, fraction_len, sign_len, exponent_len, Parts, parts, parts_len, is_some_len, parts_hint, starts_number, is_bare}
+use Rattle.facet_json.specs.Number.{Hint, AreDigits, IsMinus, IsFraction, IsExponentSign, IsExponent, IsNumeral, digits_len, minus_len, fraction_len, sign_len, exponent_len, Parts, parts, parts_len, is_some_len, parts_hint, starts_number, is_bare}
 
 -- ---- each length is at most that of the bytes
 
@@ -35,12 +35,14 @@ fraction_len-le [] = omega arith
 fraction_len-le (b ∷ bytes) = cond_suc-le (b == dot) _ _ (digits_len-le bytes)
 
 -- A front behind a front is within too.
-behind-le : (f : List ℕ → ℕ) → IsWithin f → (n : ℕ) (bytes : List ℕ) → n ≤ length bytes → n + f (drop n bytes) ≤ length bytes
+behind-le : (f : List ℕ → ℕ) → IsWithin f → (n : ℕ) (bytes : List ℕ) → n ≤ length bytes →
+    n + f (drop n bytes) ≤ length bytes
 behind-le f within n bytes h = omega (arith, within (drop n bytes), length-drop n bytes)
 
 exponent_len-le : IsWithin exponent_len
 exponent_len-le [] = omega arith
-exponent_len-le (b ∷ bytes) = cond_suc-le (is_exponent_mark b) _ _ (behind-le digits_len digits_len-le (sign_len bytes) bytes (sign_len-le bytes))
+exponent_len-le (b ∷ bytes) =
+    cond_suc-le (is_exponent_mark b) _ _ (behind-le digits_len digits_len-le (sign_len bytes) bytes (sign_len-le bytes))
 
 -- The parts of the longest numeral are within the bytes.
 parts_len-le : (bytes : List ℕ) → parts_len (parts bytes) ≤ length bytes
@@ -54,7 +56,8 @@ parts_len-le bytes =
 abbrev Stays : (List ℕ → ℕ) → Type 0
 Stays f = (bytes more : List ℕ) → f bytes < length bytes → f (bytes ++ more) ≡ f bytes
 
-cond_suc-stays : (t : Bool) (m n len : ℕ) → (m < len → n ≡ m) → cond t (suc m) 0 < suc len → cond t (suc n) 0 ≡ cond t (suc m) 0
+cond_suc-stays : (t : Bool) (m n len : ℕ) → (m < len → n ≡ m) → cond t (suc m) 0 < suc len →
+    cond t (suc n) 0 ≡ cond t (suc m) 0
 cond_suc-stays true m n len h lt = ap suc (h (omega arith))
 cond_suc-stays false m n len h lt = refl
 
@@ -74,7 +77,8 @@ sign_len-stays : Stays sign_len
 sign_len-stays [] more lt = absurd (omega arith)
 sign_len-stays (b ∷ bytes) more lt = refl
 
-behind-stays : (f : List ℕ → ℕ) → Stays f → (n : ℕ) (bytes more : List ℕ) → n + f (drop n bytes) < length bytes → f (drop n (bytes ++ more)) ≡ f (drop n bytes)
+behind-stays : (f : List ℕ → ℕ) → Stays f → (n : ℕ) (bytes more : List ℕ) → n + f (drop n bytes) < length bytes →
+    f (drop n (bytes ++ more)) ≡ f (drop n bytes)
 behind-stays f stays n bytes more lt =
     let within : n ≤ length bytes = omega arith in
     rw (drop-append-le n bytes more within) (stays (drop n bytes) more (omega (arith, length-drop n bytes)))
@@ -94,14 +98,17 @@ pub parts-stays : (bytes more : List ℕ) → parts_len (parts bytes) < length b
 unfolding parts
 parts-stays bytes more lt =
     let p = parts bytes in
-    rw (minus_len-stays bytes more (omega arith),
-        behind-stays digits_len digits_len-stays p.sign bytes more (omega arith),
-        behind-stays fraction_len fraction_len-stays (p.sign + p.digits) bytes more (omega arith),
-        behind-stays exponent_len exponent_len-stays (p.sign + p.digits + p.fraction) bytes more lt)
+    rw (
+      minus_len-stays bytes more (omega arith),
+      behind-stays digits_len digits_len-stays p.sign bytes more (omega arith),
+      behind-stays fraction_len fraction_len-stays (p.sign + p.digits) bytes more (omega arith),
+      behind-stays exponent_len exponent_len-stays (p.sign + p.digits + p.fraction) bytes more lt,
+    )
 
 -- ---- bytes that are one numeral to the end
 
-digits_by : (t : Bool) (b n : ℕ) (bytes : List ℕ) → is_digit b ≡ t → AreDigits (take n bytes) → AreDigits (take (cond t (suc n) 0) (b ∷ bytes))
+digits_by : (t : Bool) (b n : ℕ) (bytes : List ℕ) → is_digit b ≡ t → AreDigits (take n bytes) →
+    AreDigits (take (cond t (suc n) 0) (b ∷ bytes))
 digits_by true b n bytes t digits = AreDigits.digit b (take n bytes) t digits
 digits_by false b n bytes t digits = AreDigits.none
 
@@ -109,7 +116,8 @@ are_digits : (bytes : List ℕ) → AreDigits (take (digits_len bytes) bytes)
 are_digits [] = AreDigits.none
 are_digits (b ∷ bytes) = digits_by (is_digit b) b (digits_len bytes) bytes refl (are_digits bytes)
 
-minus_by : (t : Bool) (b : ℕ) (bytes : List ℕ) → (b == minus) ≡ t → IsMinus (take (cond t 1 0) (b ∷ bytes)) (is_some_len (cond t 1 0))
+minus_by : (t : Bool) (b : ℕ) (bytes : List ℕ) → (b == minus) ≡ t →
+    IsMinus (take (cond t 1 0) (b ∷ bytes)) (is_some_len (cond t 1 0))
 minus_by true b bytes t = rw (eqb-true b minus t) IsMinus.present
 minus_by false b bytes t = IsMinus.absent
 
@@ -125,7 +133,8 @@ is_exponent_sign : (bytes : List ℕ) → IsExponentSign (take (sign_len bytes) 
 is_exponent_sign [] = IsExponentSign.absent
 is_exponent_sign (b ∷ bytes) = sign_by (is_sign b) b bytes refl
 
-fraction_by : (t : Bool) (b n : ℕ) (bytes : List ℕ) → (b == dot) ≡ t → AreDigits (take n bytes) → IsFraction (take (cond t (suc n) 0) (b ∷ bytes)) (is_some_len (cond t (suc n) 0))
+fraction_by : (t : Bool) (b n : ℕ) (bytes : List ℕ) → (b == dot) ≡ t → AreDigits (take n bytes) →
+    IsFraction (take (cond t (suc n) 0) (b ∷ bytes)) (is_some_len (cond t (suc n) 0))
 fraction_by true b n bytes t digits = rw (eqb-true b dot t) (IsFraction.present (take n bytes) digits)
 fraction_by false b n bytes t digits = IsFraction.absent
 
@@ -133,9 +142,11 @@ is_fraction : (bytes : List ℕ) → IsFraction (take (fraction_len bytes) bytes
 is_fraction [] = IsFraction.absent
 is_fraction (b ∷ bytes) = fraction_by (b == dot) b (digits_len bytes) bytes refl (are_digits bytes)
 
-exponent_by : (t : Bool) (b s n : ℕ) (bytes : List ℕ) → is_exponent_mark b ≡ t → IsExponentSign (take s bytes) → AreDigits (take n (drop s bytes)) →
+exponent_by : (t : Bool) (b s n : ℕ) (bytes : List ℕ) → is_exponent_mark b ≡ t → IsExponentSign (take s bytes) →
+    AreDigits (take n (drop s bytes)) →
     IsExponent (take (cond t (suc (s + n)) 0) (b ∷ bytes)) (is_some_len (cond t (suc (s + n)) 0))
-exponent_by true b s n bytes t sign digits = rw (take-add s n bytes) (IsExponent.present b (take s bytes) (take n (drop s bytes)) t sign digits)
+exponent_by true b s n bytes t sign digits =
+    rw (take-add s n bytes) (IsExponent.present b (take s bytes) (take n (drop s bytes)) t sign digits)
 exponent_by false b s n bytes t sign digits = IsExponent.absent
 
 is_exponent : (bytes : List ℕ) → IsExponent (take (exponent_len bytes) bytes) (is_some_len (exponent_len bytes))
@@ -148,30 +159,40 @@ take_parts : (s d f e : ℕ) (bytes : List ℕ) →
     take (s + d + f + e) bytes ≡ take s bytes ++ take d (drop s bytes) ++ take f (drop (s + d) bytes) ++ take e (drop (s + d + f) bytes)
 take_parts s d f e bytes = rw (take-add (s + d + f) e bytes, take-add (s + d) f bytes, take-add s d bytes)
 
-starts_by : (t : Bool) (b : ℕ) (bytes : List ℕ) → (t || is_digit b) ≡ true → 1 ≤ cond t 1 0 + digits_len (drop (cond t 1 0) (b ∷ bytes))
+starts_by : (t : Bool) (b : ℕ) (bytes : List ℕ) → (t || is_digit b) ≡ true →
+    1 ≤ cond t 1 0 + digits_len (drop (cond t 1 0) (b ∷ bytes))
 starts_by true b bytes h = omega arith
 starts_by false b bytes h = rw h (omega arith)
 
 -- What starts a number has a minus or a digit.
-starts_some : (b : ℕ) (bytes : List ℕ) → starts_number b ≡ true → 1 ≤ (parts (b ∷ bytes)).sign + (parts (b ∷ bytes)).digits
+starts_some : (b : ℕ) (bytes : List ℕ) → starts_number b ≡ true →
+    1 ≤ (parts (b ∷ bytes)).sign + (parts (b ∷ bytes)).digits
 unfolding parts
 starts_some b bytes h = starts_by (b == minus) b bytes h
 
 -- Bytes whose longest numeral goes to their end are a numeral.
-is_numeral : (b : ℕ) (bytes : List ℕ) → starts_number b ≡ true → parts_len (parts (b ∷ bytes)) ≡ length (b ∷ bytes) → IsNumeral (b ∷ bytes) (parts_hint (parts (b ∷ bytes)))
+is_numeral : (b : ℕ) (bytes : List ℕ) → starts_number b ≡ true → parts_len (parts (b ∷ bytes)) ≡ length (b ∷ bytes) →
+    IsNumeral (b ∷ bytes) (parts_hint (parts (b ∷ bytes)))
 unfolding parts
 is_numeral b bytes start all =
     let text = b ∷ bytes in
     let p = parts text in
     record {
-      sign = take p.sign text; digits = take p.digits (drop p.sign text);
-      fraction = take p.fraction (drop (p.sign + p.digits) text); exponent = take p.exponent (drop (p.sign + p.digits + p.fraction) text);
-      has_minus = is_some_len p.sign; has_fraction = is_some_len p.fraction; has_exponent = is_some_len p.exponent;
-      is_minus = is_minus text; are_digits = are_digits (drop p.sign text);
-      is_fraction = is_fraction (drop (p.sign + p.digits) text); is_exponent = is_exponent (drop (p.sign + p.digits + p.fraction) text);
+      sign = take p.sign text;
+      digits = take p.digits (drop p.sign text);
+      fraction = take p.fraction (drop (p.sign + p.digits) text);
+      exponent = take p.exponent (drop (p.sign + p.digits + p.fraction) text);
+      has_minus = is_some_len p.sign;
+      has_fraction = is_some_len p.fraction;
+      has_exponent = is_some_len p.exponent;
+      is_minus = is_minus text;
+      are_digits = are_digits (drop p.sign text);
+      is_fraction = is_fraction (drop (p.sign + p.digits) text);
+      is_exponent = is_exponent (drop (p.sign + p.digits + p.fraction) text);
       whole = sym (take_all _ text (omega arith)) ∙ take_parts p.sign p.digits p.fraction p.exponent text;
       starts = λ e. omega (arith, starts_some b bytes start, ap length (take-add p.sign p.digits text ∙ e), length-take (p.sign + p.digits) text);
-      kind = refl }
+      kind = refl;
+    }
 
 one_or_none : (t : Bool) (n : ℕ) → suc n ≡ cond t 1 0 → (t ≡ true) × (n ≡ 0)
 one_or_none true n e = (refl, omega arith)
@@ -188,15 +209,17 @@ unfolding parts
 minus_is_bare bytes e = rw e
 
 -- Bytes whose longest numeral goes to their end are a number or a minus, which may go on.
-number_begins : (mode : Mode) (b : ℕ) (bytes : List ℕ) → starts_number b ≡ true → parts_len (parts (b ∷ bytes)) ≡ length (b ∷ bytes) → IsBeginning mode (b ∷ bytes)
+number_begins : (mode : Mode) (b : ℕ) (bytes : List ℕ) → starts_number b ≡ true →
+    parts_len (parts (b ∷ bytes)) ≡ length (b ∷ bytes) → IsBeginning mode (b ∷ bytes)
 number_begins mode b bytes start all = by_bare (is_bare (parts (b ∷ bytes))) refl
   where
-  by_bare : (t : Bool) → is_bare (parts (b ∷ bytes)) ≡ t → IsBeginning mode (b ∷ bytes)
-  by_bare true t = rw (bare_is_minus b bytes (sym all ∙ eqb-true _ _ t)) (IsBeginning.minus_alone mode)
-  by_bare false t =
-      IsBeginning.number mode _ _ (record { numeral = is_numeral b bytes start all; more = λ e. let bare = minus_is_bare _ e in cc })
+    by_bare : (t : Bool) → is_bare (parts (b ∷ bytes)) ≡ t → IsBeginning mode (b ∷ bytes)
+    by_bare true t = rw (bare_is_minus b bytes (sym all ∙ eqb-true _ _ t)) (IsBeginning.minus_alone mode)
+    by_bare false t =
+        IsBeginning.number mode _ _ (record { numeral = is_numeral b bytes start all; more = λ e. let bare = minus_is_bare _ e in cc })
 
-cut_number_by : (at : ℕ) (bytes more : List ℕ) (n : ℕ) (hint : Hint) (bare : Bool) → bytes ≢ [] → cut_number at (bytes ++ more) n hint bare ≡ cut_number at bytes n hint bare
+cut_number_by : (at : ℕ) (bytes more : List ℕ) (n : ℕ) (hint : Hint) (bare : Bool) → bytes ≢ [] →
+    cut_number at (bytes ++ more) n hint bare ≡ cut_number at bytes n hint bare
 cut_number_by at bytes more n hint false some = refl
 cut_number_by at [] more n hint true some = absurd (some refl)
 cut_number_by at (b ∷ bytes) more n hint true some = refl
@@ -206,7 +229,8 @@ abbrev pub number_at : ℕ → List ℕ → Parts → Cut
 number_at at bytes p = cut_number at bytes (parts_len p) (parts_hint p) (is_bare p)
 
 -- A number that ends before the end of the bytes is cut alike from more bytes.
-pub cut_number-stays : (mode : Mode) (at b : ℕ) (bytes more : List ℕ) → starts_number b ≡ true → (IsBeginning mode (b ∷ bytes) → ⊥) →
+pub cut_number-stays : (mode : Mode) (at b : ℕ) (bytes more : List ℕ) → starts_number b ≡ true →
+    (IsBeginning mode (b ∷ bytes) → ⊥) →
     number_at at (bytes ++ more) (parts (b ∷ bytes ++ more)) ≡ number_at at bytes (parts (b ∷ bytes))
 cut_number-stays mode at b bytes more start shut =
     let p = parts (b ∷ bytes) in

@@ -1,20 +1,22 @@
 -- What more bytes leave of a string or a word at the front of a buffer.
-use Rattle.std.proofs.Common.{◌≡◌, ◌≢◌, ℕ, zero, suc, ◌+◌, ◌≤◌, Bool, true, false, cond, ◌==◌, List, [], ◌∷◌, ◌++◌, length, take, Option, Some, None, slice_get, refl, ap, ◌∙◌, arith}
+use Rattle.std.proofs.Common.{◌≡◌, ◌≢◌, ℕ, suc, ◌≤◌, Bool, true, false, cond, ◌==◌, List, [], ◌∷◌, ◌++◌, length, Option, Some, None, slice_get, refl, ap, ◌∙◌, arith}
 use Rattle.std.proofs.lemmas.Bool.{eqb-true, eqb-false}
 use Rattle.std.proofs.lemmas.List.{take-append-le}
 use Rattle.facet_json.specs.Bytes.{quote, backslash}
 use Rattle.facet_json.specs.Gap.{Mode, one_more}
 use Rattle.facet_json.specs.Token.{Kind}
-use Rattle.facet_json.specs.Cut.{ArePieces, IsLiteral, common_len, cut_word, content_len, cut_text}
+use Rattle.facet_json.specs.Cut.{ArePieces, common_len, cut_word, content_len, cut_text}
 use Rattle.facet_json.specs.Open.{IsBeginning}
 use Rattle.facet_json.proofs.GrowthOfGap.{Keeps, one_more-keeps, cond-keeps, cond-none}
 
 -- ---- a string
 
-content_len-keeps : (escaped : Bool) (bytes more : List ℕ) → Keeps (content_len escaped bytes) (content_len escaped (bytes ++ more))
+content_len-keeps : (escaped : Bool) (bytes more : List ℕ) →
+    Keeps (content_len escaped bytes) (content_len escaped (bytes ++ more))
 content_len-keeps escaped [] more n e = cc
 content_len-keeps true (b ∷ bytes) more n e = one_more-keeps _ _ (content_len-keeps false bytes more) n e
-content_len-keeps false (b ∷ bytes) more n e = cond-keeps (b == quote) 0 _ _ (content_len-keeps (b == backslash) bytes more) n e
+content_len-keeps false (b ∷ bytes) more n e =
+    cond-keeps (b == quote) 0 _ _ (content_len-keeps (b == backslash) bytes more) n e
 
 one_more-some : (o : Option ℕ) (n : ℕ) → one_more o ≡ Some n → (m : ℕ) × (o ≡ Some m) × (n ≡ suc m)
 one_more-some None n e = cc
@@ -23,7 +25,8 @@ one_more-some (Some m) n e = (m, refl, cc)
 one_more-le : (o : Option ℕ) (len n : ℕ) → ((m : ℕ) → o ≡ Some m → m ≤ len) → one_more o ≡ Some n → n ≤ suc len
 one_more-le o len n h e = let some = one_more-some o n e in omega (arith, h some.0 some.1)
 
-cond-le : (t : Bool) (o : Option ℕ) (len n : ℕ) → ((m : ℕ) → o ≡ Some m → m ≤ len) → cond t (Some 0) (one_more o) ≡ Some n → n ≤ suc len
+cond-le : (t : Bool) (o : Option ℕ) (len n : ℕ) → ((m : ℕ) → o ≡ Some m → m ≤ len) →
+    cond t (Some 0) (one_more o) ≡ Some n → n ≤ suc len
 cond-le true o len n h e = let is : n ≡ 0 = cc in omega arith
 cond-le false o len n h e = one_more-le o len n h e
 
@@ -35,22 +38,27 @@ content_len-le false (b ∷ bytes) n e = cond-le (b == quote) _ _ n (content_len
 -- The bytes are the content of a string that doesn't end, perhaps with a backslash at the end.
 data IsUnended : List ℕ → Type 0 where
   whole : (bytes : List ℕ) (has_escapes : Bool) → ArePieces bytes has_escapes → IsUnended bytes
-  escaped : (content bytes : List ℕ) (has_escapes : Bool) → ArePieces content has_escapes → bytes ≡ content ++ backslash ∷ [] → IsUnended bytes
+  escaped : (content bytes : List ℕ) (has_escapes : Bool) → ArePieces content has_escapes →
+      bytes ≡ content ++ backslash ∷ [] → IsUnended bytes
 
-with_byte : (b : ℕ) (bytes : List ℕ) → (b == quote) ≡ false → (b == backslash) ≡ false → IsUnended bytes → IsUnended (b ∷ bytes)
+with_byte : (b : ℕ) (bytes : List ℕ) → (b == quote) ≡ false → (b == backslash) ≡ false → IsUnended bytes →
+    IsUnended (b ∷ bytes)
 with_byte b bytes q s (whole _ e pieces) = whole _ e (ArePieces.byte b bytes e q s pieces)
-with_byte b bytes q s (escaped content _ e pieces is) = escaped (b ∷ content) _ e (ArePieces.byte b content e q s pieces) (ap (λ l. b ∷ l) is)
+with_byte b bytes q s (escaped content _ e pieces is) =
+    escaped (b ∷ content) _ e (ArePieces.byte b content e q s pieces) (ap (λ l. b ∷ l) is)
 
 with_escape : (b : ℕ) (bytes : List ℕ) → IsUnended bytes → IsUnended (backslash ∷ b ∷ bytes)
 with_escape b bytes (whole _ e pieces) = whole _ true (ArePieces.escape b bytes e pieces)
-with_escape b bytes (escaped content _ e pieces is) = escaped (backslash ∷ b ∷ content) _ true (ArePieces.escape b content e pieces) (ap (λ l. backslash ∷ b ∷ l) is)
+with_escape b bytes (escaped content _ e pieces is) =
+    escaped (backslash ∷ b ∷ content) _ true (ArePieces.escape b content e pieces) (ap (λ l. backslash ∷ b ∷ l) is)
 
 -- the same, where a backslash stands in front or not
 abbrev IsUnendedBehind : Bool → List ℕ → Type 0
 IsUnendedBehind true bytes = IsUnended (backslash ∷ bytes)
 IsUnendedBehind false bytes = IsUnended bytes
 
-with_either : (t : Bool) (b : ℕ) (bytes : List ℕ) → (b == quote) ≡ false → (b == backslash) ≡ t → IsUnendedBehind t bytes → IsUnended (b ∷ bytes)
+with_either : (t : Bool) (b : ℕ) (bytes : List ℕ) → (b == quote) ≡ false → (b == backslash) ≡ t →
+    IsUnendedBehind t bytes → IsUnended (b ∷ bytes)
 with_either true b bytes q s h = rw (eqb-true b backslash s) h
 with_either false b bytes q s h = with_byte b bytes q s h
 
@@ -68,7 +76,8 @@ unended_begins : (mode : Mode) (bytes : List ℕ) → IsUnended bytes → IsBegi
 unended_begins mode bytes (whole _ e pieces) = IsBeginning.text mode bytes e pieces
 unended_begins mode bytes (escaped content _ e pieces is) = rw is (IsBeginning.escape mode content e pieces)
 
-cut_text_by : (at : ℕ) (bytes more : List ℕ) (o p : Option ℕ) → (o ≡ None → ⊥) → ((n : ℕ) → o ≡ Some n → n ≤ length bytes) → Keeps o p →
+cut_text_by : (at : ℕ) (bytes more : List ℕ) (o p : Option ℕ) → (o ≡ None → ⊥) →
+    ((n : ℕ) → o ≡ Some n → n ≤ length bytes) → Keeps o p →
     cut_text at (bytes ++ more) p ≡ cut_text at bytes o
 cut_text_by at bytes more None p some le k = absurd (some refl)
 cut_text_by at bytes more (Some n) p some le k =
@@ -87,8 +96,9 @@ cut_text-stays mode at bytes more shut =
 abbrev pub IsNoFront : List ℕ → List ℕ → Type 0
 IsNoFront bytes word = (others : List ℕ) → word ≡ bytes ++ others → others ≢ [] → ⊥
 
-no_front_behind : (w b : ℕ) (word bytes : List ℕ) → (b == w) ≡ true → IsNoFront (b ∷ bytes) (w ∷ word) → IsNoFront bytes word
-no_front_behind w b word bytes t shut others e more = 
+no_front_behind : (w b : ℕ) (word bytes : List ℕ) → (b == w) ≡ true → IsNoFront (b ∷ bytes) (w ∷ word) →
+    IsNoFront bytes word
+no_front_behind w b word bytes t shut others e more =
     let same : b ≡ w = eqb-true b w t in
     shut others (cc) more
 
@@ -96,7 +106,8 @@ cond_suc : (t : Bool) (m n : ℕ) → (t ≡ true → m ≡ n) → cond t (suc m
 cond_suc true m n h = ap suc (h refl)
 cond_suc false m n h = refl
 
-common_len-stays : (word bytes more : List ℕ) → IsNoFront bytes word → common_len word (bytes ++ more) ≡ common_len word bytes
+common_len-stays : (word bytes more : List ℕ) → IsNoFront bytes word →
+    common_len word (bytes ++ more) ≡ common_len word bytes
 common_len-stays [] bytes more shut = refl
 common_len-stays (w ∷ word) [] more shut = absurd (shut (w ∷ word) refl (λ e. cc))
 common_len-stays (w ∷ word) (b ∷ bytes) more shut =
@@ -110,10 +121,11 @@ word_differs (w ∷ word) [] more shut short = absurd (shut (w ∷ word) refl (�
 word_differs (w ∷ word) (b ∷ bytes) more shut short =
     by_byte (b == w) (λ t. word_differs word bytes more (no_front_behind w b word bytes t shut) (λ e. short (rw t (ap suc e))))
   where
-  by_byte : (t : Bool) → (t ≡ true → slice_get (bytes ++ more) (common_len word bytes) ≡ slice_get bytes (common_len word bytes)) →
-      slice_get (b ∷ bytes ++ more) (cond t (suc (common_len word bytes)) 0) ≡ slice_get (b ∷ bytes) (cond t (suc (common_len word bytes)) 0)
-  by_byte true further = further refl
-  by_byte false further = refl
+    by_byte : (t : Bool) →
+        (t ≡ true → slice_get (bytes ++ more) (common_len word bytes) ≡ slice_get bytes (common_len word bytes)) →
+        slice_get (b ∷ bytes ++ more) (cond t (suc (common_len word bytes)) 0) ≡ slice_get (b ∷ bytes) (cond t (suc (common_len word bytes)) 0)
+    by_byte true further = further refl
+    by_byte false further = refl
 
 cut_word_by : (t : Bool) (at : ℕ) (bytes longer word : List ℕ) (kind : Kind) (n : ℕ) → (n == length word) ≡ t →
     (n ≢ length word → slice_get longer n ≡ slice_get bytes n) →

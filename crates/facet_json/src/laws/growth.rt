@@ -6,5 +6,4 @@ ghost use Rattle.facet_json.specs.Laws.{CutStays};
 /// arrive later don't change it.
 pub fn cut_stays()
     ensures { CutStays }
-{
-}
+{}
