@@ -13,7 +13,7 @@ use Rattle.facet_json.proofs.GrowthOfGap.{block_begins, gap_len-le, gap_len-ends
 use Rattle.facet_json.proofs.GrowthOfText.{cut_text-stays, cut_word-stays}
 use Rattle.facet_json.proofs.GrowthOfNumber.{cut_number-stays}
 
--- What a start says of the byte.
+-- what a start says of the byte
 abbrev Fits : ℕ → Start → Type 0
 Fits b (punctuation kind) = Unit {0}
 Fits b (letter word kind) = IsLiteral word kind
@@ -22,7 +22,7 @@ Fits b opens_number = starts_number b ≡ true
 Fits b opens_comment = b ≡ slash
 Fits b opens_nothing = Unit {0}
 
--- A byte that may begin something is one that does.
+-- The start of a byte says what the byte is.
 start_fits : (b : ℕ) → Fits b (start_of b)
 unfolding start_of
 start_fits b =
@@ -39,6 +39,7 @@ start_fits b =
     cond_both (starts_number b) _ _ (Fits b) (λ e. e) (λ e.
     cond_both (b == slash) _ _ (Fits b) (eqb-true b slash) (λ e. tt))))))))))))
 
+-- A choice whose first side is never taken is the second.
 cond-same : {X : Type 0} (t : Bool) (x y z : X) → (t ≡ true → ⊥) → cond t x z ≡ cond t y z
 cond-same true x y z never = absurd (never refl)
 cond-same false x y z never = refl
@@ -56,7 +57,7 @@ cut_slash-stays jsonc at (b ∷ bytes) more shut none = cond-same (b == star) _ 
         let is : b ≡ star = eqb-true b star t in
         shut (rw is (block_begins bytes (rw is at none)))
 
--- What a start says of the byte, and that what is left begins nothing longer: it is cut alike from more bytes.
+-- What begins with a byte, and is the beginning of nothing longer, is cut alike from more bytes.
 cut_by-stays : (start : Start) (mode : Mode) (at b : ℕ) (bytes more : List ℕ) → Fits b start →
     (IsBeginning mode (b ∷ bytes) → ⊥) →
     piece_len mode growing (b ∷ bytes) ≡ 0 → cut_by start mode at b (bytes ++ more) ≡ cut_by start mode at b bytes
@@ -71,6 +72,8 @@ cut_by-stays opens_comment mode at b bytes more fits shut none =
     cut_slash-stays mode at bytes more (λ i. shut (rw fits i)) (rw (← fits) none)
 cut_by-stays opens_nothing mode at b bytes more fits shut none = refl
 
+-- What is cut where no gap is in front, and nothing longer begins, is cut alike from more bytes. If nothing is left,
+-- no more follow.
 cut_here-stays : (mode : Mode) (at : ℕ) (bytes more : List ℕ) → (bytes ≡ [] → more ≡ []) →
     (IsBeginning mode bytes → ⊥) →
     piece_len mode growing bytes ≡ 0 → cut_here mode at (bytes ++ more) ≡ cut_here mode at bytes
@@ -98,7 +101,8 @@ past_gap-stays buffer more position mode within shut last =
 cut_as_growing : (buffer more : List ℕ) (position : ℕ) (mode : Mode) → position ≤ length buffer →
     (IsOpen buffer position mode → ⊥) →
     (drop (past_growing_gap buffer position mode) buffer ≡ [] → more ≡ []) →
-    cut (buffer ++ more) position mode ≡ cut_here mode (past_growing_gap buffer position mode) (drop (past_growing_gap buffer position mode) buffer)
+    cut (buffer ++ more) position mode
+    ≡ cut_here mode (past_growing_gap buffer position mode) (drop (past_growing_gap buffer position mode) buffer)
 unfolding cut
 cut_as_growing buffer more position mode within shut last =
     let rest = drop position buffer in
@@ -109,6 +113,7 @@ cut_as_growing buffer more position mode within shut last =
     ∙ ap (cut_here mode past) (drop-append-le past buffer more inside)
     ∙ cut_here-stays mode past (drop past buffer) more last shut none
 
+-- Where nothing is left, nothing is cut.
 nothing_here : (mode : Mode) (at : ℕ) (bytes : List ℕ) → bytes ≡ [] → cut_here mode at bytes ≡ nothing_left
 unfolding cut_here
 nothing_here mode at bytes e = rw e
@@ -118,4 +123,5 @@ pub cut_stays : CutStays
 cut_stays buffer more position mode within shut some =
     let past = past_growing_gap buffer position mode in
     let here = rw append-nil at (cut_as_growing buffer [] position mode within shut (λ e. refl)) in
-    cut_as_growing buffer more position mode within shut (λ e. absurd (some (here ∙ nothing_here mode past _ e))) ∙ sym here
+    let last : drop past buffer ≡ [] → more ≡ [] = λ e. absurd (some (here ∙ nothing_here mode past _ e)) in
+    cut_as_growing buffer more position mode within shut last ∙ sym here

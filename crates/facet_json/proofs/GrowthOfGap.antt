@@ -27,11 +27,13 @@ cond-none true here o e = cc
 cond-none false here None e = (refl, refl)
 cond-none false here (Some n) e = cc
 
+-- The end of a block comment stays.
 block_end-keeps : (bytes more : List ℕ) → Keeps (through_block_end bytes) (through_block_end (bytes ++ more))
 block_end-keeps [] more n e = cc
 block_end-keeps (b ∷ []) more n e = cc
 block_end-keeps (b ∷ c ∷ bytes) more n e = cond-keeps _ 2 _ _ (block_end-keeps (c ∷ bytes) more) n e
 
+-- The end of a line stays.
 line_end-keeps : (bytes more : List ℕ) → Keeps (through_line_end bytes) (through_line_end (bytes ++ more))
 line_end-keeps [] more n e = cc
 line_end-keeps (b ∷ bytes) more n e = cond-keeps _ 1 _ _ (line_end-keeps bytes more) n e
@@ -51,7 +53,7 @@ opens_line (b ∷ bytes) e =
     let none = cond-none _ 1 _ e in
     OpensLine.more b bytes none.0 (opens_line bytes none.1)
 
--- A comment that is closed stays.
+-- A comment that is closed stays, by its two marks t and u and by the ends o and l of a block and a line.
 comment_by-keeps : (t u : Bool) (o p l m : Option ℕ) (bytes longer : List ℕ) (n : ℕ) → Keeps o p → Keeps l m →
     cond t (with_mark o) (cond u (with_line_mark growing bytes l) 0) ≡ suc n →
     cond t (with_mark p) (cond u (with_line_mark whole longer m) 0) ≡ suc n
@@ -61,7 +63,7 @@ comment_by-keeps false true o p None m bytes longer n k j e = cc
 comment_by-keeps false true o p (Some i) m bytes longer n k j e = rw (j i refl) e
 comment_by-keeps false false o p l m bytes longer n k j e = cc
 
--- Where no comment is closed and none is open, there is none.
+-- Where no comment is closed and none is open, none comes to stand, by the same.
 comment_by-none : (t u : Bool) (o p l m : Option ℕ) (bytes longer : List ℕ) → (t ≡ true → o ≡ None → ⊥) →
     (u ≡ true → l ≡ None → ⊥) →
     cond t (with_mark o) (cond u (with_line_mark growing bytes l) 0) ≡ 0 →
@@ -72,6 +74,7 @@ comment_by-none false true o p None m bytes longer k j e = absurd (j refl refl)
 comment_by-none false true o p (Some i) m bytes longer k j e = cc
 comment_by-none false false o p l m bytes longer k j e = refl
 
+-- Where a mark and what follows count nothing, nothing follows.
 with_mark-none : (o : Option ℕ) → with_mark o ≡ 0 → o ≡ None
 with_mark-none None e = refl
 with_mark-none (Some n) e = cc
@@ -81,6 +84,7 @@ pub block_begins : (bytes : List ℕ) → piece_len jsonc growing (slash ∷ sta
     IsBeginning jsonc (slash ∷ star ∷ bytes)
 block_begins bytes e = IsBeginning.block bytes (opens_block bytes (with_mark-none _ e))
 
+-- A comment that is closed stays.
 comment_len-keeps : (bytes more : List ℕ) (n : ℕ) → comment_len growing bytes ≡ suc n →
     comment_len whole (bytes ++ more) ≡ suc n
 comment_len-keeps [] more n e = cc
@@ -88,10 +92,12 @@ comment_len-keeps (a ∷ []) more n e = cc
 comment_len-keeps (a ∷ b ∷ bytes) more n e =
     comment_by-keeps _ _ _ _ _ _ bytes (bytes ++ more) n (block_end-keeps bytes more) (line_end-keeps bytes more) e
 
+-- Where no slash stands, no comment does.
 no_slash : (t u v : Bool) (m n : ℕ) → (t ≡ true → ⊥) → cond (t && u) m (cond (t && v) n 0) ≡ 0
 no_slash true u v m n k = absurd (k refl)
 no_slash false u v m n k = refl
 
+-- Where no comment is closed and none may begin, none comes to stand.
 comment_len-none : (a : ℕ) (bytes more : List ℕ) → (IsBeginning jsonc (a ∷ bytes) → ⊥) →
     comment_len growing (a ∷ bytes) ≡ 0 → comment_len whole (a ∷ bytes ++ more) ≡ 0
 comment_len-none a [] [] shut e = refl
@@ -109,10 +115,12 @@ comment_len-none a (b ∷ bytes) more shut e = comment_by-none _ _ _ _ _ _ bytes
         let both = and_parts _ _ t in
         shut (rw (eqb-true a slash both.0, eqb-true b slash both.1) (IsBeginning.line bytes (opens_line bytes none)))
 
+-- A blank, or what stands where none is, stays.
 blank_or-keeps : (t : Bool) (m n k : ℕ) → (m ≡ suc k → n ≡ suc k) → cond t 1 m ≡ suc k → cond t 1 n ≡ suc k
 blank_or-keeps true m n k h e = e
 blank_or-keeps false m n k h e = h e
 
+-- Where no blank stands and nothing else comes to stand, nothing does.
 blank_or-none : (t : Bool) (m n : ℕ) → (m ≡ 0 → n ≡ 0) → cond t 1 m ≡ 0 → cond t 1 n ≡ 0
 blank_or-none true m n h e = e
 blank_or-none false m n h e = h e
@@ -132,11 +140,13 @@ piece_len-none : (mode : Mode) (b : ℕ) (bytes more : List ℕ) → (IsBeginnin
 piece_len-none plain b bytes more shut e = e
 piece_len-none jsonc b bytes more shut e = blank_or-none (is_space b) _ _ (comment_len-none b bytes more shut) e
 
+-- Where no piece stands, the gap is empty.
 gap_len-none : (mode : Mode) (input : Input) (b : ℕ) (bytes : List ℕ) → piece_len mode input (b ∷ bytes) ≡ 0 →
     gap_len_from mode input 0 (b ∷ bytes) ≡ 0
 unfolding gap_len_from
 gap_len-none mode input b bytes e = rw (e, gap_len_from)
 
+-- A gap goes on through a piece of it.
 gap_len-some : (mode : Mode) (input : Input) (b : ℕ) (bytes : List ℕ) (n : ℕ) →
     piece_len mode input (b ∷ bytes) ≡ suc n →
     gap_len_from mode input 0 (b ∷ bytes) ≡ suc (gap_len_from mode input n bytes)
@@ -172,15 +182,17 @@ gap_len-le mode input zero (b ∷ bytes) =
     by_piece further zero e = rw (gap_len-none mode input b bytes e) (omega arith)
     by_piece further (suc n) e = rw (gap_len-some mode input b bytes n e) (omega (arith, further n))
 
--- The gap of a growing buffer stays under more bytes, where these follow nothing but an end and what is left begins nothing longer.
-abbrev Stays : Mode → List ℕ → List ℕ → ℕ → Type 0
-Stays mode bytes more inside =
+-- The gap of a growing buffer stays under more bytes, where what is left behind it begins nothing longer. If nothing is
+-- left, no more follow.
+abbrev GapStays : Mode → List ℕ → List ℕ → ℕ → Type 0
+GapStays mode bytes more inside =
     let rest = drop (gap_len_from mode growing inside bytes) bytes in
     (rest ≡ [] → more ≡ []) → (IsBeginning mode rest → ⊥) →
     gap_len_from mode whole inside (bytes ++ more) ≡ gap_len_from mode growing inside bytes
 
-stays_by_piece : (mode : Mode) (b : ℕ) (bytes more : List ℕ) → ((n : ℕ) → Stays mode bytes more n) →
-    (n : ℕ) → piece_len mode growing (b ∷ bytes) ≡ n → Stays mode (b ∷ bytes) more 0
+-- The gap stays, where a piece begins it and where none does.
+stays_by_piece : (mode : Mode) (b : ℕ) (bytes more : List ℕ) → ((n : ℕ) → GapStays mode bytes more n) →
+    (n : ℕ) → piece_len mode growing (b ∷ bytes) ≡ n → GapStays mode (b ∷ bytes) more 0
 stays_by_piece mode b bytes more further zero e last shut =
     let none = gap_len-none mode growing b bytes e in
     let begins_not : IsBeginning mode (b ∷ bytes) → ⊥ = λ i. shut (rw none i) in
@@ -190,11 +202,11 @@ stays_by_piece mode b bytes more further (suc n) e last shut =
     gap_len-some mode whole b (bytes ++ more) n (piece_len-keeps mode (b ∷ bytes) more n e)
     ∙ ap suc (further n (λ l. last (rw some l)) (λ i. shut (rw some i))) ∙ sym some
 
--- The gap of a growing buffer stays under more bytes, where what is left behind it begins nothing longer; if nothing is left,
--- none follow.
-pub gap_len-stays : (mode : Mode) (inside : ℕ) (bytes more : List ℕ) → Stays mode bytes more inside
+-- The gap of a growing buffer stays under more bytes.
+pub gap_len-stays : (mode : Mode) (inside : ℕ) (bytes more : List ℕ) → GapStays mode bytes more inside
 unfolding gap_len_from
 gap_len-stays mode inside [] more last shut = rw (last refl)
 gap_len-stays mode (suc inside) (b ∷ bytes) more last shut = ap suc (gap_len-stays mode inside bytes more last shut)
 gap_len-stays mode zero (b ∷ bytes) more last shut =
-    stays_by_piece mode b bytes more (λ n. gap_len-stays mode n bytes more) (piece_len mode growing (b ∷ bytes)) refl last shut
+    let further : (n : ℕ) → GapStays mode bytes more n = λ n. gap_len-stays mode n bytes more in
+    stays_by_piece mode b bytes more further (piece_len mode growing (b ∷ bytes)) refl last shut
