@@ -141,13 +141,13 @@ piece_len-none plain b bytes more shut e = e
 piece_len-none jsonc b bytes more shut e = blank_or-none (is_space b) _ _ (comment_len-none b bytes more shut) e
 
 -- Where no piece stands, the gap is empty.
-gap_len-none : (mode : Mode) (input : Input) (b : ℕ) (bytes : List ℕ) → piece_len mode input (b ∷ bytes) ≡ 0 →
+pub gap_len-none : (mode : Mode) (input : Input) (b : ℕ) (bytes : List ℕ) → piece_len mode input (b ∷ bytes) ≡ 0 →
     gap_len_from mode input 0 (b ∷ bytes) ≡ 0
 unfolding gap_len_from
 gap_len-none mode input b bytes e = rw (e, gap_len_from)
 
 -- A gap goes on through a piece of it.
-gap_len-some : (mode : Mode) (input : Input) (b : ℕ) (bytes : List ℕ) (n : ℕ) →
+pub gap_len-some : (mode : Mode) (input : Input) (b : ℕ) (bytes : List ℕ) (n : ℕ) →
     piece_len mode input (b ∷ bytes) ≡ suc n →
     gap_len_from mode input 0 (b ∷ bytes) ≡ suc (gap_len_from mode input n bytes)
 unfolding gap_len_from

@@ -47,7 +47,7 @@ exponent_len-le (b ∷ bytes) =
     cond_suc-le (is_exponent_mark b) _ _ (behind-le digits_len digits_len-le (sign_len bytes) bytes (sign_len-le bytes))
 
 -- The parts of the longest numeral are within the bytes.
-parts_len-le : (bytes : List ℕ) → parts_len (parts bytes) ≤ length bytes
+pub parts_len-le : (bytes : List ℕ) → parts_len (parts bytes) ≤ length bytes
 unfolding parts
 parts_len-le bytes =
     behind-le exponent_len exponent_len-le _ bytes
