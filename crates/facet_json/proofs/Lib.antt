@@ -12,3 +12,7 @@ pub mod DecodeLaws
 pub mod PlainText
 pub mod Scans
 pub mod Misplaced
+pub mod Growth
+pub mod GrowthOfGap
+pub mod GrowthOfNumber
+pub mod GrowthOfText

@@ -3,3 +3,6 @@
 mod documents;
 
 pub use documents::{one_document, one_spelling, refused_has_none};
+//! What the definitions of the language mean: each law is the contract of a function without effect.
+mod growth;
+pub use growth::cut_stays;
