@@ -1,3 +1,4 @@
 pub mod CharAt
 pub mod DecodeLaws
 pub mod PlainText
+pub mod NumberText

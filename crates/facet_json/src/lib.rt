@@ -3,6 +3,7 @@
 
 mod error;
 mod mode;
+mod number;
 mod span;
 mod token;
 mod tree;
