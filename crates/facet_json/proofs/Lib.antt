@@ -2,3 +2,4 @@ pub mod CharAt
 pub mod DecodeLaws
 pub mod PlainText
 pub mod NumberText
+pub mod QuotedLaws
