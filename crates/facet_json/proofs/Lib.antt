@@ -3,3 +3,4 @@ pub mod DecodeLaws
 pub mod PlainText
 pub mod NumberText
 pub mod QuotedLaws
+pub mod DecodeRows
