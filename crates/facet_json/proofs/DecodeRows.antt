@@ -1,6 +1,6 @@
 -- Single inputs with what the definitions of specs/Decode.antt, specs/Number.antt and specs/Quoted.antt give for them, by
 -- computation. In the texts of this file a backslash or a quote stands behind a backslash of its own.
-use Rattle.std.proofs.Common.{◌≡◌, ℕ, List, [], ◌∷◌, ◌++◌, Option, Some, None, ℤ, pos, neg_ℤ, codes, refl}
+use Rattle.std.proofs.Common.{◌≡◌, [], ◌∷◌, ◌++◌, Some, None, pos, neg_ℤ, codes, refl}
 use Rattle.std.specs.Char.{encode_utf8}
 use Rattle.std.specs.Str.{encode_utf8_all}
 use Rattle.facet_json.specs.Bytes.{quote, backslash, backspace, form_feed, line_feed, carriage_return, tab, delete}

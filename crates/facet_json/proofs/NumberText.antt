@@ -1,10 +1,10 @@
 -- What the text of a number without sign, dot and exponent mark stands for: the value of its digits.
-use Rattle.std.proofs.Common.{◌≡◌, ℕ, zero, suc, ◌+◌, ◌-◌, ◌*◌, ◌<◌, ◌≤◌, ◌&&◌, Bool, true, false, cond, List, [], ◌∷◌, length, drop, get_or, Option, Some, None, refl, sym, ap, ◌∙◌, arith}
+use Rattle.std.proofs.Common.{◌≡◌, ℕ, zero, suc, ◌+◌, ◌-◌, ◌*◌, ◌<◌, ◌≤◌, ◌&&◌, Bool, true, false, cond, List, [], ◌∷◌, length, drop, get_or, None, refl, ap, arith}
 use Rattle.std.specs.Prelude.{not, ◌==◌}
 use Rattle.std.proofs.lemmas.Bool.{and_parts, eqb-true}
 use Rattle.std.proofs.lemmas.List.{drop_more}
 use Rattle.facet_json.specs.Bytes.{is_digit}
-use Rattle.facet_json.specs.Number.{Number, AreDigits, none, digit, digits_value, digits_len, hint_of, unsigned, same_hint, is_some_len, parts, parts_len, parts_hint, minus_len, is_bare, begins_number, is_number, unsigned_number, number}
+use Rattle.facet_json.specs.Number.{AreDigits, none, digit, digits_value, digits_len, hint_of, unsigned, same_hint, is_some_len, parts, parts_len, parts_hint, minus_len, is_bare, begins_number, is_number, unsigned_number, number}
 
 -- The byte at a place among digits is a digit.
 pub digit_at : (bytes : List ℕ) (i : ℕ) → AreDigits bytes → i < length bytes → is_digit (get_or bytes i 0) ≡ true

@@ -1,12 +1,11 @@
 -- A text is written character by character: what `quoted` of specs/Quoted.antt gives at UTF-8.
-use Rattle.std.proofs.Common.{◌≡◌, ℕ, ◌+◌, ◌/◌, ◌%◌, ◌<◌, ◌≤◌, Bool, true, false, cond, ◌||◌, List, [], ◌∷◌, ◌++◌, flat_map, append_assoc, append-nil, refl, sym, ap, ◌∙◌, arith}
-use Rattle.std.specs.Prelude.{nat_lt, ◌==◌}
+use Rattle.std.proofs.Common.{◌≡◌, ℕ, ◌+◌, ◌/◌, ◌≤◌, List, [], ◌∷◌, ◌++◌, flat_map, append-nil, refl, ap, ◌∙◌, arith}
 use Rattle.std.specs.Char.{encode_utf8}
-use Rattle.std.specs.Str.{all_scalars, encode_utf8_all}
+use Rattle.std.specs.Str.{encode_utf8_all}
 use Rattle.std.proofs.lemmas.Grind.{flat_map-append}
-use Rattle.std.proofs.lemmas.Bool.{lt-ltb, le-ltb, ne_eqb}
-use Rattle.facet_json.specs.Bytes.{quote, backslash, line_feed, carriage_return, tab, backspace, form_feed, space, delete}
-use Rattle.facet_json.specs.Quoted.{escaped, quoted}
+use Rattle.std.proofs.lemmas.Bool.{lt-ltb, le-ltb}
+use Rattle.facet_json.specs.Bytes.{quote}
+use Rattle.facet_json.specs.Quoted.{escaped}
 use Rattle.facet_json.specs.Laws.{escaped_character, QuotedByCharacters}
 use Rattle.facet_json.proofs.CharAt.{Shape, one, two, three, four, shape, next}
 

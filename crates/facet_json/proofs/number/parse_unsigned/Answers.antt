@@ -1,5 +1,5 @@
 use Rattle.std.proofs.Common.{arith}
-use Rattle.facet_json.proofs.NumberText.{digit_at-above, digits_value-above, digits_value-step}
+use Rattle.facet_json.proofs.NumberText.{digit_at-above, digits_value-above}
 use Rattle.facet_json.proofs.number.parse_unsigned.Goals as goal
 
 pub overflow_sub-digit : goal.overflow_sub-digit
