@@ -1,6 +1,6 @@
 -- The character whose UTF-8 stands at the front of some bytes: what `utf8_at` of specs/Decode.antt finds.
-use Rattle.std.proofs.Common.{◌≡◌, ℕ, zero, suc, ◌+◌, ◌-◌, ◌*◌, ◌/◌, ◌%◌, ◌<◌, ◌≤◌, ◌⊎◌, inl, inr, Bool, true, false, cond, ◌&&◌, List, [], ◌∷◌, ◌++◌, length, take, drop, Option, Some, None, bytes_eq, refl, sym, ap, ◌∙◌, arith}
-use Rattle.std.specs.Prelude.{nat_lt, ◌==◌}
+use Rattle.std.proofs.Common.{◌≡◌, ℕ, suc, ◌+◌, ◌/◌, ◌%◌, ◌<◌, ◌≤◌, ◌⊎◌, inl, inr, Bool, true, false, cond, ◌&&◌, List, [], ◌∷◌, ◌++◌, length, take, Option, Some, None, bytes_eq, refl, ap, ◌∙◌, arith}
+use Rattle.std.specs.Prelude.{◌==◌}
 use Rattle.std.specs.Char.{IsScalar, encode_utf8}
 use Rattle.std.specs.Str.{continuation_len, lead_bits}
 use Rattle.std.proofs.Math.Utf8.{scalar}
@@ -11,17 +11,17 @@ use Rattle.facet_json.specs.Bytes.{backslash}
 use Rattle.facet_json.specs.Decode.{continued, if_encoded, utf8_at}
 
 -- a byte that goes on with a character, with the low bits of this number
-abbrev next : ℕ → ℕ
+abbrev pub next : ℕ → ℕ
 next bits = 128 + bits % 64
 
 -- the four lengths of a character's UTF-8
-data Shape (c : ℕ) : Type 0 where
+pub data Shape (c : ℕ) : Type 0 where
   one : c < 128 → encode_utf8 c ≡ c ∷ [] → Shape c
   two : 128 ≤ c → c < 2048 → encode_utf8 c ≡ (192 + c / 64) ∷ next c ∷ [] → Shape c
   three : 2048 ≤ c → c < 65536 → encode_utf8 c ≡ (224 + c / 4096) ∷ next (c / 64) ∷ next c ∷ [] → Shape c
   four : 65536 ≤ c → encode_utf8 c ≡ (240 + c / 262144) ∷ next (c / 4096) ∷ next (c / 64) ∷ next c ∷ [] → Shape c
 
-shape : (c : ℕ) → Shape c
+pub shape : (c : ℕ) → Shape c
 unfolding encode_utf8
 shape c = by (cases_lt c 128) (cases_lt c 2048) (cases_lt c 65536)
   where

@@ -1,10 +1,10 @@
 -- The text that `decoded` computes is the one text that `Decodes` gives (specs/Decode.antt).
-use Rattle.std.proofs.Common.{◌≡◌, ℕ, zero, suc, ◌+◌, ◌-◌, ◌<◌, ◌≤◌, Bool, true, false, cond, ◌&&◌, List, [], ◌∷◌, ◌++◌, length, take, drop, Option, Some, None, option_map, refl, sym, ap, ◌∙◌, arith}
-use Rattle.std.specs.Prelude.{◌==◌, nat_lt, ◌↔◌}
+use Rattle.std.proofs.Common.{◌≡◌, ℕ, zero, suc, ◌-◌, ◌<◌, ◌≤◌, Bool, true, false, cond, ◌&&◌, List, [], ◌∷◌, ◌++◌, length, take, drop, Option, Some, None, option_map, refl, sym, ap, ◌∙◌, arith}
+use Rattle.std.specs.Prelude.{◌==◌, nat_lt}
 use Rattle.std.specs.Char.{IsScalar, encode_utf8}
 use Rattle.std.proofs.lemmas.Bool.{and_parts, eqb-true}
 use Rattle.std.proofs.lemmas.Str.{encode_ascii}
-use Rattle.std.proofs.lemmas.List.{take-append-drop, append_assoc, append-nil}
+use Rattle.std.proofs.lemmas.List.{take-append-drop}
 use Rattle.facet_json.specs.Bytes.{backslash, lower_u}
 use Rattle.facet_json.specs.Decode.{short_escape, code_unit, is_high_surrogate, is_low_surrogate, surrogate_pair, Piece, itself, short, other, unit, pair, Decodes, empty, piece, utf8_at, pair_of, low_at, unit_of, unit_at, short_of, escape_at, piece_at, decoded_past, decoded}
 use Rattle.facet_json.specs.Laws.{DecodedIsDecodes}

@@ -16,3 +16,6 @@ pub mod Growth
 pub mod GrowthOfGap
 pub mod GrowthOfNumber
 pub mod GrowthOfText
+pub mod NumberText
+pub mod QuotedLaws
+pub mod DecodeRows

@@ -6,3 +6,6 @@ pub use documents::{one_document, one_spelling, refused_has_none};
 //! What the definitions of the language mean: each law is the contract of a function without effect.
 mod growth;
 pub use growth::cut_stays;
+//! What the definitions of `specs/` mean, in the subject's own words: each law is the contract of a function without effect.
+mod decoding;
+pub use decoding::{decoded_is_decodes, quoted_by_characters};

@@ -1,0 +1,33 @@
+-- A text is written character by character: what `quoted` of specs/Quoted.antt gives at UTF-8.
+use Rattle.std.proofs.Common.{◌≡◌, ℕ, ◌+◌, ◌/◌, ◌≤◌, List, [], ◌∷◌, ◌++◌, flat_map, append-nil, refl, ap, ◌∙◌, arith}
+use Rattle.std.specs.Char.{encode_utf8}
+use Rattle.std.specs.Str.{encode_utf8_all}
+use Rattle.std.proofs.lemmas.Grind.{flat_map-append}
+use Rattle.std.proofs.lemmas.Bool.{lt-ltb, le-ltb}
+use Rattle.facet_json.specs.Bytes.{quote}
+use Rattle.facet_json.specs.Quoted.{escaped}
+use Rattle.facet_json.specs.Laws.{escaped_character, QuotedByCharacters}
+use Rattle.facet_json.proofs.CharAt.{Shape, one, two, three, four, shape, next}
+
+-- A byte past ASCII is written as it is.
+escaped-past_ascii : (b : ℕ) → 128 ≤ b → escaped b ≡ b ∷ []
+unfolding escaped
+escaped-past_ascii b h = grind arith
+
+-- A character is written as an escape or as its UTF-8.
+escaped-character : (c : ℕ) → flat_map escaped (encode_utf8 c) ≡ escaped_character c
+escaped-character c = by (shape c)
+  where
+    by : Shape c → flat_map escaped (encode_utf8 c) ≡ escaped_character c
+    by (one h e) = simp (e, lt-ltb c 0x80 h, append-nil {A = ℕ} (escaped c))
+    by (two l h e) = simp (e, le-ltb c 0x80 (omega arith), escaped-past_ascii (192 + c / 64) (omega arith), escaped-past_ascii (next c) (omega arith))
+    by (three l h e) = simp (e, le-ltb c 0x80 (omega arith), escaped-past_ascii (224 + c / 4096) (omega arith), escaped-past_ascii (next (c / 64)) (omega arith), escaped-past_ascii (next c) (omega arith))
+    by (four l e) = simp (e, le-ltb c 0x80 (omega arith), escaped-past_ascii (240 + c / 262144) (omega arith), escaped-past_ascii (next (c / 4096)) (omega arith), escaped-past_ascii (next (c / 64)) (omega arith), escaped-past_ascii (next c) (omega arith))
+
+-- The characters of a text are written one after another.
+escaped-characters : (cs : List ℕ) → flat_map escaped (encode_utf8_all cs) ≡ flat_map escaped_character cs
+escaped-characters [] = refl
+escaped-characters (c ∷ cs) = flat_map-append escaped (encode_utf8 c) (encode_utf8_all cs) ∙ ap (λ l. l ++ flat_map escaped (encode_utf8_all cs)) (escaped-character c) ∙ ap (λ l. escaped_character c ++ l) (escaped-characters cs)
+
+pub quoted_by_characters : QuotedByCharacters
+quoted_by_characters characters are = ap (λ l. quote ∷ l ++ quote ∷ []) (escaped-characters characters)
