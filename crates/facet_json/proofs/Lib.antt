@@ -2,3 +2,4 @@ pub mod Spelling
 pub mod Fronts
 pub mod Behind
 pub mod Refused
+pub mod Modes

@@ -2,4 +2,4 @@
 
 mod documents;
 
-pub use documents::{one_document, one_spelling, refused_has_none};
+pub use documents::{one_document, one_spelling, plain_is_jsonc, refused_has_none};
