@@ -19,3 +19,4 @@ pub mod GrowthOfText
 pub mod NumberText
 pub mod QuotedLaws
 pub mod DecodeRows
+pub mod Modes

@@ -14,6 +14,7 @@ use Rattle.facet_json.specs.Node.{Node, Spells}
 use Rattle.facet_json.specs.Tokens.{Tokens}
 use Rattle.facet_json.specs.Tree.{Tree}
 use Rattle.facet_json.specs.Document.{IsDocument, IsThinDocument}
+use Rattle.facet_json.specs.Spelled.{spelled, document}
 use Rattle.facet_json.specs.Place.{Refusal}
 use Rattle.facet_json.specs.Refusal.{RefusesThin}
 use Rattle.facet_json.specs.Quoted.{escaped, quoted}
@@ -57,6 +58,14 @@ OneSpelling = (ts r s : Tokens) (a b : Node) → Spells ts a r → Spells ts b s
 -- An input has at most one document.
 abbrev pub OneDocument : Type 0
 OneDocument = (buffer : List ℕ) (mode : Mode) (a b : Node) (v w : Tree) → IsDocument buffer mode a v → IsDocument buffer mode b w → (a ≡ b) × (v ≡ w)
+
+-- The value that is computed from tokens is the one value that they spell.
+abbrev pub SpelledIsSpells : Type 0
+SpelledIsSpells = (ts rest : Tokens) (node : Node) → (spelled ts ≡ Some (node, rest)) ↔ Spells ts node rest
+
+-- The document that is computed is the one document of the input.
+abbrev pub DocumentIsFound : Type 0
+DocumentIsFound = (buffer : List ℕ) (mode : Mode) (root : Node) (value : Tree) → (document buffer mode ≡ Some (root, value)) ↔ IsDocument buffer mode root value
 
 -- A plain document is the same JSONC document.
 abbrev pub PlainIsJsonc : Type 0

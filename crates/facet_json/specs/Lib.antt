@@ -10,6 +10,7 @@ pub mod Node
 pub mod Tree
 pub mod Meaning
 pub mod Document
+pub mod Spelled
 pub mod Place
 pub mod Refusal
 pub mod Reading

@@ -9,3 +9,4 @@ pub use growth::cut_stays;
 //! What the definitions of `specs/` mean, in the subject's own words: each law is the contract of a function without effect.
 mod decoding;
 pub use decoding::{decoded_is_decodes, quoted_by_characters};
+pub use documents::{one_document, one_spelling, plain_is_jsonc, refused_has_none};

@@ -1,6 +1,6 @@
 //! Laws about documents: which tokens spell a value, and which value.
 
-ghost use Rattle.facet_json.specs.Laws.{OneDocument, OneSpelling, RefusedHasNone};
+ghost use Rattle.facet_json.specs.Laws.{OneDocument, OneSpelling, PlainIsJsonc, RefusedHasNone};
 
 /// Tokens spell at most one value, and no spelling is a proper front of another's.
 pub fn one_spelling()
@@ -17,5 +17,11 @@ pub fn one_document()
 /// An input that is refused where thin documents are read has no thin document.
 pub fn refused_has_none()
     ensures { RefusedHasNone }
+{
+}
+
+/// A plain document is the same document where comments are read.
+pub fn plain_is_jsonc()
+    ensures { PlainIsJsonc }
 {
 }
