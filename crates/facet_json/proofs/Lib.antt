@@ -3,3 +3,4 @@ pub mod NumberFronts
 pub mod Starts
 pub mod CutBounds
 pub mod TokensSteps
+pub mod GapLaws

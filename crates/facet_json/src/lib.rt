@@ -2,6 +2,7 @@
 #![tactic(auto)]
 
 mod error;
+pub mod laws;
 mod mode;
 mod span;
 mod token;

@@ -1,0 +1,5 @@
+//! What the definitions mean: each function's contract is a law, and the function does nothing.
+
+mod cuts;
+
+pub use cuts::gap_is_longest;
