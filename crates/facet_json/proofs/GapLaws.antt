@@ -1,5 +1,5 @@
 -- The gap that is measured is a gap, and the longest.
-use Rattle.std.proofs.Common.{◌≡◌, ℕ, zero, suc, ◌+◌, ◌≤◌, true, false, ◌==◌, ◌&&◌, List, [], ◌∷◌, ◌++◌, length, take, drop, Option, Some, None, refl, sym, ap, ◌∙◌, subst, arith, length-append, take-append-drop, append_assoc}
+use Rattle.std.proofs.Common.{◌≡◌, ℕ, zero, suc, ◌+◌, ◌≤◌, true, false, ◌==◌, ◌&&◌, List, [], ◌∷◌, ◌++◌, length, take, drop, Option, Some, None, refl, sym, ap, ◌∙◌, subst, arith, length-append, take-append-drop, take-add, append_assoc}
 use Rattle.std.proofs.lemmas.Bool.{cond_both, eqb-true, and_parts}
 use Rattle.std.proofs.lemmas.List.{append-nil, take_all, drop_all, drop-drop, drop_at, length-take-le}
 use Rattle.facet_json.specs.Bytes.{is_space, slash, star, line_feed}
@@ -130,13 +130,6 @@ GapAt mode input bytes = IsGap mode input (take (gap_len mode input bytes) bytes
 gap_none : (mode : Mode) (input : Input) (bytes : List ℕ) → gap_len mode input bytes ≡ 0 → GapAt mode input bytes
 gap_none mode input bytes e = subst (λ n. IsGap mode input (take n bytes) (drop n bytes)) (sym e) (empty bytes)
 
--- The first m and the next k bytes are the first m + k.
-take_two : (m k : ℕ) (bytes : List ℕ) → take (m + k) bytes ≡ take m bytes ++ take k (drop m bytes)
-take_two zero k bytes = let e : zero + k ≡ k = omega arith in ap (λ n. take n bytes) e
-take_two (suc m) zero [] = let e : suc m + 0 ≡ suc m = omega arith in ap (λ n. take n []) e
-take_two (suc m) (suc k) [] = let e : suc m + suc k ≡ suc (m + suc k) = omega arith in ap (λ n. take n []) e
-take_two (suc m) k (b ∷ bytes) = let e : suc m + k ≡ suc (m + k) = omega arith in ap (λ n. take n (b ∷ bytes)) e ∙ ap (λ l. b ∷ l) (take_two m k bytes)
-
 gap_more : (mode : Mode) (input : Input) (n : ℕ) (bytes : List ℕ) → piece_len mode input bytes ≡ n → n ≤ length bytes → IsPiece mode input (take n bytes) (drop n bytes) →
     GapAt mode input (drop n bytes) → GapAt mode input bytes
 gap_more mode input n bytes e h first others =
@@ -145,7 +138,7 @@ gap_more mode input n bytes e h first others =
     let all : gap_len mode input bytes ≡ n + k = gap_len-piece mode input n bytes e h in
     let first_piece : IsPiece mode input (take n bytes) (take k rest ++ drop k rest) = subst (IsPiece mode input (take n bytes)) (sym (take-append-drop k rest)) first in
     let left : drop k rest ≡ drop (n + k) bytes = drop-drop k n bytes in
-    let whole_gap : IsGap mode input (take (n + k) bytes) (drop k rest) = piece (take n bytes) (take k rest) _ _ first_piece others (take_two n k bytes) in
+    let whole_gap : IsGap mode input (take (n + k) bytes) (drop k rest) = piece (take n bytes) (take k rest) _ _ first_piece others (take-add n k bytes) in
     subst (λ m. IsGap mode input (take m bytes) (drop m bytes)) (sym all) (subst (IsGap mode input (take (n + k) bytes)) left whole_gap)
 
 -- What is measured as a gap is one, also behind the next bytes.

@@ -4,3 +4,4 @@ pub mod Starts
 pub mod CutBounds
 pub mod TokensSteps
 pub mod GapLaws
+pub mod NumberLaws
