@@ -20,3 +20,5 @@ pub mod NumberText
 pub mod QuotedLaws
 pub mod DecodeRows
 pub mod Modes
+pub mod GapLaws
+pub mod NumberLaws

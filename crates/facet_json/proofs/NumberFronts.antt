@@ -106,16 +106,16 @@ exponent_behind : (n k : ℕ) (bytes : List ℕ) → n + exponent_len (drop n by
 exponent_behind n k bytes h = ap exponent_len (drop_front n k bytes (omega arith)) ∙ exponent_len-take (k - n) (drop n bytes) (omega arith)
 
 -- The parts, when the first of them are given.
-abbrev from_exponent : ℕ → ℕ → ℕ → ℕ → Parts
+abbrev pub from_exponent : ℕ → ℕ → ℕ → ℕ → Parts
 from_exponent s d f e = record { sign = s; digits = d; fraction = f; exponent = e }
 
-abbrev from_fraction : List ℕ → ℕ → ℕ → ℕ → Parts
+abbrev pub from_fraction : List ℕ → ℕ → ℕ → ℕ → Parts
 from_fraction bytes s d f = from_exponent s d f (exponent_len (drop (s + d + f) bytes))
 
-abbrev from_digits : List ℕ → ℕ → ℕ → Parts
+abbrev pub from_digits : List ℕ → ℕ → ℕ → Parts
 from_digits bytes s d = from_fraction bytes s d (fraction_len (drop (s + d) bytes))
 
-abbrev from_sign : List ℕ → ℕ → Parts
+abbrev pub from_sign : List ℕ → ℕ → Parts
 from_sign bytes s = from_digits bytes s (digits_len (drop s bytes))
 
 -- A numeral has the same parts in each front that holds it.

@@ -10,3 +10,6 @@ pub use growth::cut_stays;
 mod decoding;
 pub use decoding::{decoded_is_decodes, quoted_by_characters};
 pub use documents::{one_document, one_spelling, plain_is_jsonc, refused_has_none};
+//! What the definitions mean: each function's contract is a law, and the function does nothing.
+mod cuts;
+pub use cuts::{gap_is_longest, number_is_longest};

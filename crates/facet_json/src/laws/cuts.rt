@@ -1,0 +1,16 @@
+//! What gaps, numbers and tokens are: the definitions that compute agree with those that say what is meant.
+
+ghost use Rattle.facet_json.specs.Laws.{GapIsLongest, NumberIsLongest};
+
+/// The gap at the front of the bytes is a gap, and no longer front of them is one (RFC 8259, section 2).
+pub fn gap_is_longest()
+    ensures { GapIsLongest }
+{
+}
+
+/// Where more than a minus stands, the number at the front of the bytes is a number, and no longer front of them is one
+/// (RFC 8259, section 6).
+pub fn number_is_longest()
+    ensures { NumberIsLongest }
+{
+}
