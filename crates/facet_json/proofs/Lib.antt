@@ -1,0 +1,3 @@
+pub mod CompactText
+pub mod Escapes
+pub mod TreeViews
