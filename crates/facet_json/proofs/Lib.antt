@@ -22,3 +22,6 @@ pub mod DecodeRows
 pub mod Modes
 pub mod GapLaws
 pub mod NumberLaws
+pub mod CompactText
+pub mod Escapes
+pub mod TreeViews

@@ -1,0 +1,149 @@
+//! Writing a tree as compact text (RFC 8259, sections 2 to 7).
+ghost use Rattle.std.specs.Prelude.{◌≡◌, ◌<◌, ◌||◌, ◌==◌, ◌++◌, ◌∷◌, [], true, cond, nat_lt, codes, IfOk, OnOk, MatchOption};
+ghost use Rattle.std.specs.Fmt.{decimal};
+ghost use Rattle.facet_json.specs.Bytes.{backslash, space, delete, left_bracket, left_brace};
+ghost use Rattle.facet_json.specs.Quoted.{escaped, quoted, hex_byte};
+ghost use Rattle.facet_json.specs.Quoted as spelled;
+ghost use Rattle.facet_json.specs.Text.{default_options, text, separator, items_text, members_text};
+ghost use Rattle.facet_json.specs.Views.{tree_view, trees_view, pairs_view};
+
+use crate::ser_error::JsonSerializeError;
+use crate::tree::Tree;
+use std::alloc::Global;
+
+/// The compact text of a tree (RFC 8259): members in their order, no white space, and each character that has no
+/// escape as its UTF-8. The only refusal is `OutOfMemory`.
+pub fn to_vec(alloc: Global, tree: &Tree) -> Result<Vec<u8>, JsonSerializeError>
+    ensures { IfOk result (λ v. v.items ≡ text default_options 0 (tree_view tree.now)) }
+{
+    let mut out = Vec::new(alloc);
+    push_tree(&mut out, tree)?;
+    Ok(out)
+}
+
+#[cycle(write)]
+fn push_tree(out: &mut Vec<u8>, tree: &Tree) -> Result<(), JsonSerializeError>
+    ensures { OnOk result (out.new.items ≡ out.old.items ++ text default_options 0 (tree_view tree.now)) }
+{
+    match tree {
+        Tree::Null => push_bytes(out, b"null"),
+        Tree::Bool(true) => push_bytes(out, b"true"),
+        Tree::Bool(false) => push_bytes(out, b"false"),
+        Tree::U64(n) => push_number(out, *n),
+        Tree::Text(text) => push_quoted(out, text.as_str()),
+        Tree::List(items) => push_list(out, items),
+        Tree::Pairs(members) => push_pairs(out, members),
+    }
+}
+
+#[cycle(write)]
+fn push_list(out: &mut Vec<u8>, items: &Vec<Tree>) -> Result<(), JsonSerializeError>
+    ensures { OnOk result (out.new.items ≡ out.old.items ++ left_bracket ∷ items_text default_options 0 true (trees_view items.now.items)) }
+{
+    out.push(b'[')?;
+    let mut first = true;
+    for item in items {
+        push_separator(out, first)?;
+        push_tree(out, item)?;
+        first = false;
+    }
+    out.push(b']')?;
+    Ok(())
+}
+
+#[cycle(write)]
+fn push_pairs(out: &mut Vec<u8>, members: &Vec<(String, Tree)>) -> Result<(), JsonSerializeError>
+    ensures { OnOk result (out.new.items ≡ out.old.items ++ left_brace ∷ members_text default_options 0 true (pairs_view members.now.items)) }
+{
+    out.push(b'{')?;
+    let mut first = true;
+    for member in members {
+        push_separator(out, first)?;
+        push_quoted(out, member.0.as_str())?;
+        out.push(b':')?;
+        push_tree(out, &member.1)?;
+        first = false;
+    }
+    out.push(b'}')?;
+    Ok(())
+}
+
+fn push_bytes(out: &mut Vec<u8>, bytes: &[u8]) -> Result<(), JsonSerializeError>
+    ensures { OnOk result (out.new.items ≡ out.old.items ++ bytes.now) }
+{
+    out.extend_from_slice(bytes)?;
+    Ok(())
+}
+
+// Nothing in front of the first, a comma in front of each other.
+fn push_separator(out: &mut Vec<u8>, first: bool) -> Result<(), JsonSerializeError>
+    ensures { OnOk result (out.new.items ≡ out.old.items ++ separator first) }
+{
+    if !first {
+        out.push(b',')?;
+    }
+    Ok(())
+}
+
+fn push_number(out: &mut Vec<u8>, n: u64) -> Result<(), JsonSerializeError>
+    ensures { OnOk result (out.new.items ≡ out.old.items ++ decimal n) }
+{
+    let mut buffer = itoa::Buffer::new();
+    out.extend_from_slice(buffer.format(n).as_bytes())?;
+    Ok(())
+}
+
+// The text between quotes, each byte in its turn.
+fn push_quoted(out: &mut Vec<u8>, text: &str) -> Result<(), JsonSerializeError>
+    ensures { OnOk result (out.new.items ≡ out.old.items ++ quoted text.now) }
+{
+    out.push(b'"')?;
+    for byte in text.as_bytes() {
+        push_escaped(out, *byte)?;
+    }
+    out.push(b'"')?;
+    Ok(())
+}
+
+// What stands between the quotes for one byte of a text.
+fn push_escaped(out: &mut Vec<u8>, byte: u8) -> Result<(), JsonSerializeError>
+    ensures { OnOk result (out.new.items ≡ out.old.items ++ escaped byte) }
+{
+    match short_escape(byte) {
+        Some(letter) => push_bytes(out, &[b'\\', letter]),
+        None if byte < b' ' || byte == 0x7f => push_bytes(out, &hex_escape(byte)),
+        None => push_bytes(out, &[byte]),
+    }
+}
+
+// The letter of the escape of two characters that stands for a byte.
+#[tactic(auto, using(crate::proofs::Escapes::long_escape), unfolding(crate::specs::Quoted::escaped))]
+fn short_escape(byte: u8) -> Option<u8>
+    ensures { MatchOption result (escaped byte ≡ cond (nat_lt byte space || (byte == delete)) (codes "\\u00" ++ hex_byte byte) (byte ∷ [])) (λ letter. escaped byte ≡ backslash ∷ letter ∷ []) }
+{
+    match byte {
+        b'"' => Some(b'"'),
+        b'\\' => Some(b'\\'),
+        b'\n' => Some(b'n'),
+        b'\r' => Some(b'r'),
+        b'\t' => Some(b't'),
+        0x08 => Some(b'b'),
+        0x0c => Some(b'f'),
+        _ => None,
+    }
+}
+
+// The escape of six characters of a byte below 0x80.
+fn hex_escape(byte: u8) -> [u8; 6]
+    ensures { result ≡ codes "\\u00" ++ hex_byte byte }
+{
+    [b'\\', b'u', b'0', b'0', hex_digit(byte / 16), hex_digit(byte % 16)]
+}
+
+// A lower-case hexadecimal digit.
+fn hex_digit(n: u8) -> u8
+    requires { n < 16 }
+    ensures { result ≡ spelled.hex_digit n }
+{
+    if n < 10 { n + b'0' } else { n - 10 + b'a' }
+}
