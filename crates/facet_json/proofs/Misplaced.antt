@@ -27,11 +27,11 @@ record Judged (buffer : List ℕ) (kind : Kind) (k : TokenKind) : Type 0 where
 -- A kind that looks like its sample to the letter, and is neither a string nor a number.
 plain_kind : (buffer : List ℕ) (kind : Kind) (k : TokenKind) → kind ≡ sample k → needs_meaning (sample k) ≡ false → kind_name buffer (sample k) ≡ name_of k → Judged buffer kind k
 plain_kind buffer kind k e n same = record {
-    has_meaning = λ m. let f : needs_meaning (sample k) ≡ true = rw e at m in cc;
-    name = rw e same;
-    goes_on_alike = λ p. ap (goes_on p) e;
-    expected_alike = λ p. ap (expected_at p) e;
-  }
+  has_meaning = λ m. let f : needs_meaning (sample k) ≡ true = rw e at m in cc;
+  name = rw e same;
+  goes_on_alike = λ p. ap (goes_on p) e;
+  expected_alike = λ p. ap (expected_at p) e;
+}
 
 string_goes_on : (a b : ℕ) (h : Bool) (p : Place) → goes_on p (token.string a b h) ≡ goes_on p (token.string 0 0 false)
 string_goes_on a b h root = refl
@@ -88,7 +88,7 @@ judged buffer kind kinds.Comma r = plain_kind buffer kind kinds.Comma r refl ref
 judged buffer kind kinds.Null r = plain_kind buffer kind kinds.Null r refl refl
 judged buffer kind kinds.True r = plain_kind buffer kind kinds.True r refl refl
 judged buffer kind kinds.False r = plain_kind buffer kind kinds.False r refl refl
-judged buffer (token.string a b h) (kinds.String s) r = record { has_meaning = λ m. rw r.1 tt; name = refl; goes_on_alike = string_goes_on a b h; expected_alike = string_expected a b h }
+judged buffer (token.string a b h) (kinds.String s) r = record { has_meaning = λ m. rw r.1 refl; name = refl; goes_on_alike = string_goes_on a b h; expected_alike = string_expected a b h }
 judged buffer (token.number a b h) (kinds.String s) r = cc
 judged buffer token.object_start (kinds.String s) r = cc
 judged buffer token.object_end (kinds.String s) r = cc
@@ -99,7 +99,7 @@ judged buffer token.comma (kinds.String s) r = cc
 judged buffer token.null (kinds.String s) r = cc
 judged buffer token.true_literal (kinds.String s) r = cc
 judged buffer token.false_literal (kinds.String s) r = cc
-judged buffer (token.number a b h) (kinds.U64 n) r = record { has_meaning = λ m. rw r.1 tt; name = thin_name _ n r.1; goes_on_alike = number_goes_on a b h; expected_alike = number_expected a b h }
+judged buffer (token.number a b h) (kinds.U64 n) r = record { has_meaning = λ m. rw r.1 refl; name = thin_name _ n r.1; goes_on_alike = number_goes_on a b h; expected_alike = number_expected a b h }
 judged buffer (token.string a b h) (kinds.U64 n) r = cc
 judged buffer token.object_start (kinds.U64 n) r = cc
 judged buffer token.object_end (kinds.U64 n) r = cc
@@ -116,7 +116,7 @@ pub stops_misplaced : (buffer : List ℕ) (p : Place) (ts after : Tokens) (t : M
     → r ≡ refusal_at (misplaced_complaint p t.kind) (span_of t.span) → StopsAt buffer p ts r
 stops_misplaced buffer p ts after t r f n same =
     let j : Judged buffer f.first.kind t.kind = judged buffer f.first.kind t.kind f.read in
-    let whole = misplaced {buffer = buffer} p f.first after j.has_meaning (j.goes_on_alike p ∙ n) in
+    let whole : StopsAt buffer p (next f.first after) (refusal_at (unexpected_token (kind_name buffer f.first.kind) (expected_at p f.first.kind)) f.first.span) = misplaced p f.first after j.has_meaning (j.goes_on_alike p ∙ n) in
     rw (f.is_first, same) (rw (j.name, j.expected_alike p, f.spans) at whole)
 
 -- ---- with what no document goes on

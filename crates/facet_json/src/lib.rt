@@ -2,8 +2,8 @@
 #![tactic(auto)]
 
 mod error;
-mod materialized;
 pub mod laws;
+mod materialized;
 mod mode;
 mod number;
 mod place;
