@@ -3,6 +3,8 @@
 
 mod report;
 mod run;
+#[cfg(test)]
+mod tests;
 
 use report::{status, write_line};
 use run::{OUT_OF_MEMORY, Outcome, failed_read, run};
