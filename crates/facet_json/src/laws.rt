@@ -1,4 +1,6 @@
-//! What the definitions of `specs/` mean, in the subject's own words: each law is the contract of a function without effect.
+//! What the definitions of `specs/` mean, in the subject's own words.
+//!
+//! Each law is the contract of a function without effect.
 
 mod decoding;
 
