@@ -25,3 +25,4 @@ pub mod NumberLaws
 pub mod CompactText
 pub mod Escapes
 pub mod TreeViews
+pub mod ThinNumbers

@@ -117,7 +117,8 @@ pub stops_misplaced : (buffer : List ℕ) (p : Place) (ts after : Tokens) (t : M
 stops_misplaced buffer p ts after t r f n same =
     let j : Judged buffer f.first.kind t.kind = judged buffer f.first.kind t.kind f.read in
     let whole : StopsAt buffer p (next f.first after) (refusal_at (unexpected_token (kind_name buffer f.first.kind) (expected_at p f.first.kind)) f.first.span) = misplaced p f.first after j.has_meaning (j.goes_on_alike p ∙ n) in
-    rw (f.is_first, same) (rw (j.name, j.expected_alike p, f.spans) at whole)
+    let called : refusal_at (unexpected_token (kind_name buffer f.first.kind) (expected_at p f.first.kind)) f.first.span ≡ r = rw (j.name, j.expected_alike p, f.spans) (sym same) in
+    rw f.is_first (subst (λ (q : Refusal). StopsAt buffer p (next f.first after) q) called whole)
 
 -- ---- with what no document goes on
 
