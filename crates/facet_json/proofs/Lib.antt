@@ -26,3 +26,4 @@ pub mod CompactText
 pub mod Escapes
 pub mod TreeViews
 pub mod ThinNumbers
+pub mod ReaderSteps
