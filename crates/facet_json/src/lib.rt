@@ -3,12 +3,14 @@
 
 mod error;
 mod mode;
+mod plain_cut;
 mod span;
 mod token;
 mod tree;
 
 pub use error::{DeserializeError, DeserializeErrorKind};
 pub use mode::Mode;
+pub use plain_cut::cut;
 pub use span::Span;
 pub use token::{NumberHint, ScanError, ScanErrorKind, ScanResult, SpannedToken, Token};
 pub use tree::Tree;
