@@ -1,6 +1,6 @@
 //! The plain scanner: what stands at a position, found byte by byte and without look-ahead.
 
-ghost use Rattle.std.specs.Prelude.{◌≡◌, ℕ, ◌+◌, Bool, false, ◌<◌, ◌≤◌, length, drop, Option, slice_get};
+ghost use Rattle.std.specs.Prelude.{◌≡◌, ℕ, ◌+◌, Bool, false, ◌<◌, ◌≤◌, length, drop, Option, slice_get, IfSome};
 ghost use Rattle.std.specs.Option.{option_map};
 ghost use Rattle.facet_json.specs.Gap.{whole, through_block_end, through_line_end};
 ghost use Rattle.facet_json.specs.Gap as spec_gap;
@@ -93,7 +93,8 @@ fn comment_len(buffer: &[u8], at: usize) -> usize
 /// The offset behind the first `*/` from `from` on.
 fn block_end(buffer: &[u8], from: usize) -> Option<usize>
     requires { from ≤ length buffer.now }
-    ensures { result ≡ option_map (λ n. from + n) (through_block_end (drop from buffer.now)) }
+    ensures end { result ≡ option_map (λ n. from + n) (through_block_end (drop from buffer.now)) }
+    ensures range { IfSome result (λ end. (from ≤ end) × (end ≤ length buffer.now)) }
 {
     let mut at = from;
     while at < buffer.len() {
@@ -108,7 +109,8 @@ fn block_end(buffer: &[u8], from: usize) -> Option<usize>
 /// The offset behind the first line feed from `from` on.
 fn line_end(buffer: &[u8], from: usize) -> Option<usize>
     requires { from ≤ length buffer.now }
-    ensures { result ≡ option_map (λ n. from + n) (through_line_end (drop from buffer.now)) }
+    ensures end { result ≡ option_map (λ n. from + n) (through_line_end (drop from buffer.now)) }
+    ensures range { IfSome result (λ end. (from ≤ end) × (end ≤ length buffer.now)) }
 {
     let mut at = from;
     while let Some(byte) = buffer.get(at) {

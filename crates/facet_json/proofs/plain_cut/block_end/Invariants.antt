@@ -7,6 +7,7 @@ use Rattle.facet_json.proofs.plain_cut.block_end.Given as goal
 abbrev pub invariant-loop-at : goal.invariant-loop-at
 invariant-loop-at l =
     record {
+      ahead : l.from ≤ l.at;
       within : l.at ≤ length l.buffer;
       same : option_map (λ n. l.at + n) (through_block_end (drop l.at l.buffer)) ≡ option_map (λ n. l.from + n) (through_block_end (drop l.from l.buffer))
     }

@@ -6,7 +6,10 @@ use Rattle.facet_json.proofs.plain_cut.line_end.Given as goal
 
 abbrev pub invariant-loop-byte : goal.invariant-loop-byte
 invariant-loop-byte l =
-    option_map (λ n. l.at + n) (through_line_end (drop l.at l.buffer)) ≡ option_map (λ n. l.from + n) (through_line_end (drop l.from l.buffer))
+    record {
+      ahead : l.from ≤ l.at;
+      same : option_map (λ n. l.at + n) (through_line_end (drop l.at l.buffer)) ≡ option_map (λ n. l.from + n) (through_line_end (drop l.from l.buffer))
+    }
 
 abbrev pub decreases-loop-byte : goal.decreases-loop-byte
 decreases-loop-byte l = length l.buffer - l.at
