@@ -187,17 +187,13 @@ fn cut_text(buffer: &[u8], at: usize) -> ScanResult
     let mut escaped = false;
     let mut has_escapes = false;
     while let Some(byte) = buffer.get(end) {
-        match byte {
-            b'"' if !escaped => {
-                let token = Token::String { start, end, has_escapes };
-                return token_at(token, at, end + 1 - at);
-            }
-            b'\\' if !escaped => {
-                escaped = true;
-                has_escapes = true;
-            }
-            _ => escaped = false,
+        if *byte == b'"' && !escaped {
+            let token = Token::String { start, end, has_escapes };
+            return token_at(token, at, end + 1 - at);
         }
+        let is_backslash = *byte == b'\\';
+        escaped = is_backslash && !escaped;
+        has_escapes |= is_backslash;
         end += 1;
     }
     unexpected_eof(buffer, at, "in string")

@@ -1,7 +1,41 @@
+-- Byte by byte to the quote that closes the string.
+use Rattle.std.proofs.Common.{◌≡◌, ◌+◌, ◌-◌, eqb, false, not, ◌&&◌, Bool, drop, Some, None, ap, ap₂, sym, ◌∙◌, refl, arith, subst}
+use Rattle.std.proofs.lemmas.Bool.{eq-eqb, ne_eqb}
+use Rattle.std.specs.Option.{option_map}
+use Rattle.facet_json.specs.Bytes.{quote, backslash}
+use Rattle.facet_json.specs.Token.{string}
+use Rattle.facet_json.specs.Cut.{content_len}
+use Rattle.facet_json.proofs.Offsets.{slice_get-from_read}
+use Rattle.facet_json.proofs.TextSteps.{content-more, content-ends, escapes-more, cut_text-ends, no_quote}
 use Rattle.facet_json.proofs.plain_cut.cut_text.Goals as goal
+use Rattle.facet_json.proofs.plain_cut.cut_text.Goals.{then-is_backslash, else-is_backslash}
 
-pub returns-in-34 : goal.returns-in-34
-returns-in-34 c = ?
+pub returns-then-not-escaped : goal.returns-then-not-escaped
+returns-then-not-escaped c =
+    let buffer = c.args.buffer.now in
+    let rest = drop (c.args.at + 1) buffer in
+    let end = c.loop-byte.end in
+    let here = slice_get-from_read buffer end c.in-Some.byte.now quote c.in-Some.ensures.lookup.3 c.if-byte-eq34.true in
+    let same = c.loop-byte.invariant.same in
+    let found : Some end ≡ option_map (λ n. (c.args.at + 1) + n) (content_len false rest) = content-ends buffer end here ∙ ap (λ v. option_map (λ n. end + n) (content_len v (drop end buffer))) (sym c.if-not-escaped.true) ∙ same in
+    c.token_at.ensures (string (c.args.at + 1) end c.loop-byte.has_escapes) refl ∙ ap Some (cut_text-ends c.args.at end rest c.loop-byte.has_escapes (content_len false rest) found c.loop-byte.invariant.seen)
 
 pub loop-byte-preserved : goal.loop-byte-preserved
-loop-byte-preserved c = ?
+loop-byte-preserved c =
+    let buffer = c.args.buffer.now in
+    let end = c.loop-byte.end in
+    let b = c.in-Some.byte.now in
+    let escaped = c.loop-byte.escaped in
+    let here = slice_get-from_read buffer end b b c.in-Some.ensures.lookup.3 refl in
+    let next : c.if-is_backslash.escaped ≡ (eqb b backslash && not escaped) =
+        elim c.if-is_backslash.branch [
+          then-is_backslash w ↦ w.escaped-is ∙ ap (λ v. v && not escaped) (sym (eq-eqb b backslash w.if-is_backslash.true))
+        | else-is_backslash w ↦ let no = ne_eqb b backslash w.if-is_backslash.false in w.escaped-is ∙ no ∙ ap (λ v. v && not escaped) (sym no)
+        ] in
+    let more = content-more buffer end b escaped here (no_quote b escaped c.else-byte-eq34.either) in
+    record {
+      ahead = omega arith;
+      within = omega (arith, c.in-Some.ensures.lookup.3.0);
+      same = ap (λ v. option_map (λ n. (end + 1) + n) (content_len v (drop (end + 1) buffer))) next ∙ more ∙ c.loop-byte.invariant.same;
+      seen = escapes-more buffer (c.args.at + 1) end b c.loop-byte.has_escapes c.loop-byte.invariant.ahead here c.loop-byte.invariant.seen
+    }

@@ -1,0 +1,45 @@
+-- What is cut where a byte stands that begins a token, a comment or nothing.
+use Rattle.std.proofs.Common.{◌≡◌, ◌≢◌, ℕ, ◌+◌, ◌<◌, ◌≤◌, ◌⊎◌, inl, inr, Bool, true, false, cond, eqb, nat_le, List, length, drop, slice_get, Some, refl, ap, sym, ◌∙◌, arith}
+use Rattle.std.proofs.lemmas.Bool.{ne_eqb, eq-eqb, cases_eq, le-leb, lt-leb, and_from, and_left, and_right, or_from, or_left, or_right}
+use Rattle.facet_json.specs.Bytes.{left_brace, right_brace, left_bracket, right_bracket, colon, comma, quote, slash, minus, lower_n, lower_t, lower_f, is_digit}
+use Rattle.facet_json.specs.Gap.{Mode}
+use Rattle.facet_json.specs.Number.{parts, parts_len, parts_hint, is_bare, starts_number}
+use Rattle.facet_json.specs.Token.{Kind}
+use Rattle.facet_json.specs.Cut.{Start, letter, opens_number, opens_comment, opens_nothing, start_of, common_len, cut_word, cut_number, cut_by, cut_here}
+use Rattle.facet_json.proofs.Offsets.{drop-at_byte}
+
+-- what a byte begins is cut there
+pub cut_here-by : (mode : Mode) (buffer : List ℕ) (at b : ℕ) (start : Start) → slice_get buffer at ≡ Some b → start_of b ≡ start → cut_by start mode at b (drop (at + 1) buffer) ≡ cut_here mode at (drop at buffer)
+unfolding cut_here
+cut_here-by mode buffer at b start h e =
+    ap (λ s. cut_by s mode at b (drop (at + 1) buffer)) (sym e) ∙ ap (cut_here mode at) (sym (drop-at_byte buffer at b h))
+
+-- a byte that begins no punctuation, text or letters
+start_of-others : (b : ℕ) → b ≢ left_brace → b ≢ right_brace → b ≢ left_bracket → b ≢ right_bracket → b ≢ colon → b ≢ comma → b ≢ quote → b ≢ lower_n → b ≢ lower_t → b ≢ lower_f → start_of b ≡ cond (starts_number b) opens_number (cond (eqb b slash) opens_comment opens_nothing)
+unfolding start_of
+start_of-others b h0 h1 h2 h3 h4 h5 h6 h7 h8 h9 = rw (ne_eqb b left_brace h0, ne_eqb b right_brace h1, ne_eqb b left_bracket h2, ne_eqb b right_bracket h3, ne_eqb b colon h4, ne_eqb b comma h5, ne_eqb b quote h6, ne_eqb b lower_n h7, ne_eqb b lower_t h8, ne_eqb b lower_f h9) refl
+
+-- a minus or a digit begins a number
+pub start_of-number : (b : ℕ) → minus ≤ b → b ≤ 0x39 → b ≢ 0x2e → b ≢ slash → start_of b ≡ opens_number
+start_of-number b low high no_dot no_slash =
+    let others = start_of-others b (omega arith) (omega arith) (omega arith) (omega arith) (omega arith) (omega arith) (omega arith) (omega arith) (omega arith) (omega arith) in
+    let digit : b ≢ minus → is_digit b ≡ true = λ n. and_from (nat_le 0x30 b) (nat_le b 0x39) (le-leb 0x30 b (omega arith)) (le-leb b 0x39 high) in
+    let starts : starts_number b ≡ true = elim (cases_eq b minus) [ inl e ↦ or_left (eqb b minus) (is_digit b) (eq-eqb b minus e) | inr n ↦ or_right (eqb b minus) (is_digit b) (digit n) ] in
+    others ∙ ap (λ v. cond v opens_number (cond (eqb b slash) opens_comment opens_nothing)) starts
+
+-- any other byte begins nothing
+pub start_of-nothing : (b : ℕ) → b ≢ left_brace → b ≢ right_brace → b ≢ left_bracket → b ≢ right_bracket → b ≢ colon → b ≢ comma → b ≢ quote → b ≢ lower_n → b ≢ lower_t → b ≢ lower_f → b ≢ minus → b ≢ slash → (b < 0x30) ⊎ (0x39 < b) → start_of b ≡ opens_nothing
+start_of-nothing b h0 h1 h2 h3 h4 h5 h6 h7 h8 h9 no_minus no_slash no_digit =
+    let digit : is_digit b ≡ false = elim no_digit [ inl low ↦ and_left (nat_le 0x30 b) (nat_le b 0x39) (lt-leb 0x30 b low) | inr high ↦ and_right (nat_le 0x30 b) (nat_le b 0x39) (lt-leb b 0x39 high) ] in
+    let starts : starts_number b ≡ false = or_from (eqb b minus) (is_digit b) (ne_eqb b minus no_minus) digit in
+    start_of-others b h0 h1 h2 h3 h4 h5 h6 h7 h8 h9 ∙ ap (λ v. cond v opens_number (cond (eqb b slash) opens_comment opens_nothing)) starts ∙ ap (λ v. cond v opens_comment opens_nothing) (ne_eqb b slash no_slash)
+
+-- a letter begins a literal
+pub cut_here-word : (mode : Mode) (buffer : List ℕ) (at b : ℕ) (word : List ℕ) (kind : Kind) → slice_get buffer at ≡ Some b → start_of b ≡ letter word kind → cut_word at (drop at buffer) word kind (common_len word (drop at buffer)) ≡ cut_here mode at (drop at buffer)
+cut_here-word mode buffer at b word kind h e =
+    ap (λ l. cut_word at l word kind (common_len word l)) (drop-at_byte buffer at b h) ∙ cut_here-by mode buffer at b (letter word kind) h e
+
+-- a minus or a digit begins a number
+pub cut_here-number : (mode : Mode) (buffer : List ℕ) (at b : ℕ) → slice_get buffer at ≡ Some b → start_of b ≡ opens_number → cut_number at (drop (at + 1) buffer) (parts_len (parts (drop at buffer))) (parts_hint (parts (drop at buffer))) (is_bare (parts (drop at buffer))) ≡ cut_here mode at (drop at buffer)
+cut_here-number mode buffer at b h e =
+    ap (λ l. cut_number at (drop (at + 1) buffer) (parts_len (parts l)) (parts_hint (parts l)) (is_bare (parts l))) (drop-at_byte buffer at b h) ∙ cut_here-by mode buffer at b opens_number h e
