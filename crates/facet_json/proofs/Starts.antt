@@ -1,11 +1,15 @@
 -- What is cut where a byte stands that begins a token, a comment or nothing.
-use Rattle.std.proofs.Common.{◌≡◌, ◌≢◌, ℕ, ◌+◌, ◌<◌, ◌≤◌, ◌⊎◌, inl, inr, Bool, true, false, cond, eqb, nat_le, List, length, drop, slice_get, Some, refl, ap, sym, ◌∙◌, arith}
+use Rattle.std.proofs.Common.{◌≡◌, ◌≢◌, ℕ, suc, ◌+◌, ◌<◌, ◌≤◌, ◌⊎◌, inl, inr, Bool, true, false, cond, eqb, nat_le, List, [], ◌∷◌, length, drop, slice_get, Option, Some, None, Result, Ok, Err, IfOk, refl, ap, sym, ◌∙◌, arith}
 use Rattle.std.proofs.lemmas.Bool.{ne_eqb, eq-eqb, cases_eq, le-leb, lt-leb, and_from, and_left, and_right, or_from, or_left, or_right}
-use Rattle.facet_json.specs.Bytes.{left_brace, right_brace, left_bracket, right_bracket, colon, comma, quote, slash, minus, lower_n, lower_t, lower_f, is_digit}
-use Rattle.facet_json.specs.Gap.{Mode}
-use Rattle.facet_json.specs.Number.{parts, parts_len, parts_hint, is_bare, starts_number}
-use Rattle.facet_json.specs.Token.{Kind}
-use Rattle.facet_json.specs.Cut.{Start, letter, opens_number, opens_comment, opens_nothing, start_of, common_len, cut_word, cut_number, cut_by, cut_here}
+use Rattle.facet_json.specs.Bytes.{left_brace, right_brace, left_bracket, right_bracket, colon, comma, quote, slash, star, minus, lower_n, lower_t, lower_f, is_digit}
+use Rattle.facet_json.specs.Gap.{Mode, plain, jsonc}
+use Rattle.facet_json.specs.Number.{Hint, parts, parts_len, parts_hint, is_bare, starts_number}
+use Rattle.facet_json.specs.Token.{Kind, unexpected_char, unexpected_eof, in_literal, in_block_comment}
+use Rattle.facet_json.specs.Cut.{Cut, nothing_left, Start, punctuation, letter, opens_text, opens_number, opens_comment, opens_nothing, start_of, token_at, fault_at, common_len, content_len, cut_word, cut_text, cut_number, cut_slash, cut_by, cut_here}
+use Rattle.facet_json.specs.declared.token.Token.TheVariants as code
+use Rattle.facet_json.specs.declared.token.SpannedToken.{SpannedToken}
+use Rattle.facet_json.specs.declared.token.ScanError.{ScanError}
+use Rattle.facet_json.specs.Views.{scanned, token_answer}
 use Rattle.facet_json.proofs.Offsets.{drop-at_byte}
 
 -- what a byte begins is cut there
@@ -43,3 +47,46 @@ cut_here-word mode buffer at b word kind h e =
 pub cut_here-number : (mode : Mode) (buffer : List ℕ) (at b : ℕ) → slice_get buffer at ≡ Some b → start_of b ≡ opens_number → cut_number at (drop (at + 1) buffer) (parts_len (parts (drop at buffer))) (parts_hint (parts (drop at buffer))) (is_bare (parts (drop at buffer))) ≡ cut_here mode at (drop at buffer)
 cut_here-number mode buffer at b h e =
     ap (λ l. cut_number at (drop (at + 1) buffer) (parts_len (parts l)) (parts_hint (parts l)) (is_bare (parts l))) (drop-at_byte buffer at b h) ∙ cut_here-by mode buffer at b opens_number h e
+
+-- ---- where a byte stands, something is cut
+
+word_something : (at n : ℕ) (kind : Kind) (whole : Bool) (next : Option ℕ) → cond whole (token_at kind at n) (elim next [ None ↦ fault_at (unexpected_eof in_literal) at n | Some b ↦ fault_at (unexpected_char b) (at + n) 1 ]) ≢ nothing_left
+word_something at n kind true next e = cc
+word_something at n kind false None e = cc
+word_something at n kind false (Some b) e = cc
+
+text_something : (at : ℕ) (bytes : List ℕ) (found : Option ℕ) → cut_text at bytes found ≢ nothing_left
+text_something at bytes None e = cc
+text_something at bytes (Some n) e = cc
+
+number_something : (at : ℕ) (bytes : List ℕ) (n : ℕ) (hint : Hint) (bare : Bool) → cut_number at bytes n hint bare ≢ nothing_left
+number_something at [] n hint true e = cc
+number_something at (b ∷ bytes) n hint true e = cc
+number_something at bytes n hint false e = cc
+
+slash_something : (mode : Mode) (at : ℕ) (bytes : List ℕ) → cut_slash mode at bytes ≢ nothing_left
+slash_something plain at bytes e = cc
+slash_something jsonc at [] e = cc
+slash_something jsonc at (b ∷ bytes) e = opened (eqb b star) e
+  where
+    opened : (v : Bool) → cond v (fault_at (unexpected_eof in_block_comment) at (suc (suc (length bytes)))) (fault_at (unexpected_char slash) at 1) ≢ nothing_left
+    opened true h = cc
+    opened false h = cc
+
+cut_by-something : (start : Start) (mode : Mode) (at b : ℕ) (bytes : List ℕ) → cut_by start mode at b bytes ≢ nothing_left
+cut_by-something (punctuation kind) mode at b bytes e = cc
+cut_by-something (letter letters kind) mode at b bytes e = let n = common_len letters (b ∷ bytes) in word_something at n kind (eqb n (length letters)) (slice_get (b ∷ bytes) n) e
+cut_by-something opens_text mode at b bytes e = text_something at bytes (content_len false bytes) e
+cut_by-something opens_number mode at b bytes e = let p = parts (b ∷ bytes) in number_something at bytes (parts_len p) (parts_hint p) (is_bare p) e
+cut_by-something opens_comment mode at b bytes e = slash_something mode at bytes e
+cut_by-something opens_nothing mode at b bytes e = cc
+
+-- where a byte stands, a token or a fault is cut
+pub cut_here-something : (mode : Mode) (buffer : List ℕ) (at b : ℕ) → slice_get buffer at ≡ Some b → cut_here mode at (drop at buffer) ≢ nothing_left
+cut_here-something mode buffer at b h e =
+    cut_by-something (start_of b) mode at b (drop (at + 1) buffer) (cut_here-by mode buffer at b (start_of b) h refl ∙ e)
+
+-- an answer that isn't the end is no end
+pub no_end : (answer : Result SpannedToken ScanError) (cut : Cut) (P : SpannedToken → Type 0) → scanned answer ≡ Some cut → cut ≢ nothing_left → IfOk answer (λ t. t.token ≡ code.Eof → P t)
+no_end (Ok t) cut P e n = λ eof. absurd (n (let same : Some cut ≡ Some nothing_left = sym e ∙ ap (token_answer t.span) eof in cc))
+no_end (Err f) cut P e n = tt

@@ -1,15 +1,15 @@
 //! The plain scanner: what stands at a position, found byte by byte and without look-ahead.
 
-ghost use Rattle.std.specs.Prelude.{◌≡◌, ℕ, ◌+◌, Bool, false, ◌<◌, ◌≤◌, length, drop, Option, slice_get, IfSome};
+ghost use Rattle.std.specs.Prelude.{◌≡◌, ℕ, ◌+◌, Bool, false, ◌<◌, ◌≤◌, length, drop, Option, slice_get, IfSome, IfOk};
 ghost use Rattle.std.specs.Option.{option_map};
 ghost use Rattle.facet_json.specs.Gap.{whole, through_block_end, through_line_end};
 ghost use Rattle.facet_json.specs.Gap as spec_gap;
 ghost use Rattle.facet_json.specs.Number.{minus_len, digits_len, fraction_len, sign_len, exponent_len, parts, parts_len, parts_hint, is_bare};
 ghost use Rattle.facet_json.specs.Token.{Kind};
 ghost use Rattle.facet_json.specs.Token as spec_token;
-ghost use Rattle.facet_json.specs.Cut.{past_gap, cut_here, fault_at, content_len};
+ghost use Rattle.facet_json.specs.Cut.{past_gap, cut_here, span_at, fault_at, content_len};
 ghost use Rattle.facet_json.specs.Cut as spec_cut;
-ghost use Rattle.facet_json.specs.Views.{mode_of, kind_of, scanned};
+ghost use Rattle.facet_json.specs.Views.{mode_of, span_of, kind_of, scanned};
 
 use crate::mode::Mode;
 use crate::span::Span;
@@ -26,6 +26,7 @@ use crate::token::{NumberHint, ScanError, ScanErrorKind, ScanResult, SpannedToke
 pub fn cut(buffer: &[u8], position: usize, mode: Mode) -> ScanResult
     requires { position ≤ length buffer.now }
     ensures answer { scanned result ≡ Some (spec_cut.cut buffer.now position (mode_of mode)) }
+    ensures end { IfOk result (λ t. t.token ≡ Token.Eof → span_of t.span ≡ span_at (length buffer.now) 0) }
 {
     let at = skip_gap(buffer, position, mode);
     match buffer.get(at) {
