@@ -1,14 +1,14 @@
 -- The gap piece by piece, and the end of a comment byte by byte.
-use Rattle.std.proofs.Common.{get_or, ◌≡◌, ◌≢◌, ℕ, zero, suc, ◌+◌, ◌-◌, ◌<◌, ◌≤◌, Bool, true, false, cond, eqb, ◌&&◌, List, [], ◌∷◌, length, take, drop, slice_get, Option, Some, None, refl, ap, sym, inl, inr, ◌∙◌, arith}
-use Rattle.std.proofs.lemmas.List.{at_drop_more, drop_more, get_or_default, take_rest, length-drop, drop-drop}
-use Rattle.std.proofs.lemmas.Bool.{cases_eq, ne_eqb, eq-eqb, eqb-true, eqb-false, and_parts}
-use Rattle.std.proofs.lemmas.Option.{slice_get-get_or, slice_get_within}
+use Rattle.std.proofs.Common.{get_or, ◌≡◌, ℕ, zero, suc, ◌+◌, ◌-◌, ◌<◌, ◌≤◌, Bool, true, false, cond, eqb, ◌&&◌, List, [], ◌∷◌, length, take, drop, slice_get, Option, Some, None, refl, ap, sym, inl, inr, ◌∙◌, arith}
+use Rattle.std.proofs.lemmas.List.{drop_more, take_rest, length-drop, drop-drop}
+use Rattle.std.proofs.lemmas.Bool.{cases_eq, ne_eqb, eq-eqb, and_parts}
+use Rattle.std.proofs.lemmas.Option.{slice_get_within}
 use Rattle.std.specs.List.{starts_with}
 use Rattle.std.specs.Option.{option_map}
-use Rattle.facet_json.specs.Bytes.{star, slash, line_feed}
+use Rattle.facet_json.specs.Bytes.{star, slash}
 use Rattle.facet_json.specs.Gap.{Mode, Input, whole, growing, one_more, through_block_end, through_line_end, with_mark, with_line_mark, comment_len, piece_len, gap_len_from, gap_len}
 use Rattle.facet_json.specs.Cut.{past_gap}
-use Rattle.facet_json.proofs.Offsets.{drop-at_byte, drop-at_end, option_map-one_more, option_map-add, option_map-none}
+use Rattle.facet_json.proofs.Offsets.{drop-at_byte, option_map-one_more, option_map-none}
 
 -- ---- pieces
 

@@ -338,3 +338,6 @@ fn cut_slash(buffer: &[u8], at: usize, mode: Mode) -> ScanResult
         _ => unexpected_char(b'/', at),
     }
 }
+
+#[cfg(test)]
+mod tests;

@@ -1,6 +1,5 @@
 -- The invariant goes on by one byte, and a mark found here is the first.
-use Rattle.std.proofs.Common.{◌∙◌, sym, arith, drop}
-use Rattle.std.proofs.lemmas.List.{length-take, length-drop}
+use Rattle.std.proofs.Common.{◌∙◌, sym, arith}
 use Rattle.facet_json.proofs.GapSteps.{block_end-more, block_end-here}
 use Rattle.facet_json.proofs.plain_cut.block_end.Goals as goal
 

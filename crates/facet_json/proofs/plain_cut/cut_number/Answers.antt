@@ -1,5 +1,5 @@
 -- The parts end where the code says, and the tests tell the hint.
-use Rattle.std.proofs.Common.{◌≡◌, ◌+◌, ◌-◌, drop, Some, ap, sym, ◌∙◌, refl, arith}
+use Rattle.std.proofs.Common.{◌≡◌, ◌+◌, drop, Some, ap, sym, ◌∙◌, refl}
 use Rattle.facet_json.specs.Number.{parts, parts_len, parts_hint}
 use Rattle.facet_json.specs.Token.{number}
 use Rattle.facet_json.specs.Views.{hint_of}

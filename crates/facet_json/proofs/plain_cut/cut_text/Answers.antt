@@ -1,5 +1,5 @@
 -- Byte by byte to the quote that closes the string.
-use Rattle.std.proofs.Common.{◌≡◌, ◌+◌, ◌-◌, eqb, false, not, ◌&&◌, Bool, drop, Some, None, ap, ap₂, sym, ◌∙◌, refl, arith, subst}
+use Rattle.std.proofs.Common.{◌≡◌, ◌+◌, eqb, false, not, ◌&&◌, drop, Some, ap, sym, ◌∙◌, refl, arith}
 use Rattle.std.proofs.lemmas.Bool.{eq-eqb, ne_eqb}
 use Rattle.std.specs.Option.{option_map}
 use Rattle.facet_json.specs.Bytes.{quote, backslash}
