@@ -193,7 +193,7 @@ fn cut_text(buffer: &[u8], at: usize) -> ScanResult
             return token_at(token, at, end + 1 - at);
         }
         let is_backslash = *byte == b'\\';
-        escaped = is_backslash && !escaped;
+        escaped = is_backslash & !escaped;
         has_escapes |= is_backslash;
         end += 1;
     }

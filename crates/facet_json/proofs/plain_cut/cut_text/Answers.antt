@@ -1,14 +1,12 @@
 -- Byte by byte to the quote that closes the string.
-use Rattle.std.proofs.Common.{◌≡◌, ◌+◌, eqb, false, not, ◌&&◌, drop, Some, ap, sym, ◌∙◌, refl, arith}
-use Rattle.std.proofs.lemmas.Bool.{eq-eqb, ne_eqb}
+use Rattle.std.proofs.Common.{◌≡◌, ◌+◌, false, drop, Some, ap, sym, ◌∙◌, refl, arith}
 use Rattle.std.specs.Option.{option_map}
-use Rattle.facet_json.specs.Bytes.{quote, backslash}
+use Rattle.facet_json.specs.Bytes.{quote}
 use Rattle.facet_json.specs.Token.{string}
 use Rattle.facet_json.specs.Cut.{content_len}
 use Rattle.facet_json.proofs.Offsets.{slice_get-from_read}
 use Rattle.facet_json.proofs.TextSteps.{content-more, content-ends, escapes-more, cut_text-ends, no_quote}
 use Rattle.facet_json.proofs.plain_cut.cut_text.Goals as goal
-use Rattle.facet_json.proofs.plain_cut.cut_text.Goals.{then-is_backslash, else-is_backslash}
 
 pub returns-then-not-escaped : goal.returns-then-not-escaped
 returns-then-not-escaped c =
@@ -27,15 +25,10 @@ loop-byte-preserved c =
     let b = c.in-Some.byte.now in
     let escaped = c.loop-byte.escaped in
     let here = slice_get-from_read buffer end b b c.in-Some.ensures.lookup.3 refl in
-    let next : c.if-is_backslash.escaped ≡ (eqb b backslash && not escaped) =
-        elim c.if-is_backslash.branch [
-          then-is_backslash w ↦ w.escaped-is ∙ ap (λ v. v && not escaped) (sym (eq-eqb b backslash w.if-is_backslash.true))
-        | else-is_backslash w ↦ let no = ne_eqb b backslash w.if-is_backslash.false in w.escaped-is ∙ no ∙ ap (λ v. v && not escaped) (sym no)
-        ] in
     let more = content-more buffer end b escaped here (no_quote b escaped c.else-byte-eq34.either) in
     record {
       ahead = omega arith;
       within = omega (arith, c.in-Some.ensures.lookup.3.0);
-      same = ap (λ v. option_map (λ n. (end + 1) + n) (content_len v (drop (end + 1) buffer))) next ∙ more ∙ c.loop-byte.invariant.same;
+      same = more ∙ c.loop-byte.invariant.same;
       seen = escapes-more buffer (c.args.at + 1) end b c.loop-byte.has_escapes c.loop-byte.invariant.ahead here c.loop-byte.invariant.seen
     }
