@@ -15,8 +15,8 @@ use crate::mode::Mode;
 use crate::span::Span;
 use crate::token::{NumberHint, ScanError, ScanErrorKind, ScanResult, SpannedToken, Token};
 
-/// Cuts what stands at `position`, byte by byte and without look-ahead: the gap (RFC 8259, section 2), and then a token,
-/// the end or a fault. `buffer` is the whole input.
+/// Cuts what stands at `position`, byte by byte and without look-ahead: the gap (RFC 8259, section 2), and then a
+/// token, the end or a fault. `buffer` is the whole input.
 ///
 /// ```text
 /// cut(b" [1]", 0, Mode::Plain)    Ok: Token::ArrayStart, span 1+1
@@ -181,7 +181,8 @@ fn unexpected_eof(buffer: &[u8], at: usize, inside: &'static str) -> ScanResult
 /// Cuts the string whose quote is at `at`.
 fn cut_text(buffer: &[u8], at: usize) -> ScanResult
     requires { at < length buffer.now }
-    ensures { scanned result ≡ Some (spec_cut.cut_text at (drop (at + 1) buffer.now) (content_len false (drop (at + 1) buffer.now))) }
+    ensures { let bytes = drop (at + 1) buffer.now in scanned result
+        ≡ Some (spec_cut.cut_text at bytes (content_len false bytes)) }
 {
     let start = at + 1;
     let mut end = start;
@@ -189,7 +190,11 @@ fn cut_text(buffer: &[u8], at: usize) -> ScanResult
     let mut has_escapes = false;
     while let Some(byte) = buffer.get(end) {
         if *byte == b'"' && !escaped {
-            let token = Token::String { start, end, has_escapes };
+            let token = Token::String {
+                start,
+                end,
+                has_escapes,
+            };
             return token_at(token, at, end + 1 - at);
         }
         let is_backslash = *byte == b'\\';
@@ -252,7 +257,11 @@ fn cut_number(buffer: &[u8], at: usize) -> ScanResult
     } else {
         NumberHint::Unsigned
     };
-    let token = Token::Number { start: at, end, hint };
+    let token = Token::Number {
+        start: at,
+        end,
+        hint,
+    };
     token_at(token, at, end - at)
 }
 

@@ -1,11 +1,10 @@
 //! Worked rows: what is cut where, from outside of the definitions.
 
-use std::process::Abort;
-
 use super::cut;
 use crate::mode::Mode;
 use crate::span::Span;
 use crate::token::{NumberHint, ScanError, ScanErrorKind, ScanResult, SpannedToken, Token};
+use std::process::Abort;
 
 fn token(token: Token, offset: usize, len: usize) -> ScanResult {
     Ok(SpannedToken {
@@ -15,7 +14,11 @@ fn token(token: Token, offset: usize, len: usize) -> ScanResult {
 }
 
 fn text(start: usize, end: usize, has_escapes: bool) -> Token {
-    Token::String { start, end, has_escapes }
+    Token::String {
+        start,
+        end,
+        has_escapes,
+    }
 }
 
 fn number(start: usize, end: usize, hint: NumberHint) -> Token {
@@ -66,20 +69,47 @@ fn tokens_behind_gaps(rt: HostRuntime) {
         (17, token(Token::ObjectEnd, 19, 1)),
         (20, token(Token::Eof, 22, 0)),
     ] {
-        expect(&rt, Mode::Plain, b"  {\n\t\"key\"  :  42  }  ", position, want);
+        expect(
+            &rt,
+            Mode::Plain,
+            b"  {\n\t\"key\"  :  42  }  ",
+            position,
+            want,
+        );
     }
 }
 
 #[test]
 fn first_tokens(rt: HostRuntime) {
     for (buffer, want) in [
-        (b"\"hello world\"".as_slice(), token(text(1, 12, false), 0, 13)),
-        (b"\"hello\\nworld\"".as_slice(), token(text(1, 13, true), 0, 14)),
-        (b"42,".as_slice(), token(number(0, 2, NumberHint::Unsigned), 0, 2)),
-        (b"-42]".as_slice(), token(number(0, 3, NumberHint::Signed), 0, 3)),
-        (b"3.14}".as_slice(), token(number(0, 4, NumberHint::Float), 0, 4)),
-        (b"1e10 ".as_slice(), token(number(0, 4, NumberHint::Float), 0, 4)),
-        (b"1e".as_slice(), token(number(0, 2, NumberHint::Float), 0, 2)),
+        (
+            b"\"hello world\"".as_slice(),
+            token(text(1, 12, false), 0, 13),
+        ),
+        (
+            b"\"hello\\nworld\"".as_slice(),
+            token(text(1, 13, true), 0, 14),
+        ),
+        (
+            b"42,".as_slice(),
+            token(number(0, 2, NumberHint::Unsigned), 0, 2),
+        ),
+        (
+            b"-42]".as_slice(),
+            token(number(0, 3, NumberHint::Signed), 0, 3),
+        ),
+        (
+            b"3.14}".as_slice(),
+            token(number(0, 4, NumberHint::Float), 0, 4),
+        ),
+        (
+            b"1e10 ".as_slice(),
+            token(number(0, 4, NumberHint::Float), 0, 4),
+        ),
+        (
+            b"1e".as_slice(),
+            token(number(0, 2, NumberHint::Float), 0, 2),
+        ),
         (b"truex".as_slice(), token(Token::True, 0, 4)),
     ] {
         expect(&rt, Mode::Plain, buffer, 0, want);
@@ -108,7 +138,11 @@ fn comments(rt: HostRuntime) {
         (b"/*/".as_slice(), 0, ended("in block comment", 0, 3)),
         (b"//x".as_slice(), 0, token(Token::Eof, 3, 0)),
         (b"1/".as_slice(), 1, unexpected('/', 1)),
-        (b"/**/ //\n1".as_slice(), 0, token(number(8, 9, NumberHint::Unsigned), 8, 1)),
+        (
+            b"/**/ //\n1".as_slice(),
+            0,
+            token(number(8, 9, NumberHint::Unsigned), 8, 1),
+        ),
     ] {
         expect(&rt, Mode::Jsonc, buffer, position, want);
     }

@@ -5,13 +5,16 @@ use Rattle.facet_json.proofs.plain_cut.block_end.Goals as goal
 
 pub loop-at-preserved : goal.loop-at-preserved
 loop-at-preserved c =
-    let more = block_end-more c.args.buffer.now c.loop-at.at c.loop-at-test.true (sym c.starts_with.ensures.value ∙ c.if-starts_with.false) in
+    let more =
+    block_end-more c.args.buffer.now c.loop-at.at c.loop-at-test.true
+    (sym c.starts_with.ensures.value ∙ c.if-starts_with.false) in
     record {
       ahead = omega arith;
       within = omega arith;
-      same = more ∙ c.loop-at.invariant.same
+      same = more ∙ c.loop-at.invariant.same;
     }
 
 pub returns-then-starts_with-clause-end : goal.returns-then-starts_with-clause-end
 returns-then-starts_with-clause-end c =
-    block_end-here c.args.buffer.now c.loop-at.at (sym c.starts_with.ensures.value ∙ c.if-starts_with.true) ∙ c.loop-at.invariant.same
+    block_end-here c.args.buffer.now c.loop-at.at (sym c.starts_with.ensures.value ∙ c.if-starts_with.true)
+    ∙ c.loop-at.invariant.same

@@ -9,7 +9,8 @@ invariant-loop-at l =
     record {
       ahead : l.from ≤ l.at;
       within : l.at ≤ length l.buffer;
-      same : option_map (λ n. l.at + n) (through_block_end (drop l.at l.buffer)) ≡ option_map (λ n. l.from + n) (through_block_end (drop l.from l.buffer))
+      same : option_map (λ n. l.at + n) (through_block_end (drop l.at l.buffer)) ≡ option_map (λ n. l.from + n)
+          (through_block_end (drop l.from l.buffer));
     }
 
 abbrev pub decreases-loop-at : goal.decreases-loop-at

@@ -7,7 +7,8 @@ abbrev pub invariant-loop-letter : goal.invariant-loop-letter
 invariant-loop-letter l =
     record {
       within : l.at + l.len ≤ length l.buffer;
-      same : l.len + spec_cut.common_len (drop l.len l.word) (drop (l.at + l.len) l.buffer) ≡ spec_cut.common_len l.word (drop l.at l.buffer)
+      same : l.len + spec_cut.common_len (drop l.len l.word) (drop (l.at + l.len) l.buffer) ≡ spec_cut.common_len
+          l.word (drop l.at l.buffer);
     }
 
 abbrev pub decreases-loop-letter : goal.decreases-loop-letter

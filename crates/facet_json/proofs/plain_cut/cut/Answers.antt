@@ -21,7 +21,8 @@ returns-in-Some-clause-end c =
     let at = c.skip_gap-at.result in
     let b = c.in-Some.first.now in
     let here = slice_get-from_read buffer at b b c.in-Some.ensures.lookup.3 refl in
-    no_end c.cut_token.result (cut_here mode at (drop at buffer)) (λ t. span_of t.span ≡ span_at (length buffer) 0) c.cut_token.ensures (cut_here-something mode buffer at b here)
+    no_end c.cut_token.result (cut_here mode at (drop at buffer)) (λ t. span_of t.span ≡ span_at (length buffer) 0)
+    c.cut_token.ensures (cut_here-something mode buffer at b here)
 
 pub returns-in-None-clause-answer : goal.returns-in-None-clause-answer
 unfolding cut cut_here
@@ -30,7 +31,8 @@ returns-in-None-clause-answer c =
     let mode = mode_of c.args.mode in
     let at = c.skip_gap-at.result in
     let nothing = drop_all at buffer c.in-None.ensures.lookup.3 in
-    ap (λ l. Some (cut_here mode at l)) (sym nothing) ∙ ap (λ n. Some (cut_here mode n (drop n buffer))) c.skip_gap-at.ensures.end
+    ap (λ l. Some (cut_here mode at l)) (sym nothing)
+    ∙ ap (λ n. Some (cut_here mode n (drop n buffer))) c.skip_gap-at.ensures.end
 
 pub returns-in-None-clause-end : goal.returns-in-None-clause-end
 returns-in-None-clause-end c = λ _. ap₂ span_at c.new.ensures.offset c.new.ensures.len

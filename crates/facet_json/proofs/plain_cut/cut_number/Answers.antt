@@ -13,9 +13,13 @@ returns-then-end-digits c =
     let at = c.args.at in
     let bytes = drop at c.args.buffer.now in
     let p = parts bytes in
-    let ends = PartsEnd-parts c.args.buffer.now at c.minus_end-digits.result c.digits_end-fraction.result c.fraction_end-exponent.result c.exponent_end-end.result c.minus_end-digits.ensures.end c.digits_end-fraction.ensures.end c.fraction_end-exponent.ensures.end c.exponent_end-end.ensures.end in
+    let ends =
+    PartsEnd-parts c.args.buffer.now at c.minus_end-digits.result c.digits_end-fraction.result
+    c.fraction_end-exponent.result c.exponent_end-end.result c.minus_end-digits.ensures.end
+    c.digits_end-fraction.ensures.end c.fraction_end-exponent.ensures.end c.exponent_end-end.ensures.end in
     let bare = is_bare-here p at _ _ _ _ ends c.if-end-digits.true in
-    c.cut_bare_minus.ensures ∙ ap (λ v. Some (cut_number at (drop (at + 1) c.args.buffer.now) (parts_len p) (parts_hint p) v)) (sym bare)
+    c.cut_bare_minus.ensures
+    ∙ ap (λ v. Some (cut_number at (drop (at + 1) c.args.buffer.now) (parts_len p) (parts_hint p) v)) (sym bare)
 
 pub returns : goal.returns
 returns c =
@@ -23,12 +27,20 @@ returns c =
     let end = c.exponent_end-end.result in
     let bytes = drop at c.args.buffer.now in
     let p = parts bytes in
-    let ends = PartsEnd-parts c.args.buffer.now at c.minus_end-digits.result c.digits_end-fraction.result c.fraction_end-exponent.result end c.minus_end-digits.ensures.end c.digits_end-fraction.ensures.end c.fraction_end-exponent.ensures.end c.exponent_end-end.ensures.end in
+    let ends =
+    PartsEnd-parts c.args.buffer.now at c.minus_end-digits.result c.digits_end-fraction.result
+    c.fraction_end-exponent.result end c.minus_end-digits.ensures.end c.digits_end-fraction.ensures.end
+    c.fraction_end-exponent.ensures.end c.exponent_end-end.ensures.end in
     let h = hint_of c.if-end-fraction.hint in
     let hint : parts_hint p ≡ h =
-        elim c.if-end-fraction.branch [
-          then-end-fraction w ↦ parts_hint-float p at _ _ _ _ ends w.if-end-fraction.true ∙ ap hint_of (sym w.hint-is)
-        | else-end-fraction+then-digits-at w ↦ parts_hint-signed p at _ _ _ _ ends w.if-end-fraction.false w.if-digits-at.true ∙ ap hint_of (sym w.hint-is)
-        | else-end-fraction+else-digits-at w ↦ parts_hint-unsigned p at _ _ _ _ ends w.if-end-fraction.false w.if-digits-at.false ∙ ap hint_of (sym w.hint-is)
-        ] in
-    c.token_at.ensures (number at end h) refl ∙ ap Some (cut_number-ends p (drop (at + 1) c.args.buffer.now) h at _ _ _ end ends c.if-end-digits.false hint)
+    elim c.if-end-fraction.branch [
+      | then-end-fraction w ↦ parts_hint-float p at _ _ _ _ ends w.if-end-fraction.true ∙ ap hint_of (sym w.hint-is)
+      | else-end-fraction+then-digits-at w ↦
+          parts_hint-signed p at _ _ _ _ ends w.if-end-fraction.false w.if-digits-at.true
+          ∙ ap hint_of (sym w.hint-is)
+      | else-end-fraction+else-digits-at w ↦
+          parts_hint-unsigned p at _ _ _ _ ends w.if-end-fraction.false w.if-digits-at.false
+          ∙ ap hint_of (sym w.hint-is)
+    ] in
+    c.token_at.ensures (number at end h) refl
+    ∙ ap Some (cut_number-ends p (drop (at + 1) c.args.buffer.now) h at _ _ _ end ends c.if-end-digits.false hint)

@@ -15,8 +15,11 @@ returns-then-not-escaped c =
     let end = c.loop-byte.end in
     let here = slice_get-from_read buffer end c.in-Some.byte.now quote c.in-Some.ensures.lookup.3 c.if-byte-eq34.true in
     let same = c.loop-byte.invariant.same in
-    let found : Some end ≡ option_map (λ n. (c.args.at + 1) + n) (content_len false rest) = content-ends buffer end here ∙ ap (λ v. option_map (λ n. end + n) (content_len v (drop end buffer))) (sym c.if-not-escaped.true) ∙ same in
-    c.token_at.ensures (string (c.args.at + 1) end c.loop-byte.has_escapes) refl ∙ ap Some (cut_text-ends c.args.at end rest c.loop-byte.has_escapes (content_len false rest) found c.loop-byte.invariant.seen)
+    let found : Some end ≡ option_map (λ n. (c.args.at + 1) + n) (content_len false rest) =
+    content-ends buffer end here
+    ∙ ap (λ v. option_map (λ n. end + n) (content_len v (drop end buffer))) (sym c.if-not-escaped.true) ∙ same in
+    c.token_at.ensures (string (c.args.at + 1) end c.loop-byte.has_escapes) refl
+    ∙ ap Some (cut_text-ends c.args.at end rest _ (content_len false rest) found c.loop-byte.invariant.seen)
 
 pub loop-byte-preserved : goal.loop-byte-preserved
 loop-byte-preserved c =
@@ -30,5 +33,6 @@ loop-byte-preserved c =
       ahead = omega arith;
       within = omega (arith, c.in-Some.ensures.lookup.3.0);
       same = more ∙ c.loop-byte.invariant.same;
-      seen = escapes-more buffer (c.args.at + 1) end b c.loop-byte.has_escapes c.loop-byte.invariant.ahead here c.loop-byte.invariant.seen
+      seen = escapes-more buffer (c.args.at + 1) end b c.loop-byte.has_escapes c.loop-byte.invariant.ahead here
+          c.loop-byte.invariant.seen;
     }

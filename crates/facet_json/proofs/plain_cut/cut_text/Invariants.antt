@@ -10,8 +10,9 @@ invariant-loop-byte l =
     record {
       ahead : l.start ≤ l.end;
       within : l.end ≤ length l.buffer;
-      same : option_map (λ n. l.end + n) (content_len l.escaped (drop l.end l.buffer)) ≡ option_map (λ n. l.start + n) (content_len false (drop l.start l.buffer));
-      seen : l.has_escapes ≡ list_any (λ b. eqb b 0x5c) (take (l.end - l.start) (drop l.start l.buffer))
+      same : option_map (λ n. l.end + n) (content_len l.escaped (drop l.end l.buffer)) ≡ option_map (λ n. l.start + n)
+          (content_len false (drop l.start l.buffer));
+      seen : l.has_escapes ≡ list_any (λ b. eqb b 0x5c) (take (l.end - l.start) (drop l.start l.buffer));
     }
 
 abbrev pub decreases-loop-byte : goal.decreases-loop-byte

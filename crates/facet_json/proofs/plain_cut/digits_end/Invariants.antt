@@ -7,7 +7,7 @@ abbrev pub invariant-loop-end : goal.invariant-loop-end
 invariant-loop-end l =
     record {
       within : l.end ≤ length l.buffer;
-      same : l.end + digits_len (drop l.end l.buffer) ≡ l.at + digits_len (drop l.at l.buffer)
+      same : l.end + digits_len (drop l.end l.buffer) ≡ l.at + digits_len (drop l.at l.buffer);
     }
 
 abbrev pub decreases-loop-end : goal.decreases-loop-end

@@ -8,7 +8,8 @@ abbrev pub invariant-loop-byte : goal.invariant-loop-byte
 invariant-loop-byte l =
     record {
       ahead : l.from ≤ l.at;
-      same : option_map (λ n. l.at + n) (through_line_end (drop l.at l.buffer)) ≡ option_map (λ n. l.from + n) (through_line_end (drop l.from l.buffer))
+      same : option_map (λ n. l.at + n) (through_line_end (drop l.at l.buffer)) ≡ option_map (λ n. l.from + n)
+          (through_line_end (drop l.from l.buffer));
     }
 
 abbrev pub decreases-loop-byte : goal.decreases-loop-byte

@@ -8,7 +8,7 @@ abbrev pub invariant-loop-mode : goal.invariant-loop-mode
 invariant-loop-mode l =
     record {
       within : l.at ≤ length l.buffer;
-      same : past_gap l.buffer l.at (mode_of l.mode) ≡ past_gap l.buffer l.position (mode_of l.mode)
+      same : past_gap l.buffer l.at (mode_of l.mode) ≡ past_gap l.buffer l.position (mode_of l.mode);
     }
 
 abbrev pub decreases-loop-mode : goal.decreases-loop-mode
