@@ -27,3 +27,7 @@ pub mod Escapes
 pub mod TreeViews
 pub mod ThinNumbers
 pub mod ReaderSteps
+pub mod Offsets
+pub mod GapSteps
+pub mod NumberSteps
+pub mod TextSteps
