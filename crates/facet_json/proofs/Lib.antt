@@ -3,3 +3,4 @@ pub mod Fronts
 pub mod Behind
 pub mod Refused
 pub mod Modes
+pub mod SpelledLaws

@@ -2,4 +2,6 @@
 
 mod documents;
 
-pub use documents::{one_document, one_spelling, plain_is_jsonc, refused_has_none};
+pub use documents::{
+    document_is_found, one_document, one_spelling, plain_is_jsonc, refused_has_none, spelled_is_spells,
+};

@@ -1,6 +1,6 @@
 //! Laws about documents: which tokens spell a value, and which value.
 
-ghost use Rattle.facet_json.specs.Laws.{OneDocument, OneSpelling, PlainIsJsonc, RefusedHasNone};
+ghost use Rattle.facet_json.specs.Laws.{DocumentIsFound, OneDocument, OneSpelling, PlainIsJsonc, RefusedHasNone, SpelledIsSpells};
 
 /// Tokens spell at most one value, and no spelling is a proper front of another's.
 pub fn one_spelling()
@@ -23,5 +23,17 @@ pub fn refused_has_none()
 /// A plain document is the same document where comments are read.
 pub fn plain_is_jsonc()
     ensures { PlainIsJsonc }
+{
+}
+
+/// What is computed as the value that tokens spell is the value that they spell.
+pub fn spelled_is_spells()
+    ensures { SpelledIsSpells }
+{
+}
+
+/// What is computed as the document of an input is its document.
+pub fn document_is_found()
+    ensures { DocumentIsFound }
 {
 }
