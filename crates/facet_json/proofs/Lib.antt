@@ -4,3 +4,4 @@ pub mod Behind
 pub mod Refused
 pub mod Modes
 pub mod SpelledLaws
+pub mod DocumentRows
