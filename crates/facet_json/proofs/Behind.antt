@@ -1,5 +1,5 @@
 -- What follows a front of a list or an object in a whole spelling.
-use Rattle.std.proofs.Common.{◌≡◌, ℕ, Bool, true, false, List, Option, Some, None, refl, sym, ap, ◌∙◌, subst}
+use Rattle.std.proofs.Common.{◌≡◌, ℕ, true, List, Option, Some, None, refl, sym, subst}
 use Rattle.std.specs.Option.{option_map}
 use Rattle.facet_json.specs.Token.{Token}
 use Rattle.facet_json.specs.Token as token

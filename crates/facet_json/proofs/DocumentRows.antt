@@ -9,7 +9,7 @@ use Rattle.facet_json.specs.Number.{parts, number}
 use Rattle.facet_json.specs.Cut.{start_of, cut_here, cut}
 use Rattle.facet_json.specs.Tokens.{tokens_past}
 use Rattle.facet_json.specs.Decode.{short_escape, code_unit, utf8_at, unit_at, escape_at, piece_at, decoded_past}
-use Rattle.facet_json.specs.Tree.{Tree, null, bool, u64, i64, text, decimal, list, pairs, Trees, no_trees, tree, Pairs, no_pairs, pair}
+use Rattle.facet_json.specs.Tree.{Tree, null, bool, u64, i64, text, decimal, list, pairs, no_trees, tree, no_pairs, pair}
 use Rattle.facet_json.specs.Meaning.{tree_of}
 use Rattle.facet_json.specs.Spelled.{node_within, spelled, document}
 

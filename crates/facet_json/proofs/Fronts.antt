@@ -1,5 +1,5 @@
 -- Fronts of lists and objects: how they are put together, up to whole values.
-use Rattle.std.proofs.Common.{◌≡◌, ℕ, Bool, true, false, List, [], ◌∷◌, ◌++◌, map, Option, Some, None, refl, sym, ap, ◌∙◌, string_bytes}
+use Rattle.std.proofs.Common.{◌≡◌, ℕ, true, List, [], ◌∷◌, ◌++◌, map, Some, refl, ap, string_bytes}
 use Rattle.std.specs.declared.string.String.{String}
 use Rattle.std.specs.declared.alloc.Global.{Global}
 use Rattle.facet_json.specs.declared.tree.Tree.{Tree as RustTree}
@@ -8,12 +8,11 @@ use Rattle.facet_json.specs.Token as token
 use Rattle.facet_json.specs.Tokens.{Tokens, next}
 use Rattle.facet_json.specs.Node.{Node, scalar, array, object, Nodes, no_nodes, item, Members, no_members, member, is_scalar, is_string, Spells, one_token, brackets, braces, SpellsItems, closed, item_and_comma, last_item, SpellsMembers, ended_members, member_and_comma, last_member}
 use Rattle.facet_json.specs.Tree.{Tree, list, pairs, Trees, no_trees, tree, Pairs, no_pairs, pair}
-use Rattle.facet_json.specs.Meaning.{Meaning, tree_of, trees_of, pairs_of, text_of, put_item, put_pair}
+use Rattle.facet_json.specs.Meaning.{Meaning, tree_of, trees_of, pairs_of, text_of}
 use Rattle.facet_json.specs.Document.{Reads}
 use Rattle.facet_json.specs.Refusal.{PassesItems, PassesMembers}
 use Rattle.facet_json.specs.Refusal as fronts
 use Rattle.facet_json.specs.Views as views
-use Rattle.facet_json.proofs.Spelling.{Starts, Spells-starts, not_first, one_spelling}
 
 -- ---- what stands up to a closing bracket
 

@@ -1,12 +1,11 @@
 -- Tokens spell one value at most.
-use Rattle.std.proofs.Common.{◌≡◌, ℕ, Bool, true, false, List, Option, Some, None, refl, sym, ap, ◌∙◌}
-use Rattle.facet_json.specs.Gap.{Mode}
+use Rattle.std.proofs.Common.{◌≡◌, true, false, refl, sym, ap}
 use Rattle.facet_json.specs.Token.{Kind, Token, object_start, object_end, array_start, array_end, colon, comma, null, true_literal, false_literal, string, number}
 use Rattle.facet_json.specs.Tokens.{Tokens, next}
-use Rattle.facet_json.specs.Node.{Node, scalar, array, object, Nodes, no_nodes, item, Members, no_members, member, is_scalar, is_string, Spells, one_token, brackets, braces, SpellsItems, closed, item_and_comma, last_item, SpellsMembers, ended_members, member_and_comma, last_member}
+use Rattle.facet_json.specs.Node.{Node, Nodes, Members, is_scalar, Spells, one_token, brackets, braces, SpellsItems, closed, item_and_comma, last_item, SpellsMembers, ended_members, member_and_comma, last_member}
 use Rattle.facet_json.specs.Tree.{Tree}
-use Rattle.facet_json.specs.Meaning.{Meaning, tree_of}
-use Rattle.facet_json.specs.Document.{Reads, IsDocument}
+use Rattle.facet_json.specs.Meaning.{Meaning}
+use Rattle.facet_json.specs.Document.{Reads}
 use Rattle.facet_json.specs.Place.{begins_value}
 use Rattle.facet_json.specs.Laws.{OneSpelling, OneDocument}
 
