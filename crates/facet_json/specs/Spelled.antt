@@ -61,8 +61,10 @@ nodes_from node nodes (refused f) = None
 nodes_from node nodes (next t rest) = nodes_by node nodes t rest t.kind
 
 -- what follows a member: a comma and others, or the closing brace
-abbrev pub after_member_by : MembersReader → Token → Token → Node → Token → Tokens → Kind → Option (Members × Token × Tokens)
-after_member_by members key mark node t rest token.comma = option_map (λ r. (member key mark node r.0, r.1, r.2)) (members rest)
+abbrev pub after_member_by : MembersReader → Token → Token → Node → Token → Tokens → Kind →
+    Option (Members × Token × Tokens)
+after_member_by members key mark node t rest token.comma =
+    option_map (λ r. (member key mark node r.0, r.1, r.2)) (members rest)
 after_member_by members key mark node t rest token.object_end = Some (member key mark node no_members, t, rest)
 after_member_by members key mark node t rest _ = None
 
@@ -72,8 +74,10 @@ after_member_from members key mark node (refused f) = None
 after_member_from members key mark node (next t rest) = after_member_by members key mark node t rest t.kind
 
 -- what follows a key: a colon, a value and what follows that
-abbrev pub after_key_by : ValueReader → MembersReader → Token → Token → Tokens → Kind → Option (Members × Token × Tokens)
-after_key_by node members key t rest token.colon = option_and_then (λ r. after_member_from members key t r.0 r.1) (node rest)
+abbrev pub after_key_by : ValueReader → MembersReader → Token → Token → Tokens → Kind →
+    Option (Members × Token × Tokens)
+after_key_by node members key t rest token.colon =
+    option_and_then (λ r. after_member_from members key t r.0 r.1) (node rest)
 after_key_by node members key t rest _ = None
 
 abbrev pub after_key_from : ValueReader → MembersReader → Token → MembersReader
@@ -120,4 +124,6 @@ spelled ts = node_within (count ts) ts
 
 -- the document of the input, with its tree
 unfoldable pub document : List ℕ → Mode → Option (Node × Tree)
-document buffer mode = option_and_then (λ r. option_map (λ value. (r.0, value)) (tree_of (meaning buffer) r.0)) (spelled (tokens buffer mode))
+document buffer mode =
+    option_and_then (λ r. option_map (λ value. (r.0, value)) (tree_of (meaning buffer) r.0))
+        (spelled (tokens buffer mode))
