@@ -83,36 +83,71 @@ pub data MembersStand (m : Meaning) (ts : Tokens) (last : Token) (rest : Tokens)
   first_member : FirstMember m ts last rest → MembersStand m ts last rest
 
 module _ (m : Meaning) where
+  -- What stands where items with a meaning are spelled.
   pub items_stand : {ts rest : Tokens} {nodes : Nodes} {last : Token} (values : Trees) →
       SpellsItems ts nodes last rest → trees_of m nodes ≡ Some values → ItemsStand m ts last rest
   unfolding trees_of
   items_stand values (closed last rest e) has = no_more refl e
   items_stand values (item_and_comma ts others rest node nodes separator last s e r) has =
       let both = put_item-some (tree_of m node) (trees_of m nodes) values has in
-      first_item (record { node = node; value = both.0; after = next separator others; reads =
-          record { spells = s; has_tree = both.2 }; behind =
-          at_comma separator others both.1 e (record { nodes = nodes; spells = r; has_trees = both.3 }) })
+      first_item (record {
+        node = node;
+        value = both.0;
+        after = next separator others;
+        reads = record { spells = s; has_tree = both.2 };
+        behind = at_comma separator others both.1 e (record { nodes = nodes; spells = r; has_trees = both.3 });
+      })
   items_stand values (last_item ts rest node last s e) has =
       let both = put_item-some (tree_of m node) (Some no_trees) values has in
-      first_item (record { node = node; value = both.0; after = next last rest; reads =
-          record { spells = s; has_tree = both.2 }; behind = at_bracket e })
+      first_item (record {
+        node = node;
+        value = both.0;
+        after = next last rest;
+        reads = record { spells = s; has_tree = both.2 };
+        behind = at_bracket e;
+      })
 
+  -- What stands where members with a meaning are spelled.
   pub members_stand : {ts rest : Tokens} {ms : Members} {last : Token} (values : Pairs) →
       SpellsMembers ts ms last rest → pairs_of m ms ≡ Some values → MembersStand m ts last rest
   unfolding pairs_of
   members_stand values (ended_members last rest e) has = no_more refl e
   members_stand values (member_and_comma ts others rest key mark node ms separator last k c s e r) has =
       let all = put_pair-some (text_of (m key)) (tree_of m node) (pairs_of m ms) values has in
-      first_member (record { key = key; mark = mark; name = all.0; node = node; value = all.1; from = ts; after =
-          next separator others; here = refl; is_key = k; has_name = all.3; is_mark = c; reads =
-          record { spells = s; has_tree = all.4 };
-        behind = at_comma separator others all.2 e (record { members = ms; spells = r; has_pairs = all.5 }) })
+      first_member (record {
+        key = key;
+        mark = mark;
+        name = all.0;
+        node = node;
+        value = all.1;
+        from = ts;
+        after = next separator others;
+        here = refl;
+        is_key = k;
+        has_name = all.3;
+        is_mark = c;
+        reads = record { spells = s; has_tree = all.4 };
+        behind = at_comma separator others all.2 e (record { members = ms; spells = r; has_pairs = all.5 });
+      })
   members_stand values (last_member ts rest key mark node last k c s e) has =
       let all = put_pair-some (text_of (m key)) (tree_of m node) (Some no_pairs) values has in
-      first_member (record { key = key; mark = mark; name = all.0; node = node; value = all.1; from = ts; after =
-          next last rest; here = refl; is_key = k; has_name = all.3; is_mark = c; reads =
-          record { spells = s; has_tree = all.4 }; behind = at_brace e })
+      first_member (record {
+        key = key;
+        mark = mark;
+        name = all.0;
+        node = node;
+        value = all.1;
+        from = ts;
+        after = next last rest;
+        here = refl;
+        is_key = k;
+        has_name = all.3;
+        is_mark = c;
+        reads = record { spells = s; has_tree = all.4 };
+        behind = at_brace e;
+      })
 
+  -- Behind an item's comma stand the other items.
   past_comma : {after rest : Tokens} {last : Token} → BehindItem m last rest after →
       (separator : Token) (others : Tokens) → after ≡ next separator others → separator.kind ≡ token.comma →
       (left : Trees) × ReadsItems m others left last rest
@@ -121,6 +156,7 @@ module _ (m : Meaning) where
       (values, subst (λ ts. ReadsItems m ts values last rest) here r)
   past_comma (at_bracket e) separator after same c = cc
 
+  -- Behind a member's comma stand the other members.
   past_member : {after rest : Tokens} {last : Token} → BehindMember m last rest after →
       (separator : Token) (others : Tokens) → after ≡ next separator others → separator.kind ≡ token.comma →
       (left : Pairs) × ReadsMembers m others left last rest

@@ -29,11 +29,13 @@ pub record ReadsMembers (m : Meaning) (ts : Tokens) (values : Pairs) (last : Tok
   pub has_pairs : pairs_of m members ≡ Some values
 
 module _ (m : Meaning) where
+  -- No items stand in front of the closing bracket.
   pub ReadsItems-closed : (last : Token) (rest : Tokens) → last.kind ≡ token.array_end →
       ReadsItems m (next last rest) no_trees last rest
   unfolding trees_of
   ReadsItems-closed last rest e = record { nodes = no_nodes; spells = closed last rest e; has_trees = refl }
 
+  -- The last item, with no comma behind it.
   pub ReadsItems-last : (ts rest : Tokens) (node : Node) (value : Tree) (last : Token) →
       Spells ts node (next last rest) → tree_of m node ≡ Some value → last.kind ≡ token.array_end →
       ReadsItems m ts (tree value no_trees) last rest
@@ -41,42 +43,53 @@ module _ (m : Meaning) where
   ReadsItems-last ts rest node value last s t e =
       record { nodes = item node no_nodes; spells = last_item ts rest node last s e; has_trees = rw t refl }
 
+  -- An item and its comma in front of others.
   pub ReadsItems-more : (ts others rest : Tokens) (node : Node) (value : Tree) (values : Trees)
       (separator last : Token) → Spells ts node (next separator others) → tree_of m node ≡ Some value →
-      separator.kind ≡ token.comma
-      → ReadsItems m others values last rest → ReadsItems m ts (tree value values) last rest
+      separator.kind ≡ token.comma → ReadsItems m others values last rest →
+      ReadsItems m ts (tree value values) last rest
   unfolding trees_of
   ReadsItems-more ts others rest node value values separator last s t e r =
       let has = r.has_trees in
-      record { nodes = item node r.nodes; spells = item_and_comma ts others rest node r.nodes separator last s e
-          r.spells; has_trees = rw (t, has) refl }
+      record {
+        nodes = item node r.nodes;
+        spells = item_and_comma ts others rest node r.nodes separator last s e r.spells;
+        has_trees = rw (t, has) refl;
+      }
 
+  -- No members stand in front of the closing brace.
   pub ReadsMembers-ended : (last : Token) (rest : Tokens) → last.kind ≡ token.object_end →
       ReadsMembers m (next last rest) no_pairs last rest
   unfolding pairs_of
   ReadsMembers-ended last rest e = record { members = no_members; spells = ended_members last rest e; has_pairs = refl }
 
+  -- The last member, with no comma behind it.
   pub ReadsMembers-last : (ts rest : Tokens) (key mark : Token) (name : List ℕ) (node : Node) (value : Tree)
-      (last : Token) → is_string key.kind ≡ true → text_of (m key) ≡ Some name → mark.kind ≡ token.colon
-      → Spells ts node (next last rest) → tree_of m node ≡ Some value → last.kind ≡ token.object_end →
-          ReadsMembers m (next key (next mark ts)) (pair name value no_pairs) last rest
+      (last : Token) → is_string key.kind ≡ true → text_of (m key) ≡ Some name → mark.kind ≡ token.colon →
+      Spells ts node (next last rest) → tree_of m node ≡ Some value → last.kind ≡ token.object_end →
+      ReadsMembers m (next key (next mark ts)) (pair name value no_pairs) last rest
   unfolding pairs_of
   ReadsMembers-last ts rest key mark name node value last k n c s t e =
-      record { members = member key mark node no_members; spells =
-          last_member ts rest key mark node last k c s e; has_pairs = rw (n, t) refl }
+      record {
+        members = member key mark node no_members;
+        spells = last_member ts rest key mark node last k c s e;
+        has_pairs = rw (n, t) refl;
+      }
 
+  -- A member and its comma in front of others.
   pub ReadsMembers-more : (ts others rest : Tokens) (key mark : Token) (name : List ℕ) (node : Node) (value : Tree)
       (values : Pairs) (separator last : Token) → is_string key.kind ≡ true → text_of (m key) ≡ Some name →
-      mark.kind ≡ token.colon
-      → Spells ts node (next separator others) → tree_of m node ≡ Some value → separator.kind ≡ token.comma →
-          ReadsMembers m others values last rest →
-          ReadsMembers m (next key (next mark ts)) (pair name value values) last rest
+      mark.kind ≡ token.colon → Spells ts node (next separator others) → tree_of m node ≡ Some value →
+      separator.kind ≡ token.comma → ReadsMembers m others values last rest →
+      ReadsMembers m (next key (next mark ts)) (pair name value values) last rest
   unfolding pairs_of
   ReadsMembers-more ts others rest key mark name node value values separator last k n c s t e r =
       let has = r.has_pairs in
-      record { members = member key mark node r.members; spells =
-          member_and_comma ts others rest key mark node r.members separator last k c s e r.spells; has_pairs =
-          rw (n, t, has) refl }
+      record {
+        members = member key mark node r.members;
+        spells = member_and_comma ts others rest key mark node r.members separator last k c s e r.spells;
+        has_pairs = rw (n, t, has) refl;
+      }
 
   -- ---- fronts
 
@@ -102,9 +115,8 @@ module _ (m : Meaning) where
   -- One more member, with its comma.
   pub PassesMembers-more : (start ts others : Tokens) (key mark : Token) (name : List ℕ) (node : Node) (value : Tree)
       (separator : Token) → PassesMembers m start (next key (next mark ts)) → is_string key.kind ≡ true →
-      text_of (m key) ≡ Some name
-      → mark.kind ≡ token.colon → Spells ts node (next separator others) → tree_of m node ≡ Some value →
-          separator.kind ≡ token.comma → PassesMembers m start others
+      text_of (m key) ≡ Some name → mark.kind ≡ token.colon → Spells ts node (next separator others) →
+      tree_of m node ≡ Some value → separator.kind ≡ token.comma → PassesMembers m start others
   PassesMembers-more start ts others key mark name node value separator p k n c s t e =
       PassesMembers-trans p (fronts.one_member ts others others key mark name node value separator k n c s t e
           (fronts.no_members others))
@@ -116,18 +128,16 @@ pub data ItemsRead (m : Meaning) (start : Tokens) : List Tree → Tokens → Typ
   none_read : ItemsRead m start [] start
   item_read : (ts others : Tokens) (values all : List Tree) (node : Node) (value : Tree) (separator : Token) →
       ItemsRead m start values ts → Spells ts node (next separator others) → tree_of m node ≡ Some value →
-      separator.kind ≡ token.comma
-      → all ≡ values ++ value ∷ [] → ItemsRead m start all others
+      separator.kind ≡ token.comma → all ≡ values ++ value ∷ [] → ItemsRead m start all others
 
 -- Members with these keys and trees, each with its comma, stand in front of the last tokens.
 pub data MembersRead (m : Meaning) (start : Tokens) : List (List ℕ × Tree) → Tokens → Type 0 where
   none_read : MembersRead m start [] start
   member_read : (ts others : Tokens) (values all : List (List ℕ × Tree)) (key mark : Token) (name : List ℕ)
       (node : Node) (value : Tree) (separator : Token) → MembersRead m start values (next key (next mark ts)) →
-      is_string key.kind ≡ true
-      → text_of (m key) ≡ Some name → mark.kind ≡ token.colon → Spells ts node (next separator others) →
-          tree_of m node ≡ Some value → separator.kind ≡ token.comma → all ≡ values ++ (name, value) ∷ [] →
-          MembersRead m start all others
+      is_string key.kind ≡ true → text_of (m key) ≡ Some name → mark.kind ≡ token.colon →
+      Spells ts node (next separator others) → tree_of m node ≡ Some value → separator.kind ≡ token.comma →
+      all ≡ values ++ (name, value) ∷ [] → MembersRead m start all others
 
 -- the trees of a list in front of others
 abbrev pub listed : List Tree → Trees → Trees
@@ -139,11 +149,13 @@ abbrev pub paired : List (List ℕ × Tree) → Pairs → Pairs
 paired [] others = others
 paired (p ∷ ps) others = pair p.0 p.1 (paired ps others)
 
+-- One more tree at the end of the list is one more in front of the others.
 listed-push : (values : List Tree) (value : Tree) (others : Trees) →
     listed (values ++ value ∷ []) others ≡ listed values (tree value others)
 listed-push [] value others = refl
 listed-push (t ∷ ts) value others = ap (tree t) (listed-push ts value others)
 
+-- One more pair at the end of the list is one more in front of the others.
 paired-push : (values : List (List ℕ × Tree)) (name : List ℕ) (value : Tree) (others : Pairs) →
     paired (values ++ (name, value) ∷ []) others ≡ paired values (pair name value others)
 paired-push [] name value others = refl
@@ -167,6 +179,7 @@ module _ (m : Meaning) (start : Tokens) where
   ItemsRead-passes (item_read ts others values all node value separator h s t e same) =
       PassesItems-more m start ts others node value separator (ItemsRead-passes h) s t e
 
+  -- The same of members.
   pub MembersRead-passes : {values : List (List ℕ × Tree)} {ts : Tokens} → MembersRead m start values ts →
       PassesMembers m start ts
   MembersRead-passes none_read = fronts.no_members start
@@ -181,6 +194,7 @@ module _ (m : Meaning) (start : Tokens) where
       rw (same, listed-push values value left) (ItemsRead-then (tree value left) last rest h
           (ReadsItems-more m ts others rest node value left separator last s t e r))
 
+  -- The same of members, up to the closing brace.
   pub MembersRead-then : {values : List (List ℕ × Tree)} {ts : Tokens} (left : Pairs) (last : Token) (rest : Tokens) →
       MembersRead m start values ts → ReadsMembers m ts left last rest →
       ReadsMembers m start (paired values left) last rest
@@ -201,24 +215,23 @@ module _ (m : Meaning) (start : Tokens) where
   -- What was read and one item more are the whole list where the closing bracket follows that.
   pub ItemsRead-last : (values : List Tree) (ts rest : Tokens) (node : Node) (value : Tree) (last : Token) →
       ItemsRead m start values ts → Spells ts node (next last rest) → tree_of m node ≡ Some value →
-      last.kind ≡ token.array_end
-      → ReadsItems m start (views.trees_of (values ++ value ∷ [])) last rest
+      last.kind ≡ token.array_end → ReadsItems m start (views.trees_of (values ++ value ∷ [])) last rest
   ItemsRead-last values ts rest node value last h s t e =
       rw (← listed-none (values ++ value ∷ []), listed-push values value no_trees)
           (ItemsRead-then (tree value no_trees) last rest h (ReadsItems-last m ts rest node value last s t e))
 
-  -- The same of an object: its pairs are `paired values no_pairs`.
+  -- What was read is the whole object where the closing brace follows.
   pub MembersRead-ended : (values : List (List ℕ × Tree)) (last : Token) (rest : Tokens) →
       MembersRead m start values (next last rest) → last.kind ≡ token.object_end →
       ReadsMembers m start (paired values no_pairs) last rest
   MembersRead-ended values last rest h e = MembersRead-then no_pairs last rest h (ReadsMembers-ended m last rest e)
 
+  -- What was read and one member more are the whole object where the closing brace follows that.
   pub MembersRead-last : (values : List (List ℕ × Tree)) (ts rest : Tokens) (key mark : Token) (name : List ℕ)
       (node : Node) (value : Tree) (last : Token) → MembersRead m start values (next key (next mark ts)) →
-      is_string key.kind ≡ true
-      → text_of (m key) ≡ Some name → mark.kind ≡ token.colon → Spells ts node (next last rest) →
-          tree_of m node ≡ Some value → last.kind ≡ token.object_end →
-          ReadsMembers m start (paired (values ++ (name, value) ∷ []) no_pairs) last rest
+      is_string key.kind ≡ true → text_of (m key) ≡ Some name → mark.kind ≡ token.colon →
+      Spells ts node (next last rest) → tree_of m node ≡ Some value → last.kind ≡ token.object_end →
+      ReadsMembers m start (paired (values ++ (name, value) ∷ []) no_pairs) last rest
   MembersRead-last values ts rest key mark name node value last h k n c s t e =
       rw (paired-push values name value no_pairs) (MembersRead-then (pair name value no_pairs) last rest h
           (ReadsMembers-last m ts rest key mark name node value last k n c s t e))

@@ -122,8 +122,8 @@ follow buffer mode at left (token t) = next t (tokens_past buffer mode (stop t.s
 
 follow_extends : (buffer : List ℕ) (at : ℕ) (left : List ℕ) (c d : Cut) → ((t : Token) → c ≡ token t → d ≡ token t) →
     ((inside : ℕ) → Extends (tokens_past buffer plain inside (suc at) left)
-    (tokens_past buffer jsonc inside (suc at) left))
-    → Extends (follow buffer plain at left c) (follow buffer jsonc at left d)
+    (tokens_past buffer jsonc inside (suc at) left)) →
+    Extends (follow buffer plain at left c) (follow buffer jsonc at left d)
 follow_extends buffer at left nothing_left d same others = at_end _
 follow_extends buffer at left (fault f) d same others = at_fault f _
 follow_extends buffer at left (token t) d same others =

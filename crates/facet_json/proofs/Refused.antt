@@ -32,13 +32,13 @@ pub record CanBegin (m : Meaning) (place : Place) (ts : Tokens) : Type 0 where
 
 begins_item_too : (kind : Kind) → begins_value kind ≡ true → begins_item kind ≡ true
 begins_item_too token.array_end e = refl
-begins_item_too token.object_start e = e
 begins_item_too _ e = e
 
 string_begins_key : (kind : Kind) → is_string kind ≡ true → begins_key kind ≡ true
 string_begins_key token.object_end e = refl
 string_begins_key _ e = e
 
+-- Where the tokens go on they are not stuck.
 not_stuck : {buffer : List ℕ} {m : Meaning} {complains : Token → Refusal → Type 0} {place : Place} {ts : Tokens}
     {refusal : Refusal} → IsStuck buffer m complains place ts refusal → GoesOn m place ts → ⊥
 not_stuck (at_end place) g = let here = g.here in cc
@@ -55,8 +55,13 @@ module _ (m : Meaning) where
       tree_of m node ≡ Some value → GoesOn m place ts
   unfolding tree_of
   value_goes_on place value goes (one_token t rest e) has =
-      record { first = t; others = rest; here = refl; goes = goes t.kind (scalar_begins t.kind e); means =
-          λ n none. cc }
+      record {
+        first = t;
+        others = rest;
+        here = refl;
+        goes = goes t.kind (scalar_begins t.kind e);
+        means = λ n none. cc;
+      }
   value_goes_on place value goes (brackets first last inner rest nodes e h) has =
       record { first = first; others = inner; here = refl; goes = goes first.kind (rw e refl); means = λ n none. cc }
   value_goes_on place value goes (braces first last inner rest ms e h) has =
@@ -66,13 +71,17 @@ module _ (m : Meaning) where
       ((kind : Kind) → begins_value kind ≡ true → goes_on place kind ≡ true) → Reads m ts node value rest →
       CanBegin m place ts
   value_can_begin {rest = rest} {node = node} {value = value} place goes r =
-      record { goes = value_goes_on place value goes r.spells r.has_tree; reads =
-          λ first inner same begins. (node, value, rest, r) }
+      record {
+        goes = value_goes_on place value goes r.spells r.has_tree;
+        reads = λ first inner same begins. (node, value, rest, r);
+      }
 
   items_can_begin : {ts rest : Tokens} {last : Token} → ItemsStand m ts last rest → CanBegin m before_item ts
   items_can_begin {rest = rest} {last = last} (no_more same e) =
-      record { goes = record { first = last; others = rest; here = same; goes = rw e refl; means = λ n none. cc };
-          reads = λ first inner also begins. cc }
+      record {
+        goes = record { first = last; others = rest; here = same; goes = rw e refl; means = λ n none. cc };
+        reads = λ first inner also begins. cc;
+      }
   items_can_begin (first_item f) = value_can_begin before_item begins_item_too f.reads
 
   items_go_on : {ts rest : Tokens} {last : Token} → BehindItem m last rest ts → GoesOn m after_item ts
@@ -92,8 +101,13 @@ module _ (m : Meaning) where
       record { first = last; others = rest; here = same; goes = rw e refl; means = λ n none. cc }
   key_goes_on (first_member f) =
       let named = f.has_name in
-      record { first = f.key; others = next f.mark f.from; here = f.here; goes =
-          string_begins_key f.key.kind f.is_key; means = λ n none. cc }
+      record {
+        first = f.key;
+        others = next f.mark f.from;
+        here = f.here;
+        goes = string_begins_key f.key.kind f.is_key;
+        means = λ n none. cc;
+      }
 
   colon_goes_on : {ts rest : Tokens} {last : Token} (key : Token) → is_string key.kind ≡ true →
       MembersStand m (next key ts) last rest → GoesOn m after_key ts
@@ -113,8 +127,8 @@ module _ (m : Meaning) where
 
   -- the items, and the members, that stand behind a front within an opened container
   items_left : (first : Token) (inner ts : Tokens) → first.kind ≡ token.array_start → fronts.PassesItems m inner ts →
-      (node : Node) × (value : Tree) × (rest : Tokens) × Reads m (next first inner) node value rest
-      → (last : Token) × (rest : Tokens) × (left : Trees) × ReadsItems m ts left last rest
+      (node : Node) × (value : Tree) × (rest : Tokens) × Reads m (next first inner) node value rest →
+      (last : Token) × (rest : Tokens) × (left : Trees) × ReadsItems m ts left last rest
   items_left first inner ts e p r =
       let inside = behind.list_inside m first inner r.2 r.0 r.1 e r.3 in
       let left = behind.items_behind m r.2 inside.0 inside.1 p inside.2 in
@@ -122,8 +136,8 @@ module _ (m : Meaning) where
 
   members_left : (first : Token) (inner ts : Tokens) → first.kind ≡ token.object_start →
       fronts.PassesMembers m inner ts → (node : Node) × (value : Tree) × (rest : Tokens)
-      × Reads m (next first inner) node value rest
-      → (last : Token) × (rest : Tokens) × (left : Pairs) × ReadsMembers m ts left last rest
+      × Reads m (next first inner) node value rest →
+      (last : Token) × (rest : Tokens) × (left : Pairs) × ReadsMembers m ts left last rest
   members_left first inner ts e p r =
       let inside = behind.object_inside m first inner r.2 r.0 r.1 e r.3 in
       let left = behind.members_behind m r.2 inside.0 inside.1 p inside.2 in
@@ -162,9 +176,9 @@ module _ (m : Meaning) where
 
 -- Tokens that are refused from a place on, at which any value may begin, are read as no value.
 pub refused_unread : (buffer : List ℕ) (m : Meaning) (complains : Token → Refusal → Type 0) (place : Place)
-    (ts : Tokens) (refusal : Refusal) (node : Node) (value : Tree) (rest : Tokens)
-    → ((kind : Kind) → begins_value kind ≡ true → goes_on place kind ≡ true) →
-        RefusesFrom buffer m complains place ts refusal → Reads m ts node value rest → ⊥
+    (ts : Tokens) (refusal : Refusal) (node : Node) (value : Tree) (rest : Tokens) →
+    ((kind : Kind) → begins_value kind ≡ true → goes_on place kind ≡ true) →
+    RefusesFrom buffer m complains place ts refusal → Reads m ts node value rest → ⊥
 refused_unread buffer m complains place ts refusal node value rest goes r reads =
     not_stuck r.stuck (front_goes_on m r.begins (value_can_begin m place goes reads))
 

@@ -95,8 +95,8 @@ module _ (node : ValueReader) (nodes : ItemsReader) (members : MembersReader)
   module _ (key : Token) (is_key : is_string key.kind ≡ true) where
     module _ (mark : Token) (is_mark : mark.kind ≡ token.colon) (ts : Tokens) (value : Node) where
       more_members : (rest : Tokens) (t : Token) (o : Option (Members × Token × Tokens)) →
-          Spells ts value (next t rest) → t.kind ≡ token.comma → AreMembers rest o
-          → AreMembers (next key (next mark ts)) (option_map (λ r. (member key mark value r.0, r.1, r.2)) o)
+          Spells ts value (next t rest) → t.kind ≡ token.comma → AreMembers rest o →
+          AreMembers (next key (next mark ts)) (option_map (λ r. (member key mark value r.0, r.1, r.2)) o)
       more_members rest t None s e h = tt
       more_members rest t (Some r) s e h = member_and_comma ts rest r.2 key mark value r.0 t r.1 is_key is_mark s e h
 
@@ -299,8 +299,10 @@ with_tree-reads m ts r root value (Some v) e h s =
     let both : ◌≡◌ {A = Node × Tree} (r.0, v) (root, value) = cc in
     let same : r.0 ≡ root = ap (λ p. p.0) both in
     let tree_same : v ≡ value = ap (λ p. p.1) both in
-    record { spells = subst (λ n. Spells ts n r.1) same s; has_tree =
-        subst (λ n. tree_of m n ≡ Some value) same (e ∙ ap Some tree_same) }
+    record {
+      spells = subst (λ n. Spells ts n r.1) same s;
+      has_tree = subst (λ n. tree_of m n ≡ Some value) same (e ∙ ap Some tree_same);
+    }
 
 found-reads : (m : Meaning) (ts : Tokens) (root : Node) (value : Tree) (o : Option (Node × Tokens)) → IsValue ts o →
     option_and_then (with_tree m) o ≡ Some (root, value) → (rest : Tokens) × Reads m ts root value rest

@@ -44,6 +44,7 @@ pub not_first : {ts : Tokens} → Starts ts → (t : Token) (rest : Tokens) (kin
 not_first s t rest kind e other same = let here = s.here in let begins = s.begins in cc
 
 mutual
+  -- Two spellings by the same tokens are of one value, and one rest follows them.
   node_once : {ts us r s : Tokens} {a b : Node} → Spells ts a r → Spells us b s → ts ≡ us → (a ≡ b) × (r ≡ s)
   node_once (one_token t rest e) (one_token u others f) same = (cc, cc)
   node_once (one_token t rest e) (brackets first last inner others nodes f h) same = cc
@@ -117,16 +118,6 @@ mutual
 -- No spelling of a value is a proper front of another's, and tokens spell one value at most.
 pub one_spelling : OneSpelling
 one_spelling ts r s a b p q = node_once p q refl
-
--- The same of the items of a list.
-pub one_items : {ts r s : Tokens} {a b : Nodes} {x y : Token} → SpellsItems ts a x r → SpellsItems ts b y s →
-    (a ≡ b) × (x ≡ y) × (r ≡ s)
-one_items p q = items_once p q refl
-
--- The same of the members of an object.
-pub one_members : {ts r s : Tokens} {a b : Members} {x y : Token} → SpellsMembers ts a x r → SpellsMembers ts b y s →
-    (a ≡ b) × (x ≡ y) × (r ≡ s)
-one_members p q = members_once p q refl
 
 -- Tokens are read as one tree at most.
 pub one_reading : (m : Meaning) (ts r s : Tokens) (a b : Node) (v w : Tree) → Reads m ts a v r → Reads m ts b w s →
