@@ -184,8 +184,8 @@ module _ (m : Meaning) where
       ReadsItems m start values last rest → (left : Trees) × ReadsItems m ts left last rest
   items_behind rest last values (fronts.no_items ts) r = (values, r)
   items_behind rest last values (fronts.one_item ts others end node value separator s t e p) r =
-      let left =
-          past_comma (item_behind ts (next separator others) rest node last values r s) separator others refl e in
+      let follows = item_behind ts (next separator others) rest node last values r s in
+      let left = past_comma follows separator others refl e in
       items_behind rest last left.0 p left.1
 
   -- The first of the members that stand up to a closing brace, where a member stands.
@@ -196,9 +196,8 @@ module _ (m : Meaning) where
   first_of_members ts after rest key mark node last k s (first_member f) =
       let here = f.here in
       let from : f.from ≡ ts = cc in
-      let reads = f.reads.spells in
-      subst (BehindMember m last rest) (sym (one_spelling ts after f.after node f.node s
-          (subst (λ us. Spells us f.node f.after) from reads)).1) f.behind
+      let there = subst (λ us. Spells us f.node f.after) from f.reads.spells in
+      subst (BehindMember m last rest) (sym (one_spelling ts after f.after node f.node s there).1) f.behind
 
   -- What follows a member of a whole object.
   pub member_behind : (ts after rest : Tokens) (key mark : Token) (node : Node) (last : Token) (values : Pairs) →
@@ -213,9 +212,8 @@ module _ (m : Meaning) where
       (left : Pairs) × ReadsMembers m ts left last rest
   members_behind rest last values (fronts.no_members ts) r = (values, r)
   members_behind rest last values (fronts.one_member ts others end key mark name node value separator k n c s t e p) r =
-      let left =
-          past_member (member_behind ts (next separator others) rest key mark node last values k r s) separator others
-              refl e in
+      let follows = member_behind ts (next separator others) rest key mark node last values k r s in
+      let left = past_member follows separator others refl e in
       members_behind rest last left.0 p left.1
 
   -- ---- inside of a value
@@ -228,8 +226,8 @@ module _ (m : Meaning) where
   list_within first inner value e (brackets opens last within rest nodes h k) has same =
       let all = some_list (trees_of m nodes) value has in
       let here : within ≡ inner = cc in
-      (last, all.0, subst (λ us. ReadsItems m us all.0 last rest) here
-          (record { nodes = nodes; spells = k; has_trees = all.1 }))
+      let items : ReadsItems m within all.0 last rest = record { nodes = nodes; spells = k; has_trees = all.1 } in
+      (last, all.0, subst (λ us. ReadsItems m us all.0 last rest) here items)
   list_within first inner value e (braces opens last within rest ms h k) has same = cc
 
   -- Behind a bracket that opens a list stand the items of the list.
@@ -247,8 +245,8 @@ module _ (m : Meaning) where
   object_within first inner value e (braces opens last within rest ms h k) has same =
       let all = some_pairs (pairs_of m ms) value has in
       let here : within ≡ inner = cc in
-      (last, all.0, subst (λ us. ReadsMembers m us all.0 last rest) here
-          (record { members = ms; spells = k; has_pairs = all.1 }))
+      let inside : ReadsMembers m within all.0 last rest = record { members = ms; spells = k; has_pairs = all.1 } in
+      (last, all.0, subst (λ us. ReadsMembers m us all.0 last rest) here inside)
 
   -- Behind a brace that opens an object stand the members of the object.
   pub object_inside : (first : Token) (inner rest : Tokens) (root : Node) (value : Tree) →

@@ -118,8 +118,8 @@ module _ (m : Meaning) where
       text_of (m key) ≡ Some name → mark.kind ≡ token.colon → Spells ts node (next separator others) →
       tree_of m node ≡ Some value → separator.kind ≡ token.comma → PassesMembers m start others
   PassesMembers-more start ts others key mark name node value separator p k n c s t e =
-      PassesMembers-trans p (fronts.one_member ts others others key mark name node value separator k n c s t e
-          (fronts.no_members others))
+      let none = fronts.no_members others in
+      PassesMembers-trans p (fronts.one_member ts others others key mark name node value separator k n c s t e none)
 
 -- ---- what a reader has collected so far
 
@@ -191,8 +191,8 @@ module _ (m : Meaning) (start : Tokens) where
       ItemsRead m start values ts → ReadsItems m ts left last rest → ReadsItems m start (listed values left) last rest
   ItemsRead-then left last rest none_read r = r
   ItemsRead-then left last rest (item_read ts others values all node value separator h s t e same) r =
-      rw (same, listed-push values value left) (ItemsRead-then (tree value left) last rest h
-          (ReadsItems-more m ts others rest node value left separator last s t e r))
+      let more = ReadsItems-more m ts others rest node value left separator last s t e r in
+      rw (same, listed-push values value left) (ItemsRead-then (tree value left) last rest h more)
 
   -- The same of members, up to the closing brace.
   pub MembersRead-then : {values : List (List ℕ × Tree)} {ts : Tokens} (left : Pairs) (last : Token) (rest : Tokens) →
@@ -201,9 +201,8 @@ module _ (m : Meaning) (start : Tokens) where
   MembersRead-then left last rest none_read r = r
   MembersRead-then left last rest (member_read ts others values all key mark name node value separator h k n c s t e
       same) r =
-      rw (same, paired-push values name value left)
-          (MembersRead-then (pair name value left) last rest h
-          (ReadsMembers-more m ts others rest key mark name node value left separator last k n c s t e r))
+      let more = ReadsMembers-more m ts others rest key mark name node value left separator last k n c s t e r in
+      rw (same, paired-push values name value left) (MembersRead-then (pair name value left) last rest h more)
 
   -- What was read is the whole list where the closing bracket follows.
   pub ItemsRead-closed : (values : List Tree) (last : Token) (rest : Tokens) →
@@ -217,8 +216,9 @@ module _ (m : Meaning) (start : Tokens) where
       ItemsRead m start values ts → Spells ts node (next last rest) → tree_of m node ≡ Some value →
       last.kind ≡ token.array_end → ReadsItems m start (views.trees_of (values ++ value ∷ [])) last rest
   ItemsRead-last values ts rest node value last h s t e =
+      let one = ReadsItems-last m ts rest node value last s t e in
       rw (← listed-none (values ++ value ∷ []), listed-push values value no_trees)
-          (ItemsRead-then (tree value no_trees) last rest h (ReadsItems-last m ts rest node value last s t e))
+      (ItemsRead-then (tree value no_trees) last rest h one)
 
   -- What was read is the whole object where the closing brace follows.
   pub MembersRead-ended : (values : List (List ℕ × Tree)) (last : Token) (rest : Tokens) →
@@ -233,8 +233,8 @@ module _ (m : Meaning) (start : Tokens) where
       Spells ts node (next last rest) → tree_of m node ≡ Some value → last.kind ≡ token.object_end →
       ReadsMembers m start (paired (values ++ (name, value) ∷ []) no_pairs) last rest
   MembersRead-last values ts rest key mark name node value last h k n c s t e =
-      rw (paired-push values name value no_pairs) (MembersRead-then (pair name value no_pairs) last rest h
-          (ReadsMembers-last m ts rest key mark name node value last k n c s t e))
+      let one = ReadsMembers-last m ts rest key mark name node value last k n c s t e in
+      rw (paired-push values name value no_pairs) (MembersRead-then (pair name value no_pairs) last rest h one)
 
 -- ---- whole values
 
@@ -251,8 +251,8 @@ module _ (m : Meaning) where
   unfolding tree_of
   Reads-list first last inner rest values e r =
       let has = r.has_trees in
-      (array first last r.nodes, record { spells = brackets first last inner rest r.nodes e r.spells; has_tree =
-          rw has refl })
+      let root = array first last r.nodes in
+      (root, record { spells = brackets first last inner rest r.nodes e r.spells; has_tree = rw has refl })
 
   -- An opening brace and members up to the closing one are an object.
   pub Reads-pairs : (first last : Token) (inner rest : Tokens) (values : Pairs) → first.kind ≡ token.object_start →
@@ -260,5 +260,5 @@ module _ (m : Meaning) where
   unfolding tree_of
   Reads-pairs first last inner rest values e r =
       let has = r.has_pairs in
-      (object first last r.members, record { spells = braces first last inner rest r.members e r.spells; has_tree =
-          rw has refl })
+      let root = object first last r.members in
+      (root, record { spells = braces first last inner rest r.members e r.spells; has_tree = rw has refl })

@@ -37,8 +37,8 @@ gap_at_blank : (mode : Mode) (input : Input) (b : ℕ) (bytes : List ℕ) → is
 gap_at_blank plain input b bytes e =
     gap_by_piece plain input b bytes ∙ ap (λ s. behind_piece plain input bytes (cond s 1 0)) e
 gap_at_blank jsonc input b bytes e =
-    gap_by_piece jsonc input b bytes ∙ ap (λ s. behind_piece jsonc input bytes
-        (cond s 1 (comment_len input (b ∷ bytes)))) e
+    let comment = comment_len input (b ∷ bytes) in
+    gap_by_piece jsonc input b bytes ∙ ap (λ s. behind_piece jsonc input bytes (cond s 1 comment)) e
 
 plain_gap_ends : (input : Input) (b : ℕ) (bytes : List ℕ) → is_space b ≡ false →
     gap_len_from plain input 0 (b ∷ bytes) ≡ 0
@@ -48,9 +48,9 @@ plain_gap_ends input b bytes e =
 jsonc_gap_ends : (input : Input) (b : ℕ) (bytes : List ℕ) → is_space b ≡ false → (b == slash) ≡ false →
     gap_len_from jsonc input 0 (b ∷ bytes) ≡ 0
 jsonc_gap_ends input b bytes e f =
-    gap_by_piece jsonc input b bytes ∙ ap (λ s. behind_piece jsonc input bytes
-        (cond s 1 (comment_len input (b ∷ bytes)))) e
-        ∙ ap (λ n. behind_piece jsonc input bytes n) (no_comment input b bytes f)
+    let comment = comment_len input (b ∷ bytes) in
+    gap_by_piece jsonc input b bytes ∙ ap (λ s. behind_piece jsonc input bytes (cond s 1 comment)) e
+    ∙ ap (λ n. behind_piece jsonc input bytes n) (no_comment input b bytes f)
 
 gaps_at : (input : Input) (b : ℕ) (bytes : List ℕ) (is_blank is_slash : Bool) → is_space b ≡ is_blank →
     (b == slash) ≡ is_slash → AlikeOrSlash (gap_len_from plain input 0 bytes) (gap_len_from jsonc input 0 bytes) bytes
@@ -98,9 +98,9 @@ unfolding cut
 cut_at buffer at t (alike same) e =
     subst (λ n. cut_here jsonc (at + n) (drop (at + n) buffer) ≡ token t) same (cut_here_either _ _ t e)
 cut_at buffer at t (at_slash rest here) e =
+    let p = past_gap buffer at plain in
     let there = sym (drop-drop (gap_len plain whole (drop at buffer)) at buffer) ∙ here in
-    absurd (no_token_at_slash (past_gap buffer at plain) rest t
-        (subst (λ bytes. cut_here plain (past_gap buffer at plain) bytes ≡ token t) there e))
+    absurd (no_token_at_slash p rest t (subst (λ bytes. cut_here plain p bytes ≡ token t) there e))
 
 -- Where the plain cut gives a token, the JSONC cut gives the same.
 pub cut-either : (buffer : List ℕ) (at : ℕ) (t : Token) → cut buffer at plain ≡ token t → cut buffer at jsonc ≡ token t
@@ -136,7 +136,7 @@ tokens_past-extends buffer inside at [] = at_end _
 tokens_past-extends buffer (suc inside) at (b ∷ left) = tokens_past-extends buffer inside (suc at) left
 tokens_past-extends buffer zero at (b ∷ left) =
     follow_extends buffer at left (cut buffer at plain) (cut buffer at jsonc) (cut-either buffer at)
-        (λ inside. tokens_past-extends buffer inside (suc at) left)
+    (λ inside. tokens_past-extends buffer inside (suc at) left)
 
 -- The JSONC tokens have the plain tokens in front.
 pub tokens-extends : (buffer : List ℕ) → Extends (tokens buffer plain) (tokens buffer jsonc)
@@ -163,30 +163,34 @@ mutual
   node_extends (brackets first last inner rest nodes e h) x =
       let all = extends_next x first inner refl in
       let both = items_extend h all.2 in
-      (both.0, subst (λ us. Spells us (array first last nodes) both.0) (sym all.1)
-          (brackets first last all.0 both.0 nodes e both.1), both.2)
+      let root = array first last nodes in
+      let here = brackets first last all.0 both.0 nodes e both.1 in
+      (both.0, subst (λ us. Spells us root both.0) (sym all.1) here, both.2)
   node_extends (braces first last inner rest ms e h) x =
       let all = extends_next x first inner refl in
       let both = members_extend h all.2 in
-      (both.0, subst (λ us. Spells us (object first last ms) both.0) (sym all.1)
-          (braces first last all.0 both.0 ms e both.1), both.2)
+      let root = object first last ms in
+      let here = braces first last all.0 both.0 ms e both.1 in
+      (both.0, subst (λ us. Spells us root both.0) (sym all.1) here, both.2)
 
+  -- The same of items.
   items_extend : {ts rest us : Tokens} {nodes : Nodes} {last : Token} → SpellsItems ts nodes last rest →
       Extends ts us → (after : Tokens) × SpellsItems us nodes last after × Extends rest after
   items_extend (closed last rest e) x =
       let all = extends_next x last rest refl in
       (all.0, subst (λ us. SpellsItems us no_nodes last all.0) (sym all.1) (closed last all.0 e), all.2)
   items_extend {us = us} (item_and_comma ts others rest node nodes separator last s e h) x =
-      let here = node_extends s x in
-      let all = extends_next here.2 separator others refl in
+      let first = node_extends s x in
+      let all = extends_next first.2 separator others refl in
       let both = items_extend h all.2 in
-      (both.0, item_and_comma us all.0 both.0 node nodes separator last (subst (λ x. Spells us node x) all.1 here.1) e
-          both.1, both.2)
+      let here = subst (λ vs. Spells us node vs) all.1 first.1 in
+      (both.0, item_and_comma us all.0 both.0 node nodes separator last here e both.1, both.2)
   items_extend {us = us} (last_item ts rest node last s e) x =
-      let here = node_extends s x in
-      let all = extends_next here.2 last rest refl in
-      (all.0, last_item us all.0 node last (subst (λ x. Spells us node x) all.1 here.1) e, all.2)
+      let first = node_extends s x in
+      let all = extends_next first.2 last rest refl in
+      (all.0, last_item us all.0 node last (subst (λ vs. Spells us node vs) all.1 first.1) e, all.2)
 
+  -- The same of members.
   members_extend : {ts rest us : Tokens} {ms : Members} {last : Token} → SpellsMembers ts ms last rest →
       Extends ts us → (after : Tokens) × SpellsMembers us ms last after × Extends rest after
   members_extend (ended_members last rest e) x =
@@ -195,22 +199,22 @@ mutual
   members_extend (member_and_comma ts others rest key mark node ms separator last k c s e h) x =
       let at_key = extends_next x key (next mark ts) refl in
       let at_mark = extends_next at_key.2 mark ts refl in
-      let here = node_extends s at_mark.2 in
-      let all = extends_next here.2 separator others refl in
+      let value = node_extends s at_mark.2 in
+      let all = extends_next value.2 separator others refl in
       let both = members_extend h all.2 in
-      (both.0, subst (λ us. SpellsMembers us (member key mark node ms) last both.0)
-          (sym (at_key.1 ∙ ap (next key) at_mark.1))
-          (member_and_comma at_mark.0 all.0 both.0 key mark node ms separator last k c
-          (subst (λ us. Spells at_mark.0 node us) all.1 here.1) e both.1), both.2)
+      let spells = subst (λ vs. Spells at_mark.0 node vs) all.1 value.1 in
+      let here = member_and_comma at_mark.0 all.0 both.0 key mark node ms separator last k c spells e both.1 in
+      let front = sym (at_key.1 ∙ ap (next key) at_mark.1) in
+      (both.0, subst (λ us. SpellsMembers us (member key mark node ms) last both.0) front here, both.2)
   members_extend (last_member ts rest key mark node last k c s e) x =
       let at_key = extends_next x key (next mark ts) refl in
       let at_mark = extends_next at_key.2 mark ts refl in
-      let here = node_extends s at_mark.2 in
-      let all = extends_next here.2 last rest refl in
-      (all.0, subst (λ us. SpellsMembers us (member key mark node no_members) last all.0)
-          (sym (at_key.1 ∙ ap (next key) at_mark.1))
-          (last_member at_mark.0 all.0 key mark node last k c (subst (λ us. Spells at_mark.0 node us) all.1 here.1)
-          e), all.2)
+      let value = node_extends s at_mark.2 in
+      let all = extends_next value.2 last rest refl in
+      let spells = subst (λ vs. Spells at_mark.0 node vs) all.1 value.1 in
+      let here = last_member at_mark.0 all.0 key mark node last k c spells e in
+      let front = sym (at_key.1 ∙ ap (next key) at_mark.1) in
+      (all.0, subst (λ us. SpellsMembers us (member key mark node no_members) last all.0) front here, all.2)
 
 -- A plain document is the same JSONC document.
 pub plain_is_jsonc : PlainIsJsonc

@@ -8,7 +8,7 @@ use Rattle.facet_json.specs.Tokens.{Tokens, ended, refused, next, tokens}
 use Rattle.facet_json.specs.Node.{Node, scalar, array, object, Nodes, item, Members, member, is_scalar, is_string, Spells, one_token, brackets, braces, SpellsItems, closed, item_and_comma, last_item, SpellsMembers, ended_members, member_and_comma, last_member}
 use Rattle.facet_json.specs.Tree.{Tree}
 use Rattle.facet_json.specs.Meaning.{Meaning, meaning, tree_of}
-use Rattle.facet_json.specs.Document.{Reads}
+use Rattle.facet_json.specs.Document.{Reads, IsDocument}
 use Rattle.facet_json.specs.Place.{begins_value}
 use Rattle.facet_json.specs.Spelled.{ValueReader, ItemsReader, MembersReader, node_by, node_from, after_item_by, after_item_from, nodes_by, nodes_from, after_member_by, after_member_from, after_key_by, after_key_from, members_by, members_from, node_within, nodes_within, members_within, count, spelled, document}
 use Rattle.facet_json.specs.Laws.{SpelledIsSpells, DocumentIsFound}
@@ -140,23 +140,21 @@ module _ (node : ValueReader) (nodes : ItemsReader) (members : MembersReader)
 
 mutual
   unfolding node_within
+
   node_within-is : (n : ℕ) (ts : Tokens) → IsValue ts (node_within n ts)
   node_within-is zero ts = tt
   node_within-is (suc n) ts =
-      value_from (node_within n) (nodes_within n) (members_within n) (node_within-is n) (nodes_within-are n)
-          (members_within-are n) ts
+      value_from _ _ _ (node_within-is n) (nodes_within-are n) (members_within-are n) ts
 
   nodes_within-are : (n : ℕ) (ts : Tokens) → AreItems ts (nodes_within n ts)
   nodes_within-are zero ts = tt
   nodes_within-are (suc n) ts =
-      items_from (node_within n) (nodes_within n) (members_within n) (node_within-is n) (nodes_within-are n)
-          (members_within-are n) ts
+      items_from _ _ _ (node_within-is n) (nodes_within-are n) (members_within-are n) ts
 
   members_within-are : (n : ℕ) (ts : Tokens) → AreMembers ts (members_within n ts)
   members_within-are zero ts = tt
   members_within-are (suc n) ts =
-      pairs_from (node_within n) (nodes_within n) (members_within n) (node_within-is n) (nodes_within-are n)
-          (members_within-are n) ts
+      pairs_from _ _ _ (node_within-is n) (nodes_within-are n) (members_within-are n) ts
 
 -- ---- what is spelled is computed
 
@@ -206,7 +204,7 @@ item_first : (node : ValueReader) (nodes : ItemsReader) (ts : Tokens) → Starts
     nodes_from node nodes ts ≡ option_and_then (λ r. after_item_from nodes r.0 r.1) (node ts)
 item_first node nodes ts s =
     subst (λ us. nodes_from node nodes us ≡ option_and_then (λ r. after_item_from nodes r.0 r.1) (node us))
-        (sym s.here) (item_found node nodes s.first s.others s.first.kind s.begins)
+    (sym s.here) (item_found node nodes s.first s.others s.first.kind s.begins)
 
 key_found : (node : ValueReader) (members : MembersReader) (t : Token) (rest : Tokens) (kind : Kind) →
     is_string kind ≡ true → members_by node members t rest kind ≡ after_key_from node members t rest
@@ -232,11 +230,11 @@ mutual
   node_within-found (brackets first last inner rest nodes e s) zero h = absurd (omega (arith, items-count s))
   node_within-found (brackets first last inner rest nodes e s) (suc n) h =
       ap (node_by (nodes_within n) (members_within n) first inner) e
-          ∙ ap (option_map (λ r. (array first r.1 r.0, r.2))) (nodes_within-found s n (omega arith))
+      ∙ ap (option_map (λ r. (array first r.1 r.0, r.2))) (nodes_within-found s n (omega arith))
   node_within-found (braces first last inner rest ms e s) zero h = absurd (omega (arith, members-count s))
   node_within-found (braces first last inner rest ms e s) (suc n) h =
       ap (node_by (nodes_within n) (members_within n) first inner) e
-          ∙ ap (option_map (λ r. (object first r.1 r.0, r.2))) (members_within-found s n (omega arith))
+      ∙ ap (option_map (λ r. (object first r.1 r.0, r.2))) (members_within-found s n (omega arith))
 
   nodes_within-found : {ts rest : Tokens} {nodes : Nodes} {last : Token} → SpellsItems ts nodes last rest → (n : ℕ) →
       count ts ≤ n + count rest → nodes_within n ts ≡ Some (nodes, last, rest)
@@ -247,7 +245,7 @@ mutual
   nodes_within-found (item_and_comma ts others rest node nodes separator last s e k) (suc n) h =
       item_first (node_within n) (nodes_within n) ts (Spells-starts s)
       ∙ ap (option_and_then (λ r. after_item_from (nodes_within n) r.0 r.1))
-          (node_within-found s n (omega (arith, items-count k)))
+      (node_within-found s n (omega (arith, items-count k)))
       ∙ ap (after_item_by (nodes_within n) node separator others) e
       ∙ ap (option_map (λ r. (item node r.0, r.1, r.2))) (nodes_within-found k n (omega (arith, spelled-count s)))
   nodes_within-found (last_item ts rest node last s e) zero h = absurd (omega (arith, spelled-count s))
@@ -267,16 +265,16 @@ mutual
       key_found (node_within n) (members_within n) key (next mark ts) key.kind k
       ∙ ap (after_key_by (node_within n) (members_within n) key mark ts) c
       ∙ ap (option_and_then (λ r. after_member_from (members_within n) key mark r.0 r.1))
-          (node_within-found s n (omega (arith, members-count l)))
+      (node_within-found s n (omega (arith, members-count l)))
       ∙ ap (after_member_by (members_within n) key mark node separator others) e
       ∙ ap (option_map (λ r. (member key mark node r.0, r.1, r.2)))
-          (members_within-found l n (omega (arith, spelled-count s)))
+      (members_within-found l n (omega (arith, spelled-count s)))
   members_within-found (last_member ts rest key mark node last k c s e) zero h = absurd (omega (arith, spelled-count s))
   members_within-found (last_member ts rest key mark node last k c s e) (suc n) h =
       key_found (node_within n) (members_within n) key (next mark ts) key.kind k
       ∙ ap (after_key_by (node_within n) (members_within n) key mark ts) c
       ∙ ap (option_and_then (λ r. after_member_from (members_within n) key mark r.0 r.1))
-          (node_within-found s n (omega arith))
+      (node_within-found s n (omega arith))
       ∙ ap (after_member_by (members_within n) key mark node last rest) e
 
 -- ---- the laws
@@ -315,7 +313,10 @@ unfolding document spelled
 document_is_found buffer mode root value =
     let m = meaning buffer in
     let ts = tokens buffer mode in
-    (λ e. (let r = found-reads m ts root value (spelled ts) (node_within-is (count ts) ts) e in
-        record { rest = r.0; reads = r.1 }),
-     λ d. ap (option_and_then (with_tree m)) ((spelled_is_spells ts d.rest root).1 d.reads.spells)
-         ∙ ap (option_map (λ v. (root, v))) d.reads.has_tree)
+    let is = node_within-is (count ts) ts in
+    let found : document buffer mode ≡ Some (root, value) → IsDocument buffer mode root value =
+    λ e. (let r = found-reads m ts root value (spelled ts) is e in record { rest = r.0; reads = r.1 }) in
+    let finds : IsDocument buffer mode root value → document buffer mode ≡ Some (root, value) =
+    λ d. ap (option_and_then (with_tree m)) ((spelled_is_spells ts d.rest root).1 d.reads.spells)
+    ∙ ap (option_map (λ v. (root, v))) d.reads.has_tree in
+    (found, finds)

@@ -126,4 +126,4 @@ spelled ts = node_within (count ts) ts
 unfoldable pub document : List ℕ → Mode → Option (Node × Tree)
 document buffer mode =
     option_and_then (λ r. option_map (λ value. (r.0, value)) (tree_of (meaning buffer) r.0))
-        (spelled (tokens buffer mode))
+    (spelled (tokens buffer mode))

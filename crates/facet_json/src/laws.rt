@@ -3,5 +3,6 @@
 mod documents;
 
 pub use documents::{
-    document_is_found, one_document, one_spelling, plain_is_jsonc, refused_has_none, spelled_is_spells,
+    document_is_found, one_document, one_spelling, plain_is_jsonc, refused_has_none,
+    spelled_is_spells,
 };
