@@ -31,3 +31,5 @@ pub mod Offsets
 pub mod GapSteps
 pub mod NumberSteps
 pub mod TextSteps
+pub mod SpelledLaws
+pub mod DocumentRows

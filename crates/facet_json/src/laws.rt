@@ -10,3 +10,7 @@ pub use cuts::{gap_is_longest, number_is_longest};
 pub use decoding::{decoded_is_decodes, quoted_by_characters};
 pub use documents::{one_document, one_spelling, plain_is_jsonc, refused_has_none};
 pub use growth::cut_stays;
+pub use documents::{
+    document_is_found, one_document, one_spelling, plain_is_jsonc, refused_has_none,
+    spelled_is_spells,
+};
