@@ -5,3 +5,4 @@ pub mod CutBounds
 pub mod TokensSteps
 pub mod GapLaws
 pub mod NumberLaws
+pub mod TextShapes
