@@ -6,3 +6,4 @@ pub mod TokensSteps
 pub mod GapLaws
 pub mod NumberLaws
 pub mod TextShapes
+pub mod ShapeLaws

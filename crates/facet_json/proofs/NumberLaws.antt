@@ -167,12 +167,16 @@ bare-minus bytes hint n e =
         n.whole ∙ ap (λ l. n.sign ++ l ++ n.fraction ++ n.exponent) no_digits ∙ ap (λ l. n.sign ++ [] ++ l ++ n.exponent) no_fraction ∙ ap (λ l. n.sign ++ [] ++ [] ++ l) no_exponent in
     whole ∙ simp append-nil (minus-alone n.sign n.digits n.has_minus n.is_minus n.starts no_digits)
 
+-- A number is measured longer than its sign.
+pub is_bare-number : (bytes : List ℕ) (hint : Hint) → IsNumber bytes hint → is_bare (parts bytes) ≡ false
+is_bare-number bytes hint n = false_from_ne_true (is_bare (parts bytes)) (λ e. n.more (bare-minus bytes hint n.numeral e))
+
 -- A number is tested to be one.
 pub is_number-complete : (bytes : List ℕ) (hint : Hint) → IsNumber bytes hint → is_number bytes hint ≡ true
 is_number-complete bytes hint n =
     let p = parts bytes in
     let begins = begins_number-is bytes hint n.numeral in
-    let more : is_bare p ≡ false = false_from_ne_true (is_bare p) (λ e. n.more (bare-minus bytes hint n.numeral e)) in
+    let more : is_bare p ≡ false = is_bare-number bytes hint n in
     let long : (parts_len p == length bytes) ≡ true = eq-eqb (parts_len p) (length bytes) (parts_len-is bytes hint n.numeral) in
     let same : same_hint (parts_hint p) hint ≡ true = ap (λ h. same_hint h hint) (parts_hint-is bytes hint n.numeral) ∙ same_hint-refl hint in
     and_from _ _ (and_from _ _ (and_from _ _ begins (not_from_false _ more)) long) same

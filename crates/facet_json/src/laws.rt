@@ -2,4 +2,4 @@
 
 mod cuts;
 
-pub use cuts::{gap_is_longest, number_is_longest};
+pub use cuts::{gap_is_longest, number_is_longest, shape_is_cut, shape_is_unique};

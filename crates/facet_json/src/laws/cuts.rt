@@ -1,6 +1,6 @@
 //! What gaps, numbers and tokens are: the definitions that compute agree with those that say what is meant.
 
-ghost use Rattle.facet_json.specs.Laws.{GapIsLongest, NumberIsLongest};
+ghost use Rattle.facet_json.specs.Laws.{GapIsLongest, NumberIsLongest, ShapeIsCut, ShapeIsUnique};
 
 /// The gap at the front of the bytes is a gap, and no longer front of them is one (RFC 8259, section 2).
 pub fn gap_is_longest()
@@ -12,5 +12,17 @@ pub fn gap_is_longest()
 /// (RFC 8259, section 6).
 pub fn number_is_longest()
     ensures { NumberIsLongest }
+{
+}
+
+/// A token is cut exactly where its shape stands (RFC 8259, section 2).
+pub fn shape_is_cut()
+    ensures { ShapeIsCut }
+{
+}
+
+/// At one place stands the shape of at most one token.
+pub fn shape_is_unique()
+    ensures { ShapeIsUnique }
 {
 }
