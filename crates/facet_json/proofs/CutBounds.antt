@@ -71,8 +71,10 @@ cond-below false o k h = one_more-below o k h
 pub content_len-below : (escaped : Bool) (bytes : List ℕ) → Below (content_len escaped bytes) (length bytes)
 content_len-below true [] = tt
 content_len-below false [] = tt
-content_len-below true (b ∷ bytes) = one_more-below (content_len false bytes) (length bytes) (content_len-below false bytes)
-content_len-below false (b ∷ bytes) = cond-below (b == quote) (content_len (b == backslash) bytes) (length bytes) (content_len-below (b == backslash) bytes)
+content_len-below true (b ∷ bytes) =
+    one_more-below (content_len false bytes) (length bytes) (content_len-below false bytes)
+content_len-below false (b ∷ bytes) =
+    cond-below (b == quote) (content_len (b == backslash) bytes) (length bytes) (content_len-below (b == backslash) bytes)
 
 common_cond : (t : Bool) (n k : ℕ) → n ≤ k → cond t (suc n) 0 ≤ suc k
 common_cond true n k h = omega arith
@@ -93,8 +95,10 @@ slice_get-within (x ∷ bytes) (suc n) b e = omega (arith, slice_get-within byte
 -- ---- bytes of the buffer
 
 -- The next n bytes at a place.
-pub slice_at : (buffer bytes : List ℕ) (at n : ℕ) → drop at buffer ≡ bytes → slice_range buffer at (at + n) ≡ take n bytes
-slice_at buffer bytes at n e = let m : at + n - at ≡ n = omega arith in ap (λ k. take k (drop at buffer)) m ∙ ap (take n) e
+pub slice_at : (buffer bytes : List ℕ) (at n : ℕ) → drop at buffer ≡ bytes →
+    slice_range buffer at (at + n) ≡ take n bytes
+slice_at buffer bytes at n e =
+    let m : at + n - at ≡ n = omega arith in ap (λ k. take k (drop at buffer)) m ∙ ap (take n) e
 
 -- What stands behind one more byte.
 pub drop_next : (buffer bytes : List ℕ) (at b : ℕ) → drop at buffer ≡ b ∷ bytes → drop (suc at) buffer ≡ bytes
@@ -124,37 +128,52 @@ bare_fits buffer span true_literal h = tt
 bare_fits buffer span false_literal h = tt
 
 -- A token whose kind says nothing of its bytes.
-bare_token_fits : (buffer : List ℕ) (at n : ℕ) (kind : Kind) → IsBareKind kind → 0 < n → at + n ≤ length buffer → CutFits buffer at (token_at kind at n)
+bare_token_fits : (buffer : List ℕ) (at n : ℕ) (kind : Kind) → IsBareKind kind → 0 < n → at + n ≤ length buffer →
+    CutFits buffer at (token_at kind at n)
 bare_token_fits buffer at n kind h some room =
     record { behind = omega arith; some = omega arith; within = omega arith; kind_fits = bare_fits buffer (span_at at n) kind h }
 
 -- A word that breaks off is a fault within the bytes.
-broken_fits : (buffer bytes : List ℕ) (at n : ℕ) (found : Option ℕ) → slice_get bytes n ≡ found → n ≤ length bytes → at + length bytes ≡ length buffer →
+broken_fits : (buffer bytes : List ℕ) (at n : ℕ) (found : Option ℕ) → slice_get bytes n ≡ found → n ≤ length bytes →
+    at + length bytes ≡ length buffer →
     CutFits buffer at (elim found [ None ↦ fault_at (unexpected_eof in_literal) at n | Some b ↦ fault_at (unexpected_char b) (at + n) 1 ])
 broken_fits buffer bytes at n None e h room = record { behind = omega arith; within = omega arith }
-broken_fits buffer bytes at n (Some b) e h room = record { behind = omega arith; within = omega (arith, slice_get-within bytes n b e) }
+broken_fits buffer bytes at n (Some b) e h room =
+    record { behind = omega arith; within = omega (arith, slice_get-within bytes n b e) }
 
-word_fits : (buffer bytes word : List ℕ) (at n : ℕ) (kind : Kind) → IsBareKind kind → 0 < length word → n ≤ length bytes → at + length bytes ≡ length buffer →
+word_fits : (buffer bytes word : List ℕ) (at n : ℕ) (kind : Kind) → IsBareKind kind → 0 < length word →
+    n ≤ length bytes → at + length bytes ≡ length buffer →
     CutFits buffer at (cut_word at bytes word kind n)
 word_fits buffer bytes word at n kind bare some h room =
     cond_both (n == length word) _ _ (CutFits buffer at)
     (λ e. bare_token_fits buffer at n kind bare (omega (arith, eqb-true n (length word) e)) (omega arith))
     (λ e. broken_fits buffer bytes at n (slice_get bytes n) refl h room)
 
-text_fits : (buffer bytes : List ℕ) (at b : ℕ) (o : Option ℕ) → Below o (length bytes) → drop at buffer ≡ b ∷ bytes → at + suc (length bytes) ≡ length buffer →
+text_fits : (buffer bytes : List ℕ) (at b : ℕ) (o : Option ℕ) → Below o (length bytes) → drop at buffer ≡ b ∷ bytes →
+    at + suc (length bytes) ≡ length buffer →
     CutFits buffer at (cut_text at bytes o)
 text_fits buffer bytes at b None below here room = record { behind = omega arith; within = omega arith }
 text_fits buffer bytes at b (Some n) below here room = record {
-    behind = omega arith; some = omega arith; within = omega arith;
-    kind_fits = record {
-        starts = refl; finishes = omega arith; ordered = omega arith; within = omega arith;
-        escapes = sym (ap (list_any (λ b. b == backslash)) (slice_at buffer bytes (suc at) n (drop_next buffer bytes at b here))) } }
+  behind = omega arith;
+  some = omega arith;
+  within = omega arith;
+  kind_fits = record {
+    starts = refl;
+    finishes = omega arith;
+    ordered = omega arith;
+    within = omega arith;
+    escapes =
+        sym (ap (list_any (λ b. b == backslash)) (slice_at buffer bytes (suc at) n (drop_next buffer bytes at b here)));
+  };
+}
 
-bare_minus_fits : (buffer bytes : List ℕ) (at : ℕ) → at + suc (length bytes) ≡ length buffer → CutFits buffer at (cut_bare_minus at bytes)
+bare_minus_fits : (buffer bytes : List ℕ) (at : ℕ) → at + suc (length bytes) ≡ length buffer →
+    CutFits buffer at (cut_bare_minus at bytes)
 bare_minus_fits buffer [] at room = record { behind = omega arith; within = omega arith }
 bare_minus_fits buffer (b ∷ bytes) at room = record { behind = omega arith; within = omega arith }
 
-number_fits : (buffer bytes : List ℕ) (at b : ℕ) (bare : Bool) → is_bare (parts (b ∷ bytes)) ≡ bare → starts_number b ≡ true →
+number_fits : (buffer bytes : List ℕ) (at b : ℕ) (bare : Bool) → is_bare (parts (b ∷ bytes)) ≡ bare →
+    starts_number b ≡ true →
     drop at buffer ≡ b ∷ bytes → at + suc (length bytes) ≡ length buffer →
     CutFits buffer at (cut_number at bytes (parts_len (parts (b ∷ bytes))) (parts_hint (parts (b ∷ bytes))) bare)
 number_fits buffer bytes at b true e starts here room = bare_minus_fits buffer bytes at room
@@ -164,12 +183,20 @@ number_fits buffer bytes at b false e starts here room =
     let some : 0 < n = is_bare-some p e in
     let bound : n ≤ suc (length bytes) = parts_len-bound (b ∷ bytes) in
     record {
-        behind = omega arith; some = omega arith; within = omega arith;
-        kind_fits = record {
-            starts = refl; finishes = refl;
-            is_a_number = ap (λ text. is_number text (parts_hint p)) (slice_at buffer (b ∷ bytes) at n here) ∙ is_number-front (b ∷ bytes) starts e } }
+      behind = omega arith;
+      some = omega arith;
+      within = omega arith;
+      kind_fits = record {
+        starts = refl;
+        finishes = refl;
+        is_a_number =
+            ap (λ text. is_number text (parts_hint p)) (slice_at buffer (b ∷ bytes) at n here)
+            ∙ is_number-front (b ∷ bytes) starts e;
+      };
+    }
 
-slash_fits : (mode : Mode) (buffer bytes : List ℕ) (at : ℕ) → at + suc (length bytes) ≡ length buffer → CutFits buffer at (cut_slash mode at bytes)
+slash_fits : (mode : Mode) (buffer bytes : List ℕ) (at : ℕ) → at + suc (length bytes) ≡ length buffer →
+    CutFits buffer at (cut_slash mode at bytes)
 slash_fits plain buffer bytes at room = record { behind = omega arith; within = omega arith }
 slash_fits jsonc buffer [] at room = record { behind = omega arith; within = omega arith }
 slash_fits jsonc buffer (b ∷ bytes) at room =
@@ -188,47 +215,61 @@ literal_is_bare _ _ null_stands = tt
 literal_is_bare _ _ true_stands = tt
 literal_is_bare _ _ false_stands = tt
 
-by_fits : (mode : Mode) (buffer bytes : List ℕ) (at b : ℕ) (start : Start) → Begins b start → drop at buffer ≡ b ∷ bytes → at + suc (length bytes) ≡ length buffer →
+by_fits : (mode : Mode) (buffer bytes : List ℕ) (at b : ℕ) (start : Start) → Begins b start →
+    drop at buffer ≡ b ∷ bytes → at + suc (length bytes) ≡ length buffer →
     CutFits buffer at (cut_by start mode at b bytes)
-by_fits mode buffer bytes at b _ (a_mark _ kind h) here room = bare_token_fits buffer at 1 kind (structural_is_bare b kind h) (omega arith) (omega arith)
+by_fits mode buffer bytes at b _ (a_mark _ kind h) here room =
+    bare_token_fits buffer at 1 kind (structural_is_bare b kind h) (omega arith) (omega arith)
 by_fits mode buffer bytes at b _ (a_word _ letters kind h) here room =
     word_fits buffer (b ∷ bytes) (b ∷ letters) at (common_len (b ∷ letters) (b ∷ bytes)) kind (literal_is_bare _ kind h) (omega arith) (common_len-bound (b ∷ letters) (b ∷ bytes)) room
-by_fits mode buffer bytes at b _ a_text here room = text_fits buffer bytes at b (content_len false bytes) (content_len-below false bytes) here room
-by_fits mode buffer bytes at b _ (a_number _ h) here room = number_fits buffer bytes at b (is_bare (parts (b ∷ bytes))) refl h here room
+by_fits mode buffer bytes at b _ a_text here room =
+    text_fits buffer bytes at b (content_len false bytes) (content_len-below false bytes) here room
+by_fits mode buffer bytes at b _ (a_number _ h) here room =
+    number_fits buffer bytes at b (is_bare (parts (b ∷ bytes))) refl h here room
 by_fits mode buffer bytes at b _ a_comment here room = slash_fits mode buffer bytes at room
 by_fits mode buffer bytes at b _ (no_token _ h) here room = record { behind = omega arith; within = omega arith }
 
-here_fits : (mode : Mode) (buffer bytes : List ℕ) (at : ℕ) → drop at buffer ≡ bytes → at + length bytes ≡ length buffer → CutFits buffer at (cut_here mode at bytes)
+here_fits : (mode : Mode) (buffer bytes : List ℕ) (at : ℕ) → drop at buffer ≡ bytes →
+    at + length bytes ≡ length buffer → CutFits buffer at (cut_here mode at bytes)
 unfolding cut_here
 here_fits mode buffer [] at here room = tt
-here_fits mode buffer (b ∷ bytes) at here room = by_fits mode buffer bytes at b (start_of b) (start_of-begins b) here room
+here_fits mode buffer (b ∷ bytes) at here room =
+    by_fits mode buffer bytes at b (start_of b) (start_of-begins b) here room
 
 -- ---- what is cut at a position
 
 -- The gap ends within the buffer.
-pub past_gap-bound : (buffer : List ℕ) (position : ℕ) (mode : Mode) → position ≤ length buffer → past_gap buffer position mode ≤ length buffer
-past_gap-bound buffer position mode h = omega (arith, gap_len-bound mode whole (drop position buffer), length-drop position buffer)
+pub past_gap-bound : (buffer : List ℕ) (position : ℕ) (mode : Mode) → position ≤ length buffer →
+    past_gap buffer position mode ≤ length buffer
+past_gap-bound buffer position mode h =
+    omega (arith, gap_len-bound mode whole (drop position buffer), length-drop position buffer)
 
 -- What fits at a place fits at an earlier position.
-earlier : (buffer : List ℕ) (position at : ℕ) (c : Cut) → position ≤ at → CutFits buffer at c → CutFits buffer position c
+earlier : (buffer : List ℕ) (position at : ℕ) (c : Cut) → position ≤ at → CutFits buffer at c →
+    CutFits buffer position c
 earlier buffer position at nothing_left h fits = tt
-earlier buffer position at (token t) h fits = record { behind = omega arith; some = fits.some; within = fits.within; kind_fits = fits.kind_fits }
+earlier buffer position at (token t) h fits =
+    record { behind = omega arith; some = fits.some; within = fits.within; kind_fits = fits.kind_fits }
 earlier buffer position at (fault f) h fits = record { behind = omega arith; within = fits.within }
 
 -- What is cut stands behind the position and within the buffer.
-pub cut-fits : (buffer : List ℕ) (position : ℕ) (mode : Mode) → position ≤ length buffer → CutFits buffer position (cut buffer position mode)
+pub cut-fits : (buffer : List ℕ) (position : ℕ) (mode : Mode) → position ≤ length buffer →
+    CutFits buffer position (cut buffer position mode)
 unfolding cut
 cut-fits buffer position mode h =
     let at = past_gap buffer position mode in
-    let room : at + length (drop at buffer) ≡ length buffer = omega (arith, past_gap-bound buffer position mode h, length-drop at buffer) in
+    let room : at + length (drop at buffer) ≡ length buffer =
+    omega (arith, past_gap-bound buffer position mode h, length-drop at buffer) in
     earlier buffer position at _ (omega arith) (here_fits mode buffer (drop at buffer) at refl room)
 
 -- Where the token stands that is cut.
-pub cut-token_fits : (buffer : List ℕ) (position : ℕ) (mode : Mode) (t : Token) → position ≤ length buffer → cut buffer position mode ≡ token t → TokenFits buffer position t
+pub cut-token_fits : (buffer : List ℕ) (position : ℕ) (mode : Mode) (t : Token) → position ≤ length buffer →
+    cut buffer position mode ≡ token t → TokenFits buffer position t
 cut-token_fits buffer position mode t h e = subst (CutFits buffer position) e (cut-fits buffer position mode h)
 
 -- Where the fault stands that is cut.
-pub cut-fault_fits : (buffer : List ℕ) (position : ℕ) (mode : Mode) (f : Fault) → position ≤ length buffer → cut buffer position mode ≡ fault f → FaultFits buffer position f
+pub cut-fault_fits : (buffer : List ℕ) (position : ℕ) (mode : Mode) (f : Fault) → position ≤ length buffer →
+    cut buffer position mode ≡ fault f → FaultFits buffer position f
 cut-fault_fits buffer position mode f h e = subst (CutFits buffer position) e (cut-fits buffer position mode h)
 
 -- What a string's kind says of the buffer.

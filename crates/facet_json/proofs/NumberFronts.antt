@@ -33,7 +33,8 @@ abbrev pub power_len : List ℕ → ℕ
 power_len bytes = sign_len bytes + digits_len (drop (sign_len bytes) bytes)
 
 power_len-bound : (bytes : List ℕ) → power_len bytes ≤ length bytes
-power_len-bound bytes = omega (arith, sign_len-bound bytes, digits_len-bound (drop (sign_len bytes) bytes), length-drop (sign_len bytes) bytes)
+power_len-bound bytes =
+    omega (arith, sign_len-bound bytes, digits_len-bound (drop (sign_len bytes) bytes), length-drop (sign_len bytes) bytes)
 
 pub exponent_len-bound : (bytes : List ℕ) → exponent_len bytes ≤ length bytes
 exponent_len-bound [] = omega arith
@@ -46,9 +47,16 @@ parts_len-bound bytes =
     let sign = minus_len bytes in
     let digits = digits_len (drop sign bytes) in
     let fraction = fraction_len (drop (sign + digits) bytes) in
-    omega (arith, minus_len-bound bytes, digits_len-bound (drop sign bytes), fraction_len-bound (drop (sign + digits) bytes),
-        exponent_len-bound (drop (sign + digits + fraction) bytes),
-        length-drop sign bytes, length-drop (sign + digits) bytes, length-drop (sign + digits + fraction) bytes)
+    omega (
+      arith,
+      minus_len-bound bytes,
+      digits_len-bound (drop sign bytes),
+      fraction_len-bound (drop (sign + digits) bytes),
+      exponent_len-bound (drop (sign + digits + fraction) bytes),
+      length-drop sign bytes,
+      length-drop (sign + digits) bytes,
+      length-drop (sign + digits + fraction) bytes,
+    )
 
 -- ---- each part is measured alike in a front that holds it
 
@@ -71,7 +79,8 @@ minus_len-take zero bytes h = omega arith
 minus_len-take (suc k) [] h = refl
 minus_len-take (suc k) (b ∷ bytes) h = refl
 
-pub fraction_len-take : (k : ℕ) (bytes : List ℕ) → fraction_len bytes ≤ k → fraction_len (take k bytes) ≡ fraction_len bytes
+pub fraction_len-take : (k : ℕ) (bytes : List ℕ) → fraction_len bytes ≤ k →
+    fraction_len (take k bytes) ≡ fraction_len bytes
 fraction_len-take zero bytes h = omega arith
 fraction_len-take (suc k) [] h = refl
 fraction_len-take (suc k) (b ∷ bytes) h = cond_front (b == dot) _ _ k h (digits_len-take k bytes)
@@ -83,27 +92,36 @@ sign_len-take (suc k) (b ∷ bytes) h = refl
 
 -- Behind n bytes, a front of m more is a front of what stands there.
 drop_front : (n k : ℕ) (bytes : List ℕ) → n ≤ k → drop n (take k bytes) ≡ take (k - n) (drop n bytes)
-drop_front n k bytes h = let e : k ≡ n + (k - n) = omega arith in ap (λ m. drop n (take m bytes)) e ∙ drop-take n (k - n) bytes
+drop_front n k bytes h =
+    let e : k ≡ n + (k - n) = omega arith in ap (λ m. drop n (take m bytes)) e ∙ drop-take n (k - n) bytes
 
 -- Digits behind n bytes are measured alike in a front that holds them.
-digits_behind : (n k : ℕ) (bytes : List ℕ) → n + digits_len (drop n bytes) ≤ k → digits_len (drop n (take k bytes)) ≡ digits_len (drop n bytes)
-digits_behind n k bytes h = ap digits_len (drop_front n k bytes (omega arith)) ∙ digits_len-take (k - n) (drop n bytes) (omega arith)
+digits_behind : (n k : ℕ) (bytes : List ℕ) → n + digits_len (drop n bytes) ≤ k →
+    digits_len (drop n (take k bytes)) ≡ digits_len (drop n bytes)
+digits_behind n k bytes h =
+    ap digits_len (drop_front n k bytes (omega arith)) ∙ digits_len-take (k - n) (drop n bytes) (omega arith)
 
-fraction_behind : (n k : ℕ) (bytes : List ℕ) → n + fraction_len (drop n bytes) ≤ k → fraction_len (drop n (take k bytes)) ≡ fraction_len (drop n bytes)
-fraction_behind n k bytes h = ap fraction_len (drop_front n k bytes (omega arith)) ∙ fraction_len-take (k - n) (drop n bytes) (omega arith)
+fraction_behind : (n k : ℕ) (bytes : List ℕ) → n + fraction_len (drop n bytes) ≤ k →
+    fraction_len (drop n (take k bytes)) ≡ fraction_len (drop n bytes)
+fraction_behind n k bytes h =
+    ap fraction_len (drop_front n k bytes (omega arith)) ∙ fraction_len-take (k - n) (drop n bytes) (omega arith)
 
 power_len-take : (k : ℕ) (bytes : List ℕ) → power_len bytes ≤ k → power_len (take k bytes) ≡ power_len bytes
 power_len-take k bytes h =
     let e : sign_len (take k bytes) ≡ sign_len bytes = sign_len-take k bytes (omega arith) in
-    ap (λ n. n + digits_len (drop n (take k bytes))) e ∙ ap (λ n. sign_len bytes + n) (digits_behind (sign_len bytes) k bytes h)
+    ap (λ n. n + digits_len (drop n (take k bytes))) e
+    ∙ ap (λ n. sign_len bytes + n) (digits_behind (sign_len bytes) k bytes h)
 
-pub exponent_len-take : (k : ℕ) (bytes : List ℕ) → exponent_len bytes ≤ k → exponent_len (take k bytes) ≡ exponent_len bytes
+pub exponent_len-take : (k : ℕ) (bytes : List ℕ) → exponent_len bytes ≤ k →
+    exponent_len (take k bytes) ≡ exponent_len bytes
 exponent_len-take zero bytes h = omega arith
 exponent_len-take (suc k) [] h = refl
 exponent_len-take (suc k) (b ∷ bytes) h = cond_front (is_exponent_mark b) _ _ k h (power_len-take k bytes)
 
-exponent_behind : (n k : ℕ) (bytes : List ℕ) → n + exponent_len (drop n bytes) ≤ k → exponent_len (drop n (take k bytes)) ≡ exponent_len (drop n bytes)
-exponent_behind n k bytes h = ap exponent_len (drop_front n k bytes (omega arith)) ∙ exponent_len-take (k - n) (drop n bytes) (omega arith)
+exponent_behind : (n k : ℕ) (bytes : List ℕ) → n + exponent_len (drop n bytes) ≤ k →
+    exponent_len (drop n (take k bytes)) ≡ exponent_len (drop n bytes)
+exponent_behind n k bytes h =
+    ap exponent_len (drop_front n k bytes (omega arith)) ∙ exponent_len-take (k - n) (drop n bytes) (omega arith)
 
 -- The parts, when the first of them are given.
 abbrev pub from_exponent : ℕ → ℕ → ℕ → ℕ → Parts
