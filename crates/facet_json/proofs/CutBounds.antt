@@ -1,4 +1,4 @@
--- Where what is cut stands: behind the position, within the buffer, and what a string's or a number's kind says of its bytes.
+-- Where what is cut stands: behind the position, within the buffer. What a string and a number say of their bytes.
 use Rattle.std.proofs.Common.{◌≡◌, ℕ, zero, suc, ◌+◌, ◌-◌, ◌≤◌, ◌<◌, Bool, true, false, cond, ◌==◌, List, [], ◌∷◌, length, take, drop, Option, Some, None, refl, sym, ap, ◌∙◌, subst, arith, length-drop}
 use Rattle.std.specs.Prelude.{slice_get, slice_range}
 use Rattle.std.specs.List.{list_any}
@@ -11,7 +11,7 @@ use Rattle.facet_json.specs.Token.{Span, Kind, object_start, object_end, array_s
 use Rattle.facet_json.specs.Cut.{Cut, nothing_left, token, fault, IsStructural, object_starts, object_ends, array_starts, array_ends, colon_stands, comma_stands, IsLiteral, null_stands, true_stands, false_stands, Start, start_of, span_at, token_at, fault_at, common_len, cut_word, content_len, cut_text, cut_bare_minus, cut_number, cut_slash, cut_by, cut_here, past_gap, cut}
 use Rattle.facet_json.proofs.Starts.{Begins, a_mark, a_word, a_text, a_number, a_comment, no_token, start_of-begins}
 use Rattle.facet_json.proofs.GapBounds.{gap_len-bound}
-use Rattle.facet_json.proofs.NumberFronts.{parts_len-bound, is_bare-some, is_number-front}
+use Rattle.facet_json.proofs.NumberFronts.{cond_bound, parts_len-bound, is_bare-some, is_number-front}
 
 -- ---- what is shown
 
@@ -47,6 +47,7 @@ pub record FaultFits (buffer : List ℕ) (position : ℕ) (f : Fault) : Type 0 w
   pub behind : position ≤ f.span.offset
   pub within : f.span.offset + f.span.len ≤ length buffer
 
+-- What is cut at a position fits there.
 abbrev pub CutFits : List ℕ → ℕ → Cut → Type 0
 CutFits buffer position nothing_left = Unit {0}
 CutFits buffer position (token t) = TokenFits buffer position t
@@ -59,10 +60,12 @@ abbrev pub Below : Option ℕ → ℕ → Type 0
 Below None k = Unit {0}
 Below (Some n) k = n < k
 
+-- One more is below one more.
 one_more-below : (o : Option ℕ) (k : ℕ) → Below o k → Below (one_more o) (suc k)
 one_more-below None k h = tt
 one_more-below (Some n) k h = omega arith
 
+-- Nothing, or one more, is below one more.
 cond-below : (t : Bool) (o : Option ℕ) (k : ℕ) → Below o k → Below (cond t (Some 0) (one_more o)) (suc k)
 cond-below true o k h = omega arith
 cond-below false o k h = one_more-below o k h
@@ -74,17 +77,14 @@ content_len-below false [] = tt
 content_len-below true (b ∷ bytes) =
     one_more-below (content_len false bytes) (length bytes) (content_len-below false bytes)
 content_len-below false (b ∷ bytes) =
-    cond-below (b == quote) (content_len (b == backslash) bytes) (length bytes) (content_len-below (b == backslash) bytes)
-
-common_cond : (t : Bool) (n k : ℕ) → n ≤ k → cond t (suc n) 0 ≤ suc k
-common_cond true n k h = omega arith
-common_cond false n k h = omega arith
+    cond-below (b == quote) (content_len (b == backslash) bytes) (length bytes)
+    (content_len-below (b == backslash) bytes)
 
 -- No longer front of the bytes than all of them is a front of a word.
 pub common_len-bound : (word bytes : List ℕ) → common_len word bytes ≤ length bytes
 common_len-bound [] bytes = omega arith
 common_len-bound (w ∷ word) [] = omega arith
-common_len-bound (w ∷ word) (b ∷ bytes) = common_cond (b == w) _ _ (common_len-bound word bytes)
+common_len-bound (w ∷ word) (b ∷ bytes) = cond_bound (b == w) _ _ (common_len-bound word bytes)
 
 -- An element stands within the list.
 slice_get-within : (bytes : List ℕ) (n b : ℕ) → slice_get bytes n ≡ Some b → n < length bytes
@@ -114,6 +114,7 @@ IsBareKind (string start finish has_escapes) = ⊥
 IsBareKind (number start finish hint) = ⊥
 IsBareKind _ = Unit {0}
 
+-- A kind that says nothing of the bytes fits.
 bare_fits : (buffer : List ℕ) (span : Span) (kind : Kind) → IsBareKind kind → KindFits buffer span kind
 bare_fits buffer span (string start finish has_escapes) h = absurd h
 bare_fits buffer span (number start finish hint) h = absurd h
@@ -131,16 +132,23 @@ bare_fits buffer span false_literal h = tt
 bare_token_fits : (buffer : List ℕ) (at n : ℕ) (kind : Kind) → IsBareKind kind → 0 < n → at + n ≤ length buffer →
     CutFits buffer at (token_at kind at n)
 bare_token_fits buffer at n kind h some room =
-    record { behind = omega arith; some = omega arith; within = omega arith; kind_fits = bare_fits buffer (span_at at n) kind h }
+    record {
+      behind = omega arith;
+      some = omega arith;
+      within = omega arith;
+      kind_fits = bare_fits buffer (span_at at n) kind h;
+    }
 
 -- A word that breaks off is a fault within the bytes.
 broken_fits : (buffer bytes : List ℕ) (at n : ℕ) (found : Option ℕ) → slice_get bytes n ≡ found → n ≤ length bytes →
     at + length bytes ≡ length buffer →
-    CutFits buffer at (elim found [ None ↦ fault_at (unexpected_eof in_literal) at n | Some b ↦ fault_at (unexpected_char b) (at + n) 1 ])
+    CutFits buffer at (elim found
+    [ None ↦ fault_at (unexpected_eof in_literal) at n | Some b ↦ fault_at (unexpected_char b) (at + n) 1 ])
 broken_fits buffer bytes at n None e h room = record { behind = omega arith; within = omega arith }
 broken_fits buffer bytes at n (Some b) e h room =
     record { behind = omega arith; within = omega (arith, slice_get-within bytes n b e) }
 
+-- A word, or where it breaks off, fits.
 word_fits : (buffer bytes word : List ℕ) (at n : ℕ) (kind : Kind) → IsBareKind kind → 0 < length word →
     n ≤ length bytes → at + length bytes ≡ length buffer →
     CutFits buffer at (cut_word at bytes word kind n)
@@ -149,6 +157,7 @@ word_fits buffer bytes word at n kind bare some h room =
     (λ e. bare_token_fits buffer at n kind bare (omega (arith, eqb-true n (length word) e)) (omega arith))
     (λ e. broken_fits buffer bytes at n (slice_get bytes n) refl h room)
 
+-- A string, or a string that does not end, fits.
 text_fits : (buffer bytes : List ℕ) (at b : ℕ) (o : Option ℕ) → Below o (length bytes) → drop at buffer ≡ b ∷ bytes →
     at + suc (length bytes) ≡ length buffer →
     CutFits buffer at (cut_text at bytes o)
@@ -167,11 +176,13 @@ text_fits buffer bytes at b (Some n) below here room = record {
   };
 }
 
+-- A minus without a number fits.
 bare_minus_fits : (buffer bytes : List ℕ) (at : ℕ) → at + suc (length bytes) ≡ length buffer →
     CutFits buffer at (cut_bare_minus at bytes)
 bare_minus_fits buffer [] at room = record { behind = omega arith; within = omega arith }
 bare_minus_fits buffer (b ∷ bytes) at room = record { behind = omega arith; within = omega arith }
 
+-- A number, or a minus alone, fits.
 number_fits : (buffer bytes : List ℕ) (at b : ℕ) (bare : Bool) → is_bare (parts (b ∷ bytes)) ≡ bare →
     starts_number b ≡ true →
     drop at buffer ≡ b ∷ bytes → at + suc (length bytes) ≡ length buffer →
@@ -195,13 +206,16 @@ number_fits buffer bytes at b false e starts here room =
       };
     }
 
+-- A slash where no closed comment stands fits.
 slash_fits : (mode : Mode) (buffer bytes : List ℕ) (at : ℕ) → at + suc (length bytes) ≡ length buffer →
     CutFits buffer at (cut_slash mode at bytes)
 slash_fits plain buffer bytes at room = record { behind = omega arith; within = omega arith }
 slash_fits jsonc buffer [] at room = record { behind = omega arith; within = omega arith }
 slash_fits jsonc buffer (b ∷ bytes) at room =
-    cond_both (b == star) _ _ (CutFits buffer at) (λ e. record { behind = omega arith; within = omega arith }) (λ e. record { behind = omega arith; within = omega arith })
+    cond_both (b == star) _ _ (CutFits buffer at) (λ e. record { behind = omega arith; within = omega arith })
+    (λ e. record { behind = omega arith; within = omega arith })
 
+-- Brackets, colon and comma say nothing of the bytes.
 structural_is_bare : (b : ℕ) (kind : Kind) → IsStructural b kind → IsBareKind kind
 structural_is_bare _ _ object_starts = tt
 structural_is_bare _ _ object_ends = tt
@@ -210,18 +224,21 @@ structural_is_bare _ _ array_ends = tt
 structural_is_bare _ _ colon_stands = tt
 structural_is_bare _ _ comma_stands = tt
 
+-- Literals say nothing of the bytes.
 literal_is_bare : (word : List ℕ) (kind : Kind) → IsLiteral word kind → IsBareKind kind
 literal_is_bare _ _ null_stands = tt
 literal_is_bare _ _ true_stands = tt
 literal_is_bare _ _ false_stands = tt
 
+-- What is cut by its first byte fits.
 by_fits : (mode : Mode) (buffer bytes : List ℕ) (at b : ℕ) (start : Start) → Begins b start →
     drop at buffer ≡ b ∷ bytes → at + suc (length bytes) ≡ length buffer →
     CutFits buffer at (cut_by start mode at b bytes)
 by_fits mode buffer bytes at b _ (a_mark _ kind h) here room =
     bare_token_fits buffer at 1 kind (structural_is_bare b kind h) (omega arith) (omega arith)
 by_fits mode buffer bytes at b _ (a_word _ letters kind h) here room =
-    word_fits buffer (b ∷ bytes) (b ∷ letters) at (common_len (b ∷ letters) (b ∷ bytes)) kind (literal_is_bare _ kind h) (omega arith) (common_len-bound (b ∷ letters) (b ∷ bytes)) room
+    word_fits buffer (b ∷ bytes) (b ∷ letters) at (common_len (b ∷ letters) (b ∷ bytes)) kind
+    (literal_is_bare _ kind h) (omega arith) (common_len-bound (b ∷ letters) (b ∷ bytes)) room
 by_fits mode buffer bytes at b _ a_text here room =
     text_fits buffer bytes at b (content_len false bytes) (content_len-below false bytes) here room
 by_fits mode buffer bytes at b _ (a_number _ h) here room =
@@ -229,6 +246,7 @@ by_fits mode buffer bytes at b _ (a_number _ h) here room =
 by_fits mode buffer bytes at b _ a_comment here room = slash_fits mode buffer bytes at room
 by_fits mode buffer bytes at b _ (no_token _ h) here room = record { behind = omega arith; within = omega arith }
 
+-- What is cut where no gap is in front fits.
 here_fits : (mode : Mode) (buffer bytes : List ℕ) (at : ℕ) → drop at buffer ≡ bytes →
     at + length bytes ≡ length buffer → CutFits buffer at (cut_here mode at bytes)
 unfolding cut_here
@@ -273,13 +291,16 @@ pub cut-fault_fits : (buffer : List ℕ) (position : ℕ) (mode : Mode) (f : Fau
 cut-fault_fits buffer position mode f h e = subst (CutFits buffer position) e (cut-fits buffer position mode h)
 
 -- What a string's kind says of the buffer.
-pub cut-string_fits : (buffer : List ℕ) (position : ℕ) (mode : Mode) (t : Token) (start finish : ℕ) (has_escapes : Bool) →
-    position ≤ length buffer → cut buffer position mode ≡ token t → t.kind ≡ string start finish has_escapes → StringFits buffer t.span start finish has_escapes
+pub cut-string_fits : (buffer : List ℕ) (position : ℕ) (mode : Mode) (t : Token) (start finish : ℕ)
+    (has_escapes : Bool) → position ≤ length buffer → cut buffer position mode ≡ token t →
+    t.kind ≡ string start finish has_escapes →
+    StringFits buffer t.span start finish has_escapes
 cut-string_fits buffer position mode t start finish has_escapes h e is =
     subst (KindFits buffer t.span) is (cut-token_fits buffer position mode t h e).kind_fits
 
 -- What a number's kind says of the buffer.
 pub cut-number_fits : (buffer : List ℕ) (position : ℕ) (mode : Mode) (t : Token) (start finish : ℕ) (hint : Hint) →
-    position ≤ length buffer → cut buffer position mode ≡ token t → t.kind ≡ number start finish hint → NumberFits buffer t.span start finish hint
+    position ≤ length buffer → cut buffer position mode ≡ token t → t.kind ≡ number start finish hint →
+    NumberFits buffer t.span start finish hint
 cut-number_fits buffer position mode t start finish hint h e is =
     subst (KindFits buffer t.span) is (cut-token_fits buffer position mode t h e).kind_fits

@@ -9,7 +9,8 @@ unfolding gap_len_from
 gap_len_from-bound mode input inside [] = omega arith
 gap_len_from-bound mode input (suc inside) (b ∷ bytes) = omega (arith, gap_len_from-bound mode input inside bytes)
 gap_len_from-bound mode input zero (b ∷ bytes) =
-    let bound : (n : ℕ) → (elim n [ zero ↦ 0 | suc inside ↦ suc (gap_len_from mode input inside bytes) ]) ≤ suc (length bytes) =
+    let bound : (n : ℕ) → (elim n [ zero ↦ 0 | suc inside ↦ suc (gap_len_from mode input inside bytes) ])
+    ≤ suc (length bytes) =
     elim [ zero ↦ omega arith | suc inside ↦ omega (arith, gap_len_from-bound mode input inside bytes) ] in
     bound (piece_len mode input (b ∷ bytes))
 

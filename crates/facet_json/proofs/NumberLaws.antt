@@ -9,6 +9,7 @@ use Rattle.facet_json.proofs.NumberFronts.{parts_len-bound, parts-take, power_le
 
 -- ---- a number is measured as long as it is
 
+-- A digit is within 0 and 9.
 digit-is : (b : ℕ) → is_digit b ≡ true → (0x30 ≤ b) × (b ≤ 0x39)
 digit-is b e = let both = and_parts _ _ e in (leb-true 0x30 b both.0, leb-true b 0x39 both.1)
 
@@ -16,20 +17,25 @@ digit-is b e = let both = and_parts _ _ e in (leb-true 0x30 b both.0, leb-true b
 digit_no_minus : (b : ℕ) → is_digit b ≡ true → (b == minus) ≡ false
 digit_no_minus b e = ne_eqb b minus (λ h. omega (arith, digit-is b e))
 
+-- A digit is no plus.
 digit_no_plus : (b : ℕ) → is_digit b ≡ true → (b == plus) ≡ false
 digit_no_plus b e = ne_eqb b plus (λ h. omega (arith, digit-is b e))
 
+-- A digit is no sign.
 digit_no_sign : (b : ℕ) → is_digit b ≡ true → is_sign b ≡ false
 digit_no_sign b e = rw (digit_no_minus b e, digit_no_plus b e) refl
 
 -- An exponent mark is one of two letters.
 mark-is : (b : ℕ) → is_exponent_mark b ≡ true → (P : ℕ → Type 0) → P lower_e → P upper_e → P b
 mark-is b e P lower upper =
-    elim (or_cases (b == lower_e) (b == upper_e) e) [ inl h ↦ subst P (sym (eqb-true b lower_e h)) lower | inr h ↦ subst P (sym (eqb-true b upper_e h)) upper ]
+    elim (or_cases (b == lower_e) (b == upper_e) e)
+    [ inl h ↦ subst P (sym (eqb-true b lower_e h)) lower | inr h ↦ subst P (sym (eqb-true b upper_e h)) upper ]
 
+-- An exponent mark is no digit.
 mark_no_digit : (b : ℕ) → is_exponent_mark b ≡ true → is_digit b ≡ false
 mark_no_digit b e = mark-is b e (λ n. is_digit n ≡ false) refl refl
 
+-- An exponent mark is no dot.
 mark_no_dot : (b : ℕ) → is_exponent_mark b ≡ true → (b == dot) ≡ false
 mark_no_dot b e = mark-is b e (λ n. (n == dot) ≡ false) refl refl
 
@@ -39,6 +45,7 @@ digits_len-append : (digits rest : List ℕ) → AreDigits digits →
 digits_len-append _ rest AreDigits.none = omega arith
 digits_len-append _ rest (AreDigits.digit b bytes e h) = rw e (ap suc (digits_len-append bytes rest h) ∙ omega arith)
 
+-- Digits are measured as long as they are.
 digits_len-is : (digits : List ℕ) → AreDigits digits → digits_len digits ≡ length digits
 digits_len-is _ AreDigits.none = refl
 digits_len-is _ (AreDigits.digit b bytes e h) = rw e (ap suc (digits_len-is bytes h))
@@ -48,6 +55,7 @@ digits_len-exponent : (exponent : List ℕ) (has : Bool) → IsExponent exponent
 digits_len-exponent _ _ IsExponent.absent = refl
 digits_len-exponent _ _ (IsExponent.present mark sign digits e s d) = rw (mark_no_digit mark e) refl
 
+-- No digit begins a fraction and an exponent.
 digits_len-behind : (fraction exponent : List ℕ) (has_fraction has_exponent : Bool) →
     IsFraction fraction has_fraction → IsExponent exponent has_exponent → digits_len (fraction ++ exponent) ≡ 0
 digits_len-behind _ exponent _ has IsFraction.absent e = digits_len-exponent exponent has e
@@ -58,16 +66,19 @@ fraction_len-exponent : (exponent : List ℕ) (has : Bool) → IsExponent expone
 fraction_len-exponent _ _ IsExponent.absent = refl
 fraction_len-exponent _ _ (IsExponent.present mark sign digits e s d) = rw (mark_no_dot mark e) refl
 
+-- A fraction is measured as long as it is where an exponent follows.
 fraction_len-is : (fraction exponent : List ℕ) (has_fraction has_exponent : Bool) → IsFraction fraction has_fraction →
     IsExponent exponent has_exponent → fraction_len (fraction ++ exponent) ≡ length fraction
 fraction_len-is _ exponent _ has IsFraction.absent e = fraction_len-exponent exponent has e
 fraction_len-is _ exponent _ has (IsFraction.present digits d) e =
     omega (arith, digits_len-append digits exponent d, digits_len-exponent exponent has e)
 
+-- No sign begins digits.
 sign_len-digits : (digits : List ℕ) → AreDigits digits → sign_len digits ≡ 0
 sign_len-digits _ AreDigits.none = refl
 sign_len-digits _ (AreDigits.digit b bytes e h) = rw (digit_no_sign b e) refl
 
+-- A sign and digits are measured as long as they are.
 power_len-is : (sign digits : List ℕ) → IsExponentSign sign → AreDigits digits →
     power_len (sign ++ digits) ≡ length (sign ++ digits)
 power_len-is _ digits IsExponentSign.absent d =
@@ -75,6 +86,7 @@ power_len-is _ digits IsExponentSign.absent d =
 power_len-is _ digits (IsExponentSign.present b e) d =
     ap (λ t. cond t 1 0 + digits_len (drop (cond t 1 0) (b ∷ digits))) e ∙ omega (arith, digits_len-is digits d)
 
+-- An exponent is measured as long as it is.
 exponent_len-is : (exponent : List ℕ) (has : Bool) → IsExponent exponent has → exponent_len exponent ≡ length exponent
 exponent_len-is _ _ IsExponent.absent = refl
 exponent_len-is _ _ (IsExponent.present mark sign digits e s d) = rw e (ap suc (power_len-is sign digits s d))
@@ -84,6 +96,7 @@ minus_len-digits : (digits rest : List ℕ) → AreDigits digits → digits ≢ 
 minus_len-digits _ rest AreDigits.none some = absurd (some refl)
 minus_len-digits _ rest (AreDigits.digit b bytes e h) some = rw (digit_no_minus b e) refl
 
+-- A minus or nothing is measured as long as it is where digits follow.
 minus_len-is : (sign digits rest : List ℕ) (has : Bool) → IsMinus sign has → AreDigits digits → sign ++ digits ≢ [] →
     minus_len (sign ++ (digits ++ rest)) ≡ length sign
 minus_len-is _ digits rest _ IsMinus.absent d some = minus_len-digits digits rest d some
@@ -112,7 +125,11 @@ parts-is bytes hint n =
     ap minus_len whole ∙ minus_len-is n.sign n.digits tail n.has_minus n.is_minus n.are_digits n.starts in
     let is_digits : digits_len (drop s bytes) ≡ d =
     ap digits_len at_digits ∙ digits_len-append n.digits tail n.are_digits
-    ∙ omega (arith, digits_len-behind n.fraction n.exponent n.has_fraction n.has_exponent n.is_fraction n.is_exponent) in
+    ∙ omega (
+      arith,
+      digits_len-behind n.fraction n.exponent n.has_fraction n.has_exponent n.is_fraction
+          n.is_exponent,
+    ) in
     let is_fraction : fraction_len (drop (s + d) bytes) ≡ f =
     ap fraction_len at_tail
     ∙ fraction_len-is n.fraction n.exponent n.has_fraction n.has_exponent n.is_fraction n.is_exponent in
@@ -134,10 +151,12 @@ minus-some : (sign : List ℕ) (has : Bool) → IsMinus sign has → is_some_len
 minus-some _ _ IsMinus.absent = refl
 minus-some _ _ IsMinus.present = refl
 
+-- A fraction that stands there has a length.
 fraction-some : (fraction : List ℕ) (has : Bool) → IsFraction fraction has → is_some_len (length fraction) ≡ has
 fraction-some _ _ IsFraction.absent = refl
 fraction-some _ _ (IsFraction.present digits d) = refl
 
+-- An exponent that stands there has a length.
 exponent-some : (exponent : List ℕ) (has : Bool) → IsExponent exponent has → is_some_len (length exponent) ≡ has
 exponent-some _ _ IsExponent.absent = refl
 exponent-some _ _ (IsExponent.present mark sign digits e s d) = refl
@@ -146,21 +165,25 @@ exponent-some _ _ (IsExponent.present mark sign digits e s d) = refl
 pub parts_hint-is : (bytes : List ℕ) (hint : Hint) → IsNumeral bytes hint → parts_hint (parts bytes) ≡ hint
 parts_hint-is bytes hint n =
     ap parts_hint (parts-is bytes hint n)
-    ∙ ap (λ m. hint_of m (is_some_len (length n.fraction)) (is_some_len (length n.exponent))) (minus-some n.sign n.has_minus n.is_minus)
-    ∙ ap (λ f. hint_of n.has_minus f (is_some_len (length n.exponent))) (fraction-some n.fraction n.has_fraction n.is_fraction)
+    ∙ ap (λ m. hint_of m (is_some_len (length n.fraction)) (is_some_len (length n.exponent)))
+    (minus-some n.sign n.has_minus n.is_minus)
+    ∙ ap (λ f. hint_of n.has_minus f (is_some_len (length n.exponent)))
+    (fraction-some n.fraction n.has_fraction n.is_fraction)
     ∙ ap (hint_of n.has_minus n.has_fraction) (exponent-some n.exponent n.has_exponent n.is_exponent)
     ∙ sym n.kind
 
--- A numeral begins with a minus or a digit.
+-- What begins with digits begins a number.
 begins-digits : (digits rest : List ℕ) → AreDigits digits → digits ≢ [] → begins_number (digits ++ rest) ≡ true
 begins-digits _ rest AreDigits.none some = absurd (some refl)
 begins-digits _ rest (AreDigits.digit b bytes e h) some = or_right (b == minus) (is_digit b) e
 
+-- What begins with a minus or nothing, and digits, begins a number.
 begins-sign : (sign digits rest : List ℕ) (has : Bool) → IsMinus sign has → AreDigits digits → sign ++ digits ≢ [] →
     begins_number (sign ++ (digits ++ rest)) ≡ true
 begins-sign _ digits rest _ IsMinus.absent d some = begins-digits digits rest d some
 begins-sign _ digits rest _ IsMinus.present d some = refl
 
+-- A numeral begins with a minus or a digit.
 pub begins_number-is : (bytes : List ℕ) (hint : Hint) → IsNumeral bytes hint → begins_number bytes ≡ true
 begins_number-is bytes hint n =
     let tail = n.fraction ++ n.exponent in
@@ -212,36 +235,46 @@ is_number-complete bytes hint n =
 
 -- ---- what is measured is a number
 
+-- A minus that is measured is one.
 minus-taken : (bytes : List ℕ) → IsMinus (take (minus_len bytes) bytes) (is_some_len (minus_len bytes))
 minus-taken [] = IsMinus.absent
 minus-taken (b ∷ bytes) =
     cond_both (b == minus) 1 0 (λ n. IsMinus (take n (b ∷ bytes)) (is_some_len n))
     (λ e. subst (λ x. IsMinus (x ∷ []) true) (sym (eqb-true b minus e)) IsMinus.present) (λ e. IsMinus.absent)
 
+-- Digits that are measured are digits.
 digits-taken : (bytes : List ℕ) → AreDigits (take (digits_len bytes) bytes)
 digits-taken [] = AreDigits.none
 digits-taken (b ∷ bytes) =
-    cond_both (is_digit b) (suc (digits_len bytes)) 0 (λ n. AreDigits (take n (b ∷ bytes))) (λ e. AreDigits.digit b _ e (digits-taken bytes)) (λ e. AreDigits.none)
+    cond_both (is_digit b) (suc (digits_len bytes)) 0 (λ n. AreDigits (take n (b ∷ bytes)))
+    (λ e. AreDigits.digit b _ e (digits-taken bytes)) (λ e. AreDigits.none)
 
+-- A fraction that is measured is one.
 fraction-taken : (bytes : List ℕ) → IsFraction (take (fraction_len bytes) bytes) (is_some_len (fraction_len bytes))
 fraction-taken [] = IsFraction.absent
 fraction-taken (b ∷ bytes) =
     cond_both (b == dot) (suc (digits_len bytes)) 0 (λ n. IsFraction (take n (b ∷ bytes)) (is_some_len n))
-    (λ e. subst (λ x. IsFraction (x ∷ take (digits_len bytes) bytes) true) (sym (eqb-true b dot e)) (IsFraction.present _ (digits-taken bytes)))
+    (λ e. subst (λ x. IsFraction (x ∷ take (digits_len bytes) bytes) true) (sym (eqb-true b dot e))
+    (IsFraction.present _ (digits-taken bytes)))
     (λ e. IsFraction.absent)
 
+-- An exponent's sign that is measured is one.
 sign-taken : (bytes : List ℕ) → IsExponentSign (take (sign_len bytes) bytes)
 sign-taken [] = IsExponentSign.absent
 sign-taken (b ∷ bytes) =
-    cond_both (is_sign b) 1 0 (λ n. IsExponentSign (take n (b ∷ bytes))) (IsExponentSign.present b) (λ e. IsExponentSign.absent)
+    cond_both (is_sign b) 1 0 (λ n. IsExponentSign (take n (b ∷ bytes))) (IsExponentSign.present b)
+    (λ e. IsExponentSign.absent)
 
+-- An exponent that is measured is one.
 exponent-taken : (bytes : List ℕ) → IsExponent (take (exponent_len bytes) bytes) (is_some_len (exponent_len bytes))
 exponent-taken [] = IsExponent.absent
 exponent-taken (b ∷ bytes) =
     let s = sign_len bytes in
     let d = digits_len (drop s bytes) in
     cond_both (is_exponent_mark b) (suc (power_len bytes)) 0 (λ n. IsExponent (take n (b ∷ bytes)) (is_some_len n))
-    (λ e. subst (λ l. IsExponent (b ∷ l) true) (sym (take-add s d bytes)) (IsExponent.present b (take s bytes) (take d (drop s bytes)) e (sign-taken bytes) (digits-taken (drop s bytes))))
+    (λ e. subst (λ l. IsExponent (b ∷ l) true) (sym (take-add s d bytes))
+    (IsExponent.present b (take s bytes) (take d (drop s bytes)) e (sign-taken bytes)
+    (digits-taken (drop s bytes))))
     (λ e. IsExponent.absent)
 
 -- A minus or a digit is measured.
@@ -250,6 +283,7 @@ start-some : (b : ℕ) (bytes : List ℕ) (is_minus : Bool) → (b == minus) ≡
 start-some b bytes true e h = omega arith
 start-some b bytes false e h = rw h (omega arith)
 
+-- What begins a number has a sign or digits.
 parts-some : (bytes : List ℕ) → begins_number bytes ≡ true →
     0 < minus_len bytes + digits_len (drop (minus_len bytes) bytes)
 parts-some [] h = cc
@@ -290,6 +324,7 @@ numeral-measured bytes begins long =
       kind = refl;
     }
 
+-- Hints that are tested the same are.
 same_hint-is : (a b : Hint) → same_hint a b ≡ true → a ≡ b
 same_hint-is unsigned unsigned e = refl
 same_hint-is unsigned signed e = cc
@@ -301,6 +336,7 @@ same_hint-is float unsigned e = cc
 same_hint-is float signed e = cc
 same_hint-is float float e = refl
 
+-- A minus alone is bare.
 bare_minus-is : is_bare (parts (minus ∷ [])) ≡ true
 unfolding parts
 bare_minus-is = refl
@@ -310,7 +346,8 @@ pub is_number-sound : (bytes : List ℕ) (hint : Hint) → is_number bytes hint 
 is_number-sound bytes hint e =
     let p = parts bytes in
     let a =
-    and_parts (begins_number bytes && not (is_bare p) && (parts_len p == length bytes)) (same_hint (parts_hint p) hint) e in
+    and_parts (begins_number bytes && not (is_bare p) && (parts_len p == length bytes))
+    (same_hint (parts_hint p) hint) e in
     let b = and_parts (begins_number bytes && not (is_bare p)) (parts_len p == length bytes) a.0 in
     let c = and_parts (begins_number bytes) (not (is_bare p)) b.0 in
     let more : is_bare p ≡ false = not-true (is_bare p) c.1 in
@@ -328,7 +365,8 @@ parts_len-longest bytes k hint h n =
     let m = parts_len (parts bytes) in
     let long : parts_len (parts (take k bytes)) ≡ k =
     parts_len-is (take k bytes) hint n.numeral ∙ length-take-le k bytes h in
-    elim (cases_lt m k) [ inl short ↦ omega (arith, long, ap parts_len (parts-take k bytes (omega arith))) | inr enough ↦ enough ]
+    elim (cases_lt m k)
+    [ inl short ↦ omega (arith, long, ap parts_len (parts-take k bytes (omega arith))) | inr enough ↦ enough ]
 
 -- Where more than a minus stands, the number at the front is a number, and no longer front of the bytes is one.
 pub number_is_longest : NumberIsLongest

@@ -22,11 +22,13 @@ record ShapeAt (at : ℕ) (bytes : List ℕ) (t : Token) : Type 0 where
   within : t.span.len ≤ length bytes
   shape : IsShape at (take t.span.len bytes) (drop t.span.len bytes) t.kind
 
+-- A token that is cut has its shape.
 abbrev CutShape : ℕ → List ℕ → Cut → Type 0
 CutShape at bytes nothing_left = Unit {0}
 CutShape at bytes (fault f) = Unit {0}
 CutShape at bytes (token t) = ShapeAt at bytes t
 
+-- A letter more that the word and the bytes share.
 common_step : (t : Bool) (b w n m : ℕ) (bytes word : List ℕ) → (b == w) ≡ t → cond t (suc n) 0 ≡ suc m →
     (n ≡ m → bytes ≡ word) → b ∷ bytes ≡ w ∷ word
 common_step true b w n m bytes word e h f = ap (λ x. x ∷ bytes) (eqb-true b w e) ∙ ap (λ l. w ∷ l) (f (omega arith))
@@ -38,26 +40,36 @@ common_len-all [] bytes e = refl
 common_len-all (w ∷ word) [] e = absurd (omega arith)
 common_len-all (w ∷ word) (b ∷ bytes) e = common_step (b == w) b w _ _ _ word refl e (common_len-all word bytes)
 
+-- Where a word breaks off there is no token.
 broken_shape : (at n : ℕ) (bytes : List ℕ) (found : Option ℕ) →
-    CutShape at bytes (elim found [ None ↦ fault_at (unexpected_eof in_literal) at n | Some b ↦ fault_at (unexpected_char b) (at + n) 1 ])
+    CutShape at bytes (elim found
+    [ None ↦ fault_at (unexpected_eof in_literal) at n | Some b ↦ fault_at (unexpected_char b) (at + n) 1 ])
 broken_shape at n bytes None = tt
 broken_shape at n bytes (Some b) = tt
 
+-- A word that stands in front has the shape of its kind.
 literal_shape : (at n : ℕ) (bytes word : List ℕ) (kind : Kind) → IsLiteral word kind → n ≤ length bytes →
     n ≡ length word → take n bytes ≡ word →
     ShapeAt at bytes (record { kind = kind; span = record { offset = at; len = n } })
 literal_shape at n bytes word kind h bound e front =
-    record { within = bound; shape = subst (λ w. IsShape at w (drop n bytes) kind) (sym front) (IsShape.literal word kind (drop n bytes) h) }
+    record {
+      within = bound;
+      shape = subst (λ w. IsShape at w (drop n bytes) kind) (sym front)
+          (IsShape.literal word kind (drop n bytes) h);
+    }
 
+-- A word that is cut has its shape.
 word_shape : (at : ℕ) (bytes word : List ℕ) (kind : Kind) → IsLiteral word kind →
     CutShape at bytes (cut_word at bytes word kind (common_len word bytes))
 word_shape at bytes word kind h =
     let n = common_len word bytes in
     cond_both (n == length word) _ _ (CutShape at bytes)
     (λ e. let all : n ≡ length word = eqb-true n (length word) e in
-    literal_shape at n bytes word kind h (common_len-bound word bytes) all (ap (λ k. take k bytes) all ∙ common_len-all word bytes all))
+    literal_shape at n bytes word kind h (common_len-bound word bytes) all
+    (ap (λ k. take k bytes) all ∙ common_len-all word bytes all))
     (λ e. broken_shape at n bytes (slice_get bytes n))
 
+-- A string that is cut has its shape.
 text_shape : (at : ℕ) (bytes : List ℕ) (o : Option ℕ) → Below o (length bytes) → ContentAt false bytes o →
     CutShape at (quote ∷ bytes) (cut_text at bytes o)
 text_shape at bytes None below h = tt
@@ -71,7 +83,11 @@ text_shape at bytes (Some n) below h =
     IsShape.text content rest mark h.0 in
     let here : IsShape at (quote ∷ take (suc n) bytes) rest (kind (length content)) =
     subst (λ l. IsShape at (quote ∷ l) rest (kind (length content))) (sym h.1) stands in
-    record { within = omega arith; shape = subst (λ k. IsShape at (quote ∷ take (suc n) bytes) rest (kind k)) long here }
+    record {
+      within = omega arith;
+      shape = subst (λ k. IsShape at (quote ∷ take (suc n) bytes) rest (kind k))
+          long here;
+    }
 
 -- What is measured as a number can't be made longer.
 longest_measured : (bytes : List ℕ) → begins_number bytes ≡ true → is_bare (parts bytes) ≡ false →
@@ -89,6 +105,7 @@ longest_measured bytes begins more m hint is_more =
     let none : j ≡ 0 = omega arith in
     sym same ∙ ap (λ k. take k rest) none
 
+-- A number that is cut has its shape.
 number_shape : (at b : ℕ) (bytes : List ℕ) (bare : Bool) → starts_number b ≡ true → is_bare (parts (b ∷ bytes)) ≡ bare →
     CutShape at (b ∷ bytes) (cut_number at bytes (parts_len (parts (b ∷ bytes))) (parts_hint (parts (b ∷ bytes))) bare)
 number_shape at b [] true starts e = tt
@@ -100,13 +117,19 @@ number_shape at b bytes false starts e =
     let law = number_is_longest all starts e in
     let stands : IsShape at (take n all) (drop n all) (number at (at + length (take n all)) hint) =
     IsShape.numeral (take n all) (drop n all) hint law.1 (longest_measured all starts e) in
-    record { within = law.0; shape = subst (λ k. IsShape at (take n all) (drop n all) (number at (at + k) hint)) (length-take-le n all law.0) stands }
+    record {
+      within = law.0;
+      shape = subst (λ k. IsShape at (take n all) (drop n all) (number at (at + k) hint))
+          (length-take-le n all law.0) stands;
+    }
 
+-- No token begins with a slash.
 slash_shape : (mode : Mode) (at : ℕ) (all bytes : List ℕ) → CutShape at all (cut_slash mode at bytes)
 slash_shape plain at all bytes = tt
 slash_shape jsonc at all [] = tt
 slash_shape jsonc at all (b ∷ bytes) = cond_both (b == star) _ _ (CutShape at all) (λ e. tt) (λ e. tt)
 
+-- What is cut by its first byte has its shape.
 by_shape : (mode : Mode) (at b : ℕ) (bytes : List ℕ) (start : Start) → Begins b start →
     CutShape at (b ∷ bytes) (cut_by start mode at b bytes)
 by_shape mode at b bytes _ (a_mark _ kind h) =
@@ -131,10 +154,12 @@ IsShape-cut mode at bytes rest kind e =
     let n = length bytes in
     let here : ShapeAt at (bytes ++ rest) (record { kind = kind; span = record { offset = at; len = n } }) =
     subst (CutShape at (bytes ++ rest)) e (here_shape mode at (bytes ++ rest)) in
-    subst (λ l. IsShape at l rest kind) (take_at bytes rest n refl) (subst (λ l. IsShape at (take n (bytes ++ rest)) l kind) (drop_at bytes rest n refl) here.shape)
+    subst (λ l. IsShape at l rest kind) (take_at bytes rest n refl)
+    (subst (λ l. IsShape at (take n (bytes ++ rest)) l kind) (drop_at bytes rest n refl) here.shape)
 
 -- ---- what has the shape is cut
 
+-- A bracket, a colon or a comma is cut.
 structural_is_cut : (mode : Mode) (at b : ℕ) (rest : List ℕ) (kind : Kind) → IsStructural b kind →
     cut_here mode at (b ∷ rest) ≡ token_at kind at 1
 unfolding cut_here start_of
@@ -145,6 +170,7 @@ structural_is_cut mode at _ rest _ array_ends = refl
 structural_is_cut mode at _ rest _ colon_stands = refl
 structural_is_cut mode at _ rest _ comma_stands = refl
 
+-- A literal is cut.
 literal_is_cut : (mode : Mode) (at : ℕ) (word rest : List ℕ) (kind : Kind) → IsLiteral word kind →
     cut_here mode at (word ++ rest) ≡ token_at kind at (length word)
 unfolding cut_here start_of
@@ -152,13 +178,16 @@ literal_is_cut mode at _ rest _ null_stands = refl
 literal_is_cut mode at _ rest _ true_stands = refl
 literal_is_cut mode at _ rest _ false_stands = refl
 
+-- Behind a quote a string is cut.
 cut_here-text : (mode : Mode) (at : ℕ) (bytes : List ℕ) →
     cut_here mode at (quote ∷ bytes) ≡ cut_text at bytes (content_len false bytes)
 unfolding cut_here start_of
 cut_here-text mode at bytes = refl
 
+-- A string is cut.
 text_is_cut : (mode : Mode) (at : ℕ) (content rest : List ℕ) (has_escapes : Bool) → ArePieces content has_escapes →
-    cut_here mode at (quote ∷ content ++ quote ∷ [] ++ rest) ≡ token_at (string (suc at) (suc at + length content) has_escapes) at (length (quote ∷ content ++ quote ∷ []))
+    cut_here mode at (quote ∷ content ++ quote ∷ [] ++ rest)
+    ≡ token_at (string (suc at) (suc at + length content) has_escapes) at (length (quote ∷ content ++ quote ∷ []))
 text_is_cut mode at content rest has_escapes h =
     let n = length content in
     let bytes = content ++ quote ∷ rest in
@@ -190,7 +219,8 @@ start_of-number _ _ (no_token _ h) e = absurd (true≢false (sym e ∙ h))
 -- A number that is more than a minus is cut as long as it is measured.
 pub cut_here-number : (mode : Mode) (at : ℕ) (bytes : List ℕ) → begins_number bytes ≡ true →
     is_bare (parts bytes) ≡ false →
-    cut_here mode at bytes ≡ token_at (number at (at + parts_len (parts bytes)) (parts_hint (parts bytes))) at (parts_len (parts bytes))
+    cut_here mode at bytes
+    ≡ token_at (number at (at + parts_len (parts bytes)) (parts_hint (parts bytes))) at (parts_len (parts bytes))
 unfolding cut_here
 cut_here-number mode at [] begins more = cc
 cut_here-number mode at (b ∷ bytes) begins more =
@@ -203,6 +233,7 @@ begins_number-append : (text rest : List ℕ) → begins_number text ≡ true �
 begins_number-append [] rest e = cc
 begins_number-append (b ∷ text) rest e = e
 
+-- A number's sign is one byte at most.
 sign-bound : (bytes : List ℕ) → (parts bytes).sign ≤ 1
 unfolding parts
 sign-bound [] = omega arith
@@ -219,7 +250,8 @@ bare_behind text rest hint is =
     let front : parts (take k all) ≡ parts text = ap parts (take_at text rest k refl) in
     false_from_ne_true (is_bare p) (λ e.
     let short : parts_len p ≤ k = omega (arith, eqb-true (parts_len p) p.sign e, sign-bound all) in
-    both_ways (is_bare (parts text)) (is_bare-number text hint is) (ap is_bare (sym front ∙ parts-take k all short) ∙ e))
+    both_ways (is_bare (parts text)) (is_bare-number text hint is)
+    (ap is_bare (sym front ∙ parts-take k all short) ∙ e))
 
 -- A number that can't be made longer has the parts that are measured.
 pub number_parts : (text rest : List ℕ) (hint : Hint) → IsNumber text hint → IsLongest text rest →
@@ -231,7 +263,8 @@ number_parts text rest hint is longest =
     let j = n - k in
     let front : take k all ≡ text = take_at text rest k refl in
     let law =
-    number_is_longest all (begins_number-append text rest (begins_number-is text hint is.numeral)) (bare_behind text rest hint is) in
+    number_is_longest all (begins_number-append text rest (begins_number-is text hint is.numeral))
+    (bare_behind text rest hint is) in
     let size : length all ≡ k + length rest = length-append text rest in
     let least : k ≤ n = law.2 k hint (omega arith) (subst (λ l. IsNumber l hint) (sym front) is) in
     let sum : n ≡ k + j = omega arith in
@@ -243,11 +276,14 @@ number_parts text rest hint is longest =
     let short : n ≤ k = omega (arith, law.0, length-take-le j rest (omega (arith, law.0)), ap length none) in
     sym (parts-take k all short) ∙ ap parts front
 
+-- A number that can't be made longer is cut.
 numeral_is_cut : (mode : Mode) (at : ℕ) (text rest : List ℕ) (hint : Hint) → IsNumber text hint → IsLongest text rest →
     cut_here mode at (text ++ rest) ≡ token_at (number at (at + length text) hint) at (length text)
 numeral_is_cut mode at text rest hint is longest =
-    cut_here-number mode at (text ++ rest) (begins_number-append text rest (begins_number-is text hint is.numeral)) (bare_behind text rest hint is)
-    ∙ ap (λ p. token_at (number at (at + parts_len p) (parts_hint p)) at (parts_len p)) (number_parts text rest hint is longest)
+    cut_here-number mode at (text ++ rest) (begins_number-append text rest (begins_number-is text hint is.numeral))
+    (bare_behind text rest hint is)
+    ∙ ap (λ p. token_at (number at (at + parts_len p) (parts_hint p)) at (parts_len p))
+    (number_parts text rest hint is longest)
     ∙ ap (λ n. token_at (number at (at + n) (parts_hint (parts text))) at n) (parts_len-is text hint is.numeral)
     ∙ ap (λ h. token_at (number at (at + length text) h) at (length text)) (parts_hint-is text hint is.numeral)
 
@@ -266,6 +302,7 @@ cut_here-shape mode at _ _ _ (IsShape.numeral text rest hint is longest) =
 pub shape_is_cut : ShapeIsCut
 shape_is_cut mode at bytes rest kind = (cut_here-shape mode at bytes rest kind, IsShape-cut mode at bytes rest kind)
 
+-- Equal tokens have one length and one kind.
 same_token : (kind other : Kind) (at n m : ℕ) → token_at kind at n ≡ token_at other at m → (n ≡ m) × (kind ≡ other)
 same_token kind other at n m e =
     let t : Token = record { kind = kind; span = record { offset = at; len = n } } in
@@ -277,5 +314,8 @@ same_token kind other at n m e =
 pub shape_is_unique : ShapeIsUnique
 shape_is_unique at a b r s kind other ha hb e =
     let same = same_token kind other at (length a) (length b)
-    (sym (cut_here-shape plain at a r kind ha) ∙ ap (cut_here plain at) e ∙ cut_here-shape plain at b s other hb) in
-    (sym (take_at a r (length a) refl) ∙ ap (take (length a)) e ∙ ap (λ n. take n (b ++ s)) same.0 ∙ take_at b s (length b) refl, same.1)
+    (sym (cut_here-shape plain at a r kind ha) ∙ ap (cut_here plain at) e ∙ cut_here-shape plain at b s other hb) in (
+      sym (take_at a r (length a) refl) ∙ ap (take (length a)) e ∙ ap (λ n. take n (b ++ s)) same.0
+          ∙ take_at b s (length b) refl,
+      same.1,
+    )

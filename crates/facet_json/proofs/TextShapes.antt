@@ -66,12 +66,14 @@ content_backslash (b ∷ bytes) (Some zero) h = absurd h
 content_backslash (b ∷ bytes) (Some (suc n)) h =
     (ArePieces.escape b (take n bytes) _ h.0, ap (λ l. backslash ∷ b ∷ l) h.1)
 
+-- A byte in front that is no quote.
 content_more : (t : Bool) (b : ℕ) (bytes : List ℕ) (o : Option ℕ) → (b == quote) ≡ false → (b == backslash) ≡ t →
     ContentAt t bytes o → ContentAt false (b ∷ bytes) (one_more o)
 content_more true b bytes o no_quote e h =
     subst (λ x. ContentAt false (x ∷ bytes) (one_more o)) (sym (eqb-true b backslash e)) (content_backslash bytes o h)
 content_more false b bytes o no_quote e h = content_byte b bytes o no_quote e h
 
+-- A quote ends the content.
 content_here : (b : ℕ) (bytes : List ℕ) → (b == quote) ≡ true → ContentAt false (b ∷ bytes) (Some 0)
 content_here b bytes e = (ArePieces.none, ap (λ x. x ∷ []) (eqb-true b quote e))
 
@@ -82,4 +84,5 @@ content_at false [] = tt
 content_at true (b ∷ bytes) = content_escaped b bytes (content_len false bytes) (content_at false bytes)
 content_at false (b ∷ bytes) =
     cond_both (b == quote) _ _ (ContentAt false (b ∷ bytes)) (content_here b bytes)
-    (λ e. content_more (b == backslash) b bytes (content_len (b == backslash) bytes) e refl (content_at (b == backslash) bytes))
+    (λ e. content_more (b == backslash) b bytes (content_len (b == backslash) bytes) e refl
+    (content_at (b == backslash) bytes))

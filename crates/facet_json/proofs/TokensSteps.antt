@@ -31,6 +31,7 @@ follow buffer mode at left nothing_left = ended
 follow buffer mode at left (fault f) = refused f
 follow buffer mode at left (token t) = next t (tokens_past buffer mode (stop t.span - suc at) (suc at) left)
 
+-- Where bytes are left, what is cut says how the tokens go on.
 tokens_past-here : (buffer : List ℕ) (mode : Mode) (at b : ℕ) (left : List ℕ) →
     tokens_past buffer mode 0 at (b ∷ left) ≡ follow buffer mode at left (cut buffer at mode)
 unfolding tokens_past
@@ -40,6 +41,7 @@ tokens_past-here buffer mode at b left = refl
 nothing_behind : (buffer : List ℕ) (position : ℕ) → drop position buffer ≡ [] → length buffer ≤ position
 nothing_behind buffer position e = omega (arith, length-drop position buffer, ap length e)
 
+-- The step at a token, where these bytes are left.
 next_at : (buffer : List ℕ) (mode : Mode) (position : ℕ) (t : Token) (left : List ℕ) → TokenFits buffer position t →
     cut buffer position mode ≡ token t → drop position buffer ≡ left →
     tokens_past buffer mode 0 position left ≡ next t (tokens_from buffer mode (stop t.span))
@@ -52,7 +54,8 @@ next_at buffer mode position t (b ∷ left) fits e here =
     let rest : drop k left ≡ drop (stop t.span) buffer =
     ap (drop k) (sym behind) ∙ drop-drop k (suc position) buffer ∙ ap (λ n. drop n buffer) to in
     tokens_past-here buffer mode position b left ∙ ap (follow buffer mode position left) e
-    ∙ ap (next t) (tokens_past-skip buffer mode k (suc position) (stop t.span) left room to ∙ ap (tokens_past buffer mode 0 (stop t.span)) rest)
+    ∙ ap (next t) (tokens_past-skip buffer mode k (suc position) (stop t.span) left room to
+    ∙ ap (tokens_past buffer mode 0 (stop t.span)) rest)
 
 -- Where a token is cut, it is the first, and the others are those from its end on.
 pub tokens_from-token : (buffer : List ℕ) (position : ℕ) (mode : Mode) (t : Token) → position ≤ length buffer →
@@ -61,6 +64,7 @@ pub tokens_from-token : (buffer : List ℕ) (position : ℕ) (mode : Mode) (t : 
 tokens_from-token buffer position mode t h e =
     next_at buffer mode position t (drop position buffer) (cut-token_fits buffer position mode t h e) e refl
 
+-- The step at a fault, where these bytes are left.
 refused_at : (buffer : List ℕ) (mode : Mode) (position : ℕ) (f : Fault) (left : List ℕ) →
     cut buffer position mode ≡ fault f → drop position buffer ≡ left →
     tokens_past buffer mode 0 position left ≡ refused f
@@ -75,6 +79,7 @@ pub tokens_from-fault : (buffer : List ℕ) (position : ℕ) (mode : Mode) (f : 
     cut buffer position mode ≡ fault f → tokens_from buffer mode position ≡ refused f
 tokens_from-fault buffer position mode f e = refused_at buffer mode position f (drop position buffer) e refl
 
+-- The step where nothing is left.
 ended_at : (buffer : List ℕ) (mode : Mode) (position : ℕ) (left : List ℕ) → cut buffer position mode ≡ nothing_left →
     tokens_past buffer mode 0 position left ≡ ended
 unfolding tokens_past
