@@ -33,3 +33,5 @@ pub mod NumberSteps
 pub mod TextSteps
 pub mod SpelledLaws
 pub mod DocumentRows
+pub mod TextShapes
+pub mod ShapeLaws

@@ -14,3 +14,4 @@ pub use documents::{
     document_is_found, one_document, one_spelling, plain_is_jsonc, refused_has_none,
     spelled_is_spells,
 };
+pub use cuts::{gap_is_longest, number_is_longest, shape_is_cut, shape_is_unique};
