@@ -12,6 +12,8 @@ pub mod Meaning
 pub mod Document
 pub mod Place
 pub mod Refusal
+pub mod Same
+pub mod SameLaws
 pub mod Quoted
 pub mod Text
 pub mod Views

@@ -1,4 +1,10 @@
 //! A JSON value in memory.
+ghost use Rattle.std.specs.Prelude.{◌≡◌, ◌↔◌, IsTrue};
+ghost use Rattle.std.specs.Cmp.{on_per, on_equiv, partial_equiv_from_equiv};
+ghost use Rattle.std.specs.Ordering.{on};
+ghost use Rattle.facet_json.specs.Same.{same_tree};
+ghost use Rattle.facet_json.specs.Views.{tree_view, trees_view, pairs_view};
+ghost use Rattle.facet_json.specs.SameLaws.{same_tree-equivalence};
 
 /// A JSON value. Lists and pairs keep their order, and a key that comes twice stands twice.
 #[derive(Debug, Drop)]
@@ -15,4 +21,69 @@ pub enum Tree {
     List(Vec<Tree>),
     /// An object, its members in order.
     Pairs(Vec<(String, Tree)>),
+}
+
+/// Equal exactly where the values are, lists and pairs in their order.
+impl PartialEq for Tree {
+    ghost eq = { on tree_view same_tree };
+
+    ghost laws = { on_per tree_view (partial_equiv_from_equiv same_tree-equivalence) };
+
+    fn eq(&self, other: &Tree) -> bool {
+        self.is_same(other)
+    }
+}
+
+impl Eq for Tree {
+    ghost laws = { on_equiv tree_view same_tree-equivalence };
+}
+
+impl Tree {
+    /// Whether both stand for one value, lists and pairs in their order. This is what `==` answers.
+    #[cycle(same)]
+    pub fn is_same(&self, other: &Tree) -> bool
+        ensures { IsTrue result ↔ (tree_view self.now ≡ tree_view other.now) }
+    {
+        match self {
+            Tree::Null => matches!(other, Tree::Null),
+            Tree::Bool(a) => matches!(other, Tree::Bool(b) if a == b),
+            Tree::U64(a) => matches!(other, Tree::U64(b) if a == b),
+            Tree::Text(a) => matches!(other, Tree::Text(b) if a == b),
+            Tree::List(a) => matches!(other, Tree::List(b) if are_same(a, b)),
+            Tree::Pairs(a) => matches!(other, Tree::Pairs(b) if have_same(a, b)),
+        }
+    }
+}
+
+// Whether both have the same items in the same order.
+#[cycle(same)]
+fn are_same(a: &Vec<Tree>, b: &Vec<Tree>) -> bool
+    ensures { IsTrue result ↔ (trees_view a.now.items ≡ trees_view b.now.items) }
+{
+    if a.len() != b.len() {
+        return false;
+    }
+    for (i, item) in a.iter().enumerate() {
+        if !item.is_same(&b[i]) {
+            return false;
+        }
+    }
+    true
+}
+
+// Whether both have the same keys and values in the same order.
+#[cycle(same)]
+fn have_same(a: &Vec<(String, Tree)>, b: &Vec<(String, Tree)>) -> bool
+    ensures { IsTrue result ↔ (pairs_view a.now.items ≡ pairs_view b.now.items) }
+{
+    if a.len() != b.len() {
+        return false;
+    }
+    for (i, member) in a.iter().enumerate() {
+        let other = &b[i];
+        if member.0 != other.0 || !member.1.is_same(&other.1) {
+            return false;
+        }
+    }
+    true
 }

@@ -1,5 +1,5 @@
 use Rattle.std.proofs.Common.{◌≡◌, ℕ, ◌+◌, true, false, List, String, Global, [], ◌∷◌, ◌++◌, drop, string_bytes, sym, ap, ◌∙◌, subst, arith, rules}
-use Rattle.std.proofs.lemmas.List.{append_assoc, drop_more, drop_all}
+use Rattle.std.proofs.lemmas.List.{append_assoc, drop_all}
 use Rattle.std.specs.Result.{OnOk}
 use Rattle.facet_json.specs.Bytes.{colon, left_bracket, right_bracket, left_brace, right_brace}
 use Rattle.facet_json.specs.Quoted.{quoted}
@@ -7,7 +7,7 @@ use Rattle.facet_json.specs.Text.{bool_text, separator, default_options, text, i
 use Rattle.facet_json.specs.Views.{tree_view, trees_view, pairs_view}
 use Rattle.facet_json.specs.declared.tree.Tree.{Tree}
 use Rattle.facet_json.proofs.CompactText.{items_text-step, items_text-end, members_text-step, members_text-end}
-use Rattle.facet_json.proofs.TreeViews.{tree_view-Null, tree_view-Bool, tree_view-U64, tree_view-Text, tree_view-List, tree_view-Pairs}
+use Rattle.facet_json.proofs.TreeViews.{tree_view-Null, tree_view-Bool, tree_view-U64, tree_view-Text, tree_view-List, tree_view-Pairs, trees_view-drop, pairs_view-drop}
 use Rattle.facet_json.proofs.writer.+write.Goals as goal
 
 pub push_tree-returns-in-Null : goal.push_tree-returns-in-Null
@@ -59,11 +59,11 @@ push_list-loop-item-preserved t c =
     let l = c.loop-item in
     let xs = c.deref-item-items.result.now in
     let x = c.item-item.result in
-    let here : drop l.item-index xs ≡ x ∷ drop (l.item-index + 1) xs = drop_more xs l.item-index x (omega arith) ∙ ap (λ y. y ∷ drop (l.item-index + 1) xs) (sym c.item-item.is) in
+    let here = trees_view-drop xs l.item-index x (omega arith) c.item-item.is in
     let others = items_text default_options 0 false (trees_view (drop (l.item-index + 1) xs)) in
     ap (λ s. s ++ others) (c.in_ok-push_tree.ensures ∙ ap (λ s. s ++ text default_options 0 (tree_view x)) c.in_ok-push_separator.ensures)
     ∙ items_text-step l.out.items l.first (tree_view x) (trees_view (drop (l.item-index + 1) xs))
-    ∙ ap (λ ys. l.out.items ++ items_text default_options 0 l.first (trees_view ys)) (sym here)
+    ∙ ap (λ ts. l.out.items ++ items_text default_options 0 l.first ts) (sym here)
     ∙ l.invariant
 
 pub push_list-returns : goal.push_list-returns
@@ -82,11 +82,11 @@ push_pairs-loop-member-preserved t c =
     let l = c.loop-member in
     let xs = c.deref-member-items.result.now in
     let x = c.member-item.result in
-    let here : drop l.member-index xs ≡ x ∷ drop (l.member-index + 1) xs = drop_more xs l.member-index x (omega arith) ∙ ap (λ y. y ∷ drop (l.member-index + 1) xs) (sym c.member-item.is) in
+    let here = pairs_view-drop xs l.member-index x (omega arith) c.member-item.is in
     let after : c.push_tree.new.out.items ≡ l.out.items ++ separator l.first ++ quoted (string_bytes x.0) ++ (colon ∷ []) ++ text default_options 0 (tree_view x.1) = search rules in
     ap (λ s. s ++ members_text default_options 0 false (pairs_view (drop (l.member-index + 1) xs))) after
     ∙ members_text-step l.out.items l.first (string_bytes x.0) (tree_view x.1) (pairs_view (drop (l.member-index + 1) xs))
-    ∙ ap (λ ys. l.out.items ++ members_text default_options 0 l.first (pairs_view ys)) (sym here)
+    ∙ ap (λ ps. l.out.items ++ members_text default_options 0 l.first ps) (sym here)
     ∙ l.invariant
 
 pub push_pairs-returns : goal.push_pairs-returns
