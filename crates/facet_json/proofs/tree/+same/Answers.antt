@@ -1,8 +1,7 @@
-use Rattle.std.proofs.Common.{◌≡◌, ◌+◌, [], drop, not, string_bytes, refl, sym, ap, ◌∙◌, arith}
+use Rattle.std.proofs.Common.{◌≡◌, [], drop, not, string_bytes, refl, sym, ap, ◌∙◌, arith}
 use Rattle.std.proofs.lemmas.Bool.{not-false}
 use Rattle.std.proofs.lemmas.List.{drop_all}
 use Rattle.std.specs.Cmp.Lexicographic.{bytes_decides}
-use Rattle.facet_json.specs.Tree.{tree, pair}
 use Rattle.facet_json.specs.Views.{tree_view, trees_view, pairs_view}
 use Rattle.facet_json.proofs.TreeViews.{trees_view-length, pairs_view-length, trees_view-drop, pairs_view-drop}
 use Rattle.facet_json.proofs.tree.+same.Goals as goal
