@@ -44,21 +44,22 @@ impl Tree {
     pub fn is_same(&self, other: &Tree) -> bool
         ensures { IsTrue result ↔ (tree_view self.now ≡ tree_view other.now) }
     {
-        match self {
-            Tree::Null => matches!(other, Tree::Null),
-            Tree::Bool(a) => matches!(other, Tree::Bool(b) if a == b),
-            Tree::U64(a) => matches!(other, Tree::U64(b) if a == b),
-            Tree::Text(a) => matches!(other, Tree::Text(b) if a == b),
-            Tree::List(a) => matches!(other, Tree::List(b) if are_same(a, b)),
-            Tree::Pairs(a) => matches!(other, Tree::Pairs(b) if have_same(a, b)),
+        match (self, other) {
+            (Tree::Null, Tree::Null) => true,
+            (Tree::Bool(a), Tree::Bool(b)) => a == b,
+            (Tree::U64(a), Tree::U64(b)) => a == b,
+            (Tree::Text(a), Tree::Text(b)) => a == b,
+            (Tree::List(a), Tree::List(b)) => are_same(a, b),
+            (Tree::Pairs(a), Tree::Pairs(b)) => have_same(a, b),
+            _ => false,
         }
     }
 }
 
 // Whether both have the same items in the same order.
 #[cycle(same)]
-fn are_same(a: &Vec<Tree>, b: &Vec<Tree>) -> bool
-    ensures { IsTrue result ↔ (trees_view a.now.items ≡ trees_view b.now.items) }
+fn are_same(a: &[Tree], b: &[Tree]) -> bool
+    ensures { IsTrue result ↔ (trees_view a.now ≡ trees_view b.now) }
 {
     if a.len() != b.len() {
         return false;
@@ -73,8 +74,8 @@ fn are_same(a: &Vec<Tree>, b: &Vec<Tree>) -> bool
 
 // Whether both have the same keys and values in the same order.
 #[cycle(same)]
-fn have_same(a: &Vec<(String, Tree)>, b: &Vec<(String, Tree)>) -> bool
-    ensures { IsTrue result ↔ (pairs_view a.now.items ≡ pairs_view b.now.items) }
+fn have_same(a: &[(String, Tree)], b: &[(String, Tree)]) -> bool
+    ensures { IsTrue result ↔ (pairs_view a.now ≡ pairs_view b.now) }
 {
     if a.len() != b.len() {
         return false;

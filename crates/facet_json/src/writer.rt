@@ -37,8 +37,8 @@ fn push_tree(out: &mut Vec<u8>, tree: &Tree) -> Result<(), JsonSerializeError>
 }
 
 #[cycle(write)]
-fn push_list(out: &mut Vec<u8>, items: &Vec<Tree>) -> Result<(), JsonSerializeError>
-    ensures { OnOk result (out.new.items ≡ out.old.items ++ left_bracket ∷ items_text default_options 0 true (trees_view items.now.items)) }
+fn push_list(out: &mut Vec<u8>, items: &[Tree]) -> Result<(), JsonSerializeError>
+    ensures { OnOk result (out.new.items ≡ out.old.items ++ left_bracket ∷ items_text default_options 0 true (trees_view items.now)) }
 {
     out.push(b'[')?;
     let mut first = true;
@@ -52,8 +52,8 @@ fn push_list(out: &mut Vec<u8>, items: &Vec<Tree>) -> Result<(), JsonSerializeEr
 }
 
 #[cycle(write)]
-fn push_pairs(out: &mut Vec<u8>, members: &Vec<(String, Tree)>) -> Result<(), JsonSerializeError>
-    ensures { OnOk result (out.new.items ≡ out.old.items ++ left_brace ∷ members_text default_options 0 true (pairs_view members.now.items)) }
+fn push_pairs(out: &mut Vec<u8>, members: &[(String, Tree)]) -> Result<(), JsonSerializeError>
+    ensures { OnOk result (out.new.items ≡ out.old.items ++ left_brace ∷ members_text default_options 0 true (pairs_view members.now)) }
 {
     out.push(b'{')?;
     let mut first = true;

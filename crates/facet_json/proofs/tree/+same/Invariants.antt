@@ -4,8 +4,8 @@ use Rattle.facet_json.proofs.tree.+same.Given as goal
 
 abbrev pub invariant-are_same-loop-i : goal.invariant-are_same-loop-i
 invariant-are_same-loop-i l =
-    (trees_view (drop l.i l.item-items) ≡ trees_view (drop l.i l.b.items)) ↔ (trees_view l.item-items ≡ trees_view l.b.items)
+    (trees_view (drop l.i l.a) ≡ trees_view (drop l.i l.b)) ↔ (trees_view l.a ≡ trees_view l.b)
 
 abbrev pub invariant-have_same-loop-i : goal.invariant-have_same-loop-i
 invariant-have_same-loop-i l =
-    (pairs_view (drop l.i l.member-items) ≡ pairs_view (drop l.i l.b.items)) ↔ (pairs_view l.member-items ≡ pairs_view l.b.items)
+    (pairs_view (drop l.i l.a) ≡ pairs_view (drop l.i l.b)) ↔ (pairs_view l.a ≡ pairs_view l.b)
