@@ -58,14 +58,14 @@ impl Tree {
 
 // Whether both have the same items in the same order.
 #[cycle(same)]
-fn are_same(a: &[Tree], b: &[Tree]) -> bool
-    ensures { IsTrue result ↔ (trees_view a.now ≡ trees_view b.now) }
+fn are_same(items: &[Tree], others: &[Tree]) -> bool
+    ensures { IsTrue result ↔ (trees_view items.now ≡ trees_view others.now) }
 {
-    if a.len() != b.len() {
+    if items.len() != others.len() {
         return false;
     }
-    for (i, item) in a.iter().enumerate() {
-        if !item.is_same(&b[i]) {
+    for (i, item) in items.iter().enumerate() {
+        if !item.is_same(&others[i]) {
             return false;
         }
     }
@@ -74,14 +74,14 @@ fn are_same(a: &[Tree], b: &[Tree]) -> bool
 
 // Whether both have the same keys and values in the same order.
 #[cycle(same)]
-fn have_same(a: &[(String, Tree)], b: &[(String, Tree)]) -> bool
-    ensures { IsTrue result ↔ (pairs_view a.now ≡ pairs_view b.now) }
+fn have_same(members: &[(String, Tree)], others: &[(String, Tree)]) -> bool
+    ensures { IsTrue result ↔ (pairs_view members.now ≡ pairs_view others.now) }
 {
-    if a.len() != b.len() {
+    if members.len() != others.len() {
         return false;
     }
-    for (i, member) in a.iter().enumerate() {
-        let other = &b[i];
+    for (i, member) in members.iter().enumerate() {
+        let other = &others[i];
         if member.0 != other.0 || !member.1.is_same(&other.1) {
             return false;
         }
