@@ -35,3 +35,4 @@ pub mod SpelledLaws
 pub mod DocumentRows
 pub mod TextShapes
 pub mod ShapeLaws
+pub mod FirstBytes

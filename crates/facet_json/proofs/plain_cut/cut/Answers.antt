@@ -4,7 +4,7 @@ use Rattle.std.proofs.lemmas.List.{drop_all}
 use Rattle.facet_json.specs.Views.{mode_of, span_of}
 use Rattle.facet_json.specs.Cut.{cut, cut_here, span_at}
 use Rattle.facet_json.proofs.Offsets.{slice_get-from_read}
-use Rattle.facet_json.proofs.Starts.{cut_here-something, no_end}
+use Rattle.facet_json.proofs.FirstBytes.{cut_here-something, no_end}
 use Rattle.facet_json.proofs.plain_cut.cut.Goals as goal
 
 pub returns-in-Some-clause-answer : goal.returns-in-Some-clause-answer

@@ -2,7 +2,7 @@
 use Rattle.std.proofs.Common.{◌<◌, ◌⊎◌, inl, inr, Some, ap, ◌∙◌, refl, arith}
 use Rattle.facet_json.specs.Token.{object_start, object_end, array_start, array_end, colon, comma, null, true_literal, false_literal}
 use Rattle.facet_json.specs.Cut.{start_of, opens_text, opens_comment, opens_nothing}
-use Rattle.facet_json.proofs.Starts.{cut_here-by, cut_here-word, cut_here-number, start_of-number, start_of-nothing}
+use Rattle.facet_json.proofs.FirstBytes.{cut_here-by, cut_here-word, cut_here-number, start_of-number, start_of-nothing}
 use Rattle.facet_json.proofs.plain_cut.cut_token.Goals as goal
 use Rattle.facet_json.proofs.plain_cut.cut_token.Goals.{in_default-via-then-first-lt47, in_default-via-else-first-lt47+else-first-lt58}
 
