@@ -36,3 +36,5 @@ pub mod DocumentRows
 pub mod TextShapes
 pub mod ShapeLaws
 pub mod FirstBytes
+pub mod Suffixes
+pub mod ThinDocuments
