@@ -21,6 +21,7 @@ pub data Shape (c : ℕ) : Type 0 where
   three : 2048 ≤ c → c < 65536 → encode_utf8 c ≡ (224 + c / 4096) ∷ next (c / 64) ∷ next c ∷ [] → Shape c
   four : 65536 ≤ c → encode_utf8 c ≡ (240 + c / 262144) ∷ next (c / 4096) ∷ next (c / 64) ∷ next c ∷ [] → Shape c
 
+-- Each character has one of them.
 pub shape : (c : ℕ) → Shape c
 unfolding encode_utf8
 shape c = by (cases_lt c 128) (cases_lt c 2048) (cases_lt c 65536)
@@ -32,26 +33,36 @@ shape c = by (cases_lt c 128) (cases_lt c 2048) (cases_lt c 65536)
     by (inr a) (inr b) (inr h) = four h (simp (le-ltb c 128 a, le-ltb c 2048 b, le-ltb c 65536 h))
 
 -- a first byte whose continuation makes up a character
-utf8_at-led : (b n c : ℕ) (bytes : List ℕ) → continuation_len b ≡ n → continued (lead_bits b) (take n bytes) ≡ c → IsScalar c → encode_utf8 c ≡ b ∷ take n bytes → utf8_at (b ∷ bytes) ≡ Some (c, suc n)
+utf8_at-led : (b n c : ℕ) (bytes : List ℕ) → continuation_len b ≡ n →
+    continued (lead_bits b) (take n bytes) ≡ c → IsScalar c → encode_utf8 c ≡ b ∷ take n bytes →
+    utf8_at (b ∷ bytes) ≡ Some (c, suc n)
 unfolding utf8_at
 utf8_at-led b n c bytes len value is e =
-    let same : bytes_eq (encode_utf8 c) (b ∷ take n bytes) ≡ true = (bytes_eq-Decides (encode_utf8 c) (b ∷ take n bytes)).1 e in
+    let same = (bytes_eq-Decides (encode_utf8 c) (b ∷ take n bytes)).1 e in
     ap (λ k. if_encoded (continued (lead_bits b) (take k bytes)) (suc k) (b ∷ bytes)) len
     ∙ ap (λ k. if_encoded k (suc n) (b ∷ bytes)) value
     ∙ ap (λ t. cond t (Some (c, suc n)) None) (and_from (scalar c) _ is same)
 
-utf8_at-shape : (c : ℕ) (rest : List ℕ) → IsScalar c → Shape c → utf8_at (encode_utf8 c ++ rest) ≡ Some (c, length (encode_utf8 c))
+-- The character at the front is found by the length of its UTF-8.
+utf8_at-shape : (c : ℕ) (rest : List ℕ) → IsScalar c → Shape c →
+    utf8_at (encode_utf8 c ++ rest) ≡ Some (c, length (encode_utf8 c))
 utf8_at-shape c rest is (one h e) = rw e (utf8_at-led c 0 c rest (grind arith) (grind arith) is e)
-utf8_at-shape c rest is (two l h e) = rw e (utf8_at-led (192 + c / 64) 1 c (next c ∷ rest) (grind arith) (grind arith) is e)
-utf8_at-shape c rest is (three l h e) = rw e (utf8_at-led (224 + c / 4096) 2 c (next (c / 64) ∷ next c ∷ rest) (grind arith) (grind arith) is e)
-utf8_at-shape c rest is (four l e) = rw e (utf8_at-led (240 + c / 262144) 3 c (next (c / 4096) ∷ next (c / 64) ∷ next c ∷ rest) (grind arith) (grind arith) is e)
+utf8_at-shape c rest is (two l h e) =
+    rw e (utf8_at-led (192 + c / 64) 1 c (next c ∷ rest) (grind arith) (grind arith) is e)
+utf8_at-shape c rest is (three l h e) =
+    rw e (utf8_at-led (224 + c / 4096) 2 c (next (c / 64) ∷ next c ∷ rest) (grind arith) (grind arith) is e)
+utf8_at-shape c rest is (four l e) =
+    let others = next (c / 4096) ∷ next (c / 64) ∷ next c ∷ rest in
+    rw e (utf8_at-led (240 + c / 262144) 3 c others (grind arith) (grind arith) is e)
 
 -- The character at the front is found.
-pub utf8_at-encoded : (c : ℕ) (rest : List ℕ) → IsScalar c → utf8_at (encode_utf8 c ++ rest) ≡ Some (c, length (encode_utf8 c))
+pub utf8_at-encoded : (c : ℕ) (rest : List ℕ) → IsScalar c →
+    utf8_at (encode_utf8 c ++ rest) ≡ Some (c, length (encode_utf8 c))
 utf8_at-encoded c rest is = utf8_at-shape c rest is (shape c)
 
 -- The first byte says how many bytes follow it.
-encoded-continuation_len : (c b : ℕ) (others : List ℕ) → encode_utf8 c ≡ b ∷ others → length (encode_utf8 c) ≡ suc (continuation_len b)
+encoded-continuation_len : (c b : ℕ) (others : List ℕ) → encode_utf8 c ≡ b ∷ others →
+    length (encode_utf8 c) ≡ suc (continuation_len b)
 encoded-continuation_len c b others e = by (shape c)
   where
     by : Shape c → length (encode_utf8 c) ≡ suc (continuation_len b)
@@ -108,8 +119,9 @@ utf8_at-leads (b ∷ bytes) c n e =
       some = omega arith;
     }
 
--- A character is a backslash where its first byte is.
-pub encoded-first : (c : ℕ) → (c == backslash) ≡ false → (b : ℕ) × (others : List ℕ) × (encode_utf8 c ≡ b ∷ others) × ((b == backslash) ≡ false)
+-- The first byte of a character other than a backslash is no backslash.
+pub encoded-first : (c : ℕ) → (c == backslash) ≡ false →
+    (b : ℕ) × (others : List ℕ) × (encode_utf8 c ≡ b ∷ others) × ((b == backslash) ≡ false)
 encoded-first c ne = by (shape c)
   where
     by : Shape c → (b : ℕ) × (others : List ℕ) × (encode_utf8 c ≡ b ∷ others) × ((b == backslash) ≡ false)

@@ -1,4 +1,4 @@
--- Where what is cut stands: behind the position, within the buffer, and what a string's or a number's kind says of its bytes.
+-- Where what is cut stands: behind the position, within the buffer. What a string and a number say of their bytes.
 use Rattle.std.proofs.Common.{◌≡◌, ℕ, zero, suc, ◌+◌, ◌-◌, ◌≤◌, ◌<◌, Bool, true, false, cond, ◌==◌, List, [], ◌∷◌, length, take, drop, Option, Some, None, refl, sym, ap, ◌∙◌, subst, arith, length-drop}
 use Rattle.std.specs.Prelude.{slice_get, slice_range}
 use Rattle.std.specs.List.{list_any}
@@ -11,7 +11,7 @@ use Rattle.facet_json.specs.Token.{Span, Kind, object_start, object_end, array_s
 use Rattle.facet_json.specs.Cut.{Cut, nothing_left, token, fault, IsStructural, object_starts, object_ends, array_starts, array_ends, colon_stands, comma_stands, IsLiteral, null_stands, true_stands, false_stands, Start, start_of, span_at, token_at, fault_at, common_len, cut_word, content_len, cut_text, cut_bare_minus, cut_number, cut_slash, cut_by, cut_here, past_gap, cut}
 use Rattle.facet_json.proofs.Starts.{Begins, a_mark, a_word, a_text, a_number, a_comment, no_token, start_of-begins}
 use Rattle.facet_json.proofs.GapBounds.{gap_len-bound}
-use Rattle.facet_json.proofs.NumberFronts.{parts_len-bound, is_bare-some, is_number-front}
+use Rattle.facet_json.proofs.NumberFronts.{cond_bound, parts_len-bound, is_bare-some, is_number-front}
 
 -- ---- what is shown
 
@@ -47,6 +47,7 @@ pub record FaultFits (buffer : List ℕ) (position : ℕ) (f : Fault) : Type 0 w
   pub behind : position ≤ f.span.offset
   pub within : f.span.offset + f.span.len ≤ length buffer
 
+-- What is cut at a position fits there.
 abbrev pub CutFits : List ℕ → ℕ → Cut → Type 0
 CutFits buffer position nothing_left = Unit {0}
 CutFits buffer position (token t) = TokenFits buffer position t
@@ -59,10 +60,12 @@ abbrev pub Below : Option ℕ → ℕ → Type 0
 Below None k = Unit {0}
 Below (Some n) k = n < k
 
+-- One more is below one more.
 one_more-below : (o : Option ℕ) (k : ℕ) → Below o k → Below (one_more o) (suc k)
 one_more-below None k h = tt
 one_more-below (Some n) k h = omega arith
 
+-- Nothing, or one more, is below one more.
 cond-below : (t : Bool) (o : Option ℕ) (k : ℕ) → Below o k → Below (cond t (Some 0) (one_more o)) (suc k)
 cond-below true o k h = omega arith
 cond-below false o k h = one_more-below o k h
@@ -71,18 +74,17 @@ cond-below false o k h = one_more-below o k h
 pub content_len-below : (escaped : Bool) (bytes : List ℕ) → Below (content_len escaped bytes) (length bytes)
 content_len-below true [] = tt
 content_len-below false [] = tt
-content_len-below true (b ∷ bytes) = one_more-below (content_len false bytes) (length bytes) (content_len-below false bytes)
-content_len-below false (b ∷ bytes) = cond-below (b == quote) (content_len (b == backslash) bytes) (length bytes) (content_len-below (b == backslash) bytes)
-
-common_cond : (t : Bool) (n k : ℕ) → n ≤ k → cond t (suc n) 0 ≤ suc k
-common_cond true n k h = omega arith
-common_cond false n k h = omega arith
+content_len-below true (b ∷ bytes) =
+    one_more-below (content_len false bytes) (length bytes) (content_len-below false bytes)
+content_len-below false (b ∷ bytes) =
+    cond-below (b == quote) (content_len (b == backslash) bytes) (length bytes)
+    (content_len-below (b == backslash) bytes)
 
 -- No longer front of the bytes than all of them is a front of a word.
 pub common_len-bound : (word bytes : List ℕ) → common_len word bytes ≤ length bytes
 common_len-bound [] bytes = omega arith
 common_len-bound (w ∷ word) [] = omega arith
-common_len-bound (w ∷ word) (b ∷ bytes) = common_cond (b == w) _ _ (common_len-bound word bytes)
+common_len-bound (w ∷ word) (b ∷ bytes) = cond_bound (b == w) _ _ (common_len-bound word bytes)
 
 -- An element stands within the list.
 slice_get-within : (bytes : List ℕ) (n b : ℕ) → slice_get bytes n ≡ Some b → n < length bytes
@@ -93,8 +95,10 @@ slice_get-within (x ∷ bytes) (suc n) b e = omega (arith, slice_get-within byte
 -- ---- bytes of the buffer
 
 -- The next n bytes at a place.
-pub slice_at : (buffer bytes : List ℕ) (at n : ℕ) → drop at buffer ≡ bytes → slice_range buffer at (at + n) ≡ take n bytes
-slice_at buffer bytes at n e = let m : at + n - at ≡ n = omega arith in ap (λ k. take k (drop at buffer)) m ∙ ap (take n) e
+pub slice_at : (buffer bytes : List ℕ) (at n : ℕ) → drop at buffer ≡ bytes →
+    slice_range buffer at (at + n) ≡ take n bytes
+slice_at buffer bytes at n e =
+    let m : at + n - at ≡ n = omega arith in ap (λ k. take k (drop at buffer)) m ∙ ap (take n) e
 
 -- What stands behind one more byte.
 pub drop_next : (buffer bytes : List ℕ) (at b : ℕ) → drop at buffer ≡ b ∷ bytes → drop (suc at) buffer ≡ bytes
@@ -110,6 +114,7 @@ IsBareKind (string start finish has_escapes) = ⊥
 IsBareKind (number start finish hint) = ⊥
 IsBareKind _ = Unit {0}
 
+-- A kind that says nothing of the bytes fits.
 bare_fits : (buffer : List ℕ) (span : Span) (kind : Kind) → IsBareKind kind → KindFits buffer span kind
 bare_fits buffer span (string start finish has_escapes) h = absurd h
 bare_fits buffer span (number start finish hint) h = absurd h
@@ -124,37 +129,62 @@ bare_fits buffer span true_literal h = tt
 bare_fits buffer span false_literal h = tt
 
 -- A token whose kind says nothing of its bytes.
-bare_token_fits : (buffer : List ℕ) (at n : ℕ) (kind : Kind) → IsBareKind kind → 0 < n → at + n ≤ length buffer → CutFits buffer at (token_at kind at n)
+bare_token_fits : (buffer : List ℕ) (at n : ℕ) (kind : Kind) → IsBareKind kind → 0 < n → at + n ≤ length buffer →
+    CutFits buffer at (token_at kind at n)
 bare_token_fits buffer at n kind h some room =
-    record { behind = omega arith; some = omega arith; within = omega arith; kind_fits = bare_fits buffer (span_at at n) kind h }
+    record {
+      behind = omega arith;
+      some = omega arith;
+      within = omega arith;
+      kind_fits = bare_fits buffer (span_at at n) kind h;
+    }
 
 -- A word that breaks off is a fault within the bytes.
-broken_fits : (buffer bytes : List ℕ) (at n : ℕ) (found : Option ℕ) → slice_get bytes n ≡ found → n ≤ length bytes → at + length bytes ≡ length buffer →
-    CutFits buffer at (elim found [ None ↦ fault_at (unexpected_eof in_literal) at n | Some b ↦ fault_at (unexpected_char b) (at + n) 1 ])
+broken_fits : (buffer bytes : List ℕ) (at n : ℕ) (found : Option ℕ) → slice_get bytes n ≡ found → n ≤ length bytes →
+    at + length bytes ≡ length buffer →
+    CutFits buffer at (elim found
+    [ None ↦ fault_at (unexpected_eof in_literal) at n | Some b ↦ fault_at (unexpected_char b) (at + n) 1 ])
 broken_fits buffer bytes at n None e h room = record { behind = omega arith; within = omega arith }
-broken_fits buffer bytes at n (Some b) e h room = record { behind = omega arith; within = omega (arith, slice_get-within bytes n b e) }
+broken_fits buffer bytes at n (Some b) e h room =
+    record { behind = omega arith; within = omega (arith, slice_get-within bytes n b e) }
 
-word_fits : (buffer bytes word : List ℕ) (at n : ℕ) (kind : Kind) → IsBareKind kind → 0 < length word → n ≤ length bytes → at + length bytes ≡ length buffer →
+-- A word, or where it breaks off, fits.
+word_fits : (buffer bytes word : List ℕ) (at n : ℕ) (kind : Kind) → IsBareKind kind → 0 < length word →
+    n ≤ length bytes → at + length bytes ≡ length buffer →
     CutFits buffer at (cut_word at bytes word kind n)
 word_fits buffer bytes word at n kind bare some h room =
     cond_both (n == length word) _ _ (CutFits buffer at)
     (λ e. bare_token_fits buffer at n kind bare (omega (arith, eqb-true n (length word) e)) (omega arith))
     (λ e. broken_fits buffer bytes at n (slice_get bytes n) refl h room)
 
-text_fits : (buffer bytes : List ℕ) (at b : ℕ) (o : Option ℕ) → Below o (length bytes) → drop at buffer ≡ b ∷ bytes → at + suc (length bytes) ≡ length buffer →
+-- A string, or a string that does not end, fits.
+text_fits : (buffer bytes : List ℕ) (at b : ℕ) (o : Option ℕ) → Below o (length bytes) → drop at buffer ≡ b ∷ bytes →
+    at + suc (length bytes) ≡ length buffer →
     CutFits buffer at (cut_text at bytes o)
 text_fits buffer bytes at b None below here room = record { behind = omega arith; within = omega arith }
 text_fits buffer bytes at b (Some n) below here room = record {
-    behind = omega arith; some = omega arith; within = omega arith;
-    kind_fits = record {
-        starts = refl; finishes = omega arith; ordered = omega arith; within = omega arith;
-        escapes = sym (ap (list_any (λ b. b == backslash)) (slice_at buffer bytes (suc at) n (drop_next buffer bytes at b here))) } }
+  behind = omega arith;
+  some = omega arith;
+  within = omega arith;
+  kind_fits = record {
+    starts = refl;
+    finishes = omega arith;
+    ordered = omega arith;
+    within = omega arith;
+    escapes =
+        sym (ap (list_any (λ b. b == backslash)) (slice_at buffer bytes (suc at) n (drop_next buffer bytes at b here)));
+  };
+}
 
-bare_minus_fits : (buffer bytes : List ℕ) (at : ℕ) → at + suc (length bytes) ≡ length buffer → CutFits buffer at (cut_bare_minus at bytes)
+-- A minus without a number fits.
+bare_minus_fits : (buffer bytes : List ℕ) (at : ℕ) → at + suc (length bytes) ≡ length buffer →
+    CutFits buffer at (cut_bare_minus at bytes)
 bare_minus_fits buffer [] at room = record { behind = omega arith; within = omega arith }
 bare_minus_fits buffer (b ∷ bytes) at room = record { behind = omega arith; within = omega arith }
 
-number_fits : (buffer bytes : List ℕ) (at b : ℕ) (bare : Bool) → is_bare (parts (b ∷ bytes)) ≡ bare → starts_number b ≡ true →
+-- A number, or a minus alone, fits.
+number_fits : (buffer bytes : List ℕ) (at b : ℕ) (bare : Bool) → is_bare (parts (b ∷ bytes)) ≡ bare →
+    starts_number b ≡ true →
     drop at buffer ≡ b ∷ bytes → at + suc (length bytes) ≡ length buffer →
     CutFits buffer at (cut_number at bytes (parts_len (parts (b ∷ bytes))) (parts_hint (parts (b ∷ bytes))) bare)
 number_fits buffer bytes at b true e starts here room = bare_minus_fits buffer bytes at room
@@ -164,17 +194,28 @@ number_fits buffer bytes at b false e starts here room =
     let some : 0 < n = is_bare-some p e in
     let bound : n ≤ suc (length bytes) = parts_len-bound (b ∷ bytes) in
     record {
-        behind = omega arith; some = omega arith; within = omega arith;
-        kind_fits = record {
-            starts = refl; finishes = refl;
-            is_a_number = ap (λ text. is_number text (parts_hint p)) (slice_at buffer (b ∷ bytes) at n here) ∙ is_number-front (b ∷ bytes) starts e } }
+      behind = omega arith;
+      some = omega arith;
+      within = omega arith;
+      kind_fits = record {
+        starts = refl;
+        finishes = refl;
+        is_a_number =
+            ap (λ text. is_number text (parts_hint p)) (slice_at buffer (b ∷ bytes) at n here)
+            ∙ is_number-front (b ∷ bytes) starts e;
+      };
+    }
 
-slash_fits : (mode : Mode) (buffer bytes : List ℕ) (at : ℕ) → at + suc (length bytes) ≡ length buffer → CutFits buffer at (cut_slash mode at bytes)
+-- A slash where no closed comment stands fits.
+slash_fits : (mode : Mode) (buffer bytes : List ℕ) (at : ℕ) → at + suc (length bytes) ≡ length buffer →
+    CutFits buffer at (cut_slash mode at bytes)
 slash_fits plain buffer bytes at room = record { behind = omega arith; within = omega arith }
 slash_fits jsonc buffer [] at room = record { behind = omega arith; within = omega arith }
 slash_fits jsonc buffer (b ∷ bytes) at room =
-    cond_both (b == star) _ _ (CutFits buffer at) (λ e. record { behind = omega arith; within = omega arith }) (λ e. record { behind = omega arith; within = omega arith })
+    cond_both (b == star) _ _ (CutFits buffer at) (λ e. record { behind = omega arith; within = omega arith })
+    (λ e. record { behind = omega arith; within = omega arith })
 
+-- Brackets, colon and comma say nothing of the bytes.
 structural_is_bare : (b : ℕ) (kind : Kind) → IsStructural b kind → IsBareKind kind
 structural_is_bare _ _ object_starts = tt
 structural_is_bare _ _ object_ends = tt
@@ -183,62 +224,83 @@ structural_is_bare _ _ array_ends = tt
 structural_is_bare _ _ colon_stands = tt
 structural_is_bare _ _ comma_stands = tt
 
+-- Literals say nothing of the bytes.
 literal_is_bare : (word : List ℕ) (kind : Kind) → IsLiteral word kind → IsBareKind kind
 literal_is_bare _ _ null_stands = tt
 literal_is_bare _ _ true_stands = tt
 literal_is_bare _ _ false_stands = tt
 
-by_fits : (mode : Mode) (buffer bytes : List ℕ) (at b : ℕ) (start : Start) → Begins b start → drop at buffer ≡ b ∷ bytes → at + suc (length bytes) ≡ length buffer →
+-- What is cut by its first byte fits.
+by_fits : (mode : Mode) (buffer bytes : List ℕ) (at b : ℕ) (start : Start) → Begins b start →
+    drop at buffer ≡ b ∷ bytes → at + suc (length bytes) ≡ length buffer →
     CutFits buffer at (cut_by start mode at b bytes)
-by_fits mode buffer bytes at b _ (a_mark _ kind h) here room = bare_token_fits buffer at 1 kind (structural_is_bare b kind h) (omega arith) (omega arith)
+by_fits mode buffer bytes at b _ (a_mark _ kind h) here room =
+    bare_token_fits buffer at 1 kind (structural_is_bare b kind h) (omega arith) (omega arith)
 by_fits mode buffer bytes at b _ (a_word _ letters kind h) here room =
-    word_fits buffer (b ∷ bytes) (b ∷ letters) at (common_len (b ∷ letters) (b ∷ bytes)) kind (literal_is_bare _ kind h) (omega arith) (common_len-bound (b ∷ letters) (b ∷ bytes)) room
-by_fits mode buffer bytes at b _ a_text here room = text_fits buffer bytes at b (content_len false bytes) (content_len-below false bytes) here room
-by_fits mode buffer bytes at b _ (a_number _ h) here room = number_fits buffer bytes at b (is_bare (parts (b ∷ bytes))) refl h here room
+    word_fits buffer (b ∷ bytes) (b ∷ letters) at (common_len (b ∷ letters) (b ∷ bytes)) kind
+    (literal_is_bare _ kind h) (omega arith) (common_len-bound (b ∷ letters) (b ∷ bytes)) room
+by_fits mode buffer bytes at b _ a_text here room =
+    text_fits buffer bytes at b (content_len false bytes) (content_len-below false bytes) here room
+by_fits mode buffer bytes at b _ (a_number _ h) here room =
+    number_fits buffer bytes at b (is_bare (parts (b ∷ bytes))) refl h here room
 by_fits mode buffer bytes at b _ a_comment here room = slash_fits mode buffer bytes at room
 by_fits mode buffer bytes at b _ (no_token _ h) here room = record { behind = omega arith; within = omega arith }
 
-here_fits : (mode : Mode) (buffer bytes : List ℕ) (at : ℕ) → drop at buffer ≡ bytes → at + length bytes ≡ length buffer → CutFits buffer at (cut_here mode at bytes)
+-- What is cut where no gap is in front fits.
+here_fits : (mode : Mode) (buffer bytes : List ℕ) (at : ℕ) → drop at buffer ≡ bytes →
+    at + length bytes ≡ length buffer → CutFits buffer at (cut_here mode at bytes)
 unfolding cut_here
 here_fits mode buffer [] at here room = tt
-here_fits mode buffer (b ∷ bytes) at here room = by_fits mode buffer bytes at b (start_of b) (start_of-begins b) here room
+here_fits mode buffer (b ∷ bytes) at here room =
+    by_fits mode buffer bytes at b (start_of b) (start_of-begins b) here room
 
 -- ---- what is cut at a position
 
 -- The gap ends within the buffer.
-pub past_gap-bound : (buffer : List ℕ) (position : ℕ) (mode : Mode) → position ≤ length buffer → past_gap buffer position mode ≤ length buffer
-past_gap-bound buffer position mode h = omega (arith, gap_len-bound mode whole (drop position buffer), length-drop position buffer)
+pub past_gap-bound : (buffer : List ℕ) (position : ℕ) (mode : Mode) → position ≤ length buffer →
+    past_gap buffer position mode ≤ length buffer
+past_gap-bound buffer position mode h =
+    omega (arith, gap_len-bound mode whole (drop position buffer), length-drop position buffer)
 
 -- What fits at a place fits at an earlier position.
-earlier : (buffer : List ℕ) (position at : ℕ) (c : Cut) → position ≤ at → CutFits buffer at c → CutFits buffer position c
+earlier : (buffer : List ℕ) (position at : ℕ) (c : Cut) → position ≤ at → CutFits buffer at c →
+    CutFits buffer position c
 earlier buffer position at nothing_left h fits = tt
-earlier buffer position at (token t) h fits = record { behind = omega arith; some = fits.some; within = fits.within; kind_fits = fits.kind_fits }
+earlier buffer position at (token t) h fits =
+    record { behind = omega arith; some = fits.some; within = fits.within; kind_fits = fits.kind_fits }
 earlier buffer position at (fault f) h fits = record { behind = omega arith; within = fits.within }
 
 -- What is cut stands behind the position and within the buffer.
-pub cut-fits : (buffer : List ℕ) (position : ℕ) (mode : Mode) → position ≤ length buffer → CutFits buffer position (cut buffer position mode)
+pub cut-fits : (buffer : List ℕ) (position : ℕ) (mode : Mode) → position ≤ length buffer →
+    CutFits buffer position (cut buffer position mode)
 unfolding cut
 cut-fits buffer position mode h =
     let at = past_gap buffer position mode in
-    let room : at + length (drop at buffer) ≡ length buffer = omega (arith, past_gap-bound buffer position mode h, length-drop at buffer) in
+    let room : at + length (drop at buffer) ≡ length buffer =
+    omega (arith, past_gap-bound buffer position mode h, length-drop at buffer) in
     earlier buffer position at _ (omega arith) (here_fits mode buffer (drop at buffer) at refl room)
 
 -- Where the token stands that is cut.
-pub cut-token_fits : (buffer : List ℕ) (position : ℕ) (mode : Mode) (t : Token) → position ≤ length buffer → cut buffer position mode ≡ token t → TokenFits buffer position t
+pub cut-token_fits : (buffer : List ℕ) (position : ℕ) (mode : Mode) (t : Token) → position ≤ length buffer →
+    cut buffer position mode ≡ token t → TokenFits buffer position t
 cut-token_fits buffer position mode t h e = subst (CutFits buffer position) e (cut-fits buffer position mode h)
 
 -- Where the fault stands that is cut.
-pub cut-fault_fits : (buffer : List ℕ) (position : ℕ) (mode : Mode) (f : Fault) → position ≤ length buffer → cut buffer position mode ≡ fault f → FaultFits buffer position f
+pub cut-fault_fits : (buffer : List ℕ) (position : ℕ) (mode : Mode) (f : Fault) → position ≤ length buffer →
+    cut buffer position mode ≡ fault f → FaultFits buffer position f
 cut-fault_fits buffer position mode f h e = subst (CutFits buffer position) e (cut-fits buffer position mode h)
 
 -- What a string's kind says of the buffer.
-pub cut-string_fits : (buffer : List ℕ) (position : ℕ) (mode : Mode) (t : Token) (start finish : ℕ) (has_escapes : Bool) →
-    position ≤ length buffer → cut buffer position mode ≡ token t → t.kind ≡ string start finish has_escapes → StringFits buffer t.span start finish has_escapes
+pub cut-string_fits : (buffer : List ℕ) (position : ℕ) (mode : Mode) (t : Token) (start finish : ℕ)
+    (has_escapes : Bool) → position ≤ length buffer → cut buffer position mode ≡ token t →
+    t.kind ≡ string start finish has_escapes →
+    StringFits buffer t.span start finish has_escapes
 cut-string_fits buffer position mode t start finish has_escapes h e is =
     subst (KindFits buffer t.span) is (cut-token_fits buffer position mode t h e).kind_fits
 
 -- What a number's kind says of the buffer.
 pub cut-number_fits : (buffer : List ℕ) (position : ℕ) (mode : Mode) (t : Token) (start finish : ℕ) (hint : Hint) →
-    position ≤ length buffer → cut buffer position mode ≡ token t → t.kind ≡ number start finish hint → NumberFits buffer t.span start finish hint
+    position ≤ length buffer → cut buffer position mode ≡ token t → t.kind ≡ number start finish hint →
+    NumberFits buffer t.span start finish hint
 cut-number_fits buffer position mode t start finish hint h e is =
     subst (KindFits buffer t.span) is (cut-token_fits buffer position mode t h e).kind_fits

@@ -1,5 +1,5 @@
--- Single inputs with what the definitions of specs/Decode.antt, specs/Number.antt and specs/Quoted.antt give for them, by
--- computation. In the texts of this file a backslash or a quote stands behind a backslash of its own.
+-- Single inputs with what specs/Decode.antt, specs/Number.antt and specs/Quoted.antt give for them, by computation.
+-- In the texts of this file a backslash or a quote stands behind a backslash of its own.
 use Rattle.std.proofs.Common.{◌≡◌, [], ◌∷◌, ◌++◌, Some, None, pos, neg_ℤ, codes, refl}
 use Rattle.std.specs.Char.{encode_utf8}
 use Rattle.std.specs.Str.{encode_utf8_all}

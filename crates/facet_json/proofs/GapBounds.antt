@@ -3,13 +3,15 @@ use Rattle.std.proofs.Common.{ℕ, zero, suc, ◌≤◌, List, [], ◌∷◌, le
 use Rattle.facet_json.specs.Gap.{Mode, Input, piece_len, gap_len_from, gap_len}
 
 -- The gap is no longer than the bytes, also in the middle of a piece.
-pub gap_len_from-bound : (mode : Mode) (input : Input) (inside : ℕ) (bytes : List ℕ) → gap_len_from mode input inside bytes ≤ length bytes
+pub gap_len_from-bound : (mode : Mode) (input : Input) (inside : ℕ) (bytes : List ℕ) →
+    gap_len_from mode input inside bytes ≤ length bytes
 unfolding gap_len_from
 gap_len_from-bound mode input inside [] = omega arith
 gap_len_from-bound mode input (suc inside) (b ∷ bytes) = omega (arith, gap_len_from-bound mode input inside bytes)
 gap_len_from-bound mode input zero (b ∷ bytes) =
-    let bound : (n : ℕ) → (elim n [ zero ↦ 0 | suc inside ↦ suc (gap_len_from mode input inside bytes) ]) ≤ suc (length bytes) =
-        elim [ zero ↦ omega arith | suc inside ↦ omega (arith, gap_len_from-bound mode input inside bytes) ] in
+    let bound : (n : ℕ) → (elim n [ zero ↦ 0 | suc inside ↦ suc (gap_len_from mode input inside bytes) ])
+    ≤ suc (length bytes) =
+    elim [ zero ↦ omega arith | suc inside ↦ omega (arith, gap_len_from-bound mode input inside bytes) ] in
     bound (piece_len mode input (b ∷ bytes))
 
 -- The gap is no longer than the bytes.

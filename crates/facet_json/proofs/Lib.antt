@@ -25,3 +25,16 @@ pub mod NumberLaws
 pub mod CompactText
 pub mod Escapes
 pub mod TreeViews
+pub mod ThinNumbers
+pub mod ReaderSteps
+pub mod Offsets
+pub mod GapSteps
+pub mod NumberSteps
+pub mod TextSteps
+pub mod SpelledLaws
+pub mod DocumentRows
+pub mod TextShapes
+pub mod ShapeLaws
+pub mod FirstBytes
+pub mod Suffixes
+pub mod ThinDocuments

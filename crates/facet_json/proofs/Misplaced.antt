@@ -1,6 +1,7 @@
 -- A token that is read, and with which no document goes on at a place: how it is refused.
 use Rattle.std.proofs.Common.{◌≡◌, ◌≢◌, ◌∙◌, ℕ, Bool, true, false, List, Option, Some, None, refl, sym, ap, subst}
 use Rattle.std.specs.Prelude.{IsSome, slice_range}
+use Rattle.std.specs.Borrow.{Bor}
 use Rattle.facet_json.specs.declared.materialized.TokenKind.{TokenKind}
 use Rattle.facet_json.specs.declared.materialized.TokenKind.TheVariants as kinds
 use Rattle.facet_json.specs.declared.materialized.MaterializedToken.{MaterializedToken}
@@ -117,7 +118,8 @@ pub stops_misplaced : (buffer : List ℕ) (p : Place) (ts after : Tokens) (t : M
 stops_misplaced buffer p ts after t r f n same =
     let j : Judged buffer f.first.kind t.kind = judged buffer f.first.kind t.kind f.read in
     let whole : StopsAt buffer p (next f.first after) (refusal_at (unexpected_token (kind_name buffer f.first.kind) (expected_at p f.first.kind)) f.first.span) = misplaced p f.first after j.has_meaning (j.goes_on_alike p ∙ n) in
-    rw (f.is_first, same) (rw (j.name, j.expected_alike p, f.spans) at whole)
+    let called : refusal_at (unexpected_token (kind_name buffer f.first.kind) (expected_at p f.first.kind)) f.first.span ≡ r = rw (j.name, j.expected_alike p, f.spans) (sym same) in
+    rw f.is_first (subst (λ (q : Refusal). StopsAt buffer p (next f.first after) q) called whole)
 
 -- ---- with what no document goes on
 
@@ -159,3 +161,55 @@ after_member-stays kinds.True n m = refl
 after_member-stays kinds.False n m = refl
 after_member-stays (kinds.String s) n m = refl
 after_member-stays (kinds.U64 k) n m = refl
+
+pub before_key-stays : (k : TokenKind) → ((s : Bor (List ℕ)) → k ≢ kinds.String s) → k ≢ kinds.ObjectEnd → goes_on before_key (sample k) ≡ false
+before_key-stays kinds.ObjectStart n m = refl
+before_key-stays kinds.ObjectEnd n m = absurd (m refl)
+before_key-stays kinds.ArrayStart n m = refl
+before_key-stays kinds.ArrayEnd n m = refl
+before_key-stays kinds.Colon n m = refl
+before_key-stays kinds.Comma n m = refl
+before_key-stays kinds.Null n m = refl
+before_key-stays kinds.True n m = refl
+before_key-stays kinds.False n m = refl
+before_key-stays (kinds.String s) n m = absurd (n s refl)
+before_key-stays (kinds.U64 k) n m = refl
+
+-- a closing brace, a colon or a comma, or a closing bracket where no list may end
+pub data BeginsNone (p : Place) : TokenKind → Type 0 where
+  brace : BeginsNone p kinds.ObjectEnd
+  a_colon : BeginsNone p kinds.Colon
+  a_comma : BeginsNone p kinds.Comma
+  bracket : (p ≡ before_item → ⊥) → BeginsNone p kinds.ArrayEnd
+
+pub value-stays : (p : Place) (k : TokenKind) → TakesValue p → BeginsNone p k → goes_on p (sample k) ≡ false
+value-stays root k at_root brace = refl
+value-stays root k at_root a_colon = refl
+value-stays root k at_root a_comma = refl
+value-stays root k at_root (bracket n) = refl
+value-stays after_colon k behind_colon brace = refl
+value-stays after_colon k behind_colon a_colon = refl
+value-stays after_colon k behind_colon a_comma = refl
+value-stays after_colon k behind_colon (bracket n) = refl
+value-stays before_item k of_list brace = refl
+value-stays before_item k of_list a_colon = refl
+value-stays before_item k of_list a_comma = refl
+value-stays before_item k of_list (bracket n) = absurd (n refl)
+value-stays before_key k t b = elim t [ ]
+value-stays after_key k t b = elim t [ ]
+value-stays after_member k t b = elim t [ ]
+value-stays after_item k t b = elim t [ ]
+
+-- What none of the arms for values takes begins none.
+pub begins_none : (p : Place) (k : TokenKind) → (p ≡ before_item → k ≢ kinds.ArrayEnd) → k ≢ kinds.Null → k ≢ kinds.True → k ≢ kinds.False → ((n : ℕ) → k ≢ kinds.U64 n) → ((s : Bor (List ℕ)) → k ≢ kinds.String s) → k ≢ kinds.ArrayStart → k ≢ kinds.ObjectStart → BeginsNone p k
+begins_none p kinds.ObjectStart end n t f u s a o = absurd (o refl)
+begins_none p kinds.ObjectEnd end n t f u s a o = brace
+begins_none p kinds.ArrayStart end n t f u s a o = absurd (a refl)
+begins_none p kinds.ArrayEnd end n t f u s a o = bracket (λ e. end e refl)
+begins_none p kinds.Colon end n t f u s a o = a_colon
+begins_none p kinds.Comma end n t f u s a o = a_comma
+begins_none p kinds.Null end n t f u s a o = absurd (n refl)
+begins_none p kinds.True end n t f u s a o = absurd (t refl)
+begins_none p kinds.False end n t f u s a o = absurd (f refl)
+begins_none p (kinds.String x) end n t f u s a o = absurd (s x refl)
+begins_none p (kinds.U64 m) end n t f u s a o = absurd (u m refl)

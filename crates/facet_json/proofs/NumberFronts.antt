@@ -8,10 +8,11 @@ use Rattle.facet_json.specs.Number.{Hint, unsigned, signed, float, digits_len, m
 -- ---- no part is longer than the bytes
 
 -- One more than a bound, or nothing, is within one more.
-cond_bound : (t : Bool) (n k : ℕ) → n ≤ k → cond t (suc n) 0 ≤ suc k
+pub cond_bound : (t : Bool) (n k : ℕ) → n ≤ k → cond t (suc n) 0 ≤ suc k
 cond_bound true n k h = omega arith
 cond_bound false n k h = omega arith
 
+-- Digits are no longer than the bytes, and so is each other part.
 pub digits_len-bound : (bytes : List ℕ) → digits_len bytes ≤ length bytes
 digits_len-bound [] = omega arith
 digits_len-bound (b ∷ bytes) = cond_bound (is_digit b) _ _ (digits_len-bound bytes)
@@ -32,8 +33,15 @@ sign_len-bound (b ∷ bytes) = cond_bound (is_sign b) 0 (length bytes) (omega ar
 abbrev pub power_len : List ℕ → ℕ
 power_len bytes = sign_len bytes + digits_len (drop (sign_len bytes) bytes)
 
+-- A sign and digits are no longer than the bytes.
 power_len-bound : (bytes : List ℕ) → power_len bytes ≤ length bytes
-power_len-bound bytes = omega (arith, sign_len-bound bytes, digits_len-bound (drop (sign_len bytes) bytes), length-drop (sign_len bytes) bytes)
+power_len-bound bytes =
+    omega (
+      arith,
+      sign_len-bound bytes,
+      digits_len-bound (drop (sign_len bytes) bytes),
+      length-drop (sign_len bytes) bytes,
+    )
 
 pub exponent_len-bound : (bytes : List ℕ) → exponent_len bytes ≤ length bytes
 exponent_len-bound [] = omega arith
@@ -46,9 +54,16 @@ parts_len-bound bytes =
     let sign = minus_len bytes in
     let digits = digits_len (drop sign bytes) in
     let fraction = fraction_len (drop (sign + digits) bytes) in
-    omega (arith, minus_len-bound bytes, digits_len-bound (drop sign bytes), fraction_len-bound (drop (sign + digits) bytes),
-        exponent_len-bound (drop (sign + digits + fraction) bytes),
-        length-drop sign bytes, length-drop (sign + digits) bytes, length-drop (sign + digits + fraction) bytes)
+    omega (
+      arith,
+      minus_len-bound bytes,
+      digits_len-bound (drop sign bytes),
+      fraction_len-bound (drop (sign + digits) bytes),
+      exponent_len-bound (drop (sign + digits + fraction) bytes),
+      length-drop sign bytes,
+      length-drop (sign + digits) bytes,
+      length-drop (sign + digits + fraction) bytes,
+    )
 
 -- ---- each part is measured alike in a front that holds it
 
@@ -57,10 +72,7 @@ cond_front : (t : Bool) (x y k : ℕ) → cond t (suc y) 0 ≤ suc k → (y ≤ 
 cond_front true x y k h f = ap suc (f (omega arith))
 cond_front false x y k h f = refl
 
--- What is no longer than nothing is nothing.
-cond_none : (t : Bool) (y : ℕ) → cond t (suc y) 0 ≤ 0 → 0 ≡ cond t (suc y) 0
-cond_none t y h = omega arith
-
+-- Digits are measured alike in a front that holds them, and so is each other part.
 pub digits_len-take : (k : ℕ) (bytes : List ℕ) → digits_len bytes ≤ k → digits_len (take k bytes) ≡ digits_len bytes
 digits_len-take zero bytes h = omega arith
 digits_len-take (suc k) [] h = refl
@@ -71,11 +83,13 @@ minus_len-take zero bytes h = omega arith
 minus_len-take (suc k) [] h = refl
 minus_len-take (suc k) (b ∷ bytes) h = refl
 
-pub fraction_len-take : (k : ℕ) (bytes : List ℕ) → fraction_len bytes ≤ k → fraction_len (take k bytes) ≡ fraction_len bytes
+pub fraction_len-take : (k : ℕ) (bytes : List ℕ) → fraction_len bytes ≤ k →
+    fraction_len (take k bytes) ≡ fraction_len bytes
 fraction_len-take zero bytes h = omega arith
 fraction_len-take (suc k) [] h = refl
 fraction_len-take (suc k) (b ∷ bytes) h = cond_front (b == dot) _ _ k h (digits_len-take k bytes)
 
+-- An exponent's sign is measured alike in a front that holds it.
 sign_len-take : (k : ℕ) (bytes : List ℕ) → sign_len bytes ≤ k → sign_len (take k bytes) ≡ sign_len bytes
 sign_len-take zero bytes h = omega arith
 sign_len-take (suc k) [] h = refl
@@ -83,27 +97,39 @@ sign_len-take (suc k) (b ∷ bytes) h = refl
 
 -- Behind n bytes, a front of m more is a front of what stands there.
 drop_front : (n k : ℕ) (bytes : List ℕ) → n ≤ k → drop n (take k bytes) ≡ take (k - n) (drop n bytes)
-drop_front n k bytes h = let e : k ≡ n + (k - n) = omega arith in ap (λ m. drop n (take m bytes)) e ∙ drop-take n (k - n) bytes
+drop_front n k bytes h =
+    let e : k ≡ n + (k - n) = omega arith in ap (λ m. drop n (take m bytes)) e ∙ drop-take n (k - n) bytes
 
 -- Digits behind n bytes are measured alike in a front that holds them.
-digits_behind : (n k : ℕ) (bytes : List ℕ) → n + digits_len (drop n bytes) ≤ k → digits_len (drop n (take k bytes)) ≡ digits_len (drop n bytes)
-digits_behind n k bytes h = ap digits_len (drop_front n k bytes (omega arith)) ∙ digits_len-take (k - n) (drop n bytes) (omega arith)
+digits_behind : (n k : ℕ) (bytes : List ℕ) → n + digits_len (drop n bytes) ≤ k →
+    digits_len (drop n (take k bytes)) ≡ digits_len (drop n bytes)
+digits_behind n k bytes h =
+    ap digits_len (drop_front n k bytes (omega arith)) ∙ digits_len-take (k - n) (drop n bytes) (omega arith)
 
-fraction_behind : (n k : ℕ) (bytes : List ℕ) → n + fraction_len (drop n bytes) ≤ k → fraction_len (drop n (take k bytes)) ≡ fraction_len (drop n bytes)
-fraction_behind n k bytes h = ap fraction_len (drop_front n k bytes (omega arith)) ∙ fraction_len-take (k - n) (drop n bytes) (omega arith)
+-- The same of a fraction.
+fraction_behind : (n k : ℕ) (bytes : List ℕ) → n + fraction_len (drop n bytes) ≤ k →
+    fraction_len (drop n (take k bytes)) ≡ fraction_len (drop n bytes)
+fraction_behind n k bytes h =
+    ap fraction_len (drop_front n k bytes (omega arith)) ∙ fraction_len-take (k - n) (drop n bytes) (omega arith)
 
+-- A sign and digits are measured alike in a front that holds them.
 power_len-take : (k : ℕ) (bytes : List ℕ) → power_len bytes ≤ k → power_len (take k bytes) ≡ power_len bytes
 power_len-take k bytes h =
     let e : sign_len (take k bytes) ≡ sign_len bytes = sign_len-take k bytes (omega arith) in
-    ap (λ n. n + digits_len (drop n (take k bytes))) e ∙ ap (λ n. sign_len bytes + n) (digits_behind (sign_len bytes) k bytes h)
+    ap (λ n. n + digits_len (drop n (take k bytes))) e
+    ∙ ap (λ n. sign_len bytes + n) (digits_behind (sign_len bytes) k bytes h)
 
-pub exponent_len-take : (k : ℕ) (bytes : List ℕ) → exponent_len bytes ≤ k → exponent_len (take k bytes) ≡ exponent_len bytes
+pub exponent_len-take : (k : ℕ) (bytes : List ℕ) → exponent_len bytes ≤ k →
+    exponent_len (take k bytes) ≡ exponent_len bytes
 exponent_len-take zero bytes h = omega arith
 exponent_len-take (suc k) [] h = refl
 exponent_len-take (suc k) (b ∷ bytes) h = cond_front (is_exponent_mark b) _ _ k h (power_len-take k bytes)
 
-exponent_behind : (n k : ℕ) (bytes : List ℕ) → n + exponent_len (drop n bytes) ≤ k → exponent_len (drop n (take k bytes)) ≡ exponent_len (drop n bytes)
-exponent_behind n k bytes h = ap exponent_len (drop_front n k bytes (omega arith)) ∙ exponent_len-take (k - n) (drop n bytes) (omega arith)
+-- The same of an exponent.
+exponent_behind : (n k : ℕ) (bytes : List ℕ) → n + exponent_len (drop n bytes) ≤ k →
+    exponent_len (drop n (take k bytes)) ≡ exponent_len (drop n bytes)
+exponent_behind n k bytes h =
+    ap exponent_len (drop_front n k bytes (omega arith)) ∙ exponent_len-take (k - n) (drop n bytes) (omega arith)
 
 -- The parts, when the first of them are given.
 abbrev pub from_exponent : ℕ → ℕ → ℕ → ℕ → Parts
@@ -133,6 +159,7 @@ parts-take k bytes h =
 
 -- ---- the number at the front
 
+-- A hint is the same as itself.
 pub same_hint-refl : (hint : Hint) → same_hint hint hint ≡ true
 same_hint-refl unsigned = refl
 same_hint-refl signed = refl
@@ -158,4 +185,6 @@ is_number-front bytes begins more =
     let some : 0 < n = is_bare-some (parts bytes) more in
     let starts : begins_number front ≡ true = begins_number-take n bytes some begins in
     let long : length front ≡ n = length-take-le n bytes (parts_len-bound bytes) in
-    rw same (and_from _ _ (and_from _ _ (and_from _ _ starts (not_from_false _ more)) (eq-eqb n (length front) (sym long))) (same_hint-refl (parts_hint (parts bytes))))
+    rw same (and_from _ _
+    (and_from _ _ (and_from _ _ starts (not_from_false _ more)) (eq-eqb n (length front) (sym long)))
+    (same_hint-refl (parts_hint (parts bytes))))

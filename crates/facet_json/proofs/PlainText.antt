@@ -1,5 +1,5 @@
 -- A content without a backslash stands for itself where it is UTF-8, and for nothing elsewhere.
-use Rattle.std.proofs.Common.{◌≡◌, ℕ, Bool, true, false, List, [], ◌∷◌, ◌++◌, Option, Some, None, refl, sym, ap, ◌∙◌, arith}
+use Rattle.std.proofs.Common.{◌≡◌, ℕ, Bool, true, false, List, [], ◌∷◌, ◌++◌, Option, Some, None, refl, sym, ◌∙◌, arith}
 use Rattle.std.specs.Prelude.{◌==◌, IsUtf8}
 use Rattle.std.specs.List.{list_any}
 use Rattle.std.specs.Char.{IsScalar, encode_utf8}
@@ -18,7 +18,9 @@ IsPlain content = list_any (λ b. b == backslash) content ≡ false
 
 -- Neither part of plain bytes holds a backslash.
 plain-parts : (a b : List ℕ) → IsPlain (a ++ b) → IsPlain a × IsPlain b
-plain-parts a b plain = or_parts (list_any (λ x. x == backslash) a) (list_any (λ x. x == backslash) b) (sym (list_any-append (λ x. x == backslash) a b) ∙ plain)
+plain-parts a b plain =
+    let both = sym (list_any-append (λ x. x == backslash) a b) ∙ plain in
+    or_parts (list_any (λ x. x == backslash) a) (list_any (λ x. x == backslash) b) both
 
 -- No character of plain bytes is a backslash.
 plain-other : (c : ℕ) → IsPlain (encode_utf8 c) → (c == backslash) ≡ false
@@ -29,15 +31,18 @@ plain-other c plain = by (c == backslash) refl
     by true is =
         let at : c ≡ backslash = eqb-true c backslash is in
         let own = encode_ascii backslash (omega arith) in
-        let same : list_any (λ b. b == backslash) (encode_utf8 c) ≡ true = ap (λ k. list_any (λ b. b == backslash) (encode_utf8 k)) at ∙ ap (list_any (λ b. b == backslash)) own in
+        let same : list_any (λ b. b == backslash) (encode_utf8 c) ≡ true = rw (at, own) refl in
         cc
 
-plain-decodes : (cs : List ℕ) → all_scalars cs ≡ true → IsPlain (encode_utf8_all cs) → Decodes (encode_utf8_all cs) (encode_utf8_all cs)
+-- The characters of plain text are pieces that stand for themselves.
+plain-decodes : (cs : List ℕ) → all_scalars cs ≡ true → IsPlain (encode_utf8_all cs) →
+    Decodes (encode_utf8_all cs) (encode_utf8_all cs)
 plain-decodes [] are plain = empty
 plain-decodes (c ∷ cs) are plain =
     let is = and_parts (scalar c) (all_scalars cs) are in
     let parts = plain-parts (encode_utf8 c) (encode_utf8_all cs) plain in
-    piece (encode_utf8 c) (encode_utf8_all cs) _ c (encode_utf8_all cs) _ (itself c is.0 (plain-other c parts.0)) (plain-decodes cs is.1 parts.1) refl refl
+    let first = itself c is.0 (plain-other c parts.0) in
+    piece (encode_utf8 c) (encode_utf8_all cs) _ c (encode_utf8_all cs) _ first (plain-decodes cs is.1 parts.1) refl refl
 
 -- Plain text stands for itself.
 pub decoded-plain : (content : List ℕ) → IsPlain content → IsUtf8 content → decoded content ≡ Some content
@@ -53,6 +58,7 @@ plain-piece first v plain (other b ascii none ne) = cc
 plain-piece first v plain (unit a b c d u is high low) = cc
 plain-piece first v plain (pair a b c d high e f g h low i j k l) = cc
 
+-- What plain bytes stand for is a text, and they themselves.
 plain-decoded : (content text : List ℕ) → Decodes content text → IsPlain content → IsUtf8 content × (text ≡ content)
 plain-decoded _ _ empty plain = (IsUtf8-nil, refl)
 plain-decoded _ _ (piece first others content c rest text is behind e f) plain =
@@ -64,7 +70,8 @@ plain-decoded _ _ (piece first others content c rest text is behind e f) plain =
     (rw (e, front.1) (IsUtf8-append (encode_utf8 c) others ones later.0), rw (e, f, front.1, later.1) refl)
 
 -- Plain bytes stand for nothing but themselves, and for that only where they are text.
-pub plain-text : (content text : List ℕ) → IsPlain content → decoded content ≡ Some text → IsUtf8 content × (text ≡ content)
+pub plain-text : (content text : List ℕ) → IsPlain content → decoded content ≡ Some text →
+    IsUtf8 content × (text ≡ content)
 plain-text content text plain e = plain-decoded content text (decodes-decoded content text e) plain
 
 -- Plain bytes that are no text stand for nothing.

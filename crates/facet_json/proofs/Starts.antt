@@ -10,12 +10,14 @@ use Rattle.facet_json.specs.Cut.{IsStructural, object_starts, object_ends, array
 -- The byte begins this.
 pub data Begins : ℕ → Start → Type 0 where
   a_mark : (b : ℕ) (kind : Kind) → IsStructural b kind → Begins b (punctuation kind)
-  a_word : (b : ℕ) (letters : List ℕ) (kind : Kind) → IsLiteral (b ∷ letters) kind → Begins b (letter (b ∷ letters) kind)
+  a_word : (b : ℕ) (letters : List ℕ) (kind : Kind) → IsLiteral (b ∷ letters) kind →
+      Begins b (letter (b ∷ letters) kind)
   a_text : Begins quote opens_text
   a_number : (b : ℕ) → starts_number b ≡ true → Begins b opens_number
   a_comment : Begins slash opens_comment
   no_token : (b : ℕ) → starts_number b ≡ false → Begins b opens_nothing
 
+-- One of two, by a test for a byte.
 pick : (b c : ℕ) (x y : Start) → Begins c x → Begins b y → Begins b (cond (b == c) x y)
 pick b c x y h k = cond_both (b == c) x y (Begins b) (λ e. subst (λ n. Begins n x) (sym (eqb-true b c e)) h) (λ e. k)
 

@@ -65,7 +65,8 @@ SpelledIsSpells = (ts rest : Tokens) (node : Node) → (spelled ts ≡ Some (nod
 
 -- The document that is computed is the one document of the input.
 abbrev pub DocumentIsFound : Type 0
-DocumentIsFound = (buffer : List ℕ) (mode : Mode) (root : Node) (value : Tree) → (document buffer mode ≡ Some (root, value)) ↔ IsDocument buffer mode root value
+DocumentIsFound = (buffer : List ℕ) (mode : Mode) (root : Node) (value : Tree) →
+    (document buffer mode ≡ Some (root, value)) ↔ IsDocument buffer mode root value
 
 -- A plain document is the same JSONC document.
 abbrev pub PlainIsJsonc : Type 0

@@ -14,6 +14,8 @@ pub mod Spelled
 pub mod Place
 pub mod Refusal
 pub mod Reading
+pub mod Same
+pub mod SameLaws
 pub mod Quoted
 pub mod Text
 pub mod Views

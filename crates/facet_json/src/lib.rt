@@ -25,3 +25,6 @@ pub use span::Span;
 pub use token::{NumberHint, ScanError, ScanErrorKind, ScanResult, SpannedToken, Token};
 pub use tree::Tree;
 pub use writer::to_vec;
+
+#[cfg(test)]
+mod tests;

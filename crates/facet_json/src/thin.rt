@@ -67,6 +67,7 @@ pub(crate) fn thin_number<'t>(
             Some(n) => Ok(n),
             None => Err(not_read_yet(span)),
         },
-        NumberHint::Signed | NumberHint::Float => Err(not_read_yet(span)),
+        NumberHint::Signed => Err(not_read_yet(span)),
+        NumberHint::Float => Err(not_read_yet(span)),
     }
 }

@@ -1,7 +1,7 @@
 //! Writing a tree as compact text (RFC 8259, sections 2 to 7).
 ghost use Rattle.std.specs.Prelude.{◌≡◌, ◌<◌, ◌||◌, ◌==◌, ◌++◌, ◌∷◌, [], true, cond, nat_lt, codes, IfOk, OnOk, MatchOption};
 ghost use Rattle.std.specs.Fmt.{decimal};
-ghost use Rattle.facet_json.specs.Bytes.{backslash, space, delete, left_bracket, left_brace};
+ghost use Rattle.facet_json.specs.Bytes.{quote, backslash, space, delete, left_bracket, left_brace};
 ghost use Rattle.facet_json.specs.Quoted.{escaped, quoted, hex_byte};
 ghost use Rattle.facet_json.specs.Quoted as spelled;
 ghost use Rattle.facet_json.specs.Text.{default_options, text, separator, items_text, members_text};
@@ -37,8 +37,8 @@ fn push_tree(out: &mut Vec<u8>, tree: &Tree) -> Result<(), JsonSerializeError>
 }
 
 #[cycle(write)]
-fn push_list(out: &mut Vec<u8>, items: &Vec<Tree>) -> Result<(), JsonSerializeError>
-    ensures { OnOk result (out.new.items ≡ out.old.items ++ left_bracket ∷ items_text default_options 0 true (trees_view items.now.items)) }
+fn push_list(out: &mut Vec<u8>, items: &[Tree]) -> Result<(), JsonSerializeError>
+    ensures { OnOk result (out.new.items ≡ out.old.items ++ left_bracket ∷ items_text default_options 0 true (trees_view items.now)) }
 {
     out.push(b'[')?;
     let mut first = true;
@@ -52,8 +52,8 @@ fn push_list(out: &mut Vec<u8>, items: &Vec<Tree>) -> Result<(), JsonSerializeEr
 }
 
 #[cycle(write)]
-fn push_pairs(out: &mut Vec<u8>, members: &Vec<(String, Tree)>) -> Result<(), JsonSerializeError>
-    ensures { OnOk result (out.new.items ≡ out.old.items ++ left_brace ∷ members_text default_options 0 true (pairs_view members.now.items)) }
+fn push_pairs(out: &mut Vec<u8>, members: &[(String, Tree)]) -> Result<(), JsonSerializeError>
+    ensures { OnOk result (out.new.items ≡ out.old.items ++ left_brace ∷ members_text default_options 0 true (pairs_view members.now)) }
 {
     out.push(b'{')?;
     let mut first = true;
@@ -93,16 +93,29 @@ fn push_number(out: &mut Vec<u8>, n: u64) -> Result<(), JsonSerializeError>
     Ok(())
 }
 
-// The text between quotes, each byte in its turn.
+// The text between quotes: runs of bytes that stand for themselves, and the escapes between them.
 fn push_quoted(out: &mut Vec<u8>, text: &str) -> Result<(), JsonSerializeError>
     ensures { OnOk result (out.new.items ≡ out.old.items ++ quoted text.now) }
 {
+    let bytes = text.as_bytes();
+    let mut start = 0;
     out.push(b'"')?;
-    for byte in text.as_bytes() {
-        push_escaped(out, *byte)?;
+    for (i, byte) in bytes.iter().enumerate() {
+        if needs_escape(*byte) {
+            push_bytes(out, &bytes[start..i])?;
+            push_escaped(out, *byte)?;
+            start = i + 1;
+        }
     }
-    out.push(b'"')?;
-    Ok(())
+    push_bytes(out, &bytes[start..])?;
+    push_bytes(out, b"\"")
+}
+
+// Whether a byte cannot stand for itself between the quotes.
+fn needs_escape(byte: u8) -> bool
+    ensures { result ≡ (nat_lt byte space || (byte == quote) || (byte == backslash) || (byte == delete)) }
+{
+    byte < b' ' || byte == b'"' || byte == b'\\' || byte == 0x7f
 }
 
 // What stands between the quotes for one byte of a text.

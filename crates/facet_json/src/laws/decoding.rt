@@ -2,14 +2,13 @@
 
 ghost use Rattle.facet_json.specs.Laws.{DecodedIsDecodes, QuotedByCharacters};
 
-/// The text that a string's content is decoded to is the one text that it stands for, piece by piece (RFC 8259, section 7).
+/// The text that is computed for a string's content is the one text that it stands for, piece by piece
+/// (RFC 8259, section 7).
 pub fn decoded_is_decodes()
     ensures { DecodedIsDecodes }
-{
-}
+{}
 
 /// A text is written character by character: an escape, or its UTF-8 (RFC 8259, sections 7 and 8.1).
 pub fn quoted_by_characters()
     ensures { QuotedByCharacters }
-{
-}
+{}

@@ -5,10 +5,10 @@ use Rattle.facet_json.proofs.writer.+write.Given as goal
 
 abbrev pub invariant-push_list-loop-item : goal.invariant-push_list-loop-item
 invariant-push_list-loop-item l =
-    l.out.items ++ items_text default_options 0 l.first (trees_view (drop l.item-index l.item-items))
-    ≡ l.initial.out.items ++ items_text default_options 0 true (trees_view l.item-items)
+    l.out.items ++ items_text default_options 0 l.first (trees_view (drop l.item-index l.items))
+    ≡ l.initial.out.items ++ items_text default_options 0 true (trees_view l.items)
 
 abbrev pub invariant-push_pairs-loop-member : goal.invariant-push_pairs-loop-member
 invariant-push_pairs-loop-member l =
-    l.out.items ++ members_text default_options 0 l.first (pairs_view (drop l.member-index l.member-items))
-    ≡ l.initial.out.items ++ members_text default_options 0 true (pairs_view l.member-items)
+    l.out.items ++ members_text default_options 0 l.first (pairs_view (drop l.member-index l.members))
+    ≡ l.initial.out.items ++ members_text default_options 0 true (pairs_view l.members)

@@ -1,0 +1,3 @@
+//! What no contract says: worked examples of the formats, and that calls succeed.
+
+mod writer;
