@@ -23,7 +23,12 @@ fn arguments(rt: &HostRuntime) -> Result<Vec<String>, Outcome> {
 
 fn main(rt: HostRuntime) -> ExitCode {
     let outcome = match arguments(&rt) {
-        Ok(args) => run(rt.alloc(), args.as_slice(), &mut rt.stdin(), &mut rt.stdout()),
+        Ok(args) => run(
+            rt.alloc(),
+            args.as_slice(),
+            &mut rt.stdin(),
+            &mut rt.stdout(),
+        ),
         Err(outcome) => outcome,
     };
     // Where the line can't be written, the status still tells.

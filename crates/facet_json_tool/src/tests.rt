@@ -176,7 +176,10 @@ fn is_answer(ended: &Ended, case: &Case) -> bool {
 /// Whether a run with a fault told of it, and wrote no more than a front of its text.
 fn is_cut_off(ended: &Ended, case: &Case) -> bool {
     ended.outcome == Outcome::Io
-        && case.written.as_bytes().starts_with(ended.written.as_slice())
+        && case
+            .written
+            .as_bytes()
+            .starts_with(ended.written.as_slice())
 }
 
 #[test]
@@ -256,7 +259,8 @@ fn takes_no_other_arguments(rt: HostRuntime) -> Result<(), Fail> {
 
 #[test]
 fn says_how_it_ended(rt: HostRuntime) -> Result<(), Fail> {
-    let usage = "usage: facet_json_tool fmt [--pretty] [--jsonc] | events [--jsonc] | tokens [--jsonc] | drive [--jsonc] SCRIPT\n";
+    let usage =
+        "usage: facet_json_tool fmt [--pretty] [--jsonc] | events [--jsonc] | tokens [--jsonc] | drive [--jsonc] SCRIPT\n";
     let ends = [
         (Outcome::Done, "", 0),
         (
