@@ -48,18 +48,23 @@ fn cases() -> [Case; 6] {
 struct Fault {
     calls: usize,
     fails_at: usize,
+    kind: ErrorKind,
 }
 
 impl Fault {
     fn at(fails_at: usize) -> Fault {
-        Fault { calls: 0, fails_at }
+        Fault {
+            calls: 0,
+            fails_at,
+            kind: ErrorKind::BrokenPipe,
+        }
     }
 
     fn call(&mut self) -> io::Result<()> {
         let at = self.calls;
         self.calls = at.saturating_add(1);
         if at == self.fails_at {
-            return Err(io::Error::from(ErrorKind::BrokenPipe));
+            return Err(io::Error::from(self.kind));
         }
         Ok(())
     }
@@ -225,6 +230,24 @@ fn tells_of_each_failed_write(rt: HostRuntime) -> Result<(), Fail> {
         }
         assert!(rt; is_whole, "at {}", case.input);
     }
+    Ok(())
+}
+
+#[test]
+fn tells_of_a_reader_without_memory(rt: HostRuntime) -> Result<(), Fail> {
+    let args = words(rt.alloc(), &["fmt"])?;
+    let mut reader = FaultyReader {
+        left: b"[]",
+        fault: Fault {
+            calls: 0,
+            fails_at: 1,
+            kind: ErrorKind::OutOfMemory,
+        },
+    };
+    let mut writer = Vec::new(rt.alloc());
+    let outcome = run(rt.alloc(), args.as_slice(), &mut reader, &mut writer);
+    assert_eq!(rt; outcome, Outcome::Refused(9, None));
+    assert!(rt; writer.is_empty());
     Ok(())
 }
 
