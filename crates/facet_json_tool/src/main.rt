@@ -7,23 +7,28 @@ mod run;
 mod tests;
 
 use report::{status, write_line};
-use run::{OUT_OF_MEMORY, Outcome, failed_read, run};
+use run::{OUT_OF_MEMORY, Outcome, failure, run};
 use std::env;
 use std::io::ErrorKind;
 use std::process::ExitCode;
 
-/// The arguments behind the program's name. One that is not text is wrong usage; want of memory isn't.
+/// The arguments behind the program's name. One that is not text is wrong usage, and want of memory is none.
 fn arguments(rt: &HostRuntime) -> Result<Vec<String>, Outcome> {
     match env::args(rt) {
         Ok(args) => args.skip(1).collect(rt.alloc()).map_err(|_| OUT_OF_MEMORY),
         Err(error) if error.kind() == ErrorKind::InvalidData => Err(Outcome::Usage),
-        Err(error) => Err(failed_read(&error)),
+        Err(error) => Err(failure(&error)),
     }
 }
 
 fn main(rt: HostRuntime) -> ExitCode {
     let outcome = match arguments(&rt) {
-        Ok(args) => run(rt.alloc(), args.as_slice(), &mut rt.stdin(), &mut rt.stdout()),
+        Ok(args) => run(
+            rt.alloc(),
+            args.as_slice(),
+            &mut rt.stdin(),
+            &mut rt.stdout(),
+        ),
         Err(outcome) => outcome,
     };
     // Where the line can't be written, the status still tells.
