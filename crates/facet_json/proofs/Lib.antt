@@ -36,3 +36,4 @@ pub mod DocumentRows
 pub mod TextShapes
 pub mod ShapeLaws
 pub mod FirstBytes
+pub mod CutRows
