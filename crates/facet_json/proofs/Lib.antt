@@ -37,3 +37,4 @@ pub mod TextShapes
 pub mod ShapeLaws
 pub mod FirstBytes
 pub mod CutRows
+pub mod TextRows
