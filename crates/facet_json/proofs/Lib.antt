@@ -38,3 +38,5 @@ pub mod ShapeLaws
 pub mod FirstBytes
 pub mod CutRows
 pub mod TextRows
+pub mod Suffixes
+pub mod ThinDocuments
