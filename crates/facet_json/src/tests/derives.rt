@@ -17,8 +17,9 @@ fn expect<T: Clone + PartialEq + Debug>(
     other: &T,
     shown: &str,
 ) -> Result<(), Fail> {
-    assert!(rt; value.clone() == *value, "{shown}");
-    assert!(rt; value.clone() != *other, "{shown}");
+    let copy = value.clone()?;
+    assert!(rt; copy == *value, "{shown}");
+    assert!(rt; copy != *other, "{shown}");
     assert_eq!(rt; format!(in alloc; "{value:?}")?.as_str(), shown);
     Ok(())
 }
