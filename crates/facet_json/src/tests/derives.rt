@@ -209,7 +209,7 @@ fn trees(rt: HostRuntime) -> Result<(), Fail> {
     let items = vec![in alloc; Tree::Null, Tree::Bool(true), Tree::U64(1)]?;
     let members = vec![in alloc;
         ("a".to_string(alloc)?, Tree::Text("b".to_string(alloc)?)),
-        ("c".to_string(alloc)?, Tree::List(items))
+        ("c".to_string(alloc)?, Tree::List(items)),
     ]?;
     assert_eq!(rt;
         format!(in alloc; "{:?}", Tree::Pairs(members))?.as_str(),

@@ -20,18 +20,43 @@ fn refused<'t>(kind: DeserializeErrorKind<'t>, offset: usize, len: usize) -> Des
     }
 }
 
+/// The input ends within these bytes.
+fn ended_inside(expected: &str, offset: usize, len: usize) -> DeserializeError<'_> {
+    refused(
+        DeserializeErrorKind::UnexpectedEof { expected },
+        offset,
+        len,
+    )
+}
+
 /// The input ends at this offset.
 fn ended(expected: &str, offset: usize) -> DeserializeError<'_> {
-    refused(DeserializeErrorKind::UnexpectedEof { expected }, offset, 0)
+    ended_inside(expected, offset, 0)
+}
+
+/// No token goes on with the character at this offset.
+fn unexpected(ch: char, offset: usize) -> DeserializeError<'static> {
+    let expected = "valid JSON token";
+    refused(
+        DeserializeErrorKind::UnexpectedChar { ch, expected },
+        offset,
+        1,
+    )
+}
+
+fn misplaced_word<'t>(
+    got: &'t str,
+    expected: &'t str,
+    offset: usize,
+    len: usize,
+) -> DeserializeError<'t> {
+    let kind = DeserializeErrorKind::UnexpectedToken { got, expected };
+    refused(kind, offset, len)
 }
 
 /// A token of one byte at this offset.
 fn misplaced<'t>(got: &'t str, expected: &'t str, offset: usize) -> DeserializeError<'t> {
-    refused(
-        DeserializeErrorKind::UnexpectedToken { got, expected },
-        offset,
-        1,
-    )
+    misplaced_word(got, expected, offset, 1)
 }
 
 fn not_read_yet(offset: usize, len: usize) -> DeserializeError<'static> {
@@ -55,7 +80,10 @@ fn scalars_are_read(rt: HostRuntime) -> Result<(), Fail> {
         ("truex", Tree::Bool(true)),
         ("1 x", Tree::U64(1)),
         ("007", Tree::U64(7)),
-        ("18446744073709551615", Tree::U64(18_446_744_073_709_551_615)),
+        (
+            "18446744073709551615",
+            Tree::U64(18_446_744_073_709_551_615),
+        ),
         ("\"\"", text(alloc, "")?),
         ("\"中文\"", text(alloc, "中文")?),
         ("[]", Tree::List(Vec::new(alloc))),
@@ -73,7 +101,7 @@ fn containers_are_read(rt: HostRuntime) -> Result<(), Fail> {
     let mixed = vec![in alloc; text(alloc, "é")?, Tree::U64(7), Tree::Bool(true)]?;
     let same_keys = vec![in alloc;
         member(alloc, "a", Tree::U64(1))?,
-        member(alloc, "a", Tree::U64(2))?
+        member(alloc, "a", Tree::U64(2))?,
     ]?;
     for (input, want) in [
         (
@@ -119,7 +147,10 @@ fn no_key_stands(rt: HostRuntime) {
         ("{]", misplaced("ArrayEnd", "field name or '}'", 1)),
         ("{[", misplaced("ArrayStart", "field name or '}'", 1)),
         ("{\"a\":1,", ended("field name or '}'", 7)),
-        ("{\"a\":1,{", misplaced("ObjectStart", "field name or '}'", 7)),
+        (
+            "{\"a\":1,{",
+            misplaced("ObjectStart", "field name or '}'", 7),
+        ),
         ("{\"a\":1,,", misplaced("Comma", "field name or '}'", 7)),
     ] {
         expect_refusal(&rt, alloc, input.as_bytes(), want);
@@ -177,7 +208,6 @@ fn no_item_stands(rt: HostRuntime) {
 #[test]
 fn nothing_follows_an_item(rt: HostRuntime) {
     let alloc = rt.alloc();
-    let long = |got, len| refused(DeserializeErrorKind::UnexpectedToken { got, expected: "',' or ']'" }, 3, len);
     for (input, want) in [
         ("[1", ended("',' or ']'", 2)),
         ("[1 2]", misplaced("U64", "',' or ']'", 3)),
@@ -185,10 +215,10 @@ fn nothing_follows_an_item(rt: HostRuntime) {
         ("[1 }", misplaced("ObjectEnd", "',' or ']'", 3)),
         ("[1 [", misplaced("ArrayStart", "',' or ']'", 3)),
         ("[1 :", misplaced("Colon", "',' or ']'", 3)),
-        ("[1 null", long("Null", 4)),
-        ("[1 true", long("True", 4)),
-        ("[1 false", long("False", 5)),
-        ("[1 \"a\"", long("String", 3)),
+        ("[1 null", misplaced_word("Null", "',' or ']'", 3, 4)),
+        ("[1 true", misplaced_word("True", "',' or ']'", 3, 4)),
+        ("[1 false", misplaced_word("False", "',' or ']'", 3, 5)),
+        ("[1 \"a\"", misplaced_word("String", "',' or ']'", 3, 3)),
     ] {
         expect_refusal(&rt, alloc, input.as_bytes(), want);
     }
@@ -197,16 +227,14 @@ fn nothing_follows_an_item(rt: HostRuntime) {
 #[test]
 fn no_token_stands(rt: HostRuntime) {
     let alloc = rt.alloc();
-    let unexpected = |ch| DeserializeErrorKind::UnexpectedChar { ch, expected: "valid JSON token" };
-    let eof = |expected| DeserializeErrorKind::UnexpectedEof { expected };
     for (input, want) in [
-        (".5", refused(unexpected('.'), 0, 1)),
-        ("[1, x", refused(unexpected('x'), 4, 1)),
-        ("/**/1", refused(unexpected('/'), 0, 1)),
-        ("\u{feff}1", refused(unexpected('\u{ef}'), 0, 1)),
-        ("\"", refused(eof("in string"), 0, 1)),
-        ("tru", refused(eof("in literal"), 0, 3)),
-        ("[-", refused(eof("in number"), 1, 1)),
+        (".5", unexpected('.', 0)),
+        ("[1, x", unexpected('x', 4)),
+        ("/**/1", unexpected('/', 0)),
+        ("\u{feff}1", unexpected('\u{ef}', 0)),
+        ("\"", ended_inside("in string", 0, 1)),
+        ("tru", ended_inside("in literal", 0, 3)),
+        ("[-", ended_inside("in number", 1, 1)),
     ] {
         expect_refusal(&rt, alloc, input.as_bytes(), want);
     }
@@ -233,15 +261,23 @@ fn no_thin_token_stands(rt: HostRuntime) {
 
 #[test]
 fn codes_of_refusals(rt: HostRuntime) {
+    let expected = "";
+    let got = "";
+    let message = "";
+    let target_type = "";
+    let field = "";
     for (kind, want) in [
-        (DeserializeErrorKind::UnexpectedChar { ch: 'x', expected: "" }, 1),
-        (DeserializeErrorKind::UnexpectedEof { expected: "" }, 2),
-        (DeserializeErrorKind::UnexpectedToken { got: "", expected: "" }, 3),
+        (
+            DeserializeErrorKind::UnexpectedChar { ch: 'x', expected },
+            1,
+        ),
+        (DeserializeErrorKind::UnexpectedEof { expected }, 2),
+        (DeserializeErrorKind::UnexpectedToken { got, expected }, 3),
         (DeserializeErrorKind::InvalidUtf8, 4),
-        (DeserializeErrorKind::InvalidValue { message: "" }, 5),
-        (DeserializeErrorKind::TypeMismatch { expected: "", got: "" }, 6),
-        (DeserializeErrorKind::NumberOutOfRange { target_type: "" }, 7),
-        (DeserializeErrorKind::MissingField { field: "" }, 8),
+        (DeserializeErrorKind::InvalidValue { message }, 5),
+        (DeserializeErrorKind::TypeMismatch { expected, got }, 6),
+        (DeserializeErrorKind::NumberOutOfRange { target_type }, 7),
+        (DeserializeErrorKind::MissingField { field }, 8),
         (DeserializeErrorKind::OutOfMemory, 9),
         (DeserializeErrorKind::SaveLimit, 10),
     ] {
