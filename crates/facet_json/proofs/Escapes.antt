@@ -14,8 +14,13 @@ pub long_escape : (b : ℕ) → b ≢ quote → b ≢ backslash → b ≢ line_f
 unfolding escaped
 long_escape b q s l r t k f =
     rw (
-      ne_eqb b quote q, ne_eqb b backslash s, ne_eqb b line_feed l, ne_eqb b carriage_return r, ne_eqb b tab t,
-      ne_eqb b backspace k, ne_eqb b form_feed f
+      ne_eqb b quote q,
+      ne_eqb b backslash s,
+      ne_eqb b line_feed l,
+      ne_eqb b carriage_return r,
+      ne_eqb b tab t,
+      ne_eqb b backspace k,
+      ne_eqb b form_feed f,
     )
 
 -- a byte that needs no escape stands for itself
