@@ -10,7 +10,7 @@ use Rattle.facet_json.specs.Number.{Hint, parts, parts_len, parts_hint, is_bare,
 use Rattle.facet_json.specs.Token.{Span, Kind, object_start, object_end, array_start, array_end, colon, comma, null, true_literal, false_literal, string, number, Token, Fault, stop, unexpected_eof, unexpected_char, in_literal}
 use Rattle.facet_json.specs.Cut.{Cut, nothing_left, token, fault, IsStructural, object_starts, object_ends, array_starts, array_ends, colon_stands, comma_stands, IsLiteral, null_stands, true_stands, false_stands, Start, start_of, span_at, token_at, fault_at, common_len, cut_word, content_len, cut_text, cut_bare_minus, cut_number, cut_slash, cut_by, cut_here, past_gap, cut}
 use Rattle.facet_json.proofs.Starts.{Begins, a_mark, a_word, a_text, a_number, a_comment, no_token, start_of-begins}
-use Rattle.facet_json.proofs.GapBounds.{gap_len-bound}
+use Rattle.facet_json.proofs.Gaps.{gap_len-bound}
 use Rattle.facet_json.proofs.NumberFronts.{cond_bound, parts_len-bound, is_bare-some, is_number-front}
 
 -- ---- what is shown

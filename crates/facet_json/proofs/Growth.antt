@@ -9,7 +9,8 @@ use Rattle.facet_json.specs.Number.{starts_number}
 use Rattle.facet_json.specs.Cut.{IsLiteral, nothing_left, Start, punctuation, letter, opens_text, opens_number, opens_comment, opens_nothing, start_of, cut_slash, cut_by, cut_here, past_gap, cut}
 use Rattle.facet_json.specs.Open.{IsBeginning, IsOpen}
 use Rattle.facet_json.specs.Laws.{CutStays}
-use Rattle.facet_json.proofs.GrowthOfGap.{block_begins, gap_len-le, gap_len-ends, gap_len-stays}
+use Rattle.facet_json.proofs.Gaps.{gap_len-bound, gap_len-ends}
+use Rattle.facet_json.proofs.GrowthOfGap.{block_begins, gap_len-stays}
 use Rattle.facet_json.proofs.GrowthOfText.{cut_text-stays, cut_word-stays}
 use Rattle.facet_json.proofs.GrowthOfNumber.{cut_number-stays}
 
@@ -107,8 +108,8 @@ unfolding cut
 cut_as_growing buffer more position mode within shut last =
     let rest = drop position buffer in
     let past = past_growing_gap buffer position mode in
-    let inside : past ≤ length buffer = omega (arith, gap_len-le mode growing 0 rest, length-drop position buffer) in
-    let none = rw (drop-drop (gap_len mode growing rest) position buffer) at (gap_len-ends mode growing 0 rest) in
+    let inside : past ≤ length buffer = omega (arith, gap_len-bound mode growing rest, length-drop position buffer) in
+    let none = rw (drop-drop (gap_len mode growing rest) position buffer) at (gap_len-ends mode growing rest) in
     ap (λ n. cut_here mode n (drop n (buffer ++ more))) (past_gap-stays buffer more position mode within shut last)
     ∙ ap (cut_here mode past) (drop-append-le past buffer more inside)
     ∙ cut_here-stays mode past (drop past buffer) more last shut none
