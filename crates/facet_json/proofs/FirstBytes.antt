@@ -11,6 +11,7 @@ use Rattle.facet_json.specs.declared.token.SpannedToken.{SpannedToken}
 use Rattle.facet_json.specs.declared.token.ScanError.{ScanError}
 use Rattle.facet_json.specs.Views.{scanned, token_answer}
 use Rattle.facet_json.proofs.Offsets.{drop-at_byte}
+use Rattle.facet_json.proofs.NumberFronts.{number_at}
 
 -- what a byte begins is cut there
 pub cut_here-by : (mode : Mode) (buffer : List ℕ) (at b : ℕ) (start : Start) → slice_get buffer at ≡ Some b →
@@ -78,16 +79,12 @@ cut_here-word mode buffer at b word kind h e =
     ap (λ l. cut_word at l word kind (common_len word l)) (drop-at_byte buffer at b h)
     ∙ cut_here-by mode buffer at b (letter word kind) h e
 
--- what is cut of a number with these parts
-abbrev number_by : ℕ → List ℕ → Parts → Cut
-number_by at bytes p = cut_number at bytes (parts_len p) (parts_hint p) (is_bare p)
-
 -- a minus or a digit begins a number
 pub cut_here-number : (mode : Mode) (buffer : List ℕ) (at b : ℕ) → slice_get buffer at ≡ Some b →
     start_of b ≡ opens_number →
-    number_by at (drop (at + 1) buffer) (parts (drop at buffer)) ≡ cut_here mode at (drop at buffer)
+    number_at at (drop (at + 1) buffer) (parts (drop at buffer)) ≡ cut_here mode at (drop at buffer)
 cut_here-number mode buffer at b h e =
-    ap (λ l. number_by at (drop (at + 1) buffer) (parts l)) (drop-at_byte buffer at b h)
+    ap (λ l. number_at at (drop (at + 1) buffer) (parts l)) (drop-at_byte buffer at b h)
     ∙ cut_here-by mode buffer at b opens_number h e
 
 -- ---- where a byte stands, something is cut
