@@ -11,6 +11,7 @@ use Rattle.facet_json.specs.declared.token.SpannedToken.{SpannedToken}
 use Rattle.facet_json.specs.declared.token.ScanError.{ScanError}
 use Rattle.facet_json.specs.Views.{scanned, token_answer}
 use Rattle.facet_json.proofs.Offsets.{drop-at_byte}
+use Rattle.facet_json.proofs.Starts.{start_of-number}
 use Rattle.facet_json.proofs.NumberFronts.{number_at}
 
 -- what a byte begins is cut there
@@ -41,20 +42,15 @@ start_of-others b h0 h1 h2 h3 h4 h5 h6 h7 h8 h9 =
     )
     refl
 
--- a minus or a digit begins a number
-pub start_of-number : (b : ℕ) → minus ≤ b → b ≤ 0x39 → b ≢ 0x2e → b ≢ slash → start_of b ≡ opens_number
-start_of-number b low high no_dot no_slash =
-    let others =
-    start_of-others b (omega arith) (omega arith) (omega arith) (omega arith) (omega arith) (omega arith)
-    (omega arith) (omega arith) (omega arith) (omega arith) in
+-- a minus or a digit, by its range, begins a number
+pub start_of-number_range : (b : ℕ) → minus ≤ b → b ≤ 0x39 → b ≢ 0x2e → b ≢ slash → start_of b ≡ opens_number
+start_of-number_range b low high no_dot no_slash =
     let digit : b ≢ minus → is_digit b ≡ true =
     λ n. and_from (nat_le 0x30 b) (nat_le b 0x39) (le-leb 0x30 b (omega arith)) (le-leb b 0x39 high) in
-    let starts : starts_number b ≡ true =
     elim (cases_eq b minus) [
-      | inl e ↦ or_left (eqb b minus) (is_digit b) (eq-eqb b minus e)
-      | inr n ↦ or_right (eqb b minus) (is_digit b) (digit n)
-    ] in
-    others ∙ ap (λ v. cond v opens_number (cond (eqb b slash) opens_comment opens_nothing)) starts
+      | inl e ↦ start_of-number b (or_left (eqb b minus) (is_digit b) (eq-eqb b minus e))
+      | inr n ↦ start_of-number b (or_right (eqb b minus) (is_digit b) (digit n))
+    ]
 
 -- any other byte begins nothing
 pub start_of-nothing : (b : ℕ) → b ≢ left_brace → b ≢ right_brace → b ≢ left_bracket → b ≢ right_bracket → b ≢ colon →
