@@ -89,15 +89,7 @@ IsBareKind _ = Unit {0}
 bare_fits : (buffer : List ℕ) (span : Span) (kind : Kind) → IsBareKind kind → KindFits buffer span kind
 bare_fits buffer span (string start finish has_escapes) h = absurd h
 bare_fits buffer span (number start finish hint) h = absurd h
-bare_fits buffer span object_start h = tt
-bare_fits buffer span object_end h = tt
-bare_fits buffer span array_start h = tt
-bare_fits buffer span array_end h = tt
-bare_fits buffer span colon h = tt
-bare_fits buffer span comma h = tt
-bare_fits buffer span null h = tt
-bare_fits buffer span true_literal h = tt
-bare_fits buffer span false_literal h = tt
+bare_fits buffer span _ h = tt
 
 -- A token whose kind says nothing of its bytes.
 bare_token_fits : (buffer : List ℕ) (at n : ℕ) (kind : Kind) → IsBareKind kind → 0 < n → at + n ≤ length buffer →
@@ -189,17 +181,12 @@ slash_fits jsonc buffer (b ∷ bytes) at room =
 -- Brackets, colon and comma say nothing of the bytes.
 structural_is_bare : (b : ℕ) (kind : Kind) → IsStructural b kind → IsBareKind kind
 structural_is_bare _ _ object_starts = tt
-structural_is_bare _ _ object_ends = tt
-structural_is_bare _ _ array_starts = tt
-structural_is_bare _ _ array_ends = tt
-structural_is_bare _ _ colon_stands = tt
-structural_is_bare _ _ comma_stands = tt
+structural_is_bare _ _ _ = tt
 
 -- Literals say nothing of the bytes.
 literal_is_bare : (word : List ℕ) (kind : Kind) → IsLiteral word kind → IsBareKind kind
 literal_is_bare _ _ null_stands = tt
-literal_is_bare _ _ true_stands = tt
-literal_is_bare _ _ false_stands = tt
+literal_is_bare _ _ _ = tt
 
 -- What is cut by its first byte fits.
 by_fits : (mode : Mode) (buffer bytes : List ℕ) (at b : ℕ) (start : Start) → Begins b start →

@@ -1,5 +1,6 @@
 -- The gap piece by piece, and the end of a comment byte by byte.
 use Rattle.std.proofs.Common.{get_or, ◌≡◌, ℕ, zero, suc, ◌+◌, ◌-◌, ◌<◌, ◌≤◌, Bool, true, false, cond, eqb, ◌&&◌, List, [], ◌∷◌, length, take, drop, slice_get, Option, Some, None, refl, ap, sym, inl, inr, ◌∙◌, arith}
+use Rattle.std.proofs.Math.Bool.{and-true}
 use Rattle.std.proofs.lemmas.List.{drop_more, take_rest, length-drop, drop-drop}
 use Rattle.std.proofs.lemmas.Bool.{cases_eq, ne_eqb, eq-eqb, and_parts}
 use Rattle.std.proofs.lemmas.Option.{slice_get_within}
@@ -31,14 +32,9 @@ eqb_comm a b =
       | inr n ↦ ne_eqb a b n ∙ sym (ne_eqb b a (λ e. n (sym e)))
     ]
 
-both_or_one : (x y : Bool) → (x && (y && true)) ≡ (x && y)
-both_or_one true true = refl
-both_or_one true false = refl
-both_or_one false y = refl
-
 -- the mark of a block comment's end, as the code tests it
 closes : (b c : ℕ) (bytes : List ℕ) → starts_with eqb (b ∷ c ∷ bytes) (star ∷ slash ∷ []) ≡ (eqb b star && eqb c slash)
-closes b c bytes = rw (eqb_comm b star, eqb_comm c slash) (both_or_one (eqb star b) (eqb slash c))
+closes b c bytes = rw (eqb_comm b star, eqb_comm c slash) (ap (λ t. eqb star b && t) (and-true (eqb slash c)))
 
 through_block_end-more : (b : ℕ) (bytes : List ℕ) → starts_with eqb (b ∷ bytes) (star ∷ slash ∷ []) ≡ false →
     through_block_end (b ∷ bytes) ≡ one_more (through_block_end bytes)

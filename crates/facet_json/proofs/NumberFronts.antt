@@ -167,8 +167,7 @@ number_at at bytes p = cut_number at bytes (parts_len p) (parts_hint p) (is_bare
 -- A hint is the same as itself.
 pub same_hint-refl : (hint : Hint) → same_hint hint hint ≡ true
 same_hint-refl unsigned = refl
-same_hint-refl signed = refl
-same_hint-refl float = refl
+same_hint-refl _ = refl
 
 -- A number's start is left in a front of it.
 begins_number-take : (k : ℕ) (bytes : List ℕ) → 0 < k → begins_number bytes ≡ true → begins_number (take k bytes) ≡ true

@@ -320,14 +320,9 @@ numeral-measured bytes begins long =
 -- Hints that are tested the same are.
 same_hint-is : (a b : Hint) → same_hint a b ≡ true → a ≡ b
 same_hint-is unsigned unsigned e = refl
-same_hint-is unsigned signed e = cc
-same_hint-is unsigned float e = cc
-same_hint-is signed unsigned e = cc
 same_hint-is signed signed e = refl
-same_hint-is signed float e = cc
-same_hint-is float unsigned e = cc
-same_hint-is float signed e = cc
 same_hint-is float float e = refl
+same_hint-is _ _ e = cc
 
 -- A minus alone is bare.
 pub bare_minus-is : is_bare (parts (minus ∷ [])) ≡ true

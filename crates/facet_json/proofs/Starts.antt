@@ -35,19 +35,11 @@ start_of-begins b =
 
 -- What begins with a minus or a digit is taken to be a number.
 begins-number : (b : ℕ) (start : Start) → Begins b start → starts_number b ≡ true → start ≡ opens_number
-begins-number _ _ (a_mark _ _ object_starts) e = cc
-begins-number _ _ (a_mark _ _ object_ends) e = cc
-begins-number _ _ (a_mark _ _ array_starts) e = cc
-begins-number _ _ (a_mark _ _ array_ends) e = cc
-begins-number _ _ (a_mark _ _ colon_stands) e = cc
-begins-number _ _ (a_mark _ _ comma_stands) e = cc
-begins-number _ _ (a_word _ _ _ null_stands) e = cc
-begins-number _ _ (a_word _ _ _ true_stands) e = cc
-begins-number _ _ (a_word _ _ _ false_stands) e = cc
-begins-number _ _ a_text e = cc
 begins-number _ _ (a_number _ h) e = refl
-begins-number _ _ a_comment e = cc
 begins-number _ _ (no_token _ h) e = absurd (true≢false (sym e ∙ h))
+begins-number _ _ (a_mark _ _ object_starts) e = cc
+begins-number _ _ (a_word _ _ _ null_stands) e = cc
+begins-number _ _ _ e = cc
 
 -- A minus or a digit begins a number.
 pub start_of-number : (b : ℕ) → starts_number b ≡ true → start_of b ≡ opens_number
