@@ -9,6 +9,7 @@ use Rattle.facet_json.specs.Cut.{Cut, nothing_left, token, fault, Start, punctua
 use Rattle.facet_json.specs.Tokens.{Tokens, ended, refused, next, tokens_past, tokens}
 use Rattle.facet_json.specs.Node.{Node, scalar, array, object, Nodes, no_nodes, Members, no_members, member, Spells, one_token, brackets, braces, SpellsItems, closed, item_and_comma, last_item, SpellsMembers, ended_members, member_and_comma, last_member}
 use Rattle.facet_json.specs.Laws.{PlainIsJsonc}
+use Rattle.facet_json.proofs.TokensSteps.{follow}
 use Rattle.facet_json.proofs.Gaps.{piece_len-blank, gap_len-none, gap_len-some}
 
 -- ---- the gaps
@@ -60,12 +61,8 @@ gaps_alike input (b ∷ bytes) = gaps_at input b bytes (is_space b) (b == slash)
 
 cut_by_either : (start : Start) (at b : ℕ) (bytes : List ℕ) (t : Token) → cut_by start plain at b bytes ≡ token t →
     cut_by start jsonc at b bytes ≡ token t
-cut_by_either (punctuation kind) at b bytes t e = e
-cut_by_either (letter letters kind) at b bytes t e = e
-cut_by_either opens_text at b bytes t e = e
-cut_by_either opens_number at b bytes t e = e
 cut_by_either opens_comment at b bytes t e = cc
-cut_by_either opens_nothing at b bytes t e = e
+cut_by_either _ at b bytes t e = e
 
 cut_here_either : (at : ℕ) (bytes : List ℕ) (t : Token) → cut_here plain at bytes ≡ token t →
     cut_here jsonc at bytes ≡ token t
@@ -99,12 +96,6 @@ pub data Extends : Tokens → Tokens → Type 0 where
   one_more : (t : Token) (front all : Tokens) → Extends front all → Extends (next t front) (next t all)
   at_end : (all : Tokens) → Extends ended all
   at_fault : (f : Fault) (all : Tokens) → Extends (refused f) all
-
--- what follows by what is cut, where bytes are left
-abbrev follow : List ℕ → Mode → ℕ → List ℕ → Cut → Tokens
-follow buffer mode at left nothing_left = ended
-follow buffer mode at left (fault f) = refused f
-follow buffer mode at left (token t) = next t (tokens_past buffer mode (stop t.span - suc at) (suc at) left)
 
 follow_extends : (buffer : List ℕ) (at : ℕ) (left : List ℕ) (c d : Cut) → ((t : Token) → c ≡ token t → d ≡ token t) →
     ((inside : ℕ) → Extends (tokens_past buffer plain inside (suc at) left)
