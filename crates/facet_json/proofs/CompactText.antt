@@ -25,17 +25,21 @@ mutual
   text-depth m n (list items) = ap (λ s. left_bracket ∷ s) (items_text-depth m n true items)
   text-depth m n (pairs members) = ap (λ s. left_brace ∷ s) (members_text-depth m n true members)
 
-  items_text-depth : (m n : ℕ) (first : Bool) (ts : Trees) → items_text default_options m first ts ≡ items_text default_options n first ts
+  items_text-depth : (m n : ℕ) (first : Bool) (ts : Trees) →
+      items_text default_options m first ts ≡ items_text default_options n first ts
   items_text-depth m n first no_trees = refl
   items_text-depth m n first (tree t others) =
       ap (λ s. separator first ++ [] ++ s ++ items_text default_options m false others) (text-depth (suc m) (suc n) t)
       ∙ ap (λ s. separator first ++ [] ++ text default_options (suc n) t ++ s) (items_text-depth m n false others)
 
-  members_text-depth : (m n : ℕ) (first : Bool) (ps : Pairs) → members_text default_options m first ps ≡ members_text default_options n first ps
+  members_text-depth : (m n : ℕ) (first : Bool) (ps : Pairs) →
+      members_text default_options m first ps ≡ members_text default_options n first ps
   members_text-depth m n first no_pairs = refl
   members_text-depth m n first (pair key value others) =
-      ap (λ s. separator first ++ [] ++ quoted key ++ (colon ∷ []) ++ s ++ members_text default_options m false others) (text-depth (suc m) (suc n) value)
-      ∙ ap (λ s. separator first ++ [] ++ quoted key ++ (colon ∷ []) ++ text default_options (suc n) value ++ s) (members_text-depth m n false others)
+      ap (λ s. separator first ++ [] ++ quoted key ++
+      (colon ∷ []) ++ s ++ members_text default_options m false others) (text-depth (suc m) (suc n) value)
+      ∙ ap (λ s. separator first ++ [] ++ quoted key ++ (colon ∷ []) ++ text default_options (suc n) value ++ s)
+      (members_text-depth m n false others)
 
 -- behind the last item stands the closing bracket
 pub items_text-end : (first : Bool) → items_text default_options 0 first no_trees ≡ right_bracket ∷ []
@@ -49,14 +53,16 @@ members_text-end true = refl
 members_text-end false = refl
 
 -- a separator, an item and the text of the others are the text of them all
-pub items_text-step : (out : List ℕ) (first : Bool) (t : Tree) (ts : Trees)
-    → out ++ separator first ++ text default_options 0 t ++ items_text default_options 0 false ts ≡ out ++ items_text default_options 0 first (tree t ts)
+pub items_text-step : (out : List ℕ) (first : Bool) (t : Tree) (ts : Trees) →
+    out ++ separator first ++ text default_options 0 t ++ items_text default_options 0 false ts
+    ≡ out ++ items_text default_options 0 first (tree t ts)
 unfolding items_text
 items_text-step out first t ts = simp (append_assoc, append-nil, text-depth 1 0 t)
 
 -- a separator, a key, a colon, a value and the text of the others are the text of them all
-pub members_text-step : (out : List ℕ) (first : Bool) (key : List ℕ) (value : Tree) (ps : Pairs)
-    → out ++ separator first ++ quoted key ++ (colon ∷ []) ++ text default_options 0 value ++ members_text default_options 0 false ps
+pub members_text-step : (out : List ℕ) (first : Bool) (key : List ℕ) (value : Tree) (ps : Pairs) →
+    out ++ separator first ++ quoted key ++
+    (colon ∷ []) ++ text default_options 0 value ++ members_text default_options 0 false ps
     ≡ out ++ members_text default_options 0 first (pair key value ps)
 unfolding members_text
 members_text-step out first key value ps = simp (append_assoc, append-nil, text-depth 1 0 value)

@@ -198,7 +198,8 @@ minus-alone _ digits _ IsMinus.absent some e = absurd (some e)
 minus-alone _ digits _ IsMinus.present some e = refl
 
 -- A numeral that is measured no longer than its sign is a minus.
-pub bare-minus : (bytes : List ℕ) (hint : Hint) → IsNumeral bytes hint → is_bare (parts bytes) ≡ true → bytes ≡ minus ∷ []
+pub bare-minus : (bytes : List ℕ) (hint : Hint) → IsNumeral bytes hint → is_bare (parts bytes) ≡ true →
+    bytes ≡ minus ∷ []
 bare-minus bytes hint n e =
     let p = parts bytes in
     let long : parts_len p ≡ p.sign = eqb-true (parts_len p) p.sign e in
