@@ -144,18 +144,6 @@ module _ (buffer : List ℕ) where
         stuck = s;
       })
 
-  pub memory_behind : (kind : Kind) (start : Tokens) (r : Refusal) → r ≡ no_memory → StopsBehind buffer kind start r
-  memory_behind kind start r e = λ p first k. inl e
-
-  -- A list or an object that is refused, as a value.
-  pub list_stops : (p : Place) (ts inner : Tokens) (r : Refusal) → IsFirst buffer ts kinds.ArrayStart inner →
-      StopsBehind buffer token.array_start inner r → StopsFrom buffer p ts r
-  list_stops p ts inner r f s = rw f.is_first (s p f.first f.read)
-
-  pub object_stops : (p : Place) (ts inner : Tokens) (r : Refusal) → IsFirst buffer ts kinds.ObjectStart inner →
-      StopsBehind buffer token.object_start inner r → StopsFrom buffer p ts r
-  object_stops p ts inner r f s = rw f.is_first (s p f.first f.read)
-
   -- ---- members
 
   -- A text where a value stands.
