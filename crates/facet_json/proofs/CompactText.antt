@@ -7,6 +7,7 @@ use Rattle.facet_json.specs.Tree.{Tree, null, unit, bool, char, i64, u64, i128, 
 
 mutual
   unfolding text items_text members_text
+
   -- compact text is the same in any number of containers
   text-depth : (m n : ℕ) (t : Tree) → text default_options m t ≡ text default_options n t
   text-depth m n null = refl

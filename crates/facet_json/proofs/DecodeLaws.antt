@@ -253,7 +253,3 @@ decoded-decodes _ _ (piece first others content c rest text is behind e f) =
 -- The text that is computed is the one text of the content.
 pub decoded_is_decodes : DecodedIsDecodes
 decoded_is_decodes content text = (decodes-decoded content text, decoded-decodes content text)
-
--- A content has one text at most.
-pub decodes-unique : (content a b : List ℕ) → Decodes content a → Decodes content b → a ≡ b
-decodes-unique content a b p q = let one = decoded-decodes content a p in let other = decoded-decodes content b q in cc

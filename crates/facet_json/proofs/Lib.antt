@@ -2,7 +2,7 @@ pub mod Spelling
 pub mod Fronts
 pub mod Behind
 pub mod Refused
-pub mod GapBounds
+pub mod Gaps
 pub mod NumberFronts
 pub mod Starts
 pub mod CutBounds

@@ -49,29 +49,11 @@ module _ (buffer : List ℕ) where
 
   string_is_scalar : (kind : Kind) → is_string kind ≡ true → is_scalar kind ≡ true
   string_is_scalar (token.string a b h) e = refl
-  string_is_scalar (token.number a b h) e = refl
-  string_is_scalar token.null e = refl
-  string_is_scalar token.true_literal e = refl
-  string_is_scalar token.false_literal e = refl
-  string_is_scalar token.object_start e = cc
-  string_is_scalar token.object_end e = cc
-  string_is_scalar token.array_start e = cc
-  string_is_scalar token.array_end e = cc
-  string_is_scalar token.colon e = cc
-  string_is_scalar token.comma e = cc
+  string_is_scalar _ e = cc
 
   number_is_scalar : (kind : Kind) → is_number kind ≡ true → is_scalar kind ≡ true
-  number_is_scalar (token.string a b h) e = refl
   number_is_scalar (token.number a b h) e = refl
-  number_is_scalar token.null e = refl
-  number_is_scalar token.true_literal e = refl
-  number_is_scalar token.false_literal e = refl
-  number_is_scalar token.object_start e = cc
-  number_is_scalar token.object_end e = cc
-  number_is_scalar token.array_start e = cc
-  number_is_scalar token.array_end e = cc
-  number_is_scalar token.colon e = cc
-  number_is_scalar token.comma e = cc
+  number_is_scalar _ e = cc
 
   pub number_read : (n : ℕ) (ts after : Tokens) → IsFirst buffer ts (kinds.U64 n) after → ReadsValue (thin_meaning buffer) ts (u64 n) after
   number_read n ts after f = scalar_read ts after f.first (u64 n) f.is_first (number_is_scalar f.first.kind f.read.0) f.read.1
@@ -109,9 +91,6 @@ module _ (buffer : List ℕ) where
   -- A token that is refused where a value may begin.
   pub stops_first : (p : Place) (ts : Tokens) (r : Refusal) → StopsAt buffer p ts r → StopsFrom buffer p ts r
   stops_first p ts r s = inr (record { here = p; rest = ts; begins = nothing p ts; stuck = s })
-
-  pub no_memory_anywhere : (p : Place) (ts : Tokens) (r : Refusal) → r ≡ no_memory → StopsFrom buffer p ts r
-  no_memory_anywhere p ts r e = inl e
 
   -- Behind the opening bracket of a list: in an item, or behind one.
   pub stops_in_item : (start ts : Tokens) (values : List Tree) (r : Refusal) → ItemsRead (thin_meaning buffer) start values ts → StopsFrom buffer before_item ts r → StopsBehind buffer token.array_start start r

@@ -1,6 +1,7 @@
 -- What an answer of the plain cut in code says of the tokens that are left, and of its own slices.
 use Rattle.std.proofs.Common.{◌≡◌, ℕ, ◌+◌, ◌≤◌, ◌<◌, Bool, true, false, List, length, Option, Some, None, Ok, Err, refl, sym, ap, subst, arith}
 use Rattle.std.specs.Prelude.{IfSome}
+use Rattle.std.proofs.lemmas.Option.{same_Some}
 use Rattle.facet_json.specs.declared.span.Span.{Span as RustSpan}
 use Rattle.facet_json.specs.declared.token.Token.{Token as RustToken}
 use Rattle.facet_json.specs.declared.token.Token.TheVariants as code
@@ -23,10 +24,6 @@ use Rattle.facet_json.specs.Views.{span_of, hint_of, kind_of, token_answer, faul
 use Rattle.facet_json.proofs.CutBounds.{TokenFits, KindFits, StringFits, NumberFits, FaultFits, cut-token_fits, cut-fault_fits}
 use Rattle.facet_json.proofs.TokensSteps.{tokens_from-token, tokens_from-fault, tokens_from-nothing}
 
--- Some of equal things are equal things.
-from_some : {A : Type 0} {x y : A} → Some x ≡ Some y → x ≡ y
-from_some e = cc
-
 -- ---- a token
 
 -- The answer is the end, or a token of that kind.
@@ -38,39 +35,21 @@ a_kind : (s : RustSpan) (t : RustToken) (kind : Kind) (c : Cut) → kind_of t �
 a_kind s t kind c k e = subst (TokenAnswer s t) e (a_token kind k)
 
 token_answer-is : (s : RustSpan) (t : RustToken) (c : Cut) → token_answer s t ≡ Some c → TokenAnswer s t c
-token_answer-is s code.ObjectStart c e = a_kind s code.ObjectStart token.object_start c refl (from_some e)
-token_answer-is s code.ObjectEnd c e = a_kind s code.ObjectEnd token.object_end c refl (from_some e)
-token_answer-is s code.ArrayStart c e = a_kind s code.ArrayStart token.array_start c refl (from_some e)
-token_answer-is s code.ArrayEnd c e = a_kind s code.ArrayEnd token.array_end c refl (from_some e)
-token_answer-is s code.Colon c e = a_kind s code.Colon token.colon c refl (from_some e)
-token_answer-is s code.Comma c e = a_kind s code.Comma token.comma c refl (from_some e)
-token_answer-is s code.Null c e = a_kind s code.Null token.null c refl (from_some e)
-token_answer-is s code.True c e = a_kind s code.True token.true_literal c refl (from_some e)
-token_answer-is s code.False c e = a_kind s code.False token.false_literal c refl (from_some e)
-token_answer-is s (code.String a b h) c e = a_kind s (code.String a b h) (token.string a b h) c refl (from_some e)
-token_answer-is s (code.Number a b h) c e = a_kind s (code.Number a b h) (token.number a b (hint_of h)) c refl (from_some e)
-token_answer-is s code.Eof c e = subst (TokenAnswer s code.Eof) (from_some e) (the_end refl)
+token_answer-is s code.Eof c e = subst (TokenAnswer s code.Eof) (same_Some _ _ e) (the_end refl)
 token_answer-is s (code.NeedMore n) c e = cc
+token_answer-is s t c e = a_kind s t _ c refl (same_Some _ _ e)
 
 -- Where the token's kind says the truth, its slices can be read.
 CanBeRead-fits : (buffer : List ℕ) (s : Span) (t : RustToken) (kind : Kind) → stop s ≤ length buffer → kind_of t ≡ Some kind → KindFits buffer s kind → CanBeRead buffer t
-CanBeRead-fits buffer s code.ObjectStart kind w k f = tt
-CanBeRead-fits buffer s code.ObjectEnd kind w k f = tt
-CanBeRead-fits buffer s code.ArrayStart kind w k f = tt
-CanBeRead-fits buffer s code.ArrayEnd kind w k f = tt
-CanBeRead-fits buffer s code.Colon kind w k f = tt
-CanBeRead-fits buffer s code.Comma kind w k f = tt
-CanBeRead-fits buffer s code.Null kind w k f = tt
-CanBeRead-fits buffer s code.True kind w k f = tt
-CanBeRead-fits buffer s code.False kind w k f = tt
 CanBeRead-fits buffer s (code.String a b h) kind w k f =
-    let g : StringFits buffer s a b h = subst (KindFits buffer s) (sym (from_some k)) f in
+    let g : StringFits buffer s a b h = subst (KindFits buffer s) (sym (same_Some _ _ k)) f in
     (g.ordered, omega (arith, g.within), g.escapes)
 CanBeRead-fits buffer s (code.Number a b h) kind w k f =
-    let g : NumberFits buffer s a b (hint_of h) = subst (KindFits buffer s) (sym (from_some k)) f in
+    let g : NumberFits buffer s a b (hint_of h) = subst (KindFits buffer s) (sym (same_Some _ _ k)) f in
     (omega (arith, g.starts, g.finishes), omega (arith, g.finishes), g.is_a_number)
 CanBeRead-fits buffer s code.Eof kind w k f = cc
 CanBeRead-fits buffer s (code.NeedMore n) kind w k f = cc
+CanBeRead-fits buffer s _ kind w k f = tt
 
 -- What is known of a token that is cut, and of what is left behind it.
 pub record Scans (buffer : List ℕ) (position : ℕ) (t : SpannedToken) : Type 0 where
@@ -127,8 +106,8 @@ record FaultAnswer (e : ScanError) (c : Cut) : Type 0 where
   passed_on : scan_refusal e ≡ refusal_at (complaint_of_fault what.kind) what.span
 
 fault_answer-is : (s : RustSpan) (kind : ScanErrorKind) (c : Cut) → fault_answer s kind ≡ Some c → FaultAnswer (record { kind = kind; span = s }) c
-fault_answer-is s (scan.UnexpectedChar ch) c e = record { what = record { kind = token.unexpected_char ch; span = span_of s }; is_fault = sym (from_some e); passed_on = refl }
-fault_answer-is s (scan.UnexpectedEof text) c e = record { what = record { kind = token.unexpected_eof text.now; span = span_of s }; is_fault = sym (from_some e); passed_on = refl }
+fault_answer-is s (scan.UnexpectedChar ch) c e = record { what = record { kind = token.unexpected_char ch; span = span_of s }; is_fault = sym (same_Some _ _ e); passed_on = refl }
+fault_answer-is s (scan.UnexpectedEof text) c e = record { what = record { kind = token.unexpected_eof text.now; span = span_of s }; is_fault = sym (same_Some _ _ e); passed_on = refl }
 fault_answer-is s scan.InvalidUtf8 c e = cc
 
 -- So does a fault.

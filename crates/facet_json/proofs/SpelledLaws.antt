@@ -181,17 +181,13 @@ mutual
 
 scalar_found : (nodes : ItemsReader) (members : MembersReader) (t : Token) (rest : Tokens) (kind : Kind) →
     is_scalar kind ≡ true → node_by nodes members t rest kind ≡ Some (scalar t, rest)
-scalar_found nodes members t rest token.null e = refl
-scalar_found nodes members t rest token.true_literal e = refl
-scalar_found nodes members t rest token.false_literal e = refl
-scalar_found nodes members t rest (token.string start finish has_escapes) e = refl
-scalar_found nodes members t rest (token.number start finish hint) e = refl
 scalar_found nodes members t rest token.object_start e = cc
 scalar_found nodes members t rest token.object_end e = cc
 scalar_found nodes members t rest token.array_start e = cc
 scalar_found nodes members t rest token.array_end e = cc
 scalar_found nodes members t rest token.colon e = cc
 scalar_found nodes members t rest token.comma e = cc
+scalar_found nodes members t rest _ e = refl
 
 item_found : (node : ValueReader) (nodes : ItemsReader) (t : Token) (rest : Tokens) (kind : Kind) →
     begins_value kind ≡ true → nodes_by node nodes t rest kind ≡ option_and_then (λ r. after_item_from nodes r.0 r.1)
@@ -209,16 +205,7 @@ item_first node nodes ts s =
 key_found : (node : ValueReader) (members : MembersReader) (t : Token) (rest : Tokens) (kind : Kind) →
     is_string kind ≡ true → members_by node members t rest kind ≡ after_key_from node members t rest
 key_found node members t rest (token.string start finish has_escapes) e = refl
-key_found node members t rest token.null e = cc
-key_found node members t rest token.true_literal e = cc
-key_found node members t rest token.false_literal e = cc
-key_found node members t rest (token.number start finish hint) e = cc
-key_found node members t rest token.object_start e = cc
-key_found node members t rest token.object_end e = cc
-key_found node members t rest token.array_start e = cc
-key_found node members t rest token.array_end e = cc
-key_found node members t rest token.colon e = cc
-key_found node members t rest token.comma e = cc
+key_found node members t rest _ e = cc
 
 mutual
   unfolding node_within

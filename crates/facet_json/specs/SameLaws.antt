@@ -9,6 +9,7 @@ use Rattle.facet_json.specs.Tree.{Tree, null, unit, bool, char, i64, u64, i128, 
 
 mutual
   unfolding same_tree same_trees same_pairs
+
   same_tree-itself : (t : Tree) → same_tree t t ≡ true
   same_tree-itself null = refl
   same_tree-itself unit = refl
@@ -37,6 +38,7 @@ mutual
 
 mutual
   unfolding same_tree same_trees same_pairs
+
   same_tree-equal : (a b : Tree) → same_tree a b ≡ true → a ≡ b
   same_tree-equal null null h = refl
   same_tree-equal null _ h = cc

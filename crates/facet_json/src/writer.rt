@@ -150,7 +150,14 @@ fn short_escape(byte: u8) -> Option<u8>
 fn hex_escape(byte: u8) -> [u8; 6]
     ensures { result ≡ codes "\\u00" ++ hex_byte byte }
 {
-    [b'\\', b'u', b'0', b'0', hex_digit(byte / 16), hex_digit(byte % 16)]
+    [
+        b'\\',
+        b'u',
+        b'0',
+        b'0',
+        hex_digit(byte / 16),
+        hex_digit(byte % 16),
+    ]
 }
 
 // A lower-case hexadecimal digit.

@@ -24,11 +24,13 @@ pub are_same-returns-then-not-is_same : goal.are_same-returns-then-not-is_same
 are_same-returns-then-not-is_same t c =
     let l = c.loop-i in
     let xs = trees_view-drop c.args.items.now l.i c.index-items-i.result (omega arith) c.index-items-i.is in
-    let ys = trees_view-drop c.args.others.now l.i c.index-others-i.result (omega arith) c.index-others-i.is in
-    (λ never. cc, λ e.
-        let here = l.invariant.1 e in
-        let same : tree_view c.index-items-i.result ≡ tree_view c.index-others-i.result = cc in
-        let told = c.is_same.ensures.1 same in cc)
+    let ys = trees_view-drop c.args.others.now l.i c.index-others-i.result (omega arith) c.index-others-i.is in (
+      λ never. cc,
+      λ e.
+          let here = l.invariant.1 e in
+          let same : tree_view c.index-items-i.result ≡ tree_view c.index-others-i.result = cc in
+          let told = c.is_same.ensures.1 same in cc,
+    )
 
 pub are_same-returns : goal.are_same-returns
 are_same-returns t c =
@@ -55,17 +57,19 @@ pub have_same-returns-then-ne : goal.have_same-returns-then-ne
 have_same-returns-then-ne t c =
     let l = c.loop-i in
     let ps = pairs_view-drop c.args.members.now l.i c.index-members-i.result (omega arith) c.index-members-i.is in
-    let qs = pairs_view-drop c.args.others.now l.i c.index-others-i.result (omega arith) c.index-others-i.is in
-    (λ never. cc, λ e.
-        let here = l.invariant.1 e in
-        let key : string_bytes c.index-members-i.result.0 ≡ string_bytes c.index-others-i.result.0 = cc in
-        let same : tree_view c.index-members-i.result.1 ≡ tree_view c.index-others-i.result.1 = cc in
-        elim c.then-ne.branch [
-          have_same-then-ne-via-then-ne w ↦
-              let told = (bytes_decides (string_bytes c.index-members-i.result.0) (string_bytes c.index-others-i.result.0)).1 key in
-              sym (w.if-ne.ensures ∙ ap not told)
-          | have_same-then-ne-via-else-ne+then-not-is_same w ↦ let told = w.is_same.ensures.1 same in let no = w.if-not-is_same.true in cc
-        ])
+    let qs = pairs_view-drop c.args.others.now l.i c.index-others-i.result (omega arith) c.index-others-i.is in (
+      λ never. cc,
+      λ e.
+          let here = l.invariant.1 e in
+          let key : string_bytes c.index-members-i.result.0 ≡ string_bytes c.index-others-i.result.0 = cc in
+          let same : tree_view c.index-members-i.result.1 ≡ tree_view c.index-others-i.result.1 = cc in
+          elim c.then-ne.branch [
+            | have_same-then-ne-via-then-ne w ↦
+                let told = (bytes_decides (string_bytes c.index-members-i.result.0) (string_bytes c.index-others-i.result.0)).1 key in
+                sym (w.if-ne.ensures ∙ ap not told)
+            | have_same-then-ne-via-else-ne+then-not-is_same w ↦ let told = w.is_same.ensures.1 same in let no = w.if-not-is_same.true in cc
+          ],
+    )
 
 pub have_same-returns : goal.have_same-returns
 have_same-returns t c =

@@ -8,7 +8,7 @@ loop-i-preserved c =
     let l = c.loop-i in
     let bytes = c.as_bytes-bytes.result.now in
     elim c.if-needs_escape.branch [
-      then-needs_escape+in_ok-push_bytes+in_ok-push_escaped w ↦
+      | then-needs_escape+in_ok-push_bytes+in_ok-push_escaped w ↦
           let done = run-escape bytes l.out.items c.push.new.self.items l.start l.i c.loop-i-test.true l.invariant.written in
           record {
             in_order = omega (arith, w.start-is);

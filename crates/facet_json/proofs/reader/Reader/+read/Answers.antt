@@ -271,8 +271,8 @@ value-returns-in-U64-clause-value t c = λ ts f. rw tree_view-U64 (number_read _
 pub value-returns-in_ok-from_str-in-String-clause-value : goal.value-returns-in_ok-from_str-in-String-clause-value
 value-returns-in_ok-from_str-in-String-clause-value t c =
     λ ts f.
-      let a = first_as _ _ _ _ (kinds.String c.in-String.text) f c.in-String.is in
-      rw (tree_view-Text, c.in_ok-from_str-in-String.ensures.ok) (text_read _ c.in-String.text.now ts _ a.first a.is_first a.read.0 a.read.1)
+    let a = first_as _ _ _ _ (kinds.String c.in-String.text) f c.in-String.is in
+    rw (tree_view-Text, c.in_ok-from_str-in-String.ensures.ok) (text_read _ c.in-String.text.now ts _ a.first a.is_first a.read.0 a.read.1)
 
 pub value-returns-in_ok-list-in-ArrayStart-clause-value : goal.value-returns-in_ok-list-in-ArrayStart-clause-value
 value-returns-in_ok-list-in-ArrayStart-clause-value t c =
@@ -286,5 +286,5 @@ pub value-returns-in_default-clause-refused : goal.value-returns-in_default-clau
 value-returns-in_default-clause-refused t c =
     let d = c.in_default in
     λ ts f.
-      let none = begins_none (place_of c.args.place) c.args.first.kind c.requires.first d.not-Null d.not-True d.not-False d.not-U64 d.not-String d.not-ArrayStart d.not-ObjectStart in
-      stops_first _ (place_of c.args.place) ts _ (stops_misplaced _ (place_of c.args.place) ts _ c.args.first _ f (value-stays _ _ c.requires.place none) c.misplaced.ensures)
+    let none = begins_none (place_of c.args.place) c.args.first.kind c.requires.first d.not-Null d.not-True d.not-False d.not-U64 d.not-String d.not-ArrayStart d.not-ObjectStart in
+    stops_first _ (place_of c.args.place) ts _ (stops_misplaced _ (place_of c.args.place) ts _ c.args.first _ f (value-stays _ _ c.requires.place none) c.misplaced.ensures)
