@@ -168,7 +168,7 @@ closes_line-len _ rest ClosesLine.last = refl
 closes_line-len _ rest (ClosesLine.more b bytes e h) = rw e (ap one_more (closes_line-len bytes rest h))
 
 -- A line with no end has no length.
-opens_line-len : (body : List ℕ) → OpensLine body → through_line_end body ≡ None
+pub opens_line-len : (body : List ℕ) → OpensLine body → through_line_end body ≡ None
 opens_line-len _ OpensLine.nothing = refl
 opens_line-len _ (OpensLine.more b bytes e h) = rw e (ap one_more (opens_line-len bytes h))
 

@@ -40,7 +40,7 @@ line_end-keeps [] more n e = cc
 line_end-keeps (b ∷ bytes) more n e = cond-keeps _ 1 _ _ (line_end-keeps bytes more) n e
 
 -- A block comment without an end is open.
-opens_block : (bytes : List ℕ) → through_block_end bytes ≡ None → OpensBlock bytes
+pub opens_block : (bytes : List ℕ) → through_block_end bytes ≡ None → OpensBlock bytes
 opens_block [] e = OpensBlock.nothing
 opens_block (b ∷ []) e = OpensBlock.one b
 opens_block (b ∷ c ∷ bytes) e =
@@ -48,7 +48,7 @@ opens_block (b ∷ c ∷ bytes) e =
     OpensBlock.more b c bytes none.0 (opens_block (c ∷ bytes) none.1)
 
 -- A line without an end is open.
-opens_line : (bytes : List ℕ) → through_line_end bytes ≡ None → OpensLine bytes
+pub opens_line : (bytes : List ℕ) → through_line_end bytes ≡ None → OpensLine bytes
 opens_line [] e = OpensLine.nothing
 opens_line (b ∷ bytes) e =
     let none = cond-none _ 1 _ e in

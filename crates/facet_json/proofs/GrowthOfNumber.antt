@@ -73,7 +73,7 @@ parts-stays bytes more lt =
 -- ---- a number that goes to the end of the bytes may go on
 
 -- Bytes whose longest numeral goes to their end are a number or a minus, which may go on.
-number_begins : (mode : Mode) (bytes : List ℕ) → begins_number bytes ≡ true →
+pub number_begins : (mode : Mode) (bytes : List ℕ) → begins_number bytes ≡ true →
     parts_len (parts bytes) ≡ length bytes → IsBeginning mode bytes
 number_begins mode bytes begins all = by_bare (is_bare (parts bytes)) refl
   where

@@ -64,10 +64,9 @@ unended_begins : (mode : Mode) (bytes : List ℕ) → IsUnended bytes → IsBegi
 unended_begins mode bytes (whole _ e pieces) = IsBeginning.text mode bytes e pieces
 unended_begins mode bytes (escaped content _ e pieces is) = rw is (IsBeginning.escape mode content e pieces)
 
--- A string that may not go on ends.
-text_ends : (mode : Mode) (bytes : List ℕ) → (IsBeginning mode (quote ∷ bytes) → ⊥) →
-    content_len false bytes ≡ None → ⊥
-text_ends mode bytes shut e = shut (unended_begins mode bytes (content_len-none false bytes e))
+-- A string without an end is the beginning of one.
+pub text_begins : (mode : Mode) (bytes : List ℕ) → content_len false bytes ≡ None → IsBeginning mode (quote ∷ bytes)
+text_begins mode bytes e = unended_begins mode bytes (content_len-none false bytes e)
 
 -- A string with an end o, which stays as p, is cut alike.
 cut_text_by : (at : ℕ) (bytes more : List ℕ) (o p : Option ℕ) → (o ≡ None → ⊥) →
@@ -82,7 +81,7 @@ cut_text_by at bytes more (Some n) p some below k =
 pub cut_text-stays : (mode : Mode) (at : ℕ) (bytes more : List ℕ) → (IsBeginning mode (quote ∷ bytes) → ⊥) →
     cut_text at (bytes ++ more) (content_len false (bytes ++ more)) ≡ cut_text at bytes (content_len false bytes)
 cut_text-stays mode at bytes more shut =
-    cut_text_by at bytes more _ _ (text_ends mode bytes shut) (content_len-below false bytes)
+    cut_text_by at bytes more _ _ (λ e. shut (text_begins mode bytes e)) (content_len-below false bytes)
     (content_len-keeps false bytes more)
 
 -- ---- a word

@@ -16,6 +16,7 @@ pub mod Growth
 pub mod GrowthOfGap
 pub mod GrowthOfNumber
 pub mod GrowthOfText
+pub mod OpenLaws
 pub mod NumberText
 pub mod QuotedLaws
 pub mod DecodeRows

@@ -4,8 +4,8 @@ use Rattle.std.proofs.lemmas.Bool.{cond_both, eqb-true, leb-true, and_parts, and
 use Rattle.std.proofs.lemmas.List.{append-nil, take_all, drop_at, length-take-le, nil_from_length}
 use Rattle.facet_json.specs.Bytes.{is_digit, is_exponent_mark, is_sign, minus, dot, lower_e, upper_e, plus}
 use Rattle.facet_json.specs.Number.{Hint, unsigned, signed, float, AreDigits, IsMinus, IsFraction, IsExponentSign, IsExponent, hint_of, IsNumeral, IsNumber, digits_len, minus_len, fraction_len, sign_len, exponent_len, parts, parts_len, parts_hint, is_bare, is_some_len, begins_number, is_number, same_hint}
-use Rattle.facet_json.specs.Laws.{NumberIsLongest}
-use Rattle.facet_json.proofs.NumberFronts.{parts_len-bound, parts-take, power_len, from_sign, from_digits, from_fraction, from_exponent, is_number-front}
+use Rattle.facet_json.specs.Laws.{NumberIsLongest, NumberIsTested}
+use Rattle.facet_json.proofs.NumberFronts.{parts_len-bound, parts-take, power_len, from_sign, from_digits, from_fraction, from_exponent, same_hint-refl, is_number-front}
 
 -- ---- a number is measured as long as it is
 
@@ -345,7 +345,23 @@ is_number-sound bytes hint e =
       more = λ h. both_ways (is_bare p) more (ap (λ l. is_bare (parts l)) h ∙ bare_minus-is);
     }
 
--- ---- the law
+-- A number is tested to be one.
+is_number-complete : (bytes : List ℕ) (hint : Hint) → IsNumber bytes hint → is_number bytes hint ≡ true
+is_number-complete bytes hint n =
+    let p = parts bytes in
+    let begins = begins_number-is bytes hint n.numeral in
+    let more : is_bare p ≡ false = is_bare-number bytes hint n in
+    let long : (parts_len p == length bytes) ≡ true =
+    eq-eqb (parts_len p) (length bytes) (parts_len-is bytes hint n.numeral) in
+    let same : same_hint (parts_hint p) hint ≡ true =
+    ap (λ h. same_hint h hint) (parts_hint-is bytes hint n.numeral) ∙ same_hint-refl hint in
+    and_from _ _ (and_from _ _ (and_from _ _ begins (not_from_false _ more)) long) same
+
+-- ---- the laws
+
+-- A text is tested to be a number exactly where it is one.
+pub number_is_tested : NumberIsTested
+number_is_tested text hint = (is_number-sound text hint, is_number-complete text hint)
 
 -- A front that is a number is no longer than the number that is measured.
 parts_len-longest : (bytes : List ℕ) (k : ℕ) (hint : Hint) → k ≤ length bytes → IsNumber (take k bytes) hint →
