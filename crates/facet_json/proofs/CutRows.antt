@@ -4,7 +4,7 @@ use Rattle.std.proofs.Common.{◌≡◌, ◌≢◌, ℕ, ◌⊎◌, inl, inr, Bo
 use Rattle.facet_json.specs.Bytes.{quote, backslash, slash, dot, line_feed, lower_n, lower_t, lower_f}
 use Rattle.facet_json.specs.Gap.{Mode, plain, jsonc, gap_len_from, OpensBlock, OpensLine}
 use Rattle.facet_json.specs.Number.{unsigned, signed, float, parts}
-use Rattle.facet_json.specs.Token.{Kind, Token, object_start, object_end, array_start, array_end, colon, comma, null, true_literal, false_literal, string, number, unexpected_char, unexpected_eof, in_string, in_number, in_literal, in_block_comment}
+use Rattle.facet_json.specs.Token.{Kind, Token, object_start, object_end, array_start, array_end, colon, comma, null, true_literal, string, number, unexpected_char, unexpected_eof, in_string, in_number, in_literal, in_block_comment}
 use Rattle.facet_json.specs.Cut.{ArePieces, IsLiteral, nothing_left, start_of, span_at, token_at, fault_at, cut_here, cut}
 use Rattle.facet_json.specs.Tokens.{ended, refused, next, tokens_past, tokens}
 use Rattle.facet_json.specs.Open.{IsBeginning, IsOpen}

@@ -5,14 +5,14 @@ use Rattle.std.specs.Char.{encode_utf8}
 use Rattle.std.specs.Fmt.{digits}
 use Rattle.facet_json.specs.Bytes.{line_feed, delete}
 use Rattle.facet_json.specs.Quoted.{escaped}
-use Rattle.facet_json.specs.Tree.{Tree, unit, char, i64, u64, u128, decimal, text as text_value, bytes, list, pairs, Trees, no_trees, tree, no_pairs, pair}
+use Rattle.facet_json.specs.Tree.{Tree, unit, char, i64, u64, u128, decimal, text as text_value, bytes, list, pairs, no_trees, tree, no_pairs, pair}
 use Rattle.facet_json.specs.Text.{as_array, as_hex, Options, default_options, text}
 
 -- indented by two spaces
 abbrev pretty : Options
 pretty = record { pretty = true; indent = codes "  "; bytes_format = as_array }
 
--- compact, with bytes as hexadecimal digits, of which this many bytes' stand at either end where there are more than six
+-- compact, with bytes as hexadecimal digits: of more than six, this many at either end
 abbrev hexadecimal : ℕ → ℕ → Options
 hexadecimal head tail =
     record { pretty = false; indent = []; bytes_format = as_hex (Some 6) head tail }
