@@ -158,7 +158,7 @@ leading_zeros_row = refl
 
 -- the tree of the plain document that all of the text is
 abbrev read_whole : List ℕ → Option Tree
-read_whole text = option_map (λ d. d.1) (whole_document text)
+read_whole buffer = option_map (λ d. d.1) (whole_document buffer)
 
 -- White space may stand around a document that is all of the text.
 whole_row : read_whole (codes " [1] ") ≡ Some (list (tree (u64 1) no_trees))

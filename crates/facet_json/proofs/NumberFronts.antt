@@ -165,7 +165,7 @@ abbrev pub number_at : ℕ → List ℕ → Parts → Cut
 number_at at bytes p = cut_number at bytes (parts_len p) (parts_hint p) (is_bare p)
 
 -- A hint is the same as itself.
-same_hint-refl : (hint : Hint) → same_hint hint hint ≡ true
+pub same_hint-refl : (hint : Hint) → same_hint hint hint ≡ true
 same_hint-refl unsigned = refl
 same_hint-refl _ = refl
 

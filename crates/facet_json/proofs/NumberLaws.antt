@@ -346,7 +346,7 @@ is_number-sound bytes hint e =
     }
 
 -- A number is tested to be one.
-is_number-complete : (bytes : List ℕ) (hint : Hint) → IsNumber bytes hint → is_number bytes hint ≡ true
+pub is_number-complete : (bytes : List ℕ) (hint : Hint) → IsNumber bytes hint → is_number bytes hint ≡ true
 is_number-complete bytes hint n =
     let p = parts bytes in
     let begins = begins_number-is bytes hint n.numeral in
