@@ -44,7 +44,8 @@ ShapeIsCut = (mode : Mode) (at : ℕ) (bytes rest : List ℕ) (kind : Kind) →
 
 -- At one place stands the shape of at most one token.
 abbrev pub ShapeIsUnique : Type 0
-ShapeIsUnique = (at : ℕ) (a b r s : List ℕ) (kind other : Kind) → IsShape at a r kind → IsShape at b s other → a ++ r ≡ b ++ s → (a ≡ b) × (kind ≡ other)
+ShapeIsUnique = (at : ℕ) (a b r s : List ℕ) (kind other : Kind) → IsShape at a r kind → IsShape at b s other → a
+    ++ r ≡ b ++ s → (a ≡ b) × (kind ≡ other)
 
 -- What is cut where the buffer isn't open is cut alike from every longer buffer with that front.
 abbrev pub CutStays : Type 0
@@ -65,7 +66,8 @@ OneSpelling = (ts r s : Tokens) (a b : Node) → Spells ts a r → Spells ts b s
 
 -- An input has at most one document.
 abbrev pub OneDocument : Type 0
-OneDocument = (buffer : List ℕ) (mode : Mode) (a b : Node) (v w : Tree) → IsDocument buffer mode a v → IsDocument buffer mode b w → (a ≡ b) × (v ≡ w)
+OneDocument = (buffer : List ℕ) (mode : Mode) (a b : Node) (v w : Tree) → IsDocument buffer mode a v → IsDocument buffer mode b w → (a ≡ b)
+    × (v ≡ w)
 
 -- The value that is computed from tokens is the one value that they spell.
 abbrev pub SpelledIsSpells : Type 0
@@ -95,4 +97,5 @@ escaped_character c = cond (nat_lt c 0x80) (escaped c) (encode_utf8 c)
 
 -- A text is written character by character.
 abbrev pub QuotedByCharacters : Type 0
-QuotedByCharacters = (characters : List ℕ) → all_scalars characters ≡ true → quoted (encode_utf8_all characters) ≡ quote ∷ flat_map escaped_character characters ++ quote ∷ []
+QuotedByCharacters = (characters : List ℕ) → all_scalars characters ≡ true → quoted (encode_utf8_all characters) ≡ quote ∷ flat_map escaped_character characters
+    ++ quote ∷ []

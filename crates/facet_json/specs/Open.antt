@@ -10,9 +10,12 @@ use Rattle.facet_json.specs.Cut.{ArePieces, IsLiteral, Start, punctuation, lette
 
 -- The bytes are a nonempty proper front of a string, of a literal or of a comment, or are a number or a minus, which may go on.
 pub data IsBeginning : Mode → List ℕ → Type 0 where
-  text : (mode : Mode) (content : List ℕ) (has_escapes : Bool) → ArePieces content has_escapes → IsBeginning mode (quote ∷ content)
-  escape : (mode : Mode) (content : List ℕ) (has_escapes : Bool) → ArePieces content has_escapes → IsBeginning mode (quote ∷ content ++ backslash ∷ [])
-  literal : (mode : Mode) (front others : List ℕ) (kind : Kind) → IsLiteral (front ++ others) kind → front ≢ [] → others ≢ [] → IsBeginning mode front
+  text : (mode : Mode) (content : List ℕ) (has_escapes : Bool) → ArePieces content has_escapes →
+      IsBeginning mode (quote ∷ content)
+  escape : (mode : Mode) (content : List ℕ) (has_escapes : Bool) → ArePieces content has_escapes →
+      IsBeginning mode (quote ∷ content ++ backslash ∷ [])
+  literal : (mode : Mode) (front others : List ℕ) (kind : Kind) → IsLiteral (front ++ others) kind → front ≢ [] →
+      others ≢ [] → IsBeginning mode front
   slash_alone : IsBeginning jsonc (slash ∷ [])
   block : (body : List ℕ) → OpensBlock body → IsBeginning jsonc (slash ∷ star ∷ body)
   line : (body : List ℕ) → OpensLine body → IsBeginning jsonc (slash ∷ slash ∷ body)
