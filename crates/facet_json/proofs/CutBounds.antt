@@ -1,15 +1,15 @@
 -- Where what is cut stands: behind the position, within the buffer. What a string and a number say of their bytes.
-use Rattle.std.proofs.Common.{◌≡◌, ℕ, zero, suc, ◌+◌, ◌-◌, ◌≤◌, ◌<◌, Bool, true, false, cond, ◌==◌, List, [], ◌∷◌, length, take, drop, Option, Some, None, refl, sym, ap, ◌∙◌, subst, arith, length-drop}
+use Rattle.std.proofs.Common.{◌≡◌, ℕ, suc, ◌+◌, ◌-◌, ◌≤◌, ◌<◌, Bool, true, false, ◌==◌, List, [], ◌∷◌, length, take, drop, Option, Some, None, refl, sym, ap, ◌∙◌, subst, arith, length-drop}
 use Rattle.std.specs.Prelude.{slice_get, slice_range}
 use Rattle.std.specs.List.{list_any}
 use Rattle.std.proofs.lemmas.Bool.{cond_both, eqb-true}
 use Rattle.std.proofs.lemmas.List.{drop-drop}
 use Rattle.std.proofs.lemmas.Option.{slice_get_within}
-use Rattle.facet_json.specs.Bytes.{quote, backslash, star}
-use Rattle.facet_json.specs.Gap.{Mode, plain, jsonc, whole, one_more}
+use Rattle.facet_json.specs.Bytes.{backslash, star}
+use Rattle.facet_json.specs.Gap.{Mode, plain, jsonc, whole}
 use Rattle.facet_json.specs.Number.{Hint, parts, parts_len, parts_hint, is_bare, starts_number, is_number}
-use Rattle.facet_json.specs.Token.{Span, Kind, object_start, object_end, array_start, array_end, colon, comma, null, true_literal, false_literal, string, number, Token, Fault, stop, unexpected_eof, unexpected_char, in_literal}
-use Rattle.facet_json.specs.Cut.{Cut, nothing_left, token, fault, IsStructural, object_starts, object_ends, array_starts, array_ends, colon_stands, comma_stands, IsLiteral, null_stands, true_stands, false_stands, Start, start_of, span_at, token_at, fault_at, common_len, cut_word, content_len, cut_text, cut_bare_minus, cut_number, cut_slash, cut_by, cut_here, past_gap, cut}
+use Rattle.facet_json.specs.Token.{Span, Kind, string, number, Token, Fault, stop, unexpected_eof, unexpected_char, in_literal}
+use Rattle.facet_json.specs.Cut.{Cut, nothing_left, token, fault, IsStructural, object_starts, IsLiteral, null_stands, Start, start_of, span_at, token_at, fault_at, common_len, cut_word, content_len, cut_text, cut_bare_minus, cut_number, cut_slash, cut_by, cut_here, past_gap, cut}
 use Rattle.facet_json.proofs.Starts.{Begins, a_mark, a_word, a_text, a_number, a_comment, no_token, start_of-begins}
 use Rattle.facet_json.proofs.TextShapes.{Below, content_len-below}
 use Rattle.facet_json.proofs.Gaps.{gap_len-bound}

@@ -3,7 +3,7 @@ use Rattle.std.proofs.Common.{◌≡◌, ℕ, zero, suc, ◌+◌, ◌≤◌, tru
 use Rattle.std.proofs.lemmas.Bool.{cond_both, eqb-true, and_parts}
 use Rattle.std.proofs.lemmas.List.{append-nil, take_all, drop_all, drop-drop, drop_at, length-take-le}
 use Rattle.facet_json.specs.Bytes.{is_space, slash, star, line_feed}
-use Rattle.facet_json.specs.Gap.{Mode, plain, jsonc, Input, whole, growing, ClosesBlock, OpensLine, ClosesLine, IsPiece, blank, block, line, last_line, IsGap, empty, piece, one_more, through_block_end, through_line_end, with_mark, with_line_mark, comment_len, piece_len, gap_len_from, gap_len}
+use Rattle.facet_json.specs.Gap.{Mode, plain, jsonc, Input, whole, growing, ClosesBlock, OpensLine, ClosesLine, IsPiece, blank, block, line, last_line, IsGap, empty, piece, one_more, through_block_end, through_line_end, with_mark, with_line_mark, comment_len, piece_len, gap_len}
 use Rattle.facet_json.specs.Laws.{GapIsLongest}
 use Rattle.facet_json.proofs.Gaps.{piece_len-blank, gap_len-none, gap_len-piece, gap_len-bound}
 

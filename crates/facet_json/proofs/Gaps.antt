@@ -1,7 +1,7 @@
 -- A gap piece by piece: how it goes on behind a piece, and that it is no longer than the bytes.
-use Rattle.std.proofs.Common.{◌≡◌, ℕ, zero, suc, ◌+◌, ◌≤◌, true, cond, List, [], ◌∷◌, length, drop, refl, sym, ap, ◌∙◌, arith}
+use Rattle.std.proofs.Common.{◌≡◌, ℕ, zero, suc, ◌+◌, ◌≤◌, true, List, [], ◌∷◌, length, drop, refl, ap, ◌∙◌, arith}
 use Rattle.facet_json.specs.Bytes.{is_space}
-use Rattle.facet_json.specs.Gap.{Mode, plain, jsonc, Input, comment_len, piece_len, gap_len_from, gap_len}
+use Rattle.facet_json.specs.Gap.{Mode, plain, jsonc, Input, piece_len, gap_len_from, gap_len}
 
 -- ---- by its first piece
 

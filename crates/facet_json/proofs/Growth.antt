@@ -1,12 +1,10 @@
 -- What is cut where a buffer isn't open is cut alike from every longer buffer with that front.
 use Rattle.std.proofs.Common.{◌≡◌, ℕ, ◌+◌, ◌≤◌, Bool, true, false, cond, ◌==◌, List, [], ◌∷◌, ◌++◌, length, drop, refl, sym, ap, ◌∙◌, arith}
-use Rattle.std.proofs.lemmas.Bool.{eqb-true, cond_both}
+use Rattle.std.proofs.lemmas.Bool.{eqb-true}
 use Rattle.std.proofs.lemmas.List.{drop-append-le, append-nil, drop-drop, length-drop}
-use Rattle.facet_json.specs.Bytes.{quote, slash, star, left_brace, right_brace, left_bracket, right_bracket}
-use Rattle.facet_json.specs.Bytes as bytes
+use Rattle.facet_json.specs.Bytes.{slash, star}
 use Rattle.facet_json.specs.Gap.{Mode, plain, jsonc, growing, piece_len, gap_len}
-use Rattle.facet_json.specs.Number.{starts_number}
-use Rattle.facet_json.specs.Cut.{IsLiteral, nothing_left, Start, punctuation, letter, opens_text, opens_number, opens_comment, opens_nothing, start_of, cut_slash, cut_by, cut_here, past_gap, cut}
+use Rattle.facet_json.specs.Cut.{nothing_left, Start, start_of, cut_slash, cut_by, cut_here, past_gap, cut}
 use Rattle.facet_json.specs.Open.{IsBeginning, IsOpen}
 use Rattle.facet_json.specs.Laws.{CutStays}
 use Rattle.facet_json.proofs.Starts.{Begins, a_mark, a_word, a_text, a_number, a_comment, no_token, start_of-begins}

@@ -1,8 +1,8 @@
 -- What more bytes leave of the gap at the front of a buffer.
-use Rattle.std.proofs.Common.{◌≡◌, ℕ, zero, suc, ◌≤◌, Bool, true, false, cond, ◌==◌, ◌&&◌, List, [], ◌∷◌, ◌++◌, length, drop, Option, Some, None, refl, sym, ap, ◌∙◌, arith}
+use Rattle.std.proofs.Common.{◌≡◌, ℕ, zero, suc, Bool, true, false, cond, ◌==◌, ◌&&◌, List, [], ◌∷◌, ◌++◌, drop, Option, Some, None, refl, sym, ap, ◌∙◌}
 use Rattle.std.proofs.lemmas.Bool.{eqb-true, and_parts}
 use Rattle.facet_json.specs.Bytes.{is_space, slash, star}
-use Rattle.facet_json.specs.Gap.{Mode, plain, jsonc, Input, whole, growing, OpensBlock, OpensLine, one_more, through_block_end, through_line_end, with_mark, with_line_mark, comment_len, piece_len, gap_len_from}
+use Rattle.facet_json.specs.Gap.{Mode, plain, jsonc, whole, growing, OpensBlock, OpensLine, one_more, through_block_end, through_line_end, with_mark, with_line_mark, comment_len, piece_len, gap_len_from}
 use Rattle.facet_json.specs.Open.{IsBeginning}
 use Rattle.facet_json.proofs.Gaps.{gap_len-none, gap_len-some}
 

@@ -1,12 +1,12 @@
 -- What more bytes leave of a number at the front of a buffer.
-use Rattle.std.proofs.Common.{◌≡◌, ◌≢◌, ℕ, suc, ◌+◌, ◌≤◌, ◌<◌, Bool, true, false, cond, ◌==◌, ◌||◌, List, [], ◌∷◌, ◌++◌, length, take, drop, refl, sym, ap, ◌∙◌, arith, take-add}
+use Rattle.std.proofs.Common.{◌≡◌, ◌≢◌, ℕ, suc, ◌+◌, ◌≤◌, ◌<◌, Bool, true, false, cond, ◌==◌, List, [], ◌∷◌, ◌++◌, length, drop, refl, ap, ◌∙◌, arith}
 use Rattle.std.proofs.lemmas.Bool.{both_ways}
-use Rattle.std.proofs.lemmas.List.{take_all, length-take, length-drop, drop-append-le}
-use Rattle.facet_json.specs.Bytes.{is_digit, is_exponent_mark, is_sign, minus, dot}
+use Rattle.std.proofs.lemmas.List.{length-drop, drop-append-le}
+use Rattle.facet_json.specs.Bytes.{is_digit, is_exponent_mark, minus, dot}
 use Rattle.facet_json.specs.Gap.{Mode}
-use Rattle.facet_json.specs.Cut.{Cut, cut_number}
+use Rattle.facet_json.specs.Cut.{cut_number}
 use Rattle.facet_json.specs.Open.{IsBeginning}
-use Rattle.facet_json.specs.Number.{Hint, IsNumeral, digits_len, minus_len, fraction_len, sign_len, exponent_len, Parts, parts, parts_len, parts_hint, starts_number, begins_number, is_bare}
+use Rattle.facet_json.specs.Number.{Hint, IsNumeral, digits_len, minus_len, fraction_len, sign_len, exponent_len, parts, parts_len, parts_hint, starts_number, begins_number, is_bare}
 use Rattle.facet_json.proofs.NumberFronts.{power_len, parts_len-bound, number_at}
 use Rattle.facet_json.proofs.NumberLaws.{parts_len-some, bare-minus, bare_minus-is, numeral-measured}
 

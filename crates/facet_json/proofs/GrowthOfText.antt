@@ -3,7 +3,7 @@ use Rattle.std.proofs.Common.{◌≡◌, ◌≢◌, ℕ, suc, ◌≤◌, Bool, t
 use Rattle.std.proofs.lemmas.Bool.{eqb-true, eqb-false}
 use Rattle.std.proofs.lemmas.List.{take-append-le}
 use Rattle.facet_json.specs.Bytes.{quote, backslash}
-use Rattle.facet_json.specs.Gap.{Mode, one_more}
+use Rattle.facet_json.specs.Gap.{Mode}
 use Rattle.facet_json.specs.Token.{Kind}
 use Rattle.facet_json.specs.Cut.{ArePieces, common_len, cut_word, content_len, cut_text}
 use Rattle.facet_json.specs.Open.{IsBeginning}

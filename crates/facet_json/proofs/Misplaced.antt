@@ -1,6 +1,6 @@
 -- A token that is read, and with which no document goes on at a place: how it is refused.
-use Rattle.std.proofs.Common.{◌≡◌, ◌≢◌, ◌∙◌, ℕ, Bool, true, false, List, Option, Some, None, refl, sym, ap, subst}
-use Rattle.std.specs.Prelude.{IsSome, slice_range}
+use Rattle.std.proofs.Common.{◌≡◌, ◌≢◌, ◌∙◌, ℕ, Bool, true, false, List, Option, Some, refl, sym, ap, subst}
+use Rattle.std.specs.Prelude.{IsSome}
 use Rattle.std.specs.Borrow.{Bor}
 use Rattle.facet_json.specs.declared.materialized.TokenKind.{TokenKind}
 use Rattle.facet_json.specs.declared.materialized.TokenKind.TheVariants as kinds
@@ -10,11 +10,10 @@ use Rattle.facet_json.specs.Number as numbers
 use Rattle.facet_json.specs.Token.{Kind, Token}
 use Rattle.facet_json.specs.Token as token
 use Rattle.facet_json.specs.Tokens.{Tokens, next}
-use Rattle.facet_json.specs.Node.{is_string}
-use Rattle.facet_json.specs.Place.{Place, root, before_key, after_key, after_colon, after_member, before_item, after_item, goes_on, expected_at, kind_name, number_name, unexpected_token, Refusal, refusal_at}
+use Rattle.facet_json.specs.Place.{Place, root, before_key, after_key, after_member, before_item, after_item, goes_on, expected_at, kind_name, number_name, unexpected_token, Refusal, refusal_at}
 use Rattle.facet_json.specs.Tree as tree
 use Rattle.facet_json.specs.Meaning.{thin_meaning_of, thin_number}
-use Rattle.facet_json.specs.Refusal.{IsStuck, misplaced, needs_meaning, is_number}
+use Rattle.facet_json.specs.Refusal.{misplaced, needs_meaning}
 use Rattle.facet_json.specs.Reading.{StopsAt, TakesValue, at_root, behind_colon, of_list}
 use Rattle.facet_json.specs.Views.{span_of, sample, name_of, misplaced_complaint, IsReadAs, IsReadFirst}
 

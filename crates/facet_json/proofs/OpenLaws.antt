@@ -1,12 +1,12 @@
 -- The test of an open buffer says exactly where it is open.
-use Rattle.std.proofs.Common.{◌≡◌, ◌≢◌, ℕ, zero, suc, ◌+◌, ◌≤◌, ◌<◌, Bool, true, false, cond, ◌==◌, ◌&&◌, nat_lt, is_none, List, [], ◌∷◌, ◌++◌, length, drop, Option, Some, None, refl, sym, ap, ◌∙◌, subst, arith, length-append}
+use Rattle.std.proofs.Common.{◌≡◌, ◌≢◌, ℕ, suc, ◌<◌, Bool, true, false, cond, ◌==◌, ◌&&◌, is_none, List, [], ◌∷◌, ◌++◌, length, drop, Option, Some, None, refl, sym, ap, ◌∙◌, subst, arith, length-append}
 use Rattle.std.proofs.lemmas.Bool.{and_parts, and_from, eqb-true, ltb-true, lt-ltb, eq-eqb}
 use Rattle.std.proofs.lemmas.List.{append-nil}
-use Rattle.facet_json.specs.Bytes.{quote, backslash, slash, star, minus}
+use Rattle.facet_json.specs.Bytes.{backslash, slash, star}
 use Rattle.facet_json.specs.Gap.{Mode, plain, jsonc, OpensBlock, one_more, through_block_end, through_line_end}
-use Rattle.facet_json.specs.Number.{Hint, IsNumber, parts, parts_len, begins_number}
+use Rattle.facet_json.specs.Number.{parts, parts_len, begins_number}
 use Rattle.facet_json.specs.Token.{Kind}
-use Rattle.facet_json.specs.Cut.{ArePieces, IsLiteral, null_stands, true_stands, false_stands, Start, letter, opens_number, start_of, common_len, content_len}
+use Rattle.facet_json.specs.Cut.{ArePieces, IsLiteral, null_stands, true_stands, false_stands, Start, letter, start_of, common_len, content_len}
 use Rattle.facet_json.specs.Open.{IsBeginning, is_front_by, is_open_comment, is_beginning_by, is_beginning, is_open}
 use Rattle.facet_json.specs.Laws.{OpenIsTested}
 use Rattle.facet_json.proofs.GapLaws.{opens_line-len}

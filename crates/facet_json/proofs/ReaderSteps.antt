@@ -1,19 +1,18 @@
 -- One step of a reader that goes value by value: what it has read when the next token is in, and how it is refused
 -- there.
-use Rattle.std.proofs.Common.{◌≡◌, ℕ, Bool, true, false, List, [], ◌∷◌, ◌++◌, Option, Some, None, refl, sym, subst, ◌⊎◌, inl, inr}
+use Rattle.std.proofs.Common.{◌≡◌, ℕ, true, false, List, [], ◌∷◌, ◌++◌, Some, refl, subst, inl, inr}
 use Rattle.facet_json.specs.declared.materialized.TokenKind.{TokenKind}
 use Rattle.facet_json.specs.declared.materialized.TokenKind.TheVariants as kinds
 use Rattle.facet_json.specs.declared.materialized.MaterializedToken.{MaterializedToken}
 use Rattle.facet_json.specs.Token.{Kind, Token}
 use Rattle.facet_json.specs.Token as token
 use Rattle.facet_json.specs.Tokens.{Tokens, next}
-use Rattle.facet_json.specs.Node.{Node, is_scalar, is_string, scalar}
+use Rattle.facet_json.specs.Node.{is_scalar, is_string, scalar}
 use Rattle.facet_json.specs.Tree.{Tree, null, bool, text, u64, list, pairs, no_pairs}
 use Rattle.facet_json.specs.Tree as tree
 use Rattle.facet_json.specs.Meaning.{thin_meaning, thin_meaning_of, text_of}
-use Rattle.facet_json.specs.Document.{Reads}
-use Rattle.facet_json.specs.Place.{Place, root, before_key, after_key, after_colon, after_member, before_item, after_item, Refusal, no_memory}
-use Rattle.facet_json.specs.Refusal.{PassesItems, PassesMembers, Begins, nothing, in_item, behind_item, behind_members, behind_key, in_member, behind_member, RefusesFrom, ThinComplains, is_number}
+use Rattle.facet_json.specs.Place.{Place, before_key, after_key, after_colon, after_member, before_item, after_item, Refusal}
+use Rattle.facet_json.specs.Refusal.{nothing, in_item, behind_item, behind_members, behind_key, in_member, behind_member, is_number}
 use Rattle.facet_json.specs.Reading.{ReadsValue, ReadsList, ReadsObject, IsColonNext, StopsAt, StopsFrom, StopsBehind}
 use Rattle.facet_json.specs.Views as views
 use Rattle.facet_json.specs.Views.{IsReadAs, IsReadFirst}

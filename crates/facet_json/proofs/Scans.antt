@@ -1,5 +1,5 @@
 -- What an answer of the plain cut in code says of the tokens that are left, and of its own slices.
-use Rattle.std.proofs.Common.{◌≡◌, ℕ, ◌+◌, ◌≤◌, ◌<◌, Bool, true, false, List, length, Option, Some, None, Ok, Err, refl, sym, ap, subst, arith}
+use Rattle.std.proofs.Common.{◌≡◌, ℕ, ◌+◌, ◌≤◌, ◌<◌, List, length, Some, None, Ok, Err, refl, sym, subst, arith}
 use Rattle.std.specs.Prelude.{IfSome}
 use Rattle.std.proofs.lemmas.Option.{same_Some}
 use Rattle.facet_json.specs.declared.span.Span.{Span as RustSpan}
@@ -10,18 +10,16 @@ use Rattle.facet_json.specs.declared.token.ScanErrorKind.{ScanErrorKind}
 use Rattle.facet_json.specs.declared.token.ScanErrorKind.TheVariants as scan
 use Rattle.facet_json.specs.declared.token.ScanError.{ScanError}
 use Rattle.facet_json.specs.declared.materialized.TokenKind.{TokenKind}
-use Rattle.facet_json.specs.declared.materialized.MaterializedToken.{MaterializedToken}
 use Rattle.facet_json.specs.Gap.{plain}
 use Rattle.facet_json.specs.Token.{Span, Kind, Token, Fault, stop}
 use Rattle.facet_json.specs.Token as token
 use Rattle.facet_json.specs.Cut.{Cut, nothing_left, token as cut_token, fault, cut, span_at}
-use Rattle.facet_json.specs.Tokens.{Tokens, ended, refused, next}
-use Rattle.facet_json.specs.Place.{Place, Refusal, refusal_at, complaint_at_end, complaint_of_fault, goes_on}
-use Rattle.facet_json.specs.Meaning.{thin_meaning, thin_meaning_of}
-use Rattle.facet_json.specs.Refusal.{IsStuck, at_end, at_fault, meaningless, misplaced, ThinComplains, needs_meaning}
+use Rattle.facet_json.specs.Tokens.{next}
+use Rattle.facet_json.specs.Place.{Place, Refusal, refusal_at, complaint_at_end, complaint_of_fault}
+use Rattle.facet_json.specs.Refusal.{at_end, at_fault, meaningless}
 use Rattle.facet_json.specs.Reading.{left, StopsAt}
 use Rattle.facet_json.specs.Views.{span_of, hint_of, kind_of, token_answer, fault_answer, scanned, scan_refusal, CanBeRead, IsReadAs, IsReadFirst, IsMeaningless}
-use Rattle.facet_json.proofs.CutBounds.{TokenFits, KindFits, StringFits, NumberFits, FaultFits, cut-token_fits, cut-fault_fits}
+use Rattle.facet_json.proofs.CutBounds.{TokenFits, KindFits, StringFits, NumberFits, cut-token_fits}
 use Rattle.facet_json.proofs.TokensSteps.{tokens_from-token, tokens_from-fault, tokens_from-nothing}
 
 -- ---- a token

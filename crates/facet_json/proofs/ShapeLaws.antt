@@ -1,13 +1,13 @@
 -- A token is cut exactly where its shape stands, so at one place stands the shape of at most one token.
 use Rattle.std.proofs.Common.{◌≡◌, ℕ, suc, ◌+◌, ◌-◌, ◌≤◌, ◌<◌, min, Bool, true, false, cond, ◌==◌, List, [], ◌∷◌, ◌++◌, length, take, drop, Option, Some, None, refl, sym, ap, ◌∙◌, subst, arith, length-append, length-drop, append_assoc, take-add}
 use Rattle.std.specs.Prelude.{slice_get}
-use Rattle.std.proofs.lemmas.Bool.{cond_both, eqb-true, true≢false, both_ways, false_from_ne_true}
+use Rattle.std.proofs.lemmas.Bool.{cond_both, eqb-true, both_ways, false_from_ne_true}
 use Rattle.std.proofs.lemmas.List.{length-take-le, take_at, drop_at, take_min}
 use Rattle.facet_json.specs.Bytes.{quote, slash, star, minus}
 use Rattle.facet_json.specs.Gap.{Mode, plain, jsonc}
 use Rattle.facet_json.specs.Number.{Hint, IsNumber, parts, parts_len, parts_hint, is_bare, starts_number, begins_number}
 use Rattle.facet_json.specs.Token.{Kind, string, number, Token, unexpected_eof, unexpected_char, in_literal}
-use Rattle.facet_json.specs.Cut.{IsStructural, object_starts, object_ends, array_starts, array_ends, colon_stands, comma_stands, ArePieces, IsLiteral, null_stands, true_stands, false_stands, IsLongest, IsShape, Cut, nothing_left, token, fault, Start, opens_number, start_of, token_at, fault_at, common_len, cut_word, content_len, cut_text, cut_number, cut_slash, cut_by, cut_here}
+use Rattle.facet_json.specs.Cut.{IsStructural, object_starts, object_ends, array_starts, array_ends, colon_stands, comma_stands, ArePieces, IsLiteral, null_stands, true_stands, false_stands, IsLongest, IsShape, Cut, nothing_left, token, fault, Start, start_of, token_at, fault_at, common_len, cut_word, content_len, cut_text, cut_number, cut_slash, cut_by, cut_here}
 use Rattle.facet_json.specs.Laws.{ShapeIsCut, ShapeIsUnique}
 use Rattle.facet_json.proofs.Starts.{Begins, a_mark, a_word, a_text, a_number, a_comment, no_token, start_of-begins, start_of-number}
 use Rattle.facet_json.proofs.NumberFronts.{parts-take, parts_len-bound, is_bare-some}

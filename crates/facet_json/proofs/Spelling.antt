@@ -1,6 +1,6 @@
 -- Tokens spell one value at most.
 use Rattle.std.proofs.Common.{◌≡◌, true, false, refl, sym, ap}
-use Rattle.facet_json.specs.Token.{Kind, Token, object_start, object_end, array_start, array_end, colon, comma, null, true_literal, false_literal, string, number}
+use Rattle.facet_json.specs.Token.{Kind, Token, object_start, array_start, array_end}
 use Rattle.facet_json.specs.Tokens.{Tokens, next}
 use Rattle.facet_json.specs.Node.{Node, Nodes, Members, is_scalar, Spells, one_token, brackets, braces, SpellsItems, closed, item_and_comma, last_item, SpellsMembers, ended_members, member_and_comma, last_member}
 use Rattle.facet_json.specs.Tree.{Tree}

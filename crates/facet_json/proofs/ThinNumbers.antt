@@ -2,7 +2,7 @@
 use Rattle.std.proofs.Common.{◌≡◌, ℕ, ◌<◌, ◌≤◌, ◌^◌, Bool, true, false, cond, List, Option, Some, None, refl, ap, ◌∙◌, drop}
 use Rattle.std.proofs.lemmas.Bool.{lt-ltb, le-ltb}
 use Rattle.std.specs.Prelude.{pos, neg_ℤ, nat_lt, nat_le}
-use Rattle.facet_json.specs.Number.{Number, u64, u128, i64, i128, decimal, unsigned, signed, float, unsigned_number, negative_number, number, is_number, value_by, has_value, parts, digits_value}
+use Rattle.facet_json.specs.Number.{Number, u64, u128, i64, i128, decimal, unsigned, signed, float, negative_number, number, is_number, value_by, has_value, parts, digits_value}
 use Rattle.facet_json.specs.Tree as tree
 use Rattle.facet_json.specs.Meaning.{thin_number}
 use Rattle.facet_json.proofs.NumberText.{number-unsigned}

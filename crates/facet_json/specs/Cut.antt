@@ -1,5 +1,5 @@
 -- What is cut off at a position: the gap there, and then a token or a fault (RFC 8259, section 2).
-use Rattle.std.specs.Prelude.{◌≡◌, ◌≢◌, ℕ, zero, suc, ◌+◌, ◌-◌, Bool, true, false, cond, ◌==◌, ◌&&◌, ◌||◌, List, [], ◌∷◌, ◌++◌, length, take, drop, Option, Some, None, codes, slice_get}
+use Rattle.std.specs.Prelude.{◌≡◌, ℕ, suc, ◌+◌, Bool, true, false, cond, ◌==◌, List, [], ◌∷◌, ◌++◌, length, take, drop, Option, Some, None, codes, slice_get}
 use Rattle.std.specs.List.{list_any}
 use Rattle.facet_json.specs.Bytes.{quote, backslash, slash, star, left_brace, right_brace, left_bracket, right_bracket, is_digit, minus}
 use Rattle.facet_json.specs.Bytes as bytes

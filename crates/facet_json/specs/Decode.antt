@@ -2,7 +2,7 @@
 use Rattle.std.specs.Prelude.{◌≡◌, ℕ, zero, suc, ◌+◌, ◌-◌, ◌*◌, Bool, true, false, cond, ◌==◌, ◌&&◌, ◌||◌, nat_lt, nat_le, List, [], ◌∷◌, ◌++◌, take, Option, Some, None}
 use Rattle.std.specs.Option.{option_map}
 use Rattle.std.specs.Char.{digit_value, encode_utf8, IsScalar}
-use Rattle.std.specs.Str.{continuation_len, lead_bits, all_scalars, bytes_eq}
+use Rattle.std.specs.Str.{continuation_len, lead_bits, bytes_eq}
 use lib.Utf8.{scalar}
 use Rattle.facet_json.specs.Bytes.{quote, backslash, slash, lower_b, lower_f, lower_n, lower_r, lower_t, lower_u, backspace, form_feed, line_feed, carriage_return, tab}
 

@@ -1,5 +1,5 @@
 -- The gap before a token (RFC 8259, section 2): white space and, in JSONC mode, comments.
-use Rattle.std.specs.Prelude.{◌≡◌, ℕ, zero, suc, ◌+◌, ◌-◌, Bool, true, false, cond, ◌==◌, ◌&&◌, List, [], ◌∷◌, ◌++◌, length, Option, Some, None}
+use Rattle.std.specs.Prelude.{◌≡◌, ℕ, zero, suc, true, false, cond, ◌==◌, ◌&&◌, List, [], ◌∷◌, ◌++◌, length, Option, Some, None}
 use Rattle.facet_json.specs.Bytes.{is_space, slash, star, line_feed}
 
 -- the language that is read: RFC 8259 with the lenient readings of docs/LANGUAGE.md, without comments or with them

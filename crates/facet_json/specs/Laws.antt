@@ -1,13 +1,13 @@
 -- What the definitions mean, in the subject's own words. Each law is the contract of a function of the module `laws`.
-use Rattle.std.specs.Prelude.{◌≡◌, ◌≢◌, ℕ, ◌+◌, ◌≤◌, ◌<◌, ◌↔◌, Bool, true, false, cond, nat_lt, List, [], ◌∷◌, ◌++◌, length, take, drop, Option, Some, None}
+use Rattle.std.specs.Prelude.{◌≡◌, ◌≢◌, ℕ, ◌≤◌, ◌↔◌, true, false, cond, nat_lt, List, [], ◌∷◌, ◌++◌, length, take, drop, Some}
 use Rattle.std.specs.List.{flat_map}
 use Rattle.std.specs.Char.{encode_utf8}
 use Rattle.std.specs.Str.{all_scalars, encode_utf8_all}
 use Rattle.facet_json.specs.Bytes.{quote}
 use Rattle.facet_json.specs.Gap.{Mode, plain, jsonc, Input, IsGap, gap_len}
 use Rattle.facet_json.specs.Number.{Hint, IsNumber, parts, parts_len, parts_hint, is_bare, begins_number, is_number}
-use Rattle.facet_json.specs.Token.{Kind, Fault, stop}
-use Rattle.facet_json.specs.Cut.{IsShape, Cut, nothing_left, token_at, cut_here, cut, fault}
+use Rattle.facet_json.specs.Token.{Kind}
+use Rattle.facet_json.specs.Cut.{IsShape, nothing_left, token_at, cut_here, cut}
 use Rattle.facet_json.specs.Open.{IsOpen, is_open}
 use Rattle.facet_json.specs.Decode.{Decodes, decoded}
 use Rattle.facet_json.specs.Node.{Node, Spells}

@@ -1,5 +1,5 @@
 -- Where a buffer that may grow does not say yet what stands at a position: what is left is a beginning of something longer.
-use Rattle.std.specs.Prelude.{◌≡◌, ◌≢◌, ℕ, ◌+◌, ◌&&◌, ◌==◌, nat_lt, Bool, false, true, cond, is_none, List, [], ◌∷◌, ◌++◌, length, drop}
+use Rattle.std.specs.Prelude.{◌≢◌, ℕ, ◌+◌, ◌&&◌, ◌==◌, nat_lt, Bool, false, true, cond, is_none, List, [], ◌∷◌, ◌++◌, length, drop}
 use Rattle.facet_json.specs.Bytes.{quote, backslash, slash, star, minus}
 use Rattle.facet_json.specs.Gap.{Mode, plain, jsonc, growing, gap_len, OpensBlock, OpensLine, through_block_end, through_line_end}
 use Rattle.facet_json.specs.Number.{Hint, IsNumber, parts, parts_len}

@@ -1,5 +1,5 @@
 -- Fronts of documents, and how an input without a document is refused: at the first token with which the front can't go on.
-use Rattle.std.specs.Prelude.{◌≡◌, ℕ, zero, Bool, true, false, cond, List, length, Option, Some, None, IsSome, codes}
+use Rattle.std.specs.Prelude.{◌≡◌, ℕ, Bool, true, false, cond, List, length, Some, None, IsSome, codes}
 use Rattle.facet_json.specs.Token.{Span, Kind, Token, Fault}
 use Rattle.facet_json.specs.Token as token
 use Rattle.facet_json.specs.Gap.{plain}
@@ -51,12 +51,6 @@ pub data Begins (m : Meaning) : Place → Tokens → Place → Tokens → Type 0
 abbrev pub is_number : Kind → Bool
 is_number (token.number start finish hint) = true
 is_number _ = false
-
--- No document goes on at the place with the first of the tokens.
-abbrev pub StaysAt : Place → Tokens → Type 0
-StaysAt place ended = Unit {0}
-StaysAt place (refused f) = Unit {0}
-StaysAt place (next t rest) = goes_on place t.kind ≡ false
 
 -- a string or a number, whose text is judged before its place
 abbrev pub needs_meaning : Kind → Bool

@@ -1,5 +1,5 @@
 -- What the types of the code stand for in the definitions. The one file of the definitions that names types of the code.
-use Rattle.std.specs.Prelude.{◌≡◌, ℕ, Bool, List, [], ◌∷◌, map, Option, Some, None, Result, Ok, Err, IfOk, codes, length, slice_range, ◌≤◌, ◌==◌, true, false, string_bytes, vec_items}
+use Rattle.std.specs.Prelude.{◌≡◌, ℕ, List, [], ◌∷◌, map, Option, Some, None, Result, Ok, Err, codes, length, slice_range, ◌≤◌, ◌==◌, true, false, string_bytes}
 use Rattle.std.specs.Option.{option_map}
 use Rattle.std.specs.declared.string.String.{String}
 use Rattle.std.specs.declared.alloc.Global.{Global}
@@ -35,7 +35,7 @@ use Rattle.facet_json.specs.Cut.{Cut, nothing_left, fault}
 use Rattle.facet_json.specs.Cut as cut
 use Rattle.facet_json.specs.Place.{Place, Complaint, Refusal}
 use Rattle.facet_json.specs.Place as place
-use Rattle.facet_json.specs.Tokens.{Tokens, next, ended}
+use Rattle.facet_json.specs.Tokens.{Tokens, next}
 use Rattle.facet_json.specs.Node.{is_string}
 use Rattle.facet_json.specs.Meaning.{thin_meaning_of}
 use Rattle.facet_json.specs.Refusal.{is_number, needs_meaning, thin_complaint}
@@ -120,10 +120,6 @@ place_of places.AfterColon = place.after_colon
 place_of places.AfterMember = place.after_member
 place_of places.BeforeItem = place.before_item
 place_of places.AfterItem = place.after_item
-
--- the end is answered with an empty span at the end of the input
-abbrev pub EndsAt : ℕ → Result SpannedToken ScanError → Type 0
-EndsAt n r = IfOk r (λ t. t.token ≡ code.Eof → span_of t.span ≡ record { offset = n; len = 0 })
 
 -- what a kind of token of the buffer is read as, where only thin tokens are read
 abbrev pub IsReadAs : List ℕ → Kind → TokenKind → Type 0

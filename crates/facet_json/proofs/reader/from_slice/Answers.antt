@@ -1,4 +1,4 @@
-use Rattle.std.proofs.Common.{◌≡◌, refl, inr}
+use Rattle.std.proofs.Common.{inr}
 use Rattle.std.proofs.lemmas.Result.{err_from_is_err_and, IfOk-weaker, IfErr-weaker, MatchResult-from_both}
 use Rattle.facet_json.specs.Reading.{at_root}
 use Rattle.facet_json.proofs.ThinDocuments.{refused_first, only_memory, only_tree, span_within}
