@@ -37,5 +37,7 @@ pub mod DocumentRows
 pub mod TextShapes
 pub mod ShapeLaws
 pub mod FirstBytes
+pub mod CutRows
+pub mod TextRows
 pub mod Suffixes
 pub mod ThinDocuments

@@ -26,7 +26,8 @@ record Judged (buffer : List ℕ) (kind : Kind) (k : TokenKind) : Type 0 where
   expected_alike : (p : Place) → expected_at p kind ≡ expected_at p (sample k)
 
 -- A kind that looks like its sample to the letter, and is neither a string nor a number.
-plain_kind : (buffer : List ℕ) (kind : Kind) (k : TokenKind) → kind ≡ sample k → needs_meaning (sample k) ≡ false → kind_name buffer (sample k) ≡ name_of k → Judged buffer kind k
+plain_kind : (buffer : List ℕ) (kind : Kind) (k : TokenKind) → kind ≡ sample k → needs_meaning (sample k) ≡ false →
+    kind_name buffer (sample k) ≡ name_of k → Judged buffer kind k
 plain_kind buffer kind k e n same = record {
   has_meaning = λ m. let f : needs_meaning (sample k) ≡ true = rw e at m in cc;
   name = rw e same;
@@ -38,20 +39,24 @@ string_goes_on : (a b : ℕ) (h : Bool) (p : Place) → goes_on p (token.string 
 string_goes_on a b h root = refl
 string_goes_on a b h _ = refl
 
-string_expected : (a b : ℕ) (h : Bool) (p : Place) → expected_at p (token.string a b h) ≡ expected_at p (token.string 0 0 false)
+string_expected : (a b : ℕ) (h : Bool) (p : Place) →
+    expected_at p (token.string a b h) ≡ expected_at p (token.string 0 0 false)
 string_expected a b h root = refl
 string_expected a b h _ = refl
 
-number_goes_on : (a b : ℕ) (h : Hint) (p : Place) → goes_on p (token.number a b h) ≡ goes_on p (token.number 0 0 numbers.unsigned)
+number_goes_on : (a b : ℕ) (h : Hint) (p : Place) →
+    goes_on p (token.number a b h) ≡ goes_on p (token.number 0 0 numbers.unsigned)
 number_goes_on a b h root = refl
 number_goes_on a b h _ = refl
 
-number_expected : (a b : ℕ) (h : Hint) (p : Place) → expected_at p (token.number a b h) ≡ expected_at p (token.number 0 0 numbers.unsigned)
+number_expected : (a b : ℕ) (h : Hint) (p : Place) →
+    expected_at p (token.number a b h) ≡ expected_at p (token.number 0 0 numbers.unsigned)
 number_expected a b h root = refl
 number_expected a b h _ = refl
 
 -- A number that is thin is called by its one name.
-thin_name : (n : Option Number) (m : ℕ) → thin_number n ≡ Some (tree.u64 m) → number_name n ≡ number_name (Some (numbers.u64 m))
+thin_name : (n : Option Number) (m : ℕ) → thin_number n ≡ Some (tree.u64 m) →
+    number_name n ≡ number_name (Some (numbers.u64 m))
 thin_name (Some (numbers.u64 k)) m e = refl
 thin_name _ m e = cc
 
@@ -73,12 +78,17 @@ judged buffer _ (kinds.U64 n) r = cc
 judged buffer kind k r = plain_kind buffer kind k r refl refl
 
 -- A token with which no document goes on at the place stops the reader there.
-pub stops_misplaced : (buffer : List ℕ) (p : Place) (ts after : Tokens) (t : MaterializedToken) (r : Refusal) → IsReadFirst buffer ts t after → goes_on p (sample t.kind) ≡ false
-    → r ≡ refusal_at (misplaced_complaint p t.kind) (span_of t.span) → StopsAt buffer p ts r
+pub stops_misplaced : (buffer : List ℕ) (p : Place) (ts after : Tokens) (t : MaterializedToken) (r : Refusal) →
+    IsReadFirst buffer ts t after → goes_on p (sample t.kind) ≡ false →
+    r ≡ refusal_at (misplaced_complaint p t.kind) (span_of t.span) → StopsAt buffer p ts r
 stops_misplaced buffer p ts after t r f n same =
     let j : Judged buffer f.first.kind t.kind = judged buffer f.first.kind t.kind f.read in
-    let whole : StopsAt buffer p (next f.first after) (refusal_at (unexpected_token (kind_name buffer f.first.kind) (expected_at p f.first.kind)) f.first.span) = misplaced p f.first after j.has_meaning (j.goes_on_alike p ∙ n) in
-    let called : refusal_at (unexpected_token (kind_name buffer f.first.kind) (expected_at p f.first.kind)) f.first.span ≡ r = rw (j.name, j.expected_alike p, f.spans) (sym same) in
+    let whole : StopsAt buffer p (next f.first after)
+    (refusal_at (unexpected_token (kind_name buffer f.first.kind) (expected_at p f.first.kind)) f.first.span) =
+    misplaced p f.first after j.has_meaning (j.goes_on_alike p ∙ n) in
+    let called : refusal_at
+    (unexpected_token (kind_name buffer f.first.kind) (expected_at p f.first.kind)) f.first.span ≡ r =
+    rw (j.name, j.expected_alike p, f.spans) (sym same) in
     rw f.is_first (subst (λ (q : Refusal). StopsAt buffer p (next f.first after) q) called whole)
 
 -- ---- with what no document goes on
@@ -92,12 +102,14 @@ after_item-stays kinds.Comma n m = absurd (n refl)
 after_item-stays kinds.ArrayEnd n m = absurd (m refl)
 after_item-stays _ n m = refl
 
-pub after_member-stays : (k : TokenKind) → k ≢ kinds.Comma → k ≢ kinds.ObjectEnd → goes_on after_member (sample k) ≡ false
+pub after_member-stays : (k : TokenKind) → k ≢ kinds.Comma → k ≢ kinds.ObjectEnd →
+    goes_on after_member (sample k) ≡ false
 after_member-stays kinds.Comma n m = absurd (n refl)
 after_member-stays kinds.ObjectEnd n m = absurd (m refl)
 after_member-stays _ n m = refl
 
-pub before_key-stays : (k : TokenKind) → ((s : Bor (List ℕ)) → k ≢ kinds.String s) → k ≢ kinds.ObjectEnd → goes_on before_key (sample k) ≡ false
+pub before_key-stays : (k : TokenKind) → ((s : Bor (List ℕ)) → k ≢ kinds.String s) → k ≢ kinds.ObjectEnd →
+    goes_on before_key (sample k) ≡ false
 before_key-stays (kinds.String s) n m = absurd (n s refl)
 before_key-stays kinds.ObjectEnd n m = absurd (m refl)
 before_key-stays _ n m = refl
@@ -118,7 +130,9 @@ value-stays _ _ of_list (bracket n) = absurd (n refl)
 value-stays _ _ of_list _ = refl
 
 -- What none of the arms for values takes begins none.
-pub begins_none : (p : Place) (k : TokenKind) → (p ≡ before_item → k ≢ kinds.ArrayEnd) → k ≢ kinds.Null → k ≢ kinds.True → k ≢ kinds.False → ((n : ℕ) → k ≢ kinds.U64 n) → ((s : Bor (List ℕ)) → k ≢ kinds.String s) → k ≢ kinds.ArrayStart → k ≢ kinds.ObjectStart → BeginsNone p k
+pub begins_none : (p : Place) (k : TokenKind) → (p ≡ before_item → k ≢ kinds.ArrayEnd) → k ≢ kinds.Null →
+    k ≢ kinds.True → k ≢ kinds.False → ((n : ℕ) → k ≢ kinds.U64 n) → ((s : Bor (List ℕ)) → k ≢ kinds.String s) →
+    k ≢ kinds.ArrayStart → k ≢ kinds.ObjectStart → BeginsNone p k
 begins_none p kinds.ObjectStart end n t f u s a o = absurd (o refl)
 begins_none p kinds.ObjectEnd end n t f u s a o = brace
 begins_none p kinds.ArrayStart end n t f u s a o = absurd (a refl)

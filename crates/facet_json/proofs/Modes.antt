@@ -40,8 +40,8 @@ jsonc_gap_ends input b bytes e f = gap_len-none jsonc input (b ∷ bytes) (rw e 
 
 -- Two lengths that are alike, or end at a slash, are so with one more byte in front.
 gaps_at : (input : Input) (b : ℕ) (bytes : List ℕ) (is_blank is_slash : Bool) → is_space b ≡ is_blank →
-    (b == slash) ≡ is_slash → AlikeOrSlash (gap_len plain input bytes) (gap_len jsonc input bytes) bytes
-    → AlikeOrSlash (gap_len plain input (b ∷ bytes)) (gap_len jsonc input (b ∷ bytes)) (b ∷ bytes)
+    (b == slash) ≡ is_slash → AlikeOrSlash (gap_len plain input bytes) (gap_len jsonc input bytes) bytes →
+    AlikeOrSlash (gap_len plain input (b ∷ bytes)) (gap_len jsonc input (b ∷ bytes)) (b ∷ bytes)
 gaps_at input b bytes true s e f (alike same) =
     alike (gap_at_blank plain input b bytes e ∙ ap suc same ∙ sym (gap_at_blank jsonc input b bytes e))
 gaps_at input b bytes true s e f (at_slash rest here) = at_slash rest (rw (gap_at_blank plain input b bytes e) here)

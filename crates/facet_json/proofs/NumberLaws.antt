@@ -198,7 +198,8 @@ minus-alone _ digits _ IsMinus.absent some e = absurd (some e)
 minus-alone _ digits _ IsMinus.present some e = refl
 
 -- A numeral that is measured no longer than its sign is a minus.
-pub bare-minus : (bytes : List ℕ) (hint : Hint) → IsNumeral bytes hint → is_bare (parts bytes) ≡ true → bytes ≡ minus ∷ []
+pub bare-minus : (bytes : List ℕ) (hint : Hint) → IsNumeral bytes hint → is_bare (parts bytes) ≡ true →
+    bytes ≡ minus ∷ []
 bare-minus bytes hint n e =
     let p = parts bytes in
     let long : parts_len p ≡ p.sign = eqb-true (parts_len p) p.sign e in
@@ -345,7 +346,7 @@ is_number-sound bytes hint e =
     }
 
 -- A number is tested to be one.
-is_number-complete : (bytes : List ℕ) (hint : Hint) → IsNumber bytes hint → is_number bytes hint ≡ true
+pub is_number-complete : (bytes : List ℕ) (hint : Hint) → IsNumber bytes hint → is_number bytes hint ≡ true
 is_number-complete bytes hint n =
     let p = parts bytes in
     let begins = begins_number-is bytes hint n.numeral in

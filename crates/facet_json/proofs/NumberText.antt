@@ -45,7 +45,8 @@ digits-alone _ digits _ _ _ _ _ sign IsFraction.absent (IsExponent.present _ _ _
 pub unsigned-digits : (text : List ℕ) → is_number text unsigned ≡ true → AreDigits text
 unsigned-digits text is =
     let n = (is_number-sound text unsigned is).numeral in
-    let alone = digits-alone n.sign n.digits n.fraction n.exponent _ _ _ n.is_minus n.is_fraction n.is_exponent n.kind in
+    let alone = digits-alone n.sign n.digits n.fraction n.exponent _ _ _ n.is_minus n.is_fraction n.is_exponent n.kind
+    in
     subst AreDigits (sym (n.whole ∙ alone)) n.are_digits
 
 -- An unsigned number is what its digits spell.

@@ -1,6 +1,5 @@
 -- What a byte begins, case by case.
-use Rattle.std.proofs.Common.{◌≡◌, ℕ, true, false, cond, ◌==◌, List, ◌∷◌, refl, sym, subst, ◌∙◌}
-use Rattle.std.proofs.Common.{true≢false}
+use Rattle.std.proofs.Common.{◌≡◌, ℕ, true, false, cond, ◌==◌, List, ◌∷◌, refl, sym, subst, ◌∙◌, true≢false}
 use Rattle.std.proofs.lemmas.Bool.{cond_both, eqb-true}
 use Rattle.facet_json.specs.Bytes.{quote, slash, left_brace, right_brace, left_bracket, right_bracket}
 use Rattle.facet_json.specs.Bytes as bytes
