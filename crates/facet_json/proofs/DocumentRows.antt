@@ -156,11 +156,11 @@ leading_zeros_row : read (codes "[007,-1,1.]") plain ≡ Some (list (tree (u64 7
 unfolding document spelled node_within tree_of tokens_past cut cut_here start_of gap_len_from parts number
 leading_zeros_row = refl
 
--- the tree of the plain document that all of the text is
+-- the tree of the plain document that all of the input is
 abbrev read_whole : List ℕ → Option Tree
-read_whole buffer = option_map (λ d. d.1) (whole_document buffer)
+read_whole input = option_map (λ d. d.1) (whole_document input)
 
--- White space may stand around a document that is all of the text.
+-- White space may stand around a document that is all of the input.
 whole_row : read_whole (codes " [1] ") ≡ Some (list (tree (u64 1) no_trees))
 unfolding whole_document spelled node_within tree_of tokens_past cut cut_here start_of gap_len_from parts number
 whole_row = refl
@@ -180,7 +180,7 @@ whole_comma_row : read_whole (codes "[1,]") ≡ Some (list (tree (u64 1) no_tree
 unfolding whole_document spelled node_within tree_of tokens_past cut cut_here start_of gap_len_from parts number
 whole_comma_row = refl
 
--- An empty text is none.
+-- An empty input is none.
 nothing_whole_row : read_whole (codes "") ≡ None
 unfolding whole_document spelled node_within tree_of tokens_past cut cut_here start_of gap_len_from parts number
 nothing_whole_row = refl

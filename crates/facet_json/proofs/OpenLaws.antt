@@ -83,14 +83,14 @@ is_beginning-sound mode (b ∷ bytes) e = begins_by (start_of b) mode b bytes (s
 
 -- ---- a beginning is tested to be one
 
--- Behind pieces a content ends where it ends behind them.
-content_len-behind : (content rest : List ℕ) (has_escapes : Bool) → ArePieces content has_escapes →
+-- A content that doesn't end behind pieces doesn't end with them in front.
+content_len-pieces : (content rest : List ℕ) (has_escapes : Bool) → ArePieces content has_escapes →
     content_len false rest ≡ None → content_len false (content ++ rest) ≡ None
-content_len-behind _ rest _ ArePieces.none e = e
-content_len-behind _ rest _ (ArePieces.byte b others has_escapes no_quote no_backslash h) e =
-    rw (no_quote, no_backslash) (ap one_more (content_len-behind others rest has_escapes h e))
-content_len-behind _ rest _ (ArePieces.escape b others has_escapes h) e =
-    ap (λ o. one_more (one_more o)) (content_len-behind others rest has_escapes h e)
+content_len-pieces _ rest _ ArePieces.none e = e
+content_len-pieces _ rest _ (ArePieces.byte b others has_escapes no_quote no_backslash h) e =
+    rw (no_quote, no_backslash) (ap one_more (content_len-pieces others rest has_escapes h e))
+content_len-pieces _ rest _ (ArePieces.escape b others has_escapes h) e =
+    ap (λ o. one_more (one_more o)) (content_len-pieces others rest has_escapes h e)
 
 -- A block comment without an end has no length.
 opens_block-len : (body : List ℕ) → OpensBlock body → through_block_end body ≡ None
@@ -136,9 +136,9 @@ number_tested mode (b ∷ bytes) begins all = rw (start_of-number b begins) (eq-
 is_beginning-complete : (mode : Mode) (bytes : List ℕ) → IsBeginning mode bytes → is_beginning mode bytes ≡ true
 unfolding is_beginning start_of parts
 is_beginning-complete _ _ (IsBeginning.text mode content has_escapes h) =
-    ap is_none (ap (content_len false) (sym (append-nil content)) ∙ content_len-behind content [] has_escapes h refl)
+    ap is_none (ap (content_len false) (sym (append-nil content)) ∙ content_len-pieces content [] has_escapes h refl)
 is_beginning-complete _ _ (IsBeginning.escape mode content has_escapes h) =
-    ap is_none (content_len-behind content (backslash ∷ []) has_escapes h refl)
+    ap is_none (content_len-pieces content (backslash ∷ []) has_escapes h refl)
 is_beginning-complete _ _ (IsBeginning.literal mode front others kind h some more) =
     literal_tested mode front others kind h some more
 is_beginning-complete _ _ IsBeginning.slash_alone = refl

@@ -313,6 +313,7 @@ document_is_found buffer mode root value =
 abbrev node_with_tree : Meaning → Node → Option (Node × Tree)
 node_with_tree m node = option_map (λ value. (node, value)) (tree_of m node)
 
+-- A spelling that nothing follows is read with its tree.
 ended-reads : (m : Meaning) (ts rest : Tokens) (node root : Node) (value : Tree) → Spells ts node rest →
     option_and_then (node_with_tree m) (if_ended node rest) ≡ Some (root, value) → Reads m ts root value ended
 ended-reads m ts ended node root value s e =
@@ -320,13 +321,14 @@ ended-reads m ts ended node root value s e =
 ended-reads m ts (refused f) node root value s e = cc
 ended-reads m ts (next t rest) node root value s e = cc
 
+-- What is computed as a whole document is read.
 whole-reads : (m : Meaning) (ts : Tokens) (root : Node) (value : Tree) (o : Option (Node × Tokens)) → IsValue ts o →
     option_and_then (node_with_tree m) (option_and_then (λ r. if_ended r.0 r.1) o) ≡ Some (root, value) →
     Reads m ts root value ended
 whole-reads m ts root value None h e = cc
 whole-reads m ts root value (Some r) h e = ended-reads m ts r.1 r.0 root value h e
 
--- The whole document that is computed is the one that all of the text is.
+-- What is computed as the whole document of a text is the one plain document that all of it is.
 pub whole_document_is_found : WholeDocumentIsFound
 unfolding whole_document spelled
 whole_document_is_found buffer root value =

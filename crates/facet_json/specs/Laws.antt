@@ -78,7 +78,7 @@ abbrev pub DocumentIsFound : Type 0
 DocumentIsFound = (buffer : List ℕ) (mode : Mode) (root : Node) (value : Tree) →
     (document buffer mode ≡ Some (root, value)) ↔ IsDocument buffer mode root value
 
--- The whole plain document that is computed is the one that all of the text is.
+-- What is computed as the whole document of a text is the one plain document that all of it is.
 abbrev pub WholeDocumentIsFound : Type 0
 WholeDocumentIsFound = (buffer : List ℕ) (root : Node) (value : Tree) →
     (whole_document buffer ≡ Some (root, value)) ↔ IsWholeDocument buffer root value

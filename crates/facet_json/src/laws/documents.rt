@@ -32,7 +32,7 @@ pub fn document_is_found()
     ensures { DocumentIsFound }
 {}
 
-/// What is computed as the plain document that all of a text is is that document.
+/// What is computed as the whole document of a text is the one plain document that all of it is.
 pub fn whole_document_is_found()
     ensures { WholeDocumentIsFound }
 {}
