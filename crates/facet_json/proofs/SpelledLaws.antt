@@ -8,11 +8,11 @@ use Rattle.facet_json.specs.Token as token
 use Rattle.facet_json.specs.Tokens.{Tokens, ended, refused, next, tokens}
 use Rattle.facet_json.specs.Node.{Node, scalar, array, object, Nodes, item, Members, member, is_scalar, is_string, Spells, one_token, brackets, braces, SpellsItems, closed, item_and_comma, last_item, SpellsMembers, ended_members, member_and_comma, last_member}
 use Rattle.facet_json.specs.Tree.{Tree}
-use Rattle.facet_json.specs.Meaning.{Meaning, meaning, tree_of}
-use Rattle.facet_json.specs.Document.{Reads, IsDocument, IsWholeDocument}
+use Rattle.facet_json.specs.Meaning.{Meaning, meaning, thin_meaning, tree_of}
+use Rattle.facet_json.specs.Document.{Reads, IsDocument, IsThinDocument, IsWholeDocument}
 use Rattle.facet_json.specs.Place.{begins_value}
-use Rattle.facet_json.specs.Spelled.{ValueReader, ItemsReader, MembersReader, node_by, node_from, after_item_by, after_item_from, nodes_by, nodes_from, after_member_by, after_member_from, after_key_by, after_key_from, members_by, members_from, node_within, nodes_within, members_within, count, spelled, document, if_ended, whole_document}
-use Rattle.facet_json.specs.Laws.{SpelledIsSpells, DocumentIsFound, WholeDocumentIsFound}
+use Rattle.facet_json.specs.Spelled.{ValueReader, ItemsReader, MembersReader, node_by, node_from, after_item_by, after_item_from, nodes_by, nodes_from, after_member_by, after_member_from, after_key_by, after_key_from, members_by, members_from, node_within, nodes_within, members_within, count, spelled, read_by, document, thin_document, if_ended, whole_document}
+use Rattle.facet_json.specs.Laws.{SpelledIsSpells, DocumentIsFound, WholeDocumentIsFound, ThinDocumentIsFound}
 use Rattle.facet_json.proofs.Spelling.{Starts, Spells-starts}
 
 -- ---- what is computed is spelled
@@ -295,19 +295,35 @@ found-reads : (m : Meaning) (ts : Tokens) (root : Node) (value : Tree) (o : Opti
 found-reads m ts root value None h e = cc
 found-reads m ts root value (Some r) h e = (r.1, with_tree-reads m ts r root value (tree_of m r.0) refl e h)
 
+-- What is computed is what is read, by whatever meaning.
+read_by-reads : (m : Meaning) (ts : Tokens) (root : Node) (value : Tree) → read_by m ts ≡ Some (root, value) →
+    (rest : Tokens) × Reads m ts root value rest
+unfolding read_by spelled
+read_by-reads m ts root value e = found-reads m ts root value (spelled ts) (node_within-is (count ts) ts) e
+
+-- What is read is what is computed.
+reads-read_by : (m : Meaning) (ts rest : Tokens) (root : Node) (value : Tree) → Reads m ts root value rest →
+    read_by m ts ≡ Some (root, value)
+unfolding read_by
+reads-read_by m ts rest root value r =
+    ap (option_and_then (with_tree m)) ((spelled_is_spells ts rest root).1 r.spells)
+    ∙ ap (option_map (λ v. (root, v))) r.has_tree
+
 -- The document that is computed is the one of the input.
 pub document_is_found : DocumentIsFound
-unfolding document spelled
 document_is_found buffer mode root value =
-    let m = meaning buffer in
-    let ts = tokens buffer mode in
-    let is = node_within-is (count ts) ts in
-    let found : document buffer mode ≡ Some (root, value) → IsDocument buffer mode root value =
-    λ e. (let r = found-reads m ts root value (spelled ts) is e in record { rest = r.0; reads = r.1 }) in
-    let finds : IsDocument buffer mode root value → document buffer mode ≡ Some (root, value) =
-    λ d. ap (option_and_then (with_tree m)) ((spelled_is_spells ts d.rest root).1 d.reads.spells)
-    ∙ ap (option_map (λ v. (root, v))) d.reads.has_tree in
-    (found, finds)
+    (
+      λ e. (let r = read_by-reads (meaning buffer) (tokens buffer mode) root value e in record { rest = r.0; reads = r.1 }),
+      λ d. reads-read_by (meaning buffer) (tokens buffer mode) d.rest root value d.reads
+    )
+
+-- The thin document that is computed is the one of the input.
+pub thin_document_is_found : ThinDocumentIsFound
+thin_document_is_found buffer root value =
+    (
+      λ e. (let r = read_by-reads (thin_meaning buffer) (tokens buffer plain) root value e in record { rest = r.0; reads = r.1 }),
+      λ d. reads-read_by (thin_meaning buffer) (tokens buffer plain) d.rest root value d.reads
+    )
 
 -- a node with its tree, where it has one
 abbrev node_with_tree : Meaning → Node → Option (Node × Tree)

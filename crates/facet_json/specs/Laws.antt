@@ -14,7 +14,7 @@ use Rattle.facet_json.specs.Node.{Node, Spells}
 use Rattle.facet_json.specs.Tokens.{Tokens}
 use Rattle.facet_json.specs.Tree.{Tree}
 use Rattle.facet_json.specs.Document.{IsDocument, IsThinDocument, IsWholeDocument}
-use Rattle.facet_json.specs.Spelled.{spelled, document, whole_document}
+use Rattle.facet_json.specs.Spelled.{spelled, document, whole_document, thin_document}
 use Rattle.facet_json.specs.Place.{Refusal}
 use Rattle.facet_json.specs.Refusal.{RefusesThin}
 use Rattle.facet_json.specs.Quoted.{escaped, quoted}
@@ -77,6 +77,11 @@ SpelledIsSpells = (ts rest : Tokens) (node : Node) → (spelled ts ≡ Some (nod
 abbrev pub DocumentIsFound : Type 0
 DocumentIsFound = (buffer : List ℕ) (mode : Mode) (root : Node) (value : Tree) →
     (document buffer mode ≡ Some (root, value)) ↔ IsDocument buffer mode root value
+
+-- The thin document that is computed is the one thin document of the input.
+abbrev pub ThinDocumentIsFound : Type 0
+ThinDocumentIsFound = (buffer : List ℕ) (root : Node) (value : Tree) →
+    (thin_document buffer ≡ Some (root, value)) ↔ IsThinDocument buffer root value
 
 -- What is computed as the whole document of a text is the one plain document that all of it is.
 abbrev pub WholeDocumentIsFound : Type 0
