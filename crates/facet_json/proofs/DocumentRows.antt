@@ -11,7 +11,7 @@ use Rattle.facet_json.specs.Tokens.{tokens_past}
 use Rattle.facet_json.specs.Decode.{short_escape, code_unit, utf8_at, unit_at, escape_at, piece_at, decoded_past}
 use Rattle.facet_json.specs.Tree.{Tree, null, bool, u64, i64, text, decimal, list, pairs, no_trees, tree, no_pairs, pair}
 use Rattle.facet_json.specs.Meaning.{tree_of}
-use Rattle.facet_json.specs.Spelled.{node_within, spelled, document}
+use Rattle.facet_json.specs.Spelled.{node_within, spelled, document, whole_document}
 
 -- the tree of the input's document
 abbrev read : List ℕ → Mode → Option Tree
@@ -155,3 +155,32 @@ surrogate_pair_row = refl
 leading_zeros_row : read (codes "[007,-1,1.]") plain ≡ Some (list (tree (u64 7) (tree (i64 (neg_ℤ (pos 1))) (tree (decimal (codes "1.")) no_trees))))
 unfolding document spelled node_within tree_of tokens_past cut cut_here start_of gap_len_from parts number
 leading_zeros_row = refl
+
+-- the tree of the plain document that all of the text is
+abbrev read_whole : List ℕ → Option Tree
+read_whole buffer = option_map (λ d. d.1) (whole_document buffer)
+
+-- White space may stand around a document that is all of the text.
+whole_row : read_whole (codes " [1] ") ≡ Some (list (tree (u64 1) no_trees))
+unfolding whole_document spelled node_within tree_of tokens_past cut cut_here start_of gap_len_from parts number
+whole_row = refl
+
+-- Nothing else may follow it.
+not_whole_row : read_whole (codes "[1] x") ≡ None
+unfolding whole_document spelled node_within tree_of tokens_past cut cut_here start_of gap_len_from parts number
+not_whole_row = refl
+
+-- Nor a second document.
+two_documents_row : read_whole (codes "1 2") ≡ None
+unfolding whole_document spelled node_within tree_of tokens_past cut cut_here start_of gap_len_from parts number
+two_documents_row = refl
+
+-- One comma may follow its last item.
+whole_comma_row : read_whole (codes "[1,]") ≡ Some (list (tree (u64 1) no_trees))
+unfolding whole_document spelled node_within tree_of tokens_past cut cut_here start_of gap_len_from parts number
+whole_comma_row = refl
+
+-- An empty text is none.
+nothing_whole_row : read_whole (codes "") ≡ None
+unfolding whole_document spelled node_within tree_of tokens_past cut cut_here start_of gap_len_from parts number
+nothing_whole_row = refl

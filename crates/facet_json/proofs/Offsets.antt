@@ -11,13 +11,6 @@ drop-at_byte bytes at b e =
     drop_more bytes at b (slice_get_within bytes at b e)
     ∙ ap (λ x. x ∷ drop (at + 1) bytes) (get_or_from_slice_get bytes at b b e)
 
--- where none stands, nothing is left
-pub drop-at_end : (bytes : List ℕ) (at : ℕ) → slice_get bytes at ≡ None → drop at bytes ≡ []
-drop-at_end [] zero e = refl
-drop-at_end [] (suc at) e = refl
-drop-at_end (x ∷ bytes) zero e = cc
-drop-at_end (x ∷ bytes) (suc at) e = drop-at_end bytes at e
-
 -- an offset behind one more byte
 pub option_map-one_more : (at : ℕ) (o : Option ℕ) →
     option_map (λ n. at + n) (one_more o) ≡ option_map (λ n. (at + 1) + n) o

@@ -20,15 +20,7 @@ pub record Starts (ts : Tokens) : Type 0 where
 pub scalar_begins : (kind : Kind) → is_scalar kind ≡ true → begins_value kind ≡ true
 scalar_begins object_start e = refl
 scalar_begins array_start e = refl
-scalar_begins object_end e = e
-scalar_begins array_end e = e
-scalar_begins colon e = e
-scalar_begins comma e = e
-scalar_begins null e = e
-scalar_begins true_literal e = e
-scalar_begins false_literal e = e
-scalar_begins (string start finish has_escapes) e = e
-scalar_begins (number start finish hint) e = e
+scalar_begins _ e = e
 
 -- The first token of a spelling begins a value.
 pub Spells-starts : {ts r : Tokens} {a : Node} → Spells ts a r → Starts ts

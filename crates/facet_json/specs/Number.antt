@@ -33,7 +33,8 @@ pub data IsExponentSign : List ℕ → Type 0 where
 -- an exponent mark, perhaps a sign, and digits, or nothing
 pub data IsExponent : List ℕ → Bool → Type 0 where
   absent : IsExponent [] false
-  present : (mark : ℕ) (sign digits : List ℕ) → is_exponent_mark mark ≡ true → IsExponentSign sign → AreDigits digits → IsExponent (mark ∷ sign ++ digits) true
+  present : (mark : ℕ) (sign digits : List ℕ) → is_exponent_mark mark ≡ true → IsExponentSign sign →
+      AreDigits digits → IsExponent (mark ∷ sign ++ digits) true
 
 abbrev pub hint_of : Bool → Bool → Bool → Hint
 hint_of has_minus true has_exponent = float

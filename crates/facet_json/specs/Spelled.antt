@@ -1,7 +1,7 @@
 -- The value that tokens spell, and the document of an input, computed: slow, and plain.
 use Rattle.std.specs.Prelude.{ℕ, zero, suc, List, Option, Some, None}
 use Rattle.std.specs.Option.{option_map, option_and_then}
-use Rattle.facet_json.specs.Gap.{Mode}
+use Rattle.facet_json.specs.Gap.{Mode, plain}
 use Rattle.facet_json.specs.Token.{Kind, Token}
 use Rattle.facet_json.specs.Token as token
 use Rattle.facet_json.specs.Tokens.{Tokens, ended, refused, next, tokens}
@@ -127,3 +127,15 @@ unfoldable pub document : List ℕ → Mode → Option (Node × Tree)
 document buffer mode =
     option_and_then (λ r. option_map (λ value. (r.0, value)) (tree_of (meaning buffer) r.0))
     (spelled (tokens buffer mode))
+
+-- the value, where no token and no fault follows it
+abbrev pub if_ended : Node → Tokens → Option Node
+if_ended root ended = Some root
+if_ended root (refused f) = None
+if_ended root (next t rest) = None
+
+-- the plain document that all of the text is, with its tree
+unfoldable pub whole_document : List ℕ → Option (Node × Tree)
+whole_document buffer =
+    option_and_then (λ root. option_map (λ value. (root, value)) (tree_of (meaning buffer) root))
+    (option_and_then (λ r. if_ended r.0 r.1) (spelled (tokens buffer plain)))

@@ -136,13 +136,16 @@ IsReadAs buffer kind kinds.Comma = kind ≡ token.comma
 IsReadAs buffer kind kinds.Null = kind ≡ token.null
 IsReadAs buffer kind kinds.True = kind ≡ token.true_literal
 IsReadAs buffer kind kinds.False = kind ≡ token.false_literal
-IsReadAs buffer kind (kinds.String s) = (is_string kind ≡ true) × (thin_meaning_of buffer kind ≡ Some (tree.text s.now))
+IsReadAs buffer kind (kinds.String s) = (is_string kind ≡ true)
+    × (thin_meaning_of buffer kind ≡ Some (tree.text s.now))
 IsReadAs buffer kind (kinds.U64 n) = (is_number kind ≡ true) × (thin_meaning_of buffer kind ≡ Some (tree.u64 n))
 
 -- the slices that a token names are within the buffer, and hold what it says; it is neither the end nor a call for more bytes
 abbrev pub CanBeRead : List ℕ → RustToken → Type 0
-CanBeRead buffer (code.String start finish has_escapes) = (start ≤ finish) × (finish ≤ length buffer) × (has_escapes ≡ list_any (λ b. b == backslash) (slice_range buffer start finish))
-CanBeRead buffer (code.Number start finish h) = (start ≤ finish) × (finish ≤ length buffer) × (is_number_text (slice_range buffer start finish) (hint_of h) ≡ true)
+CanBeRead buffer (code.String start finish has_escapes) = (start ≤ finish) × (finish ≤ length buffer)
+    × (has_escapes ≡ list_any (λ b. b == backslash) (slice_range buffer start finish))
+CanBeRead buffer (code.Number start finish h) = (start ≤ finish) × (finish ≤ length buffer)
+    × (is_number_text (slice_range buffer start finish) (hint_of h) ≡ true)
 CanBeRead buffer code.Eof = ⊥
 CanBeRead buffer (code.NeedMore consumed) = ⊥
 CanBeRead buffer _ = Unit {0}

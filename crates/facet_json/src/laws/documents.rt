@@ -1,6 +1,6 @@
 //! Laws about documents: which tokens spell a value, and which value.
 
-ghost use Rattle.facet_json.specs.Laws.{DocumentIsFound, OneDocument, OneSpelling, PlainIsJsonc, RefusedHasNone, SpelledIsSpells};
+ghost use Rattle.facet_json.specs.Laws.{DocumentIsFound, OneDocument, OneSpelling, PlainIsJsonc, RefusedHasNone, SpelledIsSpells, WholeDocumentIsFound};
 
 /// Tokens spell at most one value, and no spelling is a proper front of another's.
 pub fn one_spelling()
@@ -30,4 +30,9 @@ pub fn spelled_is_spells()
 /// What is computed as the document of an input is its document.
 pub fn document_is_found()
     ensures { DocumentIsFound }
+{}
+
+/// What is computed as the plain document that all of a text is is that document.
+pub fn whole_document_is_found()
+    ensures { WholeDocumentIsFound }
 {}

@@ -28,9 +28,9 @@ returns-clause-only c =
     let read = rw c.next.ensures.same at c.value.ensures.value in
     let refused = rw c.next.ensures.same at c.value.ensures.refused in
     λ root value d.
-      MatchResult-from_both c.value.result _ _
-      (IfOk-weaker c.value.result _ _ (λ t h. only_tree input _ _ root value (h _ c.in_ok-first.ensures.read) d) read)
-      (IfErr-weaker c.value.result _ _ (λ e h. only_memory input _ root value (h _ c.in_ok-first.ensures.read) d) refused)
+    MatchResult-from_both c.value.result _ _
+    (IfOk-weaker c.value.result _ _ (λ t h. only_tree input _ _ root value (h _ c.in_ok-first.ensures.read) d) read)
+    (IfErr-weaker c.value.result _ _ (λ e h. only_memory input _ root value (h _ c.in_ok-first.ensures.read) d) refused)
 
 pub returns-clause-within : goal.returns-clause-within
 returns-clause-within c =
