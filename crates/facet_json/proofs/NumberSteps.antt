@@ -37,6 +37,17 @@ PartsEnd-parts buffer at digits fraction exponent end e1 e2 e3 e4 =
       exponent_ends = part-behind exponent_len buffer at (p.sign + p.digits + p.fraction) exponent end (omega arith) e4;
     }
 
+-- each part is as long as its ends are apart
+pub PartsEnd-lengths : (p : Parts) (at digits fraction exponent end : ℕ) → PartsEnd p at digits fraction exponent end →
+    record { sign = digits - at; digits = fraction - digits; fraction = exponent - fraction; exponent = end - exponent }
+    ≡ p
+PartsEnd-lengths p at digits fraction exponent end h =
+    let s : digits - at ≡ p.sign = omega arith in
+    let d : fraction - digits ≡ p.digits = omega arith in
+    let f : exponent - fraction ≡ p.fraction = omega arith in
+    let e : end - exponent ≡ p.exponent = omega arith in
+    rw (s, d, f, e) refl
+
 -- nothing but a minus where the number ends behind it
 pub is_bare-here : (p : Parts) (at digits fraction exponent end : ℕ) → PartsEnd p at digits fraction exponent end →
     end ≡ digits → is_bare p ≡ true

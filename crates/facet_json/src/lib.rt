@@ -6,6 +6,7 @@ pub mod laws;
 mod materialized;
 mod mode;
 mod number;
+mod numeral;
 mod place;
 mod plain_cut;
 mod reader;
