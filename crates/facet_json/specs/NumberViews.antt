@@ -1,6 +1,15 @@
 -- What the types of numbers in the code stand for in the definitions.
 use Rattle.facet_json.specs.declared.numeral.Parts.{Parts as RustParts}
-use Rattle.facet_json.specs.Number.{Parts}
+use Rattle.facet_json.specs.declared.number.ParsedNumber.{ParsedNumber}
+use Rattle.facet_json.specs.declared.number.ParsedNumber.TheVariants as parsed
+use Rattle.facet_json.specs.Number.{Number, u64, i64, u128, i128, decimal, Parts}
 
 abbrev pub parts_of : RustParts → Parts
 parts_of p = record { sign = p.sign; digits = p.digits; fraction = p.fraction; exponent = p.exponent }
+
+abbrev pub number_of : ParsedNumber → Number
+number_of (parsed.U64 n) = u64 n
+number_of (parsed.I64 n) = i64 n
+number_of (parsed.U128 n) = u128 n
+number_of (parsed.I128 n) = i128 n
+number_of (parsed.Decimal text) = decimal text

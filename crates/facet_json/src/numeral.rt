@@ -29,6 +29,14 @@ impl Parts {
         self.sign + self.digits + self.fraction + self.exponent
     }
 
+    /// Where the exponent starts, or would start.
+    pub(crate) fn exponent_start(self) -> usize
+        requires { parts_len (parts_of self) < 2 ^ 64 }
+        ensures { result ≡ self.sign + self.digits + self.fraction }
+    {
+        self.sign + self.digits + self.fraction
+    }
+
     /// Whether nothing but a minus stands there, or nothing.
     fn is_bare(self) -> bool
         ensures { result ≡ is_bare (parts_of self) }

@@ -1,0 +1,1 @@
+//! Worked rows: which text is which number.
