@@ -1,10 +1,12 @@
 //! Numbers that are kept as their text: those with a fraction or an exponent.
 
 ghost use Rattle.std.specs.Prelude.{◌≡◌, ◌≤◌, true, Some, None, length, MatchOption, MatchResult, nat_eq};
+ghost use Rattle.std.specs.List.{list_any};
 ghost use Rattle.std.specs.Cmp.{partial_equiv_from_equiv};
 ghost use Rattle.std.specs.Cmp.Lexicographic.{pointwise, nat_list_eq_equiv};
-ghost use Rattle.facet_json.specs.Number.{parts as spec_parts, number, is_number, float, decimal, any_digit, has_value};
-ghost use Rattle.facet_json.specs.NumberViews.{parts_of};
+ghost use Rattle.facet_json.specs.Bytes.{is_digit};
+ghost use Rattle.facet_json.specs.Number.{number, is_number, float, decimal, has_value};
+ghost use Rattle.facet_json.specs.NumberViews.{parts_of, ArePartsOf};
 
 use crate::numeral::{Parts, number_parts};
 use crate::token::NumberHint;
@@ -70,7 +72,7 @@ impl<'a> Decimal<'a> {
     /// The same from bytes that are a number with a fraction or an exponent, of these parts.
     pub(crate) fn from_number(text: &'a [u8], parts: Parts) -> Option<Decimal<'a>>
         requires is_number { is_number text.now float ≡ true }
-        requires parts { parts_of parts ≡ spec_parts text.now }
+        requires parts { ArePartsOf text.now parts }
         ensures { MatchOption result
             (number text.now float ≡ None)
             (λ d. (d ≡ text.now) × (number text.now float ≡ Some (decimal text.now))) }
@@ -108,7 +110,7 @@ impl<'a> Decimal<'a> {
 
 /// Whether a digit stands before any exponent mark, and one after it, in a number of these parts.
 fn has_value(text: &[u8], parts: Parts) -> bool
-    requires { parts_of parts ≡ spec_parts text.now }
+    requires { ArePartsOf text.now parts }
     ensures { result ≡ has_value (parts_of parts) text.now }
 {
     let (before, exponent) = text.split_at(parts.exponent_start());
@@ -117,7 +119,7 @@ fn has_value(text: &[u8], parts: Parts) -> bool
 
 /// Whether a digit stands there.
 fn any_digit(bytes: &[u8]) -> bool
-    ensures { result ≡ any_digit bytes.now }
+    ensures { result ≡ list_any is_digit bytes.now }
 {
     bytes.iter().any(|b| matches!(b, b'0'..=b'9'))
 }

@@ -3,7 +3,7 @@
 ghost use Rattle.std.specs.Prelude.{◌≡◌, ◌+◌, ◌^◌, ◌<◌, ◌≤◌, true, false, length, drop, MatchOption};
 ghost use Rattle.facet_json.specs.Number.{minus_len, digits_len, fraction_len, sign_len, exponent_len, parts, parts_len, parts_hint, is_bare, begins_number, is_number};
 ghost use Rattle.facet_json.specs.Views.{hint_of};
-ghost use Rattle.facet_json.specs.NumberViews.{parts_of};
+ghost use Rattle.facet_json.specs.NumberViews.{parts_of, ArePartsOf};
 
 use crate::token::NumberHint;
 
@@ -62,7 +62,7 @@ impl Parts {
 pub(crate) fn number_parts(text: &[u8], hint: NumberHint) -> Option<Parts>
     ensures { MatchOption result
         (is_number text.now (hint_of hint) ≡ false)
-        (λ p. (parts_of p ≡ parts text.now) × (is_number text.now (hint_of hint) ≡ true)) }
+        (λ p. ArePartsOf text.now p × (is_number text.now (hint_of hint) ≡ true)) }
 {
     let parts = parts_at(text, 0);
     let is_whole = parts.len() == text.len();
