@@ -13,7 +13,6 @@ use crate::token::NumberHint;
 use std::alloc::Global;
 use std::borrow::CowStr;
 use std::marker::Model;
-use std::str;
 
 /// The text of a number with a fraction or an exponent, as it stands (RFC 8259, section 6, leniently): runs of digits
 /// may be empty, but a digit stands before any exponent mark, and one after it. Two are equal where their texts are.
@@ -60,26 +59,19 @@ impl<'a> Decimal<'a> {
             (number text.now float ≡ None)
             (λ d. (d ≡ text.now) × (number text.now float ≡ Some (decimal text.now))) }
     {
-        let bytes = text.as_bytes();
-        let parts = number_parts(bytes, NumberHint::Float)?;
-        if has_value(bytes, parts) {
-            Some(Decimal(CowStr::Borrowed(text)))
-        } else {
-            None
-        }
+        let parts = number_parts(text.as_bytes(), NumberHint::Float)?;
+        Decimal::from_number(text, parts)
     }
 
-    /// The same from bytes that are a number with a fraction or an exponent, of these parts.
-    pub(crate) fn from_number(text: &'a [u8], parts: Parts) -> Option<Decimal<'a>>
+    /// The same for a text that is a number with a fraction or an exponent, of these parts.
+    pub(crate) fn from_number(text: &'a str, parts: Parts) -> Option<Decimal<'a>>
         requires is_number { is_number text.now float ≡ true }
         requires parts { ArePartsOf text.now parts }
         ensures { MatchOption result
             (number text.now float ≡ None)
             (λ d. (d ≡ text.now) × (number text.now float ≡ Some (decimal text.now))) }
     {
-        if has_value(text, parts) {
-            // All bytes of a number are ASCII.
-            let text = unsafe { str::from_utf8_unchecked(text) };
+        if has_value(text.as_bytes(), parts) {
             Some(Decimal(CowStr::Borrowed(text)))
         } else {
             None

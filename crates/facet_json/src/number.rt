@@ -1,15 +1,16 @@
 //! The values of numbers.
 
-ghost use Rattle.std.specs.Prelude.{◌≡◌, ◌≤◌, ◌<◌, ◌^◌, ◌-◌, pos, neg_ℤ, None, Some, length, slice_range, IsUtf8, IfErr, MatchOption, MatchResult};
+ghost use Rattle.std.specs.Prelude.{◌≡◌, ◌≤◌, ◌<◌, ◌^◌, ◌-◌, pos, neg_ℤ, true, None, Some, length, slice_range, IsUtf8, IfErr, MatchOption, MatchResult};
 ghost use Rattle.std.specs.Option.{option_map};
-ghost use Rattle.facet_json.specs.Number.{AreDigits, digits_value, number as spec_number, unsigned_number, negative_number};
+ghost use Rattle.facet_json.specs.Number.{AreDigits, digits_value, number as spec_number, is_number, float, unsigned_number, negative_number};
 ghost use Rattle.facet_json.specs.Views.{hint_of};
-ghost use Rattle.facet_json.specs.NumberViews.{number_of};
+ghost use Rattle.facet_json.specs.NumberViews.{number_of, ArePartsOf};
 
 use crate::decimal::Decimal;
-use crate::numeral::number_parts;
+use crate::numeral::{Parts, number_parts};
 use crate::span::Span;
 use crate::token::{NumberHint, ScanError, ScanErrorKind};
+use std::str;
 
 /// A number that has been read: in 64 bits where it fits them, else in 128, or as its text.
 #[derive(Debug, PartialEq, Drop)]
@@ -87,10 +88,7 @@ fn number<'a>(text: &'a [u8], hint: NumberHint) -> Option<ParsedNumber<'a>>
     match hint {
         NumberHint::Unsigned => unsigned_number(text),
         NumberHint::Signed => negative_number(&text[parts.sign..]),
-        NumberHint::Float => match Decimal::from_number(text, parts) {
-            Some(decimal) => Some(ParsedNumber::Decimal(decimal)),
-            None => None,
-        },
+        NumberHint::Float => decimal_number(text, parts),
     }
 }
 
@@ -113,6 +111,20 @@ fn negative_number<'a>(digits: &[u8]) -> Option<ParsedNumber<'a>>
     match negative(digits) {
         Some(n) => Some(ParsedNumber::I64(n)),
         None => Some(ParsedNumber::I128(negative_wide(digits)?)),
+    }
+}
+
+/// The text of a number with a fraction or an exponent, of these parts, or `None` where it lacks a digit.
+fn decimal_number<'a>(text: &'a [u8], parts: Parts) -> Option<ParsedNumber<'a>>
+    requires is_number { is_number text.now float ≡ true }
+    requires parts { ArePartsOf text.now parts }
+    ensures { option_map number_of result ≡ spec_number text.now float }
+{
+    // All bytes of a number are ASCII.
+    let text = unsafe { str::from_utf8_unchecked(text) };
+    match Decimal::from_number(text, parts) {
+        Some(decimal) => Some(ParsedNumber::Decimal(decimal)),
+        None => None,
     }
 }
 
