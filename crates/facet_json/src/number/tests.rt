@@ -126,21 +126,15 @@ fn decimals(rt: HostRuntime) {
 
 #[test]
 fn decimals_are_their_texts(rt: HostRuntime) -> Result<(), Fail> {
-    let (Some(one), Some(same), Some(other)) =
-        (Decimal::new("1.0"), Decimal::new("1.0"), Decimal::new("1.00"))
-    else {
-        return Err(Fail);
-    };
+    let one = Decimal::new("1.0").ok_or("a decimal")?;
+    let same = Decimal::new("1.0").ok_or("a decimal")?;
+    let longer = Decimal::new("1.00").ok_or("a decimal")?;
     assert_eq!(rt; one, same);
-    assert!(rt; one != other);
+    assert!(rt; one != longer);
     assert_eq!(rt; one.as_str(), "1.0");
-    let Ok(owned) = one.into_owned(rt.alloc()) else {
-        return Err(Fail);
-    };
+    let owned = one.into_owned(rt.alloc())?;
     assert_eq!(rt; owned, same);
-    let Ok(again) = owned.into_owned(rt.alloc()) else {
-        return Err(Fail);
-    };
+    let again = owned.into_owned(rt.alloc())?;
     assert_eq!(rt; again.as_str(), "1.0");
     Ok(())
 }
