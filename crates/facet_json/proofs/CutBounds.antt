@@ -1,16 +1,18 @@
 -- Where what is cut stands: behind the position, within the buffer. What a string and a number say of their bytes.
-use Rattle.std.proofs.Common.{◌≡◌, ℕ, zero, suc, ◌+◌, ◌-◌, ◌≤◌, ◌<◌, Bool, true, false, cond, ◌==◌, List, [], ◌∷◌, length, take, drop, Option, Some, None, refl, sym, ap, ◌∙◌, subst, arith, length-drop}
+use Rattle.std.proofs.Common.{◌≡◌, ℕ, suc, ◌+◌, ◌-◌, ◌≤◌, ◌<◌, Bool, true, false, ◌==◌, List, [], ◌∷◌, length, take, drop, Option, Some, None, refl, sym, ap, ◌∙◌, subst, arith, length-drop}
 use Rattle.std.specs.Prelude.{slice_get, slice_range}
 use Rattle.std.specs.List.{list_any}
 use Rattle.std.proofs.lemmas.Bool.{cond_both, eqb-true}
 use Rattle.std.proofs.lemmas.List.{drop-drop}
-use Rattle.facet_json.specs.Bytes.{quote, backslash, star}
-use Rattle.facet_json.specs.Gap.{Mode, plain, jsonc, whole, one_more}
+use Rattle.std.proofs.lemmas.Option.{slice_get_within}
+use Rattle.facet_json.specs.Bytes.{backslash, star}
+use Rattle.facet_json.specs.Gap.{Mode, plain, jsonc, whole}
 use Rattle.facet_json.specs.Number.{Hint, parts, parts_len, parts_hint, is_bare, starts_number, is_number}
-use Rattle.facet_json.specs.Token.{Span, Kind, object_start, object_end, array_start, array_end, colon, comma, null, true_literal, false_literal, string, number, Token, Fault, stop, unexpected_eof, unexpected_char, in_literal}
-use Rattle.facet_json.specs.Cut.{Cut, nothing_left, token, fault, IsStructural, object_starts, object_ends, array_starts, array_ends, colon_stands, comma_stands, IsLiteral, null_stands, true_stands, false_stands, Start, start_of, span_at, token_at, fault_at, common_len, cut_word, content_len, cut_text, cut_bare_minus, cut_number, cut_slash, cut_by, cut_here, past_gap, cut}
+use Rattle.facet_json.specs.Token.{Span, Kind, string, number, Token, Fault, stop, unexpected_eof, unexpected_char, in_literal}
+use Rattle.facet_json.specs.Cut.{Cut, nothing_left, token, fault, IsStructural, object_starts, IsLiteral, null_stands, Start, start_of, span_at, token_at, fault_at, common_len, cut_word, content_len, cut_text, cut_bare_minus, cut_number, cut_slash, cut_by, cut_here, past_gap, cut}
 use Rattle.facet_json.proofs.Starts.{Begins, a_mark, a_word, a_text, a_number, a_comment, no_token, start_of-begins}
-use Rattle.facet_json.proofs.GapBounds.{gap_len-bound}
+use Rattle.facet_json.proofs.TextShapes.{Below, content_len-below}
+use Rattle.facet_json.proofs.Gaps.{gap_len-bound}
 use Rattle.facet_json.proofs.NumberFronts.{cond_bound, parts_len-bound, is_bare-some, is_number-front}
 
 -- ---- what is shown
@@ -55,42 +57,11 @@ CutFits buffer position (fault f) = FaultFits buffer position f
 
 -- ---- lengths
 
--- The number, if there is one, is below k.
-abbrev pub Below : Option ℕ → ℕ → Type 0
-Below None k = Unit {0}
-Below (Some n) k = n < k
-
--- One more is below one more.
-one_more-below : (o : Option ℕ) (k : ℕ) → Below o k → Below (one_more o) (suc k)
-one_more-below None k h = tt
-one_more-below (Some n) k h = omega arith
-
--- Nothing, or one more, is below one more.
-cond-below : (t : Bool) (o : Option ℕ) (k : ℕ) → Below o k → Below (cond t (Some 0) (one_more o)) (suc k)
-cond-below true o k h = omega arith
-cond-below false o k h = one_more-below o k h
-
--- A string's content is shorter than the bytes: its quote is behind it.
-pub content_len-below : (escaped : Bool) (bytes : List ℕ) → Below (content_len escaped bytes) (length bytes)
-content_len-below true [] = tt
-content_len-below false [] = tt
-content_len-below true (b ∷ bytes) =
-    one_more-below (content_len false bytes) (length bytes) (content_len-below false bytes)
-content_len-below false (b ∷ bytes) =
-    cond-below (b == quote) (content_len (b == backslash) bytes) (length bytes)
-    (content_len-below (b == backslash) bytes)
-
 -- No longer front of the bytes than all of them is a front of a word.
 pub common_len-bound : (word bytes : List ℕ) → common_len word bytes ≤ length bytes
 common_len-bound [] bytes = omega arith
 common_len-bound (w ∷ word) [] = omega arith
 common_len-bound (w ∷ word) (b ∷ bytes) = cond_bound (b == w) _ _ (common_len-bound word bytes)
-
--- An element stands within the list.
-slice_get-within : (bytes : List ℕ) (n b : ℕ) → slice_get bytes n ≡ Some b → n < length bytes
-slice_get-within [] n b e = cc
-slice_get-within (x ∷ bytes) zero b e = omega arith
-slice_get-within (x ∷ bytes) (suc n) b e = omega (arith, slice_get-within bytes n b e)
 
 -- ---- bytes of the buffer
 
@@ -118,15 +89,7 @@ IsBareKind _ = Unit {0}
 bare_fits : (buffer : List ℕ) (span : Span) (kind : Kind) → IsBareKind kind → KindFits buffer span kind
 bare_fits buffer span (string start finish has_escapes) h = absurd h
 bare_fits buffer span (number start finish hint) h = absurd h
-bare_fits buffer span object_start h = tt
-bare_fits buffer span object_end h = tt
-bare_fits buffer span array_start h = tt
-bare_fits buffer span array_end h = tt
-bare_fits buffer span colon h = tt
-bare_fits buffer span comma h = tt
-bare_fits buffer span null h = tt
-bare_fits buffer span true_literal h = tt
-bare_fits buffer span false_literal h = tt
+bare_fits buffer span _ h = tt
 
 -- A token whose kind says nothing of its bytes.
 bare_token_fits : (buffer : List ℕ) (at n : ℕ) (kind : Kind) → IsBareKind kind → 0 < n → at + n ≤ length buffer →
@@ -146,7 +109,7 @@ broken_fits : (buffer bytes : List ℕ) (at n : ℕ) (found : Option ℕ) → sl
     [ None ↦ fault_at (unexpected_eof in_literal) at n | Some b ↦ fault_at (unexpected_char b) (at + n) 1 ])
 broken_fits buffer bytes at n None e h room = record { behind = omega arith; within = omega arith }
 broken_fits buffer bytes at n (Some b) e h room =
-    record { behind = omega arith; within = omega (arith, slice_get-within bytes n b e) }
+    record { behind = omega arith; within = omega (arith, slice_get_within bytes n b e) }
 
 -- A word, or where it breaks off, fits.
 word_fits : (buffer bytes word : List ℕ) (at n : ℕ) (kind : Kind) → IsBareKind kind → 0 < length word →
@@ -218,17 +181,12 @@ slash_fits jsonc buffer (b ∷ bytes) at room =
 -- Brackets, colon and comma say nothing of the bytes.
 structural_is_bare : (b : ℕ) (kind : Kind) → IsStructural b kind → IsBareKind kind
 structural_is_bare _ _ object_starts = tt
-structural_is_bare _ _ object_ends = tt
-structural_is_bare _ _ array_starts = tt
-structural_is_bare _ _ array_ends = tt
-structural_is_bare _ _ colon_stands = tt
-structural_is_bare _ _ comma_stands = tt
+structural_is_bare _ _ _ = tt
 
 -- Literals say nothing of the bytes.
 literal_is_bare : (word : List ℕ) (kind : Kind) → IsLiteral word kind → IsBareKind kind
 literal_is_bare _ _ null_stands = tt
-literal_is_bare _ _ true_stands = tt
-literal_is_bare _ _ false_stands = tt
+literal_is_bare _ _ _ = tt
 
 -- What is cut by its first byte fits.
 by_fits : (mode : Mode) (buffer bytes : List ℕ) (at b : ℕ) (start : Start) → Begins b start →
@@ -289,18 +247,3 @@ cut-token_fits buffer position mode t h e = subst (CutFits buffer position) e (c
 pub cut-fault_fits : (buffer : List ℕ) (position : ℕ) (mode : Mode) (f : Fault) → position ≤ length buffer →
     cut buffer position mode ≡ fault f → FaultFits buffer position f
 cut-fault_fits buffer position mode f h e = subst (CutFits buffer position) e (cut-fits buffer position mode h)
-
--- What a string's kind says of the buffer.
-pub cut-string_fits : (buffer : List ℕ) (position : ℕ) (mode : Mode) (t : Token) (start finish : ℕ)
-    (has_escapes : Bool) → position ≤ length buffer → cut buffer position mode ≡ token t →
-    t.kind ≡ string start finish has_escapes →
-    StringFits buffer t.span start finish has_escapes
-cut-string_fits buffer position mode t start finish has_escapes h e is =
-    subst (KindFits buffer t.span) is (cut-token_fits buffer position mode t h e).kind_fits
-
--- What a number's kind says of the buffer.
-pub cut-number_fits : (buffer : List ℕ) (position : ℕ) (mode : Mode) (t : Token) (start finish : ℕ) (hint : Hint) →
-    position ≤ length buffer → cut buffer position mode ≡ token t → t.kind ≡ number start finish hint →
-    NumberFits buffer t.span start finish hint
-cut-number_fits buffer position mode t start finish hint h e is =
-    subst (KindFits buffer t.span) is (cut-token_fits buffer position mode t h e).kind_fits

@@ -210,7 +210,8 @@ decodes_by : (b : ℕ) (bytes text : List ℕ) (o : Option (ℕ × ℕ)) → pie
 decodes_by b bytes text None is later e = cc
 decodes_by b bytes text (Some p) is later e =
     let w = option_map-Some (encode_utf8 p.0) text (decoded_past (p.1 - 1) bytes) e in
-    decodes-step b p.0 p.1 (p.1 - 1) bytes w.0 text (piece_at-fronts (b ∷ bytes) p.0 p.1 is) refl (later (p.1 - 1) w.0 w.1) w.2
+    decodes-step b p.0 p.1 (p.1 - 1) bytes w.0 text (piece_at-fronts (b ∷ bytes) p.0 p.1 is) refl
+    (later (p.1 - 1) w.0 w.1) w.2
 
 -- What is computed behind some bytes is a text of what stands there.
 decodes_past : (bytes : List ℕ) (inside : ℕ) (text : List ℕ) → decoded_past inside bytes ≡ Some text →
@@ -253,7 +254,3 @@ decoded-decodes _ _ (piece first others content c rest text is behind e f) =
 -- The text that is computed is the one text of the content.
 pub decoded_is_decodes : DecodedIsDecodes
 decoded_is_decodes content text = (decodes-decoded content text, decoded-decodes content text)
-
--- A content has one text at most.
-pub decodes-unique : (content a b : List ℕ) → Decodes content a → Decodes content b → a ≡ b
-decodes-unique content a b p q = let one = decoded-decodes content a p in let other = decoded-decodes content b q in cc

@@ -9,30 +9,55 @@ use Rattle.facet_json.specs.Bytes.{quote, backslash, backspace, form_feed, line_
 use Rattle.facet_json.specs.Quoted.{escaped, hex_byte}
 
 -- where no escape of two characters stands for the byte
-pub long_escape : (b : ℕ) → b ≢ quote → b ≢ backslash → b ≢ line_feed → b ≢ carriage_return → b ≢ tab → b ≢ backspace → b ≢ form_feed
-    → escaped b ≡ cond (nat_lt b space || (b == delete)) (codes "\\u00" ++ hex_byte b) (b ∷ [])
+pub long_escape : (b : ℕ) → b ≢ quote → b ≢ backslash → b ≢ line_feed → b ≢ carriage_return → b ≢ tab → b ≢ backspace
+    → b ≢ form_feed → escaped b ≡ cond (nat_lt b space || (b == delete)) (codes "\\u00" ++ hex_byte b) (b ∷ [])
 unfolding escaped
-long_escape b q s l r t k f = rw (ne_eqb b quote q, ne_eqb b backslash s, ne_eqb b line_feed l, ne_eqb b carriage_return r, ne_eqb b tab t, ne_eqb b backspace k, ne_eqb b form_feed f)
+long_escape b q s l r t k f =
+    rw (
+      ne_eqb b quote q,
+      ne_eqb b backslash s,
+      ne_eqb b line_feed l,
+      ne_eqb b carriage_return r,
+      ne_eqb b tab t,
+      ne_eqb b backspace k,
+      ne_eqb b form_feed f,
+    )
 
 -- a byte that needs no escape stands for itself
 pub plain_escape : (b : ℕ) → (nat_lt b space || (b == quote) || (b == backslash) || (b == delete)) ≡ false → escaped b ≡ b ∷ []
 unfolding escaped
 plain_escape b h = grind (arith, nat_tests)
 
--- one more byte that stands for itself, behind a run of such bytes
-pub run-plain : (xs out before : List ℕ) (start i : ℕ) → start ≤ i → i < length xs → escaped (get_or xs i 0) ≡ get_or xs i 0 ∷ []
-    → out ++ slice_range xs start i ≡ before ++ flat_map escaped (take i xs)
-    → out ++ slice_range xs start (i + 1) ≡ before ++ flat_map escaped (take (i + 1) xs)
-run-plain xs out before start i le lt plain h =
-    ap (λ s. out ++ s) (between_more xs start i 0 le lt) ∙ sym (append_assoc out (slice_range xs start i) (get_or xs i 0 ∷ []))
-    ∙ ap (λ s. s ++ get_or xs i 0 ∷ []) h ∙ ap (λ s. before ++ flat_map escaped (take i xs) ++ s) (sym plain)
-    ∙ flat_map_more escaped before (take i xs) (get_or xs i 0) ∙ ap (λ s. before ++ flat_map escaped s) (sym (take_more xs i 0 lt))
+-- what is put out where a text is escaped up to i, and its bytes from start on are still to be put out
+pub record IsWritten (text before out : List ℕ) (start i : ℕ) : Type 0 where
+  pub in_order : start ≤ i
+  pub written : out ++ slice_range text start i ≡ before ++ flat_map escaped (take i text)
 
--- an escape behind a run, behind which the next run is empty
-pub run-escape : (xs out before : List ℕ) (start i : ℕ) → i < length xs
-    → out ++ slice_range xs start i ≡ before ++ flat_map escaped (take i xs)
-    → out ++ slice_range xs start i ++ escaped (get_or xs i 0) ++ slice_range xs (i + 1) (i + 1) ≡ before ++ flat_map escaped (take (i + 1) xs)
-run-escape xs out before start i lt h =
-    ap (λ s. out ++ slice_range xs start i ++ escaped (get_or xs i 0) ++ s) (between_none xs (i + 1)) ∙ append-nil _
-    ∙ ap (λ s. s ++ escaped (get_or xs i 0)) h
-    ∙ flat_map_more escaped before (take i xs) (get_or xs i 0) ∙ ap (λ s. before ++ flat_map escaped s) (sym (take_more xs i 0 lt))
+escaped-more : (text before : List ℕ) (i : ℕ) → i < length text
+    → before ++ flat_map escaped (take i text) ++ escaped (get_or text i 0) ≡ before ++ flat_map escaped (take (i + 1) text)
+escaped-more text before i lt =
+    flat_map_more escaped before (take i text) (get_or text i 0) ∙ ap (λ s. before ++ flat_map escaped s) (sym (take_more text i 0 lt))
+
+-- one more byte that stands for itself
+pub IsWritten-plain : (text before out : List ℕ) (start i : ℕ) → i < length text → escaped (get_or text i 0) ≡ get_or text i 0 ∷ []
+    → IsWritten text before out start i → IsWritten text before out start (i + 1)
+IsWritten-plain text before out start i lt plain h =
+    let b = get_or text i 0 ∷ [] in
+    let run = slice_range text start i in
+    record {
+      in_order = omega arith;
+      written = ap (λ s. out ++ s) (between_more text start i 0 h.in_order lt) ∙ sym (append_assoc out run b)
+          ∙ ap (λ s. s ++ b) h.written ∙ ap (λ s. before ++ flat_map escaped (take i text) ++ s) (sym plain)
+          ∙ escaped-more text before i lt;
+    }
+
+-- the run and an escape, behind which the next run is empty
+pub IsWritten-escape : (text before out : List ℕ) (start i : ℕ) → i < length text → IsWritten text before out start i
+    → IsWritten text before (out ++ slice_range text start i ++ escaped (get_or text i 0)) (i + 1) (i + 1)
+IsWritten-escape text before out start i lt h =
+    let e = escaped (get_or text i 0) in
+    record {
+      in_order = omega arith;
+      written = ap (λ s. out ++ slice_range text start i ++ e ++ s) (between_none text (i + 1)) ∙ append-nil _
+          ∙ ap (λ s. s ++ e) h.written ∙ escaped-more text before i lt;
+    }

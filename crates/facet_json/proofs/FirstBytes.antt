@@ -3,7 +3,7 @@ use Rattle.std.proofs.Common.{◌≡◌, ◌≢◌, ℕ, suc, ◌+◌, ◌<◌, 
 use Rattle.std.proofs.lemmas.Bool.{ne_eqb, eq-eqb, cases_eq, le-leb, lt-leb, and_from, and_left, and_right, or_from, or_left, or_right}
 use Rattle.facet_json.specs.Bytes.{left_brace, right_brace, left_bracket, right_bracket, colon, comma, quote, slash, star, minus, lower_n, lower_t, lower_f, is_digit}
 use Rattle.facet_json.specs.Gap.{Mode, plain, jsonc}
-use Rattle.facet_json.specs.Number.{Hint, Parts, parts, parts_len, parts_hint, is_bare, starts_number}
+use Rattle.facet_json.specs.Number.{Hint, parts, parts_len, parts_hint, is_bare, starts_number}
 use Rattle.facet_json.specs.Token.{Kind, unexpected_char, unexpected_eof, in_literal, in_block_comment}
 use Rattle.facet_json.specs.Cut.{Cut, nothing_left, Start, punctuation, letter, opens_text, opens_number, opens_comment, opens_nothing, start_of, token_at, fault_at, common_len, content_len, cut_word, cut_text, cut_number, cut_slash, cut_by, cut_here}
 use Rattle.facet_json.specs.declared.token.Token.TheVariants as code
@@ -11,6 +11,8 @@ use Rattle.facet_json.specs.declared.token.SpannedToken.{SpannedToken}
 use Rattle.facet_json.specs.declared.token.ScanError.{ScanError}
 use Rattle.facet_json.specs.Views.{scanned, token_answer}
 use Rattle.facet_json.proofs.Offsets.{drop-at_byte}
+use Rattle.facet_json.proofs.Starts.{start_of-number}
+use Rattle.facet_json.proofs.NumberFronts.{number_at}
 
 -- what a byte begins is cut there
 pub cut_here-by : (mode : Mode) (buffer : List ℕ) (at b : ℕ) (start : Start) → slice_get buffer at ≡ Some b →
@@ -40,20 +42,15 @@ start_of-others b h0 h1 h2 h3 h4 h5 h6 h7 h8 h9 =
     )
     refl
 
--- a minus or a digit begins a number
-pub start_of-number : (b : ℕ) → minus ≤ b → b ≤ 0x39 → b ≢ 0x2e → b ≢ slash → start_of b ≡ opens_number
-start_of-number b low high no_dot no_slash =
-    let others =
-    start_of-others b (omega arith) (omega arith) (omega arith) (omega arith) (omega arith) (omega arith)
-    (omega arith) (omega arith) (omega arith) (omega arith) in
+-- a minus or a digit, by its range, begins a number
+pub start_of-number_range : (b : ℕ) → minus ≤ b → b ≤ 0x39 → b ≢ 0x2e → b ≢ slash → start_of b ≡ opens_number
+start_of-number_range b low high no_dot no_slash =
     let digit : b ≢ minus → is_digit b ≡ true =
     λ n. and_from (nat_le 0x30 b) (nat_le b 0x39) (le-leb 0x30 b (omega arith)) (le-leb b 0x39 high) in
-    let starts : starts_number b ≡ true =
     elim (cases_eq b minus) [
-      | inl e ↦ or_left (eqb b minus) (is_digit b) (eq-eqb b minus e)
-      | inr n ↦ or_right (eqb b minus) (is_digit b) (digit n)
-    ] in
-    others ∙ ap (λ v. cond v opens_number (cond (eqb b slash) opens_comment opens_nothing)) starts
+      | inl e ↦ start_of-number b (or_left (eqb b minus) (is_digit b) (eq-eqb b minus e))
+      | inr n ↦ start_of-number b (or_right (eqb b minus) (is_digit b) (digit n))
+    ]
 
 -- any other byte begins nothing
 pub start_of-nothing : (b : ℕ) → b ≢ left_brace → b ≢ right_brace → b ≢ left_bracket → b ≢ right_bracket → b ≢ colon →
@@ -78,16 +75,12 @@ cut_here-word mode buffer at b word kind h e =
     ap (λ l. cut_word at l word kind (common_len word l)) (drop-at_byte buffer at b h)
     ∙ cut_here-by mode buffer at b (letter word kind) h e
 
--- what is cut of a number with these parts
-abbrev number_by : ℕ → List ℕ → Parts → Cut
-number_by at bytes p = cut_number at bytes (parts_len p) (parts_hint p) (is_bare p)
-
 -- a minus or a digit begins a number
 pub cut_here-number : (mode : Mode) (buffer : List ℕ) (at b : ℕ) → slice_get buffer at ≡ Some b →
     start_of b ≡ opens_number →
-    number_by at (drop (at + 1) buffer) (parts (drop at buffer)) ≡ cut_here mode at (drop at buffer)
+    number_at at (drop (at + 1) buffer) (parts (drop at buffer)) ≡ cut_here mode at (drop at buffer)
 cut_here-number mode buffer at b h e =
-    ap (λ l. number_by at (drop (at + 1) buffer) (parts l)) (drop-at_byte buffer at b h)
+    ap (λ l. number_at at (drop (at + 1) buffer) (parts l)) (drop-at_byte buffer at b h)
     ∙ cut_here-by mode buffer at b opens_number h e
 
 -- ---- where a byte stands, something is cut

@@ -3,9 +3,9 @@ use Rattle.std.proofs.Common.{◌≡◌, ℕ, zero, suc, ◌+◌, ◌≤◌, tru
 use Rattle.std.proofs.lemmas.Bool.{cond_both, eqb-true, and_parts}
 use Rattle.std.proofs.lemmas.List.{append-nil, take_all, drop_all, drop-drop, drop_at, length-take-le}
 use Rattle.facet_json.specs.Bytes.{is_space, slash, star, line_feed}
-use Rattle.facet_json.specs.Gap.{Mode, plain, jsonc, Input, whole, growing, ClosesBlock, OpensLine, ClosesLine, IsPiece, blank, block, line, last_line, IsGap, empty, piece, one_more, through_block_end, through_line_end, with_mark, with_line_mark, comment_len, piece_len, gap_len_from, gap_len}
+use Rattle.facet_json.specs.Gap.{Mode, plain, jsonc, Input, whole, growing, ClosesBlock, OpensLine, ClosesLine, IsPiece, blank, block, line, last_line, IsGap, empty, piece, one_more, through_block_end, through_line_end, with_mark, with_line_mark, comment_len, piece_len, gap_len}
 use Rattle.facet_json.specs.Laws.{GapIsLongest}
-use Rattle.facet_json.proofs.GapBounds.{gap_len-bound}
+use Rattle.facet_json.proofs.Gaps.{piece_len-blank, gap_len-none, gap_len-piece, gap_len-bound}
 
 -- ---- what is measured is a piece
 
@@ -105,7 +105,7 @@ comment_at input (a ∷ b ∷ bytes) =
     (λ _. tt))
 
 -- The bytes that are measured as a piece are one.
-pub piece_at : (mode : Mode) (input : Input) (bytes : List ℕ) → PieceAt mode input bytes (piece_len mode input bytes)
+piece_at : (mode : Mode) (input : Input) (bytes : List ℕ) → PieceAt mode input bytes (piece_len mode input bytes)
 piece_at mode input [] = tt
 piece_at plain input (b ∷ bytes) =
     cond_both (is_space b) _ _ (PieceAt plain input (b ∷ bytes)) (λ e. (omega arith, blank plain input b bytes e))
@@ -115,41 +115,6 @@ piece_at jsonc input (b ∷ bytes) =
     (λ _. comment_at input (b ∷ bytes))
 
 -- ---- the gap, piece by piece
-
--- The gap behind so many bytes of a piece is theirs and the gap behind them.
-pub gap_len_from-skip : (mode : Mode) (input : Input) (inside : ℕ) (bytes : List ℕ) → inside ≤ length bytes →
-    gap_len_from mode input inside bytes ≡ inside + gap_len mode input (drop inside bytes)
-unfolding gap_len_from
-gap_len_from-skip mode input zero bytes h = omega arith
-gap_len_from-skip mode input (suc inside) [] h = absurd (omega arith)
-gap_len_from-skip mode input (suc inside) (b ∷ bytes) h =
-    omega (arith, gap_len_from-skip mode input inside bytes (omega arith))
-
--- the length of a gap whose first piece has this length
-abbrev behind : Mode → Input → List ℕ → ℕ → ℕ
-behind mode input bytes = elim [ zero ↦ 0 | suc inside ↦ suc (gap_len_from mode input inside bytes) ]
-
--- A gap is measured by its first piece.
-gap_len-behind : (mode : Mode) (input : Input) (b : ℕ) (bytes : List ℕ) →
-    gap_len mode input (b ∷ bytes) ≡ behind mode input bytes (piece_len mode input (b ∷ bytes))
-unfolding gap_len_from
-gap_len-behind mode input b bytes = refl
-
--- Where no piece stands there is no gap.
-pub gap_len-none : (mode : Mode) (input : Input) (bytes : List ℕ) → piece_len mode input bytes ≡ 0 →
-    gap_len mode input bytes ≡ 0
-unfolding gap_len_from
-gap_len-none mode input [] e = refl
-gap_len-none mode input (b ∷ bytes) e = gap_len-behind mode input b bytes ∙ ap (behind mode input bytes) e
-
--- A gap is its first piece and the gap behind it.
-pub gap_len-piece : (mode : Mode) (input : Input) (n : ℕ) (bytes : List ℕ) → piece_len mode input bytes ≡ n →
-    n ≤ length bytes → gap_len mode input bytes ≡ n + gap_len mode input (drop n bytes)
-gap_len-piece mode input zero bytes e h = omega arith
-gap_len-piece mode input (suc n) [] e h = absurd (omega arith)
-gap_len-piece mode input (suc n) (b ∷ bytes) e h =
-    gap_len-behind mode input b bytes ∙ ap (behind mode input bytes) e
-    ∙ ap suc (gap_len_from-skip mode input n bytes (omega arith)) ∙ omega arith
 
 -- the bytes begin with the gap that is measured
 abbrev GapAt : Mode → Input → List ℕ → Type 0
@@ -203,7 +168,7 @@ closes_line-len _ rest ClosesLine.last = refl
 closes_line-len _ rest (ClosesLine.more b bytes e h) = rw e (ap one_more (closes_line-len bytes rest h))
 
 -- A line with no end has no length.
-opens_line-len : (body : List ℕ) → OpensLine body → through_line_end body ≡ None
+pub opens_line-len : (body : List ℕ) → OpensLine body → through_line_end body ≡ None
 opens_line-len _ OpensLine.nothing = refl
 opens_line-len _ (OpensLine.more b bytes e h) = rw e (ap one_more (opens_line-len bytes h))
 
@@ -212,16 +177,10 @@ line_mark : (input : Input) (bytes : List ℕ) (n : ℕ) → with_line_mark inpu
 line_mark whole bytes n = refl
 line_mark growing bytes n = refl
 
--- White space is a piece of one byte.
-blank-len : (mode : Mode) (input : Input) (b : ℕ) (rest : List ℕ) → is_space b ≡ true →
-    piece_len mode input (b ∷ rest) ≡ 1
-blank-len plain input b rest e = rw e
-blank-len jsonc input b rest e = rw e
-
 -- A piece of a gap is measured as long as it is.
-pub piece_len-is : (mode : Mode) (input : Input) (first rest : List ℕ) → IsPiece mode input first rest →
+piece_len-is : (mode : Mode) (input : Input) (first rest : List ℕ) → IsPiece mode input first rest →
     piece_len mode input (first ++ rest) ≡ length first
-piece_len-is _ _ _ _ (blank mode input b rest e) = blank-len mode input b rest e
+piece_len-is _ _ _ _ (blank mode input b rest e) = piece_len-blank mode input b rest e
 piece_len-is _ _ _ _ (block input body rest h) = ap with_mark (closes_block-len body rest h)
 piece_len-is _ _ _ _ (line input body rest h) =
     ap (with_line_mark input (body ++ rest)) (closes_line-len body rest h)
@@ -231,7 +190,7 @@ piece_len-is _ _ _ _ (last_line body h) =
     ∙ ap (with_line_mark whole body) (opens_line-len body h)
 
 -- A gap is measured as long as it is, and the gap behind it.
-pub gap_len-is : (mode : Mode) (input : Input) (bytes rest : List ℕ) → IsGap mode input bytes rest →
+gap_len-is : (mode : Mode) (input : Input) (bytes rest : List ℕ) → IsGap mode input bytes rest →
     gap_len mode input (bytes ++ rest) ≡ length bytes + gap_len mode input rest
 gap_len-is mode input _ _ (empty rest) = omega arith
 gap_len-is mode input _ _ (piece first others bytes rest is_piece is_gap e) =

@@ -1,53 +1,24 @@
 -- The gap piece by piece, and the end of a comment byte by byte.
-use Rattle.std.proofs.Common.{get_or, ◌≡◌, ℕ, zero, suc, ◌+◌, ◌-◌, ◌<◌, ◌≤◌, Bool, true, false, cond, eqb, ◌&&◌, List, [], ◌∷◌, length, take, drop, slice_get, Option, Some, None, refl, ap, sym, inl, inr, ◌∙◌, arith}
+use Rattle.std.proofs.Common.{get_or, ◌≡◌, ℕ, suc, ◌+◌, ◌-◌, ◌<◌, ◌≤◌, true, false, cond, eqb, ◌&&◌, List, [], ◌∷◌, length, take, drop, slice_get, Option, Some, None, refl, ap, sym, inl, inr, ◌∙◌, arith}
+use Rattle.std.proofs.Math.Bool.{and-true}
 use Rattle.std.proofs.lemmas.List.{drop_more, take_rest, length-drop, drop-drop}
 use Rattle.std.proofs.lemmas.Bool.{cases_eq, ne_eqb, eq-eqb, and_parts}
 use Rattle.std.proofs.lemmas.Option.{slice_get_within}
 use Rattle.std.specs.List.{starts_with}
 use Rattle.std.specs.Option.{option_map}
 use Rattle.facet_json.specs.Bytes.{star, slash}
-use Rattle.facet_json.specs.Gap.{Mode, Input, whole, growing, one_more, through_block_end, through_line_end, with_mark, with_line_mark, comment_len, piece_len, gap_len_from, gap_len}
+use Rattle.facet_json.specs.Gap.{Mode, Input, whole, growing, one_more, through_block_end, through_line_end, with_mark, with_line_mark, comment_len, piece_len, gap_len}
 use Rattle.facet_json.specs.Cut.{past_gap}
+use Rattle.facet_json.proofs.Gaps.{gap_len-piece}
 use Rattle.facet_json.proofs.Offsets.{drop-at_byte, option_map-one_more, option_map-none}
 
 -- ---- pieces
-
--- the bytes inside a piece and the gap behind them
-pub gap_len_from-inside : (mode : Mode) (input : Input) (n : ℕ) (bytes : List ℕ) → n ≤ length bytes →
-    gap_len_from mode input n bytes ≡ n + gap_len mode input (drop n bytes)
-unfolding gap_len_from
-gap_len_from-inside mode input zero bytes h = omega arith
-gap_len_from-inside mode input (suc n) [] h = absurd (omega arith)
-gap_len_from-inside mode input (suc n) (b ∷ bytes) h =
-    let e = gap_len_from-inside mode input n bytes (omega arith) in omega arith
-
-gap_len-by_piece : (mode : Mode) (input : Input) (n b : ℕ) (bytes : List ℕ) → n ≡ piece_len mode input (b ∷ bytes) →
-    gap_len mode input (b ∷ bytes) ≡ elim n [ zero ↦ 0 | suc inside ↦ suc (gap_len_from mode input inside bytes) ]
-unfolding gap_len_from
-gap_len-by_piece mode input n b bytes e =
-    let F : ℕ → ℕ = λ p. elim p [ zero ↦ 0 | suc inside ↦ suc (gap_len_from mode input inside bytes) ] in
-    ap F (sym e)
-
--- a piece and the gap behind it
-pub gap_len-piece : (mode : Mode) (input : Input) (n : ℕ) (bytes : List ℕ) → n ≡ piece_len mode input bytes →
-    n ≤ length bytes → gap_len mode input bytes ≡ n + gap_len mode input (drop n bytes)
-gap_len-piece mode input zero bytes e h = omega arith
-gap_len-piece mode input (suc n) [] e h = absurd (omega arith)
-gap_len-piece mode input (suc n) (b ∷ bytes) e h =
-    omega (arith, gap_len-by_piece mode input (suc n) b bytes e, gap_len_from-inside mode input n bytes (omega arith))
-
--- where no piece stands, the gap is empty
-pub gap_len-no_piece : (mode : Mode) (input : Input) (bytes : List ℕ) → 0 ≡ piece_len mode input bytes →
-    gap_len mode input bytes ≡ 0
-unfolding gap_len_from
-gap_len-no_piece mode input [] e = refl
-gap_len-no_piece mode input (b ∷ bytes) e = gap_len-by_piece mode input 0 b bytes e
 
 -- behind a piece the gap ends at the same offset
 pub past_gap-piece : (mode : Mode) (buffer : List ℕ) (at n : ℕ) → n ≡ piece_len mode whole (drop at buffer) →
     at + n ≤ length buffer → past_gap buffer (at + n) mode ≡ past_gap buffer at mode
 past_gap-piece mode buffer at n e h =
-    let step = gap_len-piece mode whole n (drop at buffer) e (omega (arith, length-drop at buffer)) in
+    let step = gap_len-piece mode whole n (drop at buffer) (sym e) (omega (arith, length-drop at buffer)) in
     let behind : gap_len mode whole (drop n (drop at buffer)) ≡ gap_len mode whole (drop (at + n) buffer) =
     ap (gap_len mode whole) (drop-drop n at buffer) in
     omega arith
@@ -61,14 +32,9 @@ eqb_comm a b =
       | inr n ↦ ne_eqb a b n ∙ sym (ne_eqb b a (λ e. n (sym e)))
     ]
 
-both_or_one : (x y : Bool) → (x && (y && true)) ≡ (x && y)
-both_or_one true true = refl
-both_or_one true false = refl
-both_or_one false y = refl
-
 -- the mark of a block comment's end, as the code tests it
 closes : (b c : ℕ) (bytes : List ℕ) → starts_with eqb (b ∷ c ∷ bytes) (star ∷ slash ∷ []) ≡ (eqb b star && eqb c slash)
-closes b c bytes = rw (eqb_comm b star, eqb_comm c slash) (both_or_one (eqb star b) (eqb slash c))
+closes b c bytes = rw (eqb_comm b star, eqb_comm c slash) (ap (λ t. eqb star b && t) (and-true (eqb slash c)))
 
 through_block_end-more : (b : ℕ) (bytes : List ℕ) → starts_with eqb (b ∷ bytes) (star ∷ slash ∷ []) ≡ false →
     through_block_end (b ∷ bytes) ≡ one_more (through_block_end bytes)

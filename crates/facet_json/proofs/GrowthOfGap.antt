@@ -1,9 +1,10 @@
 -- What more bytes leave of the gap at the front of a buffer.
-use Rattle.std.proofs.Common.{◌≡◌, ℕ, zero, suc, ◌≤◌, Bool, true, false, cond, ◌==◌, ◌&&◌, List, [], ◌∷◌, ◌++◌, length, drop, Option, Some, None, refl, sym, ap, ◌∙◌, arith}
+use Rattle.std.proofs.Common.{◌≡◌, ℕ, zero, suc, Bool, true, false, cond, ◌==◌, ◌&&◌, List, [], ◌∷◌, ◌++◌, drop, Option, Some, None, refl, sym, ap, ◌∙◌}
 use Rattle.std.proofs.lemmas.Bool.{eqb-true, and_parts}
 use Rattle.facet_json.specs.Bytes.{is_space, slash, star}
-use Rattle.facet_json.specs.Gap.{Mode, plain, jsonc, Input, whole, growing, OpensBlock, OpensLine, one_more, through_block_end, through_line_end, with_mark, with_line_mark, comment_len, piece_len, gap_len_from}
+use Rattle.facet_json.specs.Gap.{Mode, plain, jsonc, whole, growing, OpensBlock, OpensLine, one_more, through_block_end, through_line_end, with_mark, with_line_mark, comment_len, piece_len, gap_len_from}
 use Rattle.facet_json.specs.Open.{IsBeginning}
+use Rattle.facet_json.proofs.Gaps.{gap_len-none, gap_len-some}
 
 -- What the first has, the second has too.
 abbrev pub Keeps : Option ℕ → Option ℕ → Type 0
@@ -39,7 +40,7 @@ line_end-keeps [] more n e = cc
 line_end-keeps (b ∷ bytes) more n e = cond-keeps _ 1 _ _ (line_end-keeps bytes more) n e
 
 -- A block comment without an end is open.
-opens_block : (bytes : List ℕ) → through_block_end bytes ≡ None → OpensBlock bytes
+pub opens_block : (bytes : List ℕ) → through_block_end bytes ≡ None → OpensBlock bytes
 opens_block [] e = OpensBlock.nothing
 opens_block (b ∷ []) e = OpensBlock.one b
 opens_block (b ∷ c ∷ bytes) e =
@@ -47,7 +48,7 @@ opens_block (b ∷ c ∷ bytes) e =
     OpensBlock.more b c bytes none.0 (opens_block (c ∷ bytes) none.1)
 
 -- A line without an end is open.
-opens_line : (bytes : List ℕ) → through_line_end bytes ≡ None → OpensLine bytes
+pub opens_line : (bytes : List ℕ) → through_line_end bytes ≡ None → OpensLine bytes
 opens_line [] e = OpensLine.nothing
 opens_line (b ∷ bytes) e =
     let none = cond-none _ 1 _ e in
@@ -140,48 +141,6 @@ piece_len-none : (mode : Mode) (b : ℕ) (bytes more : List ℕ) → (IsBeginnin
 piece_len-none plain b bytes more shut e = e
 piece_len-none jsonc b bytes more shut e = blank_or-none (is_space b) _ _ (comment_len-none b bytes more shut) e
 
--- Where no piece stands, the gap is empty.
-pub gap_len-none : (mode : Mode) (input : Input) (b : ℕ) (bytes : List ℕ) → piece_len mode input (b ∷ bytes) ≡ 0 →
-    gap_len_from mode input 0 (b ∷ bytes) ≡ 0
-unfolding gap_len_from
-gap_len-none mode input b bytes e = rw (e, gap_len_from)
-
--- A gap goes on through a piece of it.
-pub gap_len-some : (mode : Mode) (input : Input) (b : ℕ) (bytes : List ℕ) (n : ℕ) →
-    piece_len mode input (b ∷ bytes) ≡ suc n →
-    gap_len_from mode input 0 (b ∷ bytes) ≡ suc (gap_len_from mode input n bytes)
-unfolding gap_len_from
-gap_len-some mode input b bytes n e = rw (e, gap_len_from)
-
--- No piece of a gap stands behind the longest gap.
-pub gap_len-ends : (mode : Mode) (input : Input) (inside : ℕ) (bytes : List ℕ) →
-    piece_len mode input (drop (gap_len_from mode input inside bytes) bytes) ≡ 0
-unfolding gap_len_from
-gap_len-ends mode input inside [] = refl
-gap_len-ends mode input (suc inside) (b ∷ bytes) = gap_len-ends mode input inside bytes
-gap_len-ends mode input zero (b ∷ bytes) =
-    by_piece (λ n. gap_len-ends mode input n bytes) (piece_len mode input (b ∷ bytes)) refl
-  where
-    by_piece : ((n : ℕ) → piece_len mode input (drop (gap_len_from mode input n bytes) bytes) ≡ 0) →
-        (n : ℕ) → piece_len mode input (b ∷ bytes) ≡ n →
-        piece_len mode input (drop (gap_len_from mode input 0 (b ∷ bytes)) (b ∷ bytes)) ≡ 0
-    by_piece further zero e = rw (gap_len-none mode input b bytes e) e
-    by_piece further (suc n) e = rw (gap_len-some mode input b bytes n e) (further n)
-
--- The gap is a front of the bytes.
-pub gap_len-le : (mode : Mode) (input : Input) (inside : ℕ) (bytes : List ℕ) →
-    gap_len_from mode input inside bytes ≤ length bytes
-unfolding gap_len_from
-gap_len-le mode input inside [] = omega arith
-gap_len-le mode input (suc inside) (b ∷ bytes) = omega (arith, gap_len-le mode input inside bytes)
-gap_len-le mode input zero (b ∷ bytes) =
-    by_piece (λ n. gap_len-le mode input n bytes) (piece_len mode input (b ∷ bytes)) refl
-  where
-    by_piece : ((n : ℕ) → gap_len_from mode input n bytes ≤ length bytes) →
-        (n : ℕ) → piece_len mode input (b ∷ bytes) ≡ n → gap_len_from mode input 0 (b ∷ bytes) ≤ suc (length bytes)
-    by_piece further zero e = rw (gap_len-none mode input b bytes e) (omega arith)
-    by_piece further (suc n) e = rw (gap_len-some mode input b bytes n e) (omega (arith, further n))
-
 -- The gap of a growing buffer stays under more bytes, where what is left behind it begins nothing longer. If nothing is
 -- left, no more follow.
 abbrev GapStays : Mode → List ℕ → List ℕ → ℕ → Type 0
@@ -194,9 +153,9 @@ GapStays mode bytes more inside =
 stays_by_piece : (mode : Mode) (b : ℕ) (bytes more : List ℕ) → ((n : ℕ) → GapStays mode bytes more n) →
     (n : ℕ) → piece_len mode growing (b ∷ bytes) ≡ n → GapStays mode (b ∷ bytes) more 0
 stays_by_piece mode b bytes more further zero e last shut =
-    let none = gap_len-none mode growing b bytes e in
+    let none = gap_len-none mode growing (b ∷ bytes) e in
     let begins_not : IsBeginning mode (b ∷ bytes) → ⊥ = λ i. shut (rw none i) in
-    gap_len-none mode whole b (bytes ++ more) (piece_len-none mode b bytes more begins_not e) ∙ sym none
+    gap_len-none mode whole (b ∷ bytes ++ more) (piece_len-none mode b bytes more begins_not e) ∙ sym none
 stays_by_piece mode b bytes more further (suc n) e last shut =
     let some = gap_len-some mode growing b bytes n e in
     gap_len-some mode whole b (bytes ++ more) n (piece_len-keeps mode (b ∷ bytes) more n e)

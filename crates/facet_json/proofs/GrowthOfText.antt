@@ -3,10 +3,11 @@ use Rattle.std.proofs.Common.{◌≡◌, ◌≢◌, ℕ, suc, ◌≤◌, Bool, t
 use Rattle.std.proofs.lemmas.Bool.{eqb-true, eqb-false}
 use Rattle.std.proofs.lemmas.List.{take-append-le}
 use Rattle.facet_json.specs.Bytes.{quote, backslash}
-use Rattle.facet_json.specs.Gap.{Mode, one_more}
+use Rattle.facet_json.specs.Gap.{Mode}
 use Rattle.facet_json.specs.Token.{Kind}
 use Rattle.facet_json.specs.Cut.{ArePieces, common_len, cut_word, content_len, cut_text}
 use Rattle.facet_json.specs.Open.{IsBeginning}
+use Rattle.facet_json.proofs.TextShapes.{Below, content_len-below}
 use Rattle.facet_json.proofs.GrowthOfGap.{Keeps, one_more-keeps, cond-keeps, cond-none}
 
 -- ---- a string
@@ -18,27 +19,6 @@ content_len-keeps escaped [] more n e = cc
 content_len-keeps true (b ∷ bytes) more n e = one_more-keeps _ _ (content_len-keeps false bytes more) n e
 content_len-keeps false (b ∷ bytes) more n e =
     cond-keeps (b == quote) 0 _ _ (content_len-keeps (b == backslash) bytes more) n e
-
--- What is one more than something is its successor.
-one_more-some : (o : Option ℕ) (n : ℕ) → one_more o ≡ Some n → (m : ℕ) × (o ≡ Some m) × (n ≡ suc m)
-one_more-some None n e = cc
-one_more-some (Some m) n e = (m, refl, cc)
-
--- One more than what is within is within one more.
-one_more-le : (o : Option ℕ) (len n : ℕ) → ((m : ℕ) → o ≡ Some m → m ≤ len) → one_more o ≡ Some n → n ≤ suc len
-one_more-le o len n h e = let some = one_more-some o n e in omega (arith, h some.0 some.1)
-
--- An end here or further on is within one more.
-cond-le : (t : Bool) (o : Option ℕ) (len n : ℕ) → ((m : ℕ) → o ≡ Some m → m ≤ len) →
-    cond t (Some 0) (one_more o) ≡ Some n → n ≤ suc len
-cond-le true o len n h e = let is : n ≡ 0 = cc in omega arith
-cond-le false o len n h e = one_more-le o len n h e
-
--- A string ends within the bytes.
-content_len-le : (escaped : Bool) (bytes : List ℕ) (n : ℕ) → content_len escaped bytes ≡ Some n → n ≤ length bytes
-content_len-le escaped [] n e = cc
-content_len-le true (b ∷ bytes) n e = one_more-le _ _ n (content_len-le false bytes) e
-content_len-le false (b ∷ bytes) n e = cond-le (b == quote) _ _ n (content_len-le (b == backslash) bytes) e
 
 -- The bytes are the content of a string that doesn't end, perhaps with a backslash at the end.
 data IsUnended : List ℕ → Type 0 where
@@ -84,31 +64,30 @@ unended_begins : (mode : Mode) (bytes : List ℕ) → IsUnended bytes → IsBegi
 unended_begins mode bytes (whole _ e pieces) = IsBeginning.text mode bytes e pieces
 unended_begins mode bytes (escaped content _ e pieces is) = rw is (IsBeginning.escape mode content e pieces)
 
--- A string that may not go on ends.
-text_ends : (mode : Mode) (bytes : List ℕ) → (IsBeginning mode (quote ∷ bytes) → ⊥) →
-    content_len false bytes ≡ None → ⊥
-text_ends mode bytes shut e = shut (unended_begins mode bytes (content_len-none false bytes e))
+-- A string without an end is the beginning of one.
+pub text_begins : (mode : Mode) (bytes : List ℕ) → content_len false bytes ≡ None → IsBeginning mode (quote ∷ bytes)
+text_begins mode bytes e = unended_begins mode bytes (content_len-none false bytes e)
 
 -- A string with an end o, which stays as p, is cut alike.
 cut_text_by : (at : ℕ) (bytes more : List ℕ) (o p : Option ℕ) → (o ≡ None → ⊥) →
-    ((n : ℕ) → o ≡ Some n → n ≤ length bytes) → Keeps o p →
+    Below o (length bytes) → Keeps o p →
     cut_text at (bytes ++ more) p ≡ cut_text at bytes o
-cut_text_by at bytes more None p some le k = absurd (some refl)
-cut_text_by at bytes more (Some n) p some le k =
-    let within : n ≤ length bytes = le n refl in
+cut_text_by at bytes more None p some below k = absurd (some refl)
+cut_text_by at bytes more (Some n) p some below k =
+    let within : n ≤ length bytes = omega arith in
     rw (k n refl, take-append-le n bytes more within)
 
 -- A string that ends is cut alike from more bytes.
 pub cut_text-stays : (mode : Mode) (at : ℕ) (bytes more : List ℕ) → (IsBeginning mode (quote ∷ bytes) → ⊥) →
     cut_text at (bytes ++ more) (content_len false (bytes ++ more)) ≡ cut_text at bytes (content_len false bytes)
 cut_text-stays mode at bytes more shut =
-    cut_text_by at bytes more _ _ (text_ends mode bytes shut) (content_len-le false bytes)
+    cut_text_by at bytes more _ _ (λ e. shut (text_begins mode bytes e)) (content_len-below false bytes)
     (content_len-keeps false bytes more)
 
 -- ---- a word
 
 -- The bytes are no proper front of the word.
-abbrev pub IsNoFront : List ℕ → List ℕ → Type 0
+abbrev IsNoFront : List ℕ → List ℕ → Type 0
 IsNoFront bytes word = (others : List ℕ) → word ≡ bytes ++ others → others ≢ [] → ⊥
 
 -- Behind a letter that both have the bytes are no proper front either.

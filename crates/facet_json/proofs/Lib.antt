@@ -2,7 +2,7 @@ pub mod Spelling
 pub mod Fronts
 pub mod Behind
 pub mod Refused
-pub mod GapBounds
+pub mod Gaps
 pub mod NumberFronts
 pub mod Starts
 pub mod CutBounds
@@ -16,6 +16,7 @@ pub mod Growth
 pub mod GrowthOfGap
 pub mod GrowthOfNumber
 pub mod GrowthOfText
+pub mod OpenLaws
 pub mod NumberText
 pub mod QuotedLaws
 pub mod DecodeRows
@@ -36,5 +37,7 @@ pub mod DocumentRows
 pub mod TextShapes
 pub mod ShapeLaws
 pub mod FirstBytes
+pub mod CutRows
+pub mod TextRows
 pub mod Suffixes
 pub mod ThinDocuments

@@ -1,6 +1,6 @@
 -- A token that is read, and with which no document goes on at a place: how it is refused.
-use Rattle.std.proofs.Common.{◌≡◌, ◌≢◌, ◌∙◌, ℕ, Bool, true, false, List, Option, Some, None, refl, sym, ap, subst}
-use Rattle.std.specs.Prelude.{IsSome, slice_range}
+use Rattle.std.proofs.Common.{◌≡◌, ◌≢◌, ◌∙◌, ℕ, Bool, true, false, List, Option, Some, refl, sym, ap, subst}
+use Rattle.std.specs.Prelude.{IsSome}
 use Rattle.std.specs.Borrow.{Bor}
 use Rattle.facet_json.specs.declared.materialized.TokenKind.{TokenKind}
 use Rattle.facet_json.specs.declared.materialized.TokenKind.TheVariants as kinds
@@ -10,11 +10,10 @@ use Rattle.facet_json.specs.Number as numbers
 use Rattle.facet_json.specs.Token.{Kind, Token}
 use Rattle.facet_json.specs.Token as token
 use Rattle.facet_json.specs.Tokens.{Tokens, next}
-use Rattle.facet_json.specs.Node.{is_string}
-use Rattle.facet_json.specs.Place.{Place, root, before_key, after_key, after_colon, after_member, before_item, after_item, goes_on, expected_at, kind_name, number_name, unexpected_token, Refusal, refusal_at}
+use Rattle.facet_json.specs.Place.{Place, root, before_key, after_key, after_member, before_item, after_item, goes_on, expected_at, kind_name, number_name, unexpected_token, Refusal, refusal_at}
 use Rattle.facet_json.specs.Tree as tree
 use Rattle.facet_json.specs.Meaning.{thin_meaning_of, thin_number}
-use Rattle.facet_json.specs.Refusal.{IsStuck, misplaced, needs_meaning, is_number}
+use Rattle.facet_json.specs.Refusal.{misplaced, needs_meaning}
 use Rattle.facet_json.specs.Reading.{StopsAt, TakesValue, at_root, behind_colon, of_list}
 use Rattle.facet_json.specs.Views.{span_of, sample, name_of, misplaced_complaint, IsReadAs, IsReadFirst}
 
@@ -26,7 +25,8 @@ record Judged (buffer : List ℕ) (kind : Kind) (k : TokenKind) : Type 0 where
   expected_alike : (p : Place) → expected_at p kind ≡ expected_at p (sample k)
 
 -- A kind that looks like its sample to the letter, and is neither a string nor a number.
-plain_kind : (buffer : List ℕ) (kind : Kind) (k : TokenKind) → kind ≡ sample k → needs_meaning (sample k) ≡ false → kind_name buffer (sample k) ≡ name_of k → Judged buffer kind k
+plain_kind : (buffer : List ℕ) (kind : Kind) (k : TokenKind) → kind ≡ sample k → needs_meaning (sample k) ≡ false →
+    kind_name buffer (sample k) ≡ name_of k → Judged buffer kind k
 plain_kind buffer kind k e n same = record {
   has_meaning = λ m. let f : needs_meaning (sample k) ≡ true = rw e at m in cc;
   name = rw e same;
@@ -36,144 +36,82 @@ plain_kind buffer kind k e n same = record {
 
 string_goes_on : (a b : ℕ) (h : Bool) (p : Place) → goes_on p (token.string a b h) ≡ goes_on p (token.string 0 0 false)
 string_goes_on a b h root = refl
-string_goes_on a b h before_key = refl
-string_goes_on a b h after_key = refl
-string_goes_on a b h after_colon = refl
-string_goes_on a b h after_member = refl
-string_goes_on a b h before_item = refl
-string_goes_on a b h after_item = refl
+string_goes_on a b h _ = refl
 
-string_expected : (a b : ℕ) (h : Bool) (p : Place) → expected_at p (token.string a b h) ≡ expected_at p (token.string 0 0 false)
+string_expected : (a b : ℕ) (h : Bool) (p : Place) →
+    expected_at p (token.string a b h) ≡ expected_at p (token.string 0 0 false)
 string_expected a b h root = refl
-string_expected a b h before_key = refl
-string_expected a b h after_key = refl
-string_expected a b h after_colon = refl
-string_expected a b h after_member = refl
-string_expected a b h before_item = refl
-string_expected a b h after_item = refl
+string_expected a b h _ = refl
 
-number_goes_on : (a b : ℕ) (h : Hint) (p : Place) → goes_on p (token.number a b h) ≡ goes_on p (token.number 0 0 numbers.unsigned)
+number_goes_on : (a b : ℕ) (h : Hint) (p : Place) →
+    goes_on p (token.number a b h) ≡ goes_on p (token.number 0 0 numbers.unsigned)
 number_goes_on a b h root = refl
-number_goes_on a b h before_key = refl
-number_goes_on a b h after_key = refl
-number_goes_on a b h after_colon = refl
-number_goes_on a b h after_member = refl
-number_goes_on a b h before_item = refl
-number_goes_on a b h after_item = refl
+number_goes_on a b h _ = refl
 
-number_expected : (a b : ℕ) (h : Hint) (p : Place) → expected_at p (token.number a b h) ≡ expected_at p (token.number 0 0 numbers.unsigned)
+number_expected : (a b : ℕ) (h : Hint) (p : Place) →
+    expected_at p (token.number a b h) ≡ expected_at p (token.number 0 0 numbers.unsigned)
 number_expected a b h root = refl
-number_expected a b h before_key = refl
-number_expected a b h after_key = refl
-number_expected a b h after_colon = refl
-number_expected a b h after_member = refl
-number_expected a b h before_item = refl
-number_expected a b h after_item = refl
+number_expected a b h _ = refl
 
 -- A number that is thin is called by its one name.
-thin_name : (n : Option Number) (m : ℕ) → thin_number n ≡ Some (tree.u64 m) → number_name n ≡ number_name (Some (numbers.u64 m))
-thin_name None m e = cc
+thin_name : (n : Option Number) (m : ℕ) → thin_number n ≡ Some (tree.u64 m) →
+    number_name n ≡ number_name (Some (numbers.u64 m))
 thin_name (Some (numbers.u64 k)) m e = refl
-thin_name (Some (numbers.u128 k)) m e = cc
-thin_name (Some (numbers.i64 k)) m e = cc
-thin_name (Some (numbers.i128 k)) m e = cc
-thin_name (Some (numbers.decimal k)) m e = cc
+thin_name _ m e = cc
 
 judged : (buffer : List ℕ) (kind : Kind) (k : TokenKind) → IsReadAs buffer kind k → Judged buffer kind k
-judged buffer kind kinds.ObjectStart r = plain_kind buffer kind kinds.ObjectStart r refl refl
-judged buffer kind kinds.ObjectEnd r = plain_kind buffer kind kinds.ObjectEnd r refl refl
-judged buffer kind kinds.ArrayStart r = plain_kind buffer kind kinds.ArrayStart r refl refl
-judged buffer kind kinds.ArrayEnd r = plain_kind buffer kind kinds.ArrayEnd r refl refl
-judged buffer kind kinds.Colon r = plain_kind buffer kind kinds.Colon r refl refl
-judged buffer kind kinds.Comma r = plain_kind buffer kind kinds.Comma r refl refl
-judged buffer kind kinds.Null r = plain_kind buffer kind kinds.Null r refl refl
-judged buffer kind kinds.True r = plain_kind buffer kind kinds.True r refl refl
-judged buffer kind kinds.False r = plain_kind buffer kind kinds.False r refl refl
-judged buffer (token.string a b h) (kinds.String s) r = record { has_meaning = λ m. rw r.1 refl; name = refl; goes_on_alike = string_goes_on a b h; expected_alike = string_expected a b h }
-judged buffer (token.number a b h) (kinds.String s) r = cc
-judged buffer token.object_start (kinds.String s) r = cc
-judged buffer token.object_end (kinds.String s) r = cc
-judged buffer token.array_start (kinds.String s) r = cc
-judged buffer token.array_end (kinds.String s) r = cc
-judged buffer token.colon (kinds.String s) r = cc
-judged buffer token.comma (kinds.String s) r = cc
-judged buffer token.null (kinds.String s) r = cc
-judged buffer token.true_literal (kinds.String s) r = cc
-judged buffer token.false_literal (kinds.String s) r = cc
-judged buffer (token.number a b h) (kinds.U64 n) r = record { has_meaning = λ m. rw r.1 refl; name = thin_name _ n r.1; goes_on_alike = number_goes_on a b h; expected_alike = number_expected a b h }
-judged buffer (token.string a b h) (kinds.U64 n) r = cc
-judged buffer token.object_start (kinds.U64 n) r = cc
-judged buffer token.object_end (kinds.U64 n) r = cc
-judged buffer token.array_start (kinds.U64 n) r = cc
-judged buffer token.array_end (kinds.U64 n) r = cc
-judged buffer token.colon (kinds.U64 n) r = cc
-judged buffer token.comma (kinds.U64 n) r = cc
-judged buffer token.null (kinds.U64 n) r = cc
-judged buffer token.true_literal (kinds.U64 n) r = cc
-judged buffer token.false_literal (kinds.U64 n) r = cc
+judged buffer (token.string a b h) (kinds.String s) r = record {
+  has_meaning = λ m. rw r.1 refl;
+  name = refl;
+  goes_on_alike = string_goes_on a b h;
+  expected_alike = string_expected a b h;
+}
+judged buffer (token.number a b h) (kinds.U64 n) r = record {
+  has_meaning = λ m. rw r.1 refl;
+  name = thin_name _ n r.1;
+  goes_on_alike = number_goes_on a b h;
+  expected_alike = number_expected a b h;
+}
+judged buffer _ (kinds.String s) r = cc
+judged buffer _ (kinds.U64 n) r = cc
+judged buffer kind k r = plain_kind buffer kind k r refl refl
 
 -- A token with which no document goes on at the place stops the reader there.
-pub stops_misplaced : (buffer : List ℕ) (p : Place) (ts after : Tokens) (t : MaterializedToken) (r : Refusal) → IsReadFirst buffer ts t after → goes_on p (sample t.kind) ≡ false
-    → r ≡ refusal_at (misplaced_complaint p t.kind) (span_of t.span) → StopsAt buffer p ts r
+pub stops_misplaced : (buffer : List ℕ) (p : Place) (ts after : Tokens) (t : MaterializedToken) (r : Refusal) →
+    IsReadFirst buffer ts t after → goes_on p (sample t.kind) ≡ false →
+    r ≡ refusal_at (misplaced_complaint p t.kind) (span_of t.span) → StopsAt buffer p ts r
 stops_misplaced buffer p ts after t r f n same =
     let j : Judged buffer f.first.kind t.kind = judged buffer f.first.kind t.kind f.read in
-    let whole : StopsAt buffer p (next f.first after) (refusal_at (unexpected_token (kind_name buffer f.first.kind) (expected_at p f.first.kind)) f.first.span) = misplaced p f.first after j.has_meaning (j.goes_on_alike p ∙ n) in
-    let called : refusal_at (unexpected_token (kind_name buffer f.first.kind) (expected_at p f.first.kind)) f.first.span ≡ r = rw (j.name, j.expected_alike p, f.spans) (sym same) in
+    let whole : StopsAt buffer p (next f.first after)
+    (refusal_at (unexpected_token (kind_name buffer f.first.kind) (expected_at p f.first.kind)) f.first.span) =
+    misplaced p f.first after j.has_meaning (j.goes_on_alike p ∙ n) in
+    let called : refusal_at
+    (unexpected_token (kind_name buffer f.first.kind) (expected_at p f.first.kind)) f.first.span ≡ r =
+    rw (j.name, j.expected_alike p, f.spans) (sym same) in
     rw f.is_first (subst (λ (q : Refusal). StopsAt buffer p (next f.first after) q) called whole)
 
 -- ---- with what no document goes on
 
 pub after_key-stays : (k : TokenKind) → k ≢ kinds.Colon → goes_on after_key (sample k) ≡ false
-after_key-stays kinds.ObjectStart n = refl
-after_key-stays kinds.ObjectEnd n = refl
-after_key-stays kinds.ArrayStart n = refl
-after_key-stays kinds.ArrayEnd n = refl
 after_key-stays kinds.Colon n = absurd (n refl)
-after_key-stays kinds.Comma n = refl
-after_key-stays kinds.Null n = refl
-after_key-stays kinds.True n = refl
-after_key-stays kinds.False n = refl
-after_key-stays (kinds.String s) n = refl
-after_key-stays (kinds.U64 m) n = refl
+after_key-stays _ n = refl
 
 pub after_item-stays : (k : TokenKind) → k ≢ kinds.Comma → k ≢ kinds.ArrayEnd → goes_on after_item (sample k) ≡ false
-after_item-stays kinds.ObjectStart n m = refl
-after_item-stays kinds.ObjectEnd n m = refl
-after_item-stays kinds.ArrayStart n m = refl
-after_item-stays kinds.ArrayEnd n m = absurd (m refl)
-after_item-stays kinds.Colon n m = refl
 after_item-stays kinds.Comma n m = absurd (n refl)
-after_item-stays kinds.Null n m = refl
-after_item-stays kinds.True n m = refl
-after_item-stays kinds.False n m = refl
-after_item-stays (kinds.String s) n m = refl
-after_item-stays (kinds.U64 k) n m = refl
+after_item-stays kinds.ArrayEnd n m = absurd (m refl)
+after_item-stays _ n m = refl
 
-pub after_member-stays : (k : TokenKind) → k ≢ kinds.Comma → k ≢ kinds.ObjectEnd → goes_on after_member (sample k) ≡ false
-after_member-stays kinds.ObjectStart n m = refl
-after_member-stays kinds.ObjectEnd n m = absurd (m refl)
-after_member-stays kinds.ArrayStart n m = refl
-after_member-stays kinds.ArrayEnd n m = refl
-after_member-stays kinds.Colon n m = refl
+pub after_member-stays : (k : TokenKind) → k ≢ kinds.Comma → k ≢ kinds.ObjectEnd →
+    goes_on after_member (sample k) ≡ false
 after_member-stays kinds.Comma n m = absurd (n refl)
-after_member-stays kinds.Null n m = refl
-after_member-stays kinds.True n m = refl
-after_member-stays kinds.False n m = refl
-after_member-stays (kinds.String s) n m = refl
-after_member-stays (kinds.U64 k) n m = refl
+after_member-stays kinds.ObjectEnd n m = absurd (m refl)
+after_member-stays _ n m = refl
 
-pub before_key-stays : (k : TokenKind) → ((s : Bor (List ℕ)) → k ≢ kinds.String s) → k ≢ kinds.ObjectEnd → goes_on before_key (sample k) ≡ false
-before_key-stays kinds.ObjectStart n m = refl
-before_key-stays kinds.ObjectEnd n m = absurd (m refl)
-before_key-stays kinds.ArrayStart n m = refl
-before_key-stays kinds.ArrayEnd n m = refl
-before_key-stays kinds.Colon n m = refl
-before_key-stays kinds.Comma n m = refl
-before_key-stays kinds.Null n m = refl
-before_key-stays kinds.True n m = refl
-before_key-stays kinds.False n m = refl
+pub before_key-stays : (k : TokenKind) → ((s : Bor (List ℕ)) → k ≢ kinds.String s) → k ≢ kinds.ObjectEnd →
+    goes_on before_key (sample k) ≡ false
 before_key-stays (kinds.String s) n m = absurd (n s refl)
-before_key-stays (kinds.U64 k) n m = refl
+before_key-stays kinds.ObjectEnd n m = absurd (m refl)
+before_key-stays _ n m = refl
 
 -- a closing brace, a colon or a comma, or a closing bracket where no list may end
 pub data BeginsNone (p : Place) : TokenKind → Type 0 where
@@ -183,25 +121,17 @@ pub data BeginsNone (p : Place) : TokenKind → Type 0 where
   bracket : (p ≡ before_item → ⊥) → BeginsNone p kinds.ArrayEnd
 
 pub value-stays : (p : Place) (k : TokenKind) → TakesValue p → BeginsNone p k → goes_on p (sample k) ≡ false
-value-stays root k at_root brace = refl
-value-stays root k at_root a_colon = refl
-value-stays root k at_root a_comma = refl
-value-stays root k at_root (bracket n) = refl
-value-stays after_colon k behind_colon brace = refl
-value-stays after_colon k behind_colon a_colon = refl
-value-stays after_colon k behind_colon a_comma = refl
-value-stays after_colon k behind_colon (bracket n) = refl
-value-stays before_item k of_list brace = refl
-value-stays before_item k of_list a_colon = refl
-value-stays before_item k of_list a_comma = refl
-value-stays before_item k of_list (bracket n) = absurd (n refl)
-value-stays before_key k t b = elim t [ ]
-value-stays after_key k t b = elim t [ ]
-value-stays after_member k t b = elim t [ ]
-value-stays after_item k t b = elim t [ ]
+value-stays _ _ at_root brace = refl
+value-stays _ _ at_root _ = refl
+value-stays _ _ behind_colon brace = refl
+value-stays _ _ behind_colon _ = refl
+value-stays _ _ of_list (bracket n) = absurd (n refl)
+value-stays _ _ of_list _ = refl
 
 -- What none of the arms for values takes begins none.
-pub begins_none : (p : Place) (k : TokenKind) → (p ≡ before_item → k ≢ kinds.ArrayEnd) → k ≢ kinds.Null → k ≢ kinds.True → k ≢ kinds.False → ((n : ℕ) → k ≢ kinds.U64 n) → ((s : Bor (List ℕ)) → k ≢ kinds.String s) → k ≢ kinds.ArrayStart → k ≢ kinds.ObjectStart → BeginsNone p k
+pub begins_none : (p : Place) (k : TokenKind) → (p ≡ before_item → k ≢ kinds.ArrayEnd) → k ≢ kinds.Null →
+    k ≢ kinds.True → k ≢ kinds.False → ((n : ℕ) → k ≢ kinds.U64 n) → ((s : Bor (List ℕ)) → k ≢ kinds.String s) →
+    k ≢ kinds.ArrayStart → k ≢ kinds.ObjectStart → BeginsNone p k
 begins_none p kinds.ObjectStart end n t f u s a o = absurd (o refl)
 begins_none p kinds.ObjectEnd end n t f u s a o = brace
 begins_none p kinds.ArrayStart end n t f u s a o = absurd (a refl)

@@ -1,14 +1,16 @@
 -- A plain document is the same JSONC document: where the plain cut gives a token, the JSONC cut gives the same.
-use Rattle.std.proofs.Common.{◌≡◌, ℕ, zero, suc, ◌+◌, ◌-◌, Bool, true, false, cond, ◌==◌, List, [], ◌∷◌, drop, refl, sym, ap, ◌∙◌, subst}
+use Rattle.std.proofs.Common.{◌≡◌, ℕ, zero, suc, ◌+◌, ◌-◌, Bool, true, false, ◌==◌, List, [], ◌∷◌, drop, refl, sym, ap, ◌∙◌, subst}
 use Rattle.std.proofs.lemmas.List.{drop-drop}
 use Rattle.std.proofs.lemmas.Bool.{eqb-true}
 use Rattle.facet_json.specs.Bytes.{is_space, slash}
-use Rattle.facet_json.specs.Gap.{Mode, plain, jsonc, Input, whole, comment_len, piece_len, gap_len_from, gap_len}
+use Rattle.facet_json.specs.Gap.{Mode, plain, jsonc, Input, whole, comment_len, gap_len_from, gap_len}
 use Rattle.facet_json.specs.Token.{Token, Fault, stop}
-use Rattle.facet_json.specs.Cut.{Cut, nothing_left, token, fault, Start, punctuation, letter, opens_text, opens_number, opens_comment, opens_nothing, start_of, cut_by, cut_here, past_gap, cut}
+use Rattle.facet_json.specs.Cut.{Cut, nothing_left, token, fault, Start, opens_comment, start_of, cut_by, cut_here, past_gap, cut}
 use Rattle.facet_json.specs.Tokens.{Tokens, ended, refused, next, tokens_past, tokens}
 use Rattle.facet_json.specs.Node.{Node, scalar, array, object, Nodes, no_nodes, Members, no_members, member, Spells, one_token, brackets, braces, SpellsItems, closed, item_and_comma, last_item, SpellsMembers, ended_members, member_and_comma, last_member}
 use Rattle.facet_json.specs.Laws.{PlainIsJsonc}
+use Rattle.facet_json.proofs.TokensSteps.{follow}
+use Rattle.facet_json.proofs.Gaps.{piece_len-blank, gap_len-none, gap_len-some}
 
 -- ---- the gaps
 
@@ -22,39 +24,24 @@ no_comment : (input : Input) (b : ℕ) (bytes : List ℕ) → (b == slash) ≡ f
 no_comment input b [] e = refl
 no_comment input b (c ∷ bytes) e = rw e refl
 
--- the gap behind a piece of this length
-abbrev behind_piece : Mode → Input → List ℕ → ℕ → ℕ
-behind_piece mode input bytes = elim [ zero ↦ 0 | suc inside ↦ suc (gap_len_from mode input inside bytes) ]
-
-gap_by_piece : (mode : Mode) (input : Input) (b : ℕ) (bytes : List ℕ) →
-    gap_len_from mode input 0 (b ∷ bytes) ≡ behind_piece mode input bytes (piece_len mode input (b ∷ bytes))
-unfolding gap_len_from
-gap_by_piece plain input b bytes = refl
-gap_by_piece jsonc input b bytes = refl
-
+-- A gap goes on behind white space.
 gap_at_blank : (mode : Mode) (input : Input) (b : ℕ) (bytes : List ℕ) → is_space b ≡ true →
-    gap_len_from mode input 0 (b ∷ bytes) ≡ suc (gap_len_from mode input 0 bytes)
-gap_at_blank plain input b bytes e =
-    gap_by_piece plain input b bytes ∙ ap (λ s. behind_piece plain input bytes (cond s 1 0)) e
-gap_at_blank jsonc input b bytes e =
-    let comment = comment_len input (b ∷ bytes) in
-    gap_by_piece jsonc input b bytes ∙ ap (λ s. behind_piece jsonc input bytes (cond s 1 comment)) e
+    gap_len mode input (b ∷ bytes) ≡ suc (gap_len mode input bytes)
+gap_at_blank mode input b bytes e = gap_len-some mode input b bytes 0 (piece_len-blank mode input b bytes e)
 
-plain_gap_ends : (input : Input) (b : ℕ) (bytes : List ℕ) → is_space b ≡ false →
-    gap_len_from plain input 0 (b ∷ bytes) ≡ 0
-plain_gap_ends input b bytes e =
-    gap_by_piece plain input b bytes ∙ ap (λ s. behind_piece plain input bytes (cond s 1 0)) e
+-- A plain gap ends where no white space stands.
+plain_gap_ends : (input : Input) (b : ℕ) (bytes : List ℕ) → is_space b ≡ false → gap_len plain input (b ∷ bytes) ≡ 0
+plain_gap_ends input b bytes e = gap_len-none plain input (b ∷ bytes) (rw e)
 
+-- A JSONC gap ends where neither white space nor a slash stands.
 jsonc_gap_ends : (input : Input) (b : ℕ) (bytes : List ℕ) → is_space b ≡ false → (b == slash) ≡ false →
-    gap_len_from jsonc input 0 (b ∷ bytes) ≡ 0
-jsonc_gap_ends input b bytes e f =
-    let comment = comment_len input (b ∷ bytes) in
-    gap_by_piece jsonc input b bytes ∙ ap (λ s. behind_piece jsonc input bytes (cond s 1 comment)) e
-    ∙ ap (λ n. behind_piece jsonc input bytes n) (no_comment input b bytes f)
+    gap_len jsonc input (b ∷ bytes) ≡ 0
+jsonc_gap_ends input b bytes e f = gap_len-none jsonc input (b ∷ bytes) (rw e (no_comment input b bytes f))
 
+-- Two lengths that are alike, or end at a slash, are so with one more byte in front.
 gaps_at : (input : Input) (b : ℕ) (bytes : List ℕ) (is_blank is_slash : Bool) → is_space b ≡ is_blank →
-    (b == slash) ≡ is_slash → AlikeOrSlash (gap_len_from plain input 0 bytes) (gap_len_from jsonc input 0 bytes) bytes
-    → AlikeOrSlash (gap_len_from plain input 0 (b ∷ bytes)) (gap_len_from jsonc input 0 (b ∷ bytes)) (b ∷ bytes)
+    (b == slash) ≡ is_slash → AlikeOrSlash (gap_len plain input bytes) (gap_len jsonc input bytes) bytes →
+    AlikeOrSlash (gap_len plain input (b ∷ bytes)) (gap_len jsonc input (b ∷ bytes)) (b ∷ bytes)
 gaps_at input b bytes true s e f (alike same) =
     alike (gap_at_blank plain input b bytes e ∙ ap suc same ∙ sym (gap_at_blank jsonc input b bytes e))
 gaps_at input b bytes true s e f (at_slash rest here) = at_slash rest (rw (gap_at_blank plain input b bytes e) here)
@@ -74,12 +61,8 @@ gaps_alike input (b ∷ bytes) = gaps_at input b bytes (is_space b) (b == slash)
 
 cut_by_either : (start : Start) (at b : ℕ) (bytes : List ℕ) (t : Token) → cut_by start plain at b bytes ≡ token t →
     cut_by start jsonc at b bytes ≡ token t
-cut_by_either (punctuation kind) at b bytes t e = e
-cut_by_either (letter letters kind) at b bytes t e = e
-cut_by_either opens_text at b bytes t e = e
-cut_by_either opens_number at b bytes t e = e
 cut_by_either opens_comment at b bytes t e = cc
-cut_by_either opens_nothing at b bytes t e = e
+cut_by_either _ at b bytes t e = e
 
 cut_here_either : (at : ℕ) (bytes : List ℕ) (t : Token) → cut_here plain at bytes ≡ token t →
     cut_here jsonc at bytes ≡ token t
@@ -113,12 +96,6 @@ pub data Extends : Tokens → Tokens → Type 0 where
   one_more : (t : Token) (front all : Tokens) → Extends front all → Extends (next t front) (next t all)
   at_end : (all : Tokens) → Extends ended all
   at_fault : (f : Fault) (all : Tokens) → Extends (refused f) all
-
--- what follows by what is cut, where bytes are left
-abbrev follow : List ℕ → Mode → ℕ → List ℕ → Cut → Tokens
-follow buffer mode at left nothing_left = ended
-follow buffer mode at left (fault f) = refused f
-follow buffer mode at left (token t) = next t (tokens_past buffer mode (stop t.span - suc at) (suc at) left)
 
 follow_extends : (buffer : List ℕ) (at : ℕ) (left : List ℕ) (c d : Cut) → ((t : Token) → c ≡ token t → d ≡ token t) →
     ((inside : ℕ) → Extends (tokens_past buffer plain inside (suc at) left)

@@ -3,7 +3,8 @@ use Rattle.std.proofs.Common.{◌≡◌, ℕ, zero, suc, ◌+◌, ◌-◌, ◌�
 use Rattle.std.proofs.lemmas.List.{drop-take, length-take-le}
 use Rattle.facet_json.specs.Bytes.{is_digit, is_exponent_mark, is_sign, minus, dot}
 use Rattle.std.proofs.lemmas.Bool.{and_from, not_from_false, eq-eqb, eqb-false}
-use Rattle.facet_json.specs.Number.{Hint, unsigned, signed, float, digits_len, minus_len, fraction_len, sign_len, exponent_len, Parts, parts, parts_len, parts_hint, is_bare, begins_number, is_number, same_hint}
+use Rattle.facet_json.specs.Cut.{Cut, cut_number}
+use Rattle.facet_json.specs.Number.{Hint, unsigned, digits_len, minus_len, fraction_len, sign_len, exponent_len, Parts, parts, parts_len, parts_hint, is_bare, begins_number, is_number, same_hint}
 
 -- ---- no part is longer than the bytes
 
@@ -13,19 +14,19 @@ cond_bound true n k h = omega arith
 cond_bound false n k h = omega arith
 
 -- Digits are no longer than the bytes, and so is each other part.
-pub digits_len-bound : (bytes : List ℕ) → digits_len bytes ≤ length bytes
+digits_len-bound : (bytes : List ℕ) → digits_len bytes ≤ length bytes
 digits_len-bound [] = omega arith
 digits_len-bound (b ∷ bytes) = cond_bound (is_digit b) _ _ (digits_len-bound bytes)
 
-pub minus_len-bound : (bytes : List ℕ) → minus_len bytes ≤ length bytes
+minus_len-bound : (bytes : List ℕ) → minus_len bytes ≤ length bytes
 minus_len-bound [] = omega arith
 minus_len-bound (b ∷ bytes) = cond_bound (b == minus) 0 (length bytes) (omega arith)
 
-pub fraction_len-bound : (bytes : List ℕ) → fraction_len bytes ≤ length bytes
+fraction_len-bound : (bytes : List ℕ) → fraction_len bytes ≤ length bytes
 fraction_len-bound [] = omega arith
 fraction_len-bound (b ∷ bytes) = cond_bound (b == dot) _ _ (digits_len-bound bytes)
 
-pub sign_len-bound : (bytes : List ℕ) → sign_len bytes ≤ length bytes
+sign_len-bound : (bytes : List ℕ) → sign_len bytes ≤ length bytes
 sign_len-bound [] = omega arith
 sign_len-bound (b ∷ bytes) = cond_bound (is_sign b) 0 (length bytes) (omega arith)
 
@@ -43,7 +44,7 @@ power_len-bound bytes =
       length-drop (sign_len bytes) bytes,
     )
 
-pub exponent_len-bound : (bytes : List ℕ) → exponent_len bytes ≤ length bytes
+exponent_len-bound : (bytes : List ℕ) → exponent_len bytes ≤ length bytes
 exponent_len-bound [] = omega arith
 exponent_len-bound (b ∷ bytes) = cond_bound (is_exponent_mark b) _ _ (power_len-bound bytes)
 
@@ -73,17 +74,17 @@ cond_front true x y k h f = ap suc (f (omega arith))
 cond_front false x y k h f = refl
 
 -- Digits are measured alike in a front that holds them, and so is each other part.
-pub digits_len-take : (k : ℕ) (bytes : List ℕ) → digits_len bytes ≤ k → digits_len (take k bytes) ≡ digits_len bytes
+digits_len-take : (k : ℕ) (bytes : List ℕ) → digits_len bytes ≤ k → digits_len (take k bytes) ≡ digits_len bytes
 digits_len-take zero bytes h = omega arith
 digits_len-take (suc k) [] h = refl
 digits_len-take (suc k) (b ∷ bytes) h = cond_front (is_digit b) _ _ k h (digits_len-take k bytes)
 
-pub minus_len-take : (k : ℕ) (bytes : List ℕ) → minus_len bytes ≤ k → minus_len (take k bytes) ≡ minus_len bytes
+minus_len-take : (k : ℕ) (bytes : List ℕ) → minus_len bytes ≤ k → minus_len (take k bytes) ≡ minus_len bytes
 minus_len-take zero bytes h = omega arith
 minus_len-take (suc k) [] h = refl
 minus_len-take (suc k) (b ∷ bytes) h = refl
 
-pub fraction_len-take : (k : ℕ) (bytes : List ℕ) → fraction_len bytes ≤ k →
+fraction_len-take : (k : ℕ) (bytes : List ℕ) → fraction_len bytes ≤ k →
     fraction_len (take k bytes) ≡ fraction_len bytes
 fraction_len-take zero bytes h = omega arith
 fraction_len-take (suc k) [] h = refl
@@ -119,7 +120,7 @@ power_len-take k bytes h =
     ap (λ n. n + digits_len (drop n (take k bytes))) e
     ∙ ap (λ n. sign_len bytes + n) (digits_behind (sign_len bytes) k bytes h)
 
-pub exponent_len-take : (k : ℕ) (bytes : List ℕ) → exponent_len bytes ≤ k →
+exponent_len-take : (k : ℕ) (bytes : List ℕ) → exponent_len bytes ≤ k →
     exponent_len (take k bytes) ≡ exponent_len bytes
 exponent_len-take zero bytes h = omega arith
 exponent_len-take (suc k) [] h = refl
@@ -159,11 +160,14 @@ parts-take k bytes h =
 
 -- ---- the number at the front
 
+-- what is cut of a number with these parts
+abbrev pub number_at : ℕ → List ℕ → Parts → Cut
+number_at at bytes p = cut_number at bytes (parts_len p) (parts_hint p) (is_bare p)
+
 -- A hint is the same as itself.
 pub same_hint-refl : (hint : Hint) → same_hint hint hint ≡ true
 same_hint-refl unsigned = refl
-same_hint-refl signed = refl
-same_hint-refl float = refl
+same_hint-refl _ = refl
 
 -- A number's start is left in a front of it.
 begins_number-take : (k : ℕ) (bytes : List ℕ) → 0 < k → begins_number bytes ≡ true → begins_number (take k bytes) ≡ true

@@ -4,7 +4,7 @@ use Rattle.std.proofs.lemmas.Bool.{cond_both, eqb-true, leb-true, and_parts, and
 use Rattle.std.proofs.lemmas.List.{append-nil, take_all, drop_at, length-take-le, nil_from_length}
 use Rattle.facet_json.specs.Bytes.{is_digit, is_exponent_mark, is_sign, minus, dot, lower_e, upper_e, plus}
 use Rattle.facet_json.specs.Number.{Hint, unsigned, signed, float, AreDigits, IsMinus, IsFraction, IsExponentSign, IsExponent, hint_of, IsNumeral, IsNumber, digits_len, minus_len, fraction_len, sign_len, exponent_len, parts, parts_len, parts_hint, is_bare, is_some_len, begins_number, is_number, same_hint}
-use Rattle.facet_json.specs.Laws.{NumberIsLongest}
+use Rattle.facet_json.specs.Laws.{NumberIsLongest, NumberIsTested}
 use Rattle.facet_json.proofs.NumberFronts.{parts_len-bound, parts-take, power_len, from_sign, from_digits, from_fraction, from_exponent, same_hint-refl, is_number-front}
 
 -- ---- a number is measured as long as it is
@@ -198,7 +198,8 @@ minus-alone _ digits _ IsMinus.absent some e = absurd (some e)
 minus-alone _ digits _ IsMinus.present some e = refl
 
 -- A numeral that is measured no longer than its sign is a minus.
-bare-minus : (bytes : List ℕ) (hint : Hint) → IsNumeral bytes hint → is_bare (parts bytes) ≡ true → bytes ≡ minus ∷ []
+pub bare-minus : (bytes : List ℕ) (hint : Hint) → IsNumeral bytes hint → is_bare (parts bytes) ≡ true →
+    bytes ≡ minus ∷ []
 bare-minus bytes hint n e =
     let p = parts bytes in
     let long : parts_len p ≡ p.sign = eqb-true (parts_len p) p.sign e in
@@ -220,18 +221,6 @@ bare-minus bytes hint n e =
 pub is_bare-number : (bytes : List ℕ) (hint : Hint) → IsNumber bytes hint → is_bare (parts bytes) ≡ false
 is_bare-number bytes hint n =
     false_from_ne_true (is_bare (parts bytes)) (λ e. n.more (bare-minus bytes hint n.numeral e))
-
--- A number is tested to be one.
-pub is_number-complete : (bytes : List ℕ) (hint : Hint) → IsNumber bytes hint → is_number bytes hint ≡ true
-is_number-complete bytes hint n =
-    let p = parts bytes in
-    let begins = begins_number-is bytes hint n.numeral in
-    let more : is_bare p ≡ false = is_bare-number bytes hint n in
-    let long : (parts_len p == length bytes) ≡ true =
-    eq-eqb (parts_len p) (length bytes) (parts_len-is bytes hint n.numeral) in
-    let same : same_hint (parts_hint p) hint ≡ true =
-    ap (λ h. same_hint h hint) (parts_hint-is bytes hint n.numeral) ∙ same_hint-refl hint in
-    and_from _ _ (and_from _ _ (and_from _ _ begins (not_from_false _ more)) long) same
 
 -- ---- what is measured is a number
 
@@ -289,8 +278,13 @@ parts-some : (bytes : List ℕ) → begins_number bytes ≡ true →
 parts-some [] h = cc
 parts-some (b ∷ bytes) h = start-some b bytes (b == minus) refl h
 
+-- What begins a number is measured.
+pub parts_len-some : (bytes : List ℕ) → begins_number bytes ≡ true → 0 < parts_len (parts bytes)
+unfolding parts
+parts_len-some bytes h = omega (arith, parts-some bytes h)
+
 -- The bytes that are measured are a numeral.
-numeral-measured : (bytes : List ℕ) → begins_number bytes ≡ true → parts_len (parts bytes) ≡ length bytes →
+pub numeral-measured : (bytes : List ℕ) → begins_number bytes ≡ true → parts_len (parts bytes) ≡ length bytes →
     IsNumeral bytes (parts_hint (parts bytes))
 unfolding parts
 numeral-measured bytes begins long =
@@ -327,17 +321,12 @@ numeral-measured bytes begins long =
 -- Hints that are tested the same are.
 same_hint-is : (a b : Hint) → same_hint a b ≡ true → a ≡ b
 same_hint-is unsigned unsigned e = refl
-same_hint-is unsigned signed e = cc
-same_hint-is unsigned float e = cc
-same_hint-is signed unsigned e = cc
 same_hint-is signed signed e = refl
-same_hint-is signed float e = cc
-same_hint-is float unsigned e = cc
-same_hint-is float signed e = cc
 same_hint-is float float e = refl
+same_hint-is _ _ e = cc
 
 -- A minus alone is bare.
-bare_minus-is : is_bare (parts (minus ∷ [])) ≡ true
+pub bare_minus-is : is_bare (parts (minus ∷ [])) ≡ true
 unfolding parts
 bare_minus-is = refl
 
@@ -356,7 +345,23 @@ is_number-sound bytes hint e =
       more = λ h. both_ways (is_bare p) more (ap (λ l. is_bare (parts l)) h ∙ bare_minus-is);
     }
 
--- ---- the law
+-- A number is tested to be one.
+pub is_number-complete : (bytes : List ℕ) (hint : Hint) → IsNumber bytes hint → is_number bytes hint ≡ true
+is_number-complete bytes hint n =
+    let p = parts bytes in
+    let begins = begins_number-is bytes hint n.numeral in
+    let more : is_bare p ≡ false = is_bare-number bytes hint n in
+    let long : (parts_len p == length bytes) ≡ true =
+    eq-eqb (parts_len p) (length bytes) (parts_len-is bytes hint n.numeral) in
+    let same : same_hint (parts_hint p) hint ≡ true =
+    ap (λ h. same_hint h hint) (parts_hint-is bytes hint n.numeral) ∙ same_hint-refl hint in
+    and_from _ _ (and_from _ _ (and_from _ _ begins (not_from_false _ more)) long) same
+
+-- ---- the laws
+
+-- A text is tested to be a number exactly where it is one.
+pub number_is_tested : NumberIsTested
+number_is_tested text hint = (is_number-sound text hint, is_number-complete text hint)
 
 -- A front that is a number is no longer than the number that is measured.
 parts_len-longest : (bytes : List ℕ) (k : ℕ) (hint : Hint) → k ≤ length bytes → IsNumber (take k bytes) hint →

@@ -1,12 +1,12 @@
 -- What the text of a number stands for: the value of its digits, or with a dot or an exponent mark the text itself.
-use Rattle.std.proofs.Common.{◌≡◌, ℕ, zero, suc, ◌+◌, ◌-◌, ◌*◌, ◌<◌, ◌≤◌, ◌&&◌, Bool, true, false, cond, List, [], ◌∷◌, ◌++◌, length, take, drop, get_or, Some, None, refl, sym, ap, ◌∙◌, subst, inl, inr, lit<, arith, length-drop}
+use Rattle.std.proofs.Common.{◌≡◌, ℕ, zero, suc, ◌+◌, ◌-◌, ◌*◌, ◌<◌, ◌≤◌, Bool, true, false, cond, List, [], ◌∷◌, ◌++◌, length, take, drop, get_or, Some, None, refl, sym, ap, ◌∙◌, subst, inl, inr, lit<, arith, length-drop}
 use Rattle.std.specs.Prelude.{not, nat_le, ◌==◌, ◌||◌, IsUtf8}
 use Rattle.std.specs.List.{list_any}
 use Rattle.std.proofs.lemmas.Bool.{and_parts, or_cases, eqb-true, leb-true}
-use Rattle.std.proofs.lemmas.List.{drop_more, take_all}
+use Rattle.std.proofs.lemmas.List.{drop_more, append-nil, take_all}
 use Rattle.std.proofs.lemmas.Str.{IsUtf8-nil, IsUtf8-append, IsUtf8-from_ascii}
 use Rattle.facet_json.specs.Bytes.{is_digit, is_exponent_mark, is_sign, minus, plus, dot, lower_e, upper_e}
-use Rattle.facet_json.specs.Number.{Hint, AreDigits, none, digit, IsMinus, IsFraction, IsExponentSign, IsExponent, digits_value, digits_len, hint_of, unsigned, signed, float, same_hint, is_some_len, Parts, parts, parts_len, parts_hint, minus_len, is_bare, begins_number, is_number, unsigned_number, negative_number, any_digit, has_value, value_by, decimal, number}
+use Rattle.facet_json.specs.Number.{Hint, AreDigits, none, digit, IsMinus, IsFraction, IsExponentSign, IsExponent, digits_value, hint_of, unsigned, signed, float, is_some_len, Parts, parts, minus_len, is_number, unsigned_number, negative_number, any_digit, has_value, value_by, decimal, number}
 use Rattle.facet_json.proofs.NumberLaws.{is_number-sound}
 
 -- The byte at a place among digits is a digit.
@@ -36,58 +36,22 @@ digits_value-above n m bytes i h e =
     let grows = digits_value-grows (n * 10 + (get_or bytes i 0 - 0x30)) (drop (i + 1) bytes) in
     omega (arith, digits_value-step n bytes i h)
 
--- Where all bytes are counted, the first is a digit, and the others are counted too.
-counted-first : (b : ℕ) (bytes : List ℕ) → digits_len (b ∷ bytes) ≡ suc (length bytes) →
-    (is_digit b ≡ true) × (digits_len bytes ≡ length bytes)
-counted-first b bytes e = by (is_digit b) refl e
-  where
-    by : (t : Bool) → is_digit b ≡ t → cond t (suc (digits_len bytes)) 0 ≡ suc (length bytes) →
-        (is_digit b ≡ true) × (digits_len bytes ≡ length bytes)
-    by true is k = (is, omega arith)
-    by false is k = absurd (omega arith)
-
--- Bytes that are all counted as digits are digits.
-digits-counted : (bytes : List ℕ) → digits_len bytes ≡ length bytes → AreDigits bytes
-digits-counted [] e = none
-digits-counted (b ∷ bytes) e =
-    let first = counted-first b bytes e in digit b bytes first.0 (digits-counted bytes first.1)
-
--- An unsigned number has no sign, no fraction and no exponent.
-unsigned-hint : (a b c : Bool) → same_hint (hint_of a b c) unsigned ≡ true → (a ≡ false) × (b ≡ false) × (c ≡ false)
-unsigned-hint false false false e = (refl, refl, refl)
-unsigned-hint true false false e = cc
-unsigned-hint false true false e = cc
-unsigned-hint true true false e = cc
-unsigned-hint false false true e = cc
-unsigned-hint true false true e = cc
-unsigned-hint false true true e = cc
-unsigned-hint true true true e = cc
-
--- What does not stand there has no bytes.
-none_len : (n : ℕ) → is_some_len n ≡ false → n ≡ 0
-none_len zero e = refl
-none_len (suc n) e = cc
-
--- All bytes of an unsigned number's text are counted as digits.
-digits_len-unsigned : (text : List ℕ) → is_number text unsigned ≡ true → digits_len text ≡ length text
-unfolding parts
-digits_len-unsigned text is =
-    let p = parts text in
-    let begins = begins_number text && not (is_bare p) in
-    let fits = parts_len p == length text in
-    let tests = and_parts (begins && fits) (same_hint (parts_hint p) unsigned) is in
-    let sizes = and_parts begins fits tests.0 in
-    let hint = unsigned-hint (is_some_len p.sign) (is_some_len p.fraction) (is_some_len p.exponent) tests.1 in
-    let whole = eqb-true (parts_len p) (length text) sizes.1 in
-    let sign : minus_len text ≡ 0 = none_len p.sign hint.0 in
-    let digits : p.digits ≡ digits_len text = ap (λ n. digits_len (drop n text)) sign in
-    let fraction = none_len p.fraction hint.1 in
-    let exponent = none_len p.exponent hint.2 in
-    omega arith
+-- Parts that leave an unsigned number are digits alone.
+digits-alone : (sign digits fraction exponent : List ℕ) (m f x : Bool) → IsMinus sign m → IsFraction fraction f →
+    IsExponent exponent x → unsigned ≡ hint_of m f x → sign ++ digits ++ fraction ++ exponent ≡ digits
+digits-alone _ digits _ _ _ _ _ IsMinus.absent IsFraction.absent IsExponent.absent e =
+    append-nil (digits ++ []) ∙ append-nil digits
+digits-alone _ digits _ _ _ _ _ IsMinus.present IsFraction.absent IsExponent.absent e = cc
+digits-alone _ digits _ exponent _ _ x sign (IsFraction.present _ _) last e = cc
+digits-alone _ digits _ _ _ _ _ sign IsFraction.absent (IsExponent.present _ _ _ _ _ _) e = cc
 
 -- The text of an unsigned number is digits.
 pub unsigned-digits : (text : List ℕ) → is_number text unsigned ≡ true → AreDigits text
-unsigned-digits text is = digits-counted text (digits_len-unsigned text is)
+unsigned-digits text is =
+    let n = (is_number-sound text unsigned is).numeral in
+    let alone = digits-alone n.sign n.digits n.fraction n.exponent _ _ _ n.is_minus n.is_fraction n.is_exponent n.kind
+    in
+    subst AreDigits (sym (n.whole ∙ alone)) n.are_digits
 
 -- An unsigned number is what its digits spell.
 pub number-unsigned : (text : List ℕ) → is_number text unsigned ≡ true →
@@ -102,34 +66,14 @@ number-none text hint isnt = ap (λ t. cond t (value_by hint (parts text) text) 
 
 -- ---- behind a minus
 
--- A signed number has a sign, no fraction and no exponent.
-signed-hint : (a b c : Bool) → same_hint (hint_of a b c) signed ≡ true → (b ≡ false) × (c ≡ false)
-signed-hint true false false e = (refl, refl)
-signed-hint false false false e = cc
-signed-hint false true false e = cc
-signed-hint true true false e = cc
-signed-hint false false true e = cc
-signed-hint true false true e = cc
-signed-hint false true true e = cc
-signed-hint true true true e = cc
-
--- All bytes of a signed number's text behind its minus are counted as digits.
-digits_len-signed : (text : List ℕ) → is_number text signed ≡ true →
-    digits_len (drop (parts text).sign text) ≡ length (drop (parts text).sign text)
-unfolding parts
-digits_len-signed text is =
-    let p = parts text in
-    let begins = begins_number text && not (is_bare p) in
-    let fits = parts_len p == length text in
-    let tests = and_parts (begins && fits) (same_hint (parts_hint p) signed) is in
-    let sizes = and_parts begins fits tests.0 in
-    let hint = signed-hint (is_some_len p.sign) (is_some_len p.fraction) (is_some_len p.exponent) tests.1 in
-    let whole = eqb-true (parts_len p) (length text) sizes.1 in
-    let fraction = none_len p.fraction hint.0 in
-    let exponent = none_len p.exponent hint.1 in
-    let long : length (drop p.sign text) ≡ length text - p.sign = length-drop p.sign text in
-    let digits : p.digits ≡ digits_len (drop p.sign text) = refl in
-    omega arith
+-- Parts that leave a signed number are digits behind a minus.
+digits-behind : (sign digits fraction exponent : List ℕ) (m f x : Bool) → IsMinus sign m → IsFraction fraction f →
+    IsExponent exponent x → signed ≡ hint_of m f x → sign ++ digits ++ fraction ++ exponent ≡ minus ∷ digits
+digits-behind _ digits _ _ _ _ _ IsMinus.present IsFraction.absent IsExponent.absent e =
+    append-nil (minus ∷ digits ++ []) ∙ append-nil (minus ∷ digits)
+digits-behind _ digits _ _ _ _ _ IsMinus.absent IsFraction.absent IsExponent.absent e = cc
+digits-behind _ digits _ exponent _ _ x sign (IsFraction.present _ _) last e = cc
+digits-behind _ digits _ _ _ _ _ sign IsFraction.absent (IsExponent.present _ _ _ _ _ _) e = cc
 
 -- What stands from a place on, taken as a range.
 range_rest : (n : ℕ) (xs : List ℕ) → take (length xs - n) (drop n xs) ≡ drop n xs
@@ -138,9 +82,14 @@ range_rest n xs = take_all (length xs - n) (drop n xs) (omega (arith, length-dro
 -- The text of a signed number is digits behind its minus.
 pub signed-digits : (text : List ℕ) (n : ℕ) → n ≡ (parts text).sign → is_number text signed ≡ true →
     AreDigits (take (length text - n) (drop n text))
+unfolding parts
 signed-digits text n e is =
-    subst AreDigits (ap (λ k. drop k text) (sym e) ∙ sym (range_rest n text))
-    (digits-counted (drop (parts text).sign text) (digits_len-signed text is))
+    let m = (is_number-sound text signed is).numeral in
+    let whole : text ≡ minus ∷ m.digits =
+    m.whole ∙ digits-behind m.sign m.digits m.fraction m.exponent _ _ _ m.is_minus m.is_fraction m.is_exponent m.kind in
+    let one : n ≡ 1 = e ∙ ap minus_len whole in
+    let rest : drop n text ≡ m.digits = ap (λ k. drop k text) one ∙ ap (drop 1) whole in
+    subst AreDigits (sym (range_rest n text ∙ rest)) m.are_digits
 
 -- A signed number is the negative of what its digits spell.
 pub number-signed : (text : List ℕ) (n : ℕ) → n ≡ (parts text).sign → is_number text signed ≡ true →

@@ -1,5 +1,5 @@
 -- Bytes that are looked up at an offset, and what is left of the list from there on.
-use Rattle.std.proofs.Common.{get_or, ◌≡◌, ℕ, zero, suc, ◌+◌, ◌<◌, List, [], ◌∷◌, length, drop, slice_get, Option, Some, None, refl, ap, sym, ◌∙◌, arith}
+use Rattle.std.proofs.Common.{get_or, ◌≡◌, ℕ, ◌+◌, ◌<◌, List, ◌∷◌, length, drop, slice_get, Option, Some, None, refl, ap, sym, ◌∙◌, arith}
 use Rattle.std.specs.Option.{option_map}
 use Rattle.std.proofs.lemmas.List.{drop_more}
 use Rattle.std.proofs.lemmas.Option.{slice_get_within, slice_get-get_or, get_or_from_slice_get}
@@ -10,13 +10,6 @@ pub drop-at_byte : (bytes : List ℕ) (at b : ℕ) → slice_get bytes at ≡ So
 drop-at_byte bytes at b e =
     drop_more bytes at b (slice_get_within bytes at b e)
     ∙ ap (λ x. x ∷ drop (at + 1) bytes) (get_or_from_slice_get bytes at b b e)
-
--- where none stands, nothing is left
-pub drop-at_end : (bytes : List ℕ) (at : ℕ) → slice_get bytes at ≡ None → drop at bytes ≡ []
-drop-at_end [] zero e = refl
-drop-at_end [] (suc at) e = refl
-drop-at_end (x ∷ bytes) zero e = cc
-drop-at_end (x ∷ bytes) (suc at) e = drop-at_end bytes at e
 
 -- an offset behind one more byte
 pub option_map-one_more : (at : ℕ) (o : Option ℕ) →

@@ -42,7 +42,8 @@ plain-decodes (c ∷ cs) are plain =
     let is = and_parts (scalar c) (all_scalars cs) are in
     let parts = plain-parts (encode_utf8 c) (encode_utf8_all cs) plain in
     let first = itself c is.0 (plain-other c parts.0) in
-    piece (encode_utf8 c) (encode_utf8_all cs) _ c (encode_utf8_all cs) _ first (plain-decodes cs is.1 parts.1) refl refl
+    piece (encode_utf8 c) (encode_utf8_all cs) _ c (encode_utf8_all cs) _ first
+    (plain-decodes cs is.1 parts.1) refl refl
 
 -- Plain text stands for itself.
 pub decoded-plain : (content : List ℕ) → IsPlain content → IsUtf8 content → decoded content ≡ Some content

@@ -1,18 +1,18 @@
--- One step of a reader that goes value by value: what it has read when the next token is in, and how it is refused there.
-use Rattle.std.proofs.Common.{◌≡◌, ℕ, Bool, true, false, List, [], ◌∷◌, ◌++◌, Option, Some, None, refl, sym, subst, ◌⊎◌, inl, inr}
+-- One step of a reader that goes value by value: what it has read when the next token is in, and how it is refused
+-- there.
+use Rattle.std.proofs.Common.{◌≡◌, ℕ, true, false, List, [], ◌∷◌, ◌++◌, Some, refl, subst, inl, inr}
 use Rattle.facet_json.specs.declared.materialized.TokenKind.{TokenKind}
 use Rattle.facet_json.specs.declared.materialized.TokenKind.TheVariants as kinds
 use Rattle.facet_json.specs.declared.materialized.MaterializedToken.{MaterializedToken}
 use Rattle.facet_json.specs.Token.{Kind, Token}
 use Rattle.facet_json.specs.Token as token
 use Rattle.facet_json.specs.Tokens.{Tokens, next}
-use Rattle.facet_json.specs.Node.{Node, is_scalar, is_string, scalar}
+use Rattle.facet_json.specs.Node.{is_scalar, is_string, scalar}
 use Rattle.facet_json.specs.Tree.{Tree, null, bool, text, u64, list, pairs, no_pairs}
 use Rattle.facet_json.specs.Tree as tree
 use Rattle.facet_json.specs.Meaning.{thin_meaning, thin_meaning_of, text_of}
-use Rattle.facet_json.specs.Document.{Reads}
-use Rattle.facet_json.specs.Place.{Place, root, before_key, after_key, after_colon, after_member, before_item, after_item, Refusal, no_memory}
-use Rattle.facet_json.specs.Refusal.{PassesItems, PassesMembers, Begins, nothing, in_item, behind_item, behind_members, behind_key, in_member, behind_member, RefusesFrom, ThinComplains, is_number}
+use Rattle.facet_json.specs.Place.{Place, before_key, after_key, after_colon, after_member, before_item, after_item, Refusal}
+use Rattle.facet_json.specs.Refusal.{nothing, in_item, behind_item, behind_members, behind_key, in_member, behind_member, is_number}
 use Rattle.facet_json.specs.Reading.{ReadsValue, ReadsList, ReadsObject, IsColonNext, StopsAt, StopsFrom, StopsBehind}
 use Rattle.facet_json.specs.Views as views
 use Rattle.facet_json.specs.Views.{IsReadAs, IsReadFirst}
@@ -26,80 +26,87 @@ pub record IsFirst (buffer : List ℕ) (ts : Tokens) (k : TokenKind) (after : To
   pub is_first : ts ≡ next first after
   pub read : IsReadAs buffer first.kind k
 
-pub first_as : (buffer : List ℕ) (ts after : Tokens) (t : MaterializedToken) (k : TokenKind) → IsReadFirst buffer ts t after → t.kind ≡ k → IsFirst buffer ts k after
-first_as buffer ts after t k f e = record { first = f.first; is_first = f.is_first; read = subst (IsReadAs buffer f.first.kind) e f.read }
+pub first_as : (buffer : List ℕ) (ts after : Tokens) (t : MaterializedToken) (k : TokenKind) →
+    IsReadFirst buffer ts t after → t.kind ≡ k → IsFirst buffer ts k after
+first_as buffer ts after t k f e = record {
+  first = f.first;
+  is_first = f.is_first;
+  read = subst (IsReadAs buffer f.first.kind) e f.read;
+}
 
 module _ (buffer : List ℕ) where
   -- ---- scalars
 
-  scalar_read : (ts after : Tokens) (first : Token) (value : Tree) → ts ≡ next first after → is_scalar first.kind ≡ true → thin_meaning buffer first ≡ Some value → ReadsValue (thin_meaning buffer) ts value after
+  scalar_read : (ts after : Tokens) (first : Token) (value : Tree) → ts ≡ next first after →
+      is_scalar first.kind ≡ true → thin_meaning buffer first ≡ Some value →
+      ReadsValue (thin_meaning buffer) ts value after
   scalar_read ts after first value e s v = rw e (scalar first, Reads-scalar (thin_meaning buffer) first after value s v)
 
-  literal_read : (ts after : Tokens) (f : Token) (kind : Kind) (value : Tree) → ts ≡ next f after → f.kind ≡ kind → is_scalar kind ≡ true → thin_meaning_of buffer kind ≡ Some value → ReadsValue (thin_meaning buffer) ts value after
+  literal_read : (ts after : Tokens) (f : Token) (kind : Kind) (value : Tree) → ts ≡ next f after → f.kind ≡ kind →
+      is_scalar kind ≡ true → thin_meaning_of buffer kind ≡ Some value → ReadsValue (thin_meaning buffer) ts value after
   literal_read ts after f kind value e k s v = scalar_read ts after f value e (rw k s) (rw k v)
 
-  pub null_read : (ts after : Tokens) → IsFirst buffer ts kinds.Null after → ReadsValue (thin_meaning buffer) ts null after
+  pub null_read : (ts after : Tokens) → IsFirst buffer ts kinds.Null after →
+      ReadsValue (thin_meaning buffer) ts null after
   null_read ts after f = literal_read ts after f.first token.null null f.is_first f.read refl refl
 
-  pub true_read : (ts after : Tokens) → IsFirst buffer ts kinds.True after → ReadsValue (thin_meaning buffer) ts (bool true) after
+  pub true_read : (ts after : Tokens) → IsFirst buffer ts kinds.True after →
+      ReadsValue (thin_meaning buffer) ts (bool true) after
   true_read ts after f = literal_read ts after f.first token.true_literal (bool true) f.is_first f.read refl refl
 
-  pub false_read : (ts after : Tokens) → IsFirst buffer ts kinds.False after → ReadsValue (thin_meaning buffer) ts (bool false) after
+  pub false_read : (ts after : Tokens) → IsFirst buffer ts kinds.False after →
+      ReadsValue (thin_meaning buffer) ts (bool false) after
   false_read ts after f = literal_read ts after f.first token.false_literal (bool false) f.is_first f.read refl refl
 
   string_is_scalar : (kind : Kind) → is_string kind ≡ true → is_scalar kind ≡ true
   string_is_scalar (token.string a b h) e = refl
-  string_is_scalar (token.number a b h) e = refl
-  string_is_scalar token.null e = refl
-  string_is_scalar token.true_literal e = refl
-  string_is_scalar token.false_literal e = refl
-  string_is_scalar token.object_start e = cc
-  string_is_scalar token.object_end e = cc
-  string_is_scalar token.array_start e = cc
-  string_is_scalar token.array_end e = cc
-  string_is_scalar token.colon e = cc
-  string_is_scalar token.comma e = cc
+  string_is_scalar _ e = cc
 
   number_is_scalar : (kind : Kind) → is_number kind ≡ true → is_scalar kind ≡ true
-  number_is_scalar (token.string a b h) e = refl
   number_is_scalar (token.number a b h) e = refl
-  number_is_scalar token.null e = refl
-  number_is_scalar token.true_literal e = refl
-  number_is_scalar token.false_literal e = refl
-  number_is_scalar token.object_start e = cc
-  number_is_scalar token.object_end e = cc
-  number_is_scalar token.array_start e = cc
-  number_is_scalar token.array_end e = cc
-  number_is_scalar token.colon e = cc
-  number_is_scalar token.comma e = cc
+  number_is_scalar _ e = cc
 
-  pub number_read : (n : ℕ) (ts after : Tokens) → IsFirst buffer ts (kinds.U64 n) after → ReadsValue (thin_meaning buffer) ts (u64 n) after
-  number_read n ts after f = scalar_read ts after f.first (u64 n) f.is_first (number_is_scalar f.first.kind f.read.0) f.read.1
+  pub number_read : (n : ℕ) (ts after : Tokens) → IsFirst buffer ts (kinds.U64 n) after →
+      ReadsValue (thin_meaning buffer) ts (u64 n) after
+  number_read n ts after f =
+      scalar_read ts after f.first (u64 n) f.is_first (number_is_scalar f.first.kind f.read.0) f.read.1
 
   -- ---- containers
 
-  pub list_read : (ts inner rest : Tokens) (values : tree.Trees) → IsFirst buffer ts kinds.ArrayStart inner → ReadsList (thin_meaning buffer) inner values rest → ReadsValue (thin_meaning buffer) ts (list values) rest
-  list_read ts inner rest values f r = rw f.is_first (Reads-list (thin_meaning buffer) f.first r.0 inner rest values f.read r.1)
+  pub list_read : (ts inner rest : Tokens) (values : tree.Trees) → IsFirst buffer ts kinds.ArrayStart inner →
+      ReadsList (thin_meaning buffer) inner values rest → ReadsValue (thin_meaning buffer) ts (list values) rest
+  list_read ts inner rest values f r =
+      rw f.is_first (Reads-list (thin_meaning buffer) f.first r.0 inner rest values f.read r.1)
 
-  pub object_read : (ts inner rest : Tokens) (values : tree.Pairs) → IsFirst buffer ts kinds.ObjectStart inner → ReadsObject (thin_meaning buffer) inner values rest → ReadsValue (thin_meaning buffer) ts (pairs values) rest
-  object_read ts inner rest values f r = rw f.is_first (Reads-pairs (thin_meaning buffer) f.first r.0 inner rest values f.read r.1)
+  pub object_read : (ts inner rest : Tokens) (values : tree.Pairs) → IsFirst buffer ts kinds.ObjectStart inner →
+      ReadsObject (thin_meaning buffer) inner values rest → ReadsValue (thin_meaning buffer) ts (pairs values) rest
+  object_read ts inner rest values f r =
+      rw f.is_first (Reads-pairs (thin_meaning buffer) f.first r.0 inner rest values f.read r.1)
 
   -- ---- items
 
   -- One more item, where a comma follows it.
-  pub item_and_comma : (start ts mid after : Tokens) (values : List Tree) (value : Tree) → ItemsRead (thin_meaning buffer) start values ts → ReadsValue (thin_meaning buffer) ts value mid → IsFirst buffer mid kinds.Comma after
-      → ItemsRead (thin_meaning buffer) start (values ++ value ∷ []) after
+  pub item_and_comma : (start ts mid after : Tokens) (values : List Tree) (value : Tree) →
+      ItemsRead (thin_meaning buffer) start values ts → ReadsValue (thin_meaning buffer) ts value mid →
+      IsFirst buffer mid kinds.Comma after →
+      ItemsRead (thin_meaning buffer) start (values ++ value ∷ []) after
   item_and_comma start ts mid after values value h v f =
       let s = rw f.is_first at v.1.spells in
       item_read ts after values (values ++ value ∷ []) v.0 value f.first h s v.1.has_tree f.read refl
 
   -- The list is whole where its bracket follows a comma, or its other bracket.
-  pub items_closed : (start ts after : Tokens) (values : List Tree) → ItemsRead (thin_meaning buffer) start values ts → IsFirst buffer ts kinds.ArrayEnd after → ReadsList (thin_meaning buffer) start (views.trees_of values) after
-  items_closed start ts after values h f = let g = rw f.is_first at h in (f.first, ItemsRead-closed (thin_meaning buffer) start values f.first after g f.read)
+  pub items_closed : (start ts after : Tokens) (values : List Tree) →
+      ItemsRead (thin_meaning buffer) start values ts → IsFirst buffer ts kinds.ArrayEnd after →
+      ReadsList (thin_meaning buffer) start (views.trees_of values) after
+  items_closed start ts after values h f =
+      let g = rw f.is_first at h in
+      (f.first, ItemsRead-closed (thin_meaning buffer) start values f.first after g f.read)
 
   -- The list is whole where its bracket follows an item.
-  pub item_closed : (start ts mid after : Tokens) (values : List Tree) (value : Tree) → ItemsRead (thin_meaning buffer) start values ts → ReadsValue (thin_meaning buffer) ts value mid → IsFirst buffer mid kinds.ArrayEnd after
-      → ReadsList (thin_meaning buffer) start (views.trees_of (values ++ value ∷ [])) after
+  pub item_closed : (start ts mid after : Tokens) (values : List Tree) (value : Tree) →
+      ItemsRead (thin_meaning buffer) start values ts → ReadsValue (thin_meaning buffer) ts value mid →
+      IsFirst buffer mid kinds.ArrayEnd after →
+      ReadsList (thin_meaning buffer) start (views.trees_of (values ++ value ∷ [])) after
   item_closed start ts mid after values value h v f =
       let s = rw f.is_first at v.1.spells in
       (f.first, ItemsRead-last (thin_meaning buffer) start values ts after v.0 value f.first h s v.1.has_tree f.read)
@@ -110,37 +117,42 @@ module _ (buffer : List ℕ) where
   pub stops_first : (p : Place) (ts : Tokens) (r : Refusal) → StopsAt buffer p ts r → StopsFrom buffer p ts r
   stops_first p ts r s = inr (record { here = p; rest = ts; begins = nothing p ts; stuck = s })
 
-  pub no_memory_anywhere : (p : Place) (ts : Tokens) (r : Refusal) → r ≡ no_memory → StopsFrom buffer p ts r
-  no_memory_anywhere p ts r e = inl e
-
   -- Behind the opening bracket of a list: in an item, or behind one.
-  pub stops_in_item : (start ts : Tokens) (values : List Tree) (r : Refusal) → ItemsRead (thin_meaning buffer) start values ts → StopsFrom buffer before_item ts r → StopsBehind buffer token.array_start start r
+  pub stops_in_item : (start ts : Tokens) (values : List Tree) (r : Refusal) →
+      ItemsRead (thin_meaning buffer) start values ts → StopsFrom buffer before_item ts r →
+      StopsBehind buffer token.array_start start r
   stops_in_item start ts values r h (inl e) = λ p first k. inl e
   stops_in_item start ts values r h (inr s) =
-      λ p first k. inr (record { here = s.here; rest = s.rest; begins = in_item p s.here first start ts s.rest k (ItemsRead-passes (thin_meaning buffer) start h) s.begins; stuck = s.stuck })
+      λ p first k. inr (record {
+        here = s.here;
+        rest = s.rest;
+        begins = in_item p s.here first start ts s.rest k (ItemsRead-passes (thin_meaning buffer) start h) s.begins;
+        stuck = s.stuck;
+      })
 
-  pub stops_behind_item : (start ts mid : Tokens) (values : List Tree) (value : Tree) (r : Refusal) → ItemsRead (thin_meaning buffer) start values ts → ReadsValue (thin_meaning buffer) ts value mid → StopsAt buffer after_item mid r
-      → StopsBehind buffer token.array_start start r
+  pub stops_behind_item : (start ts mid : Tokens) (values : List Tree) (value : Tree) (r : Refusal) →
+      ItemsRead (thin_meaning buffer) start values ts → ReadsValue (thin_meaning buffer) ts value mid →
+      StopsAt buffer after_item mid r →
+      StopsBehind buffer token.array_start start r
   stops_behind_item start ts mid values value r h v s =
-      λ p first k. inr (record { here = after_item; rest = mid; begins = behind_item p first start ts mid v.0 value k (ItemsRead-passes (thin_meaning buffer) start h) v.1.spells v.1.has_tree; stuck = s })
-
-  pub memory_behind : (kind : Kind) (start : Tokens) (r : Refusal) → r ≡ no_memory → StopsBehind buffer kind start r
-  memory_behind kind start r e = λ p first k. inl e
-
-  -- A list or an object that is refused, as a value.
-  pub list_stops : (p : Place) (ts inner : Tokens) (r : Refusal) → IsFirst buffer ts kinds.ArrayStart inner → StopsBehind buffer token.array_start inner r → StopsFrom buffer p ts r
-  list_stops p ts inner r f s = rw f.is_first (s p f.first f.read)
-
-  pub object_stops : (p : Place) (ts inner : Tokens) (r : Refusal) → IsFirst buffer ts kinds.ObjectStart inner → StopsBehind buffer token.object_start inner r → StopsFrom buffer p ts r
-  object_stops p ts inner r f s = rw f.is_first (s p f.first f.read)
+      λ p first k. inr (record {
+        here = after_item;
+        rest = mid;
+        begins = behind_item p first start ts mid v.0 value k
+            (ItemsRead-passes (thin_meaning buffer) start h) v.1.spells v.1.has_tree;
+        stuck = s;
+      })
 
   -- ---- members
 
   -- A text where a value stands.
-  pub text_read : (t : List ℕ) (ts after : Tokens) (first : Token) → ts ≡ next first after → is_string first.kind ≡ true → thin_meaning buffer first ≡ Some (text t) → ReadsValue (thin_meaning buffer) ts (text t) after
+  pub text_read : (t : List ℕ) (ts after : Tokens) (first : Token) → ts ≡ next first after →
+      is_string first.kind ≡ true → thin_meaning buffer first ≡ Some (text t) →
+      ReadsValue (thin_meaning buffer) ts (text t) after
   text_read t ts after first e s v = scalar_read ts after first (text t) e (string_is_scalar first.kind s) v
 
-  name_of_key : (key : Token) (name : List ℕ) → thin_meaning buffer key ≡ Some (text name) → text_of (thin_meaning buffer key) ≡ Some name
+  name_of_key : (key : Token) (name : List ℕ) → thin_meaning buffer key ≡ Some (text name) →
+      text_of (thin_meaning buffer key) ≡ Some name
   name_of_key key name e = rw e refl
 
   -- A key's string with this text is next.
@@ -150,8 +162,14 @@ module _ (buffer : List ℕ) where
     pub is_a_string : is_string key.kind ≡ true
     pub named : text_of (thin_meaning buffer key) ≡ Some name
 
-  pub key_read : (ts after : Tokens) (name : List ℕ) (first : Token) → ts ≡ next first after → is_string first.kind ≡ true → thin_meaning buffer first ≡ Some (text name) → IsKey ts name after
-  key_read ts after name first e s v = record { key = first; is_first = e; is_a_string = s; named = name_of_key first name v }
+  pub key_read : (ts after : Tokens) (name : List ℕ) (first : Token) → ts ≡ next first after →
+      is_string first.kind ≡ true → thin_meaning buffer first ≡ Some (text name) → IsKey ts name after
+  key_read ts after name first e s v = record {
+    key = first;
+    is_first = e;
+    is_a_string = s;
+    named = name_of_key first name v;
+  }
 
   -- Behind these members stand a key and its colon.
   pub record KeyRead (start : Tokens) (values : List (List ℕ × Tree)) (name : List ℕ) (ts : Tokens) : Type 0 where
@@ -162,45 +180,98 @@ module _ (buffer : List ℕ) where
     pub named : text_of (thin_meaning buffer key) ≡ Some name
     pub is_colon : mark.kind ≡ token.colon
 
-  pub key_and_colon : (start ts mid after : Tokens) (values : List (List ℕ × Tree)) (name : List ℕ) → MembersRead (thin_meaning buffer) start values ts → IsKey ts name mid → IsColonNext mid after → KeyRead start values name after
+  pub key_and_colon : (start ts mid after : Tokens) (values : List (List ℕ × Tree)) (name : List ℕ) →
+      MembersRead (thin_meaning buffer) start values ts → IsKey ts name mid → IsColonNext mid after →
+      KeyRead start values name after
   key_and_colon start ts mid after values name h k c =
       let at_key = rw k.is_first at h in
-      record { key = k.key; mark = c.0; members = rw c.1 at at_key; is_a_string = k.is_a_string; named = k.named; is_colon = c.2 }
+      record {
+        key = k.key;
+        mark = c.0;
+        members = rw c.1 at at_key;
+        is_a_string = k.is_a_string;
+        named = k.named;
+        is_colon = c.2;
+      }
 
   -- One more member, where a comma follows it.
-  pub member_and_comma : (start ts mid after : Tokens) (values : List (List ℕ × Tree)) (name : List ℕ) (value : Tree) → KeyRead start values name ts → ReadsValue (thin_meaning buffer) ts value mid → IsFirst buffer mid kinds.Comma after
-      → MembersRead (thin_meaning buffer) start (values ++ (name, value) ∷ []) after
+  pub member_and_comma : (start ts mid after : Tokens) (values : List (List ℕ × Tree)) (name : List ℕ)
+      (value : Tree) → KeyRead start values name ts →
+      ReadsValue (thin_meaning buffer) ts value mid → IsFirst buffer mid kinds.Comma after →
+      MembersRead (thin_meaning buffer) start (values ++ (name, value) ∷ []) after
   member_and_comma start ts mid after values name value k v f =
       let s = rw f.is_first at v.1.spells in
-      member_read ts after values (values ++ (name, value) ∷ []) k.key k.mark name v.0 value f.first k.members k.is_a_string k.named k.is_colon s v.1.has_tree f.read refl
+      member_read ts after values (values ++ (name, value) ∷ []) k.key k.mark name v.0 value f.first
+      k.members k.is_a_string k.named k.is_colon s v.1.has_tree f.read refl
 
   -- The object is whole where its brace follows a comma, or its other brace.
-  pub members_closed : (start ts after : Tokens) (values : List (List ℕ × Tree)) → MembersRead (thin_meaning buffer) start values ts → IsFirst buffer ts kinds.ObjectEnd after → ReadsObject (thin_meaning buffer) start (paired values no_pairs) after
-  members_closed start ts after values h f = let g = rw f.is_first at h in (f.first, MembersRead-ended (thin_meaning buffer) start values f.first after g f.read)
+  pub members_closed : (start ts after : Tokens) (values : List (List ℕ × Tree)) →
+      MembersRead (thin_meaning buffer) start values ts → IsFirst buffer ts kinds.ObjectEnd after →
+      ReadsObject (thin_meaning buffer) start (paired values no_pairs) after
+  members_closed start ts after values h f =
+      let g = rw f.is_first at h in
+      (f.first, MembersRead-ended (thin_meaning buffer) start values f.first after g f.read)
 
   -- The object is whole where its brace follows a member.
-  pub member_closed : (start ts mid after : Tokens) (values : List (List ℕ × Tree)) (name : List ℕ) (value : Tree) → KeyRead start values name ts → ReadsValue (thin_meaning buffer) ts value mid → IsFirst buffer mid kinds.ObjectEnd after
-      → ReadsObject (thin_meaning buffer) start (paired (values ++ (name, value) ∷ []) no_pairs) after
+  pub member_closed : (start ts mid after : Tokens) (values : List (List ℕ × Tree)) (name : List ℕ) (value : Tree) →
+      KeyRead start values name ts → ReadsValue (thin_meaning buffer) ts value mid →
+      IsFirst buffer mid kinds.ObjectEnd after →
+      ReadsObject (thin_meaning buffer) start (paired (values ++ (name, value) ∷ []) no_pairs) after
   member_closed start ts mid after values name value k v f =
-      let s = rw f.is_first at v.1.spells in
-      (f.first, MembersRead-last (thin_meaning buffer) start values ts after k.key k.mark name v.0 value f.first k.members k.is_a_string k.named k.is_colon s v.1.has_tree f.read)
+      let s = rw f.is_first at v.1.spells in (
+        f.first,
+        MembersRead-last
+            (thin_meaning buffer) start values ts after k.key k.mark name v.0 value f.first k.members k.is_a_string k.named
+            k.is_colon s v.1.has_tree f.read,
+      )
 
   -- Behind the opening brace of an object: in front of a key, behind one, in a member, or behind one.
-  pub stops_at_key : (start ts : Tokens) (values : List (List ℕ × Tree)) (r : Refusal) → MembersRead (thin_meaning buffer) start values ts → StopsAt buffer before_key ts r → StopsBehind buffer token.object_start start r
+  pub stops_at_key : (start ts : Tokens) (values : List (List ℕ × Tree)) (r : Refusal) →
+      MembersRead (thin_meaning buffer) start values ts → StopsAt buffer before_key ts r →
+      StopsBehind buffer token.object_start start r
   stops_at_key start ts values r h s =
-      λ p first k. inr (record { here = before_key; rest = ts; begins = behind_members p first start ts k (MembersRead-passes (thin_meaning buffer) start h); stuck = s })
+      λ p first k. inr (record {
+        here = before_key;
+        rest = ts;
+        begins = behind_members p first start ts k (MembersRead-passes (thin_meaning buffer) start h);
+        stuck = s;
+      })
 
-  pub stops_at_colon : (start ts mid : Tokens) (values : List (List ℕ × Tree)) (name : List ℕ) (r : Refusal) → MembersRead (thin_meaning buffer) start values ts → IsKey ts name mid → StopsAt buffer after_key mid r → StopsBehind buffer token.object_start start r
+  pub stops_at_colon : (start ts mid : Tokens) (values : List (List ℕ × Tree)) (name : List ℕ) (r : Refusal) →
+      MembersRead (thin_meaning buffer) start values ts → IsKey ts name mid → StopsAt buffer after_key mid r →
+      StopsBehind buffer token.object_start start r
   stops_at_colon start ts mid values name r h k s =
       let at_key = rw k.is_first at h in
-      λ p first o. inr (record { here = after_key; rest = mid; begins = behind_key p first k.key name start mid o (MembersRead-passes (thin_meaning buffer) start at_key) k.is_a_string k.named; stuck = s })
+      λ p first o. inr (record {
+        here = after_key;
+        rest = mid;
+        begins = behind_key p first k.key name start mid o
+            (MembersRead-passes (thin_meaning buffer) start at_key) k.is_a_string k.named;
+        stuck = s;
+      })
 
-  pub stops_in_member : (start ts : Tokens) (values : List (List ℕ × Tree)) (name : List ℕ) (r : Refusal) → KeyRead start values name ts → StopsFrom buffer after_colon ts r → StopsBehind buffer token.object_start start r
+  pub stops_in_member : (start ts : Tokens) (values : List (List ℕ × Tree)) (name : List ℕ) (r : Refusal) →
+      KeyRead start values name ts → StopsFrom buffer after_colon ts r → StopsBehind buffer token.object_start start r
   stops_in_member start ts values name r k (inl e) = λ p first o. inl e
   stops_in_member start ts values name r k (inr s) =
-      λ p first o. inr (record { here = s.here; rest = s.rest; begins = in_member p s.here first k.key k.mark name start ts s.rest o (MembersRead-passes (thin_meaning buffer) start k.members) k.is_a_string k.named k.is_colon s.begins; stuck = s.stuck })
+      λ p first o. inr (record {
+        here = s.here;
+        rest = s.rest;
+        begins = in_member p s.here first k.key k.mark name start ts s.rest o
+            (MembersRead-passes (thin_meaning buffer) start k.members) k.is_a_string k.named k.is_colon s.begins;
+        stuck = s.stuck;
+      })
 
-  pub stops_behind_member : (start ts mid : Tokens) (values : List (List ℕ × Tree)) (name : List ℕ) (value : Tree) (r : Refusal) → KeyRead start values name ts → ReadsValue (thin_meaning buffer) ts value mid → StopsAt buffer after_member mid r
-      → StopsBehind buffer token.object_start start r
+  pub stops_behind_member : (start ts mid : Tokens) (values : List (List ℕ × Tree)) (name : List ℕ)
+      (value : Tree) (r : Refusal) → KeyRead start values name ts →
+      ReadsValue (thin_meaning buffer) ts value mid → StopsAt buffer after_member mid r →
+      StopsBehind buffer token.object_start start r
   stops_behind_member start ts mid values name value r k v s =
-      λ p first o. inr (record { here = after_member; rest = mid; begins = behind_member p first k.key k.mark name start ts mid v.0 value o (MembersRead-passes (thin_meaning buffer) start k.members) k.is_a_string k.named k.is_colon v.1.spells v.1.has_tree; stuck = s })
+      λ p first o. inr (record {
+        here = after_member;
+        rest = mid;
+        begins = behind_member p first k.key k.mark name start ts mid v.0 value o
+            (MembersRead-passes (thin_meaning buffer) start k.members) k.is_a_string k.named k.is_colon v.1.spells
+            v.1.has_tree;
+        stuck = s;
+      })

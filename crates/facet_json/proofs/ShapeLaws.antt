@@ -1,19 +1,19 @@
 -- A token is cut exactly where its shape stands, so at one place stands the shape of at most one token.
 use Rattle.std.proofs.Common.{◌≡◌, ℕ, suc, ◌+◌, ◌-◌, ◌≤◌, ◌<◌, min, Bool, true, false, cond, ◌==◌, List, [], ◌∷◌, ◌++◌, length, take, drop, Option, Some, None, refl, sym, ap, ◌∙◌, subst, arith, length-append, length-drop, append_assoc, take-add}
 use Rattle.std.specs.Prelude.{slice_get}
-use Rattle.std.proofs.lemmas.Bool.{cond_both, eqb-true, true≢false, both_ways, false_from_ne_true}
+use Rattle.std.proofs.lemmas.Bool.{cond_both, eqb-true, both_ways, false_from_ne_true}
 use Rattle.std.proofs.lemmas.List.{length-take-le, take_at, drop_at, take_min}
 use Rattle.facet_json.specs.Bytes.{quote, slash, star, minus}
 use Rattle.facet_json.specs.Gap.{Mode, plain, jsonc}
 use Rattle.facet_json.specs.Number.{Hint, IsNumber, parts, parts_len, parts_hint, is_bare, starts_number, begins_number}
 use Rattle.facet_json.specs.Token.{Kind, string, number, Token, unexpected_eof, unexpected_char, in_literal}
-use Rattle.facet_json.specs.Cut.{IsStructural, object_starts, object_ends, array_starts, array_ends, colon_stands, comma_stands, ArePieces, IsLiteral, null_stands, true_stands, false_stands, IsLongest, IsShape, Cut, nothing_left, token, fault, Start, opens_number, start_of, token_at, fault_at, common_len, cut_word, content_len, cut_text, cut_number, cut_slash, cut_by, cut_here}
+use Rattle.facet_json.specs.Cut.{IsStructural, object_starts, object_ends, array_starts, array_ends, colon_stands, comma_stands, ArePieces, IsLiteral, null_stands, true_stands, false_stands, IsLongest, IsShape, Cut, nothing_left, token, fault, Start, start_of, token_at, fault_at, common_len, cut_word, content_len, cut_text, cut_number, cut_slash, cut_by, cut_here}
 use Rattle.facet_json.specs.Laws.{ShapeIsCut, ShapeIsUnique}
-use Rattle.facet_json.proofs.Starts.{Begins, a_mark, a_word, a_text, a_number, a_comment, no_token, start_of-begins}
+use Rattle.facet_json.proofs.Starts.{Begins, a_mark, a_word, a_text, a_number, a_comment, no_token, start_of-begins, start_of-number}
 use Rattle.facet_json.proofs.NumberFronts.{parts-take, parts_len-bound, is_bare-some}
 use Rattle.facet_json.proofs.NumberLaws.{number_is_longest, parts_len-is, parts_hint-is, begins_number-is, is_bare-number}
-use Rattle.facet_json.proofs.TextShapes.{any_backslash, content_len-is, pieces-mark, ContentAt, content_at}
-use Rattle.facet_json.proofs.CutBounds.{Below, content_len-below, common_len-bound}
+use Rattle.facet_json.proofs.TextShapes.{Below, content_len-below, any_backslash, content_len-is, pieces-mark, ContentAt, content_at}
+use Rattle.facet_json.proofs.CutBounds.{common_len-bound}
 
 -- ---- what is cut has the shape
 
@@ -200,22 +200,6 @@ text_is_cut mode at content rest has_escapes h =
     ∙ ap (λ m. token_at (string (suc at) (suc at + n) m) at (suc (suc n))) front
     ∙ ap (token_at (string (suc at) (suc at + n) has_escapes) at) long
 
--- What begins with a minus or a digit is taken to be a number.
-start_of-number : (b : ℕ) (start : Start) → Begins b start → starts_number b ≡ true → start ≡ opens_number
-start_of-number _ _ (a_mark _ _ object_starts) e = cc
-start_of-number _ _ (a_mark _ _ object_ends) e = cc
-start_of-number _ _ (a_mark _ _ array_starts) e = cc
-start_of-number _ _ (a_mark _ _ array_ends) e = cc
-start_of-number _ _ (a_mark _ _ colon_stands) e = cc
-start_of-number _ _ (a_mark _ _ comma_stands) e = cc
-start_of-number _ _ (a_word _ _ _ null_stands) e = cc
-start_of-number _ _ (a_word _ _ _ true_stands) e = cc
-start_of-number _ _ (a_word _ _ _ false_stands) e = cc
-start_of-number _ _ a_text e = cc
-start_of-number _ _ (a_number _ h) e = refl
-start_of-number _ _ a_comment e = cc
-start_of-number _ _ (no_token _ h) e = absurd (true≢false (sym e ∙ h))
-
 -- A number that is more than a minus is cut as long as it is measured.
 pub cut_here-number : (mode : Mode) (at : ℕ) (bytes : List ℕ) → begins_number bytes ≡ true →
     is_bare (parts bytes) ≡ false →
@@ -225,7 +209,7 @@ unfolding cut_here
 cut_here-number mode at [] begins more = cc
 cut_here-number mode at (b ∷ bytes) begins more =
     let p = parts (b ∷ bytes) in
-    ap (λ s. cut_by s mode at b bytes) (start_of-number b (start_of b) (start_of-begins b) begins)
+    ap (λ s. cut_by s mode at b bytes) (start_of-number b begins)
     ∙ ap (cut_number at bytes (parts_len p) (parts_hint p)) more
 
 -- What is in front is in front of more.

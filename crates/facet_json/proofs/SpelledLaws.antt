@@ -2,16 +2,17 @@
 use Rattle.std.proofs.Common.{◌≡◌, ℕ, zero, suc, ◌+◌, ◌≤◌, true, Option, Some, None, refl, sym, ap, ◌∙◌, subst, arith}
 use Rattle.std.specs.Prelude.{⊤}
 use Rattle.std.specs.Option.{option_map, option_and_then}
+use Rattle.facet_json.specs.Gap.{plain}
 use Rattle.facet_json.specs.Token.{Kind, Token}
 use Rattle.facet_json.specs.Token as token
 use Rattle.facet_json.specs.Tokens.{Tokens, ended, refused, next, tokens}
 use Rattle.facet_json.specs.Node.{Node, scalar, array, object, Nodes, item, Members, member, is_scalar, is_string, Spells, one_token, brackets, braces, SpellsItems, closed, item_and_comma, last_item, SpellsMembers, ended_members, member_and_comma, last_member}
 use Rattle.facet_json.specs.Tree.{Tree}
-use Rattle.facet_json.specs.Meaning.{Meaning, meaning, tree_of}
-use Rattle.facet_json.specs.Document.{Reads, IsDocument}
+use Rattle.facet_json.specs.Meaning.{Meaning, meaning, thin_meaning, tree_of}
+use Rattle.facet_json.specs.Document.{Reads, IsDocument, IsThinDocument, IsWholeDocument}
 use Rattle.facet_json.specs.Place.{begins_value}
-use Rattle.facet_json.specs.Spelled.{ValueReader, ItemsReader, MembersReader, node_by, node_from, after_item_by, after_item_from, nodes_by, nodes_from, after_member_by, after_member_from, after_key_by, after_key_from, members_by, members_from, node_within, nodes_within, members_within, count, spelled, document}
-use Rattle.facet_json.specs.Laws.{SpelledIsSpells, DocumentIsFound}
+use Rattle.facet_json.specs.Spelled.{ValueReader, ItemsReader, MembersReader, node_by, node_from, after_item_by, after_item_from, nodes_by, nodes_from, after_member_by, after_member_from, after_key_by, after_key_from, members_by, members_from, node_within, nodes_within, members_within, count, spelled, read_by, document, thin_document, if_ended, whole_document}
+use Rattle.facet_json.specs.Laws.{SpelledIsSpells, DocumentIsFound, WholeDocumentIsFound, ThinDocumentIsFound}
 use Rattle.facet_json.proofs.Spelling.{Starts, Spells-starts}
 
 -- ---- what is computed is spelled
@@ -181,17 +182,13 @@ mutual
 
 scalar_found : (nodes : ItemsReader) (members : MembersReader) (t : Token) (rest : Tokens) (kind : Kind) →
     is_scalar kind ≡ true → node_by nodes members t rest kind ≡ Some (scalar t, rest)
-scalar_found nodes members t rest token.null e = refl
-scalar_found nodes members t rest token.true_literal e = refl
-scalar_found nodes members t rest token.false_literal e = refl
-scalar_found nodes members t rest (token.string start finish has_escapes) e = refl
-scalar_found nodes members t rest (token.number start finish hint) e = refl
 scalar_found nodes members t rest token.object_start e = cc
 scalar_found nodes members t rest token.object_end e = cc
 scalar_found nodes members t rest token.array_start e = cc
 scalar_found nodes members t rest token.array_end e = cc
 scalar_found nodes members t rest token.colon e = cc
 scalar_found nodes members t rest token.comma e = cc
+scalar_found nodes members t rest _ e = refl
 
 item_found : (node : ValueReader) (nodes : ItemsReader) (t : Token) (rest : Tokens) (kind : Kind) →
     begins_value kind ≡ true → nodes_by node nodes t rest kind ≡ option_and_then (λ r. after_item_from nodes r.0 r.1)
@@ -209,16 +206,7 @@ item_first node nodes ts s =
 key_found : (node : ValueReader) (members : MembersReader) (t : Token) (rest : Tokens) (kind : Kind) →
     is_string kind ≡ true → members_by node members t rest kind ≡ after_key_from node members t rest
 key_found node members t rest (token.string start finish has_escapes) e = refl
-key_found node members t rest token.null e = cc
-key_found node members t rest token.true_literal e = cc
-key_found node members t rest token.false_literal e = cc
-key_found node members t rest (token.number start finish hint) e = cc
-key_found node members t rest token.object_start e = cc
-key_found node members t rest token.object_end e = cc
-key_found node members t rest token.array_start e = cc
-key_found node members t rest token.array_end e = cc
-key_found node members t rest token.colon e = cc
-key_found node members t rest token.comma e = cc
+key_found node members t rest _ e = cc
 
 mutual
   unfolding node_within
@@ -307,16 +295,65 @@ found-reads : (m : Meaning) (ts : Tokens) (root : Node) (value : Tree) (o : Opti
 found-reads m ts root value None h e = cc
 found-reads m ts root value (Some r) h e = (r.1, with_tree-reads m ts r root value (tree_of m r.0) refl e h)
 
+-- What is computed is what is read, by whatever meaning.
+read_by-reads : (m : Meaning) (ts : Tokens) (root : Node) (value : Tree) → read_by m ts ≡ Some (root, value) →
+    (rest : Tokens) × Reads m ts root value rest
+unfolding read_by spelled
+read_by-reads m ts root value e = found-reads m ts root value (spelled ts) (node_within-is (count ts) ts) e
+
+-- What is read is what is computed.
+reads-read_by : (m : Meaning) (ts rest : Tokens) (root : Node) (value : Tree) → Reads m ts root value rest →
+    read_by m ts ≡ Some (root, value)
+unfolding read_by
+reads-read_by m ts rest root value r =
+    ap (option_and_then (with_tree m)) ((spelled_is_spells ts rest root).1 r.spells)
+    ∙ ap (option_map (λ v. (root, v))) r.has_tree
+
 -- The document that is computed is the one of the input.
 pub document_is_found : DocumentIsFound
-unfolding document spelled
 document_is_found buffer mode root value =
+    (
+      λ e. (let r = read_by-reads (meaning buffer) (tokens buffer mode) root value e in record { rest = r.0; reads = r.1 }),
+      λ d. reads-read_by (meaning buffer) (tokens buffer mode) d.rest root value d.reads
+    )
+
+-- The thin document that is computed is the one of the input.
+pub thin_document_is_found : ThinDocumentIsFound
+thin_document_is_found buffer root value =
+    (
+      λ e. (let r = read_by-reads (thin_meaning buffer) (tokens buffer plain) root value e in record { rest = r.0; reads = r.1 }),
+      λ d. reads-read_by (thin_meaning buffer) (tokens buffer plain) d.rest root value d.reads
+    )
+
+-- a node with its tree, where it has one
+abbrev node_with_tree : Meaning → Node → Option (Node × Tree)
+node_with_tree m node = option_map (λ value. (node, value)) (tree_of m node)
+
+-- A spelling that nothing follows is read with its tree.
+ended-reads : (m : Meaning) (ts rest : Tokens) (node root : Node) (value : Tree) → Spells ts node rest →
+    option_and_then (node_with_tree m) (if_ended node rest) ≡ Some (root, value) → Reads m ts root value ended
+ended-reads m ts ended node root value s e =
+    with_tree-reads m ts (node, ended) root value (tree_of m node) refl e s
+ended-reads m ts (refused f) node root value s e = cc
+ended-reads m ts (next t rest) node root value s e = cc
+
+-- What is computed as a whole document is read.
+whole-reads : (m : Meaning) (ts : Tokens) (root : Node) (value : Tree) (o : Option (Node × Tokens)) → IsValue ts o →
+    option_and_then (node_with_tree m) (option_and_then (λ r. if_ended r.0 r.1) o) ≡ Some (root, value) →
+    Reads m ts root value ended
+whole-reads m ts root value None h e = cc
+whole-reads m ts root value (Some r) h e = ended-reads m ts r.1 r.0 root value h e
+
+-- What is computed as the whole document of a text is the one plain document that all of it is.
+pub whole_document_is_found : WholeDocumentIsFound
+unfolding whole_document spelled
+whole_document_is_found buffer root value =
     let m = meaning buffer in
-    let ts = tokens buffer mode in
-    let is = node_within-is (count ts) ts in
-    let found : document buffer mode ≡ Some (root, value) → IsDocument buffer mode root value =
-    λ e. (let r = found-reads m ts root value (spelled ts) is e in record { rest = r.0; reads = r.1 }) in
-    let finds : IsDocument buffer mode root value → document buffer mode ≡ Some (root, value) =
-    λ d. ap (option_and_then (with_tree m)) ((spelled_is_spells ts d.rest root).1 d.reads.spells)
+    let ts = tokens buffer plain in
+    let found : whole_document buffer ≡ Some (root, value) → IsWholeDocument buffer root value =
+    λ e. record { reads = whole-reads m ts root value (spelled ts) (node_within-is (count ts) ts) e } in
+    let finds : IsWholeDocument buffer root value → whole_document buffer ≡ Some (root, value) =
+    λ d. ap (λ o. option_and_then (node_with_tree m) (option_and_then (λ r. if_ended r.0 r.1) o))
+    ((spelled_is_spells ts ended root).1 d.reads.spells)
     ∙ ap (option_map (λ v. (root, v))) d.reads.has_tree in
     (found, finds)

@@ -1,6 +1,6 @@
 -- Tokens spell one value at most.
 use Rattle.std.proofs.Common.{◌≡◌, true, false, refl, sym, ap}
-use Rattle.facet_json.specs.Token.{Kind, Token, object_start, object_end, array_start, array_end, colon, comma, null, true_literal, false_literal, string, number}
+use Rattle.facet_json.specs.Token.{Kind, Token, object_start, array_start, array_end}
 use Rattle.facet_json.specs.Tokens.{Tokens, next}
 use Rattle.facet_json.specs.Node.{Node, Nodes, Members, is_scalar, Spells, one_token, brackets, braces, SpellsItems, closed, item_and_comma, last_item, SpellsMembers, ended_members, member_and_comma, last_member}
 use Rattle.facet_json.specs.Tree.{Tree}
@@ -20,15 +20,7 @@ pub record Starts (ts : Tokens) : Type 0 where
 pub scalar_begins : (kind : Kind) → is_scalar kind ≡ true → begins_value kind ≡ true
 scalar_begins object_start e = refl
 scalar_begins array_start e = refl
-scalar_begins object_end e = e
-scalar_begins array_end e = e
-scalar_begins colon e = e
-scalar_begins comma e = e
-scalar_begins null e = e
-scalar_begins true_literal e = e
-scalar_begins false_literal e = e
-scalar_begins (string start finish has_escapes) e = e
-scalar_begins (number start finish hint) e = e
+scalar_begins _ e = e
 
 -- The first token of a spelling begins a value.
 pub Spells-starts : {ts r : Tokens} {a : Node} → Spells ts a r → Starts ts

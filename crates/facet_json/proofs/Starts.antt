@@ -1,5 +1,5 @@
 -- What a byte begins, case by case.
-use Rattle.std.proofs.Common.{◌≡◌, ℕ, true, false, cond, ◌==◌, List, ◌∷◌, sym, subst}
+use Rattle.std.proofs.Common.{◌≡◌, ℕ, true, false, cond, ◌==◌, List, ◌∷◌, refl, sym, subst, ◌∙◌, true≢false}
 use Rattle.std.proofs.lemmas.Bool.{cond_both, eqb-true}
 use Rattle.facet_json.specs.Bytes.{quote, slash, left_brace, right_brace, left_bracket, right_bracket}
 use Rattle.facet_json.specs.Bytes as bytes
@@ -31,3 +31,15 @@ start_of-begins b =
     (pick b quote _ _ a_text (pick b 0x6e _ _ (a_word _ _ _ null_stands)
     (pick b 0x74 _ _ (a_word _ _ _ true_stands) (pick b 0x66 _ _ (a_word _ _ _ false_stands)
     (cond_both (starts_number b) _ _ (Begins b) (a_number b) (λ e. pick b slash _ _ a_comment (no_token b e))))))))))))
+
+-- What begins with a minus or a digit is taken to be a number.
+begins-number : (b : ℕ) (start : Start) → Begins b start → starts_number b ≡ true → start ≡ opens_number
+begins-number _ _ (a_number _ h) e = refl
+begins-number _ _ (no_token _ h) e = absurd (true≢false (sym e ∙ h))
+begins-number _ _ (a_mark _ _ object_starts) e = cc
+begins-number _ _ (a_word _ _ _ null_stands) e = cc
+begins-number _ _ _ e = cc
+
+-- A minus or a digit begins a number.
+pub start_of-number : (b : ℕ) → starts_number b ≡ true → start_of b ≡ opens_number
+start_of-number b e = begins-number b (start_of b) (start_of-begins b) e

@@ -1,5 +1,5 @@
--- A string's content is measured up to the first quote that no backslash escapes, and it is pieces.
-use Rattle.std.proofs.Common.{◌≡◌, ℕ, zero, suc, Bool, true, false, ◌==◌, List, [], ◌∷◌, ◌++◌, length, take, Option, Some, None, refl, sym, ap, subst}
+-- A string's content is measured up to the first quote that no backslash escapes: its length, and that it is pieces.
+use Rattle.std.proofs.Common.{◌≡◌, ℕ, zero, suc, ◌<◌, Bool, true, false, cond, ◌==◌, List, [], ◌∷◌, ◌++◌, length, take, Option, Some, None, refl, sym, ap, subst, arith}
 use Rattle.std.specs.List.{list_any}
 use Rattle.std.proofs.lemmas.Bool.{cond_both, eqb-true}
 use Rattle.facet_json.specs.Bytes.{quote, backslash}
@@ -9,6 +9,33 @@ use Rattle.facet_json.specs.Cut.{ArePieces, content_len}
 -- whether a backslash is among the bytes
 abbrev pub any_backslash : List ℕ → Bool
 any_backslash bytes = list_any (λ b. b == backslash) bytes
+
+-- ---- its length is within the bytes
+
+-- The number, if there is one, is below k.
+abbrev pub Below : Option ℕ → ℕ → Type 0
+Below None k = Unit {0}
+Below (Some n) k = n < k
+
+-- One more is below one more.
+one_more-below : (o : Option ℕ) (k : ℕ) → Below o k → Below (one_more o) (suc k)
+one_more-below None k h = tt
+one_more-below (Some n) k h = omega arith
+
+-- Nothing, or one more, is below one more.
+cond-below : (t : Bool) (o : Option ℕ) (k : ℕ) → Below o k → Below (cond t (Some 0) (one_more o)) (suc k)
+cond-below true o k h = omega arith
+cond-below false o k h = one_more-below o k h
+
+-- A string's content is shorter than the bytes: its quote is behind it.
+pub content_len-below : (escaped : Bool) (bytes : List ℕ) → Below (content_len escaped bytes) (length bytes)
+content_len-below true [] = tt
+content_len-below false [] = tt
+content_len-below true (b ∷ bytes) =
+    one_more-below (content_len false bytes) (length bytes) (content_len-below false bytes)
+content_len-below false (b ∷ bytes) =
+    cond-below (b == quote) (content_len (b == backslash) bytes) (length bytes)
+    (content_len-below (b == backslash) bytes)
 
 -- ---- pieces are measured as long as they are
 

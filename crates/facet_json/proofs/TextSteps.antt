@@ -1,5 +1,6 @@
 -- The content of a string byte by byte.
 use Rattle.std.proofs.Common.{◌≡◌, ℕ, suc, ◌+◌, ◌-◌, ◌≤◌, Bool, true, false, not, ◌&&◌, ◌||◌, ◌⊎◌, inl, inr, cond, eqb, List, ◌∷◌, get_or, take, drop, slice_get, Option, Some, None, refl, ap, ap₂, sym, ◌∙◌, arith}
+use Rattle.std.proofs.Math.Bool.{and-true}
 use Rattle.std.proofs.lemmas.List.{get_or-drop, length-drop}
 use Rattle.std.proofs.lemmas.List.Folds.{list_any_more}
 use Rattle.std.proofs.lemmas.Bool.{and_left, and_right, ne_eqb}
@@ -12,17 +13,13 @@ use Rattle.facet_json.specs.Token.{string}
 use Rattle.facet_json.specs.Cut.{content_len, cut_text, token_at}
 use Rattle.facet_json.proofs.Offsets.{drop-at_byte, option_map-one_more}
 
-and_true : (x : Bool) → (x && true) ≡ x
-and_true true = refl
-and_true false = refl
-
 content_len-more : (b : ℕ) (bytes : List ℕ) (escaped : Bool) → (eqb b quote && not escaped) ≡ false →
     content_len escaped (b ∷ bytes) ≡ one_more (content_len (eqb b backslash && not escaped) bytes)
 content_len-more b bytes true e =
     ap (λ v. one_more (content_len v bytes)) (sym (and_right (eqb b backslash) false refl))
 content_len-more b bytes false e =
-    ap (λ v. cond v (Some 0) (one_more (content_len (eqb b backslash) bytes))) (sym (and_true (eqb b quote)) ∙ e)
-    ∙ ap (λ v. one_more (content_len v bytes)) (sym (and_true (eqb b backslash)))
+    ap (λ v. cond v (Some 0) (one_more (content_len (eqb b backslash) bytes))) (sym (and-true (eqb b quote)) ∙ e)
+    ∙ ap (λ v. one_more (content_len v bytes)) (sym (and-true (eqb b backslash)))
 
 -- what the test for the closing quote says where it fails
 pub no_quote : (b : ℕ) (escaped : Bool) → ((b ≡ quote) × (escaped ≡ true)) ⊎ (b ≡ quote → ⊥) →

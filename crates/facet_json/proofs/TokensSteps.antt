@@ -26,7 +26,7 @@ cut-end buffer position mode h =
     ap (cut_here mode at) (drop_all at buffer (omega arith))
 
 -- what follows by what is cut, where bytes are left
-abbrev follow : List ℕ → Mode → ℕ → List ℕ → Cut → Tokens
+abbrev pub follow : List ℕ → Mode → ℕ → List ℕ → Cut → Tokens
 follow buffer mode at left nothing_left = ended
 follow buffer mode at left (fault f) = refused f
 follow buffer mode at left (token t) = next t (tokens_past buffer mode (stop t.span - suc at) (suc at) left)

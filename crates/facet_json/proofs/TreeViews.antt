@@ -29,18 +29,22 @@ pub trees_view-length : (xs ys : List Tree) → trees_view xs ≡ trees_view ys 
 trees_view-length [] [] e = refl
 trees_view-length [] (y ∷ ys) e = cc
 trees_view-length (x ∷ xs) [] e = cc
-trees_view-length (x ∷ xs) (y ∷ ys) e = let rest : trees_view xs ≡ trees_view ys = cc in ap suc (trees_view-length xs ys rest)
+trees_view-length (x ∷ xs) (y ∷ ys) e =
+    let rest : trees_view xs ≡ trees_view ys = cc in ap suc (trees_view-length xs ys rest)
 
 pub pairs_view-length : (ps qs : List (String Global × Tree)) → pairs_view ps ≡ pairs_view qs → length ps ≡ length qs
 pairs_view-length [] [] e = refl
 pairs_view-length [] (q ∷ qs) e = cc
 pairs_view-length (p ∷ ps) [] e = cc
-pairs_view-length (p ∷ ps) (q ∷ qs) e = let rest : pairs_view ps ≡ pairs_view qs = cc in ap suc (pairs_view-length ps qs rest)
+pairs_view-length (p ∷ ps) (q ∷ qs) e =
+    let rest : pairs_view ps ≡ pairs_view qs = cc in ap suc (pairs_view-length ps qs rest)
 
 -- from an index on stand the item there and those behind it
-pub trees_view-drop : (xs : List Tree) (i : ℕ) (x : Tree) → i < length xs → x ≡ get_or xs i x → trees_view (drop i xs) ≡ tree.tree (tree_view x) (trees_view (drop (i + 1) xs))
+pub trees_view-drop : (xs : List Tree) (i : ℕ) (x : Tree) → i < length xs → x ≡ get_or xs i x
+    → trees_view (drop i xs) ≡ tree.tree (tree_view x) (trees_view (drop (i + 1) xs))
 trees_view-drop xs i x h is = ap trees_view (drop_more xs i x h ∙ ap (λ y. y ∷ drop (i + 1) xs) (sym is))
 
-pub pairs_view-drop : (ps : List (String Global × Tree)) (i : ℕ) (p : String Global × Tree) → i < length ps → p ≡ get_or ps i p
+pub pairs_view-drop : (ps : List (String Global × Tree)) (i : ℕ) (p : String Global × Tree)
+    → i < length ps → p ≡ get_or ps i p
     → pairs_view (drop i ps) ≡ tree.pair (string_bytes p.0) (tree_view p.1) (pairs_view (drop (i + 1) ps))
 pairs_view-drop ps i p h is = ap pairs_view (drop_more ps i p h ∙ ap (λ q. q ∷ drop (i + 1) ps) (sym is))

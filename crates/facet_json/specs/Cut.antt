@@ -1,5 +1,5 @@
 -- What is cut off at a position: the gap there, and then a token or a fault (RFC 8259, section 2).
-use Rattle.std.specs.Prelude.{◌≡◌, ◌≢◌, ℕ, zero, suc, ◌+◌, ◌-◌, Bool, true, false, cond, ◌==◌, ◌&&◌, ◌||◌, List, [], ◌∷◌, ◌++◌, length, take, drop, Option, Some, None, codes, slice_get}
+use Rattle.std.specs.Prelude.{◌≡◌, ℕ, suc, ◌+◌, Bool, true, false, cond, ◌==◌, List, [], ◌∷◌, ◌++◌, length, take, drop, Option, Some, None, codes, slice_get}
 use Rattle.std.specs.List.{list_any}
 use Rattle.facet_json.specs.Bytes.{quote, backslash, slash, star, left_brace, right_brace, left_bracket, right_bracket, is_digit, minus}
 use Rattle.facet_json.specs.Bytes as bytes
@@ -28,8 +28,10 @@ pub data IsLiteral : List ℕ → Kind → Type 0 where
 -- a backslash is among them.
 pub data ArePieces : List ℕ → Bool → Type 0 where
   none : ArePieces [] false
-  byte : (b : ℕ) (others : List ℕ) (has_escapes : Bool) → (b == quote) ≡ false → (b == backslash) ≡ false → ArePieces others has_escapes → ArePieces (b ∷ others) has_escapes
-  escape : (b : ℕ) (others : List ℕ) (has_escapes : Bool) → ArePieces others has_escapes → ArePieces (backslash ∷ b ∷ others) true
+  byte : (b : ℕ) (others : List ℕ) (has_escapes : Bool) → (b == quote) ≡ false → (b == backslash) ≡ false →
+      ArePieces others has_escapes → ArePieces (b ∷ others) has_escapes
+  escape : (b : ℕ) (others : List ℕ) (has_escapes : Bool) → ArePieces others has_escapes →
+      ArePieces (backslash ∷ b ∷ others) true
 
 -- No longer front of the bytes and what follows them is a number.
 abbrev pub IsLongest : List ℕ → List ℕ → Type 0
@@ -39,8 +41,10 @@ IsLongest number_bytes rest = (n : ℕ) (hint : Hint) → IsNumber (number_bytes
 pub data IsShape (at : ℕ) : List ℕ → List ℕ → Kind → Type 0 where
   structural : (b : ℕ) (kind : Kind) (rest : List ℕ) → IsStructural b kind → IsShape at (b ∷ []) rest kind
   literal : (word : List ℕ) (kind : Kind) (rest : List ℕ) → IsLiteral word kind → IsShape at word rest kind
-  text : (content rest : List ℕ) (has_escapes : Bool) → ArePieces content has_escapes → IsShape at (quote ∷ content ++ quote ∷ []) rest (string (suc at) (suc at + length content) has_escapes)
-  numeral : (text rest : List ℕ) (hint : Hint) → IsNumber text hint → IsLongest text rest → IsShape at text rest (number at (at + length text) hint)
+  text : (content rest : List ℕ) (has_escapes : Bool) → ArePieces content has_escapes →
+      IsShape at (quote ∷ content ++ quote ∷ []) rest (string (suc at) (suc at + length content) has_escapes)
+  numeral : (text rest : List ℕ) (hint : Hint) → IsNumber text hint → IsLongest text rest →
+      IsShape at text rest (number at (at + length text) hint)
 
 -- ---- what is cut
 

@@ -2,7 +2,7 @@
 use Rattle.std.specs.Prelude.{◌≡◌, ℕ, zero, suc, ◌+◌, ◌-◌, ◌*◌, Bool, true, false, cond, ◌==◌, ◌&&◌, ◌||◌, nat_lt, nat_le, List, [], ◌∷◌, ◌++◌, take, Option, Some, None}
 use Rattle.std.specs.Option.{option_map}
 use Rattle.std.specs.Char.{digit_value, encode_utf8, IsScalar}
-use Rattle.std.specs.Str.{continuation_len, lead_bits, all_scalars, bytes_eq}
+use Rattle.std.specs.Str.{continuation_len, lead_bits, bytes_eq}
 use lib.Utf8.{scalar}
 use Rattle.facet_json.specs.Bytes.{quote, backslash, slash, lower_b, lower_f, lower_n, lower_r, lower_t, lower_u, backspace, form_feed, line_feed, carriage_return, tab}
 
@@ -40,15 +40,19 @@ pub data Piece : List ℕ → ℕ → Type 0 where
   itself : (c : ℕ) → IsScalar c → (c == backslash) ≡ false → Piece (encode_utf8 c) c
   short : (b c : ℕ) → short_escape b ≡ Some c → Piece (backslash ∷ b ∷ []) c
   -- any other ASCII character but `u`, lenient
-  other : (b : ℕ) → nat_lt b 0x80 ≡ true → short_escape b ≡ None → (b == lower_u) ≡ false → Piece (backslash ∷ b ∷ []) b
-  unit : (a b c d u : ℕ) → code_unit a b c d ≡ Some u → is_high_surrogate u ≡ false → is_low_surrogate u ≡ false → Piece (backslash ∷ lower_u ∷ a ∷ b ∷ c ∷ d ∷ []) u
-  pair : (a b c d high e f g h low : ℕ) → code_unit a b c d ≡ Some high → is_high_surrogate high ≡ true → code_unit e f g h ≡ Some low → is_low_surrogate low ≡ true →
-    Piece (backslash ∷ lower_u ∷ a ∷ b ∷ c ∷ d ∷ backslash ∷ lower_u ∷ e ∷ f ∷ g ∷ h ∷ []) (surrogate_pair high low)
+  other : (b : ℕ) → nat_lt b 0x80 ≡ true → short_escape b ≡ None → (b == lower_u) ≡ false →
+      Piece (backslash ∷ b ∷ []) b
+  unit : (a b c d u : ℕ) → code_unit a b c d ≡ Some u → is_high_surrogate u ≡ false → is_low_surrogate u ≡ false →
+      Piece (backslash ∷ lower_u ∷ a ∷ b ∷ c ∷ d ∷ []) u
+  pair : (a b c d high e f g h low : ℕ) → code_unit a b c d ≡ Some high → is_high_surrogate high ≡ true →
+      code_unit e f g h ≡ Some low → is_low_surrogate low ≡ true →
+      Piece (backslash ∷ lower_u ∷ a ∷ b ∷ c ∷ d ∷ backslash ∷ lower_u ∷ e ∷ f ∷ g ∷ h ∷ []) (surrogate_pair high low)
 
 -- The content is pieces whose characters are the text, which is in UTF-8.
 pub data Decodes : List ℕ → List ℕ → Type 0 where
   empty : Decodes [] []
-  piece : (first others content : List ℕ) (c : ℕ) (rest text : List ℕ) → Piece first c → Decodes others rest → content ≡ first ++ others → text ≡ encode_utf8 c ++ rest → Decodes content text
+  piece : (first others content : List ℕ) (c : ℕ) (rest text : List ℕ) → Piece first c → Decodes others rest →
+      content ≡ first ++ others → text ≡ encode_utf8 c ++ rest → Decodes content text
 
 -- ---- the text that it stands for, computed
 

@@ -1,5 +1,5 @@
 -- Documents (RFC 8259, section 2): a front of the input's tokens that spells a value, all of whose strings and numbers have a meaning.
-use Rattle.std.specs.Prelude.{◌≡◌, List, ℕ, Option, Some}
+use Rattle.std.specs.Prelude.{◌≡◌, List, ℕ, Some}
 use Rattle.facet_json.specs.Gap.{Mode, plain}
 use Rattle.facet_json.specs.Tokens.{Tokens, ended, tokens}
 use Rattle.facet_json.specs.Node.{Node, Spells}

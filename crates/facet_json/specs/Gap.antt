@@ -1,5 +1,5 @@
 -- The gap before a token (RFC 8259, section 2): white space and, in JSONC mode, comments.
-use Rattle.std.specs.Prelude.{◌≡◌, ℕ, zero, suc, ◌+◌, ◌-◌, Bool, true, false, cond, ◌==◌, ◌&&◌, List, [], ◌∷◌, ◌++◌, length, Option, Some, None}
+use Rattle.std.specs.Prelude.{◌≡◌, ℕ, zero, suc, true, false, cond, ◌==◌, ◌&&◌, List, [], ◌∷◌, ◌++◌, length, Option, Some, None}
 use Rattle.facet_json.specs.Bytes.{is_space, slash, star, line_feed}
 
 -- the language that is read: RFC 8259 with the lenient readings of docs/LANGUAGE.md, without comments or with them
@@ -18,12 +18,14 @@ pub data Input : Type 0 where
 pub data OpensBlock : List ℕ → Type 0 where
   nothing : OpensBlock []
   one : (b : ℕ) → OpensBlock (b ∷ [])
-  more : (b c : ℕ) (bytes : List ℕ) → (b == star) && (c == slash) ≡ false → OpensBlock (c ∷ bytes) → OpensBlock (b ∷ c ∷ bytes)
+  more : (b c : ℕ) (bytes : List ℕ) → (b == star) && (c == slash) ≡ false → OpensBlock (c ∷ bytes) →
+      OpensBlock (b ∷ c ∷ bytes)
 
 -- The bytes end with their first `*/`.
 pub data ClosesBlock : List ℕ → Type 0 where
   last : ClosesBlock (star ∷ slash ∷ [])
-  more : (b c : ℕ) (bytes : List ℕ) → (b == star) && (c == slash) ≡ false → ClosesBlock (c ∷ bytes) → ClosesBlock (b ∷ c ∷ bytes)
+  more : (b c : ℕ) (bytes : List ℕ) → (b == star) && (c == slash) ≡ false → ClosesBlock (c ∷ bytes) →
+      ClosesBlock (b ∷ c ∷ bytes)
 
 -- The bytes hold no line feed.
 pub data OpensLine : List ℕ → Type 0 where
@@ -45,7 +47,8 @@ pub data IsPiece : Mode → Input → List ℕ → List ℕ → Type 0 where
 -- The bytes are a gap, where rest follows them: pieces, one after another.
 pub data IsGap (mode : Mode) (input : Input) : List ℕ → List ℕ → Type 0 where
   empty : (rest : List ℕ) → IsGap mode input [] rest
-  piece : (first others bytes rest : List ℕ) → IsPiece mode input first (others ++ rest) → IsGap mode input others rest → bytes ≡ first ++ others → IsGap mode input bytes rest
+  piece : (first others bytes rest : List ℕ) → IsPiece mode input first (others ++ rest) →
+      IsGap mode input others rest → bytes ≡ first ++ others → IsGap mode input bytes rest
 
 -- ---- how long the longest is
 

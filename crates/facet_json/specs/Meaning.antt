@@ -1,5 +1,5 @@
 -- What the tokens of a buffer stand for, and the tree of a node (RFC 8259, sections 3 to 7).
-use Rattle.std.specs.Prelude.{◌≡◌, ℕ, Bool, true, false, List, Option, Some, None, ℤ, slice_range}
+use Rattle.std.specs.Prelude.{ℕ, Bool, true, false, List, Option, Some, None, slice_range}
 use Rattle.std.specs.Option.{option_map, option_and_then}
 use Rattle.std.specs.Fmt.{decimal, signed_decimal}
 use Rattle.facet_json.specs.Number.{Number, Hint}

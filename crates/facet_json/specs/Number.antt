@@ -1,5 +1,5 @@
 -- Numbers (RFC 8259, section 6), read leniently: each run of digits may be empty, and leading zeros may stand.
-use Rattle.std.specs.Prelude.{◌≡◌, ◌≢◌, ℕ, zero, suc, ◌+◌, ◌-◌, ◌*◌, ◌^◌, Bool, true, false, cond, not, ◌==◌, ◌&&◌, ◌||◌, nat_lt, nat_le, List, [], ◌∷◌, ◌++◌, length, take, drop, Option, Some, None, ℤ, pos, neg_ℤ, ◌⊎◌}
+use Rattle.std.specs.Prelude.{◌≡◌, ◌≢◌, ℕ, zero, suc, ◌+◌, ◌-◌, ◌*◌, ◌^◌, Bool, true, false, cond, not, ◌==◌, ◌&&◌, ◌||◌, nat_lt, nat_le, List, [], ◌∷◌, ◌++◌, length, take, drop, Option, Some, None, ℤ, pos, neg_ℤ}
 use Rattle.facet_json.specs.Bytes.{is_digit, is_exponent_mark, is_sign, minus, dot}
 
 -- what stands in a number: digits alone, a minus but neither dot nor exponent mark, or one of these
@@ -33,7 +33,8 @@ pub data IsExponentSign : List ℕ → Type 0 where
 -- an exponent mark, perhaps a sign, and digits, or nothing
 pub data IsExponent : List ℕ → Bool → Type 0 where
   absent : IsExponent [] false
-  present : (mark : ℕ) (sign digits : List ℕ) → is_exponent_mark mark ≡ true → IsExponentSign sign → AreDigits digits → IsExponent (mark ∷ sign ++ digits) true
+  present : (mark : ℕ) (sign digits : List ℕ) → is_exponent_mark mark ≡ true → IsExponentSign sign →
+      AreDigits digits → IsExponent (mark ∷ sign ++ digits) true
 
 abbrev pub hint_of : Bool → Bool → Bool → Hint
 hint_of has_minus true has_exponent = float

@@ -1,13 +1,10 @@
 -- Where a reader stands in a document that is not whole yet, what goes on there, and what else is refused with (RFC 8259, sections 2 to 5).
-use Rattle.std.specs.Prelude.{◌≡◌, ◌≢◌, ℕ, zero, suc, Bool, true, false, List, Option, Some, None, codes, slice_range}
+use Rattle.std.specs.Prelude.{ℕ, Bool, true, false, List, Option, Some, None, codes, slice_range}
 use Rattle.facet_json.specs.Number.{Number}
 use Rattle.facet_json.specs.Number as numbers
 use Rattle.facet_json.specs.Token.{Span, Kind, Token, Fault, FaultKind}
 use Rattle.facet_json.specs.Token as token
-use Rattle.facet_json.specs.Tokens.{Tokens, ended, refused, next}
-use Rattle.facet_json.specs.Node.{Node, Spells, is_scalar, is_string}
-use Rattle.facet_json.specs.Tree.{Tree}
-use Rattle.facet_json.specs.Meaning.{Meaning, tree_of, text_of}
+use Rattle.facet_json.specs.Node.{is_scalar, is_string}
 
 -- where no value has begun yet, or what stands in front within the innermost open container
 pub data Place : Type 0 where

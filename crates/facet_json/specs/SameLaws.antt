@@ -9,6 +9,8 @@ use Rattle.facet_json.specs.Tree.{Tree, null, unit, bool, char, i64, u64, i128, 
 
 mutual
   unfolding same_tree same_trees same_pairs
+
+  -- each value is the same as itself
   same_tree-itself : (t : Tree) → same_tree t t ≡ true
   same_tree-itself null = refl
   same_tree-itself unit = refl
@@ -32,11 +34,13 @@ mutual
   same_pairs-itself : (ps : Pairs) → same_pairs ps ps ≡ true
   same_pairs-itself no_pairs = refl
   same_pairs-itself (pair key t ps) =
-      and_from (same_bytes key key && same_tree t t) (same_pairs ps ps)
-      (and_from (same_bytes key key) (same_tree t t) ((bytes_decides key key).1 refl) (same_tree-itself t)) (same_pairs-itself ps)
+      let member = and_from (same_bytes key key) (same_tree t t) ((bytes_decides key key).1 refl) (same_tree-itself t) in
+      and_from (same_bytes key key && same_tree t t) (same_pairs ps ps) member (same_pairs-itself ps)
 
 mutual
   unfolding same_tree same_trees same_pairs
+
+  -- values that are the same are equal
   same_tree-equal : (a b : Tree) → same_tree a b ≡ true → a ≡ b
   same_tree-equal null null h = refl
   same_tree-equal null _ h = cc
@@ -82,11 +86,13 @@ mutual
   same_pairs-equal (pair key t ps) (pair name u qs) h =
       let both = and_parts (same_bytes key name && same_tree t u) (same_pairs ps qs) h in
       let member = and_parts (same_bytes key name) (same_tree t u) both.0 in
-      ap (λ k. pair k t ps) ((bytes_decides key name).0 member.0) ∙ ap (λ v. pair name v ps) (same_tree-equal t u member.1)
-      ∙ ap (λ vs. pair name u vs) (same_pairs-equal ps qs both.1)
+      ap (λ k. pair k t ps) ((bytes_decides key name).0 member.0)
+      ∙ ap (λ v. pair name v ps) (same_tree-equal t u member.1) ∙ ap (λ vs. pair name u vs) (same_pairs-equal ps qs both.1)
 
+-- the test decides equality
 pub same_tree-decides : (a b : Tree) → Decides (same_tree a b) (a ≡ b)
 same_tree-decides a b = (same_tree-equal a b, λ e. subst (λ t. same_tree a t ≡ true) e (same_tree-itself a))
 
+-- so it is reflexive, symmetric and transitive
 pub same_tree-equivalence : IsEquivalence same_tree
 same_tree-equivalence = decided same_tree same_tree-decides

@@ -1,13 +1,13 @@
 -- The value that tokens spell, and the document of an input, computed: slow, and plain.
 use Rattle.std.specs.Prelude.{ℕ, zero, suc, List, Option, Some, None}
 use Rattle.std.specs.Option.{option_map, option_and_then}
-use Rattle.facet_json.specs.Gap.{Mode}
+use Rattle.facet_json.specs.Gap.{Mode, plain}
 use Rattle.facet_json.specs.Token.{Kind, Token}
 use Rattle.facet_json.specs.Token as token
 use Rattle.facet_json.specs.Tokens.{Tokens, ended, refused, next, tokens}
 use Rattle.facet_json.specs.Node.{Node, scalar, array, object, Nodes, no_nodes, item, Members, no_members, member}
 use Rattle.facet_json.specs.Tree.{Tree}
-use Rattle.facet_json.specs.Meaning.{tree_of, meaning}
+use Rattle.facet_json.specs.Meaning.{Meaning, meaning, thin_meaning, tree_of}
 
 -- a value at the front of the tokens, and what follows it
 abbrev pub ValueReader : Type 0
@@ -122,8 +122,26 @@ count (next t rest) = suc (count rest)
 unfoldable pub spelled : Tokens → Option (Node × Tokens)
 spelled ts = node_within (count ts) ts
 
+-- the value that a front of the tokens spells, with its tree by the meaning of its tokens
+unfoldable pub read_by : Meaning → Tokens → Option (Node × Tree)
+read_by m ts = option_and_then (λ r. option_map (λ value. (r.0, value)) (tree_of m r.0)) (spelled ts)
+
 -- the document of the input, with its tree
-unfoldable pub document : List ℕ → Mode → Option (Node × Tree)
-document buffer mode =
-    option_and_then (λ r. option_map (λ value. (r.0, value)) (tree_of (meaning buffer) r.0))
-    (spelled (tokens buffer mode))
+abbrev pub document : List ℕ → Mode → Option (Node × Tree)
+document buffer mode = read_by (meaning buffer) (tokens buffer mode)
+
+-- the thin document of the input, with its tree
+abbrev pub thin_document : List ℕ → Option (Node × Tree)
+thin_document buffer = read_by (thin_meaning buffer) (tokens buffer plain)
+
+-- the value, where no token and no fault follows it
+abbrev pub if_ended : Node → Tokens → Option Node
+if_ended root ended = Some root
+if_ended root (refused f) = None
+if_ended root (next t rest) = None
+
+-- the plain document that all of the text is, with its tree
+unfoldable pub whole_document : List ℕ → Option (Node × Tree)
+whole_document buffer =
+    option_and_then (λ root. option_map (λ value. (root, value)) (tree_of (meaning buffer) root))
+    (option_and_then (λ r. if_ended r.0 r.1) (spelled (tokens buffer plain)))

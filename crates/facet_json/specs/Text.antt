@@ -39,7 +39,8 @@ shortened all head tail =
     let front = min head (length all) in
     let back = min tail (length all - front) in
     let left_out = length all - front - back in
-    flat_map hex_byte (take front all) ++ codes "..<" ++ decimal left_out ++ codes " bytes>.." ++ flat_map hex_byte (drop (front + left_out) all)
+    flat_map hex_byte (take front all) ++ codes "..<" ++ decimal left_out ++ codes " bytes>.."
+    ++ flat_map hex_byte (drop (front + left_out) all)
 
 -- the hexadecimal text of bytes
 abbrev pub hex : List ℕ → Option ℕ → ℕ → ℕ → List ℕ
@@ -96,8 +97,10 @@ unfoldable mutual
   -- the items, of which the first may be the first of the list, and the closing bracket
   pub items_text : Options → ℕ → Bool → Trees → List ℕ
   items_text o depth first no_trees = line_at_end o depth first ++ right_bracket ∷ []
-  items_text o depth first (tree t others) = separator first ++ new_line o (suc depth) ++ text o (suc depth) t ++ items_text o depth false others
+  items_text o depth first (tree t others) = separator first ++ new_line o (suc depth) ++ text o (suc depth) t
+      ++ items_text o depth false others
 
   pub members_text : Options → ℕ → Bool → Pairs → List ℕ
   members_text o depth first no_pairs = line_at_end o depth first ++ right_brace ∷ []
-  members_text o depth first (pair key value others) = separator first ++ new_line o (suc depth) ++ quoted key ++ colon_text o ++ text o (suc depth) value ++ members_text o depth false others
+  members_text o depth first (pair key value others) = separator first ++ new_line o (suc depth) ++ quoted key
+      ++ colon_text o ++ text o (suc depth) value ++ members_text o depth false others

@@ -1,8 +1,8 @@
 -- The list of all tokens of an input, with the end or the fault behind the last.
-use Rattle.std.specs.Prelude.{ℕ, zero, suc, ◌+◌, ◌-◌, List, [], ◌∷◌, drop}
+use Rattle.std.specs.Prelude.{ℕ, zero, suc, ◌-◌, List, [], ◌∷◌, drop}
 use Rattle.facet_json.specs.Gap.{Mode}
 use Rattle.facet_json.specs.Token.{Token, Fault, stop}
-use Rattle.facet_json.specs.Cut.{Cut, nothing_left, token, fault, cut}
+use Rattle.facet_json.specs.Cut.{nothing_left, token, fault, cut}
 
 pub data Tokens : Type 0 where
   ended : Tokens

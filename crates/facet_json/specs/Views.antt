@@ -1,5 +1,5 @@
 -- What the types of the code stand for in the definitions. The one file of the definitions that names types of the code.
-use Rattle.std.specs.Prelude.{◌≡◌, ℕ, Bool, List, [], ◌∷◌, map, Option, Some, None, Result, Ok, Err, IfOk, codes, length, slice_range, ◌≤◌, ◌==◌, true, false, string_bytes, vec_items}
+use Rattle.std.specs.Prelude.{◌≡◌, ℕ, List, [], ◌∷◌, map, Option, Some, None, Result, Ok, Err, codes, length, slice_range, ◌≤◌, ◌==◌, true, false, string_bytes}
 use Rattle.std.specs.Option.{option_map}
 use Rattle.std.specs.declared.string.String.{String}
 use Rattle.std.specs.declared.alloc.Global.{Global}
@@ -35,7 +35,7 @@ use Rattle.facet_json.specs.Cut.{Cut, nothing_left, fault}
 use Rattle.facet_json.specs.Cut as cut
 use Rattle.facet_json.specs.Place.{Place, Complaint, Refusal}
 use Rattle.facet_json.specs.Place as place
-use Rattle.facet_json.specs.Tokens.{Tokens, next, ended}
+use Rattle.facet_json.specs.Tokens.{Tokens, next}
 use Rattle.facet_json.specs.Node.{is_string}
 use Rattle.facet_json.specs.Meaning.{thin_meaning_of}
 use Rattle.facet_json.specs.Refusal.{is_number, needs_meaning, thin_complaint}
@@ -121,10 +121,6 @@ place_of places.AfterMember = place.after_member
 place_of places.BeforeItem = place.before_item
 place_of places.AfterItem = place.after_item
 
--- the end is answered with an empty span at the end of the input
-abbrev pub EndsAt : ℕ → Result SpannedToken ScanError → Type 0
-EndsAt n r = IfOk r (λ t. t.token ≡ code.Eof → span_of t.span ≡ record { offset = n; len = 0 })
-
 -- what a kind of token of the buffer is read as, where only thin tokens are read
 abbrev pub IsReadAs : List ℕ → Kind → TokenKind → Type 0
 IsReadAs buffer kind kinds.ObjectStart = kind ≡ token.object_start
@@ -136,13 +132,16 @@ IsReadAs buffer kind kinds.Comma = kind ≡ token.comma
 IsReadAs buffer kind kinds.Null = kind ≡ token.null
 IsReadAs buffer kind kinds.True = kind ≡ token.true_literal
 IsReadAs buffer kind kinds.False = kind ≡ token.false_literal
-IsReadAs buffer kind (kinds.String s) = (is_string kind ≡ true) × (thin_meaning_of buffer kind ≡ Some (tree.text s.now))
+IsReadAs buffer kind (kinds.String s) = (is_string kind ≡ true)
+    × (thin_meaning_of buffer kind ≡ Some (tree.text s.now))
 IsReadAs buffer kind (kinds.U64 n) = (is_number kind ≡ true) × (thin_meaning_of buffer kind ≡ Some (tree.u64 n))
 
 -- the slices that a token names are within the buffer, and hold what it says; it is neither the end nor a call for more bytes
 abbrev pub CanBeRead : List ℕ → RustToken → Type 0
-CanBeRead buffer (code.String start finish has_escapes) = (start ≤ finish) × (finish ≤ length buffer) × (has_escapes ≡ list_any (λ b. b == backslash) (slice_range buffer start finish))
-CanBeRead buffer (code.Number start finish h) = (start ≤ finish) × (finish ≤ length buffer) × (is_number_text (slice_range buffer start finish) (hint_of h) ≡ true)
+CanBeRead buffer (code.String start finish has_escapes) = (start ≤ finish) × (finish ≤ length buffer)
+    × (has_escapes ≡ list_any (λ b. b == backslash) (slice_range buffer start finish))
+CanBeRead buffer (code.Number start finish h) = (start ≤ finish) × (finish ≤ length buffer)
+    × (is_number_text (slice_range buffer start finish) (hint_of h) ≡ true)
 CanBeRead buffer code.Eof = ⊥
 CanBeRead buffer (code.NeedMore consumed) = ⊥
 CanBeRead buffer _ = Unit {0}

@@ -1,5 +1,5 @@
 //! Writing a tree as compact text (RFC 8259, sections 2 to 7).
-ghost use Rattle.std.specs.Prelude.{◌≡◌, ◌<◌, ◌||◌, ◌==◌, ◌++◌, ◌∷◌, [], true, cond, nat_lt, codes, IfOk, OnOk, MatchOption};
+ghost use Rattle.std.specs.Prelude.{◌≡◌, ◌<◌, ◌||◌, ◌==◌, ◌++◌, ◌∷◌, [], true, nat_lt, codes, IfOk, OnOk};
 ghost use Rattle.std.specs.Fmt.{decimal};
 ghost use Rattle.facet_json.specs.Bytes.{quote, backslash, space, delete, left_bracket, left_brace};
 ghost use Rattle.facet_json.specs.Quoted.{escaped, quoted, hex_byte};
@@ -38,7 +38,8 @@ fn push_tree(out: &mut Vec<u8>, tree: &Tree) -> Result<(), JsonSerializeError>
 
 #[cycle(write)]
 fn push_list(out: &mut Vec<u8>, items: &[Tree]) -> Result<(), JsonSerializeError>
-    ensures { OnOk result (out.new.items ≡ out.old.items ++ left_bracket ∷ items_text default_options 0 true (trees_view items.now)) }
+    ensures { OnOk result (out.new.items
+        ≡ out.old.items ++ left_bracket ∷ items_text default_options 0 true (trees_view items.now)) }
 {
     out.push(b'[')?;
     let mut first = true;
@@ -53,7 +54,8 @@ fn push_list(out: &mut Vec<u8>, items: &[Tree]) -> Result<(), JsonSerializeError
 
 #[cycle(write)]
 fn push_pairs(out: &mut Vec<u8>, members: &[(String, Tree)]) -> Result<(), JsonSerializeError>
-    ensures { OnOk result (out.new.items ≡ out.old.items ++ left_brace ∷ members_text default_options 0 true (pairs_view members.now)) }
+    ensures { OnOk result (out.new.items
+        ≡ out.old.items ++ left_brace ∷ members_text default_options 0 true (pairs_view members.now)) }
 {
     out.push(b'{')?;
     let mut first = true;
@@ -119,30 +121,20 @@ fn needs_escape(byte: u8) -> bool
 }
 
 // What stands between the quotes for one byte of a text.
+#[tactic(auto, using(crate::proofs::Escapes::long_escape), unfolding(crate::specs::Quoted::escaped))]
 fn push_escaped(out: &mut Vec<u8>, byte: u8) -> Result<(), JsonSerializeError>
     ensures { OnOk result (out.new.items ≡ out.old.items ++ escaped byte) }
 {
-    match short_escape(byte) {
-        Some(letter) => push_bytes(out, &[b'\\', letter]),
-        None if byte < b' ' || byte == 0x7f => push_bytes(out, &hex_escape(byte)),
-        None => push_bytes(out, &[byte]),
-    }
-}
-
-// The letter of the escape of two characters that stands for a byte.
-#[tactic(auto, using(crate::proofs::Escapes::long_escape), unfolding(crate::specs::Quoted::escaped))]
-fn short_escape(byte: u8) -> Option<u8>
-    ensures { MatchOption result (escaped byte ≡ cond (nat_lt byte space || (byte == delete)) (codes "\\u00" ++ hex_byte byte) (byte ∷ [])) (λ letter. escaped byte ≡ backslash ∷ letter ∷ []) }
-{
     match byte {
-        b'"' => Some(b'"'),
-        b'\\' => Some(b'\\'),
-        b'\n' => Some(b'n'),
-        b'\r' => Some(b'r'),
-        b'\t' => Some(b't'),
-        0x08 => Some(b'b'),
-        0x0c => Some(b'f'),
-        _ => None,
+        b'"' => push_bytes(out, b"\\\""),
+        b'\\' => push_bytes(out, b"\\\\"),
+        b'\n' => push_bytes(out, b"\\n"),
+        b'\r' => push_bytes(out, b"\\r"),
+        b'\t' => push_bytes(out, b"\\t"),
+        0x08 => push_bytes(out, b"\\b"),
+        0x0c => push_bytes(out, b"\\f"),
+        _ if byte < b' ' || byte == 0x7f => push_bytes(out, &hex_escape(byte)),
+        _ => push_bytes(out, &[byte]),
     }
 }
 
@@ -150,7 +142,14 @@ fn short_escape(byte: u8) -> Option<u8>
 fn hex_escape(byte: u8) -> [u8; 6]
     ensures { result ≡ codes "\\u00" ++ hex_byte byte }
 {
-    [b'\\', b'u', b'0', b'0', hex_digit(byte / 16), hex_digit(byte % 16)]
+    [
+        b'\\',
+        b'u',
+        b'0',
+        b'0',
+        hex_digit(byte / 16),
+        hex_digit(byte % 16),
+    ]
 }
 
 // A lower-case hexadecimal digit.

@@ -36,8 +36,8 @@ IsOutOfMemory code span = (code ≡ 9) × (span ≡ None)
 pub record IsRefusedSo (input : List ℕ) (code : ℕ) (span : Option Span) : Type 0 where
   pub refusal : Refusal
   pub refuses : RefusesThin input refusal
-  pub codes : code ≡ code_of refusal.complaint
-  pub spans : option_map span_of span ≡ refusal.span
+  pub has_code : code ≡ code_of refusal.complaint
+  pub has_span : option_map span_of span ≡ refusal.span
 
 -- An answer that says nothing of the input: want of memory, or a read or a write that failed.
 abbrev pub IsFailure : Outcome → Type 0
@@ -55,7 +55,7 @@ IsRefusal input Usage = ⊥
 
 -- What `fmt` answers to an input, where the writer held the bytes before and then holds those after.
 abbrev pub Formats : List ℕ → List ℕ → Option (List ℕ) → Outcome → Type 0
-Formats input before after Done = (output : List ℕ) × (IsReformatted input output) × (after ≡ Some (before ++ output))
-Formats input before after (Refused code span) = (IsOutOfMemory code span ⊎ IsRefusedSo input code span) × (after ≡ Some before)
+Formats input before after Done = (output : List ℕ) × IsReformatted input output × (after ≡ Some (before ++ output))
+Formats input before after (Refused code span) = IsRefusal input (Refused code span) × (after ≡ Some before)
 Formats input before after Io = Unit {0}
 Formats input before after Usage = ⊥

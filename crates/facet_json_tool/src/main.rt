@@ -1,29 +1,52 @@
 //! Reads a JSON document from the standard input, and writes it anew to the standard output.
 #![tactic(auto)]
 
+ghost use Rattle.std.specs.Prelude.{◌≡◌, ◌⊎◌, None, IfErr};
+ghost use Rattle.std.specs.IoError.{error_kind};
+ghost use Rattle.facet_json_tool.specs.declared.run.Outcome.TheVariants as outcome;
+ghost use Rattle.facet_json_tool.specs.Run.{IsFailure};
+
 mod report;
 mod run;
 #[cfg(test)]
 mod tests;
 
 use report::{status, write_line};
-use run::{OUT_OF_MEMORY, Outcome, failed_read, run};
-use std::env;
+use run::{OUT_OF_MEMORY, Outcome, failure, run};
 use std::io::ErrorKind;
 use std::process::ExitCode;
+use std::{env, io};
 
-/// The arguments behind the program's name. One that is not text is wrong usage; want of memory isn't.
-fn arguments(rt: &HostRuntime) -> Result<Vec<String>, Outcome> {
+/// The arguments behind the program's name.
+fn arguments(rt: &HostRuntime) -> Result<Vec<String>, Outcome>
+    ensures { IfErr result (λ o. (o ≡ outcome.Usage) ⊎ IsFailure o) }
+{
     match env::args(rt) {
         Ok(args) => args.skip(1).collect(rt.alloc()).map_err(|_| OUT_OF_MEMORY),
-        Err(error) if error.kind() == ErrorKind::InvalidData => Err(Outcome::Usage),
-        Err(error) => Err(failed_read(&error)),
+        Err(error) => Err(without_arguments(&error)),
+    }
+}
+
+/// How it is answered that the arguments can't be had. One that is not text is wrong usage, and want of memory is none.
+fn without_arguments(error: &io::Error) -> Outcome
+    ensures usage { error_kind error.now ≡ ErrorKind.InvalidData → result ≡ outcome.Usage }
+    ensures memory { error_kind error.now ≡ ErrorKind.OutOfMemory → result ≡ outcome.Refused 9 None }
+    ensures ends { (result ≡ outcome.Usage) ⊎ IsFailure result }
+{
+    match error.kind() {
+        ErrorKind::InvalidData => Outcome::Usage,
+        _ => failure(error),
     }
 }
 
 fn main(rt: HostRuntime) -> ExitCode {
     let outcome = match arguments(&rt) {
-        Ok(args) => run(rt.alloc(), args.as_slice(), &mut rt.stdin(), &mut rt.stdout()),
+        Ok(args) => run(
+            rt.alloc(),
+            args.as_slice(),
+            &mut rt.stdin(),
+            &mut rt.stdout(),
+        ),
         Err(outcome) => outcome,
     };
     // Where the line can't be written, the status still tells.

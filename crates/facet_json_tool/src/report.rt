@@ -8,6 +8,11 @@ use crate::run::Outcome;
 use std::io;
 use std::io::Write;
 
+/// The line for wrong arguments.
+const USAGE: &str =
+    "usage: facet_json_tool fmt [--pretty] [--jsonc] | events [--jsonc] | tokens [--jsonc] \
+    | drive [--jsonc] SCRIPT";
+
 /// Writes the line for the standard error, if there is one. This takes no memory.
 pub fn write_line<W: Write>(outcome: Outcome, errors: &mut W) -> io::Result<()>
     ensures { OnOk result (Appends (W.contents errors.old) (W.contents errors.new) (line_of outcome)) }
@@ -21,10 +26,7 @@ pub fn write_line<W: Write>(outcome: Outcome, errors: &mut W) -> io::Result<()>
             writeln!(errors, "error: {code} at {offset}+{len}")
         }
         Outcome::Io => writeln!(errors, "error: io"),
-        Outcome::Usage => writeln!(
-            errors,
-            "usage: facet_json_tool fmt [--pretty] [--jsonc] | events [--jsonc] | tokens [--jsonc] | drive [--jsonc] SCRIPT"
-        ),
+        Outcome::Usage => writeln!(errors, "{USAGE}"),
     }
 }
 

@@ -44,7 +44,8 @@ pub fn run<R: Read, W: Write>(
 ) -> Outcome
     ensures usage { result ≡ outcome.Usage ↔ ¬ AsksToFormat args.now }
     ensures untouched { result ≡ outcome.Usage → (reader.new ≡ reader.old) × (writer.new ≡ writer.old) }
-    ensures refused { (code : ℕ) (span : Option TheSpan) → result ≡ outcome.Refused code span → writer.new ≡ writer.old }
+    ensures refused { (code : ℕ) (span : Option TheSpan) → result ≡ outcome.Refused code span
+        → writer.new ≡ writer.old }
     ensures answer { AsksToFormat args.now → IfSome (R.remaining reader.old) (λ input. IfSome (W.contents writer.old)
         (λ before. Formats input before (W.contents writer.new) result)) }
     ensures only { AsksToFormat args.now → IfSome (R.remaining reader.old) (λ input. HasDocument input
@@ -68,10 +69,12 @@ fn command_of(args: &[String]) -> Option<Command>
 /// Reads all there is, and writes the document in it anew and nothing else.
 fn format<R: Read, W: Write>(alloc: Global, reader: &mut R, writer: &mut W) -> Outcome
     ensures ends { result ≢ outcome.Usage }
-    ensures refused { (code : ℕ) (span : Option TheSpan) → result ≡ outcome.Refused code span → writer.new ≡ writer.old }
+    ensures refused { (code : ℕ) (span : Option TheSpan) → result ≡ outcome.Refused code span
+        → writer.new ≡ writer.old }
     ensures answer { IfSome (R.remaining reader.old) (λ input. IfSome (W.contents writer.old)
         (λ before. Formats input before (W.contents writer.new) result)) }
-    ensures only { IfSome (R.remaining reader.old) (λ input. HasDocument input → (result ≡ outcome.Done) ⊎ IsFailure result) }
+    ensures only { IfSome (R.remaining reader.old) (λ input. HasDocument input
+        → (result ≡ outcome.Done) ⊎ IsFailure result) }
 {
     match formatted(alloc, reader) {
         Ok(text) => write_text(writer, text.as_slice()),
@@ -98,12 +101,12 @@ fn read_all<R: Read>(alloc: Global, reader: &mut R) -> Result<Vec<u8>, Outcome>
     let mut input = Vec::new(alloc);
     match reader.read_to_end(&mut input) {
         Ok(_) => Ok(input),
-        Err(error) => Err(failed_read(&error)),
+        Err(error) => Err(failure(&error)),
     }
 }
 
-/// How a failed read is answered. A growth that was refused in the midst of reading is no failure of the reader.
-pub fn failed_read(error: &io::Error) -> Outcome
+/// How a call of the system that failed is answered. A growth that was refused in the midst of it is want of memory.
+pub fn failure(error: &io::Error) -> Outcome
     ensures memory { error_kind error.now ≡ ErrorKind.OutOfMemory → result ≡ outcome.Refused 9 None }
     ensures failed { IsFailure result }
 {

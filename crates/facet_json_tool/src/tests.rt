@@ -48,18 +48,23 @@ fn cases() -> [Case; 6] {
 struct Fault {
     calls: usize,
     fails_at: usize,
+    kind: ErrorKind,
 }
 
 impl Fault {
     fn at(fails_at: usize) -> Fault {
-        Fault { calls: 0, fails_at }
+        Fault {
+            calls: 0,
+            fails_at,
+            kind: ErrorKind::BrokenPipe,
+        }
     }
 
     fn call(&mut self) -> io::Result<()> {
         let at = self.calls;
         self.calls = at.saturating_add(1);
         if at == self.fails_at {
-            return Err(io::Error::from(ErrorKind::BrokenPipe));
+            return Err(io::Error::from(self.kind));
         }
         Ok(())
     }
@@ -176,7 +181,10 @@ fn is_answer(ended: &Ended, case: &Case) -> bool {
 /// Whether a run with a fault told of it, and wrote no more than a front of its text.
 fn is_cut_off(ended: &Ended, case: &Case) -> bool {
     ended.outcome == Outcome::Io
-        && case.written.as_bytes().starts_with(ended.written.as_slice())
+        && case
+            .written
+            .as_bytes()
+            .starts_with(ended.written.as_slice())
 }
 
 #[test]
@@ -226,6 +234,24 @@ fn tells_of_each_failed_write(rt: HostRuntime) -> Result<(), Fail> {
 }
 
 #[test]
+fn tells_of_a_reader_without_memory(rt: HostRuntime) -> Result<(), Fail> {
+    let args = words(rt.alloc(), &["fmt"])?;
+    let mut reader = FaultyReader {
+        left: b"[]",
+        fault: Fault {
+            calls: 0,
+            fails_at: 1,
+            kind: ErrorKind::OutOfMemory,
+        },
+    };
+    let mut writer = Vec::new(rt.alloc());
+    let outcome = run(rt.alloc(), args.as_slice(), &mut reader, &mut writer);
+    assert_eq!(rt; outcome, Outcome::Refused(9, None));
+    assert!(rt; writer.is_empty());
+    Ok(())
+}
+
+#[test]
 fn takes_no_other_arguments(rt: HostRuntime) -> Result<(), Fail> {
     let wrong: [&[&str]; 8] = [
         &[],
@@ -256,7 +282,8 @@ fn takes_no_other_arguments(rt: HostRuntime) -> Result<(), Fail> {
 
 #[test]
 fn says_how_it_ended(rt: HostRuntime) -> Result<(), Fail> {
-    let usage = "usage: facet_json_tool fmt [--pretty] [--jsonc] | events [--jsonc] | tokens [--jsonc] | drive [--jsonc] SCRIPT\n";
+    let usage =
+        "usage: facet_json_tool fmt [--pretty] [--jsonc] | events [--jsonc] | tokens [--jsonc] | drive [--jsonc] SCRIPT\n";
     let ends = [
         (Outcome::Done, "", 0),
         (

@@ -1,6 +1,6 @@
 //! What gaps, numbers and tokens are: the definitions that compute agree with those that say what is meant.
 
-ghost use Rattle.facet_json.specs.Laws.{GapIsLongest, NumberIsLongest, ShapeIsCut, ShapeIsUnique};
+ghost use Rattle.facet_json.specs.Laws.{GapIsLongest, NumberIsLongest, NumberIsTested, ShapeIsCut, ShapeIsUnique};
 
 /// The gap at the front of the bytes is a gap, and no longer front of them is one (RFC 8259, section 2).
 pub fn gap_is_longest()
@@ -11,6 +11,11 @@ pub fn gap_is_longest()
 /// (RFC 8259, section 6).
 pub fn number_is_longest()
     ensures { NumberIsLongest }
+{}
+
+/// A text is tested to be a number with a hint exactly where it is one (RFC 8259, section 6).
+pub fn number_is_tested()
+    ensures { NumberIsTested }
 {}
 
 /// A token is cut exactly where its shape stands (RFC 8259, section 2).

@@ -1,6 +1,6 @@
 //! Laws about documents: which tokens spell a value, and which value.
 
-ghost use Rattle.facet_json.specs.Laws.{DocumentIsFound, OneDocument, OneSpelling, PlainIsJsonc, RefusedHasNone, SpelledIsSpells};
+ghost use Rattle.facet_json.specs.Laws.{DocumentIsFound, OneDocument, OneSpelling, PlainIsJsonc, RefusedHasNone, SpelledIsSpells, ThinDocumentIsFound, WholeDocumentIsFound};
 
 /// Tokens spell at most one value, and no spelling is a proper front of another's.
 pub fn one_spelling()
@@ -30,4 +30,14 @@ pub fn spelled_is_spells()
 /// What is computed as the document of an input is its document.
 pub fn document_is_found()
     ensures { DocumentIsFound }
+{}
+
+/// What is computed as the whole document of a text is the one plain document that all of it is.
+pub fn whole_document_is_found()
+    ensures { WholeDocumentIsFound }
+{}
+
+/// The thin document that is computed from an input is its one thin document.
+pub fn thin_document_is_found()
+    ensures { ThinDocumentIsFound }
 {}

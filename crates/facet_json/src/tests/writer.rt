@@ -20,17 +20,20 @@ fn trees_are_written(rt: HostRuntime) -> Result<(), Fail> {
         Tree::Bool(true),
         Tree::Bool(false),
         Tree::U64(0),
-        Tree::U64(18_446_744_073_709_551_615)
+        Tree::U64(18_446_744_073_709_551_615),
     ]?;
     let members = vec![in alloc;
         member(alloc, "b", Tree::U64(1))?,
         member(alloc, "a", Tree::List(Vec::new(alloc)))?,
-        member(alloc, "b", Tree::Pairs(Vec::new(alloc)))?
+        member(alloc, "b", Tree::Pairs(Vec::new(alloc)))?,
     ]?;
     for (tree, want) in [
         (Tree::List(Vec::new(alloc)), "[]"),
         (Tree::Pairs(Vec::new(alloc)), "{}"),
-        (Tree::List(leaves), "[null,true,false,0,18446744073709551615]"),
+        (
+            Tree::List(leaves),
+            "[null,true,false,0,18446744073709551615]",
+        ),
         (Tree::Pairs(members), "{\"b\":1,\"a\":[],\"b\":{}}"),
     ] {
         assert_eq!(rt; to_vec(alloc, &tree)?.as_slice(), want.as_bytes(), "{want}");
@@ -67,7 +70,11 @@ fn equal_trees(rt: HostRuntime) -> Result<(), Fail> {
         (Tree::U64(1), Tree::U64(2), false),
         (text(alloc, "a")?, text(alloc, "a")?, true),
         (text(alloc, "a")?, text(alloc, "b")?, false),
-        (Tree::List(Vec::new(alloc)), Tree::Pairs(Vec::new(alloc)), false),
+        (
+            Tree::List(Vec::new(alloc)),
+            Tree::Pairs(Vec::new(alloc)),
+            false,
+        ),
         (
             Tree::List(vec![in alloc; Tree::U64(1), Tree::U64(2)]?),
             Tree::List(vec![in alloc; Tree::U64(1), Tree::U64(2)]?),

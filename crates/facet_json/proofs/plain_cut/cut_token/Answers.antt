@@ -2,7 +2,7 @@
 use Rattle.std.proofs.Common.{◌<◌, ◌⊎◌, inl, inr, Some, ap, ◌∙◌, refl, arith}
 use Rattle.facet_json.specs.Token.{object_start, object_end, array_start, array_end, colon, comma, null, true_literal, false_literal}
 use Rattle.facet_json.specs.Cut.{start_of, opens_text, opens_comment, opens_nothing}
-use Rattle.facet_json.proofs.FirstBytes.{cut_here-by, cut_here-word, cut_here-number, start_of-number, start_of-nothing}
+use Rattle.facet_json.proofs.FirstBytes.{cut_here-by, cut_here-word, cut_here-number, start_of-number_range, start_of-nothing}
 use Rattle.facet_json.proofs.plain_cut.cut_token.Goals as goal
 use Rattle.facet_json.proofs.plain_cut.cut_token.Goals.{in_default-via-then-first-lt47, in_default-via-else-first-lt47+else-first-lt58}
 
@@ -74,7 +74,7 @@ returns-in-47 c =
 
 pub returns-in-45 : goal.returns-in-45
 returns-in-45 c =
-    let begins = start_of-number c.args.first (grind arith) (grind arith) (grind arith) (grind arith) in
+    let begins = start_of-number_range c.args.first (grind arith) (grind arith) (grind arith) (grind arith) in
     c.cut_number.ensures ∙ ap Some (cut_here-number _ c.args.buffer.now c.args.at c.args.first c.requires begins)
 
 pub returns-in_default : goal.returns-in_default

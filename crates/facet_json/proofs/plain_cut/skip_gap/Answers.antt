@@ -2,14 +2,15 @@
 use Rattle.std.proofs.Common.{sym, ◌∙◌, arith, drop}
 use Rattle.facet_json.specs.Gap.{whole}
 use Rattle.facet_json.specs.Views.{mode_of}
-use Rattle.facet_json.proofs.GapSteps.{past_gap-piece, gap_len-no_piece}
+use Rattle.facet_json.proofs.Gaps.{gap_len-none}
+use Rattle.facet_json.proofs.GapSteps.{past_gap-piece}
 use Rattle.facet_json.proofs.plain_cut.skip_gap.Goals as goal
 
 pub returns-then-len-eq0-clause-end : goal.returns-then-len-eq0-clause-end
 returns-then-len-eq0-clause-end c =
     let none =
-    gap_len-no_piece (mode_of c.args.mode) whole (drop c.loop-mode.at c.args.buffer.now)
-    (sym c.if-len-eq0.true ∙ c.piece_len-len.ensures.len) in
+    gap_len-none (mode_of c.args.mode) whole (drop c.loop-mode.at c.args.buffer.now)
+    (sym c.piece_len-len.ensures.len ∙ c.if-len-eq0.true) in
     omega arith
 
 pub loop-mode-preserved : goal.loop-mode-preserved

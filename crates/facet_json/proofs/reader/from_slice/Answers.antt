@@ -1,4 +1,4 @@
-use Rattle.std.proofs.Common.{◌≡◌, refl, inr}
+use Rattle.std.proofs.Common.{inr}
 use Rattle.std.proofs.lemmas.Result.{err_from_is_err_and, IfOk-weaker, IfErr-weaker, MatchResult-from_both}
 use Rattle.facet_json.specs.Reading.{at_root}
 use Rattle.facet_json.proofs.ThinDocuments.{refused_first, only_memory, only_tree, span_within}
@@ -28,9 +28,9 @@ returns-clause-only c =
     let read = rw c.next.ensures.same at c.value.ensures.value in
     let refused = rw c.next.ensures.same at c.value.ensures.refused in
     λ root value d.
-      MatchResult-from_both c.value.result _ _
-      (IfOk-weaker c.value.result _ _ (λ t h. only_tree input _ _ root value (h _ c.in_ok-first.ensures.read) d) read)
-      (IfErr-weaker c.value.result _ _ (λ e h. only_memory input _ root value (h _ c.in_ok-first.ensures.read) d) refused)
+    MatchResult-from_both c.value.result _ _
+    (IfOk-weaker c.value.result _ _ (λ t h. only_tree input _ _ root value (h _ c.in_ok-first.ensures.read) d) read)
+    (IfErr-weaker c.value.result _ _ (λ e h. only_memory input _ root value (h _ c.in_ok-first.ensures.read) d) refused)
 
 pub returns-clause-within : goal.returns-clause-within
 returns-clause-within c =

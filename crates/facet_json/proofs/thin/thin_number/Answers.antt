@@ -1,5 +1,3 @@
-use Rattle.std.proofs.Common.{◌≡◌, ap, sym, ◌∙◌, refl}
-use Rattle.facet_json.specs.Views.{hint_of}
 use Rattle.facet_json.proofs.NumberText.{unsigned-digits}
 use Rattle.facet_json.proofs.ThinNumbers.{thin_number-signed, thin_number-float, thin_number-below, thin_number-above}
 use Rattle.facet_json.proofs.thin.thin_number.Goals as goal

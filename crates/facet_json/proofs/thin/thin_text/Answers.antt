@@ -1,7 +1,6 @@
-use Rattle.std.proofs.Common.{◌≡◌, Bool, true, false, List, ℕ, ap, sym, ◌∙◌, Some, None, Option}
+use Rattle.std.proofs.Common.{ap, sym, ◌∙◌}
 use Rattle.std.specs.Option.{option_map}
-use Rattle.facet_json.specs.Tree.{Tree, text}
-use Rattle.facet_json.specs.Meaning.{thin_string}
+use Rattle.facet_json.specs.Tree.{text}
 use Rattle.facet_json.proofs.PlainText.{decoded-plain, decoded-plain_none}
 use Rattle.facet_json.proofs.thin.thin_text.Goals as goal
 

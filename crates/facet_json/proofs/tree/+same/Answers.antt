@@ -15,27 +15,31 @@ are_same-returns-then-items-others t c =
 pub are_same-loop-i-preserved : goal.are_same-loop-i-preserved
 are_same-loop-i-preserved t c =
     let l = c.loop-i in
-    let xs = trees_view-drop c.args.items.now l.i c.index-items-i.result (omega arith) c.index-items-i.is in
-    let ys = trees_view-drop c.args.others.now l.i c.index-others-i.result (omega arith) c.index-others-i.is in
+    let ts = trees_view-drop c.args.items.now l.i c.index-items-i.result (omega arith) c.index-items-i.is in
+    let us = trees_view-drop c.args.others.now l.i c.index-others-i.result (omega arith) c.index-others-i.is in
     let same = c.is_same.ensures.0 c.if-not-is_same.false in
     (λ e. l.invariant.0 (cc), λ e. let here = l.invariant.1 e in cc)
 
 pub are_same-returns-then-not-is_same : goal.are_same-returns-then-not-is_same
 are_same-returns-then-not-is_same t c =
     let l = c.loop-i in
-    let xs = trees_view-drop c.args.items.now l.i c.index-items-i.result (omega arith) c.index-items-i.is in
-    let ys = trees_view-drop c.args.others.now l.i c.index-others-i.result (omega arith) c.index-others-i.is in
-    (λ never. cc, λ e.
-        let here = l.invariant.1 e in
-        let same : tree_view c.index-items-i.result ≡ tree_view c.index-others-i.result = cc in
-        let told = c.is_same.ensures.1 same in cc)
+    let x = c.index-items-i.result in
+    let y = c.index-others-i.result in
+    let ts = trees_view-drop c.args.items.now l.i x (omega arith) c.index-items-i.is in
+    let us = trees_view-drop c.args.others.now l.i y (omega arith) c.index-others-i.is in (
+      λ never. cc,
+      λ e.
+          let here = l.invariant.1 e in
+          let same : tree_view x ≡ tree_view y = cc in
+          let told = c.is_same.ensures.1 same in cc,
+    )
 
 pub are_same-returns : goal.are_same-returns
 are_same-returns t c =
     let l = c.loop-i in
-    let xs = drop_all l.i c.args.items.now c.loop-i-test.false in
-    let ys : drop l.i c.args.others.now ≡ [] = drop_all l.i c.args.others.now (omega arith) in
-    (λ _. l.invariant.0 (ap trees_view (xs ∙ sym ys)), λ _. refl)
+    let ts = drop_all l.i c.args.items.now c.loop-i-test.false in
+    let us : drop l.i c.args.others.now ≡ [] = drop_all l.i c.args.others.now (omega arith) in
+    (λ _. l.invariant.0 (ap trees_view (ts ∙ sym us)), λ _. refl)
 
 pub have_same-returns-then-members-others : goal.have_same-returns-then-members-others
 have_same-returns-then-members-others t c =
@@ -44,28 +48,33 @@ have_same-returns-then-members-others t c =
 pub have_same-loop-i-preserved : goal.have_same-loop-i-preserved
 have_same-loop-i-preserved t c =
     let l = c.loop-i in
-    let ps = pairs_view-drop c.args.members.now l.i c.index-members-i.result (omega arith) c.index-members-i.is in
-    let qs = pairs_view-drop c.args.others.now l.i c.index-others-i.result (omega arith) c.index-others-i.is in
-    let key : string_bytes c.index-members-i.result.0 ≡ string_bytes c.index-others-i.result.0 =
-    (bytes_decides (string_bytes c.index-members-i.result.0) (string_bytes c.index-others-i.result.0)).0 (not-false _ (sym c.if-ne.ensures)) in
+    let p = c.index-members-i.result in
+    let q = c.index-others-i.result in
+    let ps = pairs_view-drop c.args.members.now l.i p (omega arith) c.index-members-i.is in
+    let qs = pairs_view-drop c.args.others.now l.i q (omega arith) c.index-others-i.is in
+    let key = (bytes_decides (string_bytes p.0) (string_bytes q.0)).0 (not-false _ (sym c.if-ne.ensures)) in
     let same = c.is_same.ensures.0 c.if-not-is_same.false in
     (λ e. l.invariant.0 (cc), λ e. let here = l.invariant.1 e in cc)
 
 pub have_same-returns-then-ne : goal.have_same-returns-then-ne
 have_same-returns-then-ne t c =
     let l = c.loop-i in
-    let ps = pairs_view-drop c.args.members.now l.i c.index-members-i.result (omega arith) c.index-members-i.is in
-    let qs = pairs_view-drop c.args.others.now l.i c.index-others-i.result (omega arith) c.index-others-i.is in
-    (λ never. cc, λ e.
-        let here = l.invariant.1 e in
-        let key : string_bytes c.index-members-i.result.0 ≡ string_bytes c.index-others-i.result.0 = cc in
-        let same : tree_view c.index-members-i.result.1 ≡ tree_view c.index-others-i.result.1 = cc in
-        elim c.then-ne.branch [
-          have_same-then-ne-via-then-ne w ↦
-              let told = (bytes_decides (string_bytes c.index-members-i.result.0) (string_bytes c.index-others-i.result.0)).1 key in
-              sym (w.if-ne.ensures ∙ ap not told)
-          | have_same-then-ne-via-else-ne+then-not-is_same w ↦ let told = w.is_same.ensures.1 same in let no = w.if-not-is_same.true in cc
-        ])
+    let p = c.index-members-i.result in
+    let q = c.index-others-i.result in
+    let ps = pairs_view-drop c.args.members.now l.i p (omega arith) c.index-members-i.is in
+    let qs = pairs_view-drop c.args.others.now l.i q (omega arith) c.index-others-i.is in (
+      λ never. cc,
+      λ e.
+          let here = l.invariant.1 e in
+          let key : string_bytes p.0 ≡ string_bytes q.0 = cc in
+          let same : tree_view p.1 ≡ tree_view q.1 = cc in
+          elim c.then-ne.branch [
+            | have_same-then-ne-via-then-ne w ↦
+                let told = (bytes_decides (string_bytes p.0) (string_bytes q.0)).1 key in sym (w.if-ne.ensures ∙ ap not told)
+            | have_same-then-ne-via-else-ne+then-not-is_same w ↦
+                let told = w.is_same.ensures.1 same in let no = w.if-not-is_same.true in cc
+          ],
+    )
 
 pub have_same-returns : goal.have_same-returns
 have_same-returns t c =
@@ -76,6 +85,9 @@ have_same-returns t c =
 
 pub Tree::is_same-returns-in-Pairs-Pairs : goal.Tree::is_same-returns-in-Pairs-Pairs
 Tree::is_same-returns-in-Pairs-Pairs t c =
-    let a = ap tree_view c.in-Pairs-Pairs.is-0 ∙ tree_view-Pairs _ ∙ ap (λ ps. pairs (pairs_view ps)) (sym c.deref-in-Pairs-Pairs.ensures.value) in
-    let b = ap tree_view c.in-Pairs-Pairs.is-1 ∙ tree_view-Pairs _ ∙ ap (λ ps. pairs (pairs_view ps)) (sym c.deref-in-Pairs-Pairs-2.ensures.value) in
+    let step = c.in-Pairs-Pairs in
+    let ps = ap (λ v. pairs (pairs_view v)) (sym c.deref-in-Pairs-Pairs.ensures.value) in
+    let qs = ap (λ v. pairs (pairs_view v)) (sym c.deref-in-Pairs-Pairs-2.ensures.value) in
+    let a = ap tree_view step.is-0 ∙ tree_view-Pairs _ ∙ ps in
+    let b = ap tree_view step.is-1 ∙ tree_view-Pairs _ ∙ qs in
     (λ yes. let same = c.have_same.ensures.0 yes in cc, λ e. c.have_same.ensures.1 (cc))

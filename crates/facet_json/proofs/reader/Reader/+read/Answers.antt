@@ -1,17 +1,15 @@
-use Rattle.std.proofs.Common.{◌≡◌, ◌∙◌, refl, sym, ap, map, length, arith}
+use Rattle.std.proofs.Common.{◌∙◌, refl, ap, length, arith}
 use Rattle.std.proofs.lemmas.List.{map-append}
 use Rattle.std.proofs.lemmas.Result.{err_from_is_err_and}
 use Rattle.facet_json.specs.declared.materialized.TokenKind.TheVariants as kinds
-use Rattle.facet_json.specs.Token.{array_start, object_start}
-use Rattle.facet_json.specs.Tokens.{Tokens}
-use Rattle.facet_json.specs.Place.{root, before_key, after_colon, after_member, before_item, after_item}
-use Rattle.facet_json.specs.Reading.{left, of_list, behind_colon}
-use Rattle.facet_json.specs.Views.{tree_view, refusal_of, place_of}
+use Rattle.facet_json.specs.Place.{before_key, after_colon, after_member, before_item, after_item}
+use Rattle.facet_json.specs.Reading.{of_list, behind_colon}
+use Rattle.facet_json.specs.Views.{place_of}
 use Rattle.facet_json.proofs.TreeViews.{tree_view-Null, tree_view-Bool, tree_view-U64, tree_view-Text, tree_view-List, tree_view-Pairs}
 use Rattle.facet_json.proofs.Fronts.{none_read, paired-none}
 use Rattle.facet_json.proofs.Fronts as fronts
 use Rattle.facet_json.proofs.Misplaced.{stops_misplaced, after_item-stays, after_member-stays, before_key-stays, begins_none, value-stays}
-use Rattle.facet_json.proofs.ReaderSteps.{first_as, item_and_comma, items_closed, item_closed, stops_first, stops_in_item, stops_behind_item, memory_behind, key_read, key_and_colon, member_and_comma, members_closed, member_closed, stops_at_key, stops_at_colon, stops_in_member, stops_behind_member, null_read, true_read, false_read, number_read, text_read, list_read, object_read, list_stops, object_stops}
+use Rattle.facet_json.proofs.ReaderSteps.{first_as, item_and_comma, items_closed, item_closed, stops_first, stops_in_item, stops_behind_item, key_read, key_and_colon, member_and_comma, members_closed, member_closed, stops_at_key, stops_at_colon, stops_in_member, stops_behind_member, null_read, true_read, false_read, number_read, text_read, list_read, object_read}
 use Rattle.facet_json.proofs.reader.Reader.+read.Goals as goal
 
 -- ---- list
@@ -271,8 +269,8 @@ value-returns-in-U64-clause-value t c = λ ts f. rw tree_view-U64 (number_read _
 pub value-returns-in_ok-from_str-in-String-clause-value : goal.value-returns-in_ok-from_str-in-String-clause-value
 value-returns-in_ok-from_str-in-String-clause-value t c =
     λ ts f.
-      let a = first_as _ _ _ _ (kinds.String c.in-String.text) f c.in-String.is in
-      rw (tree_view-Text, c.in_ok-from_str-in-String.ensures.ok) (text_read _ c.in-String.text.now ts _ a.first a.is_first a.read.0 a.read.1)
+    let a = first_as _ _ _ _ (kinds.String c.in-String.text) f c.in-String.is in
+    rw (tree_view-Text, c.in_ok-from_str-in-String.ensures.ok) (text_read _ c.in-String.text.now ts _ a.first a.is_first a.read.0 a.read.1)
 
 pub value-returns-in_ok-list-in-ArrayStart-clause-value : goal.value-returns-in_ok-list-in-ArrayStart-clause-value
 value-returns-in_ok-list-in-ArrayStart-clause-value t c =
@@ -286,5 +284,5 @@ pub value-returns-in_default-clause-refused : goal.value-returns-in_default-clau
 value-returns-in_default-clause-refused t c =
     let d = c.in_default in
     λ ts f.
-      let none = begins_none (place_of c.args.place) c.args.first.kind c.requires.first d.not-Null d.not-True d.not-False d.not-U64 d.not-String d.not-ArrayStart d.not-ObjectStart in
-      stops_first _ (place_of c.args.place) ts _ (stops_misplaced _ (place_of c.args.place) ts _ c.args.first _ f (value-stays _ _ c.requires.place none) c.misplaced.ensures)
+    let none = begins_none (place_of c.args.place) c.args.first.kind c.requires.first d.not-Null d.not-True d.not-False d.not-U64 d.not-String d.not-ArrayStart d.not-ObjectStart in
+    stops_first _ (place_of c.args.place) ts _ (stops_misplaced _ (place_of c.args.place) ts _ c.args.first _ f (value-stays _ _ c.requires.place none) c.misplaced.ensures)

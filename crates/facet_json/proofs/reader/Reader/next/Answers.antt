@@ -1,7 +1,7 @@
-use Rattle.std.proofs.Common.{◌≡◌, Some, Ok, rules, arith, refl}
+use Rattle.std.proofs.Common.{arith, refl}
 use Rattle.std.proofs.lemmas.Result.{err_from_is_err_and}
 use Rattle.facet_json.specs.Views.{place_of}
-use Rattle.facet_json.proofs.Scans.{Scans, scans, scans-read, scans-meaningless, scans-end, scans-fault}
+use Rattle.facet_json.proofs.Scans.{scans, scans-read, scans-meaningless, scans-end, scans-fault}
 use Rattle.facet_json.proofs.reader.Reader.next.Goals as goal
 
 pub returns-in_err-token-clause-refused : goal.returns-in_err-token-clause-refused

@@ -1,0 +1,286 @@
+//! Trees and refusals of small inputs.
+
+use crate::{DeserializeError, DeserializeErrorKind, Span, Tree, from_slice};
+use std::alloc::{AllocError, Global};
+use std::process::Abort;
+use std::test::Fail;
+
+fn text(alloc: Global, content: &str) -> Result<Tree, AllocError> {
+    Ok(Tree::Text(content.to_string(alloc)?))
+}
+
+fn member(alloc: Global, key: &str, value: Tree) -> Result<(String, Tree), AllocError> {
+    Ok((key.to_string(alloc)?, value))
+}
+
+fn refused<'t>(kind: DeserializeErrorKind<'t>, offset: usize, len: usize) -> DeserializeError<'t> {
+    DeserializeError {
+        kind,
+        span: Some(Span::new(offset, len)),
+    }
+}
+
+/// The input ends within these bytes.
+fn ended_inside(expected: &str, offset: usize, len: usize) -> DeserializeError<'_> {
+    refused(
+        DeserializeErrorKind::UnexpectedEof { expected },
+        offset,
+        len,
+    )
+}
+
+/// The input ends at this offset.
+fn ended(expected: &str, offset: usize) -> DeserializeError<'_> {
+    ended_inside(expected, offset, 0)
+}
+
+/// No token goes on with the character at this offset.
+fn unexpected(ch: char, offset: usize) -> DeserializeError<'static> {
+    let expected = "valid JSON token";
+    refused(
+        DeserializeErrorKind::UnexpectedChar { ch, expected },
+        offset,
+        1,
+    )
+}
+
+fn misplaced_word<'t>(
+    got: &'t str,
+    expected: &'t str,
+    offset: usize,
+    len: usize,
+) -> DeserializeError<'t> {
+    let kind = DeserializeErrorKind::UnexpectedToken { got, expected };
+    refused(kind, offset, len)
+}
+
+/// A token of one byte at this offset.
+fn misplaced<'t>(got: &'t str, expected: &'t str, offset: usize) -> DeserializeError<'t> {
+    misplaced_word(got, expected, offset, 1)
+}
+
+fn not_read_yet(offset: usize, len: usize) -> DeserializeError<'static> {
+    let message = "not read yet";
+    refused(DeserializeErrorKind::InvalidValue { message }, offset, len)
+}
+
+fn expect_refusal(rt: &impl Abort, alloc: Global, input: &[u8], want: DeserializeError<'_>) {
+    match from_slice(alloc, input) {
+        Ok(tree) => assert!(rt; false, "{input:?} is read as {tree:?}"),
+        Err(error) => assert_eq!(rt; error, want, "{input:?}"),
+    }
+}
+
+#[test]
+fn scalars_are_read(rt: HostRuntime) -> Result<(), Fail> {
+    let alloc = rt.alloc();
+    for (input, want) in [
+        ("null", Tree::Null),
+        ("false", Tree::Bool(false)),
+        ("truex", Tree::Bool(true)),
+        ("1 x", Tree::U64(1)),
+        ("007", Tree::U64(7)),
+        (
+            "18446744073709551615",
+            Tree::U64(18_446_744_073_709_551_615),
+        ),
+        ("\"\"", text(alloc, "")?),
+        ("\"中文\"", text(alloc, "中文")?),
+        ("[]", Tree::List(Vec::new(alloc))),
+        (" { } ", Tree::Pairs(Vec::new(alloc))),
+    ] {
+        assert_eq!(rt; from_slice(alloc, input.as_bytes()), Ok(want), "{input}");
+    }
+    Ok(())
+}
+
+#[test]
+fn containers_are_read(rt: HostRuntime) -> Result<(), Fail> {
+    let alloc = rt.alloc();
+    let numbers = Tree::List(vec![in alloc; Tree::U64(1), Tree::U64(2)]?);
+    let mixed = vec![in alloc; text(alloc, "é")?, Tree::U64(7), Tree::Bool(true)]?;
+    let same_keys = vec![in alloc;
+        member(alloc, "a", Tree::U64(1))?,
+        member(alloc, "a", Tree::U64(2))?,
+    ]?;
+    for (input, want) in [
+        (
+            "{\"a\":[1,2,],}",
+            Tree::Pairs(vec![in alloc; member(alloc, "a", numbers)?]?),
+        ),
+        (" [\"é\", 007 , true ] x", Tree::List(mixed)),
+        ("{\"a\":1,\"a\":2}", Tree::Pairs(same_keys)),
+    ] {
+        assert_eq!(rt; from_slice(alloc, input.as_bytes()), Ok(want), "{input}");
+    }
+    Ok(())
+}
+
+#[test]
+fn no_value_stands(rt: HostRuntime) {
+    let alloc = rt.alloc();
+    for (input, want) in [
+        ("", ended("value", 0)),
+        (" \n", ended("value", 2)),
+        ("]", misplaced("ArrayEnd", "value", 0)),
+        ("}", misplaced("ObjectEnd", "value", 0)),
+        (":", misplaced("Colon", "value", 0)),
+        (",", misplaced("Comma", "value", 0)),
+        ("{\"a\":", ended("value", 5)),
+        ("{\"a\":}", misplaced("ObjectEnd", "value", 5)),
+        ("{\"a\":]", misplaced("ArrayEnd", "value", 5)),
+        ("{\"a\"::", misplaced("Colon", "value", 5)),
+        ("{\"a\":,", misplaced("Comma", "value", 5)),
+    ] {
+        expect_refusal(&rt, alloc, input.as_bytes(), want);
+    }
+}
+
+#[test]
+fn no_key_stands(rt: HostRuntime) {
+    let alloc = rt.alloc();
+    for (input, want) in [
+        ("{", ended("field name or '}'", 1)),
+        ("{1}", misplaced("U64", "field name or '}'", 1)),
+        ("{,}", misplaced("Comma", "field name or '}'", 1)),
+        ("{:", misplaced("Colon", "field name or '}'", 1)),
+        ("{]", misplaced("ArrayEnd", "field name or '}'", 1)),
+        ("{[", misplaced("ArrayStart", "field name or '}'", 1)),
+        ("{\"a\":1,", ended("field name or '}'", 7)),
+        (
+            "{\"a\":1,{",
+            misplaced("ObjectStart", "field name or '}'", 7),
+        ),
+        ("{\"a\":1,,", misplaced("Comma", "field name or '}'", 7)),
+    ] {
+        expect_refusal(&rt, alloc, input.as_bytes(), want);
+    }
+}
+
+#[test]
+fn no_colon_stands(rt: HostRuntime) {
+    let alloc = rt.alloc();
+    let eof = DeserializeErrorKind::UnexpectedToken {
+        got: "Eof",
+        expected: "':'",
+    };
+    for (input, want) in [
+        ("{\"a\"", refused(eof, 4, 0)),
+        ("{\"a\" 1}", misplaced("U64", "':'", 5)),
+        ("{\"a\"}", misplaced("ObjectEnd", "':'", 4)),
+        ("{\"a\",", misplaced("Comma", "':'", 4)),
+    ] {
+        expect_refusal(&rt, alloc, input.as_bytes(), want);
+    }
+}
+
+#[test]
+fn nothing_follows_a_member(rt: HostRuntime) {
+    let alloc = rt.alloc();
+    for (input, want) in [
+        ("{\"a\":1", ended("',' or '}'", 6)),
+        ("{\"a\":1 2}", misplaced("U64", "',' or '}'", 7)),
+        ("{\"a\":1]", misplaced("ArrayEnd", "',' or '}'", 6)),
+        ("{\"a\":1:", misplaced("Colon", "',' or '}'", 6)),
+        ("{\"a\":{}", ended("',' or '}'", 7)),
+    ] {
+        expect_refusal(&rt, alloc, input.as_bytes(), want);
+    }
+}
+
+#[test]
+fn no_item_stands(rt: HostRuntime) {
+    let alloc = rt.alloc();
+    for (input, want) in [
+        ("[", ended("value or ']'", 1)),
+        ("[,]", misplaced("Comma", "value or ']'", 1)),
+        ("[:", misplaced("Colon", "value or ']'", 1)),
+        ("[}", misplaced("ObjectEnd", "value", 1)),
+        ("[1,2,", ended("value or ']'", 5)),
+        ("[1,,]", misplaced("Comma", "value or ']'", 3)),
+        ("[1,:", misplaced("Colon", "value or ']'", 3)),
+        ("[1,}", misplaced("ObjectEnd", "value", 3)),
+    ] {
+        expect_refusal(&rt, alloc, input.as_bytes(), want);
+    }
+}
+
+#[test]
+fn nothing_follows_an_item(rt: HostRuntime) {
+    let alloc = rt.alloc();
+    for (input, want) in [
+        ("[1", ended("',' or ']'", 2)),
+        ("[1 2]", misplaced("U64", "',' or ']'", 3)),
+        ("[1 {", misplaced("ObjectStart", "',' or ']'", 3)),
+        ("[1 }", misplaced("ObjectEnd", "',' or ']'", 3)),
+        ("[1 [", misplaced("ArrayStart", "',' or ']'", 3)),
+        ("[1 :", misplaced("Colon", "',' or ']'", 3)),
+        ("[1 null", misplaced_word("Null", "',' or ']'", 3, 4)),
+        ("[1 true", misplaced_word("True", "',' or ']'", 3, 4)),
+        ("[1 false", misplaced_word("False", "',' or ']'", 3, 5)),
+        ("[1 \"a\"", misplaced_word("String", "',' or ']'", 3, 3)),
+    ] {
+        expect_refusal(&rt, alloc, input.as_bytes(), want);
+    }
+}
+
+#[test]
+fn no_token_stands(rt: HostRuntime) {
+    let alloc = rt.alloc();
+    for (input, want) in [
+        (".5", unexpected('.', 0)),
+        ("[1, x", unexpected('x', 4)),
+        ("/**/1", unexpected('/', 0)),
+        ("\u{feff}1", unexpected('\u{ef}', 0)),
+        ("\"", ended_inside("in string", 0, 1)),
+        ("tru", ended_inside("in literal", 0, 3)),
+        ("[-", ended_inside("in number", 1, 1)),
+    ] {
+        expect_refusal(&rt, alloc, input.as_bytes(), want);
+    }
+}
+
+#[test]
+fn no_thin_token_stands(rt: HostRuntime) {
+    let alloc = rt.alloc();
+    let invalid_utf8 = DeserializeErrorKind::InvalidUtf8;
+    for (input, want) in [
+        (b"[\"\\q\"]".as_slice(), not_read_yet(1, 4)),
+        (b"18446744073709551616".as_slice(), not_read_yet(0, 20)),
+        (b"-1".as_slice(), not_read_yet(0, 2)),
+        (b"1.5".as_slice(), not_read_yet(0, 3)),
+        (b"[\"a\" \"\\q\"]".as_slice(), not_read_yet(5, 4)),
+        (b"[1 -1]".as_slice(), not_read_yet(3, 2)),
+        (b"{1.5".as_slice(), not_read_yet(1, 3)),
+        (b"\"\xff\"".as_slice(), refused(invalid_utf8, 0, 3)),
+        (b"{\"\xff\":1}".as_slice(), refused(invalid_utf8, 1, 3)),
+    ] {
+        expect_refusal(&rt, alloc, input, want);
+    }
+}
+
+#[test]
+fn codes_of_refusals(rt: HostRuntime) {
+    let expected = "";
+    let got = "";
+    let message = "";
+    let target_type = "";
+    let field = "";
+    for (kind, want) in [
+        (
+            DeserializeErrorKind::UnexpectedChar { ch: 'x', expected },
+            1,
+        ),
+        (DeserializeErrorKind::UnexpectedEof { expected }, 2),
+        (DeserializeErrorKind::UnexpectedToken { got, expected }, 3),
+        (DeserializeErrorKind::InvalidUtf8, 4),
+        (DeserializeErrorKind::InvalidValue { message }, 5),
+        (DeserializeErrorKind::TypeMismatch { expected, got }, 6),
+        (DeserializeErrorKind::NumberOutOfRange { target_type }, 7),
+        (DeserializeErrorKind::MissingField { field }, 8),
+        (DeserializeErrorKind::OutOfMemory, 9),
+        (DeserializeErrorKind::SaveLimit, 10),
+    ] {
+        assert_eq!(rt; kind.code(), want, "{kind:?}");
+    }
+}
