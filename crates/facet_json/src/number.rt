@@ -172,8 +172,8 @@ fn parse_wide(digits: &[u8]) -> Option<u128>
 {
     let mut value: u128 = 0;
     for digit in digits {
-        let tens = value.checked_mul(10)?;
-        value = tens.checked_add(u128::from(*digit - b'0'))?;
+        let tenfold = value.checked_mul(10)?;
+        value = tenfold.checked_add(u128::from(*digit - b'0'))?;
     }
     Some(value)
 }

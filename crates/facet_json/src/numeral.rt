@@ -22,7 +22,7 @@ pub(crate) struct Parts {
 
 impl Parts {
     /// How long the number is.
-    fn len(self) -> usize
+    pub(crate) fn len(self) -> usize
         requires { parts_len (parts_of self) < 2 ^ 64 }
         ensures { result ≡ parts_len (parts_of self) }
     {
@@ -38,14 +38,14 @@ impl Parts {
     }
 
     /// Whether nothing but a minus stands there, or nothing.
-    fn is_bare(self) -> bool
+    pub(crate) fn is_bare(self) -> bool
         ensures { result ≡ is_bare (parts_of self) }
     {
         self.digits == 0 && self.fraction == 0 && self.exponent == 0
     }
 
     /// What stands in the number.
-    fn hint(self) -> NumberHint
+    pub(crate) fn hint(self) -> NumberHint
         ensures { hint_of result ≡ parts_hint (parts_of self) }
     {
         if self.fraction > 0 || self.exponent > 0 {
@@ -82,7 +82,7 @@ fn begins_number(text: &[u8]) -> bool
 }
 
 /// The parts of the longest number at `at`.
-fn parts_at(buffer: &[u8], at: usize) -> Parts
+pub(crate) fn parts_at(buffer: &[u8], at: usize) -> Parts
     requires { at ≤ length buffer.now }
     ensures parts { parts_of result ≡ parts (drop at buffer.now) }
     ensures within { at + parts_len (parts_of result) ≤ length buffer.now }
@@ -100,7 +100,7 @@ fn parts_at(buffer: &[u8], at: usize) -> Parts
 }
 
 /// The offset behind the minus, if one stands at `at`.
-pub(crate) fn minus_end(buffer: &[u8], at: usize) -> usize
+fn minus_end(buffer: &[u8], at: usize) -> usize
     requires { at ≤ length buffer.now }
     ensures end { result ≡ at + minus_len (drop at buffer.now) }
     ensures within { result ≤ length buffer.now }
@@ -112,7 +112,7 @@ pub(crate) fn minus_end(buffer: &[u8], at: usize) -> usize
 }
 
 /// The offset behind the digits at `at`.
-pub(crate) fn digits_end(buffer: &[u8], at: usize) -> usize
+fn digits_end(buffer: &[u8], at: usize) -> usize
     requires { at ≤ length buffer.now }
     ensures end { result ≡ at + digits_len (drop at buffer.now) }
     ensures within { result ≤ length buffer.now }
@@ -125,7 +125,7 @@ pub(crate) fn digits_end(buffer: &[u8], at: usize) -> usize
 }
 
 /// The offset behind the fraction, if one stands at `at`.
-pub(crate) fn fraction_end(buffer: &[u8], at: usize) -> usize
+fn fraction_end(buffer: &[u8], at: usize) -> usize
     requires { at ≤ length buffer.now }
     ensures end { result ≡ at + fraction_len (drop at buffer.now) }
     ensures within { result ≤ length buffer.now }
@@ -137,7 +137,7 @@ pub(crate) fn fraction_end(buffer: &[u8], at: usize) -> usize
 }
 
 /// The offset behind the exponent, if one stands at `at`.
-pub(crate) fn exponent_end(buffer: &[u8], at: usize) -> usize
+fn exponent_end(buffer: &[u8], at: usize) -> usize
     requires { at ≤ length buffer.now }
     ensures end { result ≡ at + exponent_len (drop at buffer.now) }
     ensures within { result ≤ length buffer.now }

@@ -12,7 +12,7 @@ ghost use Rattle.facet_json.specs.Cut as spec_cut;
 ghost use Rattle.facet_json.specs.Views.{mode_of, span_of, kind_of, scanned};
 
 use crate::mode::Mode;
-use crate::numeral::{digits_end, exponent_end, fraction_end, minus_end};
+use crate::numeral::parts_at;
 use crate::span::Span;
 use crate::token::{NumberHint, ScanError, ScanErrorKind, ScanResult, SpannedToken, Token};
 
@@ -244,26 +244,17 @@ fn cut_number(buffer: &[u8], at: usize) -> ScanResult
     ensures { let p = parts (drop at buffer.now) in scanned result
         ≡ Some (spec_cut.cut_number at (drop (at + 1) buffer.now) (parts_len p) (parts_hint p) (is_bare p)) }
 {
-    let digits = minus_end(buffer, at);
-    let fraction = digits_end(buffer, digits);
-    let exponent = fraction_end(buffer, fraction);
-    let end = exponent_end(buffer, exponent);
-    if end == digits {
+    let parts = parts_at(buffer, at);
+    if parts.is_bare() {
         return cut_bare_minus(buffer, at);
     }
-    let hint = if end > fraction {
-        NumberHint::Float
-    } else if digits > at {
-        NumberHint::Signed
-    } else {
-        NumberHint::Unsigned
-    };
+    let len = parts.len();
     let token = Token::Number {
         start: at,
-        end,
-        hint,
+        end: at + len,
+        hint: parts.hint(),
     };
-    token_at(token, at, end - at)
+    token_at(token, at, len)
 }
 
 /// The fault of a minus at `at` with no number behind it.
