@@ -1,10 +1,10 @@
 //! The values of numbers.
 
-ghost use Rattle.std.specs.Prelude.{◌≡◌, ◌≤◌, ◌<◌, ◌^◌, ◌-◌, pos, neg_ℤ, true, None, Some, length, slice_range, IsUtf8, IfErr, MatchOption, MatchResult};
+ghost use Rattle.std.specs.Prelude.{◌≡◌, ◌≤◌, ◌<◌, ◌^◌, pos, neg_ℤ, true, None, Some, length, slice_range, IsUtf8, IfErr, MatchOption, MatchResult};
 ghost use Rattle.std.specs.Option.{option_map};
 ghost use Rattle.facet_json.specs.Number.{AreDigits, digits_value, number as spec_number, is_number, float, unsigned_number, negative_number};
 ghost use Rattle.facet_json.specs.Views.{hint_of};
-ghost use Rattle.facet_json.specs.NumberViews.{number_of, ArePartsOf};
+ghost use Rattle.facet_json.specs.NumberViews.{number_of, number_refusal, ArePartsOf};
 
 use crate::decimal::Decimal;
 use crate::numeral::{Parts, number_parts};
@@ -45,10 +45,7 @@ pub fn parse_number<'a>(
     ensures number { let text = slice_range buf.now start end in MatchResult result
         (λ v. spec_number text (hint_of hint) ≡ Some (number_of v))
         (λ e. spec_number text (hint_of hint) ≡ None) }
-    ensures refusal { IfErr result (λ e. e ≡ record {
-        kind = ScanErrorKind.UnexpectedChar 0x3f;
-        span = record { offset = start; len = end - start };
-    }) }
+    ensures refusal { IfErr result (λ e. e ≡ number_refusal start end) }
 {
     match number(&buf[start..end], hint) {
         Some(number) => Ok(number),
@@ -72,10 +69,7 @@ pub fn parse_number_unchecked<'a>(
     ensures number { let text = slice_range buf.now start end in MatchResult result
         (λ v. spec_number text (hint_of hint) ≡ Some (number_of v))
         (λ e. spec_number text (hint_of hint) ≡ None) }
-    ensures refusal { IfErr result (λ e. e ≡ record {
-        kind = ScanErrorKind.UnexpectedChar 0x3f;
-        span = record { offset = start; len = end - start };
-    }) }
+    ensures refusal { IfErr result (λ e. e ≡ number_refusal start end) }
 {
     parse_number(buf, start, end, hint)
 }

@@ -32,9 +32,18 @@ fn unsigned(rt: HostRuntime) {
         ("0", ParsedNumber::U64(0)),
         ("42", ParsedNumber::U64(42)),
         ("007", ParsedNumber::U64(7)),
-        ("18446744073709551615", ParsedNumber::U64(18_446_744_073_709_551_615)),
-        ("18446744073709551616", ParsedNumber::U128(18_446_744_073_709_551_616)),
-        ("00018446744073709551616", ParsedNumber::U128(18_446_744_073_709_551_616)),
+        (
+            "18446744073709551615",
+            ParsedNumber::U64(18_446_744_073_709_551_615),
+        ),
+        (
+            "18446744073709551616",
+            ParsedNumber::U128(18_446_744_073_709_551_616),
+        ),
+        (
+            "00018446744073709551616",
+            ParsedNumber::U128(18_446_744_073_709_551_616),
+        ),
         (
             "170141183460469231731687303715884105728",
             ParsedNumber::U128(170_141_183_460_469_231_731_687_303_715_884_105_728),
@@ -54,9 +63,18 @@ fn signed(rt: HostRuntime) {
         ("-42", ParsedNumber::I64(-42)),
         ("-0", ParsedNumber::I64(0)),
         ("-007", ParsedNumber::I64(-7)),
-        ("-9223372036854775808", ParsedNumber::I64(-9_223_372_036_854_775_808)),
-        ("-9223372036854775809", ParsedNumber::I128(-9_223_372_036_854_775_809)),
-        ("-18446744073709551616", ParsedNumber::I128(-18_446_744_073_709_551_616)),
+        (
+            "-9223372036854775808",
+            ParsedNumber::I64(-9_223_372_036_854_775_808),
+        ),
+        (
+            "-9223372036854775809",
+            ParsedNumber::I128(-9_223_372_036_854_775_809),
+        ),
+        (
+            "-18446744073709551616",
+            ParsedNumber::I128(-18_446_744_073_709_551_616),
+        ),
         (
             "-170141183460469231731687303715884105728",
             ParsedNumber::I128(-170_141_183_460_469_231_731_687_303_715_884_105_728),
@@ -83,8 +101,14 @@ fn refused(rt: HostRuntime) {
         ("nan", NumberHint::Float),
         ("1e", NumberHint::Float),
         (".5", NumberHint::Float),
-        ("340282366920938463463374607431768211456", NumberHint::Unsigned),
-        ("-170141183460469231731687303715884105729", NumberHint::Signed),
+        (
+            "340282366920938463463374607431768211456",
+            NumberHint::Unsigned,
+        ),
+        (
+            "-170141183460469231731687303715884105729",
+            NumberHint::Signed,
+        ),
     ] {
         expect(&rt, text, hint, None);
     }
@@ -95,17 +119,35 @@ fn refused(rt: HostRuntime) {
 fn long_runs(rt: HostRuntime) {
     let run = [b'9'; 4096];
     let padded = [b'0'; 4096];
-    assert_eq!(rt; parse_number(&run, 0, 4096, NumberHint::Unsigned), refusal(0, 4096));
-    assert_eq!(rt; parse_number(&padded, 0, 4096, NumberHint::Unsigned), Ok(ParsedNumber::U64(0)));
+    assert_eq!(rt;
+        parse_number(&run, 0, 4096, NumberHint::Unsigned),
+        refusal(0, 4096)
+    );
+    assert_eq!(rt;
+        parse_number(&padded, 0, 4096, NumberHint::Unsigned),
+        Ok(ParsedNumber::U64(0))
+    );
 }
 
 #[test]
 fn in_a_buffer(rt: HostRuntime) {
     let buffer = b"[12, -3.50e+1, 1e]";
-    assert_eq!(rt; parse_number(buffer, 1, 3, NumberHint::Unsigned), Ok(ParsedNumber::U64(12)));
-    assert_eq!(rt; parse_number(buffer, 2, 3, NumberHint::Unsigned), Ok(ParsedNumber::U64(2)));
-    assert_eq!(rt; parse_number(buffer, 1, 4, NumberHint::Unsigned), refusal(1, 3));
-    assert_eq!(rt; parse_number(buffer, 15, 17, NumberHint::Float), refusal(15, 2));
+    assert_eq!(rt;
+        parse_number(buffer, 1, 3, NumberHint::Unsigned),
+        Ok(ParsedNumber::U64(12))
+    );
+    assert_eq!(rt;
+        parse_number(buffer, 2, 3, NumberHint::Unsigned),
+        Ok(ParsedNumber::U64(2))
+    );
+    assert_eq!(rt;
+        parse_number(buffer, 1, 4, NumberHint::Unsigned),
+        refusal(1, 3)
+    );
+    assert_eq!(rt;
+        parse_number(buffer, 15, 17, NumberHint::Float),
+        refusal(15, 2)
+    );
     let is_decimal = match parse_number(buffer, 5, 13, NumberHint::Float) {
         Ok(ParsedNumber::Decimal(decimal)) => decimal.as_str() == "-3.50e+1",
         _ => false,
@@ -116,10 +158,17 @@ fn in_a_buffer(rt: HostRuntime) {
 #[test]
 fn decimals(rt: HostRuntime) {
     for text in ["3.14", "1.", "-.5", "1.e5", "1E-5", "-0.0e+0"] {
-        expect(&rt, text, NumberHint::Float, Decimal::new(text).map(ParsedNumber::Decimal));
+        expect(
+            &rt,
+            text,
+            NumberHint::Float,
+            Decimal::new(text).map(ParsedNumber::Decimal),
+        );
         assert!(rt; Decimal::new(text).is_some(), "{text}");
     }
-    for text in [".5", "1e", "1e+", "-.", "-e1", ".e1", "5", "1e5 ", " 1e5", "1.5.5", ""] {
+    for text in [
+        ".5", "1e", "1e+", "-.", "-e1", ".e1", "5", "1e5 ", " 1e5", "1.5.5", "",
+    ] {
         assert!(rt; Decimal::new(text).is_none(), "{text}");
     }
 }
