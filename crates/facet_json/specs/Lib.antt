@@ -19,4 +19,5 @@ pub mod SameLaws
 pub mod Quoted
 pub mod Text
 pub mod Views
+pub mod NumberViews
 pub mod Laws

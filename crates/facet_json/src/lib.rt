@@ -1,11 +1,13 @@
 //! JSON text (RFC 8259, with lenient readings) to values and back, proved.
 #![tactic(auto)]
 
+mod decimal;
 mod error;
 pub mod laws;
 mod materialized;
 mod mode;
 mod number;
+mod numeral;
 mod place;
 mod plain_cut;
 mod reader;
@@ -16,8 +18,10 @@ mod token;
 mod tree;
 mod writer;
 
+pub use decimal::Decimal;
 pub use error::{DeserializeError, DeserializeErrorKind};
 pub use mode::Mode;
+pub use number::{ParsedNumber, parse_number, parse_number_unchecked};
 pub use plain_cut::cut;
 pub use reader::from_slice;
 pub use ser_error::JsonSerializeError;

@@ -4,7 +4,7 @@ ghost use Rattle.std.specs.Prelude.{◌≡◌, ℕ, ◌+◌, Bool, false, ◌<�
 ghost use Rattle.std.specs.Option.{option_map};
 ghost use Rattle.facet_json.specs.Gap.{whole, through_block_end, through_line_end};
 ghost use Rattle.facet_json.specs.Gap as spec_gap;
-ghost use Rattle.facet_json.specs.Number.{minus_len, digits_len, fraction_len, sign_len, exponent_len, parts, parts_len, parts_hint, is_bare};
+ghost use Rattle.facet_json.specs.Number.{parts, parts_len, parts_hint, is_bare};
 ghost use Rattle.facet_json.specs.Token.{Kind};
 ghost use Rattle.facet_json.specs.Token as spec_token;
 ghost use Rattle.facet_json.specs.Cut.{past_gap, cut_here, span_at, fault_at, content_len};
@@ -12,6 +12,7 @@ ghost use Rattle.facet_json.specs.Cut as spec_cut;
 ghost use Rattle.facet_json.specs.Views.{mode_of, span_of, kind_of, scanned};
 
 use crate::mode::Mode;
+use crate::numeral::parts_at;
 use crate::span::Span;
 use crate::token::{NumberHint, ScanError, ScanErrorKind, ScanResult, SpannedToken, Token};
 
@@ -243,26 +244,17 @@ fn cut_number(buffer: &[u8], at: usize) -> ScanResult
     ensures { let p = parts (drop at buffer.now) in scanned result
         ≡ Some (spec_cut.cut_number at (drop (at + 1) buffer.now) (parts_len p) (parts_hint p) (is_bare p)) }
 {
-    let digits = minus_end(buffer, at);
-    let fraction = digits_end(buffer, digits);
-    let exponent = fraction_end(buffer, fraction);
-    let end = exponent_end(buffer, exponent);
-    if end == digits {
+    let parts = parts_at(buffer, at);
+    if parts.is_bare() {
         return cut_bare_minus(buffer, at);
     }
-    let hint = if end > fraction {
-        NumberHint::Float
-    } else if digits > at {
-        NumberHint::Signed
-    } else {
-        NumberHint::Unsigned
-    };
+    let len = parts.len();
     let token = Token::Number {
         start: at,
-        end,
-        hint,
+        end: at + len,
+        hint: parts.hint(),
     };
-    token_at(token, at, end - at)
+    token_at(token, at, len)
 }
 
 /// The fault of a minus at `at` with no number behind it.
@@ -273,67 +265,6 @@ fn cut_bare_minus(buffer: &[u8], at: usize) -> ScanResult
     match buffer.get(at + 1) {
         Some(byte) => unexpected_char(*byte, at),
         None => unexpected_eof(buffer, at, "in number"),
-    }
-}
-
-/// The offset behind the minus, if one stands at `at`.
-fn minus_end(buffer: &[u8], at: usize) -> usize
-    requires { at ≤ length buffer.now }
-    ensures end { result ≡ at + minus_len (drop at buffer.now) }
-    ensures within { result ≤ length buffer.now }
-{
-    match buffer.get(at) {
-        Some(b'-') => at + 1,
-        _ => at,
-    }
-}
-
-/// The offset behind the digits at `at`.
-fn digits_end(buffer: &[u8], at: usize) -> usize
-    requires { at ≤ length buffer.now }
-    ensures end { result ≡ at + digits_len (drop at buffer.now) }
-    ensures within { result ≤ length buffer.now }
-{
-    let mut end = at;
-    while let Some(b'0'..=b'9') = buffer.get(end) {
-        end += 1;
-    }
-    end
-}
-
-/// The offset behind the fraction, if one stands at `at`.
-fn fraction_end(buffer: &[u8], at: usize) -> usize
-    requires { at ≤ length buffer.now }
-    ensures end { result ≡ at + fraction_len (drop at buffer.now) }
-    ensures within { result ≤ length buffer.now }
-{
-    match buffer.get(at) {
-        Some(b'.') => digits_end(buffer, at + 1),
-        _ => at,
-    }
-}
-
-/// The offset behind the exponent, if one stands at `at`.
-fn exponent_end(buffer: &[u8], at: usize) -> usize
-    requires { at ≤ length buffer.now }
-    ensures end { result ≡ at + exponent_len (drop at buffer.now) }
-    ensures within { result ≤ length buffer.now }
-{
-    match buffer.get(at) {
-        Some(b'e' | b'E') => digits_end(buffer, sign_end(buffer, at + 1)),
-        _ => at,
-    }
-}
-
-/// The offset behind the sign of an exponent, if one stands at `at`.
-fn sign_end(buffer: &[u8], at: usize) -> usize
-    requires { at ≤ length buffer.now }
-    ensures end { result ≡ at + sign_len (drop at buffer.now) }
-    ensures within { result ≤ length buffer.now }
-{
-    match buffer.get(at) {
-        Some(b'+' | b'-') => at + 1,
-        _ => at,
     }
 }
 

@@ -1,7 +1,7 @@
 -- The digits from here on end where the first ones end.
 use Rattle.std.proofs.Common.{◌≡◌, ◌+◌, ◌-◌, ◌≤◌, length, drop}
 use Rattle.facet_json.specs.Number.{digits_len}
-use Rattle.facet_json.proofs.plain_cut.digits_end.Given as goal
+use Rattle.facet_json.proofs.numeral.digits_end.Given as goal
 
 abbrev pub invariant-loop-end : goal.invariant-loop-end
 invariant-loop-end l =
