@@ -1,6 +1,7 @@
 //! JSON text (RFC 8259, with lenient readings) to values and back, proved.
 #![tactic(auto)]
 
+mod decode;
 mod error;
 pub mod laws;
 mod materialized;
@@ -16,6 +17,7 @@ mod token;
 mod tree;
 mod writer;
 
+pub use decode::{DecodeError, decode_string, decode_string_borrowed, decode_string_owned};
 pub use error::{DeserializeError, DeserializeErrorKind};
 pub use mode::Mode;
 pub use plain_cut::cut;
