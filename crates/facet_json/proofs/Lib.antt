@@ -10,6 +10,8 @@ pub mod TokensSteps
 pub mod CharAt
 pub mod DecodeLaws
 pub mod PlainText
+pub mod DecodeSteps
+pub mod EscapeSteps
 pub mod Scans
 pub mod Misplaced
 pub mod Growth

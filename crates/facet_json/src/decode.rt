@@ -2,6 +2,7 @@
 
 ghost use Rattle.std.specs.Prelude.{◌≡◌, ℕ, ◌+◌, ◌≤◌, ◌<◌, List, Some, None, true, false, length, slice_range, slice_index, string_bytes, IfOk, IfErr, IfSome, IsUtf8, MatchOption, MatchResult};
 ghost use Rattle.std.specs.Cow.{cow_str_bytes, IsOwnedStr, IsBorrowedStr};
+ghost use Rattle.facet_json.specs.declared.decode.DecodeError.TheVariants as refusal;
 ghost use Rattle.facet_json.specs.Bytes.{backslash};
 ghost use Rattle.facet_json.specs.Decode.{decoded, Decodes};
 ghost use Rattle.facet_json.specs.Decoders.{has_backslash, IsItsText, IsWithin, RefusesContent, whole_refused};
@@ -25,7 +26,7 @@ pub enum DecodeError {
 }
 
 impl From<ScanError> for DecodeError {
-    ghost from_gives = { λ scan e. e ≡ DecodeError.Scan scan };
+    ghost from_gives = { λ scan e. e ≡ refusal.Scan scan };
 
     fn from(error: ScanError) -> Self {
         DecodeError::Scan(error)
@@ -33,7 +34,7 @@ impl From<ScanError> for DecodeError {
 }
 
 impl From<AllocError> for DecodeError {
-    ghost from_gives = { λ _ e. e ≡ DecodeError.OutOfMemory };
+    ghost from_gives = { λ _ e. e ≡ refusal.OutOfMemory };
 
     fn from(_e: AllocError) -> Self {
         DecodeError::OutOfMemory
