@@ -119,7 +119,8 @@ run-piece _ others c b run rest (itself _ is ne) later e plain ends = by (cuts (
   where
     by : Cuts (encode_utf8 c) others (b ∷ run) rest → IsUtf8 (b ∷ run)
     by (first_in_second m p q) =
-        let parts = plain-parts (encode_utf8 c) m (rw p at plain) in
+        let whole : IsPlain (encode_utf8 c ++ m) = ap (list_any (λ x. x == backslash)) (sym p) ∙ plain in
+        let parts = plain-parts (encode_utf8 c) m whole in
         rw p (IsUtf8-append (encode_utf8 c) m (IsUtf8-encode c is) (later m q parts.1))
     by (second_in_first x m p q) =
         let first = rw q at ends in
@@ -185,6 +186,19 @@ range-ends buf at end h is some =
     let same : at + 0 ≡ at = omega arith in
     get_or-between buf at end 0 0 (omega arith) ∙ ap (λ n. get_or buf n 0) same ∙ is lt
 
+-- No plain bytes begin with a backslash.
+first-plain : (l : List ℕ) → slice_get l 0 ≡ Some backslash → IsPlain l → ⊥
+first-plain [] e plain = cc
+first-plain (b ∷ l) e plain = let is : b ≡ backslash = cc in let last = rw is at plain in cc
+
+-- No plain range has a backslash inside.
+pub backslash-inside : (buf : List ℕ) (at stop end : ℕ) → at ≤ stop → stop < end → end ≤ length buf →
+    get_or buf stop 0 ≡ backslash → IsPlain (slice_range buf at end) → ⊥
+backslash-inside buf at stop end a b h is plain =
+    let whole = ap (list_any (λ x. x == backslash)) (sym (range-append buf at stop end a (omega arith))) ∙ plain in
+    let parts = plain-parts (slice_range buf at stop) (slice_range buf stop end) whole in
+    first-plain (slice_range buf stop end) (range-first buf stop end backslash b h is) parts.1
+
 -- One more byte that is no backslash.
 pub plain-more : (buf : List ℕ) (at stop : ℕ) → at ≤ stop → stop < length buf → get_or buf stop 0 ≢ backslash →
     IsPlain (slice_range buf at stop) → IsPlain (slice_range buf at (stop + 1))
@@ -196,15 +210,15 @@ plain-more buf at stop le lt ne plain =
 -- ---- steps
 
 -- A run of text is passed.
-pub step-run : (buf whole out : List ℕ) (at stop end : ℕ) → at ≤ stop → stop ≤ end →
+pub step-run : (buf whole out next : List ℕ) (at stop end : ℕ) → at ≤ stop → stop ≤ end →
     IsPlain (slice_range buf at stop) → IsUtf8 (slice_range buf at stop) →
-    decoded whole ≡ behind out (decoded (slice_range buf at end)) →
-    decoded whole ≡ behind (out ++ slice_range buf at stop) (decoded (slice_range buf stop end))
-step-run buf whole out at stop end a b plain is e =
+    decoded whole ≡ behind out (decoded (slice_range buf at end)) → next ≡ out ++ slice_range buf at stop →
+    decoded whole ≡ behind next (decoded (slice_range buf stop end))
+step-run buf whole out next at stop end a b plain is e f =
     let run = slice_range buf at stop in
     let rest = slice_range buf stop end in
     e ∙ ap (λ l. behind out (decoded l)) (range-append buf at stop end a b) ∙ ap (behind out) (decoded-run run rest plain is)
-    ∙ behind-behind out run (decoded rest)
+    ∙ behind-behind out run (decoded rest) ∙ ap (λ l. behind l (decoded rest)) (sym f)
 
 -- A run that is no text stops.
 pub step-broken : (buf whole out : List ℕ) (at stop end : ℕ) → at ≤ stop → stop ≤ end → end ≤ length buf →
@@ -217,13 +231,14 @@ step-broken buf whole out at stop end a b h plain none is e =
     ∙ ap (behind out) (decoded-broken run rest plain none (range-ends buf stop end h is))
 
 -- A piece is passed.
-pub step-found : (buf whole out : List ℕ) (stop end c n : ℕ) → stop + n ≤ end →
+pub step-found : (buf whole out next : List ℕ) (stop end c n : ℕ) → stop + n ≤ end →
     piece_at (slice_range buf stop end) ≡ Some (c, n) → decoded whole ≡ behind out (decoded (slice_range buf stop end)) →
-    decoded whole ≡ behind (out ++ encode_utf8 c) (decoded (slice_range buf (stop + n) end))
-step-found buf whole out stop end c n h found e =
+    next ≡ out ++ encode_utf8 c → decoded whole ≡ behind next (decoded (slice_range buf (stop + n) end))
+step-found buf whole out next stop end c n h found e f =
     e ∙ ap (behind out) (decoded-found (slice_range buf stop end) c n found)
     ∙ behind-behind out (encode_utf8 c) (decoded (drop n (slice_range buf stop end)))
     ∙ ap (λ l. behind (out ++ encode_utf8 c) (decoded l)) (range-drop buf n stop end h)
+    ∙ ap (λ l. behind l (decoded (slice_range buf (stop + n) end))) (sym f)
 
 -- A piece has bytes, and they are within the range.
 pub found-within : (buf : List ℕ) (stop end c n : ℕ) → stop ≤ end → end ≤ length buf →
