@@ -164,7 +164,7 @@ range-append buf at stop end a b =
     ∙ ap (λ l. take k m ++ l) last
 
 -- What is left of a range behind some of its bytes.
-range-drop : (buf : List ℕ) (n at end : ℕ) → at + n ≤ end → drop n (slice_range buf at end) ≡ slice_range buf (at + n) end
+pub range-drop : (buf : List ℕ) (n at end : ℕ) → at + n ≤ end → drop n (slice_range buf at end) ≡ slice_range buf (at + n) end
 range-drop buf n at end h =
     let j = end - (at + n) in
     let size : end - at ≡ n + j = omega arith in

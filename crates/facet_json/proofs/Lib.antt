@@ -11,6 +11,7 @@ pub mod CharAt
 pub mod DecodeLaws
 pub mod PlainText
 pub mod DecodeSteps
+pub mod Utf8Runs
 pub mod EscapeSteps
 pub mod Scans
 pub mod Misplaced

@@ -8,6 +8,11 @@ ghost use Rattle.facet_json.specs.Decode.{decoded, Decodes};
 ghost use Rattle.facet_json.specs.Decoders.{has_backslash, IsItsText, IsWithin, RefusesContent, whole_refused};
 
 mod escape;
+mod unchecked;
+
+pub use unchecked::{
+    decode_string_borrowed_unchecked, decode_string_owned_unchecked, decode_string_unchecked,
+};
 
 use crate::span::Span;
 use crate::token::{ScanError, ScanErrorKind};
@@ -144,9 +149,20 @@ pub fn decode_string<'b>(
     }
     match decode_string_borrowed(buf, start, end) {
         Some(text) => Ok(CowStr::Borrowed(text)),
-        None => Err(DecodeError::Scan(ScanError {
-            kind: ScanErrorKind::InvalidUtf8,
-            span: Span::new(start, end - start),
-        })),
+        None => Err(whole_refusal(start, end)),
     }
 }
+
+/// The refusal of a content that isn't its own text.
+fn whole_refusal(start: usize, end: usize) -> DecodeError
+    requires { start ≤ end }
+    ensures { result ≡ whole_refused start end }
+{
+    DecodeError::Scan(ScanError {
+        kind: ScanErrorKind::InvalidUtf8,
+        span: Span::new(start, end - start),
+    })
+}
+
+#[cfg(test)]
+mod tests;

@@ -17,7 +17,10 @@ mod token;
 mod tree;
 mod writer;
 
-pub use decode::{DecodeError, decode_string, decode_string_borrowed, decode_string_owned};
+pub use decode::{
+    DecodeError, decode_string, decode_string_borrowed, decode_string_borrowed_unchecked,
+    decode_string_owned, decode_string_owned_unchecked, decode_string_unchecked,
+};
 pub use error::{DeserializeError, DeserializeErrorKind};
 pub use mode::Mode;
 pub use plain_cut::cut;
