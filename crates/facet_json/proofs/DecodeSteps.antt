@@ -1,8 +1,8 @@
 -- The steps of a reader that decodes run by run (specs/Decode.antt): what a run of plain bytes and an escape add to a text.
-use Rattle.std.proofs.Common.{◌≡◌, ◌≢◌, ℕ, zero, suc, ◌+◌, ◌-◌, ◌<◌, ◌≤◌, ◌⊎◌, inl, inr, Bool, true, false, List, [], ◌∷◌, ◌++◌, length, take, drop, get_or, slice_get, Option, Some, None, option_map, refl, sym, ap, ◌∙◌, append_assoc, append-nil, arith}
+use Rattle.std.proofs.Common.{◌≡◌, ◌≢◌, ℕ, ◌+◌, ◌-◌, ◌<◌, ◌≤◌, true, false, List, [], ◌∷◌, ◌++◌, length, take, drop, get_or, slice_get, Option, Some, None, option_map, refl, sym, ap, ◌∙◌, append_assoc, append-nil, arith}
 use Rattle.std.specs.Prelude.{◌==◌, IsUtf8, slice_range}
 use Rattle.std.specs.List.{list_any}
-use Rattle.std.specs.Char.{IsScalar, encode_utf8}
+use Rattle.std.specs.Char.{encode_utf8}
 use Rattle.std.specs.Str.{all_scalars, encode_utf8_all}
 use Rattle.std.proofs.Math.Utf8.{scalar}
 use Rattle.std.proofs.lemmas.Bool.{and_parts, ne_eqb}
@@ -14,7 +14,7 @@ use Rattle.std.proofs.lemmas.Str.{IsUtf8-nil, IsUtf8-append, IsUtf8-encode}
 use Rattle.facet_json.specs.Bytes.{backslash}
 use Rattle.facet_json.specs.Decode.{Piece, itself, short, other, unit, pair, Decodes, empty, piece, piece_at, decoded_past, decoded}
 use Rattle.facet_json.proofs.CharAt.{Shape, one, two, three, four, shape}
-use Rattle.facet_json.proofs.DecodeLaws.{Fronts, piece_at-fronts, decoded_by, decodes-decoded, decoded-piece}
+use Rattle.facet_json.proofs.DecodeLaws.{piece_at-fronts, decoded_by, decodes-decoded, decoded-piece}
 use Rattle.facet_json.proofs.PlainText.{IsPlain, plain-parts, plain-other}
 
 -- a text with this in front, where there is one

@@ -1,7 +1,6 @@
 -- Where a content is UTF-8, so is each run of it, and what stands behind each piece.
-use Rattle.std.proofs.Common.{◌≡◌, ℕ, ◌+◌, ◌-◌, ◌<◌, ◌≤◌, ◌⊎◌, inl, inr, Bool, true, false, cond, ◌&&◌, List, [], ◌∷◌, ◌++◌, length, take, drop, get_or, Option, Some, None, refl, sym, ap, ◌∙◌, arith}
+use Rattle.std.proofs.Common.{◌≡◌, ℕ, ◌+◌, ◌-◌, ◌<◌, ◌≤◌, ◌⊎◌, inl, inr, Bool, true, false, ◌&&◌, List, [], ◌∷◌, length, take, drop, get_or, Some, refl, ap, ◌∙◌, arith}
 use Rattle.std.specs.Prelude.{IsUtf8, slice_range}
-use Rattle.std.specs.Char.{encode_utf8}
 use Rattle.std.proofs.lemmas.Bool.{cases_lt, and_parts}
 use Rattle.std.proofs.lemmas.Bool.Decides.{nat_tests}
 use Rattle.std.proofs.lemmas.List.{take-take}
@@ -9,8 +8,8 @@ use Rattle.std.proofs.lemmas.List.Edits.{length-between, get_or-between}
 use Rattle.std.proofs.lemmas.Str.{encode_ascii, IsUtf8-nil, IsUtf8-append, IsUtf8-encode, IsUtf8-take, IsUtf8-drop, IsCharBoundary-end, IsCharBoundary-before_ascii, IsCharBoundary-from_take}
 use Rattle.std.specs.Str.{IsCharBoundary}
 use Rattle.facet_json.specs.Bytes.{backslash, lower_u}
-use Rattle.facet_json.specs.Decode.{short_escape, is_hex, code_unit, Piece, itself, short, other, unit, pair, short_of, piece_at}
-use Rattle.facet_json.proofs.DecodeLaws.{Fronts, piece_at-fronts}
+use Rattle.facet_json.specs.Decode.{short_escape, is_hex, code_unit, Piece, itself, short, other, unit, pair, piece_at}
+use Rattle.facet_json.proofs.DecodeLaws.{piece_at-fronts}
 use Rattle.facet_json.proofs.DecodeSteps.{range-drop}
 use Rattle.facet_json.proofs.EscapeSteps.{short_of-none}
 
@@ -44,7 +43,7 @@ unit-cons a b c d u l e is = by (is_hex a && is_hex b && is_hex c && is_hex d) r
         let q = and_parts (is_hex a && is_hex b) (is_hex c) p.0 in
         let r = and_parts (is_hex a) (is_hex b) q.0 in
         ascii-cons a (b ∷ c ∷ d ∷ l) (hex-ascii a r.0) (ascii-cons b (c ∷ d ∷ l) (hex-ascii b r.1)
-            (ascii-cons c (d ∷ l) (hex-ascii c q.1) (ascii-cons d l (hex-ascii d p.1) is)))
+        (ascii-cons c (d ∷ l) (hex-ascii c q.1) (ascii-cons d l (hex-ascii d p.1) is)))
     by false h = let none = rw h at e in absurd (cc)
 
 -- A piece is text.
@@ -89,7 +88,7 @@ run-IsUtf8 buf at stop end a b h ends is =
         let size = length-between buf at end h in
         let place : at + (stop - at) ≡ stop = omega arith in
         let byte : get_or (slice_range buf at end) (stop - at) 0 ≡ backslash =
-            get_or-between buf at end (stop - at) 0 (omega arith) ∙ ap (λ n. get_or buf n 0) place ∙ ends lt in
+        get_or-between buf at end (stop - at) 0 (omega arith) ∙ ap (λ n. get_or buf n 0) place ∙ ends lt in
         IsCharBoundary-before_ascii (slice_range buf at end) (stop - at) (omega arith) (omega arith)
     seam (inr le) =
         let size : length (slice_range buf at end) ≡ stop - at = omega (arith, length-between buf at end h) in

@@ -2,7 +2,6 @@
 use Rattle.std.specs.Prelude.{◌≡◌, ◌==◌, ℕ, ◌+◌, ◌-◌, ◌≤◌, Bool, false, List, None, slice_range, IsUtf8}
 use Rattle.std.specs.List.{list_any}
 use Rattle.facet_json.specs.declared.span.Span.{Span}
-use Rattle.facet_json.specs.declared.token.ScanError.{ScanError}
 use Rattle.facet_json.specs.declared.token.ScanErrorKind.TheVariants.{InvalidUtf8}
 use Rattle.facet_json.specs.declared.decode.DecodeError.{DecodeError}
 use Rattle.facet_json.specs.declared.decode.DecodeError.TheVariants.{Scan, OutOfMemory}

@@ -10,16 +10,15 @@ ghost use Rattle.facet_json.specs.Decoders.{has_backslash, IsItsText, IsWithin, 
 mod escape;
 mod unchecked;
 
-pub use unchecked::{
-    decode_string_borrowed_unchecked, decode_string_owned_unchecked, decode_string_unchecked,
-};
-
 use crate::span::Span;
 use crate::token::{ScanError, ScanErrorKind};
 use escape::escape_at;
 use std::alloc::{AllocError, Global};
 use std::borrow::CowStr;
 use std::str;
+pub use unchecked::{
+    decode_string_borrowed_unchecked, decode_string_owned_unchecked, decode_string_unchecked,
+};
 
 /// Why a string's content has no text, or why it could not be built.
 #[derive(Debug, PartialEq, Drop)]

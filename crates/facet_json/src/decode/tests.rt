@@ -64,7 +64,12 @@ fn broken_escapes(rt: HostRuntime) -> Result<(), Fail> {
     let digits = ScanErrorKind::UnexpectedChar('?');
     expect(&rt, alloc, b"\\u+123", Err(refused(digits, 2, 4)))?;
     let low_digits = ScanErrorKind::UnexpectedChar('?');
-    expect(&rt, alloc, b"\\ud800\\u00zz", Err(refused(low_digits, 8, 4)))?;
+    expect(
+        &rt,
+        alloc,
+        b"\\ud800\\u00zz",
+        Err(refused(low_digits, 8, 4)),
+    )?;
     let behind_run = ScanErrorKind::UnexpectedEof("in unicode escape");
     expect(&rt, alloc, b"ab\\t\\u", Err(refused(behind_run, 4, 2)))?;
     Ok(())
@@ -129,7 +134,10 @@ fn is_borrowed(text: &CowStr<'_>) -> bool {
 #[test]
 fn borrowed_or_owned(rt: HostRuntime) -> Result<(), Fail> {
     let alloc = rt.alloc();
-    assert_eq!(rt; decode_string_borrowed(b"hello world", 0, 11), Some("hello world"));
+    assert_eq!(rt;
+        decode_string_borrowed(b"hello world", 0, 11),
+        Some("hello world")
+    );
     assert_eq!(rt; decode_string_borrowed(b"hello\\nworld", 0, 12), None);
     assert_eq!(rt; decode_string_borrowed(b"\xff", 0, 1), None);
     match decode_string(alloc, b"simple", 0, 6, false) {
@@ -143,6 +151,36 @@ fn borrowed_or_owned(rt: HostRuntime) -> Result<(), Fail> {
     match decode_string(alloc, b"-\xff-", 1, 2, false) {
         Ok(_) => assert!(rt; false),
         Err(error) => assert_eq!(rt; error, refused(ScanErrorKind::InvalidUtf8, 1, 1)),
+    }
+    Ok(())
+}
+
+fn expect_unchecked(
+    rt: &impl Abort,
+    alloc: Global,
+    content: &str,
+    want: &str,
+) -> Result<(), AllocError> {
+    let bytes = content.as_bytes();
+    let text = decode_string_owned_unchecked(alloc, bytes, 0, bytes.len());
+    assert!(rt; text.is_ok_and(|text| text.as_str() == want));
+    let is_plain = decode_string_borrowed_unchecked(bytes, 0, bytes.len()) == Some(want);
+    assert_eq!(rt; is_plain, content == want);
+    let text = decode_string_unchecked(alloc, bytes, 0, bytes.len(), !is_plain);
+    assert!(rt; text.is_ok_and(|text| text.as_str() == want && is_borrowed(&text) == is_plain));
+    Ok(())
+}
+
+#[test]
+fn contents_in_utf8(rt: HostRuntime) -> Result<(), Fail> {
+    let alloc = rt.alloc();
+    for (content, want) in [
+        ("", ""),
+        ("caf\u{e9}", "caf\u{e9}"),
+        ("\u{e9}\\n\u{e9}\\u00e9", "\u{e9}\n\u{e9}\u{e9}"),
+        ("\\ud83d\\ude00", "\u{1f600}"),
+    ] {
+        expect_unchecked(&rt, alloc, content, want)?;
     }
     Ok(())
 }

@@ -1,4 +1,4 @@
-use Rattle.std.proofs.Common.{◌≡◌, ◌≤◌, ℕ, List, Option, Some, None, Result, Ok, Err, Bor, sym, ap, ◌∙◌, arith}
+use Rattle.std.proofs.Common.{◌≡◌, ℕ, List, Some, Result, Ok, Err, Bor, sym, ap, ◌∙◌, arith}
 use Rattle.std.specs.Prelude.{slice_range, IsUtf8, IfOk, IfSome}
 use Rattle.std.specs.Result.{result_ok}
 use Rattle.facet_json.specs.declared.token.ScanError.{ScanError}
@@ -11,7 +11,7 @@ pub returns-then-run_end-end-clause-borrowed : goal.returns-then-run_end-end-cla
 returns-then-run_end-end-clause-borrowed c =
     let ends = c.run_end.ensures in
     λ is. backslash-inside c.args.buf.now c.args.start c.run_end.result c.args.end ends.ahead c.if-run_end-end.true
-        c.requires.in_range (ends.stops c.if-run_end-end.true) is.0
+    c.requires.in_range (ends.stops c.if-run_end-end.true) is.0
 
 -- Plain bytes that are text are their own text.
 own-text : (content : List ℕ) (r : Result (Bor (List ℕ)) ScanError) → IsPlain content →

@@ -1,6 +1,5 @@
 -- A backslash and a byte other than `u`, or a backslash alone.
-use Rattle.std.proofs.Common.{◌≡◌, Some, refl}
-use Rattle.facet_json.specs.Decode.{piece_at, short_escape, short_of}
+use Rattle.std.proofs.Common.{refl}
 use Rattle.facet_json.proofs.EscapeSteps.{piece_at-lone, piece_at-short}
 use Rattle.facet_json.proofs.Offsets.{slice_get-from_read}
 use Rattle.facet_json.proofs.decode.escape.escape_at.Goals as goal

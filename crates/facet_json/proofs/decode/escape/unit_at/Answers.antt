@@ -1,6 +1,6 @@
-use Rattle.std.proofs.Common.{◌≡◌, ◌≤◌, length, drop, Some, None, true, false, sym, ap, ◌∙◌, arith}
+use Rattle.std.proofs.Common.{◌≡◌, drop, Some, None, true, false, sym, ap, ◌∙◌}
 use Rattle.std.proofs.lemmas.Result.{err_from_is_err_and}
-use Rattle.facet_json.specs.Decode.{piece_at, is_high_surrogate, low_at, unit_of}
+use Rattle.facet_json.specs.Decode.{piece_at, is_high_surrogate, low_at}
 use Rattle.facet_json.proofs.EscapeSteps.{piece_at-cut, piece_at-unit, unit_of-scalar, unit_of-low, unit_of-high}
 use Rattle.facet_json.proofs.decode.escape.unit_at.Goals as goal
 

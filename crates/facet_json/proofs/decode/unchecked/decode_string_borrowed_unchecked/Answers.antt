@@ -8,7 +8,7 @@ pub returns-then-run_end-end-clause-borrowed : goal.returns-then-run_end-end-cla
 returns-then-run_end-end-clause-borrowed c =
     let ends = c.run_end.ensures in
     λ is. backslash-inside c.args.buf.now c.args.start c.run_end.result c.args.end ends.ahead c.if-run_end-end.true
-        c.requires.in_range (ends.stops c.if-run_end-end.true) is.0
+    c.requires.in_range (ends.stops c.if-run_end-end.true) is.0
 
 pub returns-clause-text : goal.returns-clause-text
 returns-clause-text c =
