@@ -1,4 +1,5 @@
--- The steps of a reader that decodes run by run (specs/Decode.antt): what a run of plain bytes and an escape add to a text.
+-- The steps of a reader that decodes run by run (specs/Decode.antt): what a run of plain bytes and an escape add to
+-- a text.
 use Rattle.std.proofs.Common.{◌≡◌, ◌≢◌, ℕ, ◌+◌, ◌-◌, ◌<◌, ◌≤◌, true, false, List, [], ◌∷◌, ◌++◌, length, take, drop, get_or, slice_get, Option, Some, None, option_map, refl, sym, ap, ◌∙◌, append_assoc, append-nil, arith}
 use Rattle.std.specs.Prelude.{◌==◌, IsUtf8, slice_range}
 use Rattle.std.specs.List.{list_any}
@@ -95,7 +96,8 @@ cuts (x ∷ a) b (y ∷ c) d e =
     by same (second_in_first z m p q) = second_in_first z m (rw (same, p) refl) q
 
 -- A backslash is no part of plain bytes.
-not-plain : (c : ℕ) (run m : List ℕ) (x : ℕ) → (c == backslash) ≡ false → encode_utf8 c ≡ run ++ x ∷ m → x ≡ backslash → ⊥
+not-plain : (c : ℕ) (run m : List ℕ) (x : ℕ) → (c == backslash) ≡ false → encode_utf8 c ≡ run ++ x ∷ m →
+    x ≡ backslash → ⊥
 not-plain c run m x ne e is =
     let whole = rw e at (encoded-plain c ne) in
     let parts = plain-parts run (x ∷ m) whole in
@@ -131,12 +133,13 @@ run-piece _ others v b run rest (unit h i j k u is high low) later e plain ends 
 run-piece _ others v b run rest (pair h i j k high s t x y low p q m n) later e plain ends = cc
 
 -- A plain run in front of nothing or a backslash is text, where the whole has a text.
-run-text : (content text run rest : List ℕ) → Decodes content text → content ≡ run ++ rest → IsPlain run → EndsRun rest →
-    IsUtf8 run
+run-text : (content text run rest : List ℕ) → Decodes content text → content ≡ run ++ rest → IsPlain run →
+    EndsRun rest → IsUtf8 run
 run-text _ _ run rest empty e plain ends = rw (empty-front run rest e) IsUtf8-nil
 run-text _ _ [] rest (piece first others content c later text is behind f g) e plain ends = IsUtf8-nil
 run-text _ _ (b ∷ run) rest (piece first others content c later text is behind f g) e plain ends =
-    run-piece first others c b run rest is (λ m q p. run-text others later m rest behind q p ends) (sym f ∙ e) plain ends
+    let next = λ (m : List ℕ) (q : others ≡ m ++ rest) (p : IsPlain m). run-text others later m rest behind q p ends in
+    run-piece first others c b run rest is next (sym f ∙ e) plain ends
 
 -- A plain run that is no text stands for nothing, whatever the text of what follows.
 pub decoded-broken : (run rest : List ℕ) → IsPlain run → (IsUtf8 run → ⊥) → EndsRun rest → decoded (run ++ rest) ≡ None
@@ -159,12 +162,15 @@ range-append buf at stop end a b =
     let size : end - at ≡ k + j = omega arith in
     let place : at + k ≡ stop = omega arith in
     let less : k ≤ end - at = omega arith in
-    let last = ap (λ n. drop k (take n m)) size ∙ drop-take k j m ∙ ap (take j) (drop-drop k at buf ∙ ap (λ n. drop n buf) place) in
-    sym (take-append-drop k (take (end - at) m)) ∙ ap (λ l. l ++ drop k (take (end - at) m)) (take-take k (end - at) m less)
+    let rest = drop k (take (end - at) m) in
+    let moved = drop-drop k at buf ∙ ap (λ n. drop n buf) place in
+    let last = ap (λ n. drop k (take n m)) size ∙ drop-take k j m ∙ ap (take j) moved in
+    sym (take-append-drop k (take (end - at) m)) ∙ ap (λ l. l ++ rest) (take-take k (end - at) m less)
     ∙ ap (λ l. take k m ++ l) last
 
 -- What is left of a range behind some of its bytes.
-pub range-drop : (buf : List ℕ) (n at end : ℕ) → at + n ≤ end → drop n (slice_range buf at end) ≡ slice_range buf (at + n) end
+pub range-drop : (buf : List ℕ) (n at end : ℕ) → at + n ≤ end →
+    drop n (slice_range buf at end) ≡ slice_range buf (at + n) end
 range-drop buf n at end h =
     let j = end - (at + n) in
     let size : end - at ≡ n + j = omega arith in
@@ -176,7 +182,8 @@ pub range-first : (buf : List ℕ) (at end b : ℕ) → at < end → end ≤ len
 range-first buf at end b lt h is =
     let some : 0 < length (slice_range buf at end) = omega (arith, length-between buf at end h) in
     let same : at + 0 ≡ at = omega arith in
-    slice_get-get_or (slice_range buf at end) 0 0 some ∙ ap Some (get_or-between buf at end 0 0 (omega arith) ∙ ap (λ n. get_or buf n 0) same ∙ is)
+    let byte = get_or-between buf at end 0 0 (omega arith) ∙ ap (λ n. get_or buf n 0) same ∙ is in
+    slice_get-get_or (slice_range buf at end) 0 0 some ∙ ap Some byte
 
 -- A range whose first byte is a backslash, if it has one, may stand behind a run.
 range-ends : (buf : List ℕ) (at end : ℕ) → end ≤ length buf → (at < end → get_or buf at 0 ≡ backslash) →
@@ -217,12 +224,13 @@ pub step-run : (buf whole out next : List ℕ) (at stop end : ℕ) → at ≤ st
 step-run buf whole out next at stop end a b plain is e f =
     let run = slice_range buf at stop in
     let rest = slice_range buf stop end in
-    e ∙ ap (λ l. behind out (decoded l)) (range-append buf at stop end a b) ∙ ap (behind out) (decoded-run run rest plain is)
-    ∙ behind-behind out run (decoded rest) ∙ ap (λ l. behind l (decoded rest)) (sym f)
+    e ∙ ap (λ l. behind out (decoded l)) (range-append buf at stop end a b)
+    ∙ ap (behind out) (decoded-run run rest plain is) ∙ behind-behind out run (decoded rest) ∙ ap (λ l. behind l (decoded rest)) (sym f)
 
 -- A run that is no text stops.
 pub step-broken : (buf whole out : List ℕ) (at stop end : ℕ) → at ≤ stop → stop ≤ end → end ≤ length buf →
-    IsPlain (slice_range buf at stop) → (IsUtf8 (slice_range buf at stop) → ⊥) → (stop < end → get_or buf stop 0 ≡ backslash) →
+    IsPlain (slice_range buf at stop) → (IsUtf8 (slice_range buf at stop) → ⊥) →
+    (stop < end → get_or buf stop 0 ≡ backslash) →
     decoded whole ≡ behind out (decoded (slice_range buf at end)) → decoded whole ≡ None
 step-broken buf whole out at stop end a b h plain none is e =
     let run = slice_range buf at stop in
@@ -232,7 +240,8 @@ step-broken buf whole out at stop end a b h plain none is e =
 
 -- A piece is passed.
 pub step-found : (buf whole out next : List ℕ) (stop end c n : ℕ) → stop + n ≤ end →
-    piece_at (slice_range buf stop end) ≡ Some (c, n) → decoded whole ≡ behind out (decoded (slice_range buf stop end)) →
+    piece_at (slice_range buf stop end) ≡ Some (c, n) →
+    decoded whole ≡ behind out (decoded (slice_range buf stop end)) →
     next ≡ out ++ encode_utf8 c → decoded whole ≡ behind next (decoded (slice_range buf (stop + n) end))
 step-found buf whole out next stop end c n h found e f =
     e ∙ ap (behind out) (decoded-found (slice_range buf stop end) c n found)
@@ -260,5 +269,6 @@ pub step-end : (buf whole out : List ℕ) (stop end : ℕ) → stop ≡ end →
     decoded whole ≡ behind out (decoded (slice_range buf stop end)) → decoded whole ≡ Some out
 unfolding decoded_past
 step-end buf whole out stop end same e =
-    e ∙ ap (λ n. behind out (decoded (slice_range buf n end))) same ∙ ap (λ l. behind out (decoded l)) (between_none buf end)
+    e ∙ ap (λ n. behind out (decoded (slice_range buf n end))) same
+    ∙ ap (λ l. behind out (decoded l)) (between_none buf end)
     ∙ ap Some (append-nil out)

@@ -33,7 +33,8 @@ piece_at-cut (s ∷ []) h e short = cc
 piece_at-cut (s ∷ t ∷ []) h e short = let is : s ≡ backslash = cc in let u : t ≡ lower_u = cc in rw (is, u) refl
 piece_at-cut (s ∷ t ∷ a ∷ []) h e short = let is : s ≡ backslash = cc in let u : t ≡ lower_u = cc in rw (is, u) refl
 piece_at-cut (s ∷ t ∷ a ∷ b ∷ []) h e short = let is : s ≡ backslash = cc in let u : t ≡ lower_u = cc in rw (is, u) refl
-piece_at-cut (s ∷ t ∷ a ∷ b ∷ c ∷ []) h e short = let is : s ≡ backslash = cc in let u : t ≡ lower_u = cc in rw (is, u) refl
+piece_at-cut (s ∷ t ∷ a ∷ b ∷ c ∷ []) h e short =
+    let is : s ≡ backslash = cc in let u : t ≡ lower_u = cc in rw (is, u) refl
 piece_at-cut (s ∷ t ∷ a ∷ b ∷ c ∷ d ∷ l) h e short = absurd (omega arith)
 
 -- the number of the four digits from an offset on
@@ -62,7 +63,8 @@ unit_of-scalar bytes u high is = let low : is_low_surrogate u ≡ false = grind 
 -- The second half of a pair stands for nothing alone.
 pub unit_of-low : (bytes : List ℕ) (u : ℕ) → is_high_surrogate u ≡ false → u < 0x10000 → OutOfScalarRange u →
     unit_of bytes (Some u) ≡ None
-unit_of-low bytes u high small out = let low : is_low_surrogate u ≡ true = grind (arith, nat_tests) in rw (high, low) refl
+unit_of-low bytes u high small out =
+    let low : is_low_surrogate u ≡ true = grind (arith, nat_tests) in rw (high, low) refl
 
 -- The first half of a pair is found by what stands behind it.
 pub unit_of-high : (bytes : List ℕ) (u : ℕ) → is_high_surrogate u ≡ true → unit_of bytes (Some u) ≡ low_at u bytes

@@ -61,8 +61,9 @@ piece-IsUtf8 _ v (pair a b c d high e f g h low is is_high same is_low) =
     ascii-cons backslash _ (omega arith) (ascii-cons lower_u _ (omega arith) (unit-cons a b c d high _ is second))
 
 -- What stands behind a piece of a text is text.
-pub found-IsUtf8 : (buf : List ℕ) (stop end c n : ℕ) → stop + n ≤ end → piece_at (slice_range buf stop end) ≡ Some (c, n) →
-    IsUtf8 (slice_range buf stop end) → IsUtf8 (slice_range buf (stop + n) end)
+pub found-IsUtf8 : (buf : List ℕ) (stop end c n : ℕ) → stop + n ≤ end →
+    piece_at (slice_range buf stop end) ≡ Some (c, n) → IsUtf8 (slice_range buf stop end) →
+    IsUtf8 (slice_range buf (stop + n) end)
 found-IsUtf8 buf stop end c n h found is =
     let l = slice_range buf stop end in
     let front = piece_at-fronts l c n found in

@@ -1,4 +1,5 @@
--- What the decoders of strings answer: the one file of their definitions that names types of the code.
+-- What the decoders of strings answer (RFC 8259, section 7): the one file of their definitions that names types of
+-- the code. What a content stands for is next door, in Decode.antt.
 use Rattle.std.specs.Prelude.{◌≡◌, ◌==◌, ℕ, ◌+◌, ◌-◌, ◌≤◌, Bool, false, List, None, slice_range, IsUtf8}
 use Rattle.std.specs.List.{list_any}
 use Rattle.facet_json.specs.declared.span.Span.{Span}
@@ -22,9 +23,11 @@ IsWithin start finish s = (start ≤ s.offset) × (s.offset + s.len ≤ finish)
 
 -- A content without a text is refused with bytes of its own.
 abbrev pub RefusesContent : List ℕ → ℕ → ℕ → DecodeError → Type 0
-RefusesContent buffer start finish (Scan e) = (decoded (slice_range buffer start finish) ≡ None) × IsWithin start finish e.span
+RefusesContent buffer start finish (Scan e) =
+    (decoded (slice_range buffer start finish) ≡ None) × IsWithin start finish e.span
 RefusesContent buffer start finish OutOfMemory = Unit {0}
 
 -- the refusal of a whole content as no UTF-8
 abbrev pub whole_refused : ℕ → ℕ → DecodeError
-whole_refused start finish = Scan (record { kind = InvalidUtf8; span = record { offset = start; len = finish - start } })
+whole_refused start finish =
+    Scan (record { kind = InvalidUtf8; span = record { offset = start; len = finish - start } })

@@ -137,9 +137,11 @@ pub fn decode_string<'b>(
     requires in_order { start ≤ end }
     requires in_range { end ≤ length buf.now }
     ensures text { IfOk result (λ c. decoded (slice_range buf.now start end) ≡ Some (cow_str_bytes c)) }
-    ensures owned { has_escapes ≡ true → MatchResult result (λ c. IsOwnedStr c) (λ e. RefusesContent buf.now start end e) }
+    ensures owned { has_escapes ≡ true
+        → MatchResult result (λ c. IsOwnedStr c) (λ e. RefusesContent buf.now start end e) }
     ensures borrowed { has_escapes ≡ false → MatchResult result
-        (λ c. IsBorrowedStr c × (cow_str_bytes c ≡ slice_range buf.now start end) × IsItsText (slice_range buf.now start end))
+        (λ c. IsBorrowedStr c × (cow_str_bytes c ≡ slice_range buf.now start end)
+        × IsItsText (slice_range buf.now start end))
         (λ e. (e ≡ whole_refused start end) × (IsItsText (slice_range buf.now start end) → ⊥)) }
 {
     if has_escapes {

@@ -53,7 +53,7 @@ fn short_at(byte: u8, at: usize) -> Result<Escape, ScanError>
     })
 }
 
-/// The ASCII character that stands behind a backslash as this byte: the byte itself, where it has no meaning of its own.
+/// The ASCII character that a backslash and this byte stand for: the byte itself, where it has no meaning of its own.
 #[tactic(auto, unfolding(crate::specs::Decode::short_escape))]
 fn short_escape(byte: u8) -> u8
     requires { byte < 0x80 }

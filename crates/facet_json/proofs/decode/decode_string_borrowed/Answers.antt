@@ -23,4 +23,6 @@ pub returns-clause-text : goal.returns-clause-text
 returns-clause-text c =
     let whole : c.run_end.result ≡ c.args.end = omega (arith, c.run_end.ensures.within) in
     let plain = rw whole at c.run_end.ensures.plain in
-    rw c.ok.ensures.value (own-text (slice_range c.args.buf.now c.args.start c.args.end) c.run_at.result plain c.run_at.ensures.text)
+    let content = slice_range c.args.buf.now c.args.start c.args.end in
+    let own = own-text content c.run_at.result plain c.run_at.ensures.text in
+    rw c.ok.ensures.value own

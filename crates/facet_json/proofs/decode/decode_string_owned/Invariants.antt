@@ -9,7 +9,8 @@ abbrev pub invariant-loop-text : goal.invariant-loop-text
 invariant-loop-text l = record {
   ahead : l.start ≤ l.at;
   within : l.at ≤ l.end;
-  so_far : decoded (slice_range l.buf l.start l.end) ≡ behind (string_bytes l.text) (decoded (slice_range l.buf l.at l.end));
+  so_far : decoded (slice_range l.buf l.start l.end)
+      ≡ behind (string_bytes l.text) (decoded (slice_range l.buf l.at l.end));
 }
 
 abbrev pub decreases-loop-text : goal.decreases-loop-text

@@ -6,14 +6,16 @@ use Rattle.facet_json.proofs.decode.escape.escape_at.Goals as goal
 
 pub returns-in-Some-clause-found : goal.returns-in-Some-clause-found
 returns-in-Some-clause-found c =
-    let second = slice_get-from_read c.args.rest.now 1 c.in-Some.byte.now c.in-Some.byte.now c.in-Some.ensures.lookup.3 refl in
-    let found = piece_at-short c.args.rest.now c.in-Some.byte.now c.requires.backslash second c.in-Some.byte-test.1 in
+    let byte = c.in-Some.byte.now in
+    let second = slice_get-from_read c.args.rest.now 1 byte byte c.in-Some.ensures.lookup.3 refl in
+    let found = piece_at-short c.args.rest.now byte c.requires.backslash second c.in-Some.byte-test.1 in
     simp found c.short_at.ensures.found
 
 pub returns-in-Some-clause-none : goal.returns-in-Some-clause-none
 returns-in-Some-clause-none c =
-    let second = slice_get-from_read c.args.rest.now 1 c.in-Some.byte.now c.in-Some.byte.now c.in-Some.ensures.lookup.3 refl in
-    let found = piece_at-short c.args.rest.now c.in-Some.byte.now c.requires.backslash second c.in-Some.byte-test.1 in
+    let byte = c.in-Some.byte.now in
+    let second = slice_get-from_read c.args.rest.now 1 byte byte c.in-Some.ensures.lookup.3 refl in
+    let found = piece_at-short c.args.rest.now byte c.requires.backslash second c.in-Some.byte-test.1 in
     simp found c.short_at.ensures.none
 
 pub returns-in-None-clause-none : goal.returns-in-None-clause-none

@@ -14,4 +14,5 @@ pub returns-clause-text : goal.returns-clause-text
 returns-clause-text c =
     let whole : c.run_end.result ≡ c.args.end = omega (arith, c.run_end.ensures.within) in
     let plain = rw whole at c.run_end.ensures.plain in
-    decoded-plain (slice_range c.args.buf.now c.args.start c.args.end) plain c.requires.utf8 ∙ ap Some (sym c.text_at.ensures)
+    let own = decoded-plain (slice_range c.args.buf.now c.args.start c.args.end) plain c.requires.utf8 in
+    own ∙ ap Some (sym c.text_at.ensures)

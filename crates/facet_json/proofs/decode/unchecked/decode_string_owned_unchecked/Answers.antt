@@ -45,7 +45,7 @@ returns-then-stop-end-clause-only c =
 pub escape_at-requires-clause-backslash : goal.escape_at-requires-clause-backslash
 escape_at-requires-clause-backslash c =
     let lt : c.run_end-stop.result < c.args.end = omega (arith, c.run_end-stop.ensures.within) in
-    range-first c.args.buf.now c.run_end-stop.result c.args.end backslash lt c.requires.in_range (c.run_end-stop.ensures.stops lt)
+    range-first _ _ _ backslash lt c.requires.in_range (c.run_end-stop.ensures.stops lt)
 
 pub returns-in_err-escape-clause-refused : goal.returns-in_err-escape-clause-refused
 returns-in_err-escape-clause-refused c =
@@ -58,7 +58,7 @@ returns-in_err-escape-clause-refused c =
     let own = c.in_err-escape.ensures.within in
     let size = length-between c.args.buf.now c.run_end-stop.result c.args.end c.requires.in_range in
     let within : IsWithin c.args.start c.args.end c.in_err-escape.field-0.0.span =
-        (omega (arith, own.0), omega (arith, own.1)) in
+    (omega (arith, own.0), omega (arith, own.1)) in
     let r = c.from_residual-in_err-escape in
     let p = err_from_is_err_and r.result r.ensures.1 in
     rw (p.1, p.2) (none, within)
@@ -77,23 +77,26 @@ returns-in_err-escape-clause-only c =
 pub overflow_add-at : goal.overflow_add-at
 overflow_add-at c =
     let escape = c.in_ok-escape.escape in
-    let within = found-within _ _ _ escape.character _ c.run_end-stop.ensures.within c.requires.in_range c.in_ok-escape.ensures.found in
+    let found = c.in_ok-escape.ensures.found in
+    let within = found-within _ _ _ escape.character _ c.run_end-stop.ensures.within c.requires.in_range found in
     omega arith
 
 pub loop-text-smaller : goal.loop-text-smaller
 loop-text-smaller c =
     let escape = c.in_ok-escape.escape in
-    let within = found-within _ _ _ escape.character _ c.run_end-stop.ensures.within c.requires.in_range c.in_ok-escape.ensures.found in
+    let found = c.in_ok-escape.ensures.found in
+    let within = found-within _ _ _ escape.character _ c.run_end-stop.ensures.within c.requires.in_range found in
     omega arith
 
 pub loop-text-preserved : goal.loop-text-preserved
 loop-text-preserved c =
     let escape = c.in_ok-escape.escape in
-    let within = found-within _ _ _ escape.character _ c.run_end-stop.ensures.within c.requires.in_range c.in_ok-escape.ensures.found in
+    let found = c.in_ok-escape.ensures.found in
+    let within = found-within _ _ _ escape.character _ c.run_end-stop.ensures.within c.requires.in_range found in
     let ends = c.run_end-stop.ensures in
     let runs = run-IsUtf8 _ _ _ _ ends.ahead ends.within c.requires.in_range ends.stops c.loop-text.invariant.utf8 in
     let pushed = c.in_ok-push_str.ensures.bytes ∙ ap (λ l. string_bytes c.loop-text.text ++ l) c.text_at.ensures in
     let passed = step-run _ _ _ _ _ _ _ ends.ahead ends.within ends.plain runs.0 c.loop-text.invariant.so_far pushed in
-    let found = step-found _ _ _ _ _ _ _ _ within.1 c.in_ok-escape.ensures.found passed c.in_ok-push.ensures.bytes in
-    let later = found-IsUtf8 _ _ _ escape.character _ within.1 c.in_ok-escape.ensures.found runs.1 in
-    record { ahead = omega arith; within = within.1; utf8 = later; so_far = found }
+    let next = step-found _ _ _ _ _ _ _ _ within.1 found passed c.in_ok-push.ensures.bytes in
+    let later = found-IsUtf8 _ _ _ escape.character _ within.1 found runs.1 in
+    record { ahead = omega arith; within = within.1; utf8 = later; so_far = next }
