@@ -1,4 +1,4 @@
--- The parts of a number from the offsets where they end.
+-- The parts of a number from the offsets where they end, and the token that has them.
 use Rattle.std.proofs.Common.{◌≡◌, ℕ, ◌+◌, ◌-◌, false, List, drop, refl, ap, ap₂, sym, ◌∙◌, arith}
 use Rattle.std.proofs.lemmas.List.{drop-drop}
 use Rattle.facet_json.specs.Number.{Hint, minus_len, digits_len, fraction_len, exponent_len, Parts, parts, parts_len, parts_hint, is_bare}

@@ -1,4 +1,4 @@
--- What the text of a number stands for: the value of its digits, or with a dot or an exponent mark the text itself.
+-- What the text of a number stands for: the value of its digits, or with a dot or an exponent mark the text.
 use Rattle.std.proofs.Common.{◌≡◌, ℕ, zero, suc, ◌+◌, ◌-◌, ◌*◌, ◌<◌, ◌≤◌, Bool, true, false, cond, List, [], ◌∷◌, ◌++◌, length, take, drop, get_or, Some, None, refl, sym, ap, ◌∙◌, subst, inl, inr, lit<, arith, length-drop}
 use Rattle.std.specs.Prelude.{not, nat_le, ◌==◌, ◌||◌, IsUtf8}
 use Rattle.std.specs.List.{list_any}
@@ -86,7 +86,8 @@ unfolding parts
 signed-digits text n e is =
     let m = (is_number-sound text signed is).numeral in
     let whole : text ≡ minus ∷ m.digits =
-    m.whole ∙ digits-behind m.sign m.digits m.fraction m.exponent _ _ _ m.is_minus m.is_fraction m.is_exponent m.kind in
+    m.whole
+    ∙ digits-behind m.sign m.digits m.fraction m.exponent _ _ _ m.is_minus m.is_fraction m.is_exponent m.kind in
     let one : n ≡ 1 = e ∙ ap minus_len whole in
     let rest : drop n text ≡ m.digits = ap (λ k. drop k text) one ∙ ap (drop 1) whole in
     subst AreDigits (sym (range_rest n text ∙ rest)) m.are_digits
@@ -109,19 +110,19 @@ number-float text p e is =
     ap (λ t. cond t (cond (has_value (parts text) text) (Some (decimal text)) None) None) is
     ∙ ap (λ q. cond (has_value q text) (Some (decimal text)) None) (sym e)
 
--- It stands for its text.
+-- A number with a dot or an exponent mark and digits enough stands for its text.
 pub number-decimal : (text : List ℕ) (p : Parts) → p ≡ parts text → is_number text float ≡ true →
     has_value p text ≡ true → number text float ≡ Some (decimal text)
 number-decimal text p e is has =
     number-float text p e is ∙ ap (λ t. cond t (Some (decimal text)) None) has
 
--- It stands for nothing.
+-- A number with a dot or an exponent mark, but too few digits, stands for nothing.
 pub number-no_decimal : (text : List ℕ) (p : Parts) → p ≡ parts text → is_number text float ≡ true →
     has_value p text ≡ false → number text float ≡ None
 number-no_decimal text p e is hasnt =
     number-float text p e is ∙ ap (λ t. cond t (Some (decimal text)) None) hasnt
 
--- Some byte is a digit.
+-- Whether some byte is a digit, said by the test of lists.
 any_digit-is : (bytes : List ℕ) → list_any is_digit bytes ≡ any_digit bytes
 any_digit-is [] = refl
 any_digit-is (b ∷ bytes) = ap (λ t. is_digit b || t) (any_digit-is bytes)
@@ -132,9 +133,9 @@ some_len zero some = absurd (some refl)
 some_len (suc n) some = refl
 
 -- Where a digit stands before an exponent mark, the number has a value if one stands behind it.
-pub has_value-behind : (p : Parts) (text before exponent : List ℕ) → before ≡ take (p.sign + p.digits + p.fraction) text →
-    exponent ≡ drop (p.sign + p.digits + p.fraction) text → list_any is_digit before ≡ true → (p.exponent ≡ 0 → ⊥) →
-    list_any is_digit exponent ≡ has_value p text
+pub has_value-behind : (p : Parts) (text before exponent : List ℕ) →
+    before ≡ take (p.sign + p.digits + p.fraction) text → exponent ≡ drop (p.sign + p.digits + p.fraction) text →
+    list_any is_digit before ≡ true → (p.exponent ≡ 0 → ⊥) → list_any is_digit exponent ≡ has_value p text
 has_value-behind p text before exponent b e some mark =
     let front : any_digit (take (p.sign + p.digits + p.fraction) text) ≡ true =
     sym (any_digit-is before ∙ ap any_digit b) ∙ some in
@@ -166,24 +167,29 @@ sign-ascii b is =
     elim (or_cases (b == minus) (b == plus) is)
     [ inl h ↦ let e = eqb-true b minus h in omega arith | inr h ↦ let e = eqb-true b plus h in omega arith ]
 
+-- Digits are UTF-8.
 digits-IsUtf8 : (bytes : List ℕ) → AreDigits bytes → IsUtf8 bytes
 digits-IsUtf8 _ none = IsUtf8-nil
 digits-IsUtf8 _ (digit b bytes is others) =
     IsUtf8-append (b ∷ []) bytes (ascii-IsUtf8 b (digit-ascii b is)) (digits-IsUtf8 bytes others)
 
+-- A minus or nothing is UTF-8.
 minus-IsUtf8 : (bytes : List ℕ) (has : Bool) → IsMinus bytes has → IsUtf8 bytes
 minus-IsUtf8 _ _ IsMinus.absent = IsUtf8-nil
 minus-IsUtf8 _ _ IsMinus.present = ascii-IsUtf8 minus (lit< tt)
 
+-- A fraction or nothing is UTF-8.
 fraction-IsUtf8 : (bytes : List ℕ) (has : Bool) → IsFraction bytes has → IsUtf8 bytes
 fraction-IsUtf8 _ _ IsFraction.absent = IsUtf8-nil
 fraction-IsUtf8 _ _ (IsFraction.present digits are) =
     IsUtf8-append (dot ∷ []) digits (ascii-IsUtf8 dot (lit< tt)) (digits-IsUtf8 digits are)
 
+-- The sign of an exponent, or nothing, is UTF-8.
 sign-IsUtf8 : (bytes : List ℕ) → IsExponentSign bytes → IsUtf8 bytes
 sign-IsUtf8 _ IsExponentSign.absent = IsUtf8-nil
 sign-IsUtf8 _ (IsExponentSign.present b is) = ascii-IsUtf8 b (sign-ascii b is)
 
+-- An exponent or nothing is UTF-8.
 exponent-IsUtf8 : (bytes : List ℕ) (has : Bool) → IsExponent bytes has → IsUtf8 bytes
 exponent-IsUtf8 _ _ IsExponent.absent = IsUtf8-nil
 exponent-IsUtf8 _ _ (IsExponent.present mark sign digits is s d) =
@@ -195,7 +201,9 @@ exponent-IsUtf8 _ _ (IsExponent.present mark sign digits is s d) =
 pub number-IsUtf8 : (text : List ℕ) (hint : Hint) → is_number text hint ≡ true → IsUtf8 text
 number-IsUtf8 text hint is =
     let n = (is_number-sound text hint is).numeral in
-    let front = IsUtf8-append n.sign n.digits (minus-IsUtf8 n.sign n.has_minus n.is_minus) (digits-IsUtf8 n.digits n.are_digits) in
+    let front =
+    IsUtf8-append n.sign n.digits (minus-IsUtf8 n.sign n.has_minus n.is_minus) (digits-IsUtf8 n.digits n.are_digits)
+    in
     let whole =
     IsUtf8-append (n.sign ++ n.digits) n.fraction front (fraction-IsUtf8 n.fraction n.has_fraction n.is_fraction) in
     subst IsUtf8 (sym n.whole)

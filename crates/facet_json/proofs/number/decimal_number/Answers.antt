@@ -1,4 +1,3 @@
-use Rattle.std.proofs.Common.{sym, ap, ◌∙◌}
 use Rattle.facet_json.specs.Number.{float}
 use Rattle.facet_json.proofs.NumberText.{number-IsUtf8}
 use Rattle.facet_json.proofs.number.decimal_number.Goals as goal

@@ -26,4 +26,5 @@ returns c =
     let h = hint_of c.hint.result in
     let more = sym c.is_bare.ensures ∙ c.if-is_bare.false in
     c.token_at.ensures (number at (at + c.len-len.result) h) refl
-    ∙ ap Some (cut_number-parts q (parts bytes) rest h at c.len-len.result c.parts_at-parts.ensures.parts c.len-len.ensures c.hint.ensures more)
+    ∙ ap Some (cut_number-parts q (parts bytes) rest h at c.len-len.result c.parts_at-parts.ensures.parts
+    c.len-len.ensures c.hint.ensures more)

@@ -1,5 +1,5 @@
 use Rattle.std.proofs.Common.{◌≡◌, true, false, refl, sym, ◌∙◌}
-use Rattle.facet_json.specs.Number.{float, has_value}
+use Rattle.facet_json.specs.Number.{has_value}
 use Rattle.facet_json.specs.NumberViews.{parts_of}
 use Rattle.facet_json.proofs.NumberText.{number-decimal, number-no_decimal}
 use Rattle.facet_json.proofs.decimal.Decimal.from_number.Goals as goal
