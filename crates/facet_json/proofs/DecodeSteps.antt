@@ -113,7 +113,7 @@ empty-front : (run rest : List ℕ) → [] ≡ run ++ rest → run ≡ []
 empty-front [] rest e = refl
 empty-front (b ∷ run) rest e = cc
 
--- The same for a run that is not empty, where it holds behind the first piece.
+-- A plain run whose bytes behind the first piece are text is text.
 run-piece : (first others : List ℕ) (c b : ℕ) (run rest : List ℕ) → Piece first c →
     ((m : List ℕ) → others ≡ m ++ rest → IsPlain m → IsUtf8 m) → first ++ others ≡ (b ∷ run) ++ rest →
     IsPlain (b ∷ run) → EndsRun rest → IsUtf8 (b ∷ run)
@@ -225,7 +225,8 @@ step-run buf whole out next at stop end a b plain is e f =
     let run = slice_range buf at stop in
     let rest = slice_range buf stop end in
     e ∙ ap (λ l. behind out (decoded l)) (range-append buf at stop end a b)
-    ∙ ap (behind out) (decoded-run run rest plain is) ∙ behind-behind out run (decoded rest) ∙ ap (λ l. behind l (decoded rest)) (sym f)
+    ∙ ap (behind out) (decoded-run run rest plain is) ∙ behind-behind out run (decoded rest)
+    ∙ ap (λ l. behind l (decoded rest)) (sym f)
 
 -- A run that is no text stops.
 pub step-broken : (buf whole out : List ℕ) (at stop end : ℕ) → at ≤ stop → stop ≤ end → end ≤ length buf →

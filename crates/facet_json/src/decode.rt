@@ -1,4 +1,5 @@
-//! Strings' contents to text (RFC 8259, section 7), in one pass.
+//! Strings' contents to text (RFC 8259, section 7), in one pass: runs of bytes up to a backslash are checked and copied
+//! whole, and escapes between them are read one by one, in `escape`.
 
 ghost use Rattle.std.specs.Prelude.{◌≡◌, ℕ, ◌+◌, ◌≤◌, ◌<◌, List, Some, None, true, false, length, slice_range, slice_index, string_bytes, IfOk, IfErr, IfSome, IsUtf8, MatchOption, MatchResult};
 ghost use Rattle.std.specs.Cow.{cow_str_bytes, IsOwnedStr, IsBorrowedStr};
@@ -45,7 +46,17 @@ impl From<AllocError> for DecodeError {
     }
 }
 
-/// Decodes the content of a string (RFC 8259, section 7) that stands in `buf[start..end]`, between its quotes.
+/// Decodes the content of a string (RFC 8259, section 7) that stands in `buf[start..end]`, between its quotes. A
+/// backslash in front of an ASCII character without an escape is passed over. A refusal is about the first thing from
+/// the left that has no text, with offsets of `buf`; it takes room for `end - start` bytes at once.
+///
+/// ```text
+/// decode_string_owned(alloc, br"caf\u00e9\n", 0, 11)   Ok: "café" and a line feed
+/// decode_string_owned(alloc, br"\q", 0, 2)             Ok: "q"
+/// decode_string_owned(alloc, br"\ud800", 0, 6)         Err: InvalidUtf8, span 0+6
+/// decode_string_owned(alloc, br"\u+123", 0, 6)         Err: UnexpectedChar('?'), span 2+4
+/// decode_string_owned(alloc, br"a\u12", 0, 5)          Err: UnexpectedEof("in unicode escape"), span 1+4
+/// ```
 pub fn decode_string_owned(
     alloc: Global,
     buf: &[u8],

@@ -43,6 +43,7 @@ fn contents_stand_for_texts(rt: HostRuntime) -> Result<(), Fail> {
         ("a\\b\\f\\n\\r\\tz", "a\u{8}\u{c}\n\r\tz"),
         ("\\\"\\\\\\/", "\"\\/"),
         ("\\q", "q"),
+        ("caf\\u00e9\\n", "caf\u{e9}\n"),
         ("\\u0048\\u0065\\u006C\\u006C\\u006F", "Hello"),
         ("\\uD83D\\uDE00", "\u{1f600}"),
         ("\\ud83d\\ude00!", "\u{1f600}!"),
@@ -70,6 +71,8 @@ fn broken_escapes(rt: HostRuntime) -> Result<(), Fail> {
         b"\\ud800\\u00zz",
         Err(refused(low_digits, 8, 4)),
     )?;
+    let behind_letter = ScanErrorKind::UnexpectedEof("in unicode escape");
+    expect(&rt, alloc, b"a\\u12", Err(refused(behind_letter, 1, 4)))?;
     let behind_run = ScanErrorKind::UnexpectedEof("in unicode escape");
     expect(&rt, alloc, b"ab\\t\\u", Err(refused(behind_run, 4, 2)))?;
     Ok(())
