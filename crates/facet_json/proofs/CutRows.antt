@@ -1,14 +1,15 @@
 -- Single inputs with what is cut of them, their tokens, and whether more bytes may change what is cut, by computation.
 -- In the texts of this file a backslash or a quote stands behind a backslash of its own.
-use Rattle.std.proofs.Common.{◌≡◌, ◌≢◌, ℕ, ◌⊎◌, inl, inr, Bool, ◌||◌, ◌==◌, true, false, List, [], ◌∷◌, ◌++◌, length, get_or, refl, ap, sym, codes, arith, length-append}
-use Rattle.facet_json.specs.Bytes.{quote, backslash, slash, dot, line_feed, lower_n, lower_t, lower_f}
+use Rattle.std.proofs.Common.{◌≡◌, ◌≢◌, ℕ, true, false, List, [], ◌∷◌, ◌++◌, refl, codes}
+use Rattle.facet_json.specs.Bytes.{slash, dot, line_feed}
 use Rattle.facet_json.specs.Gap.{Mode, plain, jsonc, gap_len_from, OpensBlock, OpensLine}
 use Rattle.facet_json.specs.Number.{unsigned, signed, float, parts}
 use Rattle.facet_json.specs.Token.{Kind, Token, object_start, object_end, array_start, array_end, colon, comma, null, true_literal, string, number, unexpected_char, unexpected_eof, in_string, in_number, in_literal, in_block_comment}
 use Rattle.facet_json.specs.Cut.{ArePieces, IsLiteral, nothing_left, start_of, span_at, token_at, fault_at, cut_here, cut}
 use Rattle.facet_json.specs.Tokens.{ended, refused, next, tokens_past, tokens}
-use Rattle.facet_json.specs.Open.{IsBeginning, IsOpen}
-use Rattle.facet_json.proofs.NumberLaws.{is_number-sound, is_number-complete}
+use Rattle.facet_json.specs.Open.{IsBeginning, IsOpen, is_beginning, is_open}
+use Rattle.facet_json.proofs.NumberLaws.{is_number-sound}
+use Rattle.facet_json.proofs.OpenLaws.{open_is_tested}
 
 -- a token of this kind, with this span
 abbrev token_of : Kind → ℕ → ℕ → Token
@@ -270,96 +271,47 @@ space_in_front_open =
 
 -- ---- where no more bytes do
 
--- No literal begins with the letters of a whole one and one more.
-whole_literal : (word others : List ℕ) (kind : Kind) → IsLiteral word kind → word ≡ codes "true" ++ others → others ≡ []
-whole_literal _ others _ IsLiteral.true_stands e = cc
-whole_literal _ others _ IsLiteral.null_stands e = absurd (omega (arith, ap (λ l. get_or l 0 0) e))
-whole_literal _ others _ IsLiteral.false_stands e = absurd (omega (arith, ap (λ l. get_or l 0 0) e))
-
--- Each literal has one of these letters first.
-first_letter : (b : ℕ) (word rest : List ℕ) (kind : Kind) → IsLiteral word kind → word ≡ b ∷ rest →
-    (b == lower_n) || (b == lower_t) || (b == lower_f) ≡ true
-first_letter b _ rest _ IsLiteral.null_stands e = let same : lower_n ≡ b = cc in rw (sym same) refl
-first_letter b _ rest _ IsLiteral.true_stands e = let same : lower_t ≡ b = cc in rw (sym same) refl
-first_letter b _ rest _ IsLiteral.false_stands e = let same : lower_f ≡ b = cc in rw (sym same) refl
+-- What is tested not to be open isn't.
+closed : (buffer : List ℕ) (position : ℕ) (mode : Mode) → is_open buffer position mode ≡ false →
+    IsOpen buffer position mode → ⊥
+closed buffer position mode e open_there = let tested = (open_is_tested buffer position mode).1 open_there in cc
 
 -- Behind a number stands a byte that isn't part of it.
 number_and_comma_closed : IsOpen (codes "42,") 0 plain → ⊥
-unfolding gap_len_from parts
-number_and_comma_closed (IsBeginning.literal _ _ others kind is s o) =
-    let first = first_letter _ _ _ kind is refl in cc
-number_and_comma_closed (IsBeginning.number _ _ unsigned is) = let e = is_number-complete _ _ is in cc
-number_and_comma_closed (IsBeginning.number _ _ signed is) = let e = is_number-complete _ _ is in cc
-number_and_comma_closed (IsBeginning.number _ _ float is) = let e = is_number-complete _ _ is in cc
+unfolding is_open is_beginning start_of gap_len_from parts
+number_and_comma_closed = closed (codes "42,") 0 plain refl
 
 -- A literal is closed with its last letter.
 literal_closed : IsOpen (codes "true") 0 plain → ⊥
-unfolding gap_len_from parts
-literal_closed (IsBeginning.literal _ _ others kind is s o) = o (whole_literal _ others kind is refl)
-literal_closed (IsBeginning.number _ _ hint is) = let e = is_number-complete _ _ is in cc
-
--- A bracket is closed.
-bracket_closed : IsOpen (codes "[") 0 plain → ⊥
-unfolding gap_len_from parts
-bracket_closed (IsBeginning.literal _ _ others kind is s o) = let first = first_letter _ _ _ kind is refl in cc
-bracket_closed (IsBeginning.number _ _ hint is) = let e = is_number-complete _ _ is in cc
-
--- A slash is closed in plain mode.
-slash_closed : IsOpen (codes "/") 0 plain → ⊥
-unfolding gap_len_from parts
-slash_closed (IsBeginning.literal _ _ others kind is s o) = let first = first_letter _ _ _ kind is refl in cc
-slash_closed (IsBeginning.number _ _ hint is) = let e = is_number-complete _ _ is in cc
-
--- Nothing is no beginning.
-nothing_closed : (mode : Mode) → IsBeginning mode [] → ⊥
-unfolding parts
-nothing_closed mode (IsBeginning.literal _ _ others kind is s o) = s refl
-nothing_closed mode (IsBeginning.number _ _ hint is) = let e = is_number-complete _ _ is in cc
-
--- An empty buffer.
-empty_closed : IsOpen (codes "") 0 plain → ⊥
-unfolding gap_len_from
-empty_closed i = nothing_closed plain i
-
--- A line comment with its line feed is a gap, and nothing is behind it.
-line_comment_closed : IsOpen (codes "//x" ++ line_feed ∷ []) 0 jsonc → ⊥
-unfolding gap_len_from
-line_comment_closed i = nothing_closed jsonc i
-
--- No literal begins with these letters.
-wrong_letter : (word others : List ℕ) (kind : Kind) → IsLiteral word kind → word ≡ codes "trux" ++ others → ⊥
-wrong_letter _ others _ IsLiteral.true_stands e = omega (arith, ap (λ l. get_or l 3 0) e)
-wrong_letter _ others _ IsLiteral.null_stands e = omega (arith, ap (λ l. get_or l 0 0) e)
-wrong_letter _ others _ IsLiteral.false_stands e = omega (arith, ap (λ l. get_or l 0 0) e)
+unfolding is_open is_beginning start_of gap_len_from parts
+literal_closed = closed (codes "true") 0 plain refl
 
 -- A wrong letter is the fault under more bytes too.
 wrong_letter_closed : IsOpen (codes "trux") 0 plain → ⊥
-unfolding gap_len_from parts
-wrong_letter_closed (IsBeginning.literal _ _ others kind is s o) = wrong_letter _ others kind is refl
-wrong_letter_closed (IsBeginning.number _ _ hint is) = let e = is_number-complete _ _ is in cc
-
--- Behind an opening quote stand pieces, perhaps with a backslash at the end.
-behind_quote : (mode : Mode) (bytes : List ℕ) → IsBeginning mode (quote ∷ bytes) →
-    ((has_escapes : Bool) × ArePieces bytes has_escapes) ⊎ ((content : List ℕ) × (bytes ≡ content ++ backslash ∷ []))
-unfolding parts
-behind_quote mode _ (IsBeginning.text _ content has_escapes pieces) = inl (has_escapes, pieces)
-behind_quote mode _ (IsBeginning.escape _ content has_escapes pieces) = inr (content, refl)
-behind_quote mode bytes (IsBeginning.literal _ _ others kind is s o) =
-    let first = first_letter _ _ _ kind is refl in cc
-behind_quote mode bytes (IsBeginning.number _ _ hint is) = let e = is_number-complete _ _ is in cc
-
--- A quote is in no pieces but behind a backslash.
-no_quote : (has_escapes : Bool) → ArePieces (codes "a\"") has_escapes → ⊥
-no_quote _ (ArePieces.byte _ _ _ q s (ArePieces.byte _ _ _ again t others)) = cc
-
--- These bytes don't end with a backslash.
-no_backslash : (content : List ℕ) → codes "a\"" ≡ content ++ backslash ∷ [] → ⊥
-no_backslash [] e = omega (arith, ap length e)
-no_backslash (a ∷ []) e = omega (arith, ap (λ l. get_or l 1 0) e)
-no_backslash (a ∷ b ∷ content) e = let long = ap length e in grind (arith, length-append)
+unfolding is_open is_beginning start_of gap_len_from parts
+wrong_letter_closed = closed (codes "trux") 0 plain refl
 
 -- A string is closed with its quote.
 string_closed : IsOpen (codes "\"a\"") 0 plain → ⊥
-unfolding gap_len_from
-string_closed i =
-    elim (behind_quote plain (codes "a\"") i) [ inl p ↦ no_quote p.0 p.1 | inr c ↦ no_backslash c.0 c.1 ]
+unfolding is_open is_beginning start_of gap_len_from parts
+string_closed = closed (codes "\"a\"") 0 plain refl
+
+-- A bracket stands alone.
+bracket_closed : IsOpen (codes "[") 0 plain → ⊥
+unfolding is_open is_beginning start_of gap_len_from parts
+bracket_closed = closed (codes "[") 0 plain refl
+
+-- In plain mode a slash is a fault, whatever follows it.
+slash_closed : IsOpen (codes "/") 0 plain → ⊥
+unfolding is_open is_beginning start_of gap_len_from parts
+slash_closed = closed (codes "/") 0 plain refl
+
+-- A line comment with its line feed is a gap, and nothing is behind it.
+line_comment_closed : IsOpen (codes "//x" ++ line_feed ∷ []) 0 jsonc → ⊥
+unfolding is_open is_beginning start_of gap_len_from parts
+line_comment_closed = closed (codes "//x" ++ line_feed ∷ []) 0 jsonc refl
+
+-- Nothing is no beginning.
+empty_closed : IsOpen (codes "") 0 plain → ⊥
+unfolding is_open is_beginning start_of gap_len_from parts
+empty_closed = closed (codes "") 0 plain refl

@@ -151,14 +151,14 @@ short-other b c is = by (b == lower_u) refl
     by true e = let none : short_escape b ≡ None = rw (eqb-true b lower_u e) in cc
 
 -- What is found at an escape without digits goes by its byte.
-escape_at-short_of : (b : ℕ) (bytes : List ℕ) (o : Option ℕ) → short_escape b ≡ o → (b == lower_u) ≡ false →
+pub escape_at-short_of : (b : ℕ) (bytes : List ℕ) (o : Option ℕ) → short_escape b ≡ o → (b == lower_u) ≡ false →
     piece_at (backslash ∷ b ∷ bytes) ≡ short_of b o
 unfolding piece_at escape_at
 escape_at-short_of b bytes o is ne =
     ap (λ t. cond t (unit_at bytes) (short_of b (short_escape b))) ne ∙ ap (short_of b) is
 
 -- What is found at an escape with digits goes by what they spell.
-escape_at-unit_of : (a b c d : ℕ) (bytes : List ℕ) (o : Option ℕ) → code_unit a b c d ≡ o →
+pub escape_at-unit_of : (a b c d : ℕ) (bytes : List ℕ) (o : Option ℕ) → code_unit a b c d ≡ o →
     piece_at (backslash ∷ lower_u ∷ a ∷ b ∷ c ∷ d ∷ bytes) ≡ unit_of bytes o
 unfolding piece_at escape_at unit_at
 escape_at-unit_of a b c d bytes o is = ap (unit_of bytes) is
@@ -199,7 +199,7 @@ decodes-step b c (suc n) k bytes rest text fronts is others e =
     piece (take (suc n) (b ∷ bytes)) (drop n bytes) (b ∷ bytes) c rest text fronts.is_piece behind whole e
 
 -- the text of some bytes whose first is followed by these, where the piece at the front is known
-abbrev decoded_by : List ℕ → Option (ℕ × ℕ) → Option (List ℕ)
+abbrev pub decoded_by : List ℕ → Option (ℕ × ℕ) → Option (List ℕ)
 decoded_by bytes o =
     elim o [ None ↦ None | Some p ↦ option_map (λ text. encode_utf8 p.0 ++ text) (decoded_past (p.1 - 1) bytes) ]
 

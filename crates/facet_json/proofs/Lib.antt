@@ -10,6 +10,9 @@ pub mod TokensSteps
 pub mod CharAt
 pub mod DecodeLaws
 pub mod PlainText
+pub mod DecodeSteps
+pub mod Utf8Runs
+pub mod EscapeSteps
 pub mod Scans
 pub mod Misplaced
 pub mod Growth

@@ -17,13 +17,13 @@ abbrev pub IsPlain : List ℕ → Type 0
 IsPlain content = list_any (λ b. b == backslash) content ≡ false
 
 -- Neither part of plain bytes holds a backslash.
-plain-parts : (a b : List ℕ) → IsPlain (a ++ b) → IsPlain a × IsPlain b
+pub plain-parts : (a b : List ℕ) → IsPlain (a ++ b) → IsPlain a × IsPlain b
 plain-parts a b plain =
     let both = sym (list_any-append (λ x. x == backslash) a b) ∙ plain in
     or_parts (list_any (λ x. x == backslash) a) (list_any (λ x. x == backslash) b) both
 
 -- No character of plain bytes is a backslash.
-plain-other : (c : ℕ) → IsPlain (encode_utf8 c) → (c == backslash) ≡ false
+pub plain-other : (c : ℕ) → IsPlain (encode_utf8 c) → (c == backslash) ≡ false
 plain-other c plain = by (c == backslash) refl
   where
     by : (t : Bool) → (c == backslash) ≡ t → t ≡ false

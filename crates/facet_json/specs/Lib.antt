@@ -6,6 +6,7 @@ pub mod Cut
 pub mod Open
 pub mod Tokens
 pub mod Decode
+pub mod Decoders
 pub mod Node
 pub mod Tree
 pub mod Meaning

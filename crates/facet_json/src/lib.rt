@@ -2,6 +2,7 @@
 #![tactic(auto)]
 
 mod decimal;
+mod decode;
 mod error;
 pub mod laws;
 mod materialized;
@@ -19,6 +20,10 @@ mod tree;
 mod writer;
 
 pub use decimal::Decimal;
+pub use decode::{
+    DecodeError, decode_string, decode_string_borrowed, decode_string_borrowed_unchecked,
+    decode_string_owned, decode_string_owned_unchecked, decode_string_unchecked,
+};
 pub use error::{DeserializeError, DeserializeErrorKind};
 pub use mode::Mode;
 pub use number::{ParsedNumber, parse_number, parse_number_unchecked};
