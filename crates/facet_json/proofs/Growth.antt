@@ -8,6 +8,7 @@ use Rattle.facet_json.specs.Gap.{Mode, plain, jsonc, growing, piece_len, gap_len
 use Rattle.facet_json.specs.Number.{starts_number}
 use Rattle.facet_json.specs.Cut.{IsLiteral, nothing_left, Start, punctuation, letter, opens_text, opens_number, opens_comment, opens_nothing, start_of, cut_slash, cut_by, cut_here, past_gap, cut}
 use Rattle.facet_json.specs.Open.{IsBeginning, IsOpen}
+use Rattle.facet_json.specs.Scanner.{past_growing_gap}
 use Rattle.facet_json.specs.Laws.{CutStays}
 use Rattle.facet_json.proofs.GrowthOfGap.{block_begins, gap_len-le, gap_len-ends, gap_len-stays}
 use Rattle.facet_json.proofs.GrowthOfText.{cut_text-stays, cut_word-stays}
@@ -82,12 +83,8 @@ cut_here-stays mode at [] more last shut none = rw (last refl)
 cut_here-stays mode at (b ∷ bytes) more last shut none =
     cut_by-stays (start_of b) mode at b bytes more (start_fits b) shut none
 
--- where the gap of a growing buffer ends
-abbrev past_growing_gap : List ℕ → ℕ → Mode → ℕ
-past_growing_gap buffer position mode = position + gap_len mode growing (drop position buffer)
-
 -- The gap ends where that of the growing buffer does.
-past_gap-stays : (buffer more : List ℕ) (position : ℕ) (mode : Mode) → position ≤ length buffer →
+pub past_gap-stays : (buffer more : List ℕ) (position : ℕ) (mode : Mode) → position ≤ length buffer →
     (IsOpen buffer position mode → ⊥) →
     (drop (past_growing_gap buffer position mode) buffer ≡ [] → more ≡ []) →
     past_gap (buffer ++ more) position mode ≡ past_growing_gap buffer position mode

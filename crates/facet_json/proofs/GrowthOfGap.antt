@@ -47,7 +47,7 @@ opens_block (b ∷ c ∷ bytes) e =
     OpensBlock.more b c bytes none.0 (opens_block (c ∷ bytes) none.1)
 
 -- A line without an end is open.
-opens_line : (bytes : List ℕ) → through_line_end bytes ≡ None → OpensLine bytes
+pub opens_line : (bytes : List ℕ) → through_line_end bytes ≡ None → OpensLine bytes
 opens_line [] e = OpensLine.nothing
 opens_line (b ∷ bytes) e =
     let none = cond-none _ 1 _ e in
@@ -126,7 +126,7 @@ blank_or-none true m n h e = e
 blank_or-none false m n h e = h e
 
 -- A piece of a gap in a growing buffer stays.
-piece_len-keeps : (mode : Mode) (bytes more : List ℕ) (n : ℕ) → piece_len mode growing bytes ≡ suc n →
+pub piece_len-keeps : (mode : Mode) (bytes more : List ℕ) (n : ℕ) → piece_len mode growing bytes ≡ suc n →
     piece_len mode whole (bytes ++ more) ≡ suc n
 piece_len-keeps plain [] more n e = cc
 piece_len-keeps plain (b ∷ bytes) more n e = e

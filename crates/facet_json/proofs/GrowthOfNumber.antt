@@ -229,13 +229,13 @@ one_or_none true n e = (refl, omega arith)
 one_or_none false n e = cc
 
 -- Bytes that are nothing but a minus.
-bare_is_minus : (b : ℕ) (bytes : List ℕ) → length (b ∷ bytes) ≡ (parts (b ∷ bytes)).sign → b ∷ bytes ≡ minus ∷ []
+pub bare_is_minus : (b : ℕ) (bytes : List ℕ) → length (b ∷ bytes) ≡ (parts (b ∷ bytes)).sign → b ∷ bytes ≡ minus ∷ []
 unfolding parts
 bare_is_minus b [] e = rw (eqb-true b minus (one_or_none (b == minus) 0 e).0)
 bare_is_minus b (c ∷ bytes) e = let none = one_or_none (b == minus) (suc (length bytes)) e in cc (none.1)
 
 -- A minus alone is nothing but a minus.
-minus_is_bare : (bytes : List ℕ) → bytes ≡ minus ∷ [] → is_bare (parts bytes) ≡ true
+pub minus_is_bare : (bytes : List ℕ) → bytes ≡ minus ∷ [] → is_bare (parts bytes) ≡ true
 unfolding parts
 minus_is_bare bytes e = rw e
 

@@ -38,3 +38,13 @@ pub mod ShapeLaws
 pub mod FirstBytes
 pub mod Suffixes
 pub mod ThinDocuments
+pub mod Segments
+pub mod Answered
+pub mod Beginnings
+pub mod PendingText
+pub mod PendingWord
+pub mod PendingComment
+pub mod Pieces
+pub mod PendingNumber
+pub mod Found
+pub mod Given

@@ -18,5 +18,7 @@ pub mod Same
 pub mod SameLaws
 pub mod Quoted
 pub mod Text
+pub mod Scanner
 pub mod Views
+pub mod ScannerViews
 pub mod Laws
