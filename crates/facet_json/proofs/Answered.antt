@@ -1,5 +1,5 @@
 -- What an answer of a scan says, where it is a token or a fault that is cut.
-use Rattle.std.proofs.Common.{◌≡◌, ◌≢◌, ℕ, ◌≤◌, List, length, drop, slice_get, Option, Some, None, Result, Ok, Err, refl, sym, ap, ◌∙◌, subst, arith}
+use Rattle.std.proofs.Common.{◌≡◌, ◌≢◌, ℕ, ◌≤◌, List, length, drop, slice_get, Option, Some, None, Result, Ok, Err, IfOk, refl, sym, ap, ◌∙◌, subst, arith}
 use Rattle.std.specs.Option.{option_map}
 use Rattle.std.proofs.lemmas.List.{length-drop}
 use Rattle.std.proofs.lemmas.Option.{slice_get_within}
@@ -12,9 +12,9 @@ use Rattle.facet_json.specs.declared.token.ScanErrorKind.TheVariants as scan
 use Rattle.facet_json.specs.declared.token.ScanError.{ScanError}
 use Rattle.facet_json.specs.Token.{stop}
 use Rattle.facet_json.specs.Gap.{Mode}
-use Rattle.facet_json.specs.Cut.{Cut, nothing_left, token, fault, cut_here}
+use Rattle.facet_json.specs.Cut.{Cut, nothing_left, token, fault, cut_here, span_at}
 use Rattle.facet_json.specs.Open.{IsBeginning}
-use Rattle.facet_json.specs.Scanner.{answer_for}
+use Rattle.facet_json.specs.Scanner.{ended, answer_for}
 use Rattle.facet_json.specs.Views.{scanned, span_of, token_answer as token_scanned, fault_answer as fault_scanned}
 use Rattle.facet_json.specs.declared.scanner.Found.TheVariants as found
 use Rattle.facet_json.specs.ScannerViews.{answered, token_answered, fault_answered, span_answered, FoundHere}
@@ -90,3 +90,42 @@ pub found-here : (mode : Mode) (buffer : List ℕ) (start : ℕ) (r : Result Spa
     (IsBeginning mode (drop start buffer) → ⊥) → FoundHere mode buffer start (found.Answer start r)
 found-here mode buffer start r c e some is shut =
     (refl, answered-cut r c (length buffer) e some ∙ ap (λ x. Some (answer_for (length buffer) x)) is, shut)
+
+token-or_end : (s : RustSpan) (t : RustToken) (c : Cut) (last : ℕ) → token_scanned s t ≡ Some c →
+    (t ≡ code.Eof → span_of s ≡ span_at last 0) → token_answered (span_of s) t ≡ Some (answer_for last c)
+token-or_end s code.Eof c last e end = ap (λ v. Some (ended v)) (end refl) ∙ ap (option_map (answer_for last)) e
+token-or_end s (code.NeedMore consumed) c last e end = cc
+token-or_end s t c last e end = ap (option_map (answer_for last)) e
+
+-- What is cut is answered, the end too.
+pub answered-cut_or_end : (r : Result SpannedToken ScanError) (c : Cut) (last : ℕ) → scanned r ≡ Some c →
+    IfOk r (λ t. t.token ≡ code.Eof → span_of t.span ≡ span_at last 0) → answered r ≡ Some (answer_for last c)
+answered-cut_or_end (Ok t) c last e end = token-or_end t.span t.token c last e end
+answered-cut_or_end (Err f) c last e end = fault-answered f.span f.kind c last e
+
+token-end_within : (s : RustSpan) (t : RustToken) (c : Cut) (last : ℕ) → token_scanned s t ≡ Some c →
+    (t ≡ code.Eof → span_of s ≡ span_at last 0) → (c ≢ nothing_left → EndsWithin last c) → stop (span_of s) ≤ last
+token-end_within s code.Eof c last e end h = omega (arith, ap stop (end refl))
+token-end_within s (code.NeedMore consumed) c last e end h = cc
+token-end_within s t c last e end h =
+    token-ends s t last (subst (Ends last) (sym e) (h (λ n. let same = e ∙ ap Some n in cc)))
+
+-- Its span ends where what is cut ends, or at the end.
+pub answered-end_within : (r : Result SpannedToken ScanError) (c : Cut) (last : ℕ) → scanned r ≡ Some c →
+    IfOk r (λ t. t.token ≡ code.Eof → span_of t.span ≡ span_at last 0) → (c ≢ nothing_left → EndsWithin last c) →
+    stop (span_answered r) ≤ last
+answered-end_within (Ok t) c last e end h = token-end_within t.span t.token c last e end h
+answered-end_within (Err f) c last e end h =
+    answer-ends (Err f) last (subst (Ends last) (sym e) (h (λ n. fault-some f.span f.kind (e ∙ ap Some n))))
+  where
+    fault-some : (s : RustSpan) (k : ScanErrorKind) → fault_scanned s k ≡ Some nothing_left → ⊥
+    fault-some s (scan.UnexpectedChar ch) e = cc
+    fault-some s (scan.UnexpectedEof text) e = cc
+    fault-some s scan.InvalidUtf8 e = cc
+
+-- What fits ends within.
+pub fits-within : (buffer : List ℕ) (p : ℕ) (c : Cut) → CutFits buffer p c → c ≢ nothing_left →
+    EndsWithin (length buffer) c
+fits-within buffer p nothing_left h some = absurd (some refl)
+fits-within buffer p (token t) h some = h.within
+fits-within buffer p (fault f) h some = h.within

@@ -111,3 +111,17 @@ pub data Gives (buffer : List ℕ) (p : ℕ) (mode : Mode) (answer : Option Answ
       new ≡ waiting (length buffer) mode (past_growing_gap buffer p mode) state → Gives buffer p mode answer new
   decided : (IsOpen buffer p mode → ⊥) → answer ≡ Some (answer_for (length buffer) (cut buffer p mode)) →
       new ≡ idle (stands_after buffer p mode (cut buffer p mode)) mode → Gives buffer p mode answer new
+
+-- the first byte of what is pending, or the position
+abbrev pub first_byte_of : ℕ → Pending → ℕ
+first_byte_of position nothing_pending = position
+first_byte_of position (pending_at start state) = start
+
+abbrev pub first_of : Scanner → ℕ
+first_of s = first_byte_of s.position s.pending
+
+-- where the scanner stands where no more bytes follow: where it stood, or at the first byte of what is refused
+abbrev pub stands_at_end : Scanner → Cut → ℕ
+stands_at_end s nothing_left = s.position
+stands_at_end s (token t) = s.position
+stands_at_end s (fault f) = first_of s

@@ -64,6 +64,11 @@ abbrev pub stands_behind : ℕ → Result SpannedToken ScanError → ℕ
 stands_behind start (Ok t) = t.span.offset + t.span.len
 stands_behind start (Err e) = start
 
+-- where a scanner stands after the last answer: where it stood, or at `first` after a refusal
+abbrev pub stands_last : ℕ → ℕ → Result SpannedToken ScanError → ℕ
+stands_last position first (Ok t) = position
+stands_last position first (Err e) = first
+
 -- ---- what is found
 
 -- At `at` stands this piece of a gap.

@@ -7,16 +7,17 @@ ghost use Rattle.facet_json.specs.Gap.{plain, jsonc};
 ghost use Rattle.facet_json.specs.Gap as spec_gap;
 ghost use Rattle.facet_json.specs.Token.{Kind, stop};
 ghost use Rattle.facet_json.specs.Cut.{start_of, letter, opens_number, span_at};
+ghost use Rattle.facet_json.specs.Cut as spec_cut;
 ghost use Rattle.facet_json.specs.Open.{IsBeginning};
-ghost use Rattle.facet_json.specs.Scanner.{in_text, in_line, in_block, ended, idle, scanner_at, Describes, GoesOnFrom, Gives};
+ghost use Rattle.facet_json.specs.Scanner.{in_text, in_line, in_block, ended, answer_for, idle, scanner_at, first_of, first_byte_of, stands_at_end, Describes, GoesOnFrom, Gives};
 ghost use Rattle.facet_json.specs.Scanner as spec_scanner;
 ghost use Rattle.facet_json.specs.Number.{parts, parts_len};
 ghost use Rattle.facet_json.specs.Views.{mode_of, kind_of};
-ghost use Rattle.facet_json.specs.ScannerViews.{state_of, pending_of, answered, span_answered, stands_behind, FoundHere, FoundFrom, FoundWithin, PieceHere, PieceWithin};
+ghost use Rattle.facet_json.specs.ScannerViews.{state_of, pending_of, answered, span_answered, stands_behind, stands_last, FoundHere, FoundFrom, FoundWithin, PieceHere, PieceWithin};
 
 use crate::mode::Mode;
 use crate::plain_cut::{
-    common_len, cut_number, cut_token, cut_word, digits_end, exponent_end, fraction_end, line_end, minus_end, token_at,
+    common_len, cut, cut_number, cut_token, cut_word, digits_end, exponent_end, fraction_end, line_end, minus_end, token_at,
 };
 use crate::span::Span;
 use crate::token::{ScanResult, SpannedToken, Token};
@@ -473,6 +474,62 @@ impl Scanner {
             }
         }
     }
+
+    /// Answers what is pending, where no more bytes follow those up to the position: a number, the end behind a line
+    /// comment, or a refusal. With nothing pending the answer is the end.
+    ///
+    /// Nothing is pending afterwards, and the position stays.
+    ///
+    /// # Errors
+    ///
+    /// The bytes end inside of a token or a block comment. The position is then the first byte of it.
+    pub fn finalize_at_eof(&mut self, buf: &[u8]) -> ScanResult
+        requires { self.old.position ≤ length buf.now }
+        ensures token { answered result ≡ Some (answer_for self.old.position
+            (spec_cut.cut (take self.old.position buf.now) (first_of self.old) self.old.mode)) }
+        ensures scanner { self.new ≡ idle (stands_at_end self.old
+            (spec_cut.cut (take self.old.position buf.now) (first_of self.old) self.old.mode)) self.old.mode }
+        ensures span { stop (span_answered result) ≤ self.old.position }
+    {
+        let first = first_byte(self.position, self.pending);
+        let result = cut_front(buf, self.position, first, self.mode);
+        self.pending = None;
+        self.position = stands_at_end(self.position, first, &result);
+        result
+    }
+}
+
+/// The first byte of what is pending, or the position.
+fn first_byte(position: usize, pending: Option<Pending>) -> usize
+    requires { IfSome pending (λ p. p.start < position) }
+    ensures first { result ≡ first_byte_of position (pending_of pending) }
+    ensures within { result ≤ position }
+{
+    match pending {
+        Some(pending) => pending.start,
+        None => position,
+    }
+}
+
+/// Cuts what stands at `first`, where the input ends at `end`.
+fn cut_front(buffer: &[u8], end: usize, first: usize, mode: Mode) -> ScanResult
+    requires order { first ≤ end }
+    requires room { end ≤ length buffer.now }
+    ensures token { answered result
+        ≡ Some (answer_for end (spec_cut.cut (take end buffer.now) first (mode_of mode))) }
+    ensures span { stop (span_answered result) ≤ end }
+{
+    cut(&buffer[..end], first, mode)
+}
+
+/// Where the scanner stands after the last answer: where it stood, or at the first byte of what is refused.
+fn stands_at_end(position: usize, first: usize, answer: &ScanResult) -> usize
+    ensures { result ≡ stands_last position first answer.now }
+{
+    match answer {
+        Ok(_) => position,
+        Err(_) => first,
+    }
 }
 
 /// That more bytes are needed from `start` on.
@@ -505,3 +562,6 @@ impl Default for Scanner {
         Scanner::new()
     }
 }
+
+#[cfg(test)]
+mod tests;
