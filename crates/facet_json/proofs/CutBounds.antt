@@ -205,7 +205,7 @@ by_fits mode buffer bytes at b _ a_comment here room = slash_fits mode buffer by
 by_fits mode buffer bytes at b _ (no_token _ h) here room = record { behind = omega arith; within = omega arith }
 
 -- What is cut where no gap is in front fits.
-here_fits : (mode : Mode) (buffer bytes : List ℕ) (at : ℕ) → drop at buffer ≡ bytes →
+pub here_fits : (mode : Mode) (buffer bytes : List ℕ) (at : ℕ) → drop at buffer ≡ bytes →
     at + length bytes ≡ length buffer → CutFits buffer at (cut_here mode at bytes)
 unfolding cut_here
 here_fits mode buffer [] at here room = tt

@@ -6,6 +6,7 @@ use Rattle.facet_json.specs.Bytes.{slash, star}
 use Rattle.facet_json.specs.Gap.{Mode, plain, jsonc, growing, piece_len, gap_len}
 use Rattle.facet_json.specs.Cut.{nothing_left, Start, start_of, cut_slash, cut_by, cut_here, past_gap, cut}
 use Rattle.facet_json.specs.Open.{IsBeginning, IsOpen}
+use Rattle.facet_json.specs.Scanner.{past_growing_gap}
 use Rattle.facet_json.specs.Laws.{CutStays}
 use Rattle.facet_json.proofs.Starts.{Begins, a_mark, a_word, a_text, a_number, a_comment, no_token, start_of-begins}
 use Rattle.facet_json.proofs.Gaps.{gap_len-bound, gap_len-ends}
@@ -54,12 +55,8 @@ cut_here-stays mode at [] more last shut none = rw (last refl)
 cut_here-stays mode at (b ∷ bytes) more last shut none =
     cut_by-stays (start_of b) mode at b bytes more (start_of-begins b) shut none
 
--- where the gap of a growing buffer ends
-abbrev past_growing_gap : List ℕ → ℕ → Mode → ℕ
-past_growing_gap buffer position mode = position + gap_len mode growing (drop position buffer)
-
 -- The gap ends where that of the growing buffer does.
-past_gap-stays : (buffer more : List ℕ) (position : ℕ) (mode : Mode) → position ≤ length buffer →
+pub past_gap-stays : (buffer more : List ℕ) (position : ℕ) (mode : Mode) → position ≤ length buffer →
     (IsOpen buffer position mode → ⊥) →
     (drop (past_growing_gap buffer position mode) buffer ≡ [] → more ≡ []) →
     past_gap (buffer ++ more) position mode ≡ past_growing_gap buffer position mode

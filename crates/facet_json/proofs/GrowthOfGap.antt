@@ -127,7 +127,7 @@ blank_or-none true m n h e = e
 blank_or-none false m n h e = h e
 
 -- A piece of a gap in a growing buffer stays.
-piece_len-keeps : (mode : Mode) (bytes more : List ℕ) (n : ℕ) → piece_len mode growing bytes ≡ suc n →
+pub piece_len-keeps : (mode : Mode) (bytes more : List ℕ) (n : ℕ) → piece_len mode growing bytes ≡ suc n →
     piece_len mode whole (bytes ++ more) ≡ suc n
 piece_len-keeps plain [] more n e = cc
 piece_len-keeps plain (b ∷ bytes) more n e = e

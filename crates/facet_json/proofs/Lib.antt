@@ -44,3 +44,13 @@ pub mod CutRows
 pub mod TextRows
 pub mod Suffixes
 pub mod ThinDocuments
+pub mod Segments
+pub mod Answered
+pub mod Beginnings
+pub mod PendingText
+pub mod PendingWord
+pub mod PendingComment
+pub mod Pieces
+pub mod PendingNumber
+pub mod Found
+pub mod Given

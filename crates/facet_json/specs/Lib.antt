@@ -19,6 +19,8 @@ pub mod Same
 pub mod SameLaws
 pub mod Quoted
 pub mod Text
+pub mod Scanner
 pub mod Views
 pub mod NumberViews
+pub mod ScannerViews
 pub mod Laws

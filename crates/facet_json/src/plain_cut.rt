@@ -109,7 +109,7 @@ fn block_end(buffer: &[u8], from: usize) -> Option<usize>
 }
 
 /// The offset behind the first line feed from `from` on.
-fn line_end(buffer: &[u8], from: usize) -> Option<usize>
+pub(crate) fn line_end(buffer: &[u8], from: usize) -> Option<usize>
     requires { from ≤ length buffer.now }
     ensures end { result ≡ option_map (λ n. from + n) (through_line_end (drop from buffer.now)) }
     ensures range { IfSome result (λ end. (from ≤ end) × (end ≤ length buffer.now)) }
@@ -127,7 +127,7 @@ fn line_end(buffer: &[u8], from: usize) -> Option<usize>
 // ---- the token
 
 /// Cuts the token or the fault whose first byte is `first`, at `at`.
-fn cut_token(buffer: &[u8], at: usize, first: u8, mode: Mode) -> ScanResult
+pub(crate) fn cut_token(buffer: &[u8], at: usize, first: u8, mode: Mode) -> ScanResult
     requires { slice_get buffer.now at ≡ Some first }
     ensures { scanned result ≡ Some (cut_here (mode_of mode) at (drop at buffer.now)) }
 {
@@ -149,7 +149,7 @@ fn cut_token(buffer: &[u8], at: usize, first: u8, mode: Mode) -> ScanResult
 }
 
 /// A token of `len` bytes at `at`.
-fn token_at(token: Token, at: usize, len: usize) -> ScanResult
+pub(crate) fn token_at(token: Token, at: usize, len: usize) -> ScanResult
     ensures { (k : Kind) → kind_of token ≡ Some k → scanned result ≡ Some (spec_cut.token_at k at len) }
 {
     Ok(SpannedToken {
@@ -207,7 +207,7 @@ fn cut_text(buffer: &[u8], at: usize) -> ScanResult
 }
 
 /// Cuts the literal of these letters at `at`.
-fn cut_word(buffer: &[u8], at: usize, word: &[u8], token: Token) -> ScanResult
+pub(crate) fn cut_word(buffer: &[u8], at: usize, word: &[u8], token: Token) -> ScanResult
     requires { at ≤ length buffer.now }
     ensures { let bytes = drop at buffer.now in (k : Kind) → kind_of token ≡ Some k
         → scanned result ≡ Some (spec_cut.cut_word at bytes word.now k (spec_cut.common_len word.now bytes)) }
@@ -223,7 +223,7 @@ fn cut_word(buffer: &[u8], at: usize, word: &[u8], token: Token) -> ScanResult
 }
 
 /// How many bytes at `at` are letters of the word, from its first on.
-fn common_len(buffer: &[u8], at: usize, word: &[u8]) -> usize
+pub(crate) fn common_len(buffer: &[u8], at: usize, word: &[u8]) -> usize
     requires { at ≤ length buffer.now }
     ensures len { result ≡ spec_cut.common_len word.now (drop at buffer.now) }
     ensures within { at + result ≤ length buffer.now }
@@ -239,7 +239,7 @@ fn common_len(buffer: &[u8], at: usize, word: &[u8]) -> usize
 }
 
 /// Cuts the number, or the bare minus, at `at`.
-fn cut_number(buffer: &[u8], at: usize) -> ScanResult
+pub(crate) fn cut_number(buffer: &[u8], at: usize) -> ScanResult
     requires { at < length buffer.now }
     ensures { let p = parts (drop at buffer.now) in scanned result
         ≡ Some (spec_cut.cut_number at (drop (at + 1) buffer.now) (parts_len p) (parts_hint p) (is_bare p)) }
