@@ -1,10 +1,10 @@
 -- What the beginning of a longer token is by its first byte.
-use Rattle.std.proofs.Common.{◌≡◌, ◌≢◌, ℕ, suc, ◌+◌, ◌≤◌, ◌<◌, Bool, true, false, cond, ◌==◌, ◌||◌, ◌⊎◌, inl, inr, List, [], ◌∷◌, ◌++◌, length, Option, Some, None, refl, sym, ap, ◌∙◌, subst, arith, codes}
-use Rattle.std.proofs.lemmas.Bool.{cases_eq, eqb-true, and_parts, leb-true, or_cases}
+use Rattle.std.proofs.Common.{◌≡◌, ◌≢◌, ℕ, ◌<◌, Bool, true, false, ◌==◌, ◌⊎◌, inl, inr, List, [], ◌∷◌, ◌++◌, length, None, refl, sym, ap, subst, arith}
+use Rattle.std.proofs.lemmas.Bool.{eqb-true, and_parts, leb-true, or_cases}
 use Rattle.facet_json.specs.Bytes.{quote, backslash, slash, minus, lower_n, lower_t, lower_f, is_digit}
 use Rattle.facet_json.specs.Gap.{Mode, one_more}
-use Rattle.facet_json.specs.Number.{Hint, IsNumber, parts, parts_len, starts_number}
-use Rattle.facet_json.specs.Token.{Kind, null, true_literal, false_literal}
+use Rattle.facet_json.specs.Number.{parts, parts_len, starts_number}
+use Rattle.facet_json.specs.Token.{Kind}
 use Rattle.facet_json.specs.Cut.{ArePieces, IsLiteral, Start, punctuation, letter, opens_text, opens_number, opens_comment, opens_nothing, start_of, content_len}
 use Rattle.facet_json.specs.Open.{IsBeginning}
 use Rattle.facet_json.specs.Scanner.{State, Describes}

@@ -1,5 +1,5 @@
 -- What a call gives where the buffer is open.
-use Rattle.std.proofs.Common.{◌≡◌, ℕ, ◌-◌, List, length, drop, Option, Some, refl, sym, ap, ◌∙◌, subst}
+use Rattle.std.proofs.Common.{◌≡◌, ℕ, ◌-◌, List, length, drop, Option, Some, ap, ◌∙◌}
 use Rattle.facet_json.specs.Gap.{Mode}
 use Rattle.facet_json.specs.Cut.{span_at}
 use Rattle.facet_json.specs.Scanner.{State, Scanner, Describes, Answer, needs_more, waiting, past_growing_gap, Gives}

@@ -1,9 +1,9 @@
 -- A comment that the end of a buffer cuts, byte by byte.
-use Rattle.std.proofs.Common.{◌≡◌, ℕ, suc, ◌+◌, ◌-◌, ◌<◌, ◌≤◌, Bool, true, false, cond, ◌==◌, ◌&&◌, List, [], ◌∷◌, ◌++◌, length, drop, slice_get, Option, Some, None, refl, sym, ap, ◌∙◌, subst, arith}
+use Rattle.std.proofs.Common.{◌≡◌, ℕ, suc, ◌+◌, ◌<◌, ◌≤◌, Bool, true, false, cond, ◌==◌, ◌&&◌, List, [], ◌∷◌, ◌++◌, length, drop, slice_get, Option, Some, None, refl, sym, ap, ◌∙◌, subst, arith}
 use Rattle.std.specs.Option.{option_map}
 use Rattle.std.proofs.lemmas.Option.{slice_get_within}
-use Rattle.facet_json.specs.Bytes.{slash, star, line_feed}
-use Rattle.facet_json.specs.Gap.{Mode, jsonc, growing, OpensBlock, OpensLine, one_more, through_block_end, through_line_end, with_mark, with_line_mark, piece_len}
+use Rattle.facet_json.specs.Bytes.{slash, star}
+use Rattle.facet_json.specs.Gap.{jsonc, growing, OpensBlock, OpensLine, one_more, through_block_end, through_line_end, with_mark, with_line_mark, piece_len}
 use Rattle.facet_json.specs.Scanner.{in_line, in_block, ends_in_star, Describes}
 use Rattle.facet_json.proofs.Offsets.{drop-at_byte, option_map-none}
 use Rattle.facet_json.proofs.GrowthOfGap.{opens_line}

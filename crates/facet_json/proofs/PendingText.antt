@@ -1,11 +1,11 @@
 -- A string that the end of a buffer cuts, byte by byte.
-use Rattle.std.proofs.Common.{◌≡◌, ◌≢◌, ℕ, suc, ◌+◌, ◌-◌, ◌<◌, Bool, true, false, not, ◌==◌, ◌&&◌, ◌||◌, List, [], ◌∷◌, ◌++◌, length, take, drop, slice_get, Option, Some, None, refl, sym, ap, ap₂, ◌∙◌, subst, arith, append_assoc}
+use Rattle.std.proofs.Common.{◌≡◌, ℕ, suc, ◌+◌, ◌-◌, ◌<◌, Bool, true, false, not, ◌==◌, ◌&&◌, ◌||◌, List, [], ◌∷◌, ◌++◌, length, take, drop, slice_get, Some, refl, sym, ap, ap₂, ◌∙◌, subst, arith, append_assoc}
 use Rattle.std.proofs.lemmas.Bool.{eqb-true}
 use Rattle.std.proofs.lemmas.List.{take-append-le, take_all}
 use Rattle.facet_json.specs.Bytes.{quote, backslash}
 use Rattle.facet_json.specs.Gap.{Mode}
 use Rattle.facet_json.specs.Token.{string}
-use Rattle.facet_json.specs.Cut.{ArePieces, Cut, token_at, cut_here, start_of, cut_text}
+use Rattle.facet_json.specs.Cut.{ArePieces, token_at, cut_here, start_of, cut_text}
 use Rattle.facet_json.specs.Open.{IsBeginning}
 use Rattle.facet_json.specs.Scanner.{in_text, Describes}
 use Rattle.facet_json.proofs.TextShapes.{content_len-is, pieces-mark, any_backslash}

@@ -1,5 +1,5 @@
 -- The bytes of a buffer between two offsets.
-use Rattle.std.proofs.Common.{◌≡◌, ℕ, ◌+◌, ◌-◌, ◌≤◌, ◌<◌, List, [], ◌∷◌, ◌++◌, length, take, drop, slice_get, Some, get_or, refl, ap, sym, ◌∙◌, arith, take-add}
+use Rattle.std.proofs.Common.{◌≡◌, ℕ, ◌+◌, ◌-◌, ◌≤◌, List, [], ◌∷◌, ◌++◌, length, take, drop, slice_get, Some, ap, sym, ◌∙◌, arith, take-add}
 use Rattle.std.proofs.lemmas.List.{take-append-drop, drop-append-le, length-take-le, length-drop, drop-take, take_all}
 use Rattle.std.proofs.lemmas.Option.{slice_get_within}
 use Rattle.facet_json.proofs.Offsets.{drop-at_byte}

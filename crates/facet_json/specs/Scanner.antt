@@ -66,10 +66,6 @@ pub data Describes : Mode → State → List ℕ → Type 0 where
   block : (body : List ℕ) (after_star : Bool) → OpensBlock body → ends_in_star body ≡ after_star →
       Describes jsonc (in_block after_star) (slash ∷ star ∷ body)
 
--- The scanner fits the front of a buffer: what is pending is what stands at the front's end.
-pub data Fits (s : Scanner) (front : List ℕ) : Type 0 where
-  fits : (start : ℕ) (state : State) → s.pending ≡ pending_at start state → Describes s.mode state (drop start front) → Fits s front
-
 -- The scanner goes on from here: from its position if nothing is pending, else from the first byte of what is pending, if
 -- that fits the buffer up to the position.
 pub data GoesOnFrom (s : Scanner) (buffer : List ℕ) : ℕ → Type 0 where

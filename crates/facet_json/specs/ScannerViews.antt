@@ -1,5 +1,5 @@
 -- What the types of the scanner's code stand for in its definitions.
-use Rattle.std.specs.Prelude.{◌≡◌, ℕ, ◌+◌, ◌<◌, ◌≤◌, Bool, List, length, drop, Option, Some, None, Result, Ok, Err, slice_get}
+use Rattle.std.specs.Prelude.{◌≡◌, ℕ, ◌+◌, ◌<◌, ◌≤◌, List, length, drop, Option, Some, None, Result, Ok, Err, slice_get}
 use Rattle.facet_json.specs.declared.token.Token.{Token as RustToken}
 use Rattle.facet_json.specs.declared.token.Token.TheVariants as code
 use Rattle.facet_json.specs.declared.token.SpannedToken.{SpannedToken}
@@ -17,7 +17,7 @@ use Rattle.facet_json.specs.Bytes.{slash}
 use Rattle.facet_json.specs.Gap.{Mode, growing, piece_len}
 use Rattle.facet_json.specs.Token as token
 use Rattle.facet_json.specs.Token.{Span, Kind, stop}
-use Rattle.facet_json.specs.Cut.{Cut, cut_here, cut, past_gap}
+use Rattle.facet_json.specs.Cut.{cut_here, cut, past_gap}
 use Rattle.facet_json.specs.Open.{IsBeginning, IsOpen}
 use Rattle.facet_json.specs.Scanner.{State, in_text, in_word, in_number, behind_slash, in_line, in_block, Pending, nothing_pending, pending_at, Answer, needs_more, ended, cuts, refuses, answer_for, Describes, past_growing_gap}
 use Rattle.facet_json.specs.Views.{span_of, kind_of}

@@ -1,4 +1,5 @@
-//! The scanner over a buffer that grows: a token that the buffer's end cuts is gone on with, and not scanned again.
+//! The scanner over a buffer that grows: a string or comment that the buffer's end cuts is gone on with, and not read
+//! again.
 
 ghost use Rattle.std.specs.Prelude.{◌≡◌, ℕ, ◌+◌, ◌-◌, ◌<◌, ◌≤◌, length, take, drop, Some, slice_get, IfSome};
 ghost use Rattle.facet_json.specs.Bytes.{slash};
@@ -34,7 +35,7 @@ enum State {
     },
     /// In a literal, of which at most five letters are compared again.
     Word,
-    /// In a number.
+    /// In a number, which is read again from its first byte.
     Number,
     /// Behind a slash.
     Slash,
@@ -365,7 +366,7 @@ fn behind_comment(buffer: &[u8], start: usize, comment: Piece, mode: Mode) -> Fo
 /// Cuts tokens off a buffer that grows.
 ///
 /// A call answers the token at the scanner's position, or that the buffer ends inside of one: then the caller keeps the
-/// buffer's bytes, lets more follow them and calls again. What was read of the token is not read again.
+/// buffer's bytes, lets more follow them and calls again. What was read of a string or a comment is not read again.
 ///
 /// ```text
 /// let mut scanner = Scanner::new();

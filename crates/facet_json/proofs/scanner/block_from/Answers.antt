@@ -1,5 +1,5 @@
 -- Each byte goes on with the comment, and a slash behind a star ends it.
-use Rattle.std.proofs.Common.{◌≡◌, ◌&&◌, ◌==◌, ◌⊎◌, inl, inr, ℕ, Bool, true, false, refl, sym, ap, ◌∙◌, subst, arith}
+use Rattle.std.proofs.Common.{◌≡◌, ◌&&◌, ◌==◌, ◌⊎◌, inl, inr, ℕ, Bool, false, refl, sym, ap, subst, arith}
 use Rattle.std.proofs.lemmas.Bool.{ne_eqb, and_right}
 use Rattle.facet_json.specs.Bytes.{slash}
 use Rattle.facet_json.specs.Gap.{jsonc}

@@ -1,5 +1,5 @@
 -- What was read of the comment is described by the flag.
-use Rattle.std.proofs.Common.{◌≡◌, ◌-◌, ◌≤◌, ◌<◌, length}
+use Rattle.std.proofs.Common.{◌-◌, ◌≤◌, ◌<◌, length}
 use Rattle.facet_json.specs.Gap.{jsonc}
 use Rattle.facet_json.specs.Scanner.{Describes, in_block}
 use Rattle.facet_json.proofs.Segments.{between}

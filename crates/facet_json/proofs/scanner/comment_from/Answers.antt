@@ -1,5 +1,5 @@
 -- The byte behind the slash says which comment it is.
-use Rattle.std.proofs.Common.{◌≡◌, ◌≢◌, ◌+◌, List, [], ◌∷◌, drop, false, refl, sym, ap, ◌∙◌, subst, arith}
+use Rattle.std.proofs.Common.{◌≡◌, ◌≢◌, ◌+◌, [], ◌∷◌, drop, false, refl, sym, ap, ◌∙◌, subst, arith}
 use Rattle.std.proofs.lemmas.List.{drop_all}
 use Rattle.facet_json.specs.Bytes.{slash, star}
 use Rattle.facet_json.specs.Gap.{jsonc, growing, piece_len, OpensBlock, OpensLine}

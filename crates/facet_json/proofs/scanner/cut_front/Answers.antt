@@ -1,5 +1,5 @@
 -- What is cut of the front is answered.
-use Rattle.std.proofs.Common.{◌≡◌, ◌≤◌, length, take, Some, refl, sym, ap, ◌∙◌, subst, arith}
+use Rattle.std.proofs.Common.{◌≡◌, ◌≤◌, length, take, Some, ap, ◌∙◌, arith}
 use Rattle.std.proofs.lemmas.List.{length-take-le}
 use Rattle.facet_json.specs.Token.{stop}
 use Rattle.facet_json.specs.Cut.{cut}

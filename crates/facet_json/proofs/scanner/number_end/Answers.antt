@@ -1,5 +1,5 @@
 -- The parts end where the code says.
-use Rattle.std.proofs.Common.{◌≡◌, drop, arith}
+use Rattle.std.proofs.Common.{arith}
 use Rattle.facet_json.proofs.NumberSteps.{PartsEnd-parts}
 use Rattle.facet_json.proofs.scanner.number_end.Goals as goal
 

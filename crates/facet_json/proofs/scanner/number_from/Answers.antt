@@ -1,5 +1,5 @@
 -- A number that goes to the end of the buffer is open, and another is cut.
-use Rattle.std.proofs.Common.{◌≡◌, ◌+◌, List, ◌∷◌, length, drop, refl, sym, ap, ◌∙◌, subst, arith, length-drop}
+use Rattle.std.proofs.Common.{◌≡◌, ◌+◌, ◌∷◌, length, drop, refl, sym, ap, ◌∙◌, subst, arith, length-drop}
 use Rattle.facet_json.specs.Gap.{plain}
 use Rattle.facet_json.specs.Number.{parts, parts_len, parts_hint, is_bare}
 use Rattle.facet_json.specs.Cut.{cut_number}

@@ -1,5 +1,5 @@
 -- A string goes on where no gap is in front.
-use Rattle.std.proofs.Common.{◌≡◌, drop, sym, ap, ◌∙◌, subst, arith}
+use Rattle.std.proofs.Common.{drop, ap, ◌∙◌, subst, arith}
 use Rattle.facet_json.specs.Gap.{growing, piece_len}
 use Rattle.facet_json.specs.Scanner.{Describes}
 use Rattle.facet_json.specs.Views.{mode_of}

@@ -1,5 +1,5 @@
 -- Each byte goes on with what was read, and the quote closes it.
-use Rattle.std.proofs.Common.{◌≡◌, ◌+◌, ◌-◌, ◌≤◌, false, length, Some, refl, sym, ap, ◌∙◌, subst, arith}
+use Rattle.std.proofs.Common.{◌+◌, ◌-◌, refl, sym, subst, arith}
 use Rattle.facet_json.specs.Bytes.{quote}
 use Rattle.facet_json.specs.Token.{string}
 use Rattle.facet_json.specs.Cut.{token_at}

@@ -1,5 +1,5 @@
 -- What was read of the string is described by the two flags.
-use Rattle.std.proofs.Common.{◌≡◌, ◌-◌, ◌≤◌, ◌<◌, length}
+use Rattle.std.proofs.Common.{◌-◌, ◌≤◌, ◌<◌, length}
 use Rattle.facet_json.specs.Gap.{Mode}
 use Rattle.facet_json.specs.Scanner.{Describes, in_text}
 use Rattle.facet_json.proofs.Segments.{between}

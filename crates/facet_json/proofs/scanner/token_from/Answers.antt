@@ -1,9 +1,9 @@
 -- What the first byte begins is found, and another byte is cut.
-use Rattle.std.proofs.Common.{◌≡◌, ◌≢◌, ◌+◌, ◌<◌, ◌⊎◌, inl, inr, List, [], ◌∷◌, length, drop, false, Some, refl, sym, ap, ◌∙◌, subst, arith}
+use Rattle.std.proofs.Common.{◌≡◌, ◌+◌, ◌<◌, ◌⊎◌, inl, inr, [], ◌∷◌, length, drop, false, Some, refl, sym, ap, ◌∙◌, subst, arith}
 use Rattle.std.proofs.lemmas.List.{drop_all}
 use Rattle.facet_json.specs.Bytes.{quote, slash}
 use Rattle.facet_json.specs.Token.{null, true_literal, false_literal}
-use Rattle.facet_json.specs.Cut.{ArePieces, start_of, opens_number, cut_here, span_at}
+use Rattle.facet_json.specs.Cut.{ArePieces, start_of, cut_here}
 use Rattle.facet_json.specs.Open.{IsBeginning}
 use Rattle.facet_json.specs.Scanner.{Describes, in_text, answer_for}
 use Rattle.facet_json.specs.Views.{mode_of}

@@ -1,5 +1,5 @@
 -- The letters that stand are a front of the word, or the word is cut.
-use Rattle.std.proofs.Common.{◌≡◌, ◌≢◌, ℕ, ◌+◌, ◌-◌, ◌<◌, List, ◌∷◌, length, drop, Some, refl, sym, ap, ◌∙◌, subst, arith, length-drop}
+use Rattle.std.proofs.Common.{◌≡◌, ◌+◌, ◌<◌, ◌∷◌, length, drop, refl, sym, ap, ◌∙◌, subst, arith, length-drop}
 use Rattle.std.proofs.lemmas.Option.{slice_get_within}
 use Rattle.facet_json.specs.Scanner.{Describes, in_word}
 use Rattle.facet_json.specs.Open.{IsBeginning}

@@ -1,7 +1,6 @@
 -- What is found is answered, and kept if it is open.
-use Rattle.std.proofs.Common.{◌≡◌, length, drop, refl, sym, ap, subst}
+use Rattle.std.proofs.Common.{◌≡◌, length, drop, sym, ap, subst}
 use Rattle.facet_json.specs.Scanner.{GoesOnFrom, Describes, waiting, past_growing_gap}
-use Rattle.facet_json.specs.Views.{mode_of}
 use Rattle.facet_json.specs.ScannerViews.{state_of}
 use Rattle.facet_json.proofs.Given.{gives-open}
 use Rattle.facet_json.proofs.scanner.Scanner.next_token.Goals as goal
