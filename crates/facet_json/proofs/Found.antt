@@ -30,10 +30,11 @@ unfolding cut
 found-no_gap mode buffer p (found.Answer at result) room none h =
     let q = growing_gap-none mode buffer p none in
     let shut : IsOpen buffer p mode → ⊥ = λ i. h.2 (subst (λ n. IsBeginning mode (drop n buffer)) q i) in
-    let past : past_gap buffer p mode ≡ p = same_gap mode buffer p room shut ∙ q in
-    (h.0 ∙ sym past,
-    h.1 ∙ ap (λ n. Some (answer_for (length buffer) (cut_here mode n (drop n buffer)))) (sym past),
-    shut)
+    let past : past_gap buffer p mode ≡ p = same_gap mode buffer p room shut ∙ q in (
+      h.0 ∙ sym past,
+      h.1 ∙ ap (λ n. Some (answer_for (length buffer) (cut_here mode n (drop n buffer)))) (sym past),
+      shut,
+    )
 found-no_gap mode buffer p (found.Open at s) room none h =
     let q = growing_gap-none mode buffer p none in
     (h.0 ∙ sym q, subst (λ n. Describes mode (state_of s) (drop n buffer)) (sym q) h.1)

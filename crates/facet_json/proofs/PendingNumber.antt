@@ -1,5 +1,5 @@
 -- A number that the end of a buffer cuts.
-use Rattle.std.proofs.Common.{◌≡◌, ℕ, Bool, true, false, List, ◌∷◌, length, refl, sym, ◌∙◌, subst, arith}
+use Rattle.std.proofs.Common.{◌≢◌, ◌≡◌, ℕ, Bool, true, false, List, [], ◌∷◌, length, refl, ap, sym, ◌∙◌, subst, arith}
 use Rattle.facet_json.specs.Gap.{Mode}
 use Rattle.facet_json.specs.Bytes.{minus}
 use Rattle.facet_json.specs.Number.{parts, parts_len, parts_hint, is_bare, starts_number, IsNumeral}

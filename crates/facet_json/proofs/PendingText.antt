@@ -100,8 +100,9 @@ text-found mode buffer start end e order d here =
     ∙ ap (λ l. bytes ++ l) (drop-at_byte buffer end quote here) in
     let s : start + 1 ≡ suc start = omega arith in
     let f : end ≡ start + length bytes = omega arith in
-    let n : (end + 1) - start ≡ suc (length bytes) = omega arith in
-    (ap₂ (λ a k. token_at (string a end e) start k) s n
-    ∙ ap (λ k. token_at (string (suc start) k e) start (suc (length bytes))) f
-    ∙ sym (text-closed mode start bytes rest e d) ∙ ap (cut_here mode start) (sym whole),
-    λ i. text-shut mode bytes rest e d (subst (IsBeginning mode) whole i))
+    let n : (end + 1) - start ≡ suc (length bytes) = omega arith in (
+      ap₂ (λ a k. token_at (string a end e) start k) s n
+          ∙ ap (λ k. token_at (string (suc start) k e) start (suc (length bytes))) f
+          ∙ sym (text-closed mode start bytes rest e d) ∙ ap (cut_here mode start) (sym whole),
+      λ i. text-shut mode bytes rest e d (subst (IsBeginning mode) whole i),
+    )

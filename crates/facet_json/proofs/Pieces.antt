@@ -64,10 +64,15 @@ number_byte b e =
       | inl h ↦ let is : b ≡ minus = eqb-true b minus h in rw is (refl, refl)
       | inr h ↦
           let both = and_parts _ _ h in
-          let low = leb-true 0x30 b both.0 in
-          (rw (ne_eqb b 0x20 (omega arith), ne_eqb b 0x09 (omega arith), ne_eqb b 0x0a (omega arith),
-              ne_eqb b 0x0d (omega arith)) refl,
-          ne_eqb b slash (omega arith))
+          let low = leb-true 0x30 b both.0 in (
+            rw (
+              ne_eqb b 0x20 (omega arith),
+              ne_eqb b 0x09 (omega arith),
+              ne_eqb b 0x0a (omega arith),
+              ne_eqb b 0x0d (omega arith),
+            ) refl,
+            ne_eqb b slash (omega arith),
+          )
     ]
 
 -- An open block has no end.

@@ -103,7 +103,7 @@ pub data Gives (buffer : List ℕ) (p : ℕ) (mode : Mode) (answer : Option Answ
   still_open : (state : State) → IsOpen buffer p mode →
       Describes mode state (drop (past_growing_gap buffer p mode) buffer) →
       answer ≡ Some (needs_more (past_growing_gap buffer p mode)
-          (span_at (past_growing_gap buffer p mode) (length buffer - past_growing_gap buffer p mode))) →
+      (span_at (past_growing_gap buffer p mode) (length buffer - past_growing_gap buffer p mode))) →
       new ≡ waiting (length buffer) mode (past_growing_gap buffer p mode) state → Gives buffer p mode answer new
   decided : (IsOpen buffer p mode → ⊥) → answer ≡ Some (answer_for (length buffer) (cut buffer p mode)) →
       new ≡ idle (stands_after buffer p mode (cut buffer p mode)) mode → Gives buffer p mode answer new

@@ -341,7 +341,12 @@ fn resume(buffer: &[u8], at: usize, pending: Pending, mode: Mode) -> Found
         } => text_from(buffer, start, at, escaped, has_escapes),
         State::Line => behind_comment(buffer, start, line_from(buffer, start, at), mode),
         State::Block { after_star } => {
-            behind_comment(buffer, start, block_from(buffer, start, at, after_star), mode)
+            behind_comment(
+                buffer,
+                start,
+                block_from(buffer, start, at, after_star),
+                mode,
+            )
         }
         State::Word | State::Number | State::Slash => scan_from(buffer, start, mode),
     }

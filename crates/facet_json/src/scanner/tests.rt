@@ -23,7 +23,11 @@ fn text(start: usize, end: usize, has_escapes: bool) -> Token {
 }
 
 fn number(start: usize, end: usize, hint: NumberHint) -> ScanResult {
-    token(Token::Number { start, end, hint }, start, end.saturating_sub(start))
+    token(
+        Token::Number { start, end, hint },
+        start,
+        end.saturating_sub(start),
+    )
 }
 
 fn more(consumed: usize, len: usize) -> ScanResult {
@@ -64,9 +68,21 @@ fn last(rt: &impl Abort, scanner: &mut Scanner, buffer: &[u8], want: ScanResult,
 fn strings_go_on(rt: HostRuntime) {
     let mut scanner = Scanner::new();
     next(&rt, &mut scanner, b"\"a\\", more(0, 3), 3);
-    next(&rt, &mut scanner, b"\"a\\\"b\"", token(text(1, 5, true), 0, 6), 6);
+    next(
+        &rt,
+        &mut scanner,
+        b"\"a\\\"b\"",
+        token(text(1, 5, true), 0, 6),
+        6,
+    );
     let mut scanner = Scanner::default();
-    next(&rt, &mut scanner, b"\"hello world\"", token(text(1, 12, false), 0, 13), 13);
+    next(
+        &rt,
+        &mut scanner,
+        b"\"hello world\"",
+        token(text(1, 12, false), 0, 13),
+        13,
+    );
 }
 
 #[test]
@@ -92,11 +108,23 @@ fn numbers_go_on(rt: HostRuntime) {
     next(&rt, &mut scanner, b"-", more(0, 1), 1);
     next(&rt, &mut scanner, b"-,", unexpected(',', 0), 0);
     next(&rt, &mut scanner, b"1.e", more(0, 3), 3);
-    next(&rt, &mut scanner, b"1.e]", number(0, 3, NumberHint::Float), 3);
+    next(
+        &rt,
+        &mut scanner,
+        b"1.e]",
+        number(0, 3, NumberHint::Float),
+        3,
+    );
     scanner.set_pos(0);
     next(&rt, &mut scanner, b"42", more(0, 2), 2);
     scanner.set_pos(0);
-    next(&rt, &mut scanner, b"-42]", number(0, 3, NumberHint::Signed), 3);
+    next(
+        &rt,
+        &mut scanner,
+        b"-42]",
+        number(0, 3, NumberHint::Signed),
+        3,
+    );
     for (buffer, len, hint) in [
         (b"42,".as_slice(), 2, NumberHint::Unsigned),
         (b"-42]".as_slice(), 3, NumberHint::Signed),
@@ -112,11 +140,23 @@ fn numbers_go_on(rt: HostRuntime) {
 fn a_number_ends_with_the_input(rt: HostRuntime) {
     let mut scanner = Scanner::new();
     next(&rt, &mut scanner, b"42", more(0, 2), 2);
-    last(&rt, &mut scanner, b"42", number(0, 2, NumberHint::Unsigned), 2);
+    last(
+        &rt,
+        &mut scanner,
+        b"42",
+        number(0, 2, NumberHint::Unsigned),
+        2,
+    );
     last(&rt, &mut scanner, b"42", eof(2), 2);
     let mut scanner = Scanner::new();
     next(&rt, &mut scanner, b"42", more(0, 2), 2);
-    next(&rt, &mut scanner, b"42,", number(0, 2, NumberHint::Unsigned), 2);
+    next(
+        &rt,
+        &mut scanner,
+        b"42,",
+        number(0, 2, NumberHint::Unsigned),
+        2,
+    );
     next(&rt, &mut scanner, b"42,", token(Token::Comma, 2, 1), 3);
     next(&rt, &mut scanner, b"42,", eof(3), 3);
 }
@@ -124,7 +164,13 @@ fn a_number_ends_with_the_input(rt: HostRuntime) {
 #[test]
 fn comments_go_on(rt: HostRuntime) {
     let mut scanner = Scanner::new_with_comments();
-    next(&rt, &mut scanner, b"1/", number(0, 1, NumberHint::Unsigned), 1);
+    next(
+        &rt,
+        &mut scanner,
+        b"1/",
+        number(0, 1, NumberHint::Unsigned),
+        1,
+    );
     next(&rt, &mut scanner, b"1/", more(1, 1), 2);
     last(&rt, &mut scanner, b"1/", unexpected('/', 1), 1);
     next(&rt, &mut scanner, b"1/", more(1, 1), 2);
@@ -133,10 +179,22 @@ fn comments_go_on(rt: HostRuntime) {
     scanner.set_pos(1);
     next(&rt, &mut scanner, b"1//x", more(1, 3), 4);
     next(&rt, &mut scanner, b"1//xy\n2", more(6, 1), 7);
-    last(&rt, &mut scanner, b"1//xy\n2", number(6, 7, NumberHint::Unsigned), 7);
+    last(
+        &rt,
+        &mut scanner,
+        b"1//xy\n2",
+        number(6, 7, NumberHint::Unsigned),
+        7,
+    );
     let mut scanner = Scanner::new_with_comments();
     next(&rt, &mut scanner, b"/*/", more(0, 3), 3);
-    last(&rt, &mut scanner, b"/*/", ended("in block comment", 0, 3), 0);
+    last(
+        &rt,
+        &mut scanner,
+        b"/*/",
+        ended("in block comment", 0, 3),
+        0,
+    );
 }
 
 #[test]

@@ -49,6 +49,7 @@ returns-in_default-second-clause-here c =
     let front : drop at buffer ≡ slash ∷ b ∷ rest =
     drop-at_byte buffer at slash c.requires ∙ ap (λ l. slash ∷ l) (drop-at_byte buffer (at + 1) b second) in
     let no_star : b ≢ star = omega arith in
-    let no_slash : b ≢ slash = omega arith in
-    (ap (piece_len jsonc growing) front ∙ no_comment b rest no_star no_slash,
-    λ here i. slash_shut-jsonc b rest no_star no_slash (subst (IsBeginning jsonc) front i))
+    let no_slash : b ≢ slash = omega arith in (
+      ap (piece_len jsonc growing) front ∙ no_comment b rest no_star no_slash,
+      λ here i. slash_shut-jsonc b rest no_star no_slash (subst (IsBeginning jsonc) front i),
+    )

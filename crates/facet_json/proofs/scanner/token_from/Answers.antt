@@ -21,10 +21,11 @@ returns-in_default-clause-here c = λ shut.
     let buffer = c.args.buffer.now in
     let at = c.args.at in
     let mode = mode_of c.args.mode in
-    let nothing : drop at buffer ≡ [] = drop_all at buffer c.in_default.ensures.lookup.3 in
-    (refl,
-    c.eof_at.ensures ∙ ap (λ l. Some (answer_for (length buffer) (cut_here mode at l))) (sym nothing),
-    λ i. nothing_shut mode (subst (IsBeginning mode) nothing i))
+    let nothing : drop at buffer ≡ [] = drop_all at buffer c.in_default.ensures.lookup.3 in (
+      refl,
+      c.eof_at.ensures ∙ ap (λ l. Some (answer_for (length buffer) (cut_here mode at l))) (sym nothing),
+      λ i. nothing_shut mode (subst (IsBeginning mode) nothing i),
+    )
 
 pub cut_token-requires : goal.cut_token-requires
 cut_token-requires c =
@@ -100,7 +101,7 @@ returns-in_default-first-clause-here c = λ shut.
     found-here mode buffer at c.cut_token.result (cut_here mode at (drop at buffer)) c.cut_token.ensures
     (cut_here-something mode buffer at b here) refl
     (λ i. others_shut mode b _ (omega arith) (omega arith) (omega arith) (omega arith) (omega arith) no_digit comment
-        (subst (IsBeginning mode) front i))
+    (subst (IsBeginning mode) front i))
 
 pub returns-in_default-first-clause-within : goal.returns-in_default-first-clause-within
 returns-in_default-first-clause-within c =
@@ -108,10 +109,11 @@ returns-in_default-first-clause-within c =
     let at = c.args.at in
     let b = c.in-Some.first.now in
     let mode = mode_of c.args.mode in
-    let here = slice_get-from_read buffer at b b c.in-Some.ensures.lookup.3 refl in
-    (omega arith,
-    answered-ends c.cut_token.result (cut_here mode at (drop at buffer)) _ c.cut_token.ensures
-    (cut_here-ends mode buffer at b here))
+    let here = slice_get-from_read buffer at b b c.in-Some.ensures.lookup.3 refl in (
+      omega arith,
+      answered-ends c.cut_token.result (cut_here mode at (drop at buffer)) _ c.cut_token.ensures
+          (cut_here-ends mode buffer at b here),
+    )
 
 pub returns-in-45-clause-here : goal.returns-in-45-clause-here
 returns-in-45-clause-here c = λ shut.

@@ -37,14 +37,14 @@ returns-clause-here c = λ mode b kind here begins is.
     let cuts = cut_here-word mode buffer at b word kind here begins in
     let not_open : common_len word (b ∷ rest) < length word → common_len word (b ∷ rest) ≡ length (b ∷ rest) → ⊥ =
     λ short all.
-        let n = ap (common_len word) front in
-        let k = ap length front in
-        elim c.else-len-word.branch [
-          | else-len-word-via-then-len-word+else-len-buffer w ↦
-              w.if-len-buffer.false (omega (arith, n, k, all, c.common_len-len.ensures.len, length-drop at buffer))
-          | else-len-word-via-else-len-word w ↦
-              absurd (omega (arith, n, short, c.common_len-len.ensures.len, w.if-len-word.false))
-        ] in
+    let n = ap (common_len word) front in
+    let k = ap length front in
+    elim c.else-len-word.branch [
+      | else-len-word-via-then-len-word+else-len-buffer w ↦
+          w.if-len-buffer.false (omega (arith, n, k, all, c.common_len-len.ensures.len, length-drop at buffer))
+      | else-len-word-via-else-len-word w ↦
+          absurd (omega (arith, n, short, c.common_len-len.ensures.len, w.if-len-word.false))
+    ] in
     found-here mode buffer at c.cut_word.result (cut_word at bytes word kind (common_len word bytes))
     (c.cut_word.ensures kind is) (λ e. cut_here-something mode buffer at b here (sym cuts ∙ e)) cuts
     (λ i. word-shut mode b rest word kind begins not_open (subst (IsBeginning mode) front i))
@@ -55,7 +55,8 @@ returns-clause-within c = λ b kind here begins is.
     let at = c.args.at in
     let word = c.args.word.now in
     let bytes = drop at buffer in
-    let cuts = cut_here-word plain buffer at b word kind here begins in
-    (omega (arith, slice_get_within buffer at b here),
-    answered-ends c.cut_word.result (cut_word at bytes word kind (common_len word bytes)) _ (c.cut_word.ensures kind is)
-    (subst (EndsWithin (length buffer)) (sym cuts) (cut_here-ends plain buffer at b here)))
+    let cuts = cut_here-word plain buffer at b word kind here begins in (
+      omega (arith, slice_get_within buffer at b here),
+      answered-ends c.cut_word.result (cut_word at bytes word kind (common_len word bytes)) _ (c.cut_word.ensures kind is)
+          (subst (EndsWithin (length buffer)) (sym cuts) (cut_here-ends plain buffer at b here)),
+    )
