@@ -3,12 +3,12 @@ use Rattle.std.proofs.Common.{◌≡◌, ℕ, true, List, [], ◌∷◌, Option,
 use Rattle.std.specs.Prelude.{pos, neg_ℤ}
 use Rattle.std.specs.Option.{option_map}
 use lib.Utf8.{encode}
-use Rattle.facet_json.specs.Bytes.{quote, backslash, lower_u}
-use Rattle.facet_json.specs.Gap.{Mode, plain, jsonc, gap_len_from}
-use Rattle.facet_json.specs.Number.{parts, number}
-use Rattle.facet_json.specs.Cut.{start_of, cut_here, cut}
-use Rattle.facet_json.specs.Tokens.{tokens_past}
-use Rattle.facet_json.specs.Decode.{short_escape, code_unit, utf8_at, unit_at, escape_at, piece_at, decoded_past}
+use Rattle.facet_format.specs.Bytes.{quote, backslash, lower_u}
+use Rattle.facet_json_scan.specs.Gap.{Mode, plain, jsonc, gap_len_from}
+use Rattle.facet_format.specs.Number.{parts, number}
+use Rattle.facet_json_scan.specs.Cut.{start_of, cut_here, cut}
+use Rattle.facet_json_scan.specs.Tokens.{tokens_past}
+use Rattle.facet_json_scan.specs.Decode.{short_escape, code_unit, utf8_at, unit_at, escape_at, piece_at, decoded_past}
 use Rattle.facet_json.specs.Tree.{Tree, null, bool, u64, i64, text, decimal, list, pairs, no_trees, tree, no_pairs, pair}
 use Rattle.facet_json.specs.Meaning.{tree_of}
 use Rattle.facet_json.specs.Spelled.{node_within, spelled, document, whole_document, read_by}

@@ -3,9 +3,9 @@ use Rattle.std.proofs.Common.{◌≡◌, ℕ, true, List, [], ◌∷◌, ◌++�
 use Rattle.std.specs.declared.string.String.{String}
 use Rattle.std.specs.declared.alloc.Global.{Global}
 use Rattle.facet_json.specs.declared.tree.Tree.{Tree as RustTree}
-use Rattle.facet_json.specs.Token.{Token}
-use Rattle.facet_json.specs.Token as token
-use Rattle.facet_json.specs.Tokens.{Tokens, next}
+use Rattle.facet_json_scan.specs.Token.{Token}
+use Rattle.facet_json_scan.specs.Token as token
+use Rattle.facet_json_scan.specs.Tokens.{Tokens, next}
 use Rattle.facet_json.specs.Node.{Node, scalar, array, object, no_nodes, item, no_members, member, is_scalar, is_string, Spells, one_token, brackets, braces, closed, item_and_comma, last_item, ended_members, member_and_comma, last_member}
 use Rattle.facet_json.specs.Tree.{Tree, list, pairs, Trees, no_trees, tree, Pairs, no_pairs, pair}
 use Rattle.facet_json.specs.Meaning.{Meaning, tree_of, trees_of, pairs_of, text_of}

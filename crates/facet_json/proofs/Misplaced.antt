@@ -5,17 +5,19 @@ use Rattle.std.specs.Borrow.{Bor}
 use Rattle.facet_json.specs.declared.materialized.TokenKind.{TokenKind}
 use Rattle.facet_json.specs.declared.materialized.TokenKind.TheVariants as kinds
 use Rattle.facet_json.specs.declared.materialized.MaterializedToken.{MaterializedToken}
-use Rattle.facet_json.specs.Number.{Number, Hint}
-use Rattle.facet_json.specs.Number as numbers
-use Rattle.facet_json.specs.Token.{Kind, Token}
-use Rattle.facet_json.specs.Token as token
-use Rattle.facet_json.specs.Tokens.{Tokens, next}
-use Rattle.facet_json.specs.Place.{Place, root, before_key, after_key, after_member, before_item, after_item, goes_on, expected_at, kind_name, number_name, unexpected_token, Refusal, refusal_at}
+use Rattle.facet_format.specs.Number.{Number, Hint}
+use Rattle.facet_format.specs.Number as numbers
+use Rattle.facet_json_scan.specs.Token.{Kind, Token}
+use Rattle.facet_json_scan.specs.Token as token
+use Rattle.facet_json_scan.specs.Tokens.{Tokens, next}
+use Rattle.facet_json.specs.Place.{Place, root, before_key, after_key, after_member, before_item, after_item, goes_on, expected_at, kind_name, number_name}
+use Rattle.facet_format.specs.Complaint.{unexpected_token, Refusal, refusal_at}
 use Rattle.facet_json.specs.Tree as tree
 use Rattle.facet_json.specs.Meaning.{thin_meaning_of, thin_number}
 use Rattle.facet_json.specs.Refusal.{misplaced, needs_meaning}
 use Rattle.facet_json.specs.Reading.{StopsAt, TakesValue, at_root, behind_colon, of_list}
-use Rattle.facet_json.specs.Views.{span_of, sample, name_of, misplaced_complaint, IsReadAs, IsReadFirst}
+use Rattle.facet_format.specs.Views.{span_of}
+use Rattle.facet_json.specs.Views.{sample, name_of, misplaced_complaint, IsReadAs, IsReadFirst}
 
 -- What is known of a kind that is read as k.
 record Judged (buffer : List ℕ) (kind : Kind) (k : TokenKind) : Type 0 where

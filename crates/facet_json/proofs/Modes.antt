@@ -2,15 +2,16 @@
 use Rattle.std.proofs.Common.{◌≡◌, ℕ, zero, suc, ◌+◌, ◌-◌, Bool, true, false, ◌==◌, List, [], ◌∷◌, drop, refl, sym, ap, ◌∙◌, subst}
 use Rattle.std.proofs.lemmas.List.{drop-drop}
 use Rattle.std.proofs.lemmas.Bool.{eqb-true}
-use Rattle.facet_json.specs.Bytes.{is_space, slash}
-use Rattle.facet_json.specs.Gap.{Mode, plain, jsonc, Input, whole, comment_len, gap_len_from, gap_len}
-use Rattle.facet_json.specs.Token.{Token, Fault, stop}
-use Rattle.facet_json.specs.Cut.{Cut, nothing_left, token, fault, Start, opens_comment, start_of, cut_by, cut_here, past_gap, cut}
-use Rattle.facet_json.specs.Tokens.{Tokens, ended, refused, next, tokens_past, tokens}
+use Rattle.facet_format.specs.Bytes.{is_space, slash}
+use Rattle.facet_json_scan.specs.Gap.{Mode, plain, jsonc, Input, whole, comment_len, gap_len_from, gap_len}
+use Rattle.facet_json_scan.specs.Token.{Token, Fault}
+use Rattle.facet_format.specs.Span.{stop}
+use Rattle.facet_json_scan.specs.Cut.{Cut, nothing_left, token, fault, Start, opens_comment, start_of, cut_by, cut_here, past_gap, cut}
+use Rattle.facet_json_scan.specs.Tokens.{Tokens, ended, refused, next, tokens_past, tokens}
 use Rattle.facet_json.specs.Node.{Node, scalar, array, object, Nodes, no_nodes, Members, no_members, member, Spells, one_token, brackets, braces, SpellsItems, closed, item_and_comma, last_item, SpellsMembers, ended_members, member_and_comma, last_member}
 use Rattle.facet_json.specs.Laws.{PlainIsJsonc}
-use Rattle.facet_json.proofs.TokensSteps.{follow}
-use Rattle.facet_json.proofs.Gaps.{piece_len-blank, gap_len-none, gap_len-some}
+use Rattle.facet_json_scan.proofs.TokensSteps.{follow}
+use Rattle.facet_json_scan.proofs.Gaps.{piece_len-blank, gap_len-none, gap_len-some}
 
 -- ---- the gaps
 

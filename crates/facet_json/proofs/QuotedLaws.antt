@@ -4,10 +4,10 @@ use Rattle.std.specs.Char.{encode_utf8}
 use Rattle.std.specs.Str.{encode_utf8_all}
 use Rattle.std.proofs.lemmas.Grind.{flat_map-append}
 use Rattle.std.proofs.lemmas.Bool.{lt-ltb, le-ltb}
-use Rattle.facet_json.specs.Bytes.{quote}
+use Rattle.facet_format.specs.Bytes.{quote}
 use Rattle.facet_json.specs.Quoted.{escaped}
 use Rattle.facet_json.specs.Laws.{escaped_character, QuotedByCharacters}
-use Rattle.facet_json.proofs.CharAt.{Shape, one, two, three, four, shape, next}
+use Rattle.facet_json_scan.proofs.CharAt.{Shape, one, two, three, four, shape, next}
 
 -- A byte past ASCII is written as it is.
 escaped-past_ascii : (b : ℕ) → 128 ≤ b → escaped b ≡ b ∷ []

@@ -1,13 +1,14 @@
 -- Where the tokens spell a value, every front of it goes on: so what is refused has no document.
 use Rattle.std.proofs.Common.{◌≡◌, ℕ, true, List, Some, None, refl}
-use Rattle.facet_json.specs.Token.{Kind, Token}
-use Rattle.facet_json.specs.Token as token
-use Rattle.facet_json.specs.Tokens.{Tokens, next}
+use Rattle.facet_json_scan.specs.Token.{Kind, Token}
+use Rattle.facet_json_scan.specs.Token as token
+use Rattle.facet_json_scan.specs.Tokens.{Tokens, next}
 use Rattle.facet_json.specs.Node.{Node, is_string, Spells, one_token, brackets, braces}
 use Rattle.facet_json.specs.Tree.{Tree, Trees, Pairs}
 use Rattle.facet_json.specs.Meaning.{Meaning, tree_of}
 use Rattle.facet_json.specs.Document.{Reads}
-use Rattle.facet_json.specs.Place.{Place, root, before_key, after_key, after_colon, after_member, before_item, after_item, begins_value, begins_item, begins_key, goes_on, Refusal}
+use Rattle.facet_json.specs.Place.{Place, root, before_key, after_key, after_colon, after_member, before_item, after_item, begins_value, begins_item, begins_key, goes_on}
+use Rattle.facet_format.specs.Complaint.{Refusal}
 use Rattle.facet_json.specs.Refusal.{Begins, nothing, in_item, behind_item, behind_members, behind_key, in_member, behind_member, needs_meaning, IsStuck, at_end, at_fault, meaningless, misplaced, RefusesFrom}
 use Rattle.facet_json.specs.Refusal as fronts
 use Rattle.facet_json.specs.Laws.{RefusedHasNone}

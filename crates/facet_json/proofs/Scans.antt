@@ -2,25 +2,29 @@
 use Rattle.std.proofs.Common.{◌≡◌, ℕ, ◌+◌, ◌≤◌, ◌<◌, List, length, Some, None, Ok, Err, refl, sym, subst, arith}
 use Rattle.std.specs.Prelude.{IfSome}
 use Rattle.std.proofs.lemmas.Option.{same_Some}
-use Rattle.facet_json.specs.declared.span.Span.{Span as RustSpan}
-use Rattle.facet_json.specs.declared.token.Token.{Token as RustToken}
-use Rattle.facet_json.specs.declared.token.Token.TheVariants as code
-use Rattle.facet_json.specs.declared.token.SpannedToken.{SpannedToken}
-use Rattle.facet_json.specs.declared.token.ScanErrorKind.{ScanErrorKind}
-use Rattle.facet_json.specs.declared.token.ScanErrorKind.TheVariants as scan
-use Rattle.facet_json.specs.declared.token.ScanError.{ScanError}
+use Rattle.facet_format.specs.declared.span.Span.{Span as RustSpan}
+use Rattle.facet_json_scan.specs.declared.token.Token.{Token as RustToken}
+use Rattle.facet_json_scan.specs.declared.token.Token.TheVariants as code
+use Rattle.facet_json_scan.specs.declared.token.SpannedToken.{SpannedToken}
+use Rattle.facet_json_scan.specs.declared.token.ScanErrorKind.{ScanErrorKind}
+use Rattle.facet_json_scan.specs.declared.token.ScanErrorKind.TheVariants as scan
+use Rattle.facet_json_scan.specs.declared.token.ScanError.{ScanError}
 use Rattle.facet_json.specs.declared.materialized.TokenKind.{TokenKind}
-use Rattle.facet_json.specs.Gap.{plain}
-use Rattle.facet_json.specs.Token.{Span, Kind, Token, Fault, stop}
-use Rattle.facet_json.specs.Token as token
-use Rattle.facet_json.specs.Cut.{Cut, nothing_left, token as cut_token, fault, cut, span_at}
-use Rattle.facet_json.specs.Tokens.{next}
-use Rattle.facet_json.specs.Place.{Place, Refusal, refusal_at, complaint_at_end, complaint_of_fault}
+use Rattle.facet_json_scan.specs.Gap.{plain}
+use Rattle.facet_format.specs.Span.{Span, stop}
+use Rattle.facet_json_scan.specs.Token.{Kind, Token, Fault}
+use Rattle.facet_json_scan.specs.Token as token
+use Rattle.facet_json_scan.specs.Cut.{Cut, nothing_left, token as cut_token, fault, cut, span_at}
+use Rattle.facet_json_scan.specs.Tokens.{next}
+use Rattle.facet_json.specs.Place.{Place, complaint_at_end, complaint_of_fault}
+use Rattle.facet_format.specs.Complaint.{Refusal, refusal_at}
 use Rattle.facet_json.specs.Refusal.{at_end, at_fault, meaningless}
 use Rattle.facet_json.specs.Reading.{left, StopsAt}
-use Rattle.facet_json.specs.Views.{span_of, hint_of, kind_of, token_answer, fault_answer, scanned, scan_refusal, CanBeRead, IsReadAs, IsReadFirst, IsMeaningless}
-use Rattle.facet_json.proofs.CutBounds.{TokenFits, KindFits, StringFits, NumberFits, cut-token_fits}
-use Rattle.facet_json.proofs.TokensSteps.{tokens_from-token, tokens_from-fault, tokens_from-nothing}
+use Rattle.facet_format.specs.Views.{span_of, hint_of}
+use Rattle.facet_json_scan.specs.Views.{kind_of, token_answer, fault_answer, scanned, scan_refusal}
+use Rattle.facet_json.specs.Views.{CanBeRead, IsReadAs, IsReadFirst, IsMeaningless}
+use Rattle.facet_json_scan.proofs.CutBounds.{TokenFits, KindFits, StringFits, NumberFits, cut-token_fits}
+use Rattle.facet_json_scan.proofs.TokensSteps.{tokens_from-token, tokens_from-fault, tokens_from-nothing}
 
 -- ---- a token
 

@@ -2,10 +2,10 @@
 use Rattle.std.proofs.Common.{◌≡◌, ℕ, zero, suc, ◌+◌, ◌≤◌, true, Option, Some, None, refl, sym, ap, ◌∙◌, subst, arith}
 use Rattle.std.specs.Prelude.{⊤}
 use Rattle.std.specs.Option.{option_map, option_and_then}
-use Rattle.facet_json.specs.Gap.{plain}
-use Rattle.facet_json.specs.Token.{Kind, Token}
-use Rattle.facet_json.specs.Token as token
-use Rattle.facet_json.specs.Tokens.{Tokens, ended, refused, next, tokens}
+use Rattle.facet_json_scan.specs.Gap.{plain}
+use Rattle.facet_json_scan.specs.Token.{Kind, Token}
+use Rattle.facet_json_scan.specs.Token as token
+use Rattle.facet_json_scan.specs.Tokens.{Tokens, ended, refused, next, tokens}
 use Rattle.facet_json.specs.Node.{Node, scalar, array, object, Nodes, item, Members, member, is_scalar, is_string, Spells, one_token, brackets, braces, SpellsItems, closed, item_and_comma, last_item, SpellsMembers, ended_members, member_and_comma, last_member}
 use Rattle.facet_json.specs.Tree.{Tree}
 use Rattle.facet_json.specs.Meaning.{Meaning, meaning, thin_meaning, tree_of}

@@ -1,7 +1,7 @@
 -- Tokens spell one value at most.
 use Rattle.std.proofs.Common.{◌≡◌, true, false, refl, sym, ap}
-use Rattle.facet_json.specs.Token.{Kind, Token, object_start, array_start, array_end}
-use Rattle.facet_json.specs.Tokens.{Tokens, next}
+use Rattle.facet_json_scan.specs.Token.{Kind, Token, object_start, array_start, array_end}
+use Rattle.facet_json_scan.specs.Tokens.{Tokens, next}
 use Rattle.facet_json.specs.Node.{Node, Nodes, Members, is_scalar, Spells, one_token, brackets, braces, SpellsItems, closed, item_and_comma, last_item, SpellsMembers, ended_members, member_and_comma, last_member}
 use Rattle.facet_json.specs.Tree.{Tree}
 use Rattle.facet_json.specs.Meaning.{Meaning}

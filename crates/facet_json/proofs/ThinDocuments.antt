@@ -1,19 +1,20 @@
 -- What a reader of a whole thin document may answer: the document's tree, or a refusal that leaves no document.
 use Rattle.std.proofs.Common.{◌≡◌, ℕ, ◌+◌, ◌≤◌, List, length, Option, Some, None, IfSome, ap, inl, inr}
 use Rattle.std.specs.Option.{option_map}
-use Rattle.facet_json.specs.declared.span.Span.{Span as RustSpan}
-use Rattle.facet_json.specs.declared.error.DeserializeError.{DeserializeError}
-use Rattle.facet_json.specs.Gap.{plain}
-use Rattle.facet_json.specs.Token.{stop}
-use Rattle.facet_json.specs.Tokens.{Tokens, tokens}
+use Rattle.facet_format.specs.declared.span.Span.{Span as RustSpan}
+use Rattle.facet_format.specs.declared.error.DeserializeError.{DeserializeError}
+use Rattle.facet_json_scan.specs.Gap.{plain}
+use Rattle.facet_format.specs.Span.{stop}
+use Rattle.facet_json_scan.specs.Tokens.{Tokens, tokens}
 use Rattle.facet_json.specs.Node.{Node}
 use Rattle.facet_json.specs.Tree.{Tree}
 use Rattle.facet_json.specs.Meaning.{thin_meaning}
 use Rattle.facet_json.specs.Document.{IsThinDocument}
-use Rattle.facet_json.specs.Place.{Refusal, no_memory, root}
+use Rattle.facet_format.specs.Complaint.{Refusal, no_memory}
+use Rattle.facet_json.specs.Place.{root}
 use Rattle.facet_json.specs.Refusal.{RefusesThin, nothing}
 use Rattle.facet_json.specs.Reading.{ReadsValue, StopsAt, StopsFrom}
-use Rattle.facet_json.specs.Views.{span_of, refusal_of}
+use Rattle.facet_format.specs.Views.{span_of, refusal_of}
 use Rattle.facet_json.proofs.Spelling.{one_reading}
 use Rattle.facet_json.proofs.Refused.{refused_has_none}
 use Rattle.facet_json.proofs.Suffixes.{refused_within}

@@ -2,10 +2,10 @@
 use Rattle.std.proofs.Common.{◌≡◌, ℕ, ◌<◌, ◌≤◌, ◌^◌, Bool, true, false, cond, List, Option, Some, None, refl, ap, ◌∙◌, drop}
 use Rattle.std.proofs.lemmas.Bool.{lt-ltb, le-ltb}
 use Rattle.std.specs.Prelude.{pos, neg_ℤ, nat_lt, nat_le}
-use Rattle.facet_json.specs.Number.{Number, u64, u128, i64, i128, decimal, unsigned, signed, float, negative_number, number, is_number, value_by, has_value, parts, digits_value}
+use Rattle.facet_format.specs.Number.{Number, u64, u128, i64, i128, decimal, unsigned, signed, float, negative_number, number, is_number, value_by, has_value, parts, digits_value}
 use Rattle.facet_json.specs.Tree as tree
 use Rattle.facet_json.specs.Meaning.{thin_number}
-use Rattle.facet_json.proofs.NumberText.{number-unsigned}
+use Rattle.facet_format.proofs.NumberText.{number-unsigned}
 
 -- A choice of two things that aren't thin isn't.
 thin_choice : (b : Bool) (x y : Option Number) → thin_number x ≡ None → thin_number y ≡ None →

@@ -1,7 +1,7 @@
 -- Documents (RFC 8259, section 2): a front of the input's tokens that spells a value, all of whose strings and numbers have a meaning.
 use Rattle.std.specs.Prelude.{◌≡◌, List, ℕ, Some}
-use Rattle.facet_json.specs.Gap.{Mode, plain}
-use Rattle.facet_json.specs.Tokens.{Tokens, ended, tokens}
+use Rattle.facet_json_scan.specs.Gap.{Mode, plain}
+use Rattle.facet_json_scan.specs.Tokens.{Tokens, ended, tokens}
 use Rattle.facet_json.specs.Node.{Node, Spells}
 use Rattle.facet_json.specs.Tree.{Tree}
 use Rattle.facet_json.specs.Meaning.{Meaning, meaning, thin_meaning, tree_of}

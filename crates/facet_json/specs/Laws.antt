@@ -3,19 +3,19 @@ use Rattle.std.specs.Prelude.{◌≡◌, ◌≢◌, ℕ, ◌≤◌, ◌↔◌, t
 use Rattle.std.specs.List.{flat_map}
 use Rattle.std.specs.Char.{encode_utf8}
 use Rattle.std.specs.Str.{all_scalars, encode_utf8_all}
-use Rattle.facet_json.specs.Bytes.{quote}
-use Rattle.facet_json.specs.Gap.{Mode, plain, jsonc, Input, IsGap, gap_len}
-use Rattle.facet_json.specs.Number.{Hint, IsNumber, parts, parts_len, parts_hint, is_bare, begins_number, is_number}
-use Rattle.facet_json.specs.Token.{Kind}
-use Rattle.facet_json.specs.Cut.{IsShape, nothing_left, token_at, cut_here, cut}
-use Rattle.facet_json.specs.Open.{IsOpen, is_open}
-use Rattle.facet_json.specs.Decode.{Decodes, decoded}
+use Rattle.facet_format.specs.Bytes.{quote}
+use Rattle.facet_json_scan.specs.Gap.{Mode, plain, jsonc, Input, IsGap, gap_len}
+use Rattle.facet_format.specs.Number.{Hint, IsNumber, parts, parts_len, parts_hint, is_bare, begins_number, is_number}
+use Rattle.facet_json_scan.specs.Token.{Kind}
+use Rattle.facet_json_scan.specs.Cut.{IsShape, nothing_left, token_at, cut_here, cut}
+use Rattle.facet_json_scan.specs.Open.{IsOpen, is_open}
+use Rattle.facet_json_scan.specs.Decode.{Decodes, decoded}
 use Rattle.facet_json.specs.Node.{Node, Spells}
-use Rattle.facet_json.specs.Tokens.{Tokens}
+use Rattle.facet_json_scan.specs.Tokens.{Tokens}
 use Rattle.facet_json.specs.Tree.{Tree}
 use Rattle.facet_json.specs.Document.{IsDocument, IsThinDocument, IsWholeDocument}
 use Rattle.facet_json.specs.Spelled.{spelled, document, whole_document, thin_document}
-use Rattle.facet_json.specs.Place.{Refusal}
+use Rattle.facet_format.specs.Complaint.{Refusal}
 use Rattle.facet_json.specs.Refusal.{RefusesThin}
 use Rattle.facet_json.specs.Quoted.{escaped, quoted}
 

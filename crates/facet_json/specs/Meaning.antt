@@ -2,11 +2,11 @@
 use Rattle.std.specs.Prelude.{ℕ, Bool, true, false, List, Option, Some, None, slice_range}
 use Rattle.std.specs.Option.{option_map, option_and_then}
 use Rattle.std.specs.Fmt.{decimal, signed_decimal}
-use Rattle.facet_json.specs.Number.{Number, Hint}
-use Rattle.facet_json.specs.Number as numbers
-use Rattle.facet_json.specs.Decode.{decoded}
-use Rattle.facet_json.specs.Token.{Kind, Token}
-use Rattle.facet_json.specs.Token as token
+use Rattle.facet_format.specs.Number.{Number, Hint}
+use Rattle.facet_format.specs.Number as numbers
+use Rattle.facet_json_scan.specs.Decode.{decoded}
+use Rattle.facet_json_scan.specs.Token.{Kind, Token}
+use Rattle.facet_json_scan.specs.Token as token
 use Rattle.facet_json.specs.Node.{Node, scalar, array, object, Nodes, no_nodes, item, Members, no_members, member}
 use Rattle.facet_json.specs.Tree.{Tree, null, bool, i64, u64, text, list, pairs, Trees, no_trees, Pairs, no_pairs, pair}
 use Rattle.facet_json.specs.Tree as trees

@@ -1,7 +1,7 @@
 -- Values as trees of tokens, and which tokens spell one (RFC 8259, sections 2 to 5; one comma may follow a nonempty list).
 use Rattle.std.specs.Prelude.{◌≡◌, Bool, true, false}
-use Rattle.facet_json.specs.Token.{Kind, Token, object_start, object_end, array_start, array_end, colon, comma, null, true_literal, false_literal, string, number}
-use Rattle.facet_json.specs.Tokens.{Tokens, next}
+use Rattle.facet_json_scan.specs.Token.{Kind, Token, object_start, object_end, array_start, array_end, colon, comma, null, true_literal, false_literal, string, number}
+use Rattle.facet_json_scan.specs.Tokens.{Tokens, next}
 
 -- a scalar's token, or the brackets of a container and what stands between them
 mutual

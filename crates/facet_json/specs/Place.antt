@@ -1,9 +1,10 @@
 -- Where a reader stands in a document that is not whole yet, what goes on there, and what else is refused with (RFC 8259, sections 2 to 5).
 use Rattle.std.specs.Prelude.{ℕ, Bool, true, false, List, Option, Some, None, codes, slice_range}
-use Rattle.facet_json.specs.Number.{Number}
-use Rattle.facet_json.specs.Number as numbers
-use Rattle.facet_json.specs.Token.{Span, Kind, Token, Fault, FaultKind}
-use Rattle.facet_json.specs.Token as token
+use Rattle.facet_format.specs.Number.{Number}
+use Rattle.facet_format.specs.Number as numbers
+use Rattle.facet_format.specs.Span.{Span}
+use Rattle.facet_json_scan.specs.Token.{Kind, Token, Fault, FaultKind}
+use Rattle.facet_json_scan.specs.Token as token
 use Rattle.facet_json.specs.Node.{is_scalar, is_string}
 
 -- where no value has begun yet, or what stands in front within the innermost open container

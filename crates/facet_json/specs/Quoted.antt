@@ -1,7 +1,7 @@
 -- A text as it is written (RFC 8259, section 7).
 use Rattle.std.specs.Prelude.{ℕ, ◌/◌, ◌%◌, ◌+◌, cond, ◌==◌, ◌||◌, nat_lt, List, [], ◌∷◌, ◌++◌, codes}
 use Rattle.std.specs.List.{flat_map}
-use Rattle.facet_json.specs.Bytes.{quote, backslash, lower_b, lower_f, lower_n, lower_r, lower_t, backspace, form_feed, line_feed, carriage_return, tab, space, delete}
+use Rattle.facet_format.specs.Bytes.{quote, backslash, lower_b, lower_f, lower_n, lower_r, lower_t, backspace, form_feed, line_feed, carriage_return, tab, space, delete}
 
 -- a lower-case hexadecimal digit
 abbrev pub hex_digit : ℕ → ℕ

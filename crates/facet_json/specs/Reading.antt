@@ -1,14 +1,15 @@
 -- What a reader of a piece of a thin document says of the piece: what it read, or how it was refused.
 use Rattle.std.specs.Prelude.{◌≡◌, ◌⊎◌, ℕ, List, Some}
-use Rattle.facet_json.specs.Token.{Token}
-use Rattle.facet_json.specs.Token as token
-use Rattle.facet_json.specs.Gap.{plain}
-use Rattle.facet_json.specs.Tokens.{Tokens, next, tokens_from}
+use Rattle.facet_json_scan.specs.Token.{Token}
+use Rattle.facet_json_scan.specs.Token as token
+use Rattle.facet_json_scan.specs.Gap.{plain}
+use Rattle.facet_json_scan.specs.Tokens.{Tokens, next, tokens_from}
 use Rattle.facet_json.specs.Node.{Node, Nodes, Members, SpellsItems, SpellsMembers}
 use Rattle.facet_json.specs.Tree.{Tree, Trees, Pairs}
 use Rattle.facet_json.specs.Meaning.{Meaning, thin_meaning, trees_of, pairs_of}
 use Rattle.facet_json.specs.Document.{Reads}
-use Rattle.facet_json.specs.Place.{Place, root, after_colon, before_item, Refusal, no_memory}
+use Rattle.facet_json.specs.Place.{Place, root, after_colon, before_item}
+use Rattle.facet_format.specs.Complaint.{Refusal, no_memory}
 use Rattle.facet_json.specs.Refusal.{RefusesFrom, IsStuck, ThinComplains}
 
 -- the plain tokens that are left from a position on

@@ -1,14 +1,16 @@
 -- Fronts of documents, and how an input without a document is refused: at the first token with which the front can't go on.
 use Rattle.std.specs.Prelude.{◌≡◌, ℕ, Bool, true, false, cond, List, length, Some, None, IsSome, codes}
-use Rattle.facet_json.specs.Token.{Span, Kind, Token, Fault}
-use Rattle.facet_json.specs.Token as token
-use Rattle.facet_json.specs.Gap.{plain}
-use Rattle.facet_json.specs.Cut.{span_at}
-use Rattle.facet_json.specs.Tokens.{Tokens, ended, refused, next, tokens}
+use Rattle.facet_format.specs.Span.{Span}
+use Rattle.facet_json_scan.specs.Token.{Kind, Token, Fault}
+use Rattle.facet_json_scan.specs.Token as token
+use Rattle.facet_json_scan.specs.Gap.{plain}
+use Rattle.facet_json_scan.specs.Cut.{span_at}
+use Rattle.facet_json_scan.specs.Tokens.{Tokens, ended, refused, next, tokens}
 use Rattle.facet_json.specs.Node.{Node, Spells, is_string}
 use Rattle.facet_json.specs.Tree.{Tree}
 use Rattle.facet_json.specs.Meaning.{Meaning, tree_of, text_of, thin_meaning}
-use Rattle.facet_json.specs.Place.{Place, root, before_key, after_key, after_colon, after_member, before_item, after_item, goes_on, expected_at, complaint_at_end, complaint_of_fault, kind_name, Complaint, unexpected_token, invalid_utf8, invalid_value, Refusal, refusal_at}
+use Rattle.facet_json.specs.Place.{Place, root, before_key, after_key, after_colon, after_member, before_item, after_item, goes_on, expected_at, complaint_at_end, complaint_of_fault, kind_name}
+use Rattle.facet_format.specs.Complaint.{Complaint, unexpected_token, invalid_utf8, invalid_value, Refusal, refusal_at}
 
 -- Items, each with its comma, stand in front of the last tokens.
 pub data PassesItems (m : Meaning) : Tokens → Tokens → Type 0 where

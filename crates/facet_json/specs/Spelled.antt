@@ -1,10 +1,10 @@
 -- The value that tokens spell, and the document of an input, computed: slow, and plain.
 use Rattle.std.specs.Prelude.{ℕ, zero, suc, List, Option, Some, None}
 use Rattle.std.specs.Option.{option_map, option_and_then}
-use Rattle.facet_json.specs.Gap.{Mode, plain}
-use Rattle.facet_json.specs.Token.{Kind, Token}
-use Rattle.facet_json.specs.Token as token
-use Rattle.facet_json.specs.Tokens.{Tokens, ended, refused, next, tokens}
+use Rattle.facet_json_scan.specs.Gap.{Mode, plain}
+use Rattle.facet_json_scan.specs.Token.{Kind, Token}
+use Rattle.facet_json_scan.specs.Token as token
+use Rattle.facet_json_scan.specs.Tokens.{Tokens, ended, refused, next, tokens}
 use Rattle.facet_json.specs.Node.{Node, scalar, array, object, Nodes, no_nodes, item, Members, no_members, member}
 use Rattle.facet_json.specs.Tree.{Tree}
 use Rattle.facet_json.specs.Meaning.{Meaning, meaning, thin_meaning, tree_of}

@@ -3,20 +3,20 @@ use Rattle.std.specs.Prelude.{◌≡◌, ℕ, List, [], ◌∷◌, map, Option, 
 use Rattle.std.specs.Option.{option_map}
 use Rattle.std.specs.declared.string.String.{String}
 use Rattle.std.specs.declared.alloc.Global.{Global}
-use Rattle.facet_json.specs.declared.mode.Mode.{Mode as RustMode}
-use Rattle.facet_json.specs.declared.mode.Mode.TheVariants as mode
-use Rattle.facet_json.specs.declared.span.Span.{Span as RustSpan}
-use Rattle.facet_json.specs.declared.token.NumberHint.{NumberHint}
-use Rattle.facet_json.specs.declared.token.NumberHint.TheVariants as hint
-use Rattle.facet_json.specs.declared.token.Token.{Token as RustToken}
-use Rattle.facet_json.specs.declared.token.Token.TheVariants as code
-use Rattle.facet_json.specs.declared.token.SpannedToken.{SpannedToken}
-use Rattle.facet_json.specs.declared.token.ScanErrorKind.{ScanErrorKind}
-use Rattle.facet_json.specs.declared.token.ScanErrorKind.TheVariants as scan
-use Rattle.facet_json.specs.declared.token.ScanError.{ScanError}
-use Rattle.facet_json.specs.declared.error.DeserializeErrorKind.{DeserializeErrorKind}
-use Rattle.facet_json.specs.declared.error.DeserializeErrorKind.TheVariants as error
-use Rattle.facet_json.specs.declared.error.DeserializeError.{DeserializeError}
+use Rattle.facet_json_scan.specs.declared.mode.Mode.{Mode as RustMode}
+use Rattle.facet_json_scan.specs.declared.mode.Mode.TheVariants as mode
+use Rattle.facet_format.specs.declared.span.Span.{Span as RustSpan}
+use Rattle.facet_format.specs.declared.numeral.NumberHint.{NumberHint}
+use Rattle.facet_format.specs.declared.numeral.NumberHint.TheVariants as hint
+use Rattle.facet_json_scan.specs.declared.token.Token.{Token as RustToken}
+use Rattle.facet_json_scan.specs.declared.token.Token.TheVariants as code
+use Rattle.facet_json_scan.specs.declared.token.SpannedToken.{SpannedToken}
+use Rattle.facet_json_scan.specs.declared.token.ScanErrorKind.{ScanErrorKind}
+use Rattle.facet_json_scan.specs.declared.token.ScanErrorKind.TheVariants as scan
+use Rattle.facet_json_scan.specs.declared.token.ScanError.{ScanError}
+use Rattle.facet_format.specs.declared.error.DeserializeErrorKind.{DeserializeErrorKind}
+use Rattle.facet_format.specs.declared.error.DeserializeErrorKind.TheVariants as error
+use Rattle.facet_format.specs.declared.error.DeserializeError.{DeserializeError}
 use Rattle.facet_json.specs.declared.place.Place.{Place as RustPlace}
 use Rattle.facet_json.specs.declared.place.Place.TheVariants as places
 use Rattle.facet_json.specs.declared.materialized.TokenKind.{TokenKind}
@@ -25,17 +25,19 @@ use Rattle.facet_json.specs.declared.materialized.MaterializedToken.{Materialize
 use Rattle.facet_json.specs.declared.tree.Tree.{Tree as RustTree, fold-Tree}
 use Rattle.facet_json.specs.declared.tree.Tree.TheOpen.{Tree-F}
 use Rattle.std.specs.List.{list_any}
-use Rattle.facet_json.specs.Bytes.{backslash}
-use Rattle.facet_json.specs.Number.{is_number as is_number_text}
-use Rattle.facet_json.specs.Gap.{Mode, plain, jsonc}
-use Rattle.facet_json.specs.Number.{Hint, unsigned, signed, float}
-use Rattle.facet_json.specs.Token.{Span, Kind, Token, FaultKind, Fault}
-use Rattle.facet_json.specs.Token as token
-use Rattle.facet_json.specs.Cut.{Cut, nothing_left, fault}
-use Rattle.facet_json.specs.Cut as cut
-use Rattle.facet_json.specs.Place.{Place, Complaint, Refusal}
+use Rattle.facet_format.specs.Bytes.{backslash}
+use Rattle.facet_format.specs.Number.{is_number as is_number_text}
+use Rattle.facet_json_scan.specs.Gap.{Mode, plain, jsonc}
+use Rattle.facet_format.specs.Number.{Hint, unsigned, signed, float}
+use Rattle.facet_format.specs.Span.{Span}
+use Rattle.facet_json_scan.specs.Token.{Kind, Token, FaultKind, Fault}
+use Rattle.facet_json_scan.specs.Token as token
+use Rattle.facet_json_scan.specs.Cut.{Cut, nothing_left, fault}
+use Rattle.facet_json_scan.specs.Cut as cut
+use Rattle.facet_json.specs.Place.{Place}
+use Rattle.facet_format.specs.Complaint.{Complaint, Refusal}
 use Rattle.facet_json.specs.Place as place
-use Rattle.facet_json.specs.Tokens.{Tokens, next}
+use Rattle.facet_json_scan.specs.Tokens.{Tokens, next}
 use Rattle.facet_json.specs.Node.{is_string}
 use Rattle.facet_json.specs.Meaning.{thin_meaning_of}
 use Rattle.facet_json.specs.Refusal.{is_number, needs_meaning, thin_complaint}

@@ -1,8 +1,9 @@
 //! Tokens whose texts and numbers have been read.
 
 ghost use Rattle.std.specs.Prelude.{◌≡◌, Some};
-ghost use Rattle.facet_json.specs.Place.{refusal_at};
-ghost use Rattle.facet_json.specs.Views.{refusal_of, span_of, place_of, misplaced_complaint, name_of};
+ghost use Rattle.facet_format.specs.Complaint.{refusal_at};
+ghost use Rattle.facet_format.specs.Views.{refusal_of, span_of};
+ghost use Rattle.facet_json.specs.Views.{place_of, misplaced_complaint, name_of};
 
 use crate::error::{DeserializeError, DeserializeErrorKind};
 use crate::place::Place;

@@ -2,16 +2,19 @@
 
 ghost use Rattle.std.specs.Prelude.{◌≡◌, ◌≢◌, ◌≤◌, ◌<◌, ◌+◌, ◌⊎◌, length, IfOk, IfErr, IfSome, OnOk, MatchResult};
 ghost use Rattle.facet_json.specs.declared.materialized.TokenKind.TheVariants.{ArrayEnd};
-ghost use Rattle.facet_json.specs.Token.{array_start, object_start};
-ghost use Rattle.facet_json.specs.Tokens.{Tokens};
+ghost use Rattle.facet_json_scan.specs.Token.{array_start, object_start};
+ghost use Rattle.facet_json_scan.specs.Tokens.{Tokens};
 ghost use Rattle.facet_json.specs.Tree.{Tree as SpecTree};
 ghost use Rattle.facet_json.specs.Node.{Node};
 ghost use Rattle.facet_json.specs.Meaning.{thin_meaning};
 ghost use Rattle.facet_json.specs.Document.{IsThinDocument};
-ghost use Rattle.facet_json.specs.Place.{after_key, before_item, no_memory};
+ghost use Rattle.facet_json.specs.Place.{after_key, before_item};
+ghost use Rattle.facet_format.specs.Complaint.{no_memory};
 ghost use Rattle.facet_json.specs.Refusal.{RefusesThin};
 ghost use Rattle.facet_json.specs.Reading.{left, ReadsValue, ReadsList, ReadsObject, IsColonNext, StopsAt, StopsFrom, StopsBehind, TakesValue};
-ghost use Rattle.facet_json.specs.Views.{refusal_of, place_of, kind_of, span_of, tree_view, trees_view, pairs_view, IsReadFirst, IsReadAs, IsMeaningless, CanBeRead};
+ghost use Rattle.facet_format.specs.Views.{refusal_of, span_of};
+ghost use Rattle.facet_json.specs.Views.{place_of, tree_view, trees_view, pairs_view, IsReadFirst, IsReadAs, IsMeaningless, CanBeRead};
+ghost use Rattle.facet_json_scan.specs.Views.{kind_of};
 
 use crate::error::DeserializeError;
 use crate::materialized::{MaterializedToken, TokenKind};

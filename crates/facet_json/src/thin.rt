@@ -2,13 +2,13 @@
 
 ghost use Rattle.std.specs.Prelude.{◌≡◌, ◌==◌, Some, None, IfOk, IfErr, true};
 ghost use Rattle.std.specs.List.{list_any};
-ghost use Rattle.facet_json.specs.Bytes.{backslash};
-ghost use Rattle.facet_json.specs.Number.{number, is_number};
-ghost use Rattle.facet_json.specs.Place.{refusal_at, invalid_utf8};
+ghost use Rattle.facet_format.specs.Bytes.{backslash};
+ghost use Rattle.facet_format.specs.Number.{number, is_number};
+ghost use Rattle.facet_format.specs.Complaint.{refusal_at, invalid_utf8};
 ghost use Rattle.facet_json.specs.Tree.{text, u64 as u64_tree};
 ghost use Rattle.facet_json.specs.Meaning.{thin_string, thin_number as thin_number_value};
 ghost use Rattle.facet_json.specs.Refusal.{thin_text_complaint, not_read_yet as not_read_yet_complaint};
-ghost use Rattle.facet_json.specs.Views.{refusal_of, span_of, hint_of};
+ghost use Rattle.facet_format.specs.Views.{refusal_of, span_of, hint_of};
 
 use crate::error::{DeserializeError, DeserializeErrorKind};
 use crate::number::parse_unsigned;

@@ -1,7 +1,7 @@
 -- What the program says of how a run ended.
 use Rattle.std.specs.Prelude.{ℕ, List, [], ◌++◌, Some, None, codes}
 use Rattle.std.specs.Fmt.{decimal}
-use Rattle.facet_json.specs.declared.span.Span.{Span}
+use Rattle.facet_format.specs.declared.span.Span.{Span}
 use Rattle.facet_json_tool.specs.declared.run.Outcome.{Outcome}
 use Rattle.facet_json_tool.specs.declared.run.Outcome.TheVariants.{Done, Refused, Io, Usage}
 

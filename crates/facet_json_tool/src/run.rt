@@ -3,7 +3,7 @@
 ghost use Rattle.std.specs.Prelude.{ℕ, Option, ◌≡◌, ◌≢◌, ◌⊎◌, ◌↔◌, ◌++◌, codes, None, IfOk, IfErr, IfSome, MatchOption};
 ghost use Rattle.std.specs.Io.KnownBytes.{Appends};
 ghost use Rattle.std.specs.IoError.{error_kind};
-ghost use Rattle.facet_json.specs.declared.span.Span.{Span as TheSpan};
+ghost use Rattle.facet_format.specs.declared.span.Span.{Span as TheSpan};
 ghost use Rattle.facet_json_tool.specs.declared.run.Outcome.TheVariants as outcome;
 ghost use Rattle.facet_json_tool.specs.Run.{AsksToFormat, HasDocument, IsReformatted, IsFailure, IsRefusal, Formats};
 

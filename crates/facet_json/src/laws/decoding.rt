@@ -1,6 +1,7 @@
 //! The laws of strings' contents: what they stand for, and how a text is written.
 
-ghost use Rattle.facet_json.specs.Laws.{DecodedIsDecodes, QuotedByCharacters};
+ghost use Rattle.facet_json_scan.specs.Laws.{DecodedIsDecodes};
+ghost use Rattle.facet_json.specs.Laws.{QuotedByCharacters};
 
 /// The text that is computed for a string's content is the one text that it stands for, piece by piece
 /// (RFC 8259, section 7).

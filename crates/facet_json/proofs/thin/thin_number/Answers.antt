@@ -1,4 +1,4 @@
-use Rattle.facet_json.proofs.NumberText.{unsigned-digits}
+use Rattle.facet_format.proofs.NumberText.{unsigned-digits}
 use Rattle.facet_json.proofs.ThinNumbers.{thin_number-signed, thin_number-float, thin_number-below, thin_number-above}
 use Rattle.facet_json.proofs.thin.thin_number.Goals as goal
 

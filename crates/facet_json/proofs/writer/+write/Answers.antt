@@ -1,7 +1,7 @@
 use Rattle.std.proofs.Common.{◌≡◌, ◌+◌, true, false, List, [], ◌∷◌, ◌++◌, Result, drop, string_bytes, ℕ, sym, ap, ◌∙◌, subst, arith, rules}
 use Rattle.std.proofs.lemmas.List.{append_assoc, drop_all}
 use Rattle.std.specs.Result.{OnOk}
-use Rattle.facet_json.specs.Bytes.{colon, left_bracket, right_bracket, left_brace, right_brace}
+use Rattle.facet_format.specs.Bytes.{colon, left_bracket, right_bracket, left_brace, right_brace}
 use Rattle.facet_json.specs.Quoted.{quoted}
 use Rattle.facet_json.specs.Text.{separator, text}
 use Rattle.facet_json.specs.Tree.{bool, list, pairs}

@@ -1,10 +1,10 @@
 use Rattle.std.proofs.Common.{◌≡◌, Option, Some, None, refl, sym, ap, ◌∙◌}
 use Rattle.std.specs.Option.{option_map}
 use Rattle.std.proofs.lemmas.Option.{none-some}
-use Rattle.facet_json.specs.declared.span.Span.{Span}
-use Rattle.facet_json.specs.declared.error.DeserializeError.{DeserializeError}
-use Rattle.facet_json.specs.Place.{no_memory, code_of}
-use Rattle.facet_json.specs.Views.{refusal_of, complaint_of, span_of}
+use Rattle.facet_format.specs.declared.span.Span.{Span}
+use Rattle.facet_format.specs.declared.error.DeserializeError.{DeserializeError}
+use Rattle.facet_format.specs.Complaint.{no_memory, code_of}
+use Rattle.facet_format.specs.Views.{refusal_of, complaint_of, span_of}
 use Rattle.facet_json_tool.specs.Run.{IsOutOfMemory}
 use Rattle.facet_json_tool.proofs.run.reformatted.Goals as goal
 

@@ -1,0 +1,57 @@
+-- The parts of a number from the offsets where they end, and the token that has them.
+use Rattle.std.proofs.Common.{◌≡◌, ℕ, ◌+◌, ◌-◌, false, List, drop, refl, ap, ap₂, sym, ◌∙◌, arith}
+use Rattle.std.proofs.lemmas.List.{drop-drop}
+use Rattle.facet_format.specs.Number.{Hint, minus_len, digits_len, fraction_len, exponent_len, Parts, parts, parts_len, parts_hint, is_bare}
+use Rattle.facet_json_scan.specs.Token.{number}
+use Rattle.facet_json_scan.specs.Cut.{token_at, cut_number}
+
+-- The parts of what stands at `at` end at these offsets.
+pub record PartsEnd (p : Parts) (at digits fraction exponent end : ℕ) : Type 0 where
+  pub sign_ends : digits ≡ at + p.sign
+  pub digits_end : fraction ≡ digits + p.digits
+  pub fraction_ends : exponent ≡ fraction + p.fraction
+  pub exponent_ends : end ≡ exponent + p.exponent
+
+-- a part behind a front of what stands at an offset
+part-behind : (len : List ℕ → ℕ) (buffer : List ℕ) (at front from to : ℕ) → from ≡ at + front →
+    to ≡ from + len (drop from buffer) → to ≡ from + len (drop front (drop at buffer))
+part-behind len buffer at front from to e h =
+    h ∙ ap (λ n. from + len (drop n buffer)) e ∙ ap (λ l. from + len l) (sym (drop-drop front at buffer))
+
+-- where each part is cut at the end of the one before
+pub PartsEnd-parts : (buffer : List ℕ) (at digits fraction exponent end : ℕ) →
+    digits ≡ at + minus_len (drop at buffer) → fraction ≡ digits + digits_len (drop digits buffer) →
+    exponent ≡ fraction + fraction_len (drop fraction buffer) → end ≡ exponent + exponent_len (drop exponent buffer) →
+    PartsEnd (parts (drop at buffer)) at digits fraction exponent end
+unfolding parts
+PartsEnd-parts buffer at digits fraction exponent end e1 e2 e3 e4 =
+    let p = parts (drop at buffer) in
+    let d : fraction ≡ digits + p.digits = part-behind digits_len buffer at p.sign digits fraction e1 e2 in
+    let f : exponent ≡ fraction + p.fraction =
+    part-behind fraction_len buffer at (p.sign + p.digits) fraction exponent (omega arith) e3 in
+    record {
+      sign_ends = e1;
+      digits_end = d;
+      fraction_ends = f;
+      exponent_ends = part-behind exponent_len buffer at (p.sign + p.digits + p.fraction) exponent end (omega arith) e4;
+    }
+
+-- each part is as long as its ends are apart
+pub PartsEnd-lengths : (p : Parts) (at digits fraction exponent end : ℕ) → PartsEnd p at digits fraction exponent end →
+    record { sign = digits - at; digits = fraction - digits; fraction = exponent - fraction; exponent = end - exponent }
+    ≡ p
+PartsEnd-lengths p at digits fraction exponent end h =
+    let s : digits - at ≡ p.sign = omega arith in
+    let d : fraction - digits ≡ p.digits = omega arith in
+    let f : exponent - fraction ≡ p.fraction = omega arith in
+    let e : end - exponent ≡ p.exponent = omega arith in
+    rw (s, d, f, e) refl
+
+-- The token of a number with these parts is cut where they stand.
+pub cut_number-parts : (q p : Parts) (rest : List ℕ) (hint : Hint) (at len : ℕ) → q ≡ p → len ≡ parts_len q →
+    hint ≡ parts_hint q → is_bare q ≡ false →
+    token_at (number at (at + len) hint) at len ≡ cut_number at rest (parts_len p) (parts_hint p) (is_bare p)
+cut_number-parts q p rest hint at len same long what more =
+    ap₂ (λ n h. token_at (number at (at + n) h) at n) long what
+    ∙ ap (cut_number at rest (parts_len q) (parts_hint q)) (sym more)
+    ∙ ap (λ r. cut_number at rest (parts_len r) (parts_hint r) (is_bare r)) same

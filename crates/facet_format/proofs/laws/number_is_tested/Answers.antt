@@ -1,0 +1,5 @@
+use Rattle.facet_format.proofs.NumberLaws as numbers
+use Rattle.facet_format.proofs.laws.number_is_tested.Goals as goal
+
+pub returns : goal.returns
+returns c = numbers.number_is_tested

@@ -1,0 +1,117 @@
+//! Numbers that are kept as their text: those with a fraction or an exponent.
+
+ghost use Rattle.std.specs.Prelude.{◌≡◌, ◌≤◌, true, Some, None, length, MatchOption, MatchResult, nat_eq};
+ghost use Rattle.std.specs.List.{list_any};
+ghost use Rattle.std.specs.Cmp.{partial_equiv_from_equiv};
+ghost use Rattle.std.specs.Cmp.Lexicographic.{pointwise, nat_list_eq_equiv};
+ghost use Rattle.facet_format.specs.Bytes.{is_digit};
+ghost use Rattle.facet_format.specs.Number.{number, is_number, float, decimal, has_value};
+ghost use Rattle.facet_format.specs.Views.{parts_of, ArePartsOf};
+
+use crate::numeral::{Parts, number_parts};
+use crate::token::NumberHint;
+use std::alloc::Global;
+use std::borrow::CowStr;
+use std::marker::Model;
+
+/// The text of a number with a fraction or an exponent, as it stands (RFC 8259, section 6, leniently): runs of digits
+/// may be empty, but a digit stands before any exponent mark, and one after it. Two are equal where their texts are.
+#[derive(Debug, Drop)]
+pub struct Decimal<'a>(CowStr<'a>);
+
+impl<'a> Model for Decimal<'a> {
+    ghost use Rattle.std.specs.Prelude.{◌≡◌, ℕ, List, Some};
+    ghost use Rattle.std.specs.Cow.{cow_str_bytes};
+    ghost use Rattle.facet_format.specs.Number.{number, float, decimal};
+
+    ghost Value = { List ℕ };
+
+    ghost view = { λ d. cow_str_bytes d.0 };
+
+    ghost invariant = { λ d. number (cow_str_bytes d.0) float ≡ Some (decimal (cow_str_bytes d.0)) };
+}
+
+impl<'a> PartialEq for Decimal<'a> {
+    ghost eq = { pointwise nat_eq };
+
+    ghost laws = { partial_equiv_from_equiv nat_list_eq_equiv };
+
+    fn eq(&self, other: &Self) -> bool {
+        self.as_str() == other.as_str()
+    }
+}
+
+impl<'a> Eq for Decimal<'a> {
+    ghost laws = { nat_list_eq_equiv };
+}
+
+impl<'a> Decimal<'a> {
+    /// The text, if it is such a number from its first byte to its last.
+    ///
+    /// ```text
+    /// Decimal::new("-0.50")    Some
+    /// Decimal::new("1.e5")     Some
+    /// Decimal::new("1e")       None: no digit after the exponent mark
+    /// Decimal::new("15")       None: neither a fraction nor an exponent
+    /// ```
+    pub fn new(text: &'a str) -> Option<Decimal<'a>>
+        ensures { MatchOption result
+            (number text.now float ≡ None)
+            (λ d. (d ≡ text.now) × (number text.now float ≡ Some (decimal text.now))) }
+    {
+        let parts = number_parts(text.as_bytes(), NumberHint::Float)?;
+        Decimal::from_number(text, parts)
+    }
+
+    /// The same for a text that is a number with a fraction or an exponent, of these parts.
+    pub(crate) fn from_number(text: &'a str, parts: Parts) -> Option<Decimal<'a>>
+        requires is_number { is_number text.now float ≡ true }
+        requires parts { ArePartsOf text.now parts }
+        ensures { MatchOption result
+            (number text.now float ≡ None)
+            (λ d. (d ≡ text.now) × (number text.now float ≡ Some (decimal text.now))) }
+    {
+        if has_value(text.as_bytes(), parts) {
+            Some(Decimal(CowStr::Borrowed(text)))
+        } else {
+            None
+        }
+    }
+
+    /// The text.
+    pub fn as_str(&self) -> &str
+        ensures text { result.now ≡ self.now }
+        ensures number { number self.now float ≡ Some (decimal self.now) }
+    {
+        self.0.as_str()
+    }
+
+    /// The same text in memory of its own, or the value back where there is no memory for it.
+    pub fn into_owned(self, alloc: Global) -> Result<Decimal<'static>, Decimal<'a>>
+        ensures { MatchResult result (λ d. d ≡ self.entry) (λ d. d ≡ self.entry) }
+    {
+        match self.0 {
+            CowStr::Owned(text) => Ok(Decimal(CowStr::Owned(text))),
+            CowStr::Borrowed(text) => match String::from_str(alloc, text) {
+                Ok(owned) => Ok(Decimal(CowStr::Owned(owned))),
+                Err(_) => Err(Decimal(CowStr::Borrowed(text))),
+            },
+        }
+    }
+}
+
+/// Whether a digit stands before any exponent mark, and one after it, in a number of these parts.
+fn has_value(text: &[u8], parts: Parts) -> bool
+    requires { ArePartsOf text.now parts }
+    ensures { result ≡ has_value (parts_of parts) text.now }
+{
+    let (before, exponent) = text.split_at(parts.exponent_start());
+    any_digit(before) && (parts.exponent == 0 || any_digit(exponent))
+}
+
+/// Whether a digit stands there.
+fn any_digit(bytes: &[u8]) -> bool
+    ensures { result ≡ list_any is_digit bytes.now }
+{
+    bytes.iter().any(|b| matches!(b, b'0'..=b'9'))
+}

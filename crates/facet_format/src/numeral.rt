@@ -1,0 +1,161 @@
+//! The parts of a number (RFC 8259, section 6, leniently): a minus, digits, a fraction and an exponent.
+
+ghost use Rattle.std.specs.Prelude.{◌≡◌, ◌+◌, ◌^◌, ◌<◌, ◌≤◌, true, false, length, drop, MatchOption};
+ghost use Rattle.facet_format.specs.Number.{minus_len, digits_len, fraction_len, sign_len, exponent_len, parts, parts_len, parts_hint, is_bare, begins_number, is_number};
+ghost use Rattle.facet_format.specs.Views.{hint_of};
+ghost use Rattle.facet_format.specs.Views.{parts_of, ArePartsOf};
+
+use crate::token::NumberHint;
+
+/// How long each part is of the longest number at some place, 0 where the part is missing.
+#[derive(Debug, Clone, Copy)]
+pub(crate) struct Parts {
+    /// The minus.
+    pub(crate) sign: usize,
+    /// The digits.
+    pub(crate) digits: usize,
+    /// The dot and its digits.
+    pub(crate) fraction: usize,
+    /// The exponent mark, its sign and its digits.
+    pub(crate) exponent: usize,
+}
+
+impl Parts {
+    /// How long the number is.
+    pub(crate) fn len(self) -> usize
+        requires { parts_len (parts_of self) < 2 ^ 64 }
+        ensures { result ≡ parts_len (parts_of self) }
+    {
+        self.sign + self.digits + self.fraction + self.exponent
+    }
+
+    /// Where the exponent starts, or would start.
+    pub(crate) fn exponent_start(self) -> usize
+        requires { parts_len (parts_of self) < 2 ^ 64 }
+        ensures { result ≡ self.sign + self.digits + self.fraction }
+    {
+        self.sign + self.digits + self.fraction
+    }
+
+    /// Whether nothing but a minus stands there, or nothing.
+    pub(crate) fn is_bare(self) -> bool
+        ensures { result ≡ is_bare (parts_of self) }
+    {
+        self.digits == 0 && self.fraction == 0 && self.exponent == 0
+    }
+
+    /// What stands in the number.
+    pub(crate) fn hint(self) -> NumberHint
+        ensures { hint_of result ≡ parts_hint (parts_of self) }
+    {
+        if self.fraction > 0 || self.exponent > 0 {
+            NumberHint::Float
+        } else if self.sign > 0 {
+            NumberHint::Signed
+        } else {
+            NumberHint::Unsigned
+        }
+    }
+}
+
+/// The parts of a text that is a number with this hint from its first byte to its last, or `None` where it isn't.
+pub(crate) fn number_parts(text: &[u8], hint: NumberHint) -> Option<Parts>
+    ensures { MatchOption result
+        (is_number text.now (hint_of hint) ≡ false)
+        (λ p. ArePartsOf text.now p × (is_number text.now (hint_of hint) ≡ true)) }
+{
+    let parts = parts_at(text, 0);
+    let is_whole = parts.len() == text.len();
+    let has_hint = parts.hint() == hint;
+    if begins_number(text) && !parts.is_bare() && is_whole && has_hint {
+        Some(parts)
+    } else {
+        None
+    }
+}
+
+/// Whether the text starts with a minus or a digit.
+fn begins_number(text: &[u8]) -> bool
+    ensures { result ≡ begins_number text.now }
+{
+    matches!(text.first(), Some(b'-' | b'0'..=b'9'))
+}
+
+/// The parts of the longest number at `at`.
+pub(crate) fn parts_at(buffer: &[u8], at: usize) -> Parts
+    requires { at ≤ length buffer.now }
+    ensures parts { parts_of result ≡ parts (drop at buffer.now) }
+    ensures within { at + parts_len (parts_of result) ≤ length buffer.now }
+{
+    let digits = minus_end(buffer, at);
+    let fraction = digits_end(buffer, digits);
+    let exponent = fraction_end(buffer, fraction);
+    let end = exponent_end(buffer, exponent);
+    Parts {
+        sign: digits - at,
+        digits: fraction - digits,
+        fraction: exponent - fraction,
+        exponent: end - exponent,
+    }
+}
+
+/// The offset behind the minus, if one stands at `at`.
+pub(crate) fn minus_end(buffer: &[u8], at: usize) -> usize
+    requires { at ≤ length buffer.now }
+    ensures end { result ≡ at + minus_len (drop at buffer.now) }
+    ensures within { result ≤ length buffer.now }
+{
+    match buffer.get(at) {
+        Some(b'-') => at + 1,
+        _ => at,
+    }
+}
+
+/// The offset behind the digits at `at`.
+pub(crate) fn digits_end(buffer: &[u8], at: usize) -> usize
+    requires { at ≤ length buffer.now }
+    ensures end { result ≡ at + digits_len (drop at buffer.now) }
+    ensures within { result ≤ length buffer.now }
+{
+    let mut end = at;
+    while let Some(b'0'..=b'9') = buffer.get(end) {
+        end += 1;
+    }
+    end
+}
+
+/// The offset behind the fraction, if one stands at `at`.
+pub(crate) fn fraction_end(buffer: &[u8], at: usize) -> usize
+    requires { at ≤ length buffer.now }
+    ensures end { result ≡ at + fraction_len (drop at buffer.now) }
+    ensures within { result ≤ length buffer.now }
+{
+    match buffer.get(at) {
+        Some(b'.') => digits_end(buffer, at + 1),
+        _ => at,
+    }
+}
+
+/// The offset behind the exponent, if one stands at `at`.
+pub(crate) fn exponent_end(buffer: &[u8], at: usize) -> usize
+    requires { at ≤ length buffer.now }
+    ensures end { result ≡ at + exponent_len (drop at buffer.now) }
+    ensures within { result ≤ length buffer.now }
+{
+    match buffer.get(at) {
+        Some(b'e' | b'E') => digits_end(buffer, sign_end(buffer, at + 1)),
+        _ => at,
+    }
+}
+
+/// The offset behind the sign of an exponent, if one stands at `at`.
+fn sign_end(buffer: &[u8], at: usize) -> usize
+    requires { at ≤ length buffer.now }
+    ensures end { result ≡ at + sign_len (drop at buffer.now) }
+    ensures within { result ≤ length buffer.now }
+{
+    match buffer.get(at) {
+        Some(b'+' | b'-') => at + 1,
+        _ => at,
+    }
+}

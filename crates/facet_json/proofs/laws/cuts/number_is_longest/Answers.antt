@@ -1,5 +1,0 @@
-use Rattle.facet_json.proofs.NumberLaws as numbers
-use Rattle.facet_json.proofs.laws.cuts.number_is_longest.Goals as goal
-
-pub returns : goal.returns
-returns c = numbers.number_is_longest

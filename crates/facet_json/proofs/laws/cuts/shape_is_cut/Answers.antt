@@ -1,5 +1,0 @@
-use Rattle.facet_json.proofs.ShapeLaws as shapes
-use Rattle.facet_json.proofs.laws.cuts.shape_is_cut.Goals as goal
-
-pub returns : goal.returns
-returns c = shapes.shape_is_cut

@@ -1,5 +1,0 @@
-use Rattle.facet_json.proofs.DecodeLaws as laws
-use Rattle.facet_json.proofs.laws.decoding.decoded_is_decodes.Goals as goal
-
-pub returns : goal.returns
-returns c = laws.decoded_is_decodes

@@ -1,6 +1,0 @@
--- The law is a lemma of the room on growth.
-use Rattle.facet_json.proofs.Growth as growth
-use Rattle.facet_json.proofs.laws.growth.cut_stays.Goals as goal
-
-pub returns : goal.returns
-returns c = growth.cut_stays

@@ -1,0 +1,132 @@
+-- What an answer of a scan says, where it is a token or a fault that is cut.
+use Rattle.std.proofs.Common.{◌≡◌, ◌≢◌, ℕ, ◌≤◌, List, length, drop, slice_get, Option, Some, None, Result, Ok, Err, IfOk, refl, sym, ap, ◌∙◌, subst, arith}
+use Rattle.std.specs.Option.{option_map}
+use Rattle.std.proofs.lemmas.List.{length-drop}
+use Rattle.std.proofs.lemmas.Option.{slice_get_within}
+use Rattle.facet_json_scan.specs.declared.token.Token.{Token as RustToken}
+use Rattle.facet_json_scan.specs.declared.token.Token.TheVariants as code
+use Rattle.facet_format.specs.declared.span.Span.{Span as RustSpan}
+use Rattle.facet_json_scan.specs.declared.token.SpannedToken.{SpannedToken}
+use Rattle.facet_json_scan.specs.declared.token.ScanErrorKind.{ScanErrorKind}
+use Rattle.facet_json_scan.specs.declared.token.ScanErrorKind.TheVariants as scan
+use Rattle.facet_json_scan.specs.declared.token.ScanError.{ScanError}
+use Rattle.facet_format.specs.Span.{stop}
+use Rattle.facet_json_scan.specs.Gap.{Mode}
+use Rattle.facet_json_scan.specs.Cut.{Cut, nothing_left, token, fault, cut_here, span_at}
+use Rattle.facet_json_scan.specs.Open.{IsBeginning}
+use Rattle.facet_json_scan.specs.Scanner.{ended, answer_for}
+use Rattle.facet_json_scan.specs.Views.{scanned, token_answer as token_scanned, fault_answer as fault_scanned}
+use Rattle.facet_format.specs.Views.{span_of}
+use Rattle.facet_json_scan.specs.declared.scanner.Found.TheVariants as found
+use Rattle.facet_json_scan.specs.ScannerViews.{answered, token_answered, fault_answered, span_answered, FoundHere}
+use Rattle.facet_json_scan.proofs.CutBounds.{CutFits, here_fits}
+use Rattle.facet_json_scan.proofs.FirstBytes.{cut_here-something}
+
+-- A token or a fault is cut, which ends within the first `last` bytes.
+abbrev pub EndsWithin : ℕ → Cut → Type 0
+EndsWithin last nothing_left = ⊥
+EndsWithin last (token t) = stop t.span ≤ last
+EndsWithin last (fault f) = stop f.span ≤ last
+
+-- A token that is cut is answered.
+token-answered : (s : RustSpan) (t : RustToken) (c : Cut) (last : ℕ) → token_scanned s t ≡ Some c → c ≢ nothing_left →
+    token_answered (span_of s) t ≡ Some (answer_for last c)
+token-answered s code.Eof c last e some = absurd (some (cc))
+token-answered s (code.NeedMore consumed) c last e some = cc
+token-answered s t c last e some = ap (option_map (answer_for last)) e
+
+-- So is a fault.
+fault-answered : (s : RustSpan) (k : ScanErrorKind) (c : Cut) (last : ℕ) → fault_scanned s k ≡ Some c →
+    fault_answered (span_of s) k ≡ Some (answer_for last c)
+fault-answered s (scan.UnexpectedChar ch) c last e = ap (option_map (answer_for last)) e
+fault-answered s (scan.UnexpectedEof text) c last e = ap (option_map (answer_for last)) e
+fault-answered s scan.InvalidUtf8 c last e = cc
+
+-- A token or a fault that is cut is answered.
+pub answered-cut : (r : Result SpannedToken ScanError) (c : Cut) (last : ℕ) → scanned r ≡ Some c → c ≢ nothing_left →
+    answered r ≡ Some (answer_for last c)
+answered-cut (Ok t) c last e some = token-answered t.span t.token c last e some
+answered-cut (Err f) c last e some = fault-answered f.span f.kind c last e
+
+-- the same of what is cut, if anything is
+abbrev Ends : ℕ → Option Cut → Type 0
+Ends last None = ⊥
+Ends last (Some c) = EndsWithin last c
+
+token-ends : (s : RustSpan) (t : RustToken) (last : ℕ) → Ends last (token_scanned s t) → stop (span_of s) ≤ last
+token-ends s code.Eof last h = absurd h
+token-ends s (code.NeedMore consumed) last h = absurd h
+token-ends s t last h = h
+
+fault-ends : (s : RustSpan) (k : ScanErrorKind) (last : ℕ) → Ends last (fault_scanned s k) → stop (span_of s) ≤ last
+fault-ends s (scan.UnexpectedChar ch) last h = h
+fault-ends s (scan.UnexpectedEof text) last h = h
+fault-ends s scan.InvalidUtf8 last h = absurd h
+
+answer-ends : (r : Result SpannedToken ScanError) (last : ℕ) → Ends last (scanned r) → stop (span_answered r) ≤ last
+answer-ends (Ok t) last h = token-ends t.span t.token last h
+answer-ends (Err f) last h = fault-ends f.span f.kind last h
+
+-- Its span ends where what is cut ends.
+pub answered-ends : (r : Result SpannedToken ScanError) (c : Cut) (last : ℕ) → scanned r ≡ Some c → EndsWithin last c →
+    stop (span_answered r) ≤ last
+answered-ends r c last e h = answer-ends r last (subst (Ends last) (sym e) h)
+
+-- What is cut where a byte stands ends within the buffer.
+pub cut_here-ends : (mode : Mode) (buffer : List ℕ) (at b : ℕ) → slice_get buffer at ≡ Some b →
+    EndsWithin (length buffer) (cut_here mode at (drop at buffer))
+cut_here-ends mode buffer at b here =
+    let room = slice_get_within buffer at b here in
+    ends _ (here_fits mode buffer (drop at buffer) at refl (omega (arith, length-drop at buffer)))
+    (cut_here-something mode buffer at b here)
+  where
+    ends : (c : Cut) → CutFits buffer at c → c ≢ nothing_left → EndsWithin (length buffer) c
+    ends nothing_left h some = absurd (some refl)
+    ends (token t) h some = h.within
+    ends (fault f) h some = h.within
+
+-- What is found where no gap is in front: what is cut there, and nothing longer begins.
+pub found-here : (mode : Mode) (buffer : List ℕ) (start : ℕ) (r : Result SpannedToken ScanError) (c : Cut) →
+    scanned r ≡ Some c → c ≢ nothing_left → c ≡ cut_here mode start (drop start buffer) →
+    (IsBeginning mode (drop start buffer) → ⊥) → FoundHere mode buffer start (found.Answer start r)
+found-here mode buffer start r c e some is shut =
+    (refl, answered-cut r c (length buffer) e some ∙ ap (λ x. Some (answer_for (length buffer) x)) is, shut)
+
+token-or_end : (s : RustSpan) (t : RustToken) (c : Cut) (last : ℕ) → token_scanned s t ≡ Some c →
+    (t ≡ code.Eof → span_of s ≡ span_at last 0) → token_answered (span_of s) t ≡ Some (answer_for last c)
+token-or_end s code.Eof c last e end = ap (λ v. Some (ended v)) (end refl) ∙ ap (option_map (answer_for last)) e
+token-or_end s (code.NeedMore consumed) c last e end = cc
+token-or_end s t c last e end = ap (option_map (answer_for last)) e
+
+-- What is cut is answered, the end too.
+pub answered-cut_or_end : (r : Result SpannedToken ScanError) (c : Cut) (last : ℕ) → scanned r ≡ Some c →
+    IfOk r (λ t. t.token ≡ code.Eof → span_of t.span ≡ span_at last 0) → answered r ≡ Some (answer_for last c)
+answered-cut_or_end (Ok t) c last e end = token-or_end t.span t.token c last e end
+answered-cut_or_end (Err f) c last e end = fault-answered f.span f.kind c last e
+
+token-end_within : (s : RustSpan) (t : RustToken) (c : Cut) (last : ℕ) → token_scanned s t ≡ Some c →
+    (t ≡ code.Eof → span_of s ≡ span_at last 0) → (c ≢ nothing_left → EndsWithin last c) → stop (span_of s) ≤ last
+token-end_within s code.Eof c last e end h = omega (arith, ap stop (end refl))
+token-end_within s (code.NeedMore consumed) c last e end h = cc
+token-end_within s t c last e end h =
+    token-ends s t last (subst (Ends last) (sym e) (h (λ n. let same = e ∙ ap Some n in cc)))
+
+-- Its span ends where what is cut ends, or at the end.
+pub answered-end_within : (r : Result SpannedToken ScanError) (c : Cut) (last : ℕ) → scanned r ≡ Some c →
+    IfOk r (λ t. t.token ≡ code.Eof → span_of t.span ≡ span_at last 0) → (c ≢ nothing_left → EndsWithin last c) →
+    stop (span_answered r) ≤ last
+answered-end_within (Ok t) c last e end h = token-end_within t.span t.token c last e end h
+answered-end_within (Err f) c last e end h =
+    answer-ends (Err f) last (subst (Ends last) (sym e) (h (λ n. fault-some f.span f.kind (e ∙ ap Some n))))
+  where
+    fault-some : (s : RustSpan) (k : ScanErrorKind) → fault_scanned s k ≡ Some nothing_left → ⊥
+    fault-some s (scan.UnexpectedChar ch) e = cc
+    fault-some s (scan.UnexpectedEof text) e = cc
+    fault-some s scan.InvalidUtf8 e = cc
+
+-- What fits ends within.
+pub fits-within : (buffer : List ℕ) (p : ℕ) (c : Cut) → CutFits buffer p c → c ≢ nothing_left →
+    EndsWithin (length buffer) c
+fits-within buffer p nothing_left h some = absurd (some refl)
+fits-within buffer p (token t) h some = h.within
+fits-within buffer p (fault f) h some = h.within

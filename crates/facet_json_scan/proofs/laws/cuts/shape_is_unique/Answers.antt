@@ -1,0 +1,5 @@
+use Rattle.facet_json_scan.proofs.ShapeLaws as shapes
+use Rattle.facet_json_scan.proofs.laws.cuts.shape_is_unique.Goals as goal
+
+pub returns : goal.returns
+returns c = shapes.shape_is_unique

@@ -1,0 +1,113 @@
+-- What a string's content stands for (RFC 8259, section 7): the content is cut into pieces, each of which is one character.
+use Rattle.std.specs.Prelude.{◌≡◌, ℕ, zero, suc, ◌+◌, ◌-◌, ◌*◌, Bool, true, false, cond, ◌==◌, ◌&&◌, ◌||◌, nat_lt, nat_le, List, [], ◌∷◌, ◌++◌, take, Option, Some, None}
+use Rattle.std.specs.Option.{option_map}
+use Rattle.std.specs.Char.{digit_value, encode_utf8, IsScalar}
+use Rattle.std.specs.Str.{continuation_len, lead_bits, bytes_eq}
+use lib.Utf8.{scalar}
+use Rattle.facet_format.specs.Bytes.{quote, backslash, slash, lower_b, lower_f, lower_n, lower_r, lower_t, lower_u, backspace, form_feed, line_feed, carriage_return, tab}
+
+-- the character of the escape of a backslash and this byte, where RFC 8259 has one
+unfoldable pub short_escape : ℕ → Option ℕ
+short_escape b =
+    cond ((b == quote) || (b == backslash) || (b == slash)) (Some b)
+    (cond (b == lower_b) (Some backspace) (cond (b == lower_f) (Some form_feed) (cond (b == lower_n) (Some line_feed)
+    (cond (b == lower_r) (Some carriage_return) (cond (b == lower_t) (Some tab) None)))))
+
+-- a hexadecimal digit of either case
+abbrev pub is_hex : ℕ → Bool
+is_hex b = nat_lt (digit_value b) 16
+
+-- the number that four hexadecimal digits spell
+unfoldable pub code_unit : ℕ → ℕ → ℕ → ℕ → Option ℕ
+code_unit a b c d =
+    cond (is_hex a && is_hex b && is_hex c && is_hex d) (Some (digit_value a * 0x1000 + digit_value b * 0x100 + digit_value c * 0x10 + digit_value d)) None
+
+abbrev pub is_high_surrogate : ℕ → Bool
+is_high_surrogate u = nat_le 0xd800 u && nat_lt u 0xdc00
+
+abbrev pub is_low_surrogate : ℕ → Bool
+is_low_surrogate u = nat_le 0xdc00 u && nat_lt u 0xe000
+
+-- the character of a surrogate pair
+abbrev pub surrogate_pair : ℕ → ℕ → ℕ
+surrogate_pair high low = 0x10000 + (high - 0xd800) * 0x400 + (low - 0xdc00)
+
+-- ---- what a content stands for
+
+-- The bytes are a piece that stands for the character.
+pub data Piece : List ℕ → ℕ → Type 0 where
+  -- a character other than a backslash stands for itself
+  itself : (c : ℕ) → IsScalar c → (c == backslash) ≡ false → Piece (encode_utf8 c) c
+  short : (b c : ℕ) → short_escape b ≡ Some c → Piece (backslash ∷ b ∷ []) c
+  -- any other ASCII character but `u`, lenient
+  other : (b : ℕ) → nat_lt b 0x80 ≡ true → short_escape b ≡ None → (b == lower_u) ≡ false →
+      Piece (backslash ∷ b ∷ []) b
+  unit : (a b c d u : ℕ) → code_unit a b c d ≡ Some u → is_high_surrogate u ≡ false → is_low_surrogate u ≡ false →
+      Piece (backslash ∷ lower_u ∷ a ∷ b ∷ c ∷ d ∷ []) u
+  pair : (a b c d high e f g h low : ℕ) → code_unit a b c d ≡ Some high → is_high_surrogate high ≡ true →
+      code_unit e f g h ≡ Some low → is_low_surrogate low ≡ true →
+      Piece (backslash ∷ lower_u ∷ a ∷ b ∷ c ∷ d ∷ backslash ∷ lower_u ∷ e ∷ f ∷ g ∷ h ∷ []) (surrogate_pair high low)
+
+-- The content is pieces whose characters are the text, which is in UTF-8.
+pub data Decodes : List ℕ → List ℕ → Type 0 where
+  empty : Decodes [] []
+  piece : (first others content : List ℕ) (c : ℕ) (rest text : List ℕ) → Piece first c → Decodes others rest →
+      content ≡ first ++ others → text ≡ encode_utf8 c ++ rest → Decodes content text
+
+-- ---- the text that it stands for, computed
+
+-- the number of these bits and those of continuation bytes
+abbrev pub continued : ℕ → List ℕ → ℕ
+continued n [] = n
+continued n (b ∷ bytes) = continued (n * 64 + (b - 128)) bytes
+
+-- a character, where its UTF-8 is the front of the bytes, with the number of its bytes
+abbrev pub if_encoded : ℕ → ℕ → List ℕ → Option (ℕ × ℕ)
+if_encoded c n bytes = cond (scalar c && bytes_eq (encode_utf8 c) (take n bytes)) (Some (c, n)) None
+
+-- the character whose UTF-8 stands at the front, with the number of its bytes
+unfoldable pub utf8_at : List ℕ → Option (ℕ × ℕ)
+utf8_at [] = None
+utf8_at (b ∷ bytes) = if_encoded (continued (lead_bits b) (take (continuation_len b) bytes)) (suc (continuation_len b)) (b ∷ bytes)
+
+-- a high surrogate's escape, and these bytes
+abbrev pub pair_of : ℕ → Option ℕ → Option (ℕ × ℕ)
+pair_of high None = None
+pair_of high (Some low) = cond (is_low_surrogate low) (Some (surrogate_pair high low, 12)) None
+
+abbrev pub low_at : ℕ → List ℕ → Option (ℕ × ℕ)
+low_at high (s ∷ u ∷ a ∷ b ∷ c ∷ d ∷ bytes) = cond ((s == backslash) && (u == lower_u)) (pair_of high (code_unit a b c d)) None
+low_at high _ = None
+
+abbrev pub unit_of : List ℕ → Option ℕ → Option (ℕ × ℕ)
+unit_of bytes None = None
+unit_of bytes (Some u) = cond (is_high_surrogate u) (low_at u bytes) (cond (is_low_surrogate u) None (Some (u, 6)))
+
+-- the piece of a backslash, `u` and these bytes
+unfoldable pub unit_at : List ℕ → Option (ℕ × ℕ)
+unit_at (a ∷ b ∷ c ∷ d ∷ bytes) = unit_of bytes (code_unit a b c d)
+unit_at _ = None
+
+abbrev pub short_of : ℕ → Option ℕ → Option (ℕ × ℕ)
+short_of b (Some c) = Some (c, 2)
+short_of b None = cond (nat_lt b 0x80) (Some (b, 2)) None
+
+-- the piece of a backslash and these bytes
+unfoldable pub escape_at : List ℕ → Option (ℕ × ℕ)
+escape_at [] = None
+escape_at (b ∷ bytes) = cond (b == lower_u) (unit_at bytes) (short_of b (short_escape b))
+
+-- the character of the piece at the front, with the number of the piece's bytes
+unfoldable pub piece_at : List ℕ → Option (ℕ × ℕ)
+piece_at [] = None
+piece_at (b ∷ bytes) = cond (b == backslash) (escape_at bytes) (utf8_at (b ∷ bytes))
+
+-- the text of what stands behind the next `inside` bytes, which belong to the piece before
+unfoldable pub decoded_past : ℕ → List ℕ → Option (List ℕ)
+decoded_past inside [] = elim inside [ zero ↦ Some [] | suc n ↦ None ]
+decoded_past (suc inside) (b ∷ bytes) = decoded_past inside bytes
+decoded_past zero (b ∷ bytes) = elim (piece_at (b ∷ bytes)) [ None ↦ None | Some p ↦ option_map (λ text. encode_utf8 p.0 ++ text) (decoded_past (p.1 - 1) bytes) ]
+
+-- the text of a content, or none
+abbrev pub decoded : List ℕ → Option (List ℕ)
+decoded content = decoded_past 0 content
