@@ -3,7 +3,6 @@ use Rattle.std.proofs.Common.{◌≡◌, ℕ, zero, suc, ◌+◌, ◌-◌, ◌�
 use Rattle.std.proofs.lemmas.List.{drop-take, length-take-le}
 use Rattle.facet_format.specs.Bytes.{is_digit, is_exponent_mark, is_sign, minus, dot}
 use Rattle.std.proofs.lemmas.Bool.{and_from, not_from_false, eq-eqb, eqb-false}
-use Rattle.facet_json_scan.specs.Cut.{Cut, cut_number}
 use Rattle.facet_format.specs.Number.{Hint, unsigned, digits_len, minus_len, fraction_len, sign_len, exponent_len, Parts, parts, parts_len, parts_hint, is_bare, begins_number, is_number, same_hint}
 
 -- ---- no part is longer than the bytes
@@ -159,10 +158,6 @@ parts-take k bytes h =
     ∙ ap (from_exponent s d f) (exponent_behind (s + d + f) k bytes (omega arith))
 
 -- ---- the number at the front
-
--- what is cut of a number with these parts
-abbrev pub number_at : ℕ → List ℕ → Parts → Cut
-number_at at bytes p = cut_number at bytes (parts_len p) (parts_hint p) (is_bare p)
 
 -- A hint is the same as itself.
 pub same_hint-refl : (hint : Hint) → same_hint hint hint ≡ true

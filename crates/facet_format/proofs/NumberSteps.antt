@@ -1,9 +1,7 @@
--- The parts of a number from the offsets where they end, and the token that has them.
+-- The parts of a number from the offsets where they end.
 use Rattle.std.proofs.Common.{◌≡◌, ℕ, ◌+◌, ◌-◌, false, List, drop, refl, ap, ap₂, sym, ◌∙◌, arith}
 use Rattle.std.proofs.lemmas.List.{drop-drop}
 use Rattle.facet_format.specs.Number.{Hint, minus_len, digits_len, fraction_len, exponent_len, Parts, parts, parts_len, parts_hint, is_bare}
-use Rattle.facet_json_scan.specs.Token.{number}
-use Rattle.facet_json_scan.specs.Cut.{token_at, cut_number}
 
 -- The parts of what stands at `at` end at these offsets.
 pub record PartsEnd (p : Parts) (at digits fraction exponent end : ℕ) : Type 0 where
@@ -46,12 +44,3 @@ PartsEnd-lengths p at digits fraction exponent end h =
     let f : exponent - fraction ≡ p.fraction = omega arith in
     let e : end - exponent ≡ p.exponent = omega arith in
     rw (s, d, f, e) refl
-
--- The token of a number with these parts is cut where they stand.
-pub cut_number-parts : (q p : Parts) (rest : List ℕ) (hint : Hint) (at len : ℕ) → q ≡ p → len ≡ parts_len q →
-    hint ≡ parts_hint q → is_bare q ≡ false →
-    token_at (number at (at + len) hint) at len ≡ cut_number at rest (parts_len p) (parts_hint p) (is_bare p)
-cut_number-parts q p rest hint at len same long what more =
-    ap₂ (λ n h. token_at (number at (at + n) h) at n) long what
-    ∙ ap (cut_number at rest (parts_len q) (parts_hint q)) (sym more)
-    ∙ ap (λ r. cut_number at rest (parts_len r) (parts_hint r) (is_bare r)) same

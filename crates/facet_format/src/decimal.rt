@@ -8,8 +8,7 @@ ghost use Rattle.facet_format.specs.Bytes.{is_digit};
 ghost use Rattle.facet_format.specs.Number.{number, is_number, float, decimal, has_value};
 ghost use Rattle.facet_format.specs.Views.{parts_of, ArePartsOf};
 
-use crate::numeral::{Parts, number_parts};
-use crate::token::NumberHint;
+use crate::numeral::{NumberHint, Parts, number_parts};
 use std::alloc::Global;
 use std::borrow::CowStr;
 use std::marker::Model;
@@ -64,7 +63,7 @@ impl<'a> Decimal<'a> {
     }
 
     /// The same for a text that is a number with a fraction or an exponent, of these parts.
-    pub(crate) fn from_number(text: &'a str, parts: Parts) -> Option<Decimal<'a>>
+    fn from_number(text: &'a str, parts: Parts) -> Option<Decimal<'a>>
         requires is_number { is_number text.now float ≡ true }
         requires parts { ArePartsOf text.now parts }
         ensures { MatchOption result

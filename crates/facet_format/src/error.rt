@@ -3,10 +3,8 @@
 ghost use Rattle.std.specs.Prelude.{◌≡◌};
 ghost use Rattle.facet_format.specs.Complaint.{code_of, no_memory};
 ghost use Rattle.facet_format.specs.Views.{refusal_of, complaint_of};
-ghost use Rattle.facet_json_scan.specs.Views.{scan_refusal};
 
 use crate::span::Span;
-use crate::token::{ScanError, ScanErrorKind};
 use std::alloc::{AllocError, AllocFailed};
 
 /// Why reading was refused. The texts are constants of the reader, so a refusal takes no memory.
@@ -95,27 +93,6 @@ impl<T: Drop> From<AllocFailed<T>> for DeserializeError<'_> {
 
     fn from(_e: AllocFailed<T>) -> Self {
         DeserializeError::out_of_memory()
-    }
-}
-
-impl From<ScanError> for DeserializeError<'_> {
-    ghost from_gives = { λ scan e. refusal_of e ≡ scan_refusal scan };
-
-    fn from(error: ScanError) -> Self {
-        let kind = match error.kind {
-            ScanErrorKind::UnexpectedChar(ch) => DeserializeErrorKind::UnexpectedChar {
-                ch,
-                expected: "valid JSON token",
-            },
-            ScanErrorKind::UnexpectedEof(expected) => {
-                DeserializeErrorKind::UnexpectedEof { expected }
-            }
-            ScanErrorKind::InvalidUtf8 => DeserializeErrorKind::InvalidUtf8,
-        };
-        DeserializeError {
-            kind,
-            span: Some(error.span),
-        }
     }
 }
 

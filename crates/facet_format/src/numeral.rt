@@ -5,24 +5,33 @@ ghost use Rattle.facet_format.specs.Number.{minus_len, digits_len, fraction_len,
 ghost use Rattle.facet_format.specs.Views.{hint_of};
 ghost use Rattle.facet_format.specs.Views.{parts_of, ArePartsOf};
 
-use crate::token::NumberHint;
+/// What stands in a number, from its bytes alone.
+#[derive(Debug, Clone, Copy, PartialEq)]
+pub enum NumberHint {
+    /// Digits alone.
+    Unsigned,
+    /// A minus and digits.
+    Signed,
+    /// A dot or an exponent mark stands in it.
+    Float,
+}
 
 /// How long each part is of the longest number at some place, 0 where the part is missing.
 #[derive(Debug, Clone, Copy)]
-pub(crate) struct Parts {
+pub struct Parts {
     /// The minus.
-    pub(crate) sign: usize,
+    pub sign: usize,
     /// The digits.
-    pub(crate) digits: usize,
+    pub digits: usize,
     /// The dot and its digits.
-    pub(crate) fraction: usize,
+    pub fraction: usize,
     /// The exponent mark, its sign and its digits.
-    pub(crate) exponent: usize,
+    pub exponent: usize,
 }
 
 impl Parts {
     /// How long the number is.
-    pub(crate) fn len(self) -> usize
+    pub fn len(self) -> usize
         requires { parts_len (parts_of self) < 2 ^ 64 }
         ensures { result ≡ parts_len (parts_of self) }
     {
@@ -30,7 +39,7 @@ impl Parts {
     }
 
     /// Where the exponent starts, or would start.
-    pub(crate) fn exponent_start(self) -> usize
+    pub fn exponent_start(self) -> usize
         requires { parts_len (parts_of self) < 2 ^ 64 }
         ensures { result ≡ self.sign + self.digits + self.fraction }
     {
@@ -38,14 +47,14 @@ impl Parts {
     }
 
     /// Whether nothing but a minus stands there, or nothing.
-    pub(crate) fn is_bare(self) -> bool
+    pub fn is_bare(self) -> bool
         ensures { result ≡ is_bare (parts_of self) }
     {
         self.digits == 0 && self.fraction == 0 && self.exponent == 0
     }
 
     /// What stands in the number.
-    pub(crate) fn hint(self) -> NumberHint
+    pub fn hint(self) -> NumberHint
         ensures { hint_of result ≡ parts_hint (parts_of self) }
     {
         if self.fraction > 0 || self.exponent > 0 {
@@ -59,7 +68,7 @@ impl Parts {
 }
 
 /// The parts of a text that is a number with this hint from its first byte to its last, or `None` where it isn't.
-pub(crate) fn number_parts(text: &[u8], hint: NumberHint) -> Option<Parts>
+pub fn number_parts(text: &[u8], hint: NumberHint) -> Option<Parts>
     ensures { MatchOption result
         (is_number text.now (hint_of hint) ≡ false)
         (λ p. ArePartsOf text.now p × (is_number text.now (hint_of hint) ≡ true)) }
@@ -82,7 +91,7 @@ fn begins_number(text: &[u8]) -> bool
 }
 
 /// The parts of the longest number at `at`.
-pub(crate) fn parts_at(buffer: &[u8], at: usize) -> Parts
+pub fn parts_at(buffer: &[u8], at: usize) -> Parts
     requires { at ≤ length buffer.now }
     ensures parts { parts_of result ≡ parts (drop at buffer.now) }
     ensures within { at + parts_len (parts_of result) ≤ length buffer.now }
@@ -100,7 +109,7 @@ pub(crate) fn parts_at(buffer: &[u8], at: usize) -> Parts
 }
 
 /// The offset behind the minus, if one stands at `at`.
-pub(crate) fn minus_end(buffer: &[u8], at: usize) -> usize
+pub fn minus_end(buffer: &[u8], at: usize) -> usize
     requires { at ≤ length buffer.now }
     ensures end { result ≡ at + minus_len (drop at buffer.now) }
     ensures within { result ≤ length buffer.now }
@@ -112,7 +121,7 @@ pub(crate) fn minus_end(buffer: &[u8], at: usize) -> usize
 }
 
 /// The offset behind the digits at `at`.
-pub(crate) fn digits_end(buffer: &[u8], at: usize) -> usize
+pub fn digits_end(buffer: &[u8], at: usize) -> usize
     requires { at ≤ length buffer.now }
     ensures end { result ≡ at + digits_len (drop at buffer.now) }
     ensures within { result ≤ length buffer.now }
@@ -125,7 +134,7 @@ pub(crate) fn digits_end(buffer: &[u8], at: usize) -> usize
 }
 
 /// The offset behind the fraction, if one stands at `at`.
-pub(crate) fn fraction_end(buffer: &[u8], at: usize) -> usize
+pub fn fraction_end(buffer: &[u8], at: usize) -> usize
     requires { at ≤ length buffer.now }
     ensures end { result ≡ at + fraction_len (drop at buffer.now) }
     ensures within { result ≤ length buffer.now }
@@ -137,7 +146,7 @@ pub(crate) fn fraction_end(buffer: &[u8], at: usize) -> usize
 }
 
 /// The offset behind the exponent, if one stands at `at`.
-pub(crate) fn exponent_end(buffer: &[u8], at: usize) -> usize
+pub fn exponent_end(buffer: &[u8], at: usize) -> usize
     requires { at ≤ length buffer.now }
     ensures end { result ≡ at + exponent_len (drop at buffer.now) }
     ensures within { result ≤ length buffer.now }

@@ -19,47 +19,6 @@ use Rattle.facet_format.specs.Complaint.{Refusal}
 use Rattle.facet_json.specs.Refusal.{RefusesThin}
 use Rattle.facet_json.specs.Quoted.{escaped, quoted}
 
--- The gap at the front is a gap, and no longer front of the bytes is one.
-abbrev pub GapIsLongest : Type 0
-GapIsLongest = (mode : Mode) (input : Input) (bytes : List ℕ) →
-    let n = gap_len mode input bytes in
-    (n ≤ length bytes) × IsGap mode input (take n bytes) (drop n bytes)
-    × ((k : ℕ) → k ≤ length bytes → IsGap mode input (take k bytes) (drop k bytes) → k ≤ n)
-
--- Where more than a minus stands, the number at the front is a number, and no longer front of the bytes is one.
-abbrev pub NumberIsLongest : Type 0
-NumberIsLongest = (bytes : List ℕ) → begins_number bytes ≡ true → is_bare (parts bytes) ≡ false →
-    let n = parts_len (parts bytes) in
-    (n ≤ length bytes) × IsNumber (take n bytes) (parts_hint (parts bytes))
-    × ((k : ℕ) (hint : Hint) → k ≤ length bytes → IsNumber (take k bytes) hint → k ≤ n)
-
--- A text is tested to be a number with a hint exactly where it is one.
-abbrev pub NumberIsTested : Type 0
-NumberIsTested = (text : List ℕ) (hint : Hint) → (is_number text hint ≡ true) ↔ IsNumber text hint
-
--- A token is cut exactly where its shape stands.
-abbrev pub ShapeIsCut : Type 0
-ShapeIsCut = (mode : Mode) (at : ℕ) (bytes rest : List ℕ) (kind : Kind) →
-    IsShape at bytes rest kind ↔ (cut_here mode at (bytes ++ rest) ≡ token_at kind at (length bytes))
-
--- At one place stands the shape of at most one token.
-abbrev pub ShapeIsUnique : Type 0
-ShapeIsUnique = (at : ℕ) (a b r s : List ℕ) (kind other : Kind) → IsShape at a r kind → IsShape at b s other → a
-    ++ r ≡ b ++ s → (a ≡ b) × (kind ≡ other)
-
--- What is cut where the buffer isn't open is cut alike from every longer buffer with that front.
-abbrev pub CutStays : Type 0
-CutStays = (buffer more : List ℕ) (position : ℕ) (mode : Mode) → position ≤ length buffer → (IsOpen buffer position mode → ⊥) → cut buffer position mode ≢ nothing_left →
-    cut (buffer ++ more) position mode ≡ cut buffer position mode
-
--- A buffer is tested to be open at a position exactly where it is.
-abbrev pub OpenIsTested : Type 0
-OpenIsTested = (buffer : List ℕ) (position : ℕ) (mode : Mode) → (is_open buffer position mode ≡ true) ↔ IsOpen buffer position mode
-
--- The text that is computed is the one text that the content stands for.
-abbrev pub DecodedIsDecodes : Type 0
-DecodedIsDecodes = (content text : List ℕ) → (decoded content ≡ Some text) ↔ Decodes content text
-
 -- No spelling of a value is a proper front of another's, and tokens spell one value at most.
 abbrev pub OneSpelling : Type 0
 OneSpelling = (ts r s : Tokens) (a b : Node) → Spells ts a r → Spells ts b s → (a ≡ b) × (r ≡ s)

@@ -1,12 +1,3 @@
-pub mod Bytes
-pub mod Gap
-pub mod Number
-pub mod Token
-pub mod Cut
-pub mod Open
-pub mod Tokens
-pub mod Decode
-pub mod Decoders
 pub mod Node
 pub mod Tree
 pub mod Meaning
@@ -19,8 +10,5 @@ pub mod Same
 pub mod SameLaws
 pub mod Quoted
 pub mod Text
-pub mod Scanner
 pub mod Views
-pub mod NumberViews
-pub mod ScannerViews
 pub mod Laws

@@ -5,9 +5,9 @@ ghost use Rattle.facet_format.specs.Complaint.{refusal_at};
 ghost use Rattle.facet_format.specs.Views.{refusal_of, span_of};
 ghost use Rattle.facet_json.specs.Views.{place_of, misplaced_complaint, name_of};
 
-use crate::error::{DeserializeError, DeserializeErrorKind};
+use facet_format::{DeserializeError, DeserializeErrorKind};
 use crate::place::Place;
-use crate::span::Span;
+use facet_format::Span;
 
 /// A token with what it stands for.
 #[derive(Debug, Clone, Copy)]

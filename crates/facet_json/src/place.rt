@@ -7,9 +7,9 @@ ghost use Rattle.facet_json_scan.specs.Cut.{span_at};
 ghost use Rattle.facet_json.specs.Views.{place_of, sample};
 ghost use Rattle.facet_format.specs.Views.{complaint_of, refusal_of};
 
-use crate::error::{DeserializeError, DeserializeErrorKind};
+use facet_format::{DeserializeError, DeserializeErrorKind};
 use crate::materialized::TokenKind;
-use crate::span::Span;
+use facet_format::Span;
 
 /// Where no value has begun yet, or what stands in front within the innermost open container.
 #[derive(Debug, Clone, Copy, PartialEq, Eq)]

@@ -16,13 +16,13 @@ ghost use Rattle.facet_format.specs.Views.{refusal_of, span_of};
 ghost use Rattle.facet_json.specs.Views.{place_of, tree_view, trees_view, pairs_view, IsReadFirst, IsReadAs, IsMeaningless, CanBeRead};
 ghost use Rattle.facet_json_scan.specs.Views.{kind_of};
 
-use crate::error::DeserializeError;
+use facet_format::DeserializeError;
 use crate::materialized::{MaterializedToken, TokenKind};
-use crate::mode::Mode;
+use facet_json_scan::Mode;
 use crate::place::Place;
-use crate::plain_cut::cut;
+use facet_json_scan::cut;
 use crate::thin::{thin_number, thin_text};
-use crate::token::{SpannedToken, Token};
+use facet_json_scan::{SpannedToken, Token};
 use crate::tree::Tree;
 use std::alloc::Global;
 

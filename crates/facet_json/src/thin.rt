@@ -10,10 +10,10 @@ ghost use Rattle.facet_json.specs.Meaning.{thin_string, thin_number as thin_numb
 ghost use Rattle.facet_json.specs.Refusal.{thin_text_complaint, not_read_yet as not_read_yet_complaint};
 ghost use Rattle.facet_format.specs.Views.{refusal_of, span_of, hint_of};
 
-use crate::error::{DeserializeError, DeserializeErrorKind};
-use crate::number::parse_unsigned;
-use crate::span::Span;
-use crate::token::NumberHint;
+use facet_format::{DeserializeError, DeserializeErrorKind};
+use facet_json_scan::parse_unsigned;
+use facet_format::Span;
+use facet_json_scan::NumberHint;
 use std::str;
 
 /// The refusal of a string or number that isn't thin.

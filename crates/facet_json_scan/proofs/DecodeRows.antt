@@ -1,4 +1,4 @@
--- Single inputs with what specs/Decode.antt, specs/Number.antt and specs/Quoted.antt give for them, by computation.
+-- Single contents with their texts, and texts with the numbers that they are, by computation.
 -- In the texts of this file a backslash or a quote stands behind a backslash of its own.
 use Rattle.std.proofs.Common.{◌≡◌, [], ◌∷◌, ◌++◌, Some, None, pos, neg_ℤ, codes, refl}
 use Rattle.std.specs.Char.{encode_utf8}
@@ -6,7 +6,6 @@ use Rattle.std.specs.Str.{encode_utf8_all}
 use Rattle.facet_format.specs.Bytes.{quote, backslash, backspace, form_feed, line_feed, carriage_return, tab, delete}
 use Rattle.facet_json_scan.specs.Decode.{short_escape, code_unit, utf8_at, unit_at, escape_at, piece_at, decoded_past, decoded}
 use Rattle.facet_format.specs.Number.{unsigned, signed, float, u64, u128, i64, i128, decimal, parts, number}
-use Rattle.facet_json.specs.Quoted.{escaped, quoted}
 
 row_backslash : codes "\\u\"" ≡ backslash ∷ 0x75 ∷ quote ∷ []
 row_backslash = refl
@@ -286,33 +285,3 @@ row_minus_float_hint = refl
 row_minus_unsigned_hint : number (codes "-5") unsigned ≡ None
 unfolding number parts
 row_minus_unsigned_hint = refl
-
--- ---- texts as they are written
-
-row_write_nothing : quoted ([]) ≡ codes "\"\""
-unfolding escaped encode_utf8
-row_write_nothing = refl
-
-row_write_delete : quoted (delete ∷ []) ≡ codes "\"\\u007f\""
-unfolding escaped encode_utf8
-row_write_delete = refl
-
-row_write_control : quoted (0x00 ∷ 0x1f ∷ []) ≡ codes "\"\\u0000\\u001f\""
-unfolding escaped encode_utf8
-row_write_control = refl
-
-row_write_marks : quoted (quote ∷ backslash ∷ []) ≡ codes "\"\\\"\\\\\""
-unfolding escaped encode_utf8
-row_write_marks = refl
-
-row_write_letters : quoted (line_feed ∷ carriage_return ∷ tab ∷ backspace ∷ form_feed ∷ []) ≡ codes "\"\\n\\r\\t\\b\\f\""
-unfolding escaped encode_utf8
-row_write_letters = refl
-
-row_write_plain : quoted (codes " /Az~") ≡ codes "\" /Az~\""
-unfolding escaped encode_utf8
-row_write_plain = refl
-
-row_write_chinese : quoted (encode_utf8_all (codes "中文")) ≡ quote ∷ encode_utf8_all (codes "中文") ++ quote ∷ []
-unfolding escaped encode_utf8
-row_write_chinese = refl

@@ -7,13 +7,6 @@ use Rattle.facet_json_scan.specs.declared.token.ScanError.{ScanError}
 use Rattle.facet_json_scan.specs.declared.token.ScanErrorKind.TheVariants as scan
 use Rattle.facet_format.specs.Number.{Number, u64, i64, u128, i128, decimal, Parts, parts, parts_len}
 
-abbrev pub parts_of : RustParts → Parts
-parts_of p = record { sign = p.sign; digits = p.digits; fraction = p.fraction; exponent = p.exponent }
-
--- these are the parts of the text, and none goes beyond it
-abbrev pub ArePartsOf : List ℕ → RustParts → Type 0
-ArePartsOf text p = (parts_of p ≡ parts text) × (parts_len (parts_of p) ≤ length text)
-
 abbrev pub number_of : ParsedNumber → Number
 number_of (parsed.U64 n) = u64 n
 number_of (parsed.I64 n) = i64 n

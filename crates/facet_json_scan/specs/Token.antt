@@ -1,15 +1,7 @@
 -- Tokens, faults and the places where they stand (RFC 8259, section 2). Offsets and lengths are in bytes of the buffer.
-use Rattle.std.specs.Prelude.{ℕ, ◌+◌, List, Bool, codes}
+use Rattle.std.specs.Prelude.{ℕ, List, Bool, codes}
+use Rattle.facet_format.specs.Span.{Span}
 use Rattle.facet_format.specs.Number.{Hint}
-
--- a range of bytes
-pub record Span : Type 0 where
-  pub offset : ℕ
-  pub len : ℕ
-
--- the offset behind it
-abbrev pub stop : Span → ℕ
-stop s = s.offset + s.len
 
 pub data Kind : Type 0 where
   object_start : Kind

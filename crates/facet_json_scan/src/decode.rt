@@ -11,7 +11,7 @@ ghost use Rattle.facet_json_scan.specs.Decoders.{has_backslash, IsItsText, IsWit
 mod escape;
 mod unchecked;
 
-use crate::span::Span;
+use facet_format::Span;
 use crate::token::{ScanError, ScanErrorKind};
 use escape::escape_at;
 use std::alloc::{AllocError, Global};

@@ -5,12 +5,12 @@ ghost use Rattle.std.specs.Option.{option_map};
 ghost use Rattle.facet_format.specs.Number.{AreDigits, digits_value, number as spec_number, is_number, float, unsigned_number, negative_number};
 ghost use Rattle.facet_format.specs.Views.{hint_of};
 ghost use Rattle.facet_json_scan.specs.NumberViews.{number_of, number_refusal};
-ghost use Rattle.facet_format.specs.Views.{ArePartsOf};
 
-use crate::decimal::Decimal;
-use crate::numeral::{Parts, number_parts};
-use crate::span::Span;
-use crate::token::{NumberHint, ScanError, ScanErrorKind};
+use facet_format::Decimal;
+use facet_format::numeral::number_parts;
+use facet_format::Span;
+use facet_format::numeral::NumberHint;
+use crate::token::{ScanError, ScanErrorKind};
 use std::str;
 
 /// A number that has been read: in 64 bits where it fits them, else in 128, or as its text.
@@ -83,7 +83,7 @@ fn number<'a>(text: &'a [u8], hint: NumberHint) -> Option<ParsedNumber<'a>>
     match hint {
         NumberHint::Unsigned => unsigned_number(text),
         NumberHint::Signed => negative_number(&text[parts.sign..]),
-        NumberHint::Float => decimal_number(text, parts),
+        NumberHint::Float => decimal_number(text),
     }
 }
 
@@ -109,15 +109,14 @@ fn negative_number<'a>(digits: &[u8]) -> Option<ParsedNumber<'a>>
     }
 }
 
-/// The text of a number with a fraction or an exponent, of these parts, or `None` where it lacks a digit.
-fn decimal_number<'a>(text: &'a [u8], parts: Parts) -> Option<ParsedNumber<'a>>
+/// The text of a number with a fraction or an exponent, or `None` where it lacks a digit.
+fn decimal_number<'a>(text: &'a [u8]) -> Option<ParsedNumber<'a>>
     requires is_number { is_number text.now float ≡ true }
-    requires parts { ArePartsOf text.now parts }
     ensures { option_map number_of result ≡ spec_number text.now float }
 {
     // All bytes of a number are ASCII.
     let text = unsafe { str::from_utf8_unchecked(text) };
-    match Decimal::from_number(text, parts) {
+    match Decimal::new(text) {
         Some(decimal) => Some(ParsedNumber::Decimal(decimal)),
         None => None,
     }

@@ -1,17 +1,7 @@
 //! Tokens of JSON text (RFC 8259, section 2), and what is wrong where no token stands.
 
-use crate::span::Span;
-
-/// What stands in a number, from its bytes alone.
-#[derive(Debug, Clone, Copy, PartialEq)]
-pub enum NumberHint {
-    /// Digits alone.
-    Unsigned,
-    /// A minus and digits.
-    Signed,
-    /// A dot or an exponent mark stands in it.
-    Float,
-}
+use facet_format::Span;
+use facet_format::numeral::NumberHint;
 
 /// What a scanner cuts off its buffer. Offsets are in bytes of the buffer.
 #[derive(Debug, Clone, PartialEq, Drop)]

@@ -4,7 +4,7 @@ use super::{
     DecodeError, decode_string, decode_string_borrowed, decode_string_borrowed_unchecked,
     decode_string_owned, decode_string_owned_unchecked, decode_string_unchecked,
 };
-use crate::span::Span;
+use facet_format::Span;
 use crate::token::{ScanError, ScanErrorKind};
 use std::alloc::{AllocError, Global};
 use std::borrow::CowStr;

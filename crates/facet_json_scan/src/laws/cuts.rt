@@ -1,22 +1,10 @@
-//! What gaps, numbers and tokens are: the definitions that compute agree with those that say what is meant.
+//! What gaps and tokens are: the definitions that compute agree with those that say what is meant.
 
 ghost use Rattle.facet_json_scan.specs.Laws.{GapIsLongest, ShapeIsCut, ShapeIsUnique};
-ghost use Rattle.facet_format.specs.Laws.{NumberIsLongest, NumberIsTested};
 
 /// The gap at the front of the bytes is a gap, and no longer front of them is one (RFC 8259, section 2).
 pub fn gap_is_longest()
     ensures { GapIsLongest }
-{}
-
-/// Where more than a minus stands, the number at the front of the bytes is a number, and no longer front of them is one
-/// (RFC 8259, section 6).
-pub fn number_is_longest()
-    ensures { NumberIsLongest }
-{}
-
-/// A text is tested to be a number with a hint exactly where it is one (RFC 8259, section 6).
-pub fn number_is_tested()
-    ensures { NumberIsTested }
 {}
 
 /// A token is cut exactly where its shape stands (RFC 8259, section 2).

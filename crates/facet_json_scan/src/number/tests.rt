@@ -1,9 +1,10 @@
 //! Worked rows: which text is which number.
 
 use super::{ParsedNumber, parse_number, parse_number_unchecked};
-use crate::decimal::Decimal;
-use crate::span::Span;
-use crate::token::{NumberHint, ScanError, ScanErrorKind};
+use facet_format::Decimal;
+use facet_format::Span;
+use facet_format::numeral::NumberHint;
+use crate::token::{ScanError, ScanErrorKind};
 use std::process::Abort;
 use std::test::Fail;
 

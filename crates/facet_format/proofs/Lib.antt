@@ -1,0 +1,4 @@
+pub mod NumberFronts
+pub mod NumberLaws
+pub mod NumberText
+pub mod NumberSteps

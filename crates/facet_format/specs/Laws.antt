@@ -1,0 +1,14 @@
+-- What the definitions of numbers mean, in the subject's own words. Each law is the contract of a function of the module `laws`.
+use Rattle.std.specs.Prelude.{◌≡◌, ℕ, ◌≤◌, ◌↔◌, true, false, List, length, take}
+use Rattle.facet_format.specs.Number.{Hint, IsNumber, parts, parts_len, parts_hint, is_bare, begins_number, is_number}
+
+-- Where more than a minus stands, the number at the front is a number, and no longer front of the bytes is one.
+abbrev pub NumberIsLongest : Type 0
+NumberIsLongest = (bytes : List ℕ) → begins_number bytes ≡ true → is_bare (parts bytes) ≡ false →
+    let n = parts_len (parts bytes) in
+    (n ≤ length bytes) × IsNumber (take n bytes) (parts_hint (parts bytes))
+    × ((k : ℕ) (hint : Hint) → k ≤ length bytes → IsNumber (take k bytes) hint → k ≤ n)
+
+-- A text is tested to be a number with a hint exactly where it is one.
+abbrev pub NumberIsTested : Type 0
+NumberIsTested = (text : List ℕ) (hint : Hint) → (is_number text hint ≡ true) ↔ IsNumber text hint

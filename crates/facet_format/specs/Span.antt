@@ -1,0 +1,11 @@
+-- Ranges of bytes of an input.
+use Rattle.std.specs.Prelude.{ℕ, ◌+◌}
+
+-- a range of bytes
+pub record Span : Type 0 where
+  pub offset : ℕ
+  pub len : ℕ
+
+-- the offset behind it
+abbrev pub stop : Span → ℕ
+stop s = s.offset + s.len

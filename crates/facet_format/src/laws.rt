@@ -1,0 +1,15 @@
+//! What the definitions of numbers mean, in the subject's own words: each law is the contract of a function without
+//! effect.
+
+ghost use Rattle.facet_format.specs.Laws.{NumberIsLongest, NumberIsTested};
+
+/// Where more than a minus stands, the number at the front of the bytes is a number, and no longer front of them is one
+/// (RFC 8259, section 6).
+pub fn number_is_longest()
+    ensures { NumberIsLongest }
+{}
+
+/// A text is tested to be a number with a hint exactly where it is one (RFC 8259, section 6).
+pub fn number_is_tested()
+    ensures { NumberIsTested }
+{}

@@ -1,0 +1,37 @@
+//! How a parser refuses.
+
+ghost use Rattle.std.specs.Prelude.{◌≡◌};
+ghost use Rattle.facet_format.specs.Complaint.{refusal_at};
+ghost use Rattle.facet_format.specs.Views.{span_of, complaint_of, refusal_of, parse_refusal};
+
+use crate::error::{DeserializeError, DeserializeErrorKind};
+use crate::span::Span;
+
+/// Why a parser refused, and where: what is wrong always stands at some bytes of the input.
+#[derive(Debug, Clone, Copy, PartialEq, Eq)]
+pub struct ParseError {
+    /// The bytes of the input that the refusal is about.
+    pub span: Span,
+    /// Why.
+    pub kind: DeserializeErrorKind<'static>,
+}
+
+impl ParseError {
+    /// The refusal of these bytes for this reason.
+    pub fn new(span: Span, kind: DeserializeErrorKind<'static>) -> ParseError
+        ensures { parse_refusal result ≡ refusal_at (complaint_of kind.entry) (span_of span) }
+    {
+        ParseError { span, kind }
+    }
+}
+
+impl From<ParseError> for DeserializeError<'_> {
+    ghost from_gives = { λ error e. refusal_of e ≡ parse_refusal error };
+
+    fn from(error: ParseError) -> Self {
+        DeserializeError {
+            kind: error.kind,
+            span: Some(error.span),
+        }
+    }
+}

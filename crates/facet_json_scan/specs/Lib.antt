@@ -1,0 +1,12 @@
+pub mod Gap
+pub mod Token
+pub mod Cut
+pub mod Open
+pub mod Tokens
+pub mod Decode
+pub mod Scanner
+pub mod Views
+pub mod NumberViews
+pub mod ScannerViews
+pub mod Decoders
+pub mod Laws

@@ -1,0 +1,10 @@
+//! What the definitions of `specs/` mean, in the subject's own words: each law is the contract of a
+//! function without effect.
+
+mod cuts;
+mod decoding;
+mod growth;
+
+pub use cuts::{gap_is_longest, shape_is_cut, shape_is_unique};
+pub use decoding::decoded_is_decodes;
+pub use growth::{cut_stays, open_is_tested};
