@@ -2,7 +2,7 @@
 use Rattle.std.specs.Prelude.{ℕ, Bool, true, false, List, Option, Some, None, codes, slice_range}
 use Rattle.facet_format.specs.Number.{Number}
 use Rattle.facet_format.specs.Number as numbers
-use Rattle.facet_format.specs.Span.{Span}
+use Rattle.facet_format.specs.Complaint.{Complaint, unexpected_char, unexpected_eof, unexpected_token}
 use Rattle.facet_json_scan.specs.Token.{Kind, Token, Fault, FaultKind}
 use Rattle.facet_json_scan.specs.Token as token
 use Rattle.facet_json.specs.Node.{is_scalar, is_string}

@@ -1,22 +1,9 @@
 -- What the types of the code stand for in the definitions. The one file of the definitions that names types of the code.
-use Rattle.std.specs.Prelude.{◌≡◌, ℕ, List, [], ◌∷◌, map, Option, Some, None, Result, Ok, Err, codes, length, slice_range, ◌≤◌, ◌==◌, true, false, string_bytes}
-use Rattle.std.specs.Option.{option_map}
+use Rattle.std.specs.Prelude.{◌≡◌, ℕ, List, [], ◌∷◌, map, Some, None, codes, length, slice_range, ◌≤◌, ◌==◌, true, false, string_bytes}
 use Rattle.std.specs.declared.string.String.{String}
 use Rattle.std.specs.declared.alloc.Global.{Global}
-use Rattle.facet_json_scan.specs.declared.mode.Mode.{Mode as RustMode}
-use Rattle.facet_json_scan.specs.declared.mode.Mode.TheVariants as mode
-use Rattle.facet_format.specs.declared.span.Span.{Span as RustSpan}
-use Rattle.facet_format.specs.declared.numeral.NumberHint.{NumberHint}
-use Rattle.facet_format.specs.declared.numeral.NumberHint.TheVariants as hint
 use Rattle.facet_json_scan.specs.declared.token.Token.{Token as RustToken}
 use Rattle.facet_json_scan.specs.declared.token.Token.TheVariants as code
-use Rattle.facet_json_scan.specs.declared.token.SpannedToken.{SpannedToken}
-use Rattle.facet_json_scan.specs.declared.token.ScanErrorKind.{ScanErrorKind}
-use Rattle.facet_json_scan.specs.declared.token.ScanErrorKind.TheVariants as scan
-use Rattle.facet_json_scan.specs.declared.token.ScanError.{ScanError}
-use Rattle.facet_format.specs.declared.error.DeserializeErrorKind.{DeserializeErrorKind}
-use Rattle.facet_format.specs.declared.error.DeserializeErrorKind.TheVariants as error
-use Rattle.facet_format.specs.declared.error.DeserializeError.{DeserializeError}
 use Rattle.facet_json.specs.declared.place.Place.{Place as RustPlace}
 use Rattle.facet_json.specs.declared.place.Place.TheVariants as places
 use Rattle.facet_json.specs.declared.materialized.TokenKind.{TokenKind}
@@ -27,15 +14,13 @@ use Rattle.facet_json.specs.declared.tree.Tree.TheOpen.{Tree-F}
 use Rattle.std.specs.List.{list_any}
 use Rattle.facet_format.specs.Bytes.{backslash}
 use Rattle.facet_format.specs.Number.{is_number as is_number_text}
-use Rattle.facet_json_scan.specs.Gap.{Mode, plain, jsonc}
-use Rattle.facet_format.specs.Number.{Hint, unsigned, signed, float}
+use Rattle.facet_format.specs.Number.{unsigned}
 use Rattle.facet_format.specs.Span.{Span}
-use Rattle.facet_json_scan.specs.Token.{Kind, Token, FaultKind, Fault}
+use Rattle.facet_json_scan.specs.Token.{Kind, Token}
 use Rattle.facet_json_scan.specs.Token as token
-use Rattle.facet_json_scan.specs.Cut.{Cut, nothing_left, fault}
-use Rattle.facet_json_scan.specs.Cut as cut
 use Rattle.facet_json.specs.Place.{Place}
-use Rattle.facet_format.specs.Complaint.{Complaint, Refusal}
+use Rattle.facet_format.specs.Complaint.{Complaint, unexpected_token, Refusal, refusal_at}
+use Rattle.facet_format.specs.Views.{span_of, hint_of}
 use Rattle.facet_json.specs.Place as place
 use Rattle.facet_json_scan.specs.Tokens.{Tokens, next}
 use Rattle.facet_json.specs.Node.{is_string}
@@ -82,7 +67,7 @@ CanBeRead buffer _ = Unit {0}
 pub record IsMeaningless (buffer : List ℕ) (kind : Kind) (s : Span) (refusal : Refusal) : Type 0 where
   pub judged : needs_meaning kind ≡ true
   pub meaningless : thin_meaning_of buffer kind ≡ None
-  pub refused : refusal ≡ place.refusal_at (thin_complaint kind) s
+  pub refused : refusal ≡ refusal_at (thin_complaint kind) s
 
 -- The first of the tokens is read so.
 pub record IsReadFirst (buffer : List ℕ) (ts : Tokens) (t : MaterializedToken) (after : Tokens) : Type 0 where
@@ -121,7 +106,7 @@ sample (kinds.U64 n) = token.number 0 0 unsigned
 
 -- what is wrong with the token at a place where no document goes on with it
 abbrev pub misplaced_complaint : Place → TokenKind → Complaint
-misplaced_complaint p kind = place.unexpected_token (name_of kind) (place.expected_at p (sample kind))
+misplaced_complaint p kind = unexpected_token (name_of kind) (place.expected_at p (sample kind))
 
 -- ---- trees
 
