@@ -9,3 +9,6 @@ pub record Span : Type 0 where
 -- the offset behind it
 abbrev pub stop : Span → ℕ
 stop s = s.offset + s.len
+
+abbrev pub span_at : ℕ → ℕ → Span
+span_at offset len = record { offset = offset; len = len }

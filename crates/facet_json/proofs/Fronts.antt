@@ -6,13 +6,13 @@ use Rattle.facet_json.specs.declared.tree.Tree.{Tree as RustTree}
 use Rattle.facet_json_scan.specs.Token.{Token}
 use Rattle.facet_json_scan.specs.Token as token
 use Rattle.facet_json_scan.specs.Tokens.{Tokens, next}
-use Rattle.facet_json.specs.Node.{Node, scalar, array, object, no_nodes, item, no_members, member, is_scalar, is_string, Spells, one_token, brackets, braces, closed, item_and_comma, last_item, ended_members, member_and_comma, last_member}
-use Rattle.facet_json.specs.Tree.{Tree, list, pairs, Trees, no_trees, tree, Pairs, no_pairs, pair}
-use Rattle.facet_json.specs.Meaning.{Meaning, tree_of, trees_of, pairs_of, text_of}
-use Rattle.facet_json.specs.Document.{Reads}
-use Rattle.facet_json.specs.Refusal.{PassesItems, PassesMembers}
-use Rattle.facet_json.specs.Refusal as fronts
-use Rattle.facet_json.specs.Reading.{ReadsItems, ReadsMembers}
+use Rattle.facet_json_core.specs.Node.{Node, scalar, array, object, no_nodes, item, no_members, member, is_scalar, is_string, Spells, one_token, brackets, braces, closed, item_and_comma, last_item, ended_members, member_and_comma, last_member}
+use Rattle.facet_json_core.specs.Tree.{Tree, list, pairs, Trees, no_trees, tree, Pairs, no_pairs, pair}
+use Rattle.facet_json_core.specs.Meaning.{Meaning, tree_of, trees_of, pairs_of, text_of}
+use Rattle.facet_json_core.specs.Document.{Reads}
+use Rattle.facet_json_core.specs.Refusal.{PassesItems, PassesMembers}
+use Rattle.facet_json_core.specs.Refusal as fronts
+use Rattle.facet_json_core.specs.Reading.{ReadsItems, ReadsMembers}
 use Rattle.facet_json.specs.Views as views
 
 -- ---- what stands up to a closing bracket

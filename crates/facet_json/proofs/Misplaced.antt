@@ -10,12 +10,12 @@ use Rattle.facet_format.specs.Number as numbers
 use Rattle.facet_json_scan.specs.Token.{Kind, Token}
 use Rattle.facet_json_scan.specs.Token as token
 use Rattle.facet_json_scan.specs.Tokens.{Tokens, next}
-use Rattle.facet_json.specs.Place.{Place, root, before_key, after_key, after_member, before_item, after_item, goes_on, expected_at, kind_name, number_name}
+use Rattle.facet_json_core.specs.Place.{Place, root, before_key, after_key, after_member, before_item, after_item, goes_on, expected_at, kind_name, number_name}
 use Rattle.facet_format.specs.Complaint.{unexpected_token, Refusal, refusal_at}
-use Rattle.facet_json.specs.Tree as tree
-use Rattle.facet_json.specs.Meaning.{thin_meaning_of, thin_number}
-use Rattle.facet_json.specs.Refusal.{misplaced, needs_meaning}
-use Rattle.facet_json.specs.Reading.{StopsAt, TakesValue, at_root, behind_colon, of_list}
+use Rattle.facet_json_core.specs.Tree as tree
+use Rattle.facet_json_core.specs.Meaning.{thin_meaning_of, thin_number}
+use Rattle.facet_json_core.specs.Refusal.{misplaced, needs_meaning}
+use Rattle.facet_json_core.specs.Reading.{StopsAt, TakesValue, at_root, behind_colon, of_list}
 use Rattle.facet_format.specs.Views.{span_of}
 use Rattle.facet_json.specs.Views.{sample, name_of, misplaced_complaint, IsReadAs, IsReadFirst}
 

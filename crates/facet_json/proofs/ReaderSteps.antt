@@ -7,14 +7,14 @@ use Rattle.facet_json.specs.declared.materialized.MaterializedToken.{Materialize
 use Rattle.facet_json_scan.specs.Token.{Kind, Token}
 use Rattle.facet_json_scan.specs.Token as token
 use Rattle.facet_json_scan.specs.Tokens.{Tokens, next}
-use Rattle.facet_json.specs.Node.{is_scalar, is_string, scalar}
-use Rattle.facet_json.specs.Tree.{Tree, null, bool, text, u64, list, pairs, no_pairs}
-use Rattle.facet_json.specs.Tree as tree
-use Rattle.facet_json.specs.Meaning.{thin_meaning, thin_meaning_of, text_of}
-use Rattle.facet_json.specs.Place.{Place, before_key, after_key, after_colon, after_member, before_item, after_item}
+use Rattle.facet_json_core.specs.Node.{is_scalar, is_string, scalar}
+use Rattle.facet_json_core.specs.Tree.{Tree, null, bool, text, u64, list, pairs, no_pairs}
+use Rattle.facet_json_core.specs.Tree as tree
+use Rattle.facet_json_core.specs.Meaning.{thin_meaning, thin_meaning_of, text_of}
+use Rattle.facet_json_core.specs.Place.{Place, before_key, after_key, after_colon, after_member, before_item, after_item}
 use Rattle.facet_format.specs.Complaint.{Refusal}
-use Rattle.facet_json.specs.Refusal.{nothing, in_item, behind_item, behind_members, behind_key, in_member, behind_member, is_number}
-use Rattle.facet_json.specs.Reading.{ReadsValue, ReadsList, ReadsObject, IsColonNext, StopsAt, StopsFrom, StopsBehind}
+use Rattle.facet_json_core.specs.Refusal.{nothing, in_item, behind_item, behind_members, behind_key, in_member, behind_member, is_number}
+use Rattle.facet_json_core.specs.Reading.{ReadsValue, ReadsList, ReadsObject, IsColonNext, StopsAt, StopsFrom, StopsBehind}
 use Rattle.facet_json.specs.Views as views
 use Rattle.facet_json.specs.Views.{IsReadAs, IsReadFirst}
 use Rattle.facet_json.proofs.Fronts.{ItemsRead, item_read, MembersRead, member_read, paired, ItemsRead-passes, MembersRead-passes, ItemsRead-closed, ItemsRead-last, MembersRead-ended, MembersRead-last, Reads-scalar, Reads-list, Reads-pairs}

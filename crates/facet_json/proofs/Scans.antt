@@ -14,12 +14,13 @@ use Rattle.facet_json_scan.specs.Gap.{plain}
 use Rattle.facet_format.specs.Span.{Span, stop}
 use Rattle.facet_json_scan.specs.Token.{Kind, Token, Fault}
 use Rattle.facet_json_scan.specs.Token as token
-use Rattle.facet_json_scan.specs.Cut.{Cut, nothing_left, token as cut_token, fault, cut, span_at}
+use Rattle.facet_json_scan.specs.Cut.{Cut, nothing_left, token as cut_token, fault, cut}
+use Rattle.facet_format.specs.Span.{span_at}
 use Rattle.facet_json_scan.specs.Tokens.{next}
-use Rattle.facet_json.specs.Place.{Place, complaint_at_end, complaint_of_fault}
+use Rattle.facet_json_core.specs.Place.{Place, complaint_at_end, complaint_of_fault}
 use Rattle.facet_format.specs.Complaint.{Refusal, refusal_at}
-use Rattle.facet_json.specs.Refusal.{at_end, at_fault, meaningless}
-use Rattle.facet_json.specs.Reading.{left, StopsAt}
+use Rattle.facet_json_core.specs.Refusal.{at_end, at_fault, meaningless}
+use Rattle.facet_json_core.specs.Reading.{left, StopsAt}
 use Rattle.facet_format.specs.Views.{span_of, hint_of}
 use Rattle.facet_json_scan.specs.Views.{kind_of, token_answer, fault_answer, scanned, scan_refusal}
 use Rattle.facet_json.specs.Views.{CanBeRead, IsReadAs, IsReadFirst, IsMeaningless}

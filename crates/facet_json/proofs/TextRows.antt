@@ -5,7 +5,7 @@ use Rattle.std.specs.Char.{encode_utf8}
 use Rattle.std.specs.Fmt.{digits}
 use Rattle.facet_format.specs.Bytes.{line_feed, delete}
 use Rattle.facet_json.specs.Quoted.{escaped}
-use Rattle.facet_json.specs.Tree.{Tree, unit, char, i64, u64, u128, decimal, text as text_value, bytes, list, pairs, no_trees, tree, no_pairs, pair}
+use Rattle.facet_json_core.specs.Tree.{Tree, unit, char, i64, u64, u128, decimal, text as text_value, bytes, list, pairs, no_trees, tree, no_pairs, pair}
 use Rattle.facet_json.specs.Text.{as_array, as_hex, Options, default_options, text}
 
 -- indented by two spaces

@@ -6,18 +6,18 @@ use Rattle.facet_format.specs.declared.error.DeserializeError.{DeserializeError}
 use Rattle.facet_json_scan.specs.Gap.{plain}
 use Rattle.facet_format.specs.Span.{stop}
 use Rattle.facet_json_scan.specs.Tokens.{Tokens, tokens}
-use Rattle.facet_json.specs.Node.{Node}
-use Rattle.facet_json.specs.Tree.{Tree}
-use Rattle.facet_json.specs.Meaning.{thin_meaning}
-use Rattle.facet_json.specs.Document.{IsThinDocument}
+use Rattle.facet_json_core.specs.Node.{Node}
+use Rattle.facet_json_core.specs.Tree.{Tree}
+use Rattle.facet_json_core.specs.Meaning.{thin_meaning}
+use Rattle.facet_json_core.specs.Document.{IsThinDocument}
 use Rattle.facet_format.specs.Complaint.{Refusal, no_memory}
-use Rattle.facet_json.specs.Place.{root}
-use Rattle.facet_json.specs.Refusal.{RefusesThin, nothing}
-use Rattle.facet_json.specs.Reading.{ReadsValue, StopsAt, StopsFrom}
+use Rattle.facet_json_core.specs.Place.{root}
+use Rattle.facet_json_core.specs.Refusal.{RefusesThin, nothing}
+use Rattle.facet_json_core.specs.Reading.{ReadsValue, StopsAt, StopsFrom}
 use Rattle.facet_format.specs.Views.{span_of, refusal_of}
-use Rattle.facet_json.proofs.Spelling.{one_reading}
-use Rattle.facet_json.proofs.Refused.{refused_has_none}
-use Rattle.facet_json.proofs.Suffixes.{refused_within}
+use Rattle.facet_json_core.proofs.Spelling.{one_reading}
+use Rattle.facet_json_core.proofs.Refused.{refused_has_none}
+use Rattle.facet_json_core.proofs.Suffixes.{refused_within}
 
 module _ (input : List ℕ) where
   -- A first token that stops the reader refuses the input.

@@ -3,8 +3,8 @@ use Rattle.std.proofs.Common.{◌≡◌, ℕ, ◌<◌, ◌≤◌, ◌^◌, Bool,
 use Rattle.std.proofs.lemmas.Bool.{lt-ltb, le-ltb}
 use Rattle.std.specs.Prelude.{pos, neg_ℤ, nat_lt, nat_le}
 use Rattle.facet_format.specs.Number.{Number, u64, u128, i64, i128, decimal, unsigned, signed, float, negative_number, number, is_number, value_by, has_value, parts, digits_value}
-use Rattle.facet_json.specs.Tree as tree
-use Rattle.facet_json.specs.Meaning.{thin_number}
+use Rattle.facet_json_core.specs.Tree as tree
+use Rattle.facet_json_core.specs.Meaning.{thin_number}
 use Rattle.facet_format.proofs.NumberText.{number-unsigned}
 
 -- A choice of two things that aren't thin isn't.

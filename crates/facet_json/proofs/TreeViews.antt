@@ -1,7 +1,7 @@
 -- What each variant of a `Tree` stands for.
 use Rattle.std.proofs.Common.{◌≡◌, ℕ, suc, ◌+◌, ◌<◌, Bool, List, [], ◌∷◌, length, get_or, drop, refl, sym, ap, ◌∙◌, rules, Vec, String, Global, string_bytes}
 use Rattle.std.proofs.lemmas.List.{drop_more}
-use Rattle.facet_json.specs.Tree as tree
+use Rattle.facet_json_core.specs.Tree as tree
 use Rattle.facet_json.specs.Views.{tree_view, trees_view, pairs_view}
 use Rattle.facet_json.specs.declared.tree.Tree.{Tree, the_lemmas}
 use Rattle.facet_json.specs.declared.tree.Tree.TheVariants as code

@@ -1,11 +1,3 @@
-pub mod Node
-pub mod Tree
-pub mod Meaning
-pub mod Document
-pub mod Spelled
-pub mod Place
-pub mod Refusal
-pub mod Reading
 pub mod Same
 pub mod SameLaws
 pub mod Quoted

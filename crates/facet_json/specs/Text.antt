@@ -5,7 +5,7 @@ use Rattle.std.specs.Char.{encode_utf8}
 use Rattle.std.specs.Fmt.{decimal, signed_decimal}
 use Rattle.facet_format.specs.Bytes.{left_bracket, right_bracket, left_brace, right_brace, colon, comma, space, line_feed}
 use Rattle.facet_json.specs.Quoted.{quoted, hex_byte}
-use Rattle.facet_json.specs.Tree.{Tree, null, unit, bool, char, i64, u64, i128, u128, decimal as decimal_text, text as text_value, bytes, raw, list, pairs, Trees, no_trees, tree, Pairs, no_pairs, pair}
+use Rattle.facet_json_core.specs.Tree.{Tree, null, unit, bool, char, i64, u64, i128, u128, decimal as decimal_text, text as text_value, bytes, raw, list, pairs, Trees, no_trees, tree, Pairs, no_pairs, pair}
 
 -- how bytes are written: as an array of numbers, or as hexadecimal digits, of which only some at either end stand where there are
 -- more bytes than the limit

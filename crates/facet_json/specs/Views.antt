@@ -18,16 +18,16 @@ use Rattle.facet_format.specs.Number.{unsigned}
 use Rattle.facet_format.specs.Span.{Span}
 use Rattle.facet_json_scan.specs.Token.{Kind, Token}
 use Rattle.facet_json_scan.specs.Token as token
-use Rattle.facet_json.specs.Place.{Place}
+use Rattle.facet_json_core.specs.Place.{Place}
 use Rattle.facet_format.specs.Complaint.{Complaint, unexpected_token, Refusal, refusal_at}
 use Rattle.facet_format.specs.Views.{span_of, hint_of}
-use Rattle.facet_json.specs.Place as place
+use Rattle.facet_json_core.specs.Place as place
 use Rattle.facet_json_scan.specs.Tokens.{Tokens, next}
-use Rattle.facet_json.specs.Node.{is_string}
-use Rattle.facet_json.specs.Meaning.{thin_meaning_of}
-use Rattle.facet_json.specs.Refusal.{is_number, needs_meaning, thin_complaint}
-use Rattle.facet_json.specs.Tree.{Tree, Trees, no_trees, Pairs, no_pairs}
-use Rattle.facet_json.specs.Tree as tree
+use Rattle.facet_json_core.specs.Node.{is_string}
+use Rattle.facet_json_core.specs.Meaning.{thin_meaning_of}
+use Rattle.facet_json_core.specs.Refusal.{is_number, needs_meaning, thin_complaint}
+use Rattle.facet_json_core.specs.Tree.{Tree, Trees, no_trees, Pairs, no_pairs}
+use Rattle.facet_json_core.specs.Tree as tree
 
 abbrev pub place_of : RustPlace → Place
 place_of places.Root = place.root

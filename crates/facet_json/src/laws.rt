@@ -2,10 +2,5 @@
 //! function without effect.
 
 mod decoding;
-mod documents;
 
 pub use decoding::quoted_by_characters;
-pub use documents::{
-    document_is_found, one_document, one_spelling, plain_is_jsonc, refused_has_none,
-    spelled_is_spells, thin_document_is_found, whole_document_is_found,
-};

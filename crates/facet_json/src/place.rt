@@ -1,9 +1,9 @@
 //! Where a reader stands in a document, and what it expects there.
 
 ghost use Rattle.std.specs.Prelude.{◌≡◌};
-ghost use Rattle.facet_json.specs.Place.{complaint_at_end, expected_at};
+ghost use Rattle.facet_json_core.specs.Place.{complaint_at_end, expected_at};
 ghost use Rattle.facet_format.specs.Complaint.{refusal_at};
-ghost use Rattle.facet_json_scan.specs.Cut.{span_at};
+ghost use Rattle.facet_format.specs.Span.{span_at};
 ghost use Rattle.facet_json.specs.Views.{place_of, sample};
 ghost use Rattle.facet_format.specs.Views.{complaint_of, refusal_of};
 

@@ -5,9 +5,9 @@ ghost use Rattle.std.specs.List.{list_any};
 ghost use Rattle.facet_format.specs.Bytes.{backslash};
 ghost use Rattle.facet_format.specs.Number.{number, is_number};
 ghost use Rattle.facet_format.specs.Complaint.{refusal_at, invalid_utf8};
-ghost use Rattle.facet_json.specs.Tree.{text, u64 as u64_tree};
-ghost use Rattle.facet_json.specs.Meaning.{thin_string, thin_number as thin_number_value};
-ghost use Rattle.facet_json.specs.Refusal.{thin_text_complaint, not_read_yet as not_read_yet_complaint};
+ghost use Rattle.facet_json_core.specs.Tree.{text, u64 as u64_tree};
+ghost use Rattle.facet_json_core.specs.Meaning.{thin_string, thin_number as thin_number_value};
+ghost use Rattle.facet_json_core.specs.Refusal.{thin_text_complaint, not_read_yet as not_read_yet_complaint};
 ghost use Rattle.facet_format.specs.Views.{refusal_of, span_of, hint_of};
 
 use facet_format::{DeserializeError, DeserializeErrorKind};

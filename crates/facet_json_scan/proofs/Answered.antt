@@ -12,7 +12,8 @@ use Rattle.facet_json_scan.specs.declared.token.ScanErrorKind.TheVariants as sca
 use Rattle.facet_json_scan.specs.declared.token.ScanError.{ScanError}
 use Rattle.facet_format.specs.Span.{stop}
 use Rattle.facet_json_scan.specs.Gap.{Mode}
-use Rattle.facet_json_scan.specs.Cut.{Cut, nothing_left, token, fault, cut_here, span_at}
+use Rattle.facet_json_scan.specs.Cut.{Cut, nothing_left, token, fault, cut_here}
+use Rattle.facet_format.specs.Span.{span_at}
 use Rattle.facet_json_scan.specs.Open.{IsBeginning}
 use Rattle.facet_json_scan.specs.Scanner.{ended, answer_for}
 use Rattle.facet_json_scan.specs.Views.{scanned, token_answer as token_scanned, fault_answer as fault_scanned}

@@ -5,7 +5,8 @@ use Rattle.facet_format.specs.Bytes.{slash, dot, line_feed}
 use Rattle.facet_json_scan.specs.Gap.{Mode, plain, jsonc, gap_len_from, OpensBlock, OpensLine}
 use Rattle.facet_format.specs.Number.{unsigned, signed, float, parts}
 use Rattle.facet_json_scan.specs.Token.{Kind, Token, object_start, object_end, array_start, array_end, colon, comma, null, true_literal, string, number, unexpected_char, unexpected_eof, in_string, in_number, in_literal, in_block_comment}
-use Rattle.facet_json_scan.specs.Cut.{ArePieces, IsLiteral, nothing_left, start_of, span_at, token_at, fault_at, cut_here, cut}
+use Rattle.facet_json_scan.specs.Cut.{ArePieces, IsLiteral, nothing_left, start_of, token_at, fault_at, cut_here, cut}
+use Rattle.facet_format.specs.Span.{span_at}
 use Rattle.facet_json_scan.specs.Tokens.{ended, refused, next, tokens_past, tokens}
 use Rattle.facet_json_scan.specs.Open.{IsBeginning, IsOpen, is_beginning, is_open}
 use Rattle.facet_format.proofs.NumberLaws.{is_number-sound}

@@ -1,7 +1,7 @@
 -- What a call gives where the buffer is open.
 use Rattle.std.proofs.Common.{◌≡◌, ℕ, ◌-◌, List, length, drop, Option, Some, ap, ◌∙◌}
 use Rattle.facet_json_scan.specs.Gap.{Mode}
-use Rattle.facet_json_scan.specs.Cut.{span_at}
+use Rattle.facet_format.specs.Span.{span_at}
 use Rattle.facet_json_scan.specs.Scanner.{State, Scanner, Describes, Answer, needs_more, waiting, past_growing_gap, Gives}
 use Rattle.facet_json_scan.proofs.Beginnings.{described_begins}
 

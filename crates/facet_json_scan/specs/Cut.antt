@@ -72,9 +72,6 @@ start_of b =
     (cond (b == 0x74) (letter (codes "true") true_literal) (cond (b == 0x66) (letter (codes "false") false_literal)
     (cond (starts_number b) opens_number (cond (b == slash) opens_comment opens_nothing)))))))))))
 
-abbrev pub span_at : ℕ → ℕ → Span
-span_at offset len = record { offset = offset; len = len }
-
 abbrev pub token_at : Kind → ℕ → ℕ → Cut
 token_at kind offset len = token (record { kind = kind; span = span_at offset len })
 

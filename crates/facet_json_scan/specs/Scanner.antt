@@ -5,7 +5,8 @@ use Rattle.facet_json_scan.specs.Gap.{Mode, jsonc, growing, gap_len, OpensBlock,
 use Rattle.facet_format.specs.Number.{Hint, IsNumber}
 use Rattle.facet_format.specs.Span.{Span, stop}
 use Rattle.facet_json_scan.specs.Token.{Kind, Token, Fault}
-use Rattle.facet_json_scan.specs.Cut.{ArePieces, IsLiteral, Cut, nothing_left, token, fault, span_at, past_gap, cut}
+use Rattle.facet_json_scan.specs.Cut.{ArePieces, IsLiteral, Cut, nothing_left, token, fault, past_gap, cut}
+use Rattle.facet_format.specs.Span.{span_at}
 use Rattle.facet_json_scan.specs.Open.{IsOpen}
 
 -- ---- what is kept

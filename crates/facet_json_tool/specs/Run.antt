@@ -4,11 +4,11 @@ use Rattle.std.specs.Option.{option_map}
 use Rattle.std.specs.declared.string.String.{String}
 use Rattle.std.specs.declared.alloc.Global.{Global}
 use Rattle.facet_format.specs.declared.span.Span.{Span}
-use Rattle.facet_json.specs.Node.{Node}
-use Rattle.facet_json.specs.Tree.{Tree}
-use Rattle.facet_json.specs.Document.{IsThinDocument}
+use Rattle.facet_json_core.specs.Node.{Node}
+use Rattle.facet_json_core.specs.Tree.{Tree}
+use Rattle.facet_json_core.specs.Document.{IsThinDocument}
 use Rattle.facet_format.specs.Complaint.{Refusal, code_of}
-use Rattle.facet_json.specs.Refusal.{RefusesThin}
+use Rattle.facet_json_core.specs.Refusal.{RefusesThin}
 use Rattle.facet_json.specs.Text.{default_options, text}
 use Rattle.facet_format.specs.Views.{span_of}
 use Rattle.facet_json_tool.specs.declared.run.Outcome.{Outcome}

@@ -1,6 +1,6 @@
 use Rattle.std.proofs.Common.{inr}
 use Rattle.std.proofs.lemmas.Result.{err_from_is_err_and, IfOk-weaker, IfErr-weaker, MatchResult-from_both}
-use Rattle.facet_json.specs.Reading.{at_root}
+use Rattle.facet_json_core.specs.Reading.{at_root}
 use Rattle.facet_json.proofs.ThinDocuments.{refused_first, only_memory, only_tree, span_within}
 use Rattle.facet_json.proofs.reader.from_slice.Goals as goal
 

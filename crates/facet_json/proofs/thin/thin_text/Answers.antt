@@ -1,6 +1,6 @@
 use Rattle.std.proofs.Common.{ap, sym, ◌∙◌}
 use Rattle.std.specs.Option.{option_map}
-use Rattle.facet_json.specs.Tree.{text}
+use Rattle.facet_json_core.specs.Tree.{text}
 use Rattle.facet_json_scan.proofs.PlainText.{decoded-plain, decoded-plain_none}
 use Rattle.facet_json.proofs.thin.thin_text.Goals as goal
 

@@ -4,7 +4,7 @@ use Rattle.std.specs.Result.{OnOk}
 use Rattle.facet_format.specs.Bytes.{colon, left_bracket, right_bracket, left_brace, right_brace}
 use Rattle.facet_json.specs.Quoted.{quoted}
 use Rattle.facet_json.specs.Text.{separator, text}
-use Rattle.facet_json.specs.Tree.{bool, list, pairs}
+use Rattle.facet_json_core.specs.Tree.{bool, list, pairs}
 use Rattle.facet_json.specs.Views.{tree_view, trees_view, pairs_view}
 use Rattle.facet_json.proofs.CompactText.{compact, compact_items, compact_members, items_text-step, items_text-end, members_text-step, members_text-end}
 use Rattle.facet_json.proofs.TreeViews.{tree_view-Null, tree_view-Bool, tree_view-U64, tree_view-Text, tree_view-List, tree_view-Pairs, trees_view-drop, pairs_view-drop}

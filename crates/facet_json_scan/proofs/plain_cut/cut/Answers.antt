@@ -3,7 +3,8 @@ use Rattle.std.proofs.Common.{◌≡◌, drop, length, Some, refl, ap, ap₂, sy
 use Rattle.std.proofs.lemmas.List.{drop_all}
 use Rattle.facet_json_scan.specs.Views.{mode_of}
 use Rattle.facet_format.specs.Views.{span_of}
-use Rattle.facet_json_scan.specs.Cut.{cut, cut_here, span_at}
+use Rattle.facet_json_scan.specs.Cut.{cut, cut_here}
+use Rattle.facet_format.specs.Span.{span_at}
 use Rattle.facet_json_scan.proofs.Offsets.{slice_get-from_read}
 use Rattle.facet_json_scan.proofs.FirstBytes.{cut_here-something, no_end}
 use Rattle.facet_json_scan.proofs.plain_cut.cut.Goals as goal

@@ -2,8 +2,8 @@ use Rattle.std.proofs.Common.{◌∙◌, refl, ap, length, arith}
 use Rattle.std.proofs.lemmas.List.{map-append}
 use Rattle.std.proofs.lemmas.Result.{err_from_is_err_and}
 use Rattle.facet_json.specs.declared.materialized.TokenKind.TheVariants as kinds
-use Rattle.facet_json.specs.Place.{before_key, after_colon, after_member, before_item, after_item}
-use Rattle.facet_json.specs.Reading.{of_list, behind_colon}
+use Rattle.facet_json_core.specs.Place.{before_key, after_colon, after_member, before_item, after_item}
+use Rattle.facet_json_core.specs.Reading.{of_list, behind_colon}
 use Rattle.facet_json.specs.Views.{place_of}
 use Rattle.facet_json.proofs.TreeViews.{tree_view-Null, tree_view-Bool, tree_view-U64, tree_view-Text, tree_view-List, tree_view-Pairs}
 use Rattle.facet_json.proofs.Fronts.{none_read, paired-none}

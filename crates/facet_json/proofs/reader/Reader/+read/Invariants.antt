@@ -1,6 +1,6 @@
 use Rattle.std.proofs.Common.{◌≡◌, ◌≤◌, ◌+◌, ◌-◌, ◌*◌, length, map, string_bytes}
-use Rattle.facet_json.specs.Meaning.{thin_meaning}
-use Rattle.facet_json.specs.Reading.{left}
+use Rattle.facet_json_core.specs.Meaning.{thin_meaning}
+use Rattle.facet_json_core.specs.Reading.{left}
 use Rattle.facet_json.specs.Views.{tree_view}
 use Rattle.facet_json.proofs.Fronts.{ItemsRead, MembersRead}
 use Rattle.facet_json.proofs.reader.Reader.+read.Given as goal

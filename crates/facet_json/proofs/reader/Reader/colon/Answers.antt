@@ -1,4 +1,4 @@
-use Rattle.facet_json.specs.Place.{after_key}
+use Rattle.facet_json_core.specs.Place.{after_key}
 use Rattle.facet_json.proofs.Misplaced.{stops_misplaced, after_key-stays}
 use Rattle.facet_json.proofs.reader.Reader.colon.Goals as goal
 

@@ -1,0 +1,115 @@
+-- What stands behind a value or a front is a suffix of the tokens, and every token and fault of a buffer's tokens is within it.
+use Rattle.std.proofs.Common.{ℕ, zero, suc, ◌+◌, ◌-◌, ◌≤◌, List, [], ◌∷◌, length, drop, IfSome, arith, length-drop}
+use Rattle.facet_json_scan.specs.Gap.{Mode, plain}
+use Rattle.facet_format.specs.Span.{Span, stop}
+use Rattle.facet_json_scan.specs.Token.{Token, Fault}
+use Rattle.facet_json_scan.specs.Cut.{Cut, nothing_left, token, fault, cut}
+use Rattle.facet_json_scan.specs.Tokens.{Tokens, ended, refused, next, tokens_past, tokens}
+use Rattle.facet_json_core.specs.Node.{Node, Nodes, Members, Spells, one_token, brackets, braces, SpellsItems, closed, item_and_comma, last_item, SpellsMembers, ended_members, member_and_comma, last_member}
+use Rattle.facet_json_core.specs.Meaning.{Meaning}
+use Rattle.facet_json_core.specs.Place.{Place}
+use Rattle.facet_format.specs.Complaint.{Refusal}
+use Rattle.facet_json_core.specs.Refusal.{PassesItems, no_items, one_item, PassesMembers, no_members, one_member, Begins, nothing, in_item, behind_item, behind_members, behind_key, in_member, behind_member, IsStuck, at_end, at_fault, meaningless, misplaced, ThinComplains, RefusesThin}
+use Rattle.facet_json_scan.proofs.CutBounds.{CutFits, cut-fits}
+
+-- ---- suffixes
+
+-- The second tokens are a suffix of the first.
+pub data IsSuffix : Tokens → Tokens → Type 0 where
+  all : (ts : Tokens) → IsSuffix ts ts
+  later : (t : Token) (ts rest : Tokens) → IsSuffix ts rest → IsSuffix (next t ts) rest
+
+IsSuffix-trans : (a b c : Tokens) → IsSuffix a b → IsSuffix b c → IsSuffix a c
+IsSuffix-trans a b c (all _) q = q
+IsSuffix-trans a b c (later t ts _ p) q = later t ts c (IsSuffix-trans ts b c p q)
+
+-- What stands behind a first token.
+behind : (t : Token) (ts rest : Tokens) → IsSuffix ts (next t rest) → IsSuffix ts rest
+behind t ts rest p = IsSuffix-trans ts (next t rest) rest p (later t rest rest (all rest))
+
+mutual
+  pub Spells-suffix : (ts : Tokens) (node : Node) (rest : Tokens) → Spells ts node rest → IsSuffix ts rest
+  Spells-suffix _ _ _ (one_token t rest k) = later t rest rest (all rest)
+  Spells-suffix _ _ _ (brackets first last inner rest nodes k s) = later first inner rest (items-suffix inner nodes last rest s)
+  Spells-suffix _ _ _ (braces first last inner rest members k s) = later first inner rest (members-suffix inner members last rest s)
+
+  items-suffix : (ts : Tokens) (nodes : Nodes) (last : Token) (rest : Tokens) → SpellsItems ts nodes last rest → IsSuffix ts rest
+  items-suffix _ _ _ _ (closed last rest k) = later last rest rest (all rest)
+  items-suffix _ _ _ _ (item_and_comma ts others rest node nodes separator last s k more) = IsSuffix-trans ts others rest (behind separator ts others (Spells-suffix ts node _ s)) (items-suffix others nodes last rest more)
+  items-suffix _ _ _ _ (last_item ts rest node last s k) = behind last ts rest (Spells-suffix ts node _ s)
+
+  members-suffix : (ts : Tokens) (members : Members) (last : Token) (rest : Tokens) → SpellsMembers ts members last rest → IsSuffix ts rest
+  members-suffix _ _ _ _ (ended_members last rest k) = later last rest rest (all rest)
+  members-suffix _ _ _ _ (member_and_comma ts others rest key mark node members separator last n c s k more) =
+      later key _ rest (later mark ts rest (IsSuffix-trans ts others rest (behind separator ts others (Spells-suffix ts node _ s)) (members-suffix others members last rest more)))
+  members-suffix _ _ _ _ (last_member ts rest key mark node last n c s k) = later key _ rest (later mark ts rest (behind last ts rest (Spells-suffix ts node _ s)))
+
+module _ (m : Meaning) where
+  PassesItems-suffix : (ts rest : Tokens) → PassesItems m ts rest → IsSuffix ts rest
+  PassesItems-suffix _ _ (no_items ts) = all ts
+  PassesItems-suffix _ _ (one_item ts others rest node value separator s t e p) = IsSuffix-trans ts others rest (behind separator ts others (Spells-suffix ts node _ s)) (PassesItems-suffix others rest p)
+
+  PassesMembers-suffix : (ts rest : Tokens) → PassesMembers m ts rest → IsSuffix ts rest
+  PassesMembers-suffix _ _ (no_members ts) = all ts
+  PassesMembers-suffix _ _ (one_member ts others rest key mark name node value separator k n c s t e p) =
+      later key _ rest (later mark ts rest (IsSuffix-trans ts others rest (behind separator ts others (Spells-suffix ts node _ s)) (PassesMembers-suffix others rest p)))
+
+  -- What a front leads to is a suffix.
+  pub Begins-suffix : (p : Place) (ts : Tokens) (here : Place) (rest : Tokens) → Begins m p ts here rest → IsSuffix ts rest
+  Begins-suffix _ _ _ _ (nothing p ts) = all ts
+  Begins-suffix _ _ _ _ (in_item p here first inner ts rest k h b) = later first inner rest (IsSuffix-trans inner ts rest (PassesItems-suffix inner ts h) (Begins-suffix _ ts here rest b))
+  Begins-suffix _ _ _ _ (behind_item p first inner ts rest node value k h s t) = later first inner rest (IsSuffix-trans inner ts rest (PassesItems-suffix inner ts h) (Spells-suffix ts node rest s))
+  Begins-suffix _ _ _ _ (behind_members p first inner rest k h) = later first inner rest (PassesMembers-suffix inner rest h)
+  Begins-suffix _ _ _ _ (behind_key p first key name inner rest k h n v) = later first inner rest (behind key inner rest (PassesMembers-suffix inner _ h))
+  Begins-suffix _ _ _ _ (in_member p here first key mark name inner ts rest k h n v c b) =
+      later first inner rest (IsSuffix-trans inner ts rest (behind mark inner ts (behind key inner _ (PassesMembers-suffix inner _ h))) (Begins-suffix _ ts here rest b))
+  Begins-suffix _ _ _ _ (behind_member p first key mark name inner ts rest node value k h n v c s t) =
+      later first inner rest (IsSuffix-trans inner ts rest (behind mark inner ts (behind key inner _ (PassesMembers-suffix inner _ h))) (Spells-suffix ts node rest s))
+
+-- ---- spans
+
+-- The span is within the buffer.
+pub record IsWithin (buffer : List ℕ) (s : Span) : Type 0 where
+  pub within : stop s ≤ length buffer
+
+-- Every token and the fault behind the last are within the buffer.
+pub data AreWithin (buffer : List ℕ) : Tokens → Type 0 where
+  at_the_end : AreWithin buffer ended
+  at_a_fault : (f : Fault) → IsWithin buffer f.span → AreWithin buffer (refused f)
+  at_a_token : (t : Token) (ts : Tokens) → IsWithin buffer t.span → AreWithin buffer ts → AreWithin buffer (next t ts)
+
+pub AreWithin-suffix : (buffer : List ℕ) (ts rest : Tokens) → IsSuffix ts rest → AreWithin buffer ts → AreWithin buffer rest
+AreWithin-suffix buffer ts rest (all _) w = w
+AreWithin-suffix buffer _ rest (later t ts _ p) (at_a_token _ _ s w) = AreWithin-suffix buffer ts rest p w
+
+-- What is cut at a place of the buffer, with the tokens behind it.
+cut_within : (buffer : List ℕ) (position : ℕ) (c : Cut) (others : Token → Tokens) → CutFits buffer position c → ((t : Token) → AreWithin buffer (others t))
+    → AreWithin buffer (elim c as (λ _. Tokens) [ nothing_left ↦ ended | fault f ↦ refused f | token t ↦ next t (others t) ])
+cut_within buffer position nothing_left others f w = at_the_end
+cut_within buffer position (token t) others f w = at_a_token t (others t) (record { within = f.within }) (w t)
+cut_within buffer position (fault x) others f w = at_a_fault x (record { within = f.within })
+
+past_within : (buffer : List ℕ) (mode : Mode) (inside at : ℕ) (left : List ℕ) → at + length left ≤ length buffer → AreWithin buffer (tokens_past buffer mode inside at left)
+unfolding tokens_past
+past_within buffer mode inside at [] h = at_the_end
+past_within buffer mode (suc inside) at (b ∷ left) h = past_within buffer mode inside (suc at) left (omega arith)
+past_within buffer mode zero at (b ∷ left) h =
+    cut_within buffer at (cut buffer at mode) (λ t. tokens_past buffer mode (stop t.span - suc at) (suc at) left) (cut-fits buffer at mode (omega arith)) (λ t. past_within buffer mode (stop t.span - suc at) (suc at) left (omega arith))
+
+-- All tokens of a buffer are within it.
+pub tokens_within : (buffer : List ℕ) (mode : Mode) → AreWithin buffer (tokens buffer mode)
+tokens_within buffer mode = past_within buffer mode 0 0 (drop 0 buffer) (omega (arith, length-drop 0 buffer))
+
+-- ---- refusals
+
+-- Where the reader is stuck, the span that it complains of is within the buffer.
+stuck_within : (buffer : List ℕ) (m : Meaning) (p : Place) (ts : Tokens) (r : Refusal) → IsStuck buffer m ThinComplains p ts r → AreWithin buffer ts → IfSome r.span (λ s. stop s ≤ length buffer)
+stuck_within buffer m p _ _ (at_end _) w = omega arith
+stuck_within buffer m p _ _ (at_fault _ f) (at_a_fault _ s) = s.within
+stuck_within buffer m p _ r (meaningless _ t rest _ k n c) (at_a_token _ _ s w) = rw c s.within
+stuck_within buffer m p _ _ (misplaced _ t rest k n) (at_a_token _ _ s w) = s.within
+
+-- The span of a refusal of thin documents is within the input.
+pub refused_within : (buffer : List ℕ) (r : Refusal) → RefusesThin buffer r → IfSome r.span (λ s. stop s ≤ length buffer)
+refused_within buffer r h =
+    stuck_within buffer _ h.here h.rest r h.stuck (AreWithin-suffix buffer _ h.rest (Begins-suffix _ _ _ h.here h.rest h.begins) (tokens_within buffer plain))

@@ -1,0 +1,9 @@
+pub mod Node
+pub mod Tree
+pub mod Meaning
+pub mod Document
+pub mod Spelled
+pub mod Place
+pub mod Refusal
+pub mod Reading
+pub mod Laws

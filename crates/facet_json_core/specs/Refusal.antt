@@ -1,0 +1,104 @@
+-- Fronts of documents, and how an input without a document is refused: at the first token with which the front can't go on.
+use Rattle.std.specs.Prelude.{◌≡◌, ℕ, Bool, true, false, cond, List, length, Some, None, IsSome, codes}
+use Rattle.facet_format.specs.Span.{Span}
+use Rattle.facet_json_scan.specs.Token.{Kind, Token, Fault}
+use Rattle.facet_json_scan.specs.Token as token
+use Rattle.facet_json_scan.specs.Gap.{plain}
+use Rattle.facet_format.specs.Span.{span_at}
+use Rattle.facet_json_scan.specs.Tokens.{Tokens, ended, refused, next, tokens}
+use Rattle.facet_json_core.specs.Node.{Node, Spells, is_string}
+use Rattle.facet_json_core.specs.Tree.{Tree}
+use Rattle.facet_json_core.specs.Meaning.{Meaning, tree_of, text_of, thin_meaning}
+use Rattle.facet_json_core.specs.Place.{Place, root, before_key, after_key, after_colon, after_member, before_item, after_item, goes_on, expected_at, complaint_at_end, complaint_of_fault, kind_name}
+use Rattle.facet_format.specs.Complaint.{Complaint, unexpected_token, invalid_utf8, invalid_value, Refusal, refusal_at}
+
+-- Items, each with its comma, stand in front of the last tokens.
+pub data PassesItems (m : Meaning) : Tokens → Tokens → Type 0 where
+  no_items : (ts : Tokens) → PassesItems m ts ts
+  one_item : (ts others rest : Tokens) (node : Node) (value : Tree) (separator : Token) →
+      Spells ts node (next separator others) → tree_of m node ≡ Some value → separator.kind ≡ token.comma →
+      PassesItems m others rest → PassesItems m ts rest
+
+-- Members, each with its comma, stand in front of the last tokens.
+pub data PassesMembers (m : Meaning) : Tokens → Tokens → Type 0 where
+  no_members : (ts : Tokens) → PassesMembers m ts ts
+  one_member : (ts others rest : Tokens) (key mark : Token) (name : List ℕ) (node : Node) (value : Tree) (separator : Token) →
+      is_string key.kind ≡ true → text_of (m key) ≡ Some name → mark.kind ≡ token.colon →
+      Spells ts node (next separator others) → tree_of m node ≡ Some value → separator.kind ≡ token.comma →
+      PassesMembers m others rest → PassesMembers m (next key (next mark ts)) rest
+
+-- The tokens in front of the last ones, which have a meaning, begin a value that may stand at the first place, and lead to the
+-- second place.
+pub data Begins (m : Meaning) : Place → Tokens → Place → Tokens → Type 0 where
+  nothing : (place : Place) (ts : Tokens) → Begins m place ts place ts
+  in_item : (place here : Place) (first : Token) (inner ts rest : Tokens) → first.kind ≡ token.array_start →
+      PassesItems m inner ts → Begins m before_item ts here rest → Begins m place (next first inner) here rest
+  behind_item : (place : Place) (first : Token) (inner ts rest : Tokens) (node : Node) (value : Tree) →
+      first.kind ≡ token.array_start → PassesItems m inner ts → Spells ts node rest → tree_of m node ≡ Some value →
+      Begins m place (next first inner) after_item rest
+  behind_members : (place : Place) (first : Token) (inner rest : Tokens) → first.kind ≡ token.object_start →
+      PassesMembers m inner rest → Begins m place (next first inner) before_key rest
+  behind_key : (place : Place) (first key : Token) (name : List ℕ) (inner rest : Tokens) →
+      first.kind ≡ token.object_start → PassesMembers m inner (next key rest) → is_string key.kind ≡ true →
+      text_of (m key) ≡ Some name → Begins m place (next first inner) after_key rest
+  in_member : (place here : Place) (first key mark : Token) (name : List ℕ) (inner ts rest : Tokens) →
+      first.kind ≡ token.object_start → PassesMembers m inner (next key (next mark ts)) → is_string key.kind ≡ true →
+      text_of (m key) ≡ Some name → mark.kind ≡ token.colon → Begins m after_colon ts here rest →
+      Begins m place (next first inner) here rest
+  behind_member : (place : Place) (first key mark : Token) (name : List ℕ) (inner ts rest : Tokens) (node : Node) (value : Tree) →
+      first.kind ≡ token.object_start → PassesMembers m inner (next key (next mark ts)) → is_string key.kind ≡ true →
+      text_of (m key) ≡ Some name → mark.kind ≡ token.colon → Spells ts node rest → tree_of m node ≡ Some value →
+      Begins m place (next first inner) after_member rest
+
+abbrev pub is_number : Kind → Bool
+is_number (token.number start finish hint) = true
+is_number _ = false
+
+-- a string or a number, whose text is judged before its place
+abbrev pub needs_meaning : Kind → Bool
+needs_meaning (token.string start finish has_escapes) = true
+needs_meaning (token.number start finish hint) = true
+needs_meaning _ = false
+
+-- At the place the tokens don't go on with a document, and are refused so. A string or number without a meaning has a refusal of
+-- its own, whatever the place.
+pub data IsStuck (buffer : List ℕ) (m : Meaning) (complains : Token → Refusal → Type 0) : Place → Tokens → Refusal →
+    Type 0 where
+  at_end : (place : Place) →
+      IsStuck buffer m complains place ended (refusal_at (complaint_at_end place) (span_at (length buffer) 0))
+  at_fault : (place : Place) (f : Fault) →
+      IsStuck buffer m complains place (refused f) (refusal_at (complaint_of_fault f.kind) f.span)
+  meaningless : (place : Place) (t : Token) (rest : Tokens) (refusal : Refusal) → needs_meaning t.kind ≡ true →
+      m t ≡ None → complains t refusal → IsStuck buffer m complains place (next t rest) refusal
+  misplaced : (place : Place) (t : Token) (rest : Tokens) → (needs_meaning t.kind ≡ true → IsSome (m t)) →
+      goes_on place t.kind ≡ false →
+      IsStuck buffer m complains place (next t rest) (refusal_at (unexpected_token (kind_name buffer t.kind) (expected_at place t.kind)) t.span)
+
+-- From a place on, the tokens begin a value and are stuck then.
+pub record RefusesFrom (buffer : List ℕ) (m : Meaning) (complains : Token → Refusal → Type 0) (place : Place) (ts : Tokens) (refusal : Refusal) : Type 0 where
+  pub here : Place
+  pub rest : Tokens
+  pub begins : Begins m place ts here rest
+  pub stuck : IsStuck buffer m complains here rest refusal
+
+-- ---- thin documents
+
+-- a string that holds a backslash, or a number that isn't unsigned or doesn't fit 64 bits
+abbrev pub not_read_yet : Complaint
+not_read_yet = invalid_value (codes "not read yet")
+
+-- what is wrong with a string without a meaning
+abbrev pub thin_text_complaint : Bool → Complaint
+thin_text_complaint has_escapes = cond has_escapes not_read_yet invalid_utf8
+
+-- what is wrong with a string or number without a meaning
+abbrev pub thin_complaint : Kind → Complaint
+thin_complaint (token.string start finish has_escapes) = thin_text_complaint has_escapes
+thin_complaint _ = not_read_yet
+
+abbrev pub ThinComplains : Token → Refusal → Type 0
+ThinComplains t refusal = refusal ≡ refusal_at (thin_complaint t.kind) t.span
+
+-- The input is refused so where only thin documents are read.
+abbrev pub RefusesThin : List ℕ → Refusal → Type 0
+RefusesThin buffer refusal = RefusesFrom buffer (thin_meaning buffer) ThinComplains root (tokens buffer plain) refusal

@@ -1,0 +1,9 @@
+//! What the definitions of `specs/` mean, in the subject's own words: each law is the contract of a
+//! function without effect.
+
+mod documents;
+
+pub use documents::{
+    document_is_found, one_document, one_spelling, plain_is_jsonc, refused_has_none,
+    spelled_is_spells, thin_document_is_found, whole_document_is_found,
+};
