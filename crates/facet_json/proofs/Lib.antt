@@ -54,3 +54,4 @@ pub mod Pieces
 pub mod PendingNumber
 pub mod Found
 pub mod Given
+pub mod WalkRows

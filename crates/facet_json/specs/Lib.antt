@@ -14,6 +14,12 @@ pub mod Document
 pub mod Spelled
 pub mod Place
 pub mod Refusal
+pub mod Event
+pub mod Walk
+pub mod Kept
+pub mod Cursor
+pub mod Future
+pub mod Now
 pub mod Reading
 pub mod Same
 pub mod SameLaws
