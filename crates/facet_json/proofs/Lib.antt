@@ -55,3 +55,5 @@ pub mod PendingNumber
 pub mod Found
 pub mod Given
 pub mod WalkRows
+pub mod Futures
+pub mod Stands

@@ -17,6 +17,11 @@ pub data Future : Type 0 where
   -- at this place, in front of these tokens
   stuck : Place → Tokens → Future
 
+-- these events, and then what comes behind them
+abbrev pub events_before : List Passed → Future → Future
+events_before [] future = future
+events_before (p ∷ events) future = gives p (events_before events future)
+
 -- a place within the root, or behind its end
 pub data Stage : Type 0 where
   within : Place → Stage

@@ -20,6 +20,7 @@ pub mod Kept
 pub mod Cursor
 pub mod Future
 pub mod Now
+pub mod Move
 pub mod Reading
 pub mod Same
 pub mod SameLaws

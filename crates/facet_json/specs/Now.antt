@@ -8,7 +8,7 @@ use Rattle.facet_json.specs.Meaning.{meaning}
 use Rattle.facet_json.specs.Place.{root, Refusal}
 use Rattle.facet_json.specs.Event.{ContainerKind, Passed}
 use Rattle.facet_json.specs.Cursor.{Spot, Cursor, last_of}
-use Rattle.facet_json.specs.Future.{Future, gives, finished, Stage, within, reads}
+use Rattle.facet_json.specs.Future.{Future, gives, finished, events_before, Stage, within, reads}
 
 -- what a point keeps
 pub record Standing : Type 0 where
@@ -92,15 +92,10 @@ ahead now = length now.buffer - stop now.standing.last
 
 -- ---- where it stands on a document's walk
 
--- these events, and then the end
-abbrev pub events_and_end : List Passed → Future
-events_and_end [] = finished
-events_and_end (p ∷ events) = gives p (events_and_end events)
-
 -- The standing is the spot on the walk.
 pub record StandsOn (buffer : List ℕ) (mode : Mode) (w : List Passed) (s : Standing) (spot : Spot) : Type 0 where
   pub place_within : spot.place ≤ length w
-  pub comes : future_at buffer mode s ≡ events_and_end (drop spot.place w)
+  pub comes : future_at buffer mode s ≡ events_before (drop spot.place w) finished
   pub peeked : is_peeked s ≡ spot.peeked
   pub last : s.last ≡ last_of w spot.place
 
