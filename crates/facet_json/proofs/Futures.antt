@@ -1,0 +1,269 @@
+-- What comes, token by token; and that from the front of a value on its walk comes.
+use Rattle.std.proofs.Common.{◌≡◌, ℕ, true, false, List, [], ◌∷◌, ◌++◌, Option, Some, None, refl, sym, ap, ◌∙◌}
+use Rattle.std.proofs.Math.Bool.{and-false}
+use Rattle.facet_json.specs.Token.{Kind, Token}
+use Rattle.facet_json.specs.Token as token
+use Rattle.facet_json.specs.Tokens.{Tokens, next}
+use Rattle.facet_json.specs.Node.{Node, Nodes, no_nodes, item, Members, no_members, member, is_scalar, is_string, Spells, one_token, brackets, braces, SpellsItems, closed, item_and_comma, last_item, SpellsMembers, ended_members, member_and_comma, last_member}
+use Rattle.std.specs.Option.{option_map}
+use Rattle.facet_json.specs.Tree.{Tree, Trees, no_trees, Pairs, no_pairs}
+use Rattle.facet_json.specs.Tree as tree
+use Rattle.facet_json.specs.Meaning.{Meaning, tree_of, trees_of, pairs_of, text_of, put_item, put_pair}
+use Rattle.facet_json.specs.Place.{Place, before_key, after_colon, after_member, before_item, after_item}
+use Rattle.facet_json.specs.Refusal.{needs_meaning}
+use Rattle.facet_json.specs.Reading.{TakesValue, at_root, behind_colon, of_list}
+use Rattle.facet_json.specs.Event.{ContainerKind, object, array, Passed}
+use Rattle.facet_json.specs.Event as event
+use Rattle.facet_json.specs.Walk.{event_at, scalar_event, key_event, walk, walk_items, walk_members}
+use Rattle.facet_json.specs.Future.{Future, gives, stuck, events_before, within, after_value, Turn, stops, passes, says, says_scalar, names, place_turn, turn, reads, reads_colon}
+
+-- Events behind events.
+pub events_before-append : (a b : List Passed) (f : Future) →
+    events_before (a ++ b) f ≡ events_before a (events_before b f)
+events_before-append [] b f = refl
+events_before-append (p ∷ a) b f = ap (gives p) (events_before-append a b f)
+
+module _ (m : Meaning) where
+  -- ---- one token
+
+  -- what follows by the turn of a token
+  abbrev pub follows : Place → Token → List ContainerKind → Tokens → Turn → Future
+  follows place t stack rest stops = stuck place (next t rest)
+  follows place t stack rest (passes others stage) = reads m others stage rest
+  follows place t stack rest (says kind others stage) = gives (event_at kind t) (reads m others stage rest)
+  follows place t stack rest (says_scalar others stage) = gives (scalar_event m t) (reads m others stage rest)
+  follows place t stack rest names = reads_colon m stack t rest
+
+  -- Where a token stands, its turn says what comes.
+  pub reads-turn : (stack : List ContainerKind) (place : Place) (t : Token) (rest : Tokens) (way : Turn) →
+      turn m stack place t ≡ way → reads m stack (within place) (next t rest) ≡ follows place t stack rest way
+  unfolding reads
+  reads-turn stack place t rest stops e = rw (e, reads) refl
+  reads-turn stack place t rest (passes others stage) e = rw (e, reads) refl
+  reads-turn stack place t rest (says kind others stage) e = rw (e, reads) refl
+  reads-turn stack place t rest (says_scalar others stage) e = rw (e, reads) refl
+  reads-turn stack place t rest names e = rw (e, reads) refl
+
+  -- A token that needs no meaning is judged by its place.
+  pub turn-plain : (stack : List ContainerKind) (place : Place) (t : Token) (kind : Kind) → t.kind ≡ kind →
+      needs_meaning kind ≡ false → turn m stack place t ≡ place_turn stack place kind
+  turn-plain stack place t kind e n = rw (e, n) refl
+
+  -- So is one with a meaning.
+  pub turn-meant : (stack : List ContainerKind) (place : Place) (t : Token) (value : Tree) → m t ≡ Some value →
+      turn m stack place t ≡ place_turn stack place t.kind
+  turn-meant stack place t value e = rw (e, and-false) refl
+
+  -- ---- where a value may stand
+
+  -- A scalar gives its event at each of these places.
+  scalar_here : (stack : List ContainerKind) (place : Place) (kind : Kind) → TakesValue place → is_scalar kind ≡ true →
+      place_turn stack place kind ≡ says_scalar stack (after_value stack)
+  scalar_here stack _ token.null at_root e = refl
+  scalar_here stack _ token.null behind_colon e = refl
+  scalar_here stack _ token.null of_list e = refl
+  scalar_here stack _ token.true_literal at_root e = refl
+  scalar_here stack _ token.true_literal behind_colon e = refl
+  scalar_here stack _ token.true_literal of_list e = refl
+  scalar_here stack _ token.false_literal at_root e = refl
+  scalar_here stack _ token.false_literal behind_colon e = refl
+  scalar_here stack _ token.false_literal of_list e = refl
+  scalar_here stack _ (token.string start finish has_escapes) at_root e = refl
+  scalar_here stack _ (token.string start finish has_escapes) behind_colon e = refl
+  scalar_here stack _ (token.string start finish has_escapes) of_list e = refl
+  scalar_here stack _ (token.number start finish hint) at_root e = refl
+  scalar_here stack _ (token.number start finish hint) behind_colon e = refl
+  scalar_here stack _ (token.number start finish hint) of_list e = refl
+  scalar_here stack place _ at e = cc
+
+  -- So does a bracket that opens a list.
+  array_here : (stack : List ContainerKind) (place : Place) → TakesValue place →
+      place_turn stack place token.array_start ≡ says (event.sequence_start array) (array ∷ stack) (within before_item)
+  array_here stack _ at_root = refl
+  array_here stack _ behind_colon = refl
+  array_here stack _ of_list = refl
+
+  -- So does one that opens an object.
+  object_here : (stack : List ContainerKind) (place : Place) → TakesValue place →
+      place_turn stack place token.object_start ≡ says (event.struct_start object) (object ∷ stack) (within before_key)
+  object_here stack _ at_root = refl
+  object_here stack _ behind_colon = refl
+  object_here stack _ of_list = refl
+
+  -- ---- each token at its place
+
+  -- A scalar with a meaning.
+  pub reads-scalar : (stack : List ContainerKind) (place : Place) (t : Token) (rest : Tokens) (value : Tree) →
+      TakesValue place → is_scalar t.kind ≡ true → m t ≡ Some value →
+      reads m stack (within place) (next t rest) ≡ gives (scalar_event m t) (reads m stack (after_value stack) rest)
+  reads-scalar stack place t rest value at k e =
+      reads-turn stack place t rest _ (turn-meant stack place t value e ∙ scalar_here stack place t.kind at k)
+
+  -- A bracket that opens a list.
+  pub reads-array : (stack : List ContainerKind) (place : Place) (t : Token) (rest : Tokens) → TakesValue place →
+      t.kind ≡ token.array_start →
+      reads m stack (within place) (next t rest) ≡ gives (event_at (event.sequence_start array) t) (reads m (array ∷ stack) (within before_item) rest)
+  reads-array stack place t rest at k =
+      reads-turn stack place t rest _ (turn-plain stack place t _ k refl ∙ array_here stack place at)
+
+  -- A brace that opens an object.
+  pub reads-object : (stack : List ContainerKind) (place : Place) (t : Token) (rest : Tokens) → TakesValue place →
+      t.kind ≡ token.object_start →
+      reads m stack (within place) (next t rest) ≡ gives (event_at (event.struct_start object) t) (reads m (object ∷ stack) (within before_key) rest)
+  reads-object stack place t rest at k =
+      reads-turn stack place t rest _ (turn-plain stack place t _ k refl ∙ object_here stack place at)
+
+  -- A comma behind an item gives nothing.
+  pub reads-item_comma : (stack : List ContainerKind) (t : Token) (rest : Tokens) → t.kind ≡ token.comma →
+      reads m stack (within after_item) (next t rest) ≡ reads m stack (within before_item) rest
+  reads-item_comma stack t rest k = reads-turn stack after_item t rest _ (turn-plain stack after_item t _ k refl)
+
+  -- Nor does one behind a member.
+  pub reads-member_comma : (stack : List ContainerKind) (t : Token) (rest : Tokens) → t.kind ≡ token.comma →
+      reads m stack (within after_member) (next t rest) ≡ reads m stack (within before_key) rest
+  reads-member_comma stack t rest k =
+      reads-turn stack after_member t rest _ (turn-plain stack after_member t _ k refl)
+
+  -- A bracket that closes a list, behind an item.
+  pub reads-item_end : (kind : ContainerKind) (stack : List ContainerKind) (t : Token) (rest : Tokens) →
+      t.kind ≡ token.array_end →
+      reads m (kind ∷ stack) (within after_item) (next t rest) ≡ gives (event_at event.sequence_end t) (reads m stack (after_value stack) rest)
+  reads-item_end kind stack t rest k =
+      reads-turn (kind ∷ stack) after_item t rest _ (turn-plain (kind ∷ stack) after_item t _ k refl)
+
+  -- The same in front of an item.
+  pub reads-list_end : (kind : ContainerKind) (stack : List ContainerKind) (t : Token) (rest : Tokens) →
+      t.kind ≡ token.array_end →
+      reads m (kind ∷ stack) (within before_item) (next t rest) ≡ gives (event_at event.sequence_end t) (reads m stack (after_value stack) rest)
+  reads-list_end kind stack t rest k =
+      reads-turn (kind ∷ stack) before_item t rest _ (turn-plain (kind ∷ stack) before_item t _ k refl)
+
+  -- A brace that closes an object, behind a member.
+  pub reads-member_end : (kind : ContainerKind) (stack : List ContainerKind) (t : Token) (rest : Tokens) →
+      t.kind ≡ token.object_end →
+      reads m (kind ∷ stack) (within after_member) (next t rest) ≡ gives (event_at event.struct_end t) (reads m stack (after_value stack) rest)
+  reads-member_end kind stack t rest k =
+      reads-turn (kind ∷ stack) after_member t rest _ (turn-plain (kind ∷ stack) after_member t _ k refl)
+
+  -- The same in front of a key.
+  pub reads-object_end : (kind : ContainerKind) (stack : List ContainerKind) (t : Token) (rest : Tokens) →
+      t.kind ≡ token.object_end →
+      reads m (kind ∷ stack) (within before_key) (next t rest) ≡ gives (event_at event.struct_end t) (reads m stack (after_value stack) rest)
+  reads-object_end kind stack t rest k =
+      reads-turn (kind ∷ stack) before_key t rest _ (turn-plain (kind ∷ stack) before_key t _ k refl)
+
+  key_here : (stack : List ContainerKind) (kind : Kind) → is_string kind ≡ true → place_turn stack before_key kind ≡ names
+  key_here stack (token.string start finish has_escapes) e = refl
+  key_here stack _ e = cc
+
+  -- What has a text has a meaning.
+  text_of-some : (o : Option Tree) (name : List ℕ) → text_of o ≡ Some name → (value : Tree) × (o ≡ Some value)
+  text_of-some None name e = cc
+  text_of-some (Some value) name e = (value, refl)
+
+  -- A key and its colon.
+  pub reads-key : (stack : List ContainerKind) (key mark : Token) (rest : Tokens) (name : List ℕ) →
+      is_string key.kind ≡ true → text_of (m key) ≡ Some name → mark.kind ≡ token.colon →
+      reads m stack (within before_key) (next key (next mark rest)) ≡ gives (key_event m key mark) (reads m stack (within after_colon) rest)
+  unfolding reads
+  reads-key stack key mark rest name k n c =
+      let meant = text_of-some (m key) name n in
+      reads-turn stack before_key key (next mark rest) names (turn-meant stack before_key key meant.0 meant.1 ∙ key_here stack key.kind k)
+      ∙ rw (c, reads_colon) refl
+
+-- ---- whole values
+
+put_item_meant : (a : Option Tree) (b : Option Trees) (all : Trees) → put_item a b ≡ Some all →
+    (value : Tree) × (values : Trees) × (a ≡ Some value) × (b ≡ Some values)
+put_item_meant None b all e = cc
+put_item_meant (Some t) None all e = cc
+put_item_meant (Some t) (Some others) all e = (t, others, refl, refl)
+
+put_pair_meant : (k : Option (List ℕ)) (a : Option Tree) (b : Option Pairs) (all : Pairs) → put_pair k a b ≡ Some all →
+    (name : List ℕ) × (value : Tree) × (values : Pairs) × (k ≡ Some name) × (a ≡ Some value) × (b ≡ Some values)
+put_pair_meant None a b all e = cc
+put_pair_meant (Some name) None b all e = cc
+put_pair_meant (Some name) (Some t) None all e = cc
+put_pair_meant (Some name) (Some t) (Some others) all e = (name, t, others, refl, refl, refl)
+
+-- Items of a list with a meaning.
+list_meant : (o : Option Trees) (value : Tree) → option_map tree.list o ≡ Some value → (values : Trees) × (o ≡ Some values)
+list_meant None value e = cc
+list_meant (Some values) value e = (values, refl)
+
+-- Members of an object with a meaning.
+object_meant : (o : Option Pairs) (value : Tree) → option_map tree.pairs o ≡ Some value → (values : Pairs) × (o ≡ Some values)
+object_meant None value e = cc
+object_meant (Some values) value e = (values, refl)
+
+-- Items with a meaning: the first, and the others.
+item_meant : (m : Meaning) (node : Node) (nodes : Nodes) (all : Trees) → trees_of m (item node nodes) ≡ Some all →
+    (value : Tree) × (values : Trees) × (tree_of m node ≡ Some value) × (trees_of m nodes ≡ Some values)
+unfolding trees_of
+item_meant m node nodes all e = put_item_meant (tree_of m node) (trees_of m nodes) all e
+
+-- Members with a meaning: the key's name, the value, and the others.
+member_meant : (m : Meaning) (key mark : Token) (node : Node) (members : Members) (all : Pairs) →
+    pairs_of m (member key mark node members) ≡ Some all →
+    (name : List ℕ) × (value : Tree) × (values : Pairs) × (text_of (m key) ≡ Some name) × (tree_of m node ≡ Some value) × (pairs_of m members ≡ Some values)
+unfolding pairs_of
+member_meant m key mark node members all e = put_pair_meant (text_of (m key)) (tree_of m node) (pairs_of m members) all e
+
+module _ (m : Meaning) where
+  mutual
+    unfolding tree_of walk
+    -- From the front of a value on its walk comes, then what comes behind a value.
+    pub walk-comes : {ts rest : Tokens} {node : Node} (value : Tree) → Spells ts node rest → tree_of m node ≡ Some value →
+        (stack : List ContainerKind) (place : Place) → TakesValue place →
+        reads m stack (within place) ts ≡ events_before (walk m node) (reads m stack (after_value stack) rest)
+    walk-comes value (one_token t rest k) e stack place at = reads-scalar m stack place t rest value at k e
+    walk-comes value (brackets first last inner rest nodes k s) e stack place at =
+        let values = list_meant (trees_of m nodes) value e in
+        let start = event_at (event.sequence_start array) first in
+        let end = event_at event.sequence_end last in
+        let behind = reads m stack (after_value stack) rest in
+        reads-array m stack place first inner at k
+        ∙ ap (gives start) (items-come values.0 s values.1 stack)
+        ∙ ap (gives start) (sym (events_before-append (walk_items m nodes) (end ∷ []) behind))
+    walk-comes value (braces first last inner rest members k s) e stack place at =
+        let values = object_meant (pairs_of m members) value e in
+        let start = event_at (event.struct_start object) first in
+        let end = event_at event.struct_end last in
+        let behind = reads m stack (after_value stack) rest in
+        reads-object m stack place first inner at k
+        ∙ ap (gives start) (members-come values.0 s values.1 stack)
+        ∙ ap (gives start) (sym (events_before-append (walk_members m members) (end ∷ []) behind))
+
+    -- From behind a bracket or a comma of a list on its items come, then its end.
+    pub items-come : {ts rest : Tokens} {nodes : Nodes} {last : Token} (values : Trees) → SpellsItems ts nodes last rest →
+        trees_of m nodes ≡ Some values → (stack : List ContainerKind) →
+        reads m (array ∷ stack) (within before_item) ts ≡ events_before (walk_items m nodes) (gives (event_at event.sequence_end last) (reads m stack (after_value stack) rest))
+    items-come values (closed last rest k) e stack = reads-list_end m array stack last rest k
+    items-come values (item_and_comma ts others rest node nodes separator last s k more) e stack =
+        let all = item_meant m node nodes values e in
+        walk-comes all.0 s all.2 (array ∷ stack) before_item of_list
+        ∙ ap (events_before (walk m node)) (reads-item_comma m (array ∷ stack) separator others k ∙ items-come all.1 more all.3 stack)
+        ∙ sym (events_before-append (walk m node) (walk_items m nodes) _)
+    items-come values (last_item ts rest node last s k) e stack =
+        let all = item_meant m node no_nodes values e in
+        walk-comes all.0 s all.2 (array ∷ stack) before_item of_list
+        ∙ ap (events_before (walk m node)) (reads-item_end m array stack last rest k)
+        ∙ sym (events_before-append (walk m node) [] _)
+
+    -- From behind a brace or a comma of an object on its members come, then its end.
+    pub members-come : {ts rest : Tokens} {members : Members} {last : Token} (values : Pairs) →
+        SpellsMembers ts members last rest → pairs_of m members ≡ Some values → (stack : List ContainerKind) →
+        reads m (object ∷ stack) (within before_key) ts ≡ events_before (walk_members m members) (gives (event_at event.struct_end last) (reads m stack (after_value stack) rest))
+    members-come values (ended_members last rest k) e stack = reads-object_end m object stack last rest k
+    members-come values (member_and_comma ts others rest key mark node members separator last i c s k more) e stack =
+        let all = member_meant m key mark node members values e in
+        reads-key m (object ∷ stack) key mark ts all.0 i all.3 c
+        ∙ ap (gives (key_event m key mark)) (walk-comes all.1 s all.4 (object ∷ stack) after_colon behind_colon
+        ∙ ap (events_before (walk m node)) (reads-member_comma m (object ∷ stack) separator others k ∙ members-come all.2 more all.5 stack)
+        ∙ sym (events_before-append (walk m node) (walk_members m members) _))
+    members-come values (last_member ts rest key mark node last i c s k) e stack =
+        let all = member_meant m key mark node no_members values e in
+        reads-key m (object ∷ stack) key mark ts all.0 i all.3 c
+        ∙ ap (gives (key_event m key mark)) (walk-comes all.1 s all.4 (object ∷ stack) after_colon behind_colon
+        ∙ ap (events_before (walk m node)) (reads-member_end m object stack last rest k)
+        ∙ sym (events_before-append (walk m node) [] _))
