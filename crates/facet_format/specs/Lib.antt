@@ -4,3 +4,6 @@ pub mod Span
 pub mod Complaint
 pub mod Views
 pub mod Laws
+pub mod Event
+pub mod Cursor
+pub mod Kept

@@ -5,3 +5,6 @@ pub mod Refused
 pub mod Suffixes
 pub mod Modes
 pub mod DocumentRows
+pub mod Futures
+pub mod Stands
+pub mod WalkRows

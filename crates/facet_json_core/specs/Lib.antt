@@ -7,3 +7,7 @@ pub mod Place
 pub mod Refusal
 pub mod Reading
 pub mod Laws
+pub mod Walk
+pub mod Future
+pub mod Now
+pub mod Move

@@ -1,13 +1,14 @@
 -- The walk of a value: its events, in the order in which its tokens stand (RFC 8259, sections 3 to 7).
 use Rattle.std.specs.Prelude.{ℕ, false, List, [], ◌∷◌, ◌++◌, Option, Some, None}
-use Rattle.facet_json.specs.Token.{Span, Kind, Token}
-use Rattle.facet_json.specs.Token as token
-use Rattle.facet_json.specs.Node.{Node, scalar, array, object, Nodes, no_nodes, item, Members, no_members, member}
-use Rattle.facet_json.specs.Tree.{Tree}
-use Rattle.facet_json.specs.Tree as tree
-use Rattle.facet_json.specs.Meaning.{Meaning, text_of}
-use Rattle.facet_json.specs.Event.{Text, Scalar, EventKind, Passed}
-use Rattle.facet_json.specs.Event as event
+use Rattle.facet_format.specs.Span.{Span}
+use Rattle.facet_json_scan.specs.Token.{Kind, Token}
+use Rattle.facet_json_scan.specs.Token as token
+use Rattle.facet_json_core.specs.Node.{Node, scalar, array, object, Nodes, no_nodes, item, Members, no_members, member}
+use Rattle.facet_json_core.specs.Tree.{Tree}
+use Rattle.facet_json_core.specs.Tree as tree
+use Rattle.facet_json_core.specs.Meaning.{Meaning, text_of}
+use Rattle.facet_format.specs.Event.{Text, Scalar, EventKind, Passed}
+use Rattle.facet_format.specs.Event as event
 
 -- ---- the event of a token
 

@@ -4,19 +4,20 @@ use Rattle.std.specs.Prelude.{pos, neg_ℤ}
 use Rattle.std.specs.Option.{option_map}
 use Rattle.std.specs.Fmt.{digits}
 use lib.Utf8.{encode}
-use Rattle.facet_json.specs.Gap.{Mode, plain, jsonc, gap_len_from}
-use Rattle.facet_json.specs.Number.{parts, number}
-use Rattle.facet_json.specs.Cut.{start_of, cut_here, cut, span_at}
-use Rattle.facet_json.specs.Tokens.{Tokens, tokens_past, tokens}
-use Rattle.facet_json.specs.Tokens as tokens
-use Rattle.facet_json.specs.Decode.{short_escape, code_unit, utf8_at, unit_at, escape_at, piece_at, decoded_past}
-use Rattle.facet_json.specs.Meaning.{meaning, tree_of}
-use Rattle.facet_json.specs.Spelled.{node_within, spelled, document, read_by}
-use Rattle.facet_json.specs.Event.{EventKind, Passed, object, array, borrowed, owned, struct_start, struct_end, sequence_start, sequence_end, field_key, scalar, null, bool, i64, u64, decimal, text}
-use Rattle.facet_json.specs.Walk.{walk}
-use Rattle.facet_json.specs.Place as place
-use Rattle.facet_json.specs.Future.{Future, gives, finished, stuck, reads}
-use Rattle.facet_json.specs.Now.{future_of, fresh}
+use Rattle.facet_json_scan.specs.Gap.{Mode, plain, jsonc, gap_len_from}
+use Rattle.facet_format.specs.Number.{parts, number}
+use Rattle.facet_json_scan.specs.Cut.{start_of, cut_here, cut}
+use Rattle.facet_format.specs.Span.{span_at}
+use Rattle.facet_json_scan.specs.Tokens.{Tokens, tokens_past, tokens}
+use Rattle.facet_json_scan.specs.Tokens as tokens
+use Rattle.facet_json_scan.specs.Decode.{short_escape, code_unit, utf8_at, unit_at, escape_at, piece_at, decoded_past}
+use Rattle.facet_json_core.specs.Meaning.{meaning, tree_of}
+use Rattle.facet_json_core.specs.Spelled.{node_within, spelled, document, read_by}
+use Rattle.facet_format.specs.Event.{EventKind, Passed, object, array, borrowed, owned, struct_start, struct_end, sequence_start, sequence_end, field_key, scalar, null, bool, i64, u64, decimal, text}
+use Rattle.facet_json_core.specs.Walk.{walk}
+use Rattle.facet_json_core.specs.Place as place
+use Rattle.facet_json_core.specs.Future.{Future, gives, finished, stuck, reads}
+use Rattle.facet_json_core.specs.Now.{future_of, fresh}
 
 -- the walk of the input's document
 abbrev walk_of : List ℕ → Mode → Option (List Passed)

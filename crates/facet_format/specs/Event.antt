@@ -1,6 +1,6 @@
 -- Events, in which a document is read (RFC 8259, sections 3 to 7).
 use Rattle.std.specs.Prelude.{ℕ, ℤ, Bool, true, false, List}
-use Rattle.facet_json.specs.Token.{Span}
+use Rattle.facet_format.specs.Span.{Span}
 
 pub data ContainerKind : Type 0 where
   object : ContainerKind

@@ -1,22 +1,22 @@
 -- Where a parser stands on a document's walk: at its front when it is new, and one step on after each move.
 use Rattle.std.proofs.Common.{◌≡◌, ℕ, zero, suc, ◌≤◌, List, [], ◌∷◌, length, drop, Some, None, refl, arith}
 use Rattle.std.specs.Prelude.{slice_get}
-use Rattle.facet_json.specs.Gap.{Mode}
-use Rattle.facet_json.specs.Node.{Node}
-use Rattle.facet_json.specs.Tree.{Tree}
-use Rattle.facet_json.specs.Tokens.{tokens}
-use Rattle.facet_json.specs.Meaning.{meaning}
-use Rattle.facet_json.specs.Document.{IsDocument}
-use Rattle.facet_json.specs.Place.{Place}
-use Rattle.facet_json.specs.Tokens.{Tokens}
-use Rattle.facet_json.specs.Place as place
-use Rattle.facet_json.specs.Reading.{at_root}
-use Rattle.facet_json.specs.Event.{Passed}
-use Rattle.facet_json.specs.Walk.{walk}
-use Rattle.facet_json.specs.Cursor.{start}
-use Rattle.facet_json.specs.Future.{Future, gives, finished, stuck, events_before, within, reads}
-use Rattle.facet_json.specs.Now.{fresh, none_kept, StandsAt}
-use Rattle.facet_json.proofs.Futures.{walk-comes}
+use Rattle.facet_json_scan.specs.Gap.{Mode}
+use Rattle.facet_json_core.specs.Node.{Node}
+use Rattle.facet_json_core.specs.Tree.{Tree}
+use Rattle.facet_json_scan.specs.Tokens.{tokens}
+use Rattle.facet_json_core.specs.Meaning.{meaning}
+use Rattle.facet_json_core.specs.Document.{IsDocument}
+use Rattle.facet_json_core.specs.Place.{Place}
+use Rattle.facet_json_scan.specs.Tokens.{Tokens}
+use Rattle.facet_json_core.specs.Place as place
+use Rattle.facet_json_core.specs.Reading.{at_root}
+use Rattle.facet_format.specs.Event.{Passed}
+use Rattle.facet_json_core.specs.Walk.{walk}
+use Rattle.facet_format.specs.Cursor.{start}
+use Rattle.facet_json_core.specs.Future.{Future, gives, finished, stuck, events_before, within, reads}
+use Rattle.facet_json_core.specs.Now.{fresh, none_kept, StandsAt}
+use Rattle.facet_json_core.proofs.Futures.{walk-comes}
 
 -- ---- at the front
 

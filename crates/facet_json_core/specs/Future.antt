@@ -1,14 +1,14 @@
 -- What a reader still has to give out, from a place in a document on that may not be whole (RFC 8259, sections 2 to 5).
 use Rattle.std.specs.Prelude.{Bool, true, false, List, [], ◌∷◌, ◌&&◌, is_none}
-use Rattle.facet_json.specs.Token.{Kind, Token}
-use Rattle.facet_json.specs.Token as token
-use Rattle.facet_json.specs.Tokens.{Tokens, ended, refused, next}
-use Rattle.facet_json.specs.Meaning.{Meaning}
-use Rattle.facet_json.specs.Place.{Place, root, before_key, after_key, after_colon, after_member, before_item, after_item, is_colon}
-use Rattle.facet_json.specs.Refusal.{needs_meaning}
-use Rattle.facet_json.specs.Event.{ContainerKind, object, array, EventKind, Passed}
-use Rattle.facet_json.specs.Event as event
-use Rattle.facet_json.specs.Walk.{event_at, scalar_event, key_event}
+use Rattle.facet_json_scan.specs.Token.{Kind, Token}
+use Rattle.facet_json_scan.specs.Token as token
+use Rattle.facet_json_scan.specs.Tokens.{Tokens, ended, refused, next}
+use Rattle.facet_json_core.specs.Meaning.{Meaning}
+use Rattle.facet_json_core.specs.Place.{Place, root, before_key, after_key, after_colon, after_member, before_item, after_item, is_colon}
+use Rattle.facet_json_core.specs.Refusal.{needs_meaning}
+use Rattle.facet_format.specs.Event.{ContainerKind, object, array, EventKind, Passed}
+use Rattle.facet_format.specs.Event as event
+use Rattle.facet_json_core.specs.Walk.{event_at, scalar_event, key_event}
 
 -- the events that are still read, and how they end: with the root, or where no document goes on
 pub data Future : Type 0 where
