@@ -29,7 +29,7 @@ pub mod NumberLaws
 pub mod CompactText
 pub mod Escapes
 pub mod TreeViews
-pub mod ThinNumbers
+pub mod Unread
 pub mod ReaderSteps
 pub mod Offsets
 pub mod GapSteps
@@ -43,7 +43,7 @@ pub mod FirstBytes
 pub mod CutRows
 pub mod TextRows
 pub mod Suffixes
-pub mod ThinDocuments
+pub mod DocumentAnswers
 pub mod Segments
 pub mod Answered
 pub mod Beginnings

@@ -13,10 +13,10 @@ use Rattle.facet_json.specs.Decode.{Decodes, decoded}
 use Rattle.facet_json.specs.Node.{Node, Spells}
 use Rattle.facet_json.specs.Tokens.{Tokens}
 use Rattle.facet_json.specs.Tree.{Tree}
-use Rattle.facet_json.specs.Document.{IsDocument, IsThinDocument, IsWholeDocument}
-use Rattle.facet_json.specs.Spelled.{spelled, document, whole_document, thin_document}
+use Rattle.facet_json.specs.Document.{IsDocument, IsWholeDocument}
+use Rattle.facet_json.specs.Spelled.{spelled, document, whole_document}
 use Rattle.facet_json.specs.Place.{Refusal}
-use Rattle.facet_json.specs.Refusal.{RefusesThin}
+use Rattle.facet_json.specs.Refusal.{Refuses}
 use Rattle.facet_json.specs.Quoted.{escaped, quoted}
 
 -- The gap at the front is a gap, and no longer front of the bytes is one.
@@ -78,11 +78,6 @@ abbrev pub DocumentIsFound : Type 0
 DocumentIsFound = (buffer : List ℕ) (mode : Mode) (root : Node) (value : Tree) →
     (document buffer mode ≡ Some (root, value)) ↔ IsDocument buffer mode root value
 
--- The thin document that is computed is the one thin document of the input.
-abbrev pub ThinDocumentIsFound : Type 0
-ThinDocumentIsFound = (buffer : List ℕ) (root : Node) (value : Tree) →
-    (thin_document buffer ≡ Some (root, value)) ↔ IsThinDocument buffer root value
-
 -- What is computed as the whole document of a text is the one plain document that all of it is.
 abbrev pub WholeDocumentIsFound : Type 0
 WholeDocumentIsFound = (buffer : List ℕ) (root : Node) (value : Tree) →
@@ -94,7 +89,7 @@ PlainIsJsonc = (buffer : List ℕ) (root : Node) (value : Tree) → IsDocument b
 
 -- An input that is refused has no document.
 abbrev pub RefusedHasNone : Type 0
-RefusedHasNone = (buffer : List ℕ) (refusal : Refusal) (root : Node) (value : Tree) → RefusesThin buffer refusal → IsThinDocument buffer root value → ⊥
+RefusedHasNone = (buffer : List ℕ) (mode : Mode) (refusal : Refusal) (root : Node) (value : Tree) → Refuses buffer mode refusal → IsDocument buffer mode root value → ⊥
 
 -- one character as it is written: an escape of an ASCII character, or its UTF-8
 abbrev pub escaped_character : ℕ → List ℕ

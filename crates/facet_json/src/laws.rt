@@ -12,6 +12,6 @@ pub use cuts::{
 pub use decoding::{decoded_is_decodes, quoted_by_characters};
 pub use documents::{
     document_is_found, one_document, one_spelling, plain_is_jsonc, refused_has_none,
-    spelled_is_spells, thin_document_is_found, whole_document_is_found,
+    spelled_is_spells, whole_document_is_found,
 };
 pub use growth::{cut_stays, open_is_tested};

@@ -15,7 +15,6 @@ mod reader;
 mod scanner;
 mod ser_error;
 mod span;
-mod thin;
 mod token;
 mod tree;
 mod writer;
