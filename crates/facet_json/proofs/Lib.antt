@@ -5,8 +5,8 @@ pub mod QuotedLaws
 pub mod CompactText
 pub mod Escapes
 pub mod TreeViews
-pub mod ThinNumbers
+pub mod Unread
 pub mod ReaderSteps
 pub mod TextRows
-pub mod ThinDocuments
+pub mod DocumentAnswers
 pub mod QuotedRows

@@ -1,7 +1,9 @@
 -- A token that is read, and with which no document goes on at a place: how it is refused.
-use Rattle.std.proofs.Common.{◌≡◌, ◌≢◌, ◌∙◌, ℕ, Bool, true, false, List, Option, Some, refl, sym, ap, subst}
+use Rattle.std.proofs.Common.{◌≡◌, ◌≢◌, ◌∙◌, ℕ, Bool, true, false, List, Some, refl, sym, ap, subst, inr}
 use Rattle.std.specs.Prelude.{IsSome}
-use Rattle.std.specs.Borrow.{Bor}
+use Rattle.std.specs.Prelude.{ℤ}
+use Rattle.std.specs.declared.alloc.Global.{Global}
+use Rattle.std.specs.declared.borrow.CowStr.{CowStr}
 use Rattle.facet_json.specs.declared.materialized.TokenKind.{TokenKind}
 use Rattle.facet_json.specs.declared.materialized.TokenKind.TheVariants as kinds
 use Rattle.facet_json.specs.declared.materialized.MaterializedToken.{MaterializedToken}
@@ -12,16 +14,15 @@ use Rattle.facet_json_scan.specs.Token as token
 use Rattle.facet_json_scan.specs.Tokens.{Tokens, next}
 use Rattle.facet_json_core.specs.Place.{Place, root, before_key, after_key, after_member, before_item, after_item, goes_on, expected_at, kind_name, number_name}
 use Rattle.facet_format.specs.Complaint.{unexpected_token, Refusal, refusal_at}
-use Rattle.facet_json_core.specs.Tree as tree
-use Rattle.facet_json_core.specs.Meaning.{thin_meaning_of, thin_number}
+use Rattle.facet_json_core.specs.Meaning.{meaning_of}
 use Rattle.facet_json_core.specs.Refusal.{misplaced, needs_meaning}
 use Rattle.facet_json_core.specs.Reading.{StopsAt, TakesValue, at_root, behind_colon, of_list}
 use Rattle.facet_format.specs.Views.{span_of}
-use Rattle.facet_json.specs.Views.{sample, name_of, misplaced_complaint, IsReadAs, IsReadFirst}
+use Rattle.facet_json.specs.Views.{sample, name_of, misplaced_complaint, number_at, IsReadAs, IsReadFirst}
 
 -- What is known of a kind that is read as k.
 record Judged (buffer : List ℕ) (kind : Kind) (k : TokenKind) : Type 0 where
-  has_meaning : needs_meaning kind ≡ true → IsSome (thin_meaning_of buffer kind)
+  has_meaning : needs_meaning kind ≡ true → IsSome (meaning_of buffer kind)
   name : kind_name buffer kind ≡ name_of k
   goes_on_alike : (p : Place) → goes_on p kind ≡ goes_on p (sample k)
   expected_alike : (p : Place) → expected_at p kind ≡ expected_at p (sample k)
@@ -55,11 +56,16 @@ number_expected : (a b : ℕ) (h : Hint) (p : Place) →
 number_expected a b h root = refl
 number_expected a b h _ = refl
 
--- A number that is thin is called by its one name.
-thin_name : (n : Option Number) (m : ℕ) → thin_number n ≡ Some (tree.u64 m) →
-    number_name n ≡ number_name (Some (numbers.u64 m))
-thin_name (Some (numbers.u64 k)) m e = refl
-thin_name _ m e = cc
+-- A number is called by the name of what it is read as.
+number_judged : (buffer : List ℕ) (a b : ℕ) (h : Hint) (k : TokenKind) (n : Number) →
+    number_at buffer (token.number a b h) ≡ Some n → sample k ≡ token.number 0 0 numbers.unsigned →
+    number_name (Some n) ≡ name_of k → Judged buffer (token.number a b h) k
+number_judged buffer a b h k n e looks named = record {
+  has_meaning = λ m. rw e refl;
+  name = ap number_name e ∙ named;
+  goes_on_alike = λ p. number_goes_on a b h p ∙ ap (goes_on p) (sym looks);
+  expected_alike = λ p. number_expected a b h p ∙ ap (expected_at p) (sym looks);
+}
 
 judged : (buffer : List ℕ) (kind : Kind) (k : TokenKind) → IsReadAs buffer kind k → Judged buffer kind k
 judged buffer (token.string a b h) (kinds.String s) r = record {
@@ -68,14 +74,17 @@ judged buffer (token.string a b h) (kinds.String s) r = record {
   goes_on_alike = string_goes_on a b h;
   expected_alike = string_expected a b h;
 }
-judged buffer (token.number a b h) (kinds.U64 n) r = record {
-  has_meaning = λ m. rw r.1 refl;
-  name = thin_name _ n r.1;
-  goes_on_alike = number_goes_on a b h;
-  expected_alike = number_expected a b h;
-}
+judged buffer (token.number a b h) (kinds.U64 n) r = number_judged buffer a b h _ (numbers.u64 n) r refl refl
+judged buffer (token.number a b h) (kinds.I64 n) r = number_judged buffer a b h _ (numbers.i64 n) r refl refl
+judged buffer (token.number a b h) (kinds.U128 n) r = number_judged buffer a b h _ (numbers.u128 n) r refl refl
+judged buffer (token.number a b h) (kinds.I128 n) r = number_judged buffer a b h _ (numbers.i128 n) r refl refl
+judged buffer (token.number a b h) (kinds.Decimal d) r = number_judged buffer a b h _ (numbers.decimal d) r refl refl
 judged buffer _ (kinds.String s) r = cc
 judged buffer _ (kinds.U64 n) r = cc
+judged buffer _ (kinds.I64 n) r = cc
+judged buffer _ (kinds.U128 n) r = cc
+judged buffer _ (kinds.I128 n) r = cc
+judged buffer _ (kinds.Decimal d) r = cc
 judged buffer kind k r = plain_kind buffer kind k r refl refl
 
 -- A token with which no document goes on at the place stops the reader there.
@@ -86,7 +95,7 @@ stops_misplaced buffer p ts after t r f n same =
     let j : Judged buffer f.first.kind t.kind = judged buffer f.first.kind t.kind f.read in
     let whole : StopsAt buffer p (next f.first after)
     (refusal_at (unexpected_token (kind_name buffer f.first.kind) (expected_at p f.first.kind)) f.first.span) =
-    misplaced p f.first after j.has_meaning (j.goes_on_alike p ∙ n) in
+    inr (misplaced p f.first after j.has_meaning (j.goes_on_alike p ∙ n)) in
     let called : refusal_at
     (unexpected_token (kind_name buffer f.first.kind) (expected_at p f.first.kind)) f.first.span ≡ r =
     rw (j.name, j.expected_alike p, f.spans) (sym same) in
@@ -109,7 +118,7 @@ after_member-stays kinds.Comma n m = absurd (n refl)
 after_member-stays kinds.ObjectEnd n m = absurd (m refl)
 after_member-stays _ n m = refl
 
-pub before_key-stays : (k : TokenKind) → ((s : Bor (List ℕ)) → k ≢ kinds.String s) → k ≢ kinds.ObjectEnd →
+pub before_key-stays : (k : TokenKind) → ((s : CowStr Global) → k ≢ kinds.String s) → k ≢ kinds.ObjectEnd →
     goes_on before_key (sample k) ≡ false
 before_key-stays (kinds.String s) n m = absurd (n s refl)
 before_key-stays kinds.ObjectEnd n m = absurd (m refl)
@@ -132,16 +141,21 @@ value-stays _ _ of_list _ = refl
 
 -- What none of the arms for values takes begins none.
 pub begins_none : (p : Place) (k : TokenKind) → (p ≡ before_item → k ≢ kinds.ArrayEnd) → k ≢ kinds.Null →
-    k ≢ kinds.True → k ≢ kinds.False → ((n : ℕ) → k ≢ kinds.U64 n) → ((s : Bor (List ℕ)) → k ≢ kinds.String s) →
-    k ≢ kinds.ArrayStart → k ≢ kinds.ObjectStart → BeginsNone p k
-begins_none p kinds.ObjectStart end n t f u s a o = absurd (o refl)
-begins_none p kinds.ObjectEnd end n t f u s a o = brace
-begins_none p kinds.ArrayStart end n t f u s a o = absurd (a refl)
-begins_none p kinds.ArrayEnd end n t f u s a o = bracket (λ e. end e refl)
-begins_none p kinds.Colon end n t f u s a o = a_colon
-begins_none p kinds.Comma end n t f u s a o = a_comma
-begins_none p kinds.Null end n t f u s a o = absurd (n refl)
-begins_none p kinds.True end n t f u s a o = absurd (t refl)
-begins_none p kinds.False end n t f u s a o = absurd (f refl)
-begins_none p (kinds.String x) end n t f u s a o = absurd (s x refl)
-begins_none p (kinds.U64 m) end n t f u s a o = absurd (u m refl)
+    k ≢ kinds.True → k ≢ kinds.False → ((n : ℕ) → k ≢ kinds.U64 n) → ((n : ℤ) → k ≢ kinds.I64 n) →
+    ((n : ℕ) → k ≢ kinds.U128 n) → ((n : ℤ) → k ≢ kinds.I128 n) → ((d : List ℕ) → k ≢ kinds.Decimal d) →
+    ((s : CowStr Global) → k ≢ kinds.String s) → k ≢ kinds.ArrayStart → k ≢ kinds.ObjectStart → BeginsNone p k
+begins_none p kinds.ObjectStart end n t f u i v j d s a o = absurd (o refl)
+begins_none p kinds.ObjectEnd end n t f u i v j d s a o = brace
+begins_none p kinds.ArrayStart end n t f u i v j d s a o = absurd (a refl)
+begins_none p kinds.ArrayEnd end n t f u i v j d s a o = bracket (λ e. end e refl)
+begins_none p kinds.Colon end n t f u i v j d s a o = a_colon
+begins_none p kinds.Comma end n t f u i v j d s a o = a_comma
+begins_none p kinds.Null end n t f u i v j d s a o = absurd (n refl)
+begins_none p kinds.True end n t f u i v j d s a o = absurd (t refl)
+begins_none p kinds.False end n t f u i v j d s a o = absurd (f refl)
+begins_none p (kinds.String x) end n t f u i v j d s a o = absurd (s x refl)
+begins_none p (kinds.U64 m) end n t f u i v j d s a o = absurd (u m refl)
+begins_none p (kinds.I64 m) end n t f u i v j d s a o = absurd (i m refl)
+begins_none p (kinds.U128 m) end n t f u i v j d s a o = absurd (v m refl)
+begins_none p (kinds.I128 m) end n t f u i v j d s a o = absurd (j m refl)
+begins_none p (kinds.Decimal m) end n t f u i v j d s a o = absurd (d m refl)

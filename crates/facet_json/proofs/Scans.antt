@@ -1,5 +1,5 @@
 -- What an answer of the plain cut in code says of the tokens that are left, and of its own slices.
-use Rattle.std.proofs.Common.{◌≡◌, ℕ, ◌+◌, ◌≤◌, ◌<◌, List, length, Some, None, Ok, Err, refl, sym, subst, arith}
+use Rattle.std.proofs.Common.{◌≡◌, ℕ, ◌+◌, ◌≤◌, ◌<◌, List, length, Some, None, Ok, Err, refl, sym, subst, inl, inr, arith}
 use Rattle.std.specs.Prelude.{IfSome}
 use Rattle.std.proofs.lemmas.Option.{same_Some}
 use Rattle.facet_format.specs.declared.span.Span.{Span as RustSpan}
@@ -16,14 +16,14 @@ use Rattle.facet_json_scan.specs.Token.{Kind, Token, Fault}
 use Rattle.facet_json_scan.specs.Token as token
 use Rattle.facet_json_scan.specs.Cut.{Cut, nothing_left, token as cut_token, fault, cut}
 use Rattle.facet_format.specs.Span.{span_at}
-use Rattle.facet_json_scan.specs.Tokens.{next}
+use Rattle.facet_json_scan.specs.Tokens.{Tokens, next}
 use Rattle.facet_json_core.specs.Place.{Place, complaint_at_end, complaint_of_fault}
 use Rattle.facet_format.specs.Complaint.{Refusal, refusal_at}
 use Rattle.facet_json_core.specs.Refusal.{at_end, at_fault, meaningless}
 use Rattle.facet_json_core.specs.Reading.{left, StopsAt}
 use Rattle.facet_format.specs.Views.{span_of, hint_of}
 use Rattle.facet_json_scan.specs.Views.{kind_of, token_answer, fault_answer, scanned, scan_refusal}
-use Rattle.facet_json.specs.Views.{CanBeRead, IsReadAs, IsReadFirst, IsMeaningless}
+use Rattle.facet_json.specs.Views.{CanBeRead, IsReadAs, IsReadFirst, IsUnread}
 use Rattle.facet_json_scan.proofs.CutBounds.{TokenFits, KindFits, StringFits, NumberFits, cut-token_fits}
 use Rattle.facet_json_scan.proofs.TokensSteps.{tokens_from-token, tokens_from-fault, tokens_from-nothing}
 
@@ -45,14 +45,21 @@ token_answer-is s (code.NeedMore n) c e = cc
 token_answer-is s t c e = a_kind s t _ c refl (same_Some _ _ e)
 
 -- Where the token's kind says the truth, its slices can be read.
-CanBeRead-fits : (buffer : List ℕ) (s : Span) (t : RustToken) (kind : Kind) → stop s ≤ length buffer →
-    kind_of t ≡ Some kind → KindFits buffer s kind → CanBeRead buffer t
+CanBeRead-fits : (buffer : List ℕ) (s : RustSpan) (t : RustToken) (kind : Kind) → stop (span_of s) ≤ length buffer →
+    kind_of t ≡ Some kind → KindFits buffer (span_of s) kind → CanBeRead buffer s t
 CanBeRead-fits buffer s (code.String a b h) kind w k f =
-    let g : StringFits buffer s a b h = subst (KindFits buffer s) (sym (same_Some _ _ k)) f in
-    (g.ordered, omega (arith, g.within), g.escapes)
+    let g : StringFits buffer (span_of s) a b h = subst (KindFits buffer (span_of s)) (sym (same_Some _ _ k)) f in
+    record {
+      starts = omega (arith, g.starts);
+      finishes = omega (arith, g.finishes);
+      ordered = g.ordered;
+      within = omega (arith, g.within);
+      escapes = g.escapes;
+    }
 CanBeRead-fits buffer s (code.Number a b h) kind w k f =
-    let g : NumberFits buffer s a b (hint_of h) = subst (KindFits buffer s) (sym (same_Some _ _ k)) f in
-    (omega (arith, g.starts, g.finishes), omega (arith, g.finishes), g.is_a_number)
+    let g : NumberFits buffer (span_of s) a b (hint_of h) = subst (KindFits buffer (span_of s)) (sym (same_Some _ _ k)) f
+    in
+    record { starts = g.starts; finishes = g.finishes; within = omega (arith, g.finishes) }
 CanBeRead-fits buffer s code.Eof kind w k f = cc
 CanBeRead-fits buffer s (code.NeedMore n) kind w k f = cc
 CanBeRead-fits buffer s _ kind w k f = tt
@@ -61,7 +68,7 @@ CanBeRead-fits buffer s _ kind w k f = tt
 pub record Scans (buffer : List ℕ) (position : ℕ) (t : SpannedToken) : Type 0 where
   pub kind : Kind
   pub is_kind : kind_of t.token ≡ Some kind
-  pub readable : CanBeRead buffer t.token
+  pub readable : CanBeRead buffer t.span t.token
   pub past : position < t.span.offset + t.span.len
   pub within : t.span.offset + t.span.len ≤ length buffer
   pub tokens : left buffer position
@@ -76,7 +83,7 @@ scans_by buffer position t _ p n e (a_token kind k) =
     record {
       kind = kind;
       is_kind = k;
-      readable = CanBeRead-fits buffer (span_of t.span) t.token kind fits.within k fits.kind_fits;
+      readable = CanBeRead-fits buffer t.span t.token kind fits.within k fits.kind_fits;
       past = omega (arith, fits.behind, fits.some);
       within = fits.within;
       tokens = tokens_from-token buffer position plain whole p e;
@@ -97,21 +104,26 @@ scans-read buffer position t kind s r =
 
 -- ---- refusals
 
--- A token without a meaning stops the reader wherever it stands.
-pub scans-meaningless : (buffer : List ℕ) (position : ℕ) (t : SpannedToken) (place : Place) (r : Refusal) →
-    Scans buffer position t → IfSome (kind_of t.token) (λ k. IsMeaningless buffer k (span_of t.span) r) →
+-- A token that is not read stops the reader wherever it stands.
+unread : (buffer : List ℕ) (place : Place) (ts : Tokens) (kind : Kind) (s : Span) (r : Refusal) →
+    IsUnread buffer kind s r → StopsAt buffer place (next (record { kind = kind; span = s }) ts) r
+unread buffer place ts kind s r (inl e) = inl e
+unread buffer place ts kind s r (inr m) =
+    inr (meaningless place (record { kind = kind; span = s }) ts r m.judged m.meaningless m.refused)
+
+pub scans-unread : (buffer : List ℕ) (position : ℕ) (t : SpannedToken) (place : Place) (r : Refusal) →
+    Scans buffer position t → IfSome (kind_of t.token) (λ k. IsUnread buffer k (span_of t.span) r) →
     StopsAt buffer place (left buffer position) r
-scans-meaningless buffer position t place r s h =
-    let m : IsMeaningless buffer s.kind (span_of t.span) r = rw s.is_kind at h in
-    rw s.tokens (meaningless place
-    (record { kind = s.kind; span = span_of t.span }) _ r m.judged m.meaningless m.refused)
+scans-unread buffer position t place r s h =
+    let m : IsUnread buffer s.kind (span_of t.span) r = rw s.is_kind at h in
+    rw s.tokens (unread buffer place _ s.kind (span_of t.span) r m)
 
 -- So does the end.
 end_by : (buffer : List ℕ) (position : ℕ) (s : RustSpan) (t : RustToken) (place : Place) (c : Cut) → t ≡ code.Eof →
     cut buffer position plain ≡ c → TokenAnswer s t c →
     StopsAt buffer place (left buffer position) (refusal_at (complaint_at_end place) (span_at (length buffer) 0))
 end_by buffer position s t place _ n e (the_end is_end) =
-    rw (tokens_from-nothing buffer position plain e) (at_end place)
+    rw (tokens_from-nothing buffer position plain e) (inr (at_end place))
 end_by buffer position s t place _ n e (a_token kind k) =
     let none : None ≡ Some kind = subst (λ (u : RustToken). kind_of u ≡ Some kind) n k in cc
 
@@ -147,4 +159,4 @@ pub scans-fault : (buffer : List ℕ) (position : ℕ) (e : ScanError) (place : 
     StopsAt buffer place (left buffer position) r
 scans-fault buffer position e place r h same =
     let a : FaultAnswer e (cut buffer position plain) = fault_answer-is e.span e.kind _ h in
-    rw (same, a.passed_on, tokens_from-fault buffer position plain a.what a.is_fault) (at_fault place a.what)
+    rw (same, a.passed_on, tokens_from-fault buffer position plain a.what a.is_fault) (inr (at_fault place a.what))

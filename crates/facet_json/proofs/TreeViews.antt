@@ -1,5 +1,6 @@
 -- What each variant of a `Tree` stands for.
 use Rattle.std.proofs.Common.{◌≡◌, ℕ, suc, ◌+◌, ◌<◌, Bool, List, [], ◌∷◌, length, get_or, drop, refl, sym, ap, ◌∙◌, rules, Vec, String, Global, string_bytes}
+use Rattle.std.specs.Prelude.{ℤ}
 use Rattle.std.proofs.lemmas.List.{drop_more}
 use Rattle.facet_json_core.specs.Tree as tree
 use Rattle.facet_json.specs.Views.{tree_view, trees_view, pairs_view}
@@ -11,6 +12,12 @@ tree_view-Null = search (rules, the_lemmas)
 
 pub tree_view-Bool : (b : Bool) → tree_view (code.Bool b) ≡ tree.bool b
 tree_view-Bool b = search (rules, the_lemmas)
+
+pub tree_view-I64 : (n : ℤ) → tree_view (code.I64 n) ≡ tree.i64 n
+tree_view-I64 n = search (rules, the_lemmas)
+
+pub tree_view-Decimal : (digits : List ℕ) → tree_view (code.Decimal digits) ≡ tree.decimal digits
+tree_view-Decimal digits = search (rules, the_lemmas)
 
 pub tree_view-U64 : (n : ℕ) → tree_view (code.U64 n) ≡ tree.u64 n
 tree_view-U64 n = search (rules, the_lemmas)

@@ -1,7 +1,9 @@
 -- What the types of the code stand for in the definitions. The one file of the definitions that names types of the code.
-use Rattle.std.specs.Prelude.{◌≡◌, ℕ, List, [], ◌∷◌, map, Some, None, codes, length, slice_range, ◌≤◌, ◌==◌, true, false, string_bytes}
+use Rattle.std.specs.Prelude.{◌≡◌, ◌+◌, ◌⊎◌, ℕ, Bool, List, [], ◌∷◌, map, Option, Some, None, codes, length, slice_range, ◌≤◌, ◌==◌, true, false, string_bytes}
 use Rattle.std.specs.declared.string.String.{String}
 use Rattle.std.specs.declared.alloc.Global.{Global}
+use Rattle.std.specs.Cow.{cow_str_bytes}
+use Rattle.facet_format.specs.declared.span.Span.{Span as RustSpan}
 use Rattle.facet_json_scan.specs.declared.token.Token.{Token as RustToken}
 use Rattle.facet_json_scan.specs.declared.token.Token.TheVariants as code
 use Rattle.facet_json.specs.declared.place.Place.{Place as RustPlace}
@@ -13,19 +15,20 @@ use Rattle.facet_json.specs.declared.tree.Tree.{Tree as RustTree, fold-Tree}
 use Rattle.facet_json.specs.declared.tree.Tree.TheOpen.{Tree-F}
 use Rattle.std.specs.List.{list_any}
 use Rattle.facet_format.specs.Bytes.{backslash}
-use Rattle.facet_format.specs.Number.{is_number as is_number_text}
+use Rattle.facet_format.specs.Number.{Number}
+use Rattle.facet_format.specs.Number as numbers
 use Rattle.facet_format.specs.Number.{unsigned}
 use Rattle.facet_format.specs.Span.{Span}
 use Rattle.facet_json_scan.specs.Token.{Kind, Token}
 use Rattle.facet_json_scan.specs.Token as token
 use Rattle.facet_json_core.specs.Place.{Place}
-use Rattle.facet_format.specs.Complaint.{Complaint, unexpected_token, Refusal, refusal_at}
-use Rattle.facet_format.specs.Views.{span_of, hint_of}
+use Rattle.facet_format.specs.Complaint.{Complaint, unexpected_token, Refusal, no_memory}
+use Rattle.facet_format.specs.Views.{span_of}
 use Rattle.facet_json_core.specs.Place as place
 use Rattle.facet_json_scan.specs.Tokens.{Tokens, next}
 use Rattle.facet_json_core.specs.Node.{is_string}
-use Rattle.facet_json_core.specs.Meaning.{thin_meaning_of}
-use Rattle.facet_json_core.specs.Refusal.{is_number, needs_meaning, thin_complaint}
+use Rattle.facet_json_core.specs.Meaning.{meaning_of}
+use Rattle.facet_json_core.specs.Refusal.{needs_meaning, Complains}
 use Rattle.facet_json_core.specs.Tree.{Tree, Trees, no_trees, Pairs, no_pairs}
 use Rattle.facet_json_core.specs.Tree as tree
 
@@ -38,7 +41,21 @@ place_of places.AfterMember = place.after_member
 place_of places.BeforeItem = place.before_item
 place_of places.AfterItem = place.after_item
 
--- what a kind of token of the buffer is read as, where only thin tokens are read
+-- the value of a token of the buffer that is a number
+abbrev pub number_at : List ℕ → Kind → Option Number
+number_at buffer (token.number start finish h) = numbers.number (slice_range buffer start finish) h
+number_at buffer _ = None
+
+-- the number that is read
+abbrev pub number_in : TokenKind → Option Number
+number_in (kinds.U64 n) = Some (numbers.u64 n)
+number_in (kinds.I64 n) = Some (numbers.i64 n)
+number_in (kinds.U128 n) = Some (numbers.u128 n)
+number_in (kinds.I128 n) = Some (numbers.i128 n)
+number_in (kinds.Decimal digits) = Some (numbers.decimal digits)
+number_in _ = None
+
+-- what a kind of token of the buffer is read as
 abbrev pub IsReadAs : List ℕ → Kind → TokenKind → Type 0
 IsReadAs buffer kind kinds.ObjectStart = kind ≡ token.object_start
 IsReadAs buffer kind kinds.ObjectEnd = kind ≡ token.object_end
@@ -50,24 +67,44 @@ IsReadAs buffer kind kinds.Null = kind ≡ token.null
 IsReadAs buffer kind kinds.True = kind ≡ token.true_literal
 IsReadAs buffer kind kinds.False = kind ≡ token.false_literal
 IsReadAs buffer kind (kinds.String s) = (is_string kind ≡ true)
-    × (thin_meaning_of buffer kind ≡ Some (tree.text s.now))
-IsReadAs buffer kind (kinds.U64 n) = (is_number kind ≡ true) × (thin_meaning_of buffer kind ≡ Some (tree.u64 n))
+    × (meaning_of buffer kind ≡ Some (tree.text (cow_str_bytes s)))
+IsReadAs buffer kind (kinds.U64 n) = number_at buffer kind ≡ Some (numbers.u64 n)
+IsReadAs buffer kind (kinds.I64 n) = number_at buffer kind ≡ Some (numbers.i64 n)
+IsReadAs buffer kind (kinds.U128 n) = number_at buffer kind ≡ Some (numbers.u128 n)
+IsReadAs buffer kind (kinds.I128 n) = number_at buffer kind ≡ Some (numbers.i128 n)
+IsReadAs buffer kind (kinds.Decimal digits) = number_at buffer kind ≡ Some (numbers.decimal digits)
 
--- the slices that a token names are within the buffer, and hold what it says; it is neither the end nor a call for more bytes
-abbrev pub CanBeRead : List ℕ → RustToken → Type 0
-CanBeRead buffer (code.String start finish has_escapes) = (start ≤ finish) × (finish ≤ length buffer)
-    × (has_escapes ≡ list_any (λ b. b == backslash) (slice_range buffer start finish))
-CanBeRead buffer (code.Number start finish h) = (start ≤ finish) × (finish ≤ length buffer)
-    × (is_number_text (slice_range buffer start finish) (hint_of h) ≡ true)
-CanBeRead buffer code.Eof = ⊥
-CanBeRead buffer (code.NeedMore consumed) = ⊥
-CanBeRead buffer _ = Unit {0}
+-- The content of the string that takes the span stands there, between its quotes.
+pub record IsContent (buffer : List ℕ) (s : RustSpan) (start finish : ℕ) (has_escapes : Bool) : Type 0 where
+  pub starts : start ≡ s.offset + 1
+  pub finishes : finish + 1 ≡ s.offset + s.len
+  pub ordered : start ≤ finish
+  pub within : finish ≤ length buffer
+  pub escapes : has_escapes ≡ list_any (λ b. b == backslash) (slice_range buffer start finish)
+
+-- The number that takes the span stands there.
+pub record IsNumberThere (buffer : List ℕ) (s : RustSpan) (start finish : ℕ) : Type 0 where
+  pub starts : start ≡ s.offset
+  pub finishes : finish ≡ s.offset + s.len
+  pub within : finish ≤ length buffer
+
+-- The slices that a token names are its own; it is neither the end nor a call for more bytes.
+abbrev pub CanBeRead : List ℕ → RustSpan → RustToken → Type 0
+CanBeRead buffer s (code.String start finish has_escapes) = IsContent buffer s start finish has_escapes
+CanBeRead buffer s (code.Number start finish h) = IsNumberThere buffer s start finish
+CanBeRead buffer s code.Eof = ⊥
+CanBeRead buffer s (code.NeedMore consumed) = ⊥
+CanBeRead buffer s _ = Unit {0}
 
 -- a token without a meaning, and how it is refused
 pub record IsMeaningless (buffer : List ℕ) (kind : Kind) (s : Span) (refusal : Refusal) : Type 0 where
   pub judged : needs_meaning kind ≡ true
-  pub meaningless : thin_meaning_of buffer kind ≡ None
-  pub refused : refusal ≡ refusal_at (thin_complaint kind) s
+  pub meaningless : meaning_of buffer kind ≡ None
+  pub refused : Complains (record { kind = kind; span = s }) refusal
+
+-- Memory ran out, or the token has no meaning and is refused so.
+abbrev pub IsUnread : List ℕ → Kind → Span → Refusal → Type 0
+IsUnread buffer kind s refusal = (refusal ≡ no_memory) ⊎ IsMeaningless buffer kind s refusal
 
 -- The first of the tokens is read so.
 pub record IsReadFirst (buffer : List ℕ) (ts : Tokens) (t : MaterializedToken) (after : Tokens) : Type 0 where
@@ -89,6 +126,10 @@ name_of kinds.True = codes "True"
 name_of kinds.False = codes "False"
 name_of (kinds.String s) = codes "String"
 name_of (kinds.U64 n) = codes "U64"
+name_of (kinds.I64 n) = codes "I64"
+name_of (kinds.U128 n) = codes "U128"
+name_of (kinds.I128 n) = codes "I128"
+name_of (kinds.Decimal digits) = codes "Decimal"
 
 -- one kind that looks so; texts and numbers are refused alike whatever they hold
 abbrev pub sample : TokenKind → Kind
@@ -103,6 +144,10 @@ sample kinds.True = token.true_literal
 sample kinds.False = token.false_literal
 sample (kinds.String s) = token.string 0 0 false
 sample (kinds.U64 n) = token.number 0 0 unsigned
+sample (kinds.I64 n) = token.number 0 0 unsigned
+sample (kinds.U128 n) = token.number 0 0 unsigned
+sample (kinds.I128 n) = token.number 0 0 unsigned
+sample (kinds.Decimal digits) = token.number 0 0 unsigned
 
 -- what is wrong with the token at a place where no document goes on with it
 abbrev pub misplaced_complaint : Place → TokenKind → Complaint
@@ -122,7 +167,9 @@ pairs_of (p ∷ ps) = tree.pair (string_bytes p.0) p.1 (pairs_of ps)
 abbrev pub tree_step : Tree-F Tree → Tree
 tree_step Tree-F.Null = tree.null
 tree_step (Tree-F.Bool b) = tree.bool b
+tree_step (Tree-F.I64 n) = tree.i64 n
 tree_step (Tree-F.U64 n) = tree.u64 n
+tree_step (Tree-F.Decimal digits) = tree.decimal digits
 tree_step (Tree-F.Text t) = tree.text (string_bytes t)
 tree_step (Tree-F.List v) = tree.list (trees_of v.items)
 tree_step (Tree-F.Pairs v) = tree.pairs (pairs_of v.items)

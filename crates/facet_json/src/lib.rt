@@ -7,7 +7,6 @@ mod place;
 mod reader;
 pub mod scanner;
 mod ser_error;
-mod thin;
 mod tree;
 mod writer;
 

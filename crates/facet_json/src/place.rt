@@ -62,8 +62,8 @@ impl Place {
     }
 
     /// What is expected at this place, where a token stands with which the document doesn't go on.
-    pub fn expected<'t>(self, got: TokenKind<'_>) -> &'t str
-        ensures { result.now ≡ expected_at (place_of self) (sample got.entry) }
+    pub fn expected<'t>(self, got: &TokenKind<'_>) -> &'t str
+        ensures { result.now ≡ expected_at (place_of self) (sample got.now) }
     {
         match self {
             Place::Root | Place::AfterColon => "value",

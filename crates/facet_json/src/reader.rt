@@ -1,63 +1,31 @@
-//! Reads the tree of a document, byte by byte and by recursion.
+//! Reads the tree of a document, token by token and by recursion.
 
-ghost use Rattle.std.specs.Prelude.{◌≡◌, ◌≢◌, ◌≤◌, ◌<◌, ◌+◌, ◌⊎◌, length, IfOk, IfErr, IfSome, OnOk, MatchResult};
+ghost use Rattle.std.specs.Prelude.{◌≡◌, ◌≢◌, ◌≤◌, ◌<◌, ◌+◌, ◌⊎◌, length, IfOk, IfErr, IfSome, OnOk, MatchResult, string_bytes};
+ghost use Rattle.std.specs.Fmt.{decimal, signed_decimal};
 ghost use Rattle.facet_json.specs.declared.materialized.TokenKind.TheVariants.{ArrayEnd};
 ghost use Rattle.facet_json_scan.specs.Token.{array_start, object_start};
 ghost use Rattle.facet_json_scan.specs.Tokens.{Tokens};
 ghost use Rattle.facet_json_core.specs.Tree.{Tree as SpecTree};
 ghost use Rattle.facet_json_core.specs.Node.{Node};
-ghost use Rattle.facet_json_core.specs.Meaning.{thin_meaning};
-ghost use Rattle.facet_json_core.specs.Document.{IsThinDocument};
+ghost use Rattle.facet_json_scan.specs.Gap.{plain};
+ghost use Rattle.facet_json_core.specs.Meaning.{meaning};
+ghost use Rattle.facet_json_core.specs.Document.{IsDocument};
 ghost use Rattle.facet_json_core.specs.Place.{after_key, before_item};
 ghost use Rattle.facet_format.specs.Complaint.{no_memory};
-ghost use Rattle.facet_json_core.specs.Refusal.{RefusesThin};
+ghost use Rattle.facet_json_core.specs.Refusal.{Refuses};
 ghost use Rattle.facet_json_core.specs.Reading.{left, ReadsValue, ReadsList, ReadsObject, IsColonNext, StopsAt, StopsFrom, StopsBehind, TakesValue};
-ghost use Rattle.facet_format.specs.Views.{refusal_of, span_of};
-ghost use Rattle.facet_json.specs.Views.{place_of, tree_view, trees_view, pairs_view, IsReadFirst, IsReadAs, IsMeaningless, CanBeRead};
-ghost use Rattle.facet_json_scan.specs.Views.{kind_of};
+ghost use Rattle.facet_format.specs.Views.{refusal_of};
+ghost use Rattle.facet_json.specs.Views.{place_of, tree_view, trees_view, pairs_view, IsReadFirst};
 
+use facet_format::Decimal;
 use facet_format::DeserializeError;
-use crate::materialized::{MaterializedToken, TokenKind};
+use crate::materialized::{MaterializedToken, TokenKind, materialize};
 use facet_json_scan::Mode;
 use crate::place::Place;
 use facet_json_scan::cut;
-use crate::thin::{thin_number, thin_text};
-use facet_json_scan::{SpannedToken, Token};
+use facet_json_scan::Token;
 use crate::tree::Tree;
 use std::alloc::Global;
-
-/// What a token of the buffer stands for.
-fn materialize<'a, 't>(
-    buffer: &'a [u8],
-    token: &SpannedToken,
-) -> Result<TokenKind<'a>, DeserializeError<'t>>
-    requires { CanBeRead buffer.now token.now.token }
-    ensures read { IfOk result (λ kind. IfSome (kind_of token.now.token) (λ k. IsReadAs buffer.now k kind)) }
-    ensures refused { IfErr result (λ e. IfSome (kind_of token.now.token)
-        (λ k. IsMeaningless buffer.now k (span_of token.now.span) (refusal_of e))) }
-{
-    let span = token.span;
-    match token.token {
-        Token::ObjectStart => Ok(TokenKind::ObjectStart),
-        Token::ObjectEnd => Ok(TokenKind::ObjectEnd),
-        Token::ArrayStart => Ok(TokenKind::ArrayStart),
-        Token::ArrayEnd => Ok(TokenKind::ArrayEnd),
-        Token::Colon => Ok(TokenKind::Colon),
-        Token::Comma => Ok(TokenKind::Comma),
-        Token::Null => Ok(TokenKind::Null),
-        Token::True => Ok(TokenKind::True),
-        Token::False => Ok(TokenKind::False),
-        Token::String {
-            start,
-            end,
-            has_escapes,
-        } => Ok(TokenKind::String(thin_text(&buffer[start..end], has_escapes, span)?)),
-        Token::Number { start, end, hint } => {
-            Ok(TokenKind::U64(thin_number(&buffer[start..end], hint, span)?))
-        }
-        Token::Eof | Token::NeedMore { .. } => unreachable!(),
-    }
-}
 
 /// A place in the bytes of the input.
 #[derive(Drop)]
@@ -70,7 +38,11 @@ struct Reader<'a> {
 impl<'a> Reader<'a> {
     /// Takes the next token, whose text or number it reads before anyone judges its place. At no
     /// place may the input end.
-    fn next<'t>(&mut self, place: Place) -> Result<MaterializedToken<'a>, DeserializeError<'t>>
+    fn next<'t>(
+        &mut self,
+        alloc: Global,
+        place: Place,
+    ) -> Result<MaterializedToken<'a>, DeserializeError<'t>>
         ensures same { self.new.buffer.now ≡ self.old.buffer.now }
         ensures forward { self.old.position ≤ self.new.position }
         ensures past { OnOk result (self.old.position < self.new.position) }
@@ -83,7 +55,7 @@ impl<'a> Reader<'a> {
         if let Token::Eof = token.token {
             return Err(place.refused_end(self.buffer.len()));
         }
-        let kind = materialize(self.buffer, &token)?;
+        let kind = materialize(alloc, self.buffer, &token)?;
         self.position = token.span.offset + token.span.len;
         Ok(MaterializedToken {
             kind,
@@ -104,7 +76,7 @@ impl<'a> Reader<'a> {
         ensures same { self.new.buffer.now ≡ self.old.buffer.now }
         ensures forward { self.old.position ≤ self.new.position }
         ensures value { IfOk result (λ t. (ts : Tokens) → IsReadFirst self.old.buffer.now ts first.entry (left self.old.buffer.now self.old.position)
-            → ReadsValue (thin_meaning self.old.buffer.now) ts (tree_view t) (left self.old.buffer.now self.new.position)) }
+            → ReadsValue (meaning self.old.buffer.now) ts (tree_view t) (left self.old.buffer.now self.new.position)) }
         ensures refused { IfErr result (λ e. (ts : Tokens) → IsReadFirst self.old.buffer.now ts first.entry (left self.old.buffer.now self.old.position)
             → StopsFrom self.old.buffer.now (place_of place) ts (refusal_of e)) }
     {
@@ -113,10 +85,14 @@ impl<'a> Reader<'a> {
             TokenKind::True => Ok(Tree::Bool(true)),
             TokenKind::False => Ok(Tree::Bool(false)),
             TokenKind::U64(n) => Ok(Tree::U64(n)),
-            TokenKind::String(text) => Ok(Tree::Text(String::from_str(alloc, text)?)),
+            TokenKind::I64(n) => Ok(Tree::I64(n)),
+            TokenKind::U128(n) => Ok(Tree::Text(digits(alloc, n)?)),
+            TokenKind::I128(n) => Ok(Tree::Text(signed_digits(alloc, n)?)),
+            TokenKind::Decimal(decimal) => Ok(Tree::Decimal(owned(alloc, decimal)?)),
+            TokenKind::String(text) => Ok(Tree::Text(text.into_owned(alloc)?)),
             TokenKind::ArrayStart => Ok(Tree::List(self.list(alloc)?)),
             TokenKind::ObjectStart => Ok(Tree::Pairs(self.pairs(alloc)?)),
-            _ => Err(first.misplaced(place)),
+            kind => Err(kind.misplaced(first.span, place)),
         }
     }
 
@@ -125,23 +101,23 @@ impl<'a> Reader<'a> {
     fn list<'t>(&mut self, alloc: Global) -> Result<Vec<Tree>, DeserializeError<'t>>
         ensures same { self.new.buffer.now ≡ self.old.buffer.now }
         ensures forward { self.old.position ≤ self.new.position }
-        ensures items { IfOk result (λ v. ReadsList (thin_meaning self.old.buffer.now)
+        ensures items { IfOk result (λ v. ReadsList (meaning self.old.buffer.now)
             (left self.old.buffer.now self.old.position) (trees_view v.items) (left self.old.buffer.now self.new.position)) }
         ensures refused { IfErr result (λ e. StopsBehind self.old.buffer.now array_start
             (left self.old.buffer.now self.old.position) (refusal_of e)) }
     {
         let mut items = Vec::new(alloc);
         loop {
-            let first = self.next(Place::BeforeItem)?;
+            let first = self.next(alloc, Place::BeforeItem)?;
             if let TokenKind::ArrayEnd = first.kind {
                 return Ok(items);
             }
             items.push(self.value(alloc, first, Place::BeforeItem)?)?;
-            let token = self.next(Place::AfterItem)?;
+            let token = self.next(alloc, Place::AfterItem)?;
             match token.kind {
                 TokenKind::Comma => {}
                 TokenKind::ArrayEnd => return Ok(items),
-                _ => return Err(token.misplaced(Place::AfterItem)),
+                kind => return Err(kind.misplaced(token.span, Place::AfterItem)),
             }
         }
     }
@@ -151,53 +127,82 @@ impl<'a> Reader<'a> {
     fn pairs<'t>(&mut self, alloc: Global) -> Result<Vec<(String, Tree)>, DeserializeError<'t>>
         ensures same { self.new.buffer.now ≡ self.old.buffer.now }
         ensures forward { self.old.position ≤ self.new.position }
-        ensures members { IfOk result (λ v. ReadsObject (thin_meaning self.old.buffer.now)
+        ensures members { IfOk result (λ v. ReadsObject (meaning self.old.buffer.now)
             (left self.old.buffer.now self.old.position) (pairs_view v.items) (left self.old.buffer.now self.new.position)) }
         ensures refused { IfErr result (λ e. StopsBehind self.old.buffer.now object_start
             (left self.old.buffer.now self.old.position) (refusal_of e)) }
     {
         let mut pairs = Vec::new(alloc);
         loop {
-            let key = self.next(Place::BeforeKey)?;
+            let key = self.next(alloc, Place::BeforeKey)?;
             let name = match key.kind {
-                TokenKind::String(text) => String::from_str(alloc, text)?,
+                TokenKind::String(text) => text.into_owned(alloc)?,
                 TokenKind::ObjectEnd => return Ok(pairs),
-                _ => return Err(key.misplaced(Place::BeforeKey)),
+                kind => return Err(kind.misplaced(key.span, Place::BeforeKey)),
             };
-            self.colon()?;
-            let first = self.next(Place::AfterColon)?;
+            self.colon(alloc)?;
+            let first = self.next(alloc, Place::AfterColon)?;
             let value = self.value(alloc, first, Place::AfterColon)?;
             pairs.push((name, value))?;
-            let token = self.next(Place::AfterMember)?;
+            let token = self.next(alloc, Place::AfterMember)?;
             match token.kind {
                 TokenKind::Comma => {}
                 TokenKind::ObjectEnd => return Ok(pairs),
-                _ => return Err(token.misplaced(Place::AfterMember)),
+                kind => return Err(kind.misplaced(token.span, Place::AfterMember)),
             }
         }
     }
 
     /// Passes the colon behind a key.
-    fn colon<'t>(&mut self) -> Result<(), DeserializeError<'t>>
+    fn colon<'t>(&mut self, alloc: Global) -> Result<(), DeserializeError<'t>>
         ensures same { self.new.buffer.now ≡ self.old.buffer.now }
         ensures forward { self.old.position ≤ self.new.position }
         ensures colon { OnOk result (IsColonNext (left self.old.buffer.now self.old.position) (left self.old.buffer.now self.new.position)) }
         ensures refused { IfErr result (λ e. StopsAt self.old.buffer.now after_key
             (left self.old.buffer.now self.old.position) (refusal_of e)) }
     {
-        let token = self.next(Place::AfterKey)?;
+        let token = self.next(alloc, Place::AfterKey)?;
         match token.kind {
             TokenKind::Colon => Ok(()),
-            _ => Err(token.misplaced(Place::AfterKey)),
+            kind => Err(kind.misplaced(token.span, Place::AfterKey)),
         }
     }
 }
 
-/// Reads the document that the bytes begin with.
+/// The decimal digits of a number.
+fn digits<'t>(alloc: Global, n: u128) -> Result<String, DeserializeError<'t>>
+    ensures text { IfOk result (λ s. string_bytes s ≡ decimal n) }
+    ensures refused { IfErr result (λ e. refusal_of e ≡ no_memory) }
+{
+    let mut buffer = itoa::Buffer::new();
+    Ok(String::from_str(alloc, buffer.format(n))?)
+}
+
+/// The decimal digits of a number, behind a minus where it is negative.
+fn signed_digits<'t>(alloc: Global, n: i128) -> Result<String, DeserializeError<'t>>
+    ensures text { IfOk result (λ s. string_bytes s ≡ signed_decimal n) }
+    ensures refused { IfErr result (λ e. refusal_of e ≡ no_memory) }
+{
+    let mut buffer = itoa::Buffer::new();
+    Ok(String::from_str(alloc, buffer.format(n))?)
+}
+
+/// The same number, its text in memory of its own.
+fn owned<'t>(alloc: Global, decimal: Decimal<'_>) -> Result<Decimal<'static>, DeserializeError<'t>>
+    ensures text { IfOk result (λ d. d ≡ decimal.entry) }
+    ensures refused { IfErr result (λ e. refusal_of e ≡ no_memory) }
+{
+    match decimal.into_owned(alloc) {
+        Ok(decimal) => Ok(decimal),
+        Err(_) => Err(DeserializeError::out_of_memory()),
+    }
+}
+
+/// Reads the plain document that the bytes begin with. What follows it is not looked at.
 pub fn from_slice<'t>(alloc: Global, input: &[u8]) -> Result<Tree, DeserializeError<'t>>
-    ensures document { IfOk result (λ t. (root : Node) × IsThinDocument input.now root (tree_view t)) }
-    ensures refused { IfErr result (λ e. (refusal_of e ≡ no_memory) ⊎ RefusesThin input.now (refusal_of e)) }
-    ensures only { (root : Node) (value : SpecTree) → IsThinDocument input.now root value
+    ensures document { IfOk result (λ t. (root : Node) × IsDocument input.now plain root (tree_view t)) }
+    ensures refused { IfErr result (λ e. (refusal_of e ≡ no_memory) ⊎ Refuses input.now plain (refusal_of e)) }
+    ensures only { (root : Node) (value : SpecTree) → IsDocument input.now plain root value
         → MatchResult result (λ t. tree_view t ≡ value) (λ e. refusal_of e ≡ no_memory) }
     ensures within { IfErr result (λ e. IfSome e.span (λ s. s.offset + s.len ≤ length input.now)) }
 {
@@ -205,6 +210,6 @@ pub fn from_slice<'t>(alloc: Global, input: &[u8]) -> Result<Tree, DeserializeEr
         buffer: input,
         position: 0,
     };
-    let first = reader.next(Place::Root)?;
+    let first = reader.next(alloc, Place::Root)?;
     reader.value(alloc, first, Place::Root)
 }

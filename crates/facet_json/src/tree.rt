@@ -6,6 +6,8 @@ ghost use Rattle.facet_json.specs.Same.{same_tree};
 ghost use Rattle.facet_json.specs.Views.{tree_view, trees_view, pairs_view};
 ghost use Rattle.facet_json.specs.SameLaws.{same_tree-equivalence};
 
+use facet_format::Decimal;
+
 /// A JSON value. Lists and pairs keep their order, and a key that comes twice stands twice.
 #[derive(Debug, Drop)]
 pub enum Tree {
@@ -13,9 +15,13 @@ pub enum Tree {
     Null,
     /// `true` or `false`
     Bool(bool),
-    /// A whole number of at most 64 bits.
+    /// A whole number behind a minus, within 64 bits.
+    I64(i64),
+    /// A whole number without a sign, within 64 bits.
     U64(u64),
-    /// A text.
+    /// A number with a fraction or an exponent, as its text.
+    Decimal(Decimal<'static>),
+    /// A text. Whole numbers past 64 bits are read as the text of their digits.
     Text(String),
     /// An array.
     List(Vec<Tree>),
@@ -47,7 +53,9 @@ impl Tree {
         match (self, other) {
             (Tree::Null, Tree::Null) => true,
             (Tree::Bool(a), Tree::Bool(b)) => a == b,
+            (Tree::I64(a), Tree::I64(b)) => a == b,
             (Tree::U64(a), Tree::U64(b)) => a == b,
+            (Tree::Decimal(a), Tree::Decimal(b)) => a == b,
             (Tree::Text(a), Tree::Text(b)) => a == b,
             (Tree::List(a), Tree::List(b)) => are_same(a, b),
             (Tree::Pairs(a), Tree::Pairs(b)) => have_same(a, b),

@@ -183,7 +183,7 @@ pub refused_unread : (buffer : List ℕ) (m : Meaning) (complains : Token → Re
 refused_unread buffer m complains place ts refusal node value rest goes r reads =
     not_stuck r.stuck (front_goes_on m r.begins (value_can_begin m place goes reads))
 
--- An input that is refused has no thin document.
+-- An input that is refused has no document.
 pub refused_has_none : RefusedHasNone
-refused_has_none buffer refusal node value r d =
+refused_has_none buffer mode refusal node value r d =
     refused_unread buffer _ _ root _ refusal node value d.rest (λ kind e. e) r d.reads

@@ -8,11 +8,11 @@ use Rattle.facet_json_scan.specs.Token as token
 use Rattle.facet_json_scan.specs.Tokens.{Tokens, ended, refused, next, tokens}
 use Rattle.facet_json_core.specs.Node.{Node, scalar, array, object, Nodes, item, Members, member, is_scalar, is_string, Spells, one_token, brackets, braces, SpellsItems, closed, item_and_comma, last_item, SpellsMembers, ended_members, member_and_comma, last_member}
 use Rattle.facet_json_core.specs.Tree.{Tree}
-use Rattle.facet_json_core.specs.Meaning.{Meaning, meaning, thin_meaning, tree_of}
+use Rattle.facet_json_core.specs.Meaning.{Meaning, meaning, tree_of}
 use Rattle.facet_json_core.specs.Document.{Reads, IsWholeDocument}
 use Rattle.facet_json_core.specs.Place.{begins_value}
 use Rattle.facet_json_core.specs.Spelled.{ValueReader, ItemsReader, MembersReader, node_by, node_from, after_item_by, after_item_from, nodes_by, nodes_from, after_member_by, after_member_from, after_key_by, after_key_from, members_by, members_from, node_within, nodes_within, members_within, count, spelled, read_by, if_ended, whole_document}
-use Rattle.facet_json_core.specs.Laws.{SpelledIsSpells, DocumentIsFound, WholeDocumentIsFound, ThinDocumentIsFound}
+use Rattle.facet_json_core.specs.Laws.{SpelledIsSpells, DocumentIsFound, WholeDocumentIsFound}
 use Rattle.facet_json_core.proofs.Spelling.{Starts, Spells-starts}
 
 -- ---- what is computed is spelled
@@ -314,13 +314,6 @@ pub document_is_found : DocumentIsFound
 document_is_found buffer mode root value = (
   λ e. (let r = read_by-reads (meaning buffer) (tokens buffer mode) root value e in record { rest = r.0; reads = r.1 }),
   λ d. reads-read_by (meaning buffer) (tokens buffer mode) d.rest root value d.reads,
-)
-
--- The thin document that is computed is the one of the input.
-pub thin_document_is_found : ThinDocumentIsFound
-thin_document_is_found buffer root value = (
-  λ e. (let r = read_by-reads (thin_meaning buffer) (tokens buffer plain) root value e in record { rest = r.0; reads = r.1 }),
-  λ d. reads-read_by (thin_meaning buffer) (tokens buffer plain) d.rest root value d.reads,
 )
 
 -- a node with its tree, where it has one

@@ -1,6 +1,6 @@
 -- What stands behind a value or a front is a suffix of the tokens, and every token and fault of a buffer's tokens is within it.
 use Rattle.std.proofs.Common.{ℕ, zero, suc, ◌+◌, ◌-◌, ◌≤◌, List, [], ◌∷◌, length, drop, IfSome, arith, length-drop}
-use Rattle.facet_json_scan.specs.Gap.{Mode, plain}
+use Rattle.facet_json_scan.specs.Gap.{Mode}
 use Rattle.facet_format.specs.Span.{Span, stop}
 use Rattle.facet_json_scan.specs.Token.{Token, Fault}
 use Rattle.facet_json_scan.specs.Cut.{Cut, nothing_left, token, fault, cut}
@@ -9,7 +9,7 @@ use Rattle.facet_json_core.specs.Node.{Node, Nodes, Members, Spells, one_token, 
 use Rattle.facet_json_core.specs.Meaning.{Meaning}
 use Rattle.facet_json_core.specs.Place.{Place}
 use Rattle.facet_format.specs.Complaint.{Refusal}
-use Rattle.facet_json_core.specs.Refusal.{PassesItems, no_items, one_item, PassesMembers, no_members, one_member, Begins, nothing, in_item, behind_item, behind_members, behind_key, in_member, behind_member, IsStuck, at_end, at_fault, meaningless, misplaced, ThinComplains, RefusesThin}
+use Rattle.facet_json_core.specs.Refusal.{PassesItems, no_items, one_item, PassesMembers, no_members, one_member, Begins, nothing, in_item, behind_item, behind_members, behind_key, in_member, behind_member, IsStuck, at_end, at_fault, meaningless, misplaced, Complains, of_number, of_plain_string, of_escaped_string, Refuses}
 use Rattle.facet_json_scan.proofs.CutBounds.{CutFits, cut-fits}
 
 -- ---- suffixes
@@ -102,14 +102,20 @@ tokens_within buffer mode = past_within buffer mode 0 0 (drop 0 buffer) (omega (
 
 -- ---- refusals
 
+-- What is complained of is within the token.
+complains_within : (buffer : List ℕ) (t : Token) (r : Refusal) → Complains t r → IsWithin buffer t.span → IfSome r.span (λ s. stop s ≤ length buffer)
+complains_within buffer t r (of_number k e) w = rw e w.within
+complains_within buffer t r (of_plain_string start finish k e) w = rw e w.within
+complains_within buffer t r (of_escaped_string start finish complaint bytes k is between e) w = rw e (omega (arith, between.1, w.within))
+
 -- Where the reader is stuck, the span that it complains of is within the buffer.
-stuck_within : (buffer : List ℕ) (m : Meaning) (p : Place) (ts : Tokens) (r : Refusal) → IsStuck buffer m ThinComplains p ts r → AreWithin buffer ts → IfSome r.span (λ s. stop s ≤ length buffer)
+stuck_within : (buffer : List ℕ) (m : Meaning) (p : Place) (ts : Tokens) (r : Refusal) → IsStuck buffer m Complains p ts r → AreWithin buffer ts → IfSome r.span (λ s. stop s ≤ length buffer)
 stuck_within buffer m p _ _ (at_end _) w = omega arith
 stuck_within buffer m p _ _ (at_fault _ f) (at_a_fault _ s) = s.within
-stuck_within buffer m p _ r (meaningless _ t rest _ k n c) (at_a_token _ _ s w) = rw c s.within
+stuck_within buffer m p _ r (meaningless _ t rest _ k n c) (at_a_token _ _ s w) = complains_within buffer t r c s
 stuck_within buffer m p _ _ (misplaced _ t rest k n) (at_a_token _ _ s w) = s.within
 
--- The span of a refusal of thin documents is within the input.
-pub refused_within : (buffer : List ℕ) (r : Refusal) → RefusesThin buffer r → IfSome r.span (λ s. stop s ≤ length buffer)
-refused_within buffer r h =
-    stuck_within buffer _ h.here h.rest r h.stuck (AreWithin-suffix buffer _ h.rest (Begins-suffix _ _ _ h.here h.rest h.begins) (tokens_within buffer plain))
+-- The span of a refusal is within the input.
+pub refused_within : (buffer : List ℕ) (mode : Mode) (r : Refusal) → Refuses buffer mode r → IfSome r.span (λ s. stop s ≤ length buffer)
+refused_within buffer mode r h =
+    stuck_within buffer _ h.here h.rest r h.stuck (AreWithin-suffix buffer _ h.rest (Begins-suffix _ _ _ h.here h.rest h.begins) (tokens_within buffer mode))

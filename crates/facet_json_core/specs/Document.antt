@@ -4,7 +4,7 @@ use Rattle.facet_json_scan.specs.Gap.{Mode, plain}
 use Rattle.facet_json_scan.specs.Tokens.{Tokens, ended, tokens}
 use Rattle.facet_json_core.specs.Node.{Node, Spells}
 use Rattle.facet_json_core.specs.Tree.{Tree}
-use Rattle.facet_json_core.specs.Meaning.{Meaning, meaning, thin_meaning, tree_of}
+use Rattle.facet_json_core.specs.Meaning.{Meaning, meaning, tree_of}
 
 -- A front of the tokens spells the node, whose tree this is. What follows is not looked at.
 pub record Reads (m : Meaning) (ts : Tokens) (root : Node) (value : Tree) (rest : Tokens) : Type 0 where
@@ -15,11 +15,6 @@ pub record Reads (m : Meaning) (ts : Tokens) (root : Node) (value : Tree) (rest 
 pub record IsDocument (buffer : List ℕ) (mode : Mode) (root : Node) (value : Tree) : Type 0 where
   pub rest : Tokens
   pub reads : Reads (meaning buffer) (tokens buffer mode) root value rest
-
--- The input has a thin document, in plain mode.
-pub record IsThinDocument (buffer : List ℕ) (root : Node) (value : Tree) : Type 0 where
-  pub rest : Tokens
-  pub reads : Reads (thin_meaning buffer) (tokens buffer plain) root value rest
 
 -- All of the text is one plain document, with nothing around it but white space.
 pub record IsWholeDocument (buffer : List ℕ) (root : Node) (value : Tree) : Type 0 where

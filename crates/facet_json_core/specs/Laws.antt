@@ -4,10 +4,10 @@ use Rattle.facet_json_scan.specs.Gap.{Mode, plain, jsonc}
 use Rattle.facet_json_core.specs.Node.{Node, Spells}
 use Rattle.facet_json_scan.specs.Tokens.{Tokens}
 use Rattle.facet_json_core.specs.Tree.{Tree}
-use Rattle.facet_json_core.specs.Document.{IsDocument, IsThinDocument, IsWholeDocument}
-use Rattle.facet_json_core.specs.Spelled.{spelled, document, whole_document, thin_document}
+use Rattle.facet_json_core.specs.Document.{IsDocument, IsWholeDocument}
+use Rattle.facet_json_core.specs.Spelled.{spelled, document, whole_document}
 use Rattle.facet_format.specs.Complaint.{Refusal}
-use Rattle.facet_json_core.specs.Refusal.{RefusesThin}
+use Rattle.facet_json_core.specs.Refusal.{Refuses}
 
 -- No spelling of a value is a proper front of another's, and tokens spell one value at most.
 abbrev pub OneSpelling : Type 0
@@ -27,11 +27,6 @@ abbrev pub DocumentIsFound : Type 0
 DocumentIsFound = (buffer : List ℕ) (mode : Mode) (root : Node) (value : Tree) →
     (document buffer mode ≡ Some (root, value)) ↔ IsDocument buffer mode root value
 
--- The thin document that is computed is the one thin document of the input.
-abbrev pub ThinDocumentIsFound : Type 0
-ThinDocumentIsFound = (buffer : List ℕ) (root : Node) (value : Tree) →
-    (thin_document buffer ≡ Some (root, value)) ↔ IsThinDocument buffer root value
-
 -- What is computed as the whole document of a text is the one plain document that all of it is.
 abbrev pub WholeDocumentIsFound : Type 0
 WholeDocumentIsFound = (buffer : List ℕ) (root : Node) (value : Tree) →
@@ -43,4 +38,4 @@ PlainIsJsonc = (buffer : List ℕ) (root : Node) (value : Tree) → IsDocument b
 
 -- An input that is refused has no document.
 abbrev pub RefusedHasNone : Type 0
-RefusedHasNone = (buffer : List ℕ) (refusal : Refusal) (root : Node) (value : Tree) → RefusesThin buffer refusal → IsThinDocument buffer root value → ⊥
+RefusedHasNone = (buffer : List ℕ) (mode : Mode) (refusal : Refusal) (root : Node) (value : Tree) → Refuses buffer mode refusal → IsDocument buffer mode root value → ⊥

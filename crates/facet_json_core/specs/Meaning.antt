@@ -1,5 +1,5 @@
 -- What the tokens of a buffer stand for, and the tree of a node (RFC 8259, sections 3 to 7).
-use Rattle.std.specs.Prelude.{ℕ, Bool, true, false, List, Option, Some, None, slice_range}
+use Rattle.std.specs.Prelude.{ℕ, true, false, List, Option, Some, None, slice_range}
 use Rattle.std.specs.Option.{option_map, option_and_then}
 use Rattle.std.specs.Fmt.{decimal, signed_decimal}
 use Rattle.facet_format.specs.Number.{Number, Hint}
@@ -41,33 +41,6 @@ meaning_of buffer token.comma = None
 -- what the tokens of a buffer stand for
 abbrev pub meaning : List ℕ → Meaning
 meaning buffer t = meaning_of buffer t.kind
-
--- ---- thin tokens: no string holds a backslash, and every number is unsigned and fits 64 bits
-
-abbrev pub thin_number : Option Number → Option Tree
-thin_number (Some (numbers.u64 n)) = Some (u64 n)
-thin_number _ = None
-
-abbrev pub thin_string : List ℕ → Bool → Option Tree
-thin_string content true = None
-thin_string content false = option_map text (decoded content)
-
-abbrev pub thin_meaning_of : List ℕ → Kind → Option Tree
-thin_meaning_of buffer token.null = Some null
-thin_meaning_of buffer token.true_literal = Some (bool true)
-thin_meaning_of buffer token.false_literal = Some (bool false)
-thin_meaning_of buffer (token.string start finish has_escapes) = thin_string (slice_range buffer start finish) has_escapes
-thin_meaning_of buffer (token.number start finish hint) = thin_number (numbers.number (slice_range buffer start finish) hint)
-thin_meaning_of buffer token.object_start = None
-thin_meaning_of buffer token.object_end = None
-thin_meaning_of buffer token.array_start = None
-thin_meaning_of buffer token.array_end = None
-thin_meaning_of buffer token.colon = None
-thin_meaning_of buffer token.comma = None
-
--- the same of a thin document
-abbrev pub thin_meaning : List ℕ → Meaning
-thin_meaning buffer t = thin_meaning_of buffer t.kind
 
 -- ---- the tree of a node
 

@@ -1,4 +1,4 @@
--- What a reader of a piece of a thin document says of the piece: what it read, or how it was refused.
+-- What a reader of a piece of a plain document says of the piece: what it read, or how it was refused.
 use Rattle.std.specs.Prelude.{◌≡◌, ◌⊎◌, ℕ, List, Some}
 use Rattle.facet_json_scan.specs.Token.{Token}
 use Rattle.facet_json_scan.specs.Token as token
@@ -6,11 +6,11 @@ use Rattle.facet_json_scan.specs.Gap.{plain}
 use Rattle.facet_json_scan.specs.Tokens.{Tokens, next, tokens_from}
 use Rattle.facet_json_core.specs.Node.{Node, Nodes, Members, SpellsItems, SpellsMembers}
 use Rattle.facet_json_core.specs.Tree.{Tree, Trees, Pairs}
-use Rattle.facet_json_core.specs.Meaning.{Meaning, thin_meaning, trees_of, pairs_of}
+use Rattle.facet_json_core.specs.Meaning.{Meaning, meaning, trees_of, pairs_of}
 use Rattle.facet_json_core.specs.Document.{Reads}
 use Rattle.facet_json_core.specs.Place.{Place, root, after_colon, before_item}
 use Rattle.facet_format.specs.Complaint.{Refusal, no_memory}
-use Rattle.facet_json_core.specs.Refusal.{RefusesFrom, IsStuck, ThinComplains}
+use Rattle.facet_json_core.specs.Refusal.{RefusesFrom, IsStuck, Complains}
 
 -- the plain tokens that are left from a position on
 abbrev pub left : List ℕ → ℕ → Tokens
@@ -40,13 +40,13 @@ pub record ReadsMembers (m : Meaning) (ts : Tokens) (values : Pairs) (last : Tok
 abbrev pub ReadsObject : Meaning → Tokens → Pairs → Tokens → Type 0
 ReadsObject m ts values rest = (last : Token) × ReadsMembers m ts values last rest
 
--- The tokens don't go on at the place, and are refused so.
+-- Memory ran out, or the tokens don't go on at the place and are refused so.
 abbrev pub StopsAt : List ℕ → Place → Tokens → Refusal → Type 0
-StopsAt buffer place ts refusal = IsStuck buffer (thin_meaning buffer) ThinComplains place ts refusal
+StopsAt buffer place ts refusal = (refusal ≡ no_memory) ⊎ IsStuck buffer (meaning buffer) Complains place ts refusal
 
 -- Memory ran out, or a value that may begin at the place is refused so.
 abbrev pub StopsFrom : List ℕ → Place → Tokens → Refusal → Type 0
-StopsFrom buffer place ts refusal = (refusal ≡ no_memory) ⊎ RefusesFrom buffer (thin_meaning buffer) ThinComplains place ts refusal
+StopsFrom buffer place ts refusal = (refusal ≡ no_memory) ⊎ RefusesFrom buffer (meaning buffer) Complains place ts refusal
 
 -- The same, behind a first token of this kind.
 abbrev pub StopsBehind : List ℕ → token.Kind → Tokens → Refusal → Type 0

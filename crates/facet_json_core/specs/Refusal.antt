@@ -1,16 +1,16 @@
 -- Fronts of documents, and how an input without a document is refused: at the first token with which the front can't go on.
-use Rattle.std.specs.Prelude.{◌≡◌, ℕ, Bool, true, false, cond, List, length, Some, None, IsSome, codes}
-use Rattle.facet_format.specs.Span.{Span}
+use Rattle.std.specs.Prelude.{◌≡◌, ◌<◌, ℕ, Bool, true, false, List, length, Some, None, IsSome, codes}
+use Rattle.facet_format.specs.Span.{Span, stop}
 use Rattle.facet_json_scan.specs.Token.{Kind, Token, Fault}
 use Rattle.facet_json_scan.specs.Token as token
-use Rattle.facet_json_scan.specs.Gap.{plain}
+use Rattle.facet_json_scan.specs.Gap.{Mode}
 use Rattle.facet_format.specs.Span.{span_at}
 use Rattle.facet_json_scan.specs.Tokens.{Tokens, ended, refused, next, tokens}
 use Rattle.facet_json_core.specs.Node.{Node, Spells, is_string}
 use Rattle.facet_json_core.specs.Tree.{Tree}
-use Rattle.facet_json_core.specs.Meaning.{Meaning, tree_of, text_of, thin_meaning}
+use Rattle.facet_json_core.specs.Meaning.{Meaning, meaning, tree_of, text_of}
 use Rattle.facet_json_core.specs.Place.{Place, root, before_key, after_key, after_colon, after_member, before_item, after_item, goes_on, expected_at, complaint_at_end, complaint_of_fault, kind_name}
-use Rattle.facet_format.specs.Complaint.{Complaint, unexpected_token, invalid_utf8, invalid_value, Refusal, refusal_at}
+use Rattle.facet_format.specs.Complaint.{Complaint, unexpected_char, unexpected_eof, unexpected_token, invalid_utf8, Refusal, refusal_at}
 
 -- Items, each with its comma, stand in front of the last tokens.
 pub data PassesItems (m : Meaning) : Tokens → Tokens → Type 0 where
@@ -81,24 +81,32 @@ pub record RefusesFrom (buffer : List ℕ) (m : Meaning) (complains : Token → 
   pub begins : Begins m place ts here rest
   pub stuck : IsStuck buffer m complains here rest refusal
 
--- ---- thin documents
+-- ---- how strings and numbers are refused
 
--- a string that holds a backslash, or a number that isn't unsigned or doesn't fit 64 bits
-abbrev pub not_read_yet : Complaint
-not_read_yet = invalid_value (codes "not read yet")
+-- what is wrong with a number that has no value: a question mark
+abbrev pub number_complaint : Complaint
+number_complaint = unexpected_char 0x3f (codes "valid JSON token")
 
--- what is wrong with a string without a meaning
-abbrev pub thin_text_complaint : Bool → Complaint
-thin_text_complaint has_escapes = cond has_escapes not_read_yet invalid_utf8
+-- what may be wrong with a string that holds a backslash: a character or an end within an escape, or bytes that are not UTF-8
+pub data IsTextComplaint : Complaint → Type 0 where
+  at_a_character : (c : ℕ) → IsTextComplaint (unexpected_char c (codes "valid JSON token"))
+  at_an_end : (expected : List ℕ) → IsTextComplaint (unexpected_eof expected)
+  not_utf8 : IsTextComplaint invalid_utf8
 
--- what is wrong with a string or number without a meaning
-abbrev pub thin_complaint : Kind → Complaint
-thin_complaint (token.string start finish has_escapes) = thin_text_complaint has_escapes
-thin_complaint _ = not_read_yet
+-- The bytes lie between the quotes of the string that takes the span.
+abbrev pub IsBetweenQuotes : Span → Span → Type 0
+IsBetweenQuotes string bytes = (string.offset < bytes.offset) × (stop bytes < stop string)
 
-abbrev pub ThinComplains : Token → Refusal → Type 0
-ThinComplains t refusal = refusal ≡ refusal_at (thin_complaint t.kind) t.span
+-- How a token without a meaning is refused: a number as a question mark over all of it, a string without a backslash as bytes that
+-- are not UTF-8 over all of it, and a string with one for some of the bytes between its quotes.
+pub data Complains (t : Token) (refusal : Refusal) : Type 0 where
+  of_number : is_number t.kind ≡ true → refusal ≡ refusal_at number_complaint t.span → Complains t refusal
+  of_plain_string : (start finish : ℕ) → t.kind ≡ token.string start finish false →
+      refusal ≡ refusal_at invalid_utf8 t.span → Complains t refusal
+  of_escaped_string : (start finish : ℕ) (complaint : Complaint) (bytes : Span) →
+      t.kind ≡ token.string start finish true → IsTextComplaint complaint → IsBetweenQuotes t.span bytes →
+      refusal ≡ refusal_at complaint bytes → Complains t refusal
 
--- The input is refused so where only thin documents are read.
-abbrev pub RefusesThin : List ℕ → Refusal → Type 0
-RefusesThin buffer refusal = RefusesFrom buffer (thin_meaning buffer) ThinComplains root (tokens buffer plain) refusal
+-- The input is refused so in the mode.
+abbrev pub Refuses : List ℕ → Mode → Refusal → Type 0
+Refuses buffer mode refusal = RefusesFrom buffer (meaning buffer) Complains root (tokens buffer mode) refusal

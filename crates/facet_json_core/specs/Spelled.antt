@@ -7,7 +7,7 @@ use Rattle.facet_json_scan.specs.Token as token
 use Rattle.facet_json_scan.specs.Tokens.{Tokens, ended, refused, next, tokens}
 use Rattle.facet_json_core.specs.Node.{Node, scalar, array, object, Nodes, no_nodes, item, Members, no_members, member}
 use Rattle.facet_json_core.specs.Tree.{Tree}
-use Rattle.facet_json_core.specs.Meaning.{Meaning, meaning, thin_meaning, tree_of}
+use Rattle.facet_json_core.specs.Meaning.{Meaning, meaning, tree_of}
 
 -- a value at the front of the tokens, and what follows it
 abbrev pub ValueReader : Type 0
@@ -129,10 +129,6 @@ read_by m ts = option_and_then (λ r. option_map (λ value. (r.0, value)) (tree_
 -- the document of the input, with its tree
 abbrev pub document : List ℕ → Mode → Option (Node × Tree)
 document buffer mode = read_by (meaning buffer) (tokens buffer mode)
-
--- the thin document of the input, with its tree
-abbrev pub thin_document : List ℕ → Option (Node × Tree)
-thin_document buffer = read_by (thin_meaning buffer) (tokens buffer plain)
 
 -- the value, where no token and no fault follows it
 abbrev pub if_ended : Node → Tokens → Option Node

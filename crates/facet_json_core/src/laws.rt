@@ -5,5 +5,5 @@ mod documents;
 
 pub use documents::{
     document_is_found, one_document, one_spelling, plain_is_jsonc, refused_has_none,
-    spelled_is_spells, thin_document_is_found, whole_document_is_found,
+    spelled_is_spells, whole_document_is_found,
 };

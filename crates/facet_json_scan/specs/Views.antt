@@ -9,6 +9,8 @@ use Rattle.facet_json_scan.specs.declared.token.SpannedToken.{SpannedToken}
 use Rattle.facet_json_scan.specs.declared.token.ScanErrorKind.{ScanErrorKind}
 use Rattle.facet_json_scan.specs.declared.token.ScanErrorKind.TheVariants as scan
 use Rattle.facet_json_scan.specs.declared.token.ScanError.{ScanError}
+use Rattle.facet_json_scan.specs.declared.decode.DecodeError.{DecodeError}
+use Rattle.facet_json_scan.specs.declared.decode.DecodeError.TheVariants as decode
 use Rattle.facet_format.specs.Span.{Span}
 use Rattle.facet_format.specs.Complaint.{Complaint, Refusal}
 use Rattle.facet_format.specs.Complaint as complaint
@@ -65,3 +67,8 @@ scan_complaint scan.InvalidUtf8 = complaint.invalid_utf8
 
 abbrev pub scan_refusal : ScanError → Refusal
 scan_refusal e = complaint.refusal_at (scan_complaint e.kind) (span_of e.span)
+
+-- how a refused decode is passed on
+abbrev pub decode_refusal : DecodeError → Refusal
+decode_refusal (decode.Scan e) = scan_refusal e
+decode_refusal decode.OutOfMemory = complaint.no_memory

@@ -17,7 +17,7 @@ pub use decode::{
 };
 pub use facet_format::numeral::NumberHint;
 pub use mode::Mode;
-pub use number::{ParsedNumber, parse_number, parse_number_unchecked, parse_unsigned};
+pub use number::{ParsedNumber, parse_number, parse_number_unchecked};
 pub use plain_cut::cut;
 pub use scanner::Scanner;
 pub use token::{ScanError, ScanErrorKind, ScanResult, SpannedToken, Token};

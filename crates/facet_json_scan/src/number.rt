@@ -143,7 +143,7 @@ fn negative_wide(digits: &[u8]) -> Option<i128>
 }
 
 /// The value of decimal digits, or `None` where it is 2^64 or more.
-pub fn parse_unsigned(digits: &[u8]) -> Option<u64>
+pub(crate) fn parse_unsigned(digits: &[u8]) -> Option<u64>
     requires { AreDigits digits.now }
     ensures { MatchOption result
         (2 ^ 64 ≤ digits_value 0 digits.now)

@@ -2,8 +2,9 @@
 
 ghost use Rattle.std.specs.Prelude.{◌≡◌};
 ghost use Rattle.facet_format.specs.Views.{refusal_of};
-ghost use Rattle.facet_json_scan.specs.Views.{scan_refusal};
+ghost use Rattle.facet_json_scan.specs.Views.{scan_refusal, decode_refusal};
 
+use crate::decode::DecodeError;
 use crate::token::{ScanError, ScanErrorKind};
 use facet_format::{DeserializeError, DeserializeErrorKind};
 
@@ -24,6 +25,17 @@ impl From<ScanError> for DeserializeError<'_> {
         DeserializeError {
             kind,
             span: Some(error.span),
+        }
+    }
+}
+
+impl From<DecodeError> for DeserializeError<'_> {
+    ghost from_gives = { λ decode e. refusal_of e ≡ decode_refusal decode };
+
+    fn from(error: DecodeError) -> Self {
+        match error {
+            DecodeError::Scan(error) => DeserializeError::from(error),
+            DecodeError::OutOfMemory => DeserializeError::out_of_memory(),
         }
     }
 }

@@ -4,11 +4,12 @@ use Rattle.std.specs.Option.{option_map}
 use Rattle.std.specs.declared.string.String.{String}
 use Rattle.std.specs.declared.alloc.Global.{Global}
 use Rattle.facet_format.specs.declared.span.Span.{Span}
+use Rattle.facet_json_scan.specs.Gap.{plain}
 use Rattle.facet_json_core.specs.Node.{Node}
 use Rattle.facet_json_core.specs.Tree.{Tree}
-use Rattle.facet_json_core.specs.Document.{IsThinDocument}
+use Rattle.facet_json_core.specs.Document.{IsDocument}
 use Rattle.facet_format.specs.Complaint.{Refusal, code_of}
-use Rattle.facet_json_core.specs.Refusal.{RefusesThin}
+use Rattle.facet_json_core.specs.Refusal.{Refuses}
 use Rattle.facet_json.specs.Text.{default_options, text}
 use Rattle.facet_format.specs.Views.{span_of}
 use Rattle.facet_json_tool.specs.declared.run.Outcome.{Outcome}
@@ -19,13 +20,13 @@ abbrev pub AsksToFormat : List (String Global) → Type 0
 AsksToFormat args = map string_bytes args ≡ codes "fmt" ∷ []
 
 abbrev pub HasDocument : List ℕ → Type 0
-HasDocument input = (root : Node) × (value : Tree) × IsThinDocument input root value
+HasDocument input = (root : Node) × (value : Tree) × IsDocument input plain root value
 
 -- This is the compact text of the tree of the document that the input has.
 pub record IsReformatted (input output : List ℕ) : Type 0 where
   pub root : Node
   pub value : Tree
-  pub document : IsThinDocument input root value
+  pub document : IsDocument input plain root value
   pub written : output ≡ text default_options 0 value
 
 -- A growth was refused: code 9, and no place in the input.
@@ -35,7 +36,7 @@ IsOutOfMemory code span = (code ≡ 9) × (span ≡ None)
 -- The input is refused so, and with this code and these bytes.
 pub record IsRefusedSo (input : List ℕ) (code : ℕ) (span : Option Span) : Type 0 where
   pub refusal : Refusal
-  pub refuses : RefusesThin input refusal
+  pub refuses : Refuses input plain refusal
   pub has_code : code ≡ code_of refusal.complaint
   pub has_span : option_map span_of span ≡ refusal.span
 

@@ -1,6 +1,6 @@
 //! Trees and refusals of small inputs.
 
-use crate::{DeserializeError, DeserializeErrorKind, Span, Tree, from_slice};
+use crate::{Decimal, DeserializeError, DeserializeErrorKind, Span, Tree, from_slice};
 use std::alloc::{AllocError, Global};
 use std::process::Abort;
 use std::test::Fail;
@@ -59,9 +59,15 @@ fn misplaced<'t>(got: &'t str, expected: &'t str, offset: usize) -> DeserializeE
     misplaced_word(got, expected, offset, 1)
 }
 
-fn not_read_yet(offset: usize, len: usize) -> DeserializeError<'static> {
-    let message = "not read yet";
-    refused(DeserializeErrorKind::InvalidValue { message }, offset, len)
+/// Bytes that are no number, or no hexadecimal digits.
+fn no_number(offset: usize, len: usize) -> DeserializeError<'static> {
+    let expected = "valid JSON token";
+    let kind = DeserializeErrorKind::UnexpectedChar { ch: '?', expected };
+    refused(kind, offset, len)
+}
+
+fn not_utf8(offset: usize, len: usize) -> DeserializeError<'static> {
+    refused(DeserializeErrorKind::InvalidUtf8, offset, len)
 }
 
 fn expect_refusal(rt: &impl Abort, alloc: Global, input: &[u8], want: DeserializeError<'_>) {
@@ -84,13 +90,84 @@ fn scalars_are_read(rt: HostRuntime) -> Result<(), Fail> {
             "18446744073709551615",
             Tree::U64(18_446_744_073_709_551_615),
         ),
-        ("\"\"", text(alloc, "")?),
-        ("\"中文\"", text(alloc, "中文")?),
+        ("-0", Tree::I64(0)),
+        ("-007", Tree::I64(-7)),
+        (
+            "-9223372036854775808",
+            Tree::I64(-9_223_372_036_854_775_808),
+        ),
         ("[]", Tree::List(Vec::new(alloc))),
         (" { } ", Tree::Pairs(Vec::new(alloc))),
     ] {
         assert_eq!(rt; from_slice(alloc, input.as_bytes()), Ok(want), "{input}");
     }
+    Ok(())
+}
+
+/// A number is read as the text of its digits.
+fn is_text(alloc: Global, input: &str, digits: &str) -> Result<bool, AllocError> {
+    Ok(from_slice(alloc, input.as_bytes()) == Ok(text(alloc, digits)?))
+}
+
+#[test]
+fn numbers_past_64_bits_are_texts(rt: HostRuntime) -> Result<(), Fail> {
+    let alloc = rt.alloc();
+    for digits in [
+        "18446744073709551616",
+        "340282366920938463463374607431768211455",
+        "-9223372036854775809",
+        "-170141183460469231731687303715884105728",
+    ] {
+        assert!(rt; is_text(alloc, digits, digits)?, "{digits}");
+    }
+    for (input, digits) in [
+        ("00018446744073709551616", "18446744073709551616"),
+        ("-009223372036854775809", "-9223372036854775809"),
+    ] {
+        assert!(rt; is_text(alloc, input, digits)?, "{input}");
+    }
+    Ok(())
+}
+
+#[test]
+fn decimals_are_read(rt: HostRuntime) -> Result<(), Fail> {
+    let alloc = rt.alloc();
+    for number in ["1.", "-.5", "1.e5", "5e-05", "-0.0", "007.50", "1E+3"] {
+        let want = Decimal::new(number).map(Tree::Decimal);
+        assert!(rt; want.is_some(), "{number}");
+        assert_eq!(rt; from_slice(alloc, number.as_bytes()).ok(), want, "{number}");
+    }
+    Ok(())
+}
+
+#[test]
+fn texts_are_read(rt: HostRuntime) -> Result<(), Fail> {
+    let alloc = rt.alloc();
+    for (input, want) in [
+        ("\"\"", ""),
+        ("\"中文\"", "中文"),
+        ("\"\u{1}\n\"", "\u{1}\n"),
+        ("\"\\q\"", "q"),
+        ("\"\\\"\\\\\\/\\b\\f\\n\\r\\t\"", "\"\\/\u{8}\u{c}\n\r\t"),
+        ("\"\\u0048\\u0065\\u006C\\u006C\\u006F\"", "Hello"),
+        ("\"\\uD83D\\uDE00\"", "😀"),
+        ("\"é\\u00e9é\"", "ééé"),
+    ] {
+        let got = from_slice(alloc, input.as_bytes());
+        assert_eq!(rt; got, Ok(text(alloc, want)?), "{input}");
+    }
+    Ok(())
+}
+
+#[test]
+fn keys_are_decoded(rt: HostRuntime) -> Result<(), Fail> {
+    let alloc = rt.alloc();
+    let members = vec![in alloc;
+        member(alloc, "aq", Tree::I64(-1))?,
+        member(alloc, "aq", Tree::Null)?,
+    ]?;
+    let got = from_slice(alloc, b"{\"\\u0061\\q\":-1,\"aq\":null}");
+    assert_eq!(rt; got, Ok(Tree::Pairs(members)));
     Ok(())
 }
 
@@ -142,6 +219,7 @@ fn no_key_stands(rt: HostRuntime) {
     for (input, want) in [
         ("{", ended("field name or '}'", 1)),
         ("{1}", misplaced("U64", "field name or '}'", 1)),
+        ("{1.5", misplaced_word("Decimal", "field name or '}'", 1, 3)),
         ("{,}", misplaced("Comma", "field name or '}'", 1)),
         ("{:", misplaced("Colon", "field name or '}'", 1)),
         ("{]", misplaced("ArrayEnd", "field name or '}'", 1)),
@@ -219,6 +297,17 @@ fn nothing_follows_an_item(rt: HostRuntime) {
         ("[1 true", misplaced_word("True", "',' or ']'", 3, 4)),
         ("[1 false", misplaced_word("False", "',' or ']'", 3, 5)),
         ("[1 \"a\"", misplaced_word("String", "',' or ']'", 3, 3)),
+        ("[1 \"\\q\"", misplaced_word("String", "',' or ']'", 3, 4)),
+        ("[1 -1", misplaced_word("I64", "',' or ']'", 3, 2)),
+        ("[1 1e5", misplaced_word("Decimal", "',' or ']'", 3, 3)),
+        (
+            "[1 18446744073709551616",
+            misplaced_word("U128", "',' or ']'", 3, 20),
+        ),
+        (
+            "[1 -9223372036854775809",
+            misplaced_word("I128", "',' or ']'", 3, 20),
+        ),
     ] {
         expect_refusal(&rt, alloc, input.as_bytes(), want);
     }
@@ -235,25 +324,66 @@ fn no_token_stands(rt: HostRuntime) {
         ("\"", ended_inside("in string", 0, 1)),
         ("tru", ended_inside("in literal", 0, 3)),
         ("[-", ended_inside("in number", 1, 1)),
+        ("-x", unexpected('x', 0)),
+        ("[truex]", unexpected('x', 5)),
+        ("trux", unexpected('x', 3)),
     ] {
         expect_refusal(&rt, alloc, input.as_bytes(), want);
     }
 }
 
 #[test]
-fn no_thin_token_stands(rt: HostRuntime) {
+fn numbers_without_a_value(rt: HostRuntime) {
     let alloc = rt.alloc();
-    let invalid_utf8 = DeserializeErrorKind::InvalidUtf8;
     for (input, want) in [
-        (b"[\"\\q\"]".as_slice(), not_read_yet(1, 4)),
-        (b"18446744073709551616".as_slice(), not_read_yet(0, 20)),
-        (b"-1".as_slice(), not_read_yet(0, 2)),
-        (b"1.5".as_slice(), not_read_yet(0, 3)),
-        (b"[\"a\" \"\\q\"]".as_slice(), not_read_yet(5, 4)),
-        (b"[1 -1]".as_slice(), not_read_yet(3, 2)),
-        (b"{1.5".as_slice(), not_read_yet(1, 3)),
-        (b"\"\xff\"".as_slice(), refused(invalid_utf8, 0, 3)),
-        (b"{\"\xff\":1}".as_slice(), refused(invalid_utf8, 1, 3)),
+        ("1e", no_number(0, 2)),
+        ("[1 1e]", no_number(3, 2)),
+        ("{-.", no_number(1, 2)),
+        ("-e1", no_number(0, 3)),
+        ("340282366920938463463374607431768211456", no_number(0, 39)),
+        ("-170141183460469231731687303715884105729", no_number(0, 40)),
+    ] {
+        expect_refusal(&rt, alloc, input.as_bytes(), want);
+    }
+}
+
+#[test]
+fn strings_without_a_text(rt: HostRuntime) {
+    let alloc = rt.alloc();
+    for (input, want) in [
+        (
+            b"\"\\u12\"".as_slice(),
+            ended_inside("in unicode escape", 1, 4),
+        ),
+        (b"\"\\u+123\"".as_slice(), no_number(3, 4)),
+        (b"\"\\ud800\"".as_slice(), not_utf8(1, 6)),
+        (b"\"\\ud800\\u00\"".as_slice(), not_utf8(1, 6)),
+        (b"\"\\ud800\\u+123\"".as_slice(), no_number(9, 4)),
+        (b"\"\\ud800\\u0041\"".as_slice(), not_utf8(9, 4)),
+        (b"\"\\udc00\"".as_slice(), not_utf8(3, 4)),
+        (b"\"\\\xc3\xa9\"".as_slice(), not_utf8(2, 1)),
+        (b"\"\\n\xff\"".as_slice(), not_utf8(3, 1)),
+        (b"\"\\n\xc3\"".as_slice(), not_utf8(3, 1)),
+        (b"\"\xff\"".as_slice(), not_utf8(0, 3)),
+        (b"\"a\xc3\"".as_slice(), not_utf8(0, 4)),
+        (b"\"\xed\xa0\x80\"".as_slice(), not_utf8(0, 5)),
+    ] {
+        expect_refusal(&rt, alloc, input, want);
+    }
+}
+
+#[test]
+fn texts_are_judged_before_their_place(rt: HostRuntime) {
+    let alloc = rt.alloc();
+    for (input, want) in [
+        (b"{\"\xff\":1}".as_slice(), not_utf8(1, 3)),
+        (b"{\"\\udc00\":1}".as_slice(), not_utf8(4, 4)),
+        (b"[1 \"\xff\"]".as_slice(), not_utf8(3, 3)),
+        (b"{\"a\" \"\xff\"}".as_slice(), not_utf8(5, 3)),
+        (
+            b"{\"k\":{\"x\":\"\\ud800\"},\"z\":2}".as_slice(),
+            not_utf8(11, 6),
+        ),
     ] {
         expect_refusal(&rt, alloc, input, want);
     }

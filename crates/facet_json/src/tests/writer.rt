@@ -1,6 +1,6 @@
 //! Trees as text, and their equality.
 
-use crate::{JsonSerializeError, Tree, to_vec};
+use crate::{Decimal, JsonSerializeError, Tree, to_vec};
 use std::alloc::{AllocError, Global};
 use std::test::Fail;
 
@@ -42,6 +42,30 @@ fn trees_are_written(rt: HostRuntime) -> Result<(), Fail> {
 }
 
 #[test]
+fn signed_numbers_and_decimals_are_written(rt: HostRuntime) -> Result<(), Fail> {
+    let alloc = rt.alloc();
+    for (number, want) in [
+        (-1, "-1"),
+        (0, "0"),
+        (-9_223_372_036_854_775_808, "-9223372036854775808"),
+        (9_223_372_036_854_775_807, "9223372036854775807"),
+    ] {
+        let tree = Tree::I64(number);
+        assert_eq!(rt; to_vec(alloc, &tree)?.as_slice(), want.as_bytes(), "{want}");
+    }
+    for number in ["1.", "-.5", "5e-05", "0.0"] {
+        match Decimal::new(number) {
+            Some(decimal) => {
+                let written = to_vec(alloc, &Tree::Decimal(decimal))?;
+                assert_eq!(rt; written.as_slice(), number.as_bytes(), "{number}");
+            }
+            None => assert!(rt; false, "{number}"),
+        }
+    }
+    Ok(())
+}
+
+#[test]
 fn texts_are_written(rt: HostRuntime) -> Result<(), Fail> {
     let alloc = rt.alloc();
     for (content, want) in [
@@ -68,6 +92,9 @@ fn equal_trees(rt: HostRuntime) -> Result<(), Fail> {
         (Tree::Null, Tree::Bool(false), false),
         (Tree::U64(1), Tree::U64(1), true),
         (Tree::U64(1), Tree::U64(2), false),
+        (Tree::I64(-1), Tree::I64(-1), true),
+        (Tree::I64(-1), Tree::I64(1), false),
+        (Tree::I64(1), Tree::U64(1), false),
         (text(alloc, "a")?, text(alloc, "a")?, true),
         (text(alloc, "a")?, text(alloc, "b")?, false),
         (
@@ -99,6 +126,14 @@ fn equal_trees(rt: HostRuntime) -> Result<(), Fail> {
         assert_eq!(rt; a == b, want, "{a:?} and {b:?}");
     }
     Ok(())
+}
+
+#[test]
+fn equal_decimals(rt: HostRuntime) {
+    let decimal = |number| Decimal::new(number).map(Tree::Decimal);
+    assert!(rt; decimal("1.0") == decimal("1.0"));
+    assert!(rt; decimal("1.0") != decimal("1.00"));
+    assert!(rt; decimal("1.0") != Some(Tree::U64(1)));
 }
 
 #[test]

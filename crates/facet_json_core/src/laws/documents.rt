@@ -1,6 +1,6 @@
 //! Laws about documents: which tokens spell a value, and which value.
 
-ghost use Rattle.facet_json_core.specs.Laws.{DocumentIsFound, OneDocument, OneSpelling, PlainIsJsonc, RefusedHasNone, SpelledIsSpells, ThinDocumentIsFound, WholeDocumentIsFound};
+ghost use Rattle.facet_json_core.specs.Laws.{DocumentIsFound, OneDocument, OneSpelling, PlainIsJsonc, RefusedHasNone, SpelledIsSpells, WholeDocumentIsFound};
 
 /// Tokens spell at most one value, and no spelling is a proper front of another's.
 pub fn one_spelling()
@@ -12,7 +12,7 @@ pub fn one_document()
     ensures { OneDocument }
 {}
 
-/// An input that is refused where thin documents are read has no thin document.
+/// An input that is refused has no document, in either mode.
 pub fn refused_has_none()
     ensures { RefusedHasNone }
 {}
@@ -35,9 +35,4 @@ pub fn document_is_found()
 /// What is computed as the whole document of a text is the one plain document that all of it is.
 pub fn whole_document_is_found()
     ensures { WholeDocumentIsFound }
-{}
-
-/// The thin document that is computed from an input is its one thin document.
-pub fn thin_document_is_found()
-    ensures { ThinDocumentIsFound }
 {}

@@ -1,4 +1,5 @@
-use Rattle.std.proofs.Common.{◌≡◌, ◌+◌, true, false, List, [], ◌∷◌, ◌++◌, Result, drop, string_bytes, ℕ, sym, ap, ◌∙◌, subst, arith, rules}
+use Rattle.std.proofs.Common.{◌≡◌, ◌+◌, true, false, List, [], ◌∷◌, ◌++◌, Result, drop, string_bytes, ℕ, sym, ap, ◌∙◌, subst, arith, rules, w64, SFits}
+use Rattle.std.proofs.lemmas.Int.{to_z-of_z}
 use Rattle.std.proofs.lemmas.List.{append_assoc, drop_all}
 use Rattle.std.specs.Result.{OnOk}
 use Rattle.facet_format.specs.Bytes.{colon, left_bracket, right_bracket, left_brace, right_brace}
@@ -7,7 +8,7 @@ use Rattle.facet_json.specs.Text.{separator, text}
 use Rattle.facet_json_core.specs.Tree.{bool, list, pairs}
 use Rattle.facet_json.specs.Views.{tree_view, trees_view, pairs_view}
 use Rattle.facet_json.proofs.CompactText.{compact, compact_items, compact_members, items_text-step, items_text-end, members_text-step, members_text-end}
-use Rattle.facet_json.proofs.TreeViews.{tree_view-Null, tree_view-Bool, tree_view-U64, tree_view-Text, tree_view-List, tree_view-Pairs, trees_view-drop, pairs_view-drop}
+use Rattle.facet_json.proofs.TreeViews.{tree_view-Null, tree_view-Bool, tree_view-I64, tree_view-U64, tree_view-Decimal, tree_view-Text, tree_view-List, tree_view-Pairs, trees_view-drop, pairs_view-drop}
 use Rattle.facet_json.proofs.writer.+write.Goals as goal
 
 -- what was put out is also another text that is equal to it
@@ -37,6 +38,19 @@ pub push_tree-returns-in-U64 : goal.push_tree-returns-in-U64
 unfolding text
 push_tree-returns-in-U64 t c =
     put _ _ _ _ _ (ap compact (ap tree_view c.in-U64.is ∙ tree_view-U64 _)) c.push_number.ensures
+
+pub push_tree-returns-in-I64 : goal.push_tree-returns-in-I64
+unfolding text
+push_tree-returns-in-I64 t c =
+    let fits : SFits w64 c.in-I64.n = search rules in
+    let sent = rw (to_z-of_z w64 c.in-I64.n fits) at c.push_signed.ensures in
+    put _ _ _ _ _ (ap compact (ap tree_view c.in-I64.is ∙ tree_view-I64 _)) sent
+
+pub push_tree-returns-in-Decimal : goal.push_tree-returns-in-Decimal
+unfolding text
+push_tree-returns-in-Decimal t c =
+    let seen = ap compact (ap tree_view c.in-Decimal.is ∙ tree_view-Decimal _) in
+    search rules
 
 pub push_tree-returns-in-Text : goal.push_tree-returns-in-Text
 unfolding text

@@ -1,11 +1,15 @@
-use Rattle.std.proofs.Common.{◌∙◌, refl, ap, length, arith}
+use Rattle.std.proofs.Common.{◌∙◌, refl, ap, length, arith, rules, w64, SFits}
+use Rattle.std.specs.Int.{w128}
+use Rattle.std.proofs.lemmas.Int.{to_z-of_z}
+use Rattle.std.specs.Cow.{cow_str_bytes}
 use Rattle.std.proofs.lemmas.List.{map-append}
 use Rattle.std.proofs.lemmas.Result.{err_from_is_err_and}
 use Rattle.facet_json.specs.declared.materialized.TokenKind.TheVariants as kinds
+use Rattle.facet_format.specs.Number as numbers
 use Rattle.facet_json_core.specs.Place.{before_key, after_colon, after_member, before_item, after_item}
 use Rattle.facet_json_core.specs.Reading.{of_list, behind_colon}
 use Rattle.facet_json.specs.Views.{place_of}
-use Rattle.facet_json.proofs.TreeViews.{tree_view-Null, tree_view-Bool, tree_view-U64, tree_view-Text, tree_view-List, tree_view-Pairs}
+use Rattle.facet_json.proofs.TreeViews.{tree_view-Null, tree_view-Bool, tree_view-I64, tree_view-U64, tree_view-Decimal, tree_view-Text, tree_view-List, tree_view-Pairs}
 use Rattle.facet_json.proofs.Fronts.{none_read, paired-none}
 use Rattle.facet_json.proofs.Fronts as fronts
 use Rattle.facet_json.proofs.Misplaced.{stops_misplaced, after_item-stays, after_member-stays, before_key-stays, begins_none, value-stays}
@@ -142,7 +146,7 @@ pairs-returns-in_err-colon-clause-refused t c =
     let f = rw i.same at c.in_ok-key.ensures.read in
     let a = first_as _ _ _ _ (kinds.String c.in-String.text) f c.in-String.is in
     let s = rw e at c.in_err-colon.ensures.refused in
-    rw (p.1, p.2) (stops_at_colon _ _ _ _ _ c.in-String.text.now _ i.read (key_read _ _ _ _ a.first a.is_first a.read.0 a.read.1) s)
+    rw (p.1, p.2) (stops_at_colon _ _ _ _ _ (cow_str_bytes c.in-String.text) _ i.read (key_read _ _ _ _ a.first a.is_first a.read.0 a.read.1) s)
 
 pub pairs-returns-in_err-first-clause-refused : goal.pairs-returns-in_err-first-clause-refused
 pairs-returns-in_err-first-clause-refused t c =
@@ -152,7 +156,7 @@ pairs-returns-in_err-first-clause-refused t c =
     let a = first_as _ _ _ _ (kinds.String c.in-String.text) f c.in-String.is in
     let o = rw e at c.in_ok-colon.ensures.colon in
     let g = c.colon.ensures.same ∙ e in
-    let k = key_and_colon _ _ _ _ _ _ c.in-String.text.now i.read (key_read _ _ _ _ a.first a.is_first a.read.0 a.read.1) o in
+    let k = key_and_colon _ _ _ _ _ _ (cow_str_bytes c.in-String.text) i.read (key_read _ _ _ _ a.first a.is_first a.read.0 a.read.1) o in
     let p = err_from_is_err_and c.from_residual-in_err-first.result c.from_residual-in_err-first.ensures.1 in
     let s = rw g at c.in_err-first.ensures.refused in
     rw (p.1, p.2) (stops_in_member _ _ _ _ _ _ k (stops_first _ after_colon _ _ s))
@@ -171,7 +175,7 @@ pairs-returns-in_err-value-clause-refused t c =
     let a = first_as _ _ _ _ (kinds.String c.in-String.text) f c.in-String.is in
     let o = rw e at c.in_ok-colon.ensures.colon in
     let g = c.colon.ensures.same ∙ e in
-    let k = key_and_colon _ _ _ _ _ _ c.in-String.text.now i.read (key_read _ _ _ _ a.first a.is_first a.read.0 a.read.1) o in
+    let k = key_and_colon _ _ _ _ _ _ (cow_str_bytes c.in-String.text) i.read (key_read _ _ _ _ a.first a.is_first a.read.0 a.read.1) o in
     let n = rw g at c.in_ok-first.ensures.read in
     let h = c.next-in-loop-pairs.ensures.same ∙ g in
     let p = err_from_is_err_and c.from_residual-in_err-value.result c.from_residual-in_err-value.ensures.1 in
@@ -186,7 +190,7 @@ pairs-returns-in_err-token-clause-refused t c =
     let a = first_as _ _ _ _ (kinds.String c.in-String.text) f c.in-String.is in
     let o = rw e at c.in_ok-colon.ensures.colon in
     let g = c.colon.ensures.same ∙ e in
-    let k = key_and_colon _ _ _ _ _ _ c.in-String.text.now i.read (key_read _ _ _ _ a.first a.is_first a.read.0 a.read.1) o in
+    let k = key_and_colon _ _ _ _ _ _ (cow_str_bytes c.in-String.text) i.read (key_read _ _ _ _ a.first a.is_first a.read.0 a.read.1) o in
     let n = rw g at c.in_ok-first.ensures.read in
     let h = c.next-in-loop-pairs.ensures.same ∙ g in
     let v = rw h at c.in_ok-value.ensures.value in
@@ -203,7 +207,7 @@ pairs-loop-pairs-preserved t c =
     let a = first_as _ _ _ _ (kinds.String c.in-String.text) f c.in-String.is in
     let o = rw e at c.in_ok-colon.ensures.colon in
     let g = c.colon.ensures.same ∙ e in
-    let k = key_and_colon _ _ _ _ _ _ c.in-String.text.now i.read (key_read _ _ _ _ a.first a.is_first a.read.0 a.read.1) o in
+    let k = key_and_colon _ _ _ _ _ _ (cow_str_bytes c.in-String.text) i.read (key_read _ _ _ _ a.first a.is_first a.read.0 a.read.1) o in
     let n = rw g at c.in_ok-first.ensures.read in
     let h = c.next-in-loop-pairs.ensures.same ∙ g in
     let v = rw h at c.in_ok-value.ensures.value in
@@ -212,7 +216,7 @@ pairs-loop-pairs-preserved t c =
     record {
       same = c.next-in-loop-pairs-2.ensures.same ∙ l;
       forward = omega (arith, c.next-in-loop-pairs-2.ensures.forward, c.value.ensures.forward, c.next-in-loop-pairs.ensures.forward, c.colon.ensures.forward, c.next.ensures.forward, i.forward);
-      read = rw (c.in_ok-push.ensures.items, map-append, c.in_ok-name-in-String.ensures.ok) (member_and_comma _ _ _ _ _ _ _ _ k (v _ n) (first_as _ _ _ _ kinds.Comma m c.in-Comma.is));
+      read = rw (c.in_ok-push.ensures.items, map-append, c.in_ok-name-in-String.ensures.ok, c.in-String.is) (member_and_comma _ _ _ _ _ _ _ _ k (v _ n) (first_as _ _ _ _ kinds.Comma m c.in-Comma.is));
     }
 
 pub pairs-returns-in-ObjectEnd-kind-clause-members : goal.pairs-returns-in-ObjectEnd-kind-clause-members
@@ -223,13 +227,13 @@ pairs-returns-in-ObjectEnd-kind-clause-members t c =
     let a = first_as _ _ _ _ (kinds.String c.in-String.text) f c.in-String.is in
     let o = rw e at c.in_ok-colon.ensures.colon in
     let g = c.colon.ensures.same ∙ e in
-    let k = key_and_colon _ _ _ _ _ _ c.in-String.text.now i.read (key_read _ _ _ _ a.first a.is_first a.read.0 a.read.1) o in
+    let k = key_and_colon _ _ _ _ _ _ (cow_str_bytes c.in-String.text) i.read (key_read _ _ _ _ a.first a.is_first a.read.0 a.read.1) o in
     let n = rw g at c.in_ok-first.ensures.read in
     let h = c.next-in-loop-pairs.ensures.same ∙ g in
     let v = rw h at c.in_ok-value.ensures.value in
     let l = c.value.ensures.same ∙ h in
     let m = rw l at c.in_ok-token.ensures.read in
-    rw (c.in_ok-push.ensures.items, ← paired-none _, map-append, c.in_ok-name-in-String.ensures.ok) (member_closed _ _ _ _ _ _ _ _ k (v _ n) (first_as _ _ _ _ kinds.ObjectEnd m c.in-ObjectEnd-kind.is))
+    rw (c.in_ok-push.ensures.items, ← paired-none _, map-append, c.in_ok-name-in-String.ensures.ok, c.in-String.is) (member_closed _ _ _ _ _ _ _ _ k (v _ n) (first_as _ _ _ _ kinds.ObjectEnd m c.in-ObjectEnd-kind.is))
 
 pub pairs-returns-in_default-kind : goal.pairs-returns-in_default-kind
 pairs-returns-in_default-kind t c =
@@ -239,7 +243,7 @@ pairs-returns-in_default-kind t c =
     let a = first_as _ _ _ _ (kinds.String c.in-String.text) f c.in-String.is in
     let o = rw e at c.in_ok-colon.ensures.colon in
     let g = c.colon.ensures.same ∙ e in
-    let k = key_and_colon _ _ _ _ _ _ c.in-String.text.now i.read (key_read _ _ _ _ a.first a.is_first a.read.0 a.read.1) o in
+    let k = key_and_colon _ _ _ _ _ _ (cow_str_bytes c.in-String.text) i.read (key_read _ _ _ _ a.first a.is_first a.read.0 a.read.1) o in
     let n = rw g at c.in_ok-first.ensures.read in
     let h = c.next-in-loop-pairs.ensures.same ∙ g in
     let v = rw h at c.in_ok-value.ensures.value in
@@ -264,13 +268,42 @@ pub value-returns-in-False-clause-value : goal.value-returns-in-False-clause-val
 value-returns-in-False-clause-value t c = λ ts f. rw tree_view-Bool (false_read _ ts _ (first_as _ _ _ _ kinds.False f c.in-False.is))
 
 pub value-returns-in-U64-clause-value : goal.value-returns-in-U64-clause-value
-value-returns-in-U64-clause-value t c = λ ts f. rw tree_view-U64 (number_read _ c.in-U64.n ts _ (first_as _ _ _ _ (kinds.U64 c.in-U64.n) f c.in-U64.is))
+value-returns-in-U64-clause-value t c =
+    λ ts f.
+    let a = first_as _ _ _ _ (kinds.U64 c.in-U64.n) f c.in-U64.is in
+    rw tree_view-U64 (number_read _ (numbers.u64 c.in-U64.n) ts _ a.first a.is_first a.read)
 
-pub value-returns-in_ok-from_str-in-String-clause-value : goal.value-returns-in_ok-from_str-in-String-clause-value
-value-returns-in_ok-from_str-in-String-clause-value t c =
+pub value-returns-in-I64-clause-value : goal.value-returns-in-I64-clause-value
+value-returns-in-I64-clause-value t c =
+    λ ts f.
+    let a = first_as _ _ _ _ (kinds.I64 c.in-I64.n) f c.in-I64.is in
+    let fits : SFits w64 c.in-I64.n = search rules in
+    rw (tree_view-I64, to_z-of_z w64 c.in-I64.n fits) (number_read _ (numbers.i64 c.in-I64.n) ts _ a.first a.is_first a.read)
+
+pub value-returns-in_ok-digits-in-U128-clause-value : goal.value-returns-in_ok-digits-in-U128-clause-value
+value-returns-in_ok-digits-in-U128-clause-value t c =
+    λ ts f.
+    let a = first_as _ _ _ _ (kinds.U128 c.in-U128.n) f c.in-U128.is in
+    rw (tree_view-Text, c.in_ok-digits-in-U128.ensures.text) (number_read _ (numbers.u128 c.in-U128.n) ts _ a.first a.is_first a.read)
+
+pub value-returns-in_ok-signed_digits-in-I128-clause-value : goal.value-returns-in_ok-signed_digits-in-I128-clause-value
+value-returns-in_ok-signed_digits-in-I128-clause-value t c =
+    λ ts f.
+    let a = first_as _ _ _ _ (kinds.I128 c.in-I128.n) f c.in-I128.is in
+    let fits : SFits w128 c.in-I128.n = search rules in
+    rw (tree_view-Text, c.in_ok-signed_digits-in-I128.ensures.text, to_z-of_z w128 c.in-I128.n fits) (number_read _ (numbers.i128 c.in-I128.n) ts _ a.first a.is_first a.read)
+
+pub value-returns-in_ok-owned-in-Decimal-clause-value : goal.value-returns-in_ok-owned-in-Decimal-clause-value
+value-returns-in_ok-owned-in-Decimal-clause-value t c =
+    λ ts f.
+    let a = first_as _ _ _ _ (kinds.Decimal c.in-Decimal.decimal) f c.in-Decimal.is in
+    rw (tree_view-Decimal, c.in_ok-owned-in-Decimal.ensures.text, c.in-Decimal.is) (number_read _ (numbers.decimal c.in-Decimal.decimal) ts _ a.first a.is_first a.read)
+
+pub value-returns-in_ok-into_owned-in-String-clause-value : goal.value-returns-in_ok-into_owned-in-String-clause-value
+value-returns-in_ok-into_owned-in-String-clause-value t c =
     λ ts f.
     let a = first_as _ _ _ _ (kinds.String c.in-String.text) f c.in-String.is in
-    rw (tree_view-Text, c.in_ok-from_str-in-String.ensures.ok) (text_read _ c.in-String.text.now ts _ a.first a.is_first a.read.0 a.read.1)
+    rw (tree_view-Text, c.in_ok-into_owned-in-String.ensures.ok, c.in-String.is) (text_read _ (cow_str_bytes c.in-String.text) ts _ a.first a.is_first a.read.0 a.read.1)
 
 pub value-returns-in_ok-list-in-ArrayStart-clause-value : goal.value-returns-in_ok-list-in-ArrayStart-clause-value
 value-returns-in_ok-list-in-ArrayStart-clause-value t c =
@@ -284,5 +317,5 @@ pub value-returns-in_default-clause-refused : goal.value-returns-in_default-clau
 value-returns-in_default-clause-refused t c =
     let d = c.in_default in
     λ ts f.
-    let none = begins_none (place_of c.args.place) c.args.first.kind c.requires.first d.not-Null d.not-True d.not-False d.not-U64 d.not-String d.not-ArrayStart d.not-ObjectStart in
+    let none = begins_none (place_of c.args.place) c.args.first.kind c.requires.first d.not-Null d.not-True d.not-False d.not-U64 d.not-I64 d.not-U128 d.not-I128 d.not-Decimal d.not-String d.not-ArrayStart d.not-ObjectStart in
     stops_first _ (place_of c.args.place) ts _ (stops_misplaced _ (place_of c.args.place) ts _ c.args.first _ f (value-stays _ _ c.requires.place none) c.misplaced.ensures)

@@ -1,7 +1,7 @@
 use Rattle.std.proofs.Common.{arith, refl}
 use Rattle.std.proofs.lemmas.Result.{err_from_is_err_and}
 use Rattle.facet_json.specs.Views.{place_of}
-use Rattle.facet_json.proofs.Scans.{scans, scans-read, scans-meaningless, scans-end, scans-fault}
+use Rattle.facet_json.proofs.Scans.{scans, scans-read, scans-unread, scans-end, scans-fault}
 use Rattle.facet_json.proofs.reader.Reader.next.Goals as goal
 
 pub returns-in_err-token-clause-refused : goal.returns-in_err-token-clause-refused
@@ -21,7 +21,7 @@ pub returns-in_err-kind : goal.returns-in_err-kind
 returns-in_err-kind c =
     let s = scans c.args.self.now.buffer.now c.args.self.now.position c.in_ok-token.token c.args.self.now.in_range c.in_default.not-Eof c.in_ok-token.ensures.answer in
     let p = err_from_is_err_and c.from_residual-in_err-kind.result c.from_residual-in_err-kind.ensures.1 in
-    rw (p.1, p.2) (record { same = refl; forward = omega arith; past = tt; read = tt; refused = scans-meaningless c.args.self.now.buffer.now c.args.self.now.position c.in_ok-token.token (place_of c.args.place) _ s c.in_err-kind.ensures.refused })
+    rw (p.1, p.2) (record { same = refl; forward = omega arith; past = tt; read = tt; refused = scans-unread c.args.self.now.buffer.now c.args.self.now.position c.in_ok-token.token (place_of c.args.place) _ s c.in_err-kind.ensures.refused })
 
 pub overflow_add-self : goal.overflow_add-self
 overflow_add-self c =
