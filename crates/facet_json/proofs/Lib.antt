@@ -34,6 +34,7 @@ pub mod ReaderSteps
 pub mod Offsets
 pub mod GapSteps
 pub mod NumberSteps
+pub mod NumberParts
 pub mod TextSteps
 pub mod SpelledLaws
 pub mod DocumentRows
