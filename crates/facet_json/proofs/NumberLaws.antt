@@ -46,7 +46,7 @@ digits_len-append _ rest AreDigits.none = omega arith
 digits_len-append _ rest (AreDigits.digit b bytes e h) = rw e (ap suc (digits_len-append bytes rest h) ∙ omega arith)
 
 -- Digits are measured as long as they are.
-pub digits_len-is : (digits : List ℕ) → AreDigits digits → digits_len digits ≡ length digits
+digits_len-is : (digits : List ℕ) → AreDigits digits → digits_len digits ≡ length digits
 digits_len-is _ AreDigits.none = refl
 digits_len-is _ (AreDigits.digit b bytes e h) = rw e (ap suc (digits_len-is bytes h))
 

@@ -100,7 +100,7 @@ pub(crate) fn parts_at(buffer: &[u8], at: usize) -> Parts
 }
 
 /// The offset behind the minus, if one stands at `at`.
-pub(crate) fn minus_end(buffer: &[u8], at: usize) -> usize
+fn minus_end(buffer: &[u8], at: usize) -> usize
     requires { at ≤ length buffer.now }
     ensures end { result ≡ at + minus_len (drop at buffer.now) }
     ensures within { result ≤ length buffer.now }
@@ -112,7 +112,7 @@ pub(crate) fn minus_end(buffer: &[u8], at: usize) -> usize
 }
 
 /// The offset behind the digits at `at`.
-pub(crate) fn digits_end(buffer: &[u8], at: usize) -> usize
+fn digits_end(buffer: &[u8], at: usize) -> usize
     requires { at ≤ length buffer.now }
     ensures end { result ≡ at + digits_len (drop at buffer.now) }
     ensures within { result ≤ length buffer.now }
@@ -125,7 +125,7 @@ pub(crate) fn digits_end(buffer: &[u8], at: usize) -> usize
 }
 
 /// The offset behind the fraction, if one stands at `at`.
-pub(crate) fn fraction_end(buffer: &[u8], at: usize) -> usize
+fn fraction_end(buffer: &[u8], at: usize) -> usize
     requires { at ≤ length buffer.now }
     ensures end { result ≡ at + fraction_len (drop at buffer.now) }
     ensures within { result ≤ length buffer.now }
@@ -137,7 +137,7 @@ pub(crate) fn fraction_end(buffer: &[u8], at: usize) -> usize
 }
 
 /// The offset behind the exponent, if one stands at `at`.
-pub(crate) fn exponent_end(buffer: &[u8], at: usize) -> usize
+fn exponent_end(buffer: &[u8], at: usize) -> usize
     requires { at ≤ length buffer.now }
     ensures end { result ≡ at + exponent_len (drop at buffer.now) }
     ensures within { result ≤ length buffer.now }

@@ -477,7 +477,8 @@ fn behind_comment(buffer: &[u8], start: usize, comment: Piece, mode: Mode) -> Fo
 /// Cuts tokens off a buffer that grows.
 ///
 /// A call answers the token at the scanner's position, or that the buffer ends inside of one: then the caller keeps the
-/// buffer's bytes, lets more follow them and calls again. What was read of a string or a comment is not read again.
+/// buffer's bytes, lets more follow them and calls again. What was read of a string, a number or a comment is not read
+/// again.
 ///
 /// ```text
 /// let mut scanner = Scanner::new();
