@@ -22,7 +22,7 @@ digit_no_plus : (b : ℕ) → is_digit b ≡ true → (b == plus) ≡ false
 digit_no_plus b e = ne_eqb b plus (λ h. omega (arith, digit-is b e))
 
 -- A digit is no sign.
-digit_no_sign : (b : ℕ) → is_digit b ≡ true → is_sign b ≡ false
+pub digit_no_sign : (b : ℕ) → is_digit b ≡ true → is_sign b ≡ false
 digit_no_sign b e = rw (digit_no_minus b e, digit_no_plus b e) refl
 
 -- An exponent mark is one of two letters.
@@ -32,15 +32,15 @@ mark-is b e P lower upper =
     [ inl h ↦ subst P (sym (eqb-true b lower_e h)) lower | inr h ↦ subst P (sym (eqb-true b upper_e h)) upper ]
 
 -- An exponent mark is no digit.
-mark_no_digit : (b : ℕ) → is_exponent_mark b ≡ true → is_digit b ≡ false
+pub mark_no_digit : (b : ℕ) → is_exponent_mark b ≡ true → is_digit b ≡ false
 mark_no_digit b e = mark-is b e (λ n. is_digit n ≡ false) refl refl
 
 -- An exponent mark is no dot.
-mark_no_dot : (b : ℕ) → is_exponent_mark b ≡ true → (b == dot) ≡ false
+pub mark_no_dot : (b : ℕ) → is_exponent_mark b ≡ true → (b == dot) ≡ false
 mark_no_dot b e = mark-is b e (λ n. (n == dot) ≡ false) refl refl
 
 -- Digits are measured, and the digits behind them.
-digits_len-append : (digits rest : List ℕ) → AreDigits digits →
+pub digits_len-append : (digits rest : List ℕ) → AreDigits digits →
     digits_len (digits ++ rest) ≡ length digits + digits_len rest
 digits_len-append _ rest AreDigits.none = omega arith
 digits_len-append _ rest (AreDigits.digit b bytes e h) = rw e (ap suc (digits_len-append bytes rest h) ∙ omega arith)
@@ -102,41 +102,54 @@ minus_len-is : (sign digits rest : List ℕ) (has : Bool) → IsMinus sign has �
 minus_len-is _ digits rest _ IsMinus.absent d some = minus_len-digits digits rest d some
 minus_len-is _ digits rest _ IsMinus.present d some = refl
 
--- A numeral's parts are measured as long as they are.
-parts-is : (bytes : List ℕ) (hint : Hint) (n : IsNumeral bytes hint) →
-    parts bytes ≡ from_exponent (length n.sign) (length n.digits) (length n.fraction) (length n.exponent)
+-- The parts of a minus, digits, a fraction and what follows are as long as they are, where what follows goes on with neither
+-- the digits nor the fraction.
+pub parts-by : (bytes : List ℕ) (hint : Hint) (n : IsNumeral bytes hint) (rest : List ℕ) →
+    digits_len (n.fraction ++ (n.exponent ++ rest)) ≡ 0 →
+    fraction_len (n.fraction ++ (n.exponent ++ rest)) ≡ length n.fraction →
+    exponent_len (n.exponent ++ rest) ≡ length n.exponent →
+    parts (bytes ++ rest) ≡ from_exponent (length n.sign) (length n.digits) (length n.fraction) (length n.exponent)
 unfolding parts
-parts-is bytes hint n =
+parts-by bytes hint n rest no_digit same_fraction same_exponent =
     let s = length n.sign in
     let d = length n.digits in
     let f = length n.fraction in
-    let tail = n.fraction ++ n.exponent in
-    let whole : bytes ≡ n.sign ++ (n.digits ++ tail) =
-    n.whole ∙ append_assoc (n.sign ++ n.digits) n.fraction n.exponent ∙ append_assoc n.sign n.digits tail in
-    let at_digits : drop s bytes ≡ n.digits ++ tail = ap (drop s) whole ∙ drop_at n.sign (n.digits ++ tail) s refl in
-    let at_tail : drop (s + d) bytes ≡ tail =
-    ap (drop (s + d)) (n.whole ∙ append_assoc (n.sign ++ n.digits) n.fraction n.exponent)
-    ∙ drop_at (n.sign ++ n.digits) tail (s + d) (length-append n.sign n.digits) in
+    let last = n.exponent ++ rest in
+    let tail = n.fraction ++ last in
+    let all = bytes ++ rest in
+    let three : all ≡ n.sign ++ n.digits ++ n.fraction ++ last =
+    ap (λ l. l ++ rest) n.whole ∙ append_assoc (n.sign ++ n.digits ++ n.fraction) n.exponent rest in
+    let two : all ≡ n.sign ++ n.digits ++ tail = three ∙ append_assoc (n.sign ++ n.digits) n.fraction last in
+    let one : all ≡ n.sign ++ (n.digits ++ tail) = two ∙ append_assoc n.sign n.digits tail in
+    let at_digits : drop s all ≡ n.digits ++ tail = ap (drop s) one ∙ drop_at n.sign (n.digits ++ tail) s refl in
+    let at_tail : drop (s + d) all ≡ tail =
+    ap (drop (s + d)) two ∙ drop_at (n.sign ++ n.digits) tail (s + d) (length-append n.sign n.digits) in
     let long : length (n.sign ++ n.digits ++ n.fraction) ≡ s + d + f =
     omega (arith, length-append (n.sign ++ n.digits) n.fraction, length-append n.sign n.digits) in
-    let at_exponent : drop (s + d + f) bytes ≡ n.exponent =
-    ap (drop (s + d + f)) n.whole ∙ drop_at (n.sign ++ n.digits ++ n.fraction) n.exponent (s + d + f) long in
-    let is_sign : minus_len bytes ≡ s =
-    ap minus_len whole ∙ minus_len-is n.sign n.digits tail n.has_minus n.is_minus n.are_digits n.starts in
-    let is_digits : digits_len (drop s bytes) ≡ d =
-    ap digits_len at_digits ∙ digits_len-append n.digits tail n.are_digits
-    ∙ omega (
-      arith,
-      digits_len-behind n.fraction n.exponent n.has_fraction n.has_exponent n.is_fraction
-          n.is_exponent,
-    ) in
-    let is_fraction : fraction_len (drop (s + d) bytes) ≡ f =
-    ap fraction_len at_tail
-    ∙ fraction_len-is n.fraction n.exponent n.has_fraction n.has_exponent n.is_fraction n.is_exponent in
-    let is_exponent : exponent_len (drop (s + d + f) bytes) ≡ length n.exponent =
-    ap exponent_len at_exponent ∙ exponent_len-is n.exponent n.has_exponent n.is_exponent in
-    ap (from_sign bytes) is_sign ∙ ap (from_digits bytes s) is_digits ∙ ap (from_fraction bytes s d) is_fraction
+    let at_exponent : drop (s + d + f) all ≡ last =
+    ap (drop (s + d + f)) three ∙ drop_at (n.sign ++ n.digits ++ n.fraction) last (s + d + f) long in
+    let is_sign : minus_len all ≡ s =
+    ap minus_len one ∙ minus_len-is n.sign n.digits tail n.has_minus n.is_minus n.are_digits n.starts in
+    let is_digits : digits_len (drop s all) ≡ d =
+    ap digits_len at_digits ∙ digits_len-append n.digits tail n.are_digits ∙ omega (arith, no_digit) in
+    let is_fraction : fraction_len (drop (s + d) all) ≡ f = ap fraction_len at_tail ∙ same_fraction in
+    let is_exponent : exponent_len (drop (s + d + f) all) ≡ length n.exponent =
+    ap exponent_len at_exponent ∙ same_exponent in
+    ap (from_sign all) is_sign ∙ ap (from_digits all s) is_digits ∙ ap (from_fraction all s d) is_fraction
     ∙ ap (from_exponent s d f) is_exponent
+
+-- A numeral's parts are measured as long as they are.
+pub parts-is : (bytes : List ℕ) (hint : Hint) (n : IsNumeral bytes hint) →
+    parts bytes ≡ from_exponent (length n.sign) (length n.digits) (length n.fraction) (length n.exponent)
+parts-is bytes hint n =
+    let alone : n.exponent ++ [] ≡ n.exponent = append-nil n.exponent in
+    ap parts (sym (append-nil bytes))
+    ∙ parts-by bytes hint n []
+    (ap (λ l. digits_len (n.fraction ++ l)) alone
+    ∙ digits_len-behind n.fraction n.exponent n.has_fraction n.has_exponent n.is_fraction n.is_exponent)
+    (ap (λ l. fraction_len (n.fraction ++ l)) alone
+    ∙ fraction_len-is n.fraction n.exponent n.has_fraction n.has_exponent n.is_fraction n.is_exponent)
+    (ap exponent_len alone ∙ exponent_len-is n.exponent n.has_exponent n.is_exponent)
 
 -- A numeral is measured as long as it is.
 pub parts_len-is : (bytes : List ℕ) (hint : Hint) → IsNumeral bytes hint → parts_len (parts bytes) ≡ length bytes
@@ -147,7 +160,7 @@ parts_len-is bytes hint n =
     ∙ omega (arith, length-append (n.sign ++ n.digits) n.fraction, length-append n.sign n.digits)
 
 -- What stands there has a length.
-minus-some : (sign : List ℕ) (has : Bool) → IsMinus sign has → is_some_len (length sign) ≡ has
+pub minus-some : (sign : List ℕ) (has : Bool) → IsMinus sign has → is_some_len (length sign) ≡ has
 minus-some _ _ IsMinus.absent = refl
 minus-some _ _ IsMinus.present = refl
 

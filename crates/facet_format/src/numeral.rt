@@ -109,7 +109,7 @@ pub fn parts_at(buffer: &[u8], at: usize) -> Parts
 }
 
 /// The offset behind the minus, if one stands at `at`.
-pub fn minus_end(buffer: &[u8], at: usize) -> usize
+fn minus_end(buffer: &[u8], at: usize) -> usize
     requires { at ≤ length buffer.now }
     ensures end { result ≡ at + minus_len (drop at buffer.now) }
     ensures within { result ≤ length buffer.now }
@@ -121,7 +121,7 @@ pub fn minus_end(buffer: &[u8], at: usize) -> usize
 }
 
 /// The offset behind the digits at `at`.
-pub fn digits_end(buffer: &[u8], at: usize) -> usize
+fn digits_end(buffer: &[u8], at: usize) -> usize
     requires { at ≤ length buffer.now }
     ensures end { result ≡ at + digits_len (drop at buffer.now) }
     ensures within { result ≤ length buffer.now }
@@ -134,7 +134,7 @@ pub fn digits_end(buffer: &[u8], at: usize) -> usize
 }
 
 /// The offset behind the fraction, if one stands at `at`.
-pub fn fraction_end(buffer: &[u8], at: usize) -> usize
+fn fraction_end(buffer: &[u8], at: usize) -> usize
     requires { at ≤ length buffer.now }
     ensures end { result ≡ at + fraction_len (drop at buffer.now) }
     ensures within { result ≤ length buffer.now }
@@ -146,7 +146,7 @@ pub fn fraction_end(buffer: &[u8], at: usize) -> usize
 }
 
 /// The offset behind the exponent, if one stands at `at`.
-pub fn exponent_end(buffer: &[u8], at: usize) -> usize
+fn exponent_end(buffer: &[u8], at: usize) -> usize
     requires { at ≤ length buffer.now }
     ensures end { result ≡ at + exponent_len (drop at buffer.now) }
     ensures within { result ≤ length buffer.now }

@@ -10,6 +10,7 @@ use Rattle.facet_json_scan.specs.Open.{IsBeginning}
 use Rattle.facet_json_scan.specs.Scanner.{State, Describes}
 use Rattle.facet_json_scan.proofs.Starts.{Begins, a_mark, a_word, a_text, a_number, a_comment, no_token, start_of-begins}
 use Rattle.facet_json_scan.proofs.FirstBytes.{start_of-number_range}
+use Rattle.facet_json_scan.proofs.GrowthOfNumber.{number_begins}
 use Rattle.facet_format.proofs.NumberLaws.{parts_len-is, begins_number-is}
 
 -- What begins with a byte is the beginning of something longer: where that is a string, it doesn't end, a literal has more
@@ -119,8 +120,8 @@ described_begins mode _ _ (Describes.text _ content e h) = IsBeginning.text mode
 described_begins mode _ _ (Describes.escape _ content e h) = IsBeginning.escape mode content e h
 described_begins mode _ _ (Describes.literal _ front others kind is some more) =
     IsBeginning.literal mode front others kind is some more
-described_begins mode _ _ (Describes.number _ text hint is) = IsBeginning.number mode text hint is
-described_begins mode _ _ (Describes.minus_alone _) = IsBeginning.minus_alone mode
+described_begins mode _ _ (Describes.number _ part text i) =
+    number_begins mode text (begins_number-is text i.hint i.numeral) (parts_len-is text i.hint i.numeral)
 described_begins _ _ _ Describes.slash_alone = IsBeginning.slash_alone
 described_begins _ _ _ (Describes.line body h) = IsBeginning.line body h
 described_begins _ _ _ (Describes.block body after_star h is) = IsBeginning.block body h

@@ -42,15 +42,20 @@ start_of-others b h0 h1 h2 h3 h4 h5 h6 h7 h8 h9 =
     )
     refl
 
--- a minus or a digit, by its range, begins a number
-pub start_of-number_range : (b : ℕ) → minus ≤ b → b ≤ 0x39 → b ≢ 0x2e → b ≢ slash → start_of b ≡ opens_number
-start_of-number_range b low high no_dot no_slash =
+-- a minus or a digit, by its range
+pub starts_number-range : (b : ℕ) → minus ≤ b → b ≤ 0x39 → b ≢ 0x2e → b ≢ slash → starts_number b ≡ true
+starts_number-range b low high no_dot no_slash =
     let digit : b ≢ minus → is_digit b ≡ true =
     λ n. and_from (nat_le 0x30 b) (nat_le b 0x39) (le-leb 0x30 b (omega arith)) (le-leb b 0x39 high) in
     elim (cases_eq b minus) [
-      | inl e ↦ start_of-number b (or_left (eqb b minus) (is_digit b) (eq-eqb b minus e))
-      | inr n ↦ start_of-number b (or_right (eqb b minus) (is_digit b) (digit n))
+      | inl e ↦ or_left (eqb b minus) (is_digit b) (eq-eqb b minus e)
+      | inr n ↦ or_right (eqb b minus) (is_digit b) (digit n)
     ]
+
+-- it begins a number
+pub start_of-number_range : (b : ℕ) → minus ≤ b → b ≤ 0x39 → b ≢ 0x2e → b ≢ slash → start_of b ≡ opens_number
+start_of-number_range b low high no_dot no_slash =
+    start_of-number b (starts_number-range b low high no_dot no_slash)
 
 -- any other byte begins nothing
 pub start_of-nothing : (b : ℕ) → b ≢ left_brace → b ≢ right_brace → b ≢ left_bracket → b ≢ right_bracket → b ≢ colon →

@@ -33,3 +33,4 @@ pub mod PendingNumber
 pub mod Pieces
 pub mod Found
 pub mod Given
+pub mod NumberParts

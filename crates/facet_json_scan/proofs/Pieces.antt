@@ -1,13 +1,14 @@
 -- Where no piece of a gap stands, and none begins.
-use Rattle.std.proofs.Common.{◌≡◌, ◌≢◌, ℕ, Bool, true, false, ◌==◌, List, [], ◌∷◌, refl, ap, arith, ◌++◌, inl, inr, None}
+use Rattle.std.proofs.Common.{◌≡◌, ◌≢◌, ℕ, Bool, true, false, ◌==◌, List, [], ◌∷◌, refl, ap, sym, ◌∙◌, arith, ◌++◌, inl, inr, None}
 use Rattle.std.proofs.lemmas.Bool.{ne_eqb, or_cases, eqb-true, and_parts, leb-true}
+use Rattle.std.proofs.lemmas.List.{append-nil}
 use Rattle.facet_format.specs.Bytes.{quote, minus, slash, star, is_space, is_digit}
 use Rattle.facet_json_scan.specs.Gap.{Mode, plain, jsonc, Input, growing, piece_len, OpensBlock, OpensLine, one_more, with_mark, with_line_mark, through_block_end, through_line_end}
 use Rattle.facet_json_scan.specs.Token.{Kind}
 use Rattle.facet_json_scan.specs.Cut.{IsLiteral, start_of, letter, opens_comment}
 use Rattle.facet_format.specs.Number.{starts_number}
 use Rattle.facet_json_scan.specs.Open.{IsBeginning}
-use Rattle.facet_json_scan.specs.Scanner.{State, in_text, Describes}
+use Rattle.facet_json_scan.specs.Scanner.{State, Part, EndsIn, in_text, Describes}
 use Rattle.facet_format.proofs.NumberLaws.{begins_number-is}
 use Rattle.facet_json_scan.proofs.Beginnings.{literal_starts}
 
@@ -86,6 +87,14 @@ opens_line-none : (body : List ℕ) → OpensLine body → through_line_end body
 opens_line-none _ OpensLine.nothing = refl
 opens_line-none _ (OpensLine.more b bytes shut h) = rw shut (ap one_more (opens_line-none bytes h))
 
+-- A number that goes on is no piece of a gap.
+pub number_no_piece : (mode : Mode) (part : Part) (text rest : List ℕ) → EndsIn part text →
+    piece_len mode growing (text ++ rest) ≡ 0
+number_no_piece mode part [] rest i = let begins = begins_number-is [] i.hint i.numeral in cc
+number_no_piece mode part (b ∷ text) rest i =
+    let byte = number_byte b (begins_number-is (b ∷ text) i.hint i.numeral) in
+    no_piece mode growing b (text ++ rest) byte.0 byte.1
+
 -- What is open is no piece of a gap.
 pub open_no_piece : (mode : Mode) (state : State) (bytes : List ℕ) → Describes mode state bytes →
     piece_len mode growing bytes ≡ 0
@@ -95,11 +104,8 @@ open_no_piece mode _ [] (Describes.literal _ _ others kind is some more) = refl
 open_no_piece mode _ (b ∷ front) (Describes.literal _ _ others kind is some more) =
     let byte = literal_byte b _ (front ++ others) kind is refl in
     no_piece mode growing b front byte.0 byte.1
-open_no_piece mode _ [] (Describes.number _ _ hint is) = refl
-open_no_piece mode _ (b ∷ text) (Describes.number _ _ hint is) =
-    let byte = number_byte b (begins_number-is (b ∷ text) hint is.numeral) in
-    no_piece mode growing b text byte.0 byte.1
-open_no_piece mode _ _ (Describes.minus_alone _) = no_piece mode growing minus [] refl refl
+open_no_piece mode _ text (Describes.number _ part _ i) =
+    ap (piece_len mode growing) (sym (append-nil text)) ∙ number_no_piece mode part text [] i
 open_no_piece _ _ _ Describes.slash_alone = refl
 open_no_piece _ _ _ (Describes.line body h) = ap (with_line_mark growing body) (opens_line-none body h)
 open_no_piece _ _ _ (Describes.block body after_star h is) = ap with_mark (opens_block-none body h)

@@ -1,8 +1,8 @@
 -- The scanner over a buffer that grows: what it keeps between two calls, and what a call answers.
 use Rattle.std.specs.Prelude.{◌≡◌, ◌≢◌, ℕ, ◌+◌, ◌-◌, Bool, true, false, List, [], ◌∷◌, ◌++◌, length, take, drop, Option, Some, ◌==◌}
-use Rattle.facet_format.specs.Bytes.{quote, backslash, slash, star, minus}
+use Rattle.facet_format.specs.Bytes.{quote, backslash, slash, star}
 use Rattle.facet_json_scan.specs.Gap.{Mode, jsonc, growing, gap_len, OpensBlock, OpensLine}
-use Rattle.facet_format.specs.Number.{Hint, IsNumber}
+use Rattle.facet_format.specs.Number.{Hint, float, hint_of, IsNumeral, parts}
 use Rattle.facet_format.specs.Span.{Span, stop}
 use Rattle.facet_json_scan.specs.Token.{Kind, Token, Fault}
 use Rattle.facet_json_scan.specs.Cut.{ArePieces, IsLiteral, Cut, nothing_left, token, fault, past_gap, cut}
@@ -11,12 +11,24 @@ use Rattle.facet_json_scan.specs.Open.{IsOpen}
 
 -- ---- what is kept
 
+-- a part of a number
+pub data Part : Type 0 where
+  -- the minus and the digits
+  in_digits : Part
+  -- the dot and its digits
+  in_fraction : Part
+  -- the exponent mark
+  at_mark : Part
+  -- the exponent's sign and its digits
+  in_exponent : Part
+
 -- how the open token or comment goes on
 pub data State : Type 0 where
   -- whether a backslash escapes the next byte, and whether a backslash was seen
   in_text : (escaped has_escapes : Bool) → State
   in_word : State
-  in_number : State
+  -- the part in which the last byte stands
+  in_number : Part → State
   behind_slash : State
   in_line : State
   -- whether the last byte of the body is a star
@@ -53,6 +65,34 @@ ends_in_star [] = false
 ends_in_star (b ∷ []) = b == star
 ends_in_star (b ∷ c ∷ bytes) = ends_in_star (c ∷ bytes)
 
+-- the last part of a number with this fraction and this exponent, each of which may be missing
+abbrev pub last_part : (fraction exponent : List ℕ) → Part
+last_part [] [] = in_digits
+last_part (b ∷ fraction) [] = in_fraction
+last_part fraction (mark ∷ []) = at_mark
+last_part fraction (mark ∷ b ∷ power) = in_exponent
+
+-- The text is a number, or a minus alone, and its last byte stands in this part.
+pub record EndsIn (part : Part) (text : List ℕ) : Type 0 where
+  pub hint : Hint
+  pub numeral : IsNumeral text hint
+  pub last : part ≡ last_part numeral.fraction numeral.exponent
+
+-- what stands in a number that ends in this part, behind a minus or not
+abbrev pub part_hint : Part → Bool → Hint
+part_hint in_digits has_minus = hint_of has_minus false false
+part_hint in_fraction has_minus = float
+part_hint at_mark has_minus = float
+part_hint in_exponent has_minus = float
+
+-- Behind each number that ends in the part this byte goes on with it, and stands in the next part.
+abbrev pub GoesOnWith : Part → ℕ → Part → Type 0
+GoesOnWith part b next = (text : List ℕ) → EndsIn part text → EndsIn next (text ++ b ∷ [])
+
+-- Each number that ends in the part is the longest where this byte follows, whatever stands behind.
+abbrev pub EndsBefore : Part → ℕ → Type 0
+EndsBefore part b = (text rest : List ℕ) → EndsIn part text → parts (text ++ b ∷ rest) ≡ parts text
+
 -- The bytes are an open token or comment, and the state says how it goes on.
 pub data Describes : Mode → State → List ℕ → Type 0 where
   text : (mode : Mode) (content : List ℕ) (has_escapes : Bool) → ArePieces content has_escapes →
@@ -61,8 +101,7 @@ pub data Describes : Mode → State → List ℕ → Type 0 where
       Describes mode (in_text true true) (quote ∷ content ++ backslash ∷ [])
   literal : (mode : Mode) (front others : List ℕ) (kind : Kind) → IsLiteral (front ++ others) kind → front ≢ [] →
       others ≢ [] → Describes mode in_word front
-  number : (mode : Mode) (text : List ℕ) (hint : Hint) → IsNumber text hint → Describes mode in_number text
-  minus_alone : (mode : Mode) → Describes mode in_number (minus ∷ [])
+  number : (mode : Mode) (part : Part) (text : List ℕ) → EndsIn part text → Describes mode (in_number part) text
   slash_alone : Describes jsonc behind_slash (slash ∷ [])
   line : (body : List ℕ) → OpensLine body → Describes jsonc in_line (slash ∷ slash ∷ body)
   block : (body : List ℕ) (after_star : Bool) → OpensBlock body → ends_in_star body ≡ after_star →

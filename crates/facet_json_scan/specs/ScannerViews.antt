@@ -6,6 +6,8 @@ use Rattle.facet_json_scan.specs.declared.token.SpannedToken.{SpannedToken}
 use Rattle.facet_json_scan.specs.declared.token.ScanErrorKind.{ScanErrorKind}
 use Rattle.facet_json_scan.specs.declared.token.ScanErrorKind.TheVariants as scan
 use Rattle.facet_json_scan.specs.declared.token.ScanError.{ScanError}
+use Rattle.facet_json_scan.specs.declared.scanner.Part.{Part as RustPart}
+use Rattle.facet_json_scan.specs.declared.scanner.Part.TheVariants as part
 use Rattle.facet_json_scan.specs.declared.scanner.State.{State as RustState}
 use Rattle.facet_json_scan.specs.declared.scanner.State.TheVariants as state
 use Rattle.facet_json_scan.specs.declared.scanner.Pending.{Pending as RustPending}
@@ -20,14 +22,20 @@ use Rattle.facet_format.specs.Span.{Span, stop}
 use Rattle.facet_json_scan.specs.Token.{Kind}
 use Rattle.facet_json_scan.specs.Cut.{cut_here, cut, past_gap}
 use Rattle.facet_json_scan.specs.Open.{IsBeginning, IsOpen}
-use Rattle.facet_json_scan.specs.Scanner.{State, in_text, in_word, in_number, behind_slash, in_line, in_block, Pending, nothing_pending, pending_at, Answer, needs_more, ended, cuts, refuses, answer_for, Describes, past_growing_gap}
+use Rattle.facet_json_scan.specs.Scanner.{Part, in_digits, in_fraction, at_mark, in_exponent, State, in_text, in_word, in_number, behind_slash, in_line, in_block, Pending, nothing_pending, pending_at, Answer, needs_more, ended, cuts, refuses, answer_for, Describes, past_growing_gap}
 use Rattle.facet_format.specs.Views.{span_of}
 use Rattle.facet_json_scan.specs.Views.{kind_of}
+
+abbrev pub part_of : RustPart → Part
+part_of part.Digits = in_digits
+part_of part.Fraction = in_fraction
+part_of part.Mark = at_mark
+part_of part.Exponent = in_exponent
 
 abbrev pub state_of : RustState → State
 state_of (state.Text escaped has_escapes) = in_text escaped has_escapes
 state_of state.Word = in_word
-state_of state.Number = in_number
+state_of (state.Number p) = in_number (part_of p)
 state_of state.Slash = behind_slash
 state_of state.Line = in_line
 state_of (state.Block after_star) = in_block after_star

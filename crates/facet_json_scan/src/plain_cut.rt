@@ -242,7 +242,7 @@ pub(crate) fn common_len(buffer: &[u8], at: usize, word: &[u8]) -> usize
 }
 
 /// Cuts the number, or the bare minus, at `at`.
-pub(crate) fn cut_number(buffer: &[u8], at: usize) -> ScanResult
+fn cut_number(buffer: &[u8], at: usize) -> ScanResult
     requires { at < length buffer.now }
     ensures { let p = parts (drop at buffer.now) in scanned result
         ≡ Some (spec_cut.cut_number at (drop (at + 1) buffer.now) (parts_len p) (parts_hint p) (is_bare p)) }
@@ -261,7 +261,7 @@ pub(crate) fn cut_number(buffer: &[u8], at: usize) -> ScanResult
 }
 
 /// The fault of a minus at `at` with no number behind it.
-fn cut_bare_minus(buffer: &[u8], at: usize) -> ScanResult
+pub(crate) fn cut_bare_minus(buffer: &[u8], at: usize) -> ScanResult
     requires { at < length buffer.now }
     ensures { scanned result ≡ Some (spec_cut.cut_bare_minus at (drop (at + 1) buffer.now)) }
 {

@@ -1,29 +1,43 @@
-//! The scanner over a buffer that grows: a string or comment that the buffer's end cuts is gone on with, and not read
-//! again.
+//! The scanner over a buffer that grows: a string, number or comment that the buffer's end cuts is gone on with, and not
+//! read again.
 
-ghost use Rattle.std.specs.Prelude.{◌≡◌, ℕ, ◌+◌, ◌-◌, ◌<◌, ◌≤◌, length, take, drop, Some, slice_get, IfSome};
+ghost use Rattle.std.specs.Prelude.{◌≡◌, ℕ, ◌+◌, ◌-◌, ◌<◌, ◌≤◌, length, take, drop, Some, slice_get, IfSome, MatchOption};
 ghost use Rattle.facet_format.specs.Bytes.{slash};
 ghost use Rattle.facet_format.specs.Bytes as bytes;
 ghost use Rattle.facet_json_scan.specs.Gap.{plain, jsonc};
 ghost use Rattle.facet_json_scan.specs.Gap as spec_gap;
 ghost use Rattle.facet_json_scan.specs.Token.{Kind};
 ghost use Rattle.facet_format.specs.Span.{stop};
-ghost use Rattle.facet_json_scan.specs.Cut.{start_of, letter, opens_number};
+ghost use Rattle.facet_json_scan.specs.Cut.{start_of, letter};
 ghost use Rattle.facet_format.specs.Span.{span_at};
 ghost use Rattle.facet_json_scan.specs.Cut as spec_cut;
 ghost use Rattle.facet_json_scan.specs.Open.{IsBeginning};
-ghost use Rattle.facet_json_scan.specs.Scanner.{in_text, in_line, in_block, ended, answer_for, idle, scanner_at, first_of, first_byte_of, stands_at_end, Describes, GoesOnFrom, Gives};
+ghost use Rattle.facet_json_scan.specs.Scanner.{in_text, in_line, in_block, ended, answer_for, idle, scanner_at, first_of, first_byte_of, stands_at_end, part_hint, EndsIn, GoesOnWith, EndsBefore, Describes, GoesOnFrom, Gives};
 ghost use Rattle.facet_json_scan.specs.Scanner as spec_scanner;
-ghost use Rattle.facet_format.specs.Number.{parts, parts_len};
-ghost use Rattle.facet_json_scan.specs.Views.{mode_of, kind_of};
-ghost use Rattle.facet_json_scan.specs.ScannerViews.{state_of, pending_of, answered, span_answered, stands_behind, stands_last, FoundHere, FoundFrom, FoundWithin, PieceHere, PieceWithin};
+ghost use Rattle.facet_format.specs.Number.{parts, parts_len, parts_hint, is_bare};
+ghost use Rattle.facet_json_scan.specs.Views.{mode_of, kind_of, scanned};
+ghost use Rattle.facet_format.specs.Views.{hint_of};
+ghost use Rattle.facet_json_scan.specs.ScannerViews.{part_of, state_of, pending_of, answered, span_answered, stands_behind, stands_last, FoundHere, FoundFrom, FoundWithin, PieceHere, PieceWithin};
 
 use crate::mode::Mode;
-use facet_format::numeral::{digits_end, exponent_end, fraction_end, minus_end};
-use crate::plain_cut::{common_len, cut, cut_number, cut_token, cut_word, line_end, token_at};
+use crate::plain_cut::{common_len, cut, cut_bare_minus, cut_token, cut_word, line_end, token_at};
 use facet_format::Span;
+use facet_format::numeral::NumberHint;
 use crate::token::{ScanResult, SpannedToken, Token};
 use std::marker::Model;
+
+/// The part of a number (RFC 8259, section 6) in which its last byte stands.
+#[derive(Debug, Clone, Copy, PartialEq)]
+enum Part {
+    /// The minus and the digits.
+    Digits,
+    /// The dot and its digits.
+    Fraction,
+    /// The exponent mark.
+    Mark,
+    /// The exponent's sign and its digits.
+    Exponent,
+}
 
 /// How an open token or comment goes on.
 #[derive(Debug, Clone, Copy, PartialEq)]
@@ -37,8 +51,8 @@ enum State {
     },
     /// In a literal, of which at most five letters are compared again.
     Word,
-    /// In a number, which is read again from its first byte.
-    Number,
+    /// In this part of a number.
+    Number(Part),
     /// Behind a slash.
     Slash,
     /// In a line comment.
@@ -206,7 +220,7 @@ fn token_from(buffer: &[u8], at: usize, mode: Mode) -> Found
         b'n' => word_from(buffer, at, b"null", Token::Null),
         b't' => word_from(buffer, at, b"true", Token::True),
         b'f' => word_from(buffer, at, b"false", Token::False),
-        b'-' | b'0'..=b'9' => number_from(buffer, at),
+        b'-' | b'0'..=b'9' => number_from(buffer, at, at + 1, Part::Digits),
         _ => Found::Answer {
             start: at,
             result: cut_token(buffer, at, *first, mode),
@@ -282,35 +296,128 @@ fn word_from(buffer: &[u8], at: usize, word: &[u8], token: Token) -> Found
     }
 }
 
-/// The number, or the bare minus, at `start`.
-fn number_from(buffer: &[u8], start: usize) -> Found
-    requires { start < length buffer.now }
-    ensures here { (mode : spec_gap.Mode) (b : ℕ) → slice_get buffer.now start ≡ Some b → start_of b ≡ opens_number
-        → FoundHere mode buffer.now start result }
-    ensures within { (b : ℕ) → slice_get buffer.now start ≡ Some b → start_of b ≡ opens_number
-        → FoundWithin (length buffer.now) result }
+/// Goes on at `at` with the number, or the bare minus, at `start`, whose last byte so far stands in this part.
+fn number_from(buffer: &[u8], start: usize, at: usize, part: Part) -> Found
+    requires order { start < at }
+    requires room { at ≤ length buffer.now }
+    ensures here { EndsIn (part_of part) (drop start (take at buffer.now))
+        → (mode : spec_gap.Mode) → FoundHere mode buffer.now start result }
+    ensures within { FoundWithin (length buffer.now) result }
 {
-    if number_end(buffer, start) == buffer.len() {
-        return Found::Open {
-            start,
-            state: State::Number,
+    let mut end = at;
+    let mut part = part;
+    while let Some(byte) = buffer.get(end) {
+        let Some(next) = part.after(*byte) else {
+            return Found::Answer {
+                start,
+                result: number_token(buffer, start, end, part),
+            };
         };
+        part = next;
+        end += 1;
     }
-    Found::Answer {
+    Found::Open {
         start,
-        result: cut_number(buffer, start),
+        state: State::Number(part),
     }
 }
 
-/// The offset behind the number, or the bare minus, at `start`.
-fn number_end(buffer: &[u8], start: usize) -> usize
-    requires { start ≤ length buffer.now }
-    ensures { result ≡ start + parts_len (parts (drop start buffer.now)) }
+/// The token of the number from `start` to `end`, whose last byte stands in this part, or the fault of a bare minus.
+fn number_token(buffer: &[u8], start: usize, end: usize, part: Part) -> ScanResult
+    requires order { start < end }
+    requires room { end ≤ length buffer.now }
+    ensures token { let text = drop start (take end buffer.now) in EndsIn (part_of part) text
+        → scanned result ≡ Some (spec_cut.cut_number start (drop (start + 1) buffer.now)
+        (parts_len (parts text)) (parts_hint (parts text)) (is_bare (parts text))) }
+    ensures span { stop (span_answered result) ≤ length buffer.now }
 {
-    let digits = minus_end(buffer, start);
-    let fraction = digits_end(buffer, digits);
-    let exponent = fraction_end(buffer, fraction);
-    exponent_end(buffer, exponent)
+    let is_negative = buffer[start] == b'-';
+    if is_negative && end == start + 1 {
+        return cut_bare_minus(buffer, start);
+    }
+    let token = Token::Number {
+        start,
+        end,
+        hint: part.hint(is_negative),
+    };
+    token_at(token, start, end - start)
+}
+
+impl Part {
+    /// The part in which this byte stands, if it goes on with the number.
+    fn after(self, byte: u8) -> Option<Part>
+        ensures { MatchOption result (EndsBefore (part_of self) byte)
+            (λ next. GoesOnWith (part_of self) byte (part_of next)) }
+    {
+        let is_digit = is_digit(byte);
+        match self {
+            Part::Digits => {
+                if is_digit {
+                    Some(Part::Digits)
+                } else if byte == b'.' {
+                    Some(Part::Fraction)
+                } else if is_exponent_mark(byte) {
+                    Some(Part::Mark)
+                } else {
+                    None
+                }
+            }
+            Part::Fraction => {
+                if is_digit {
+                    Some(Part::Fraction)
+                } else if is_exponent_mark(byte) {
+                    Some(Part::Mark)
+                } else {
+                    None
+                }
+            }
+            Part::Mark => {
+                if is_digit || is_sign(byte) {
+                    Some(Part::Exponent)
+                } else {
+                    None
+                }
+            }
+            Part::Exponent => { if is_digit { Some(Part::Exponent) } else { None } }
+        }
+    }
+
+    /// What stands in a number whose last byte stands in this part.
+    fn hint(self, is_negative: bool) -> NumberHint
+        ensures { hint_of result ≡ part_hint (part_of self) is_negative }
+    {
+        match self {
+            Part::Digits => {
+                if is_negative {
+                    NumberHint::Signed
+                } else {
+                    NumberHint::Unsigned
+                }
+            }
+            _ => NumberHint::Float,
+        }
+    }
+}
+
+/// Whether the byte is a digit.
+fn is_digit(byte: u8) -> bool
+    ensures { result ≡ bytes.is_digit byte }
+{
+    matches!(byte, b'0'..=b'9')
+}
+
+/// Whether the byte is the mark of an exponent.
+fn is_exponent_mark(byte: u8) -> bool
+    ensures { result ≡ bytes.is_exponent_mark byte }
+{
+    byte == b'e' || byte == b'E'
+}
+
+/// Whether the byte is the sign of an exponent.
+fn is_sign(byte: u8) -> bool
+    ensures { result ≡ bytes.is_sign byte }
+{
+    byte == b'-' || byte == b'+'
 }
 
 /// What stands at `position`, or goes on there with what is pending.
@@ -350,7 +457,8 @@ fn resume(buffer: &[u8], at: usize, pending: Pending, mode: Mode) -> Found
                 mode,
             )
         }
-        State::Word | State::Number | State::Slash => scan_from(buffer, start, mode),
+        State::Number(part) => number_from(buffer, start, at, part),
+        State::Word | State::Slash => scan_from(buffer, start, mode),
     }
 }
 
@@ -373,7 +481,8 @@ fn behind_comment(buffer: &[u8], start: usize, comment: Piece, mode: Mode) -> Fo
 /// Cuts tokens off a buffer that grows.
 ///
 /// A call answers the token at the scanner's position, or that the buffer ends inside of one: then the caller keeps the
-/// buffer's bytes, lets more follow them and calls again. What was read of a string or a comment is not read again.
+/// buffer's bytes, lets more follow them and calls again. What was read of a string, a number or a comment is not read
+/// again.
 ///
 /// ```text
 /// let mut scanner = Scanner::new();

@@ -225,21 +225,25 @@ fn asks(answer: &ScanResult) -> bool {
     }
 }
 
-/// Feeds the first `len` bytes of `input` one by one, and compares each answer with the cut of the whole. Answers where
-/// the scanner stands, or nothing after a refusal.
-fn feed(rt: &impl Abort, input: &[u8], mode: Mode) {
-    let mut scanner = match mode {
+/// A scanner of this language, at the first byte.
+fn scanner_of(mode: Mode) -> Scanner {
+    match mode {
         Mode::Plain => Scanner::new(),
         Mode::Jsonc => Scanner::new_with_comments(),
-    };
+    }
+}
+
+/// Feeds `first` bytes of `input` and then `step` bytes at a time, and compares each answer with the cut of the whole.
+fn feed(rt: &impl Abort, input: &[u8], mode: Mode, first: usize, step: usize) {
+    let mut scanner = scanner_of(mode);
     let mut start = 0;
-    let mut len = 0;
-    for _ in 0..16 {
+    let mut len = first;
+    for _ in 0..64 {
         assert!(rt; len <= input.len() && scanner.pos() <= len && start <= input.len());
         let answer = scanner.next_token(&input[..len]);
         let waits = asks(&answer) || answer == eof(len);
         if waits && len < input.len() {
-            len += 1;
+            len = len.saturating_add(step).min(input.len());
             continue;
         }
         let answer = if asks(&answer) {
@@ -250,33 +254,99 @@ fn feed(rt: &impl Abort, input: &[u8], mode: Mode) {
         };
         assert_eq!(rt; answer, cut(input, start, mode), "{input:?} {start}");
         match answer {
-            Ok(found) => start = found.span.offset.saturating_add(found.span.len),
-            Err(_) => return,
-        }
-        if start == input.len() {
-            return;
+            Ok(found) if found.token != Token::Eof => {
+                start = found.span.offset.saturating_add(found.span.len);
+            }
+            _ => return,
         }
     }
+    panic!(rt; "{input:?} has no end");
 }
 
-/// Feeds the fronts of an input in both languages.
-fn feed_fronts(rt: &impl Abort, input: &[u8; 4]) {
-    for len in 1..5 {
-        feed(rt, &input[..len], Mode::Plain);
-        feed(rt, &input[..len], Mode::Jsonc);
+/// Feeds an input byte by byte, in both languages.
+fn feed_bytes(rt: &impl Abort, input: &[u8]) {
+    feed(rt, input, Mode::Plain, 0, 1);
+    feed(rt, input, Mode::Jsonc, 0, 1);
+}
+
+/// Feeds an input byte by byte and in each two pieces, in both languages.
+fn feed_pieces(rt: &impl Abort, input: &[u8]) {
+    feed_bytes(rt, input);
+    for mode in [Mode::Plain, Mode::Jsonc] {
+        for first in 0..input.len() {
+            feed(rt, input, mode, first, input.len());
+        }
     }
 }
 
 #[test]
 fn growth_changes_nothing(rt: HostRuntime) {
-    let bytes = b"{[\"\\1-.et/*\n ";
+    let bytes = b"-01.e+\"\\[,/*\nt ";
+    for a in bytes {
+        feed_pieces(&rt, &[*a]);
+        for b in bytes {
+            feed_pieces(&rt, &[*a, *b]);
+            for c in bytes {
+                feed_pieces(&rt, &[*a, *b, *c]);
+                for d in bytes {
+                    feed_bytes(&rt, &[*a, *b, *c, *d]);
+                }
+            }
+        }
+    }
+}
+
+#[test]
+fn growth_of_numbers_changes_nothing(rt: HostRuntime) {
+    let bytes = b"-0.e+,";
     for a in bytes {
         for b in bytes {
             for c in bytes {
                 for d in bytes {
-                    feed_fronts(&rt, &[*a, *b, *c, *d]);
+                    feed_pieces(&rt, &[*a, *b, *c, *d]);
                 }
             }
         }
+    }
+}
+
+#[test]
+fn growth_of_longer_inputs_changes_nothing(rt: HostRuntime) {
+    for input in [
+        b"-12.50e+10,".as_slice(),
+        b"007.E-3]".as_slice(),
+        b"1.2.3".as_slice(),
+        b"1e5.2".as_slice(),
+        b"12e+-3 4E5e6 7-8".as_slice(),
+        b"-.e- --1".as_slice(),
+        b"{\"k\\\\\":[1.5e3,-2]}".as_slice(),
+        b"[\"a\\\"\",true,null,false]".as_slice(),
+        b"/* a **/1.5//x\n2e3/*".as_slice(),
+        b"truefalsenull nul".as_slice(),
+    ] {
+        feed_pieces(&rt, input);
+    }
+}
+
+#[test]
+fn numbers_go_on_in_their_part(rt: HostRuntime) {
+    for (front, buffer, len) in [
+        (b"-".as_slice(), b"-1.5,".as_slice(), 4),
+        (b"1".as_slice(), b"12.5.5".as_slice(), 4),
+        (b"1.".as_slice(), b"1.5.5".as_slice(), 3),
+        (b"1.5".as_slice(), b"1.5e3e3".as_slice(), 5),
+        (b"1e".as_slice(), b"1e+3+3".as_slice(), 4),
+        (b"1e-".as_slice(), b"1e--3".as_slice(), 3),
+        (b"1e-3".as_slice(), b"1e-34.5".as_slice(), 5),
+    ] {
+        let mut scanner = Scanner::new();
+        next(&rt, &mut scanner, front, more(0, front.len()), front.len());
+        next(
+            &rt,
+            &mut scanner,
+            buffer,
+            number(0, len, NumberHint::Float),
+            len,
+        );
     }
 }

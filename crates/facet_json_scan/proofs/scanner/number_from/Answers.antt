@@ -1,63 +1,63 @@
--- A number that goes to the end of the buffer is open, and another is cut.
-use Rattle.std.proofs.Common.{◌≡◌, ◌+◌, ◌∷◌, length, drop, refl, sym, ap, ◌∙◌, subst, arith, length-drop}
-use Rattle.facet_json_scan.specs.Gap.{plain}
-use Rattle.facet_format.specs.Number.{parts, parts_len, parts_hint, is_bare}
-use Rattle.facet_json_scan.specs.Cut.{cut_number}
-use Rattle.facet_json_scan.specs.Open.{IsBeginning}
-use Rattle.facet_json_scan.specs.Scanner.{Describes, in_number}
-use Rattle.facet_json_scan.proofs.Offsets.{drop-at_byte}
-use Rattle.facet_json_scan.proofs.FirstBytes.{cut_here-number, cut_here-something}
-use Rattle.facet_json_scan.proofs.PendingNumber.{number-open, number-shut}
-use Rattle.facet_json_scan.proofs.Answered.{EndsWithin, found-here, answered-ends, cut_here-ends}
+-- Each byte goes on with what was read of the number, and where one doesn't the number is cut.
+use Rattle.std.proofs.Common.{◌≡◌, ◌≢◌, ◌+◌, ◌∷◌, ◌++◌, drop, slice_get, Some, get_or, refl, ap, sym, ◌∙◌, subst, arith}
+use Rattle.std.proofs.lemmas.Option.{slice_get-get_or}
+use Rattle.facet_format.specs.Number.{parts}
+use Rattle.facet_json_scan.specs.Cut.{nothing_left}
+use Rattle.facet_json_scan.specs.Scanner.{EndsIn, Describes}
+use Rattle.facet_json_scan.specs.ScannerViews.{part_of}
+use Rattle.facet_json_scan.proofs.Answered.{found-here}
+use Rattle.facet_json_scan.proofs.FirstBytes.{cut_here-something}
+use Rattle.facet_json_scan.proofs.Offsets.{slice_get-from_read, drop-at_byte}
+use Rattle.facet_json_scan.proofs.Segments.{between, between-more, between-rest, between-all}
+use Rattle.facet_json_scan.proofs.NumberCuts.{number_at}
+use Rattle.facet_json_scan.proofs.PendingNumber.{number-found}
 use Rattle.facet_json_scan.proofs.scanner.number_from.Goals as goal
 
-pub returns-then-number_end-buffer-clause-here : goal.returns-then-number_end-buffer-clause-here
-returns-then-number_end-buffer-clause-here c = λ mode b here begins.
+pub returns-in_default-after-clause-here : goal.returns-in_default-after-clause-here
+returns-in_default-after-clause-here c = λ i mode.
     let buffer = c.args.buffer.now in
     let start = c.args.start in
-    let rest = drop (start + 1) buffer in
-    let front : drop start buffer ≡ b ∷ rest = drop-at_byte buffer start b here in
-    let all : parts_len (parts (b ∷ rest)) ≡ length (b ∷ rest) =
-    omega (
-      arith,
-      ap (λ l. parts_len (parts l)) front,
-      ap length front,
-      length-drop start buffer,
-      c.number_end.ensures,
-      c.if-number_end-buffer.true,
-    ) in
-    (refl, subst (Describes mode in_number) (sym front) (number-open mode b rest begins all))
+    let end = c.loop-byte.end in
+    let part = part_of c.loop-byte.part in
+    let text = between buffer start end in
+    let first = get_or buffer start 0 in
+    let b = c.in-Some.byte.now in
+    let here : slice_get buffer start ≡ Some first =
+    slice_get-get_or buffer start 0 (omega (arith, c.in-Some.ensures.lookup.3.0)) in
+    let stops = slice_get-from_read buffer end b b c.in-Some.ensures.lookup.3 refl in
+    let whole : drop start buffer ≡ text ++ b ∷ drop (end + 1) buffer =
+    between-rest buffer start end (omega arith) (omega arith) ∙ ap (λ l. text ++ l) (drop-at_byte buffer end b stops) in
+    let ends : EndsIn part text = c.loop-byte.invariant.ends i in
+    let same : parts (drop start buffer) ≡ parts text =
+    ap parts whole ∙ c.in_default-after.ensures text (drop (end + 1) buffer) ends in
+    let found =
+    number-found mode buffer start end first part (omega arith) (omega (arith, c.in-Some.ensures.lookup.3.0)) here ends
+    same in
+    let some : number_at start (drop (start + 1) buffer) (parts text) ≢ nothing_left =
+    λ e. cut_here-something mode buffer start first here (sym found.0 ∙ e) in
+    found-here mode buffer start c.number_token.result (number_at start (drop (start + 1) buffer) (parts text))
+    (c.number_token.ensures.token ends) some found.0 found.1
+
+pub loop-byte-preserved : goal.loop-byte-preserved
+loop-byte-preserved c =
+    let buffer = c.args.buffer.now in
+    let start = c.args.start in
+    let end = c.loop-byte.end in
+    let b = c.in-Some.byte.now in
+    let here = slice_get-from_read buffer end b b c.in-Some.ensures.lookup.3 refl in
+    record {
+      ahead = omega arith;
+      within = omega (arith, c.in-Some.ensures.lookup.3.0);
+      ends = λ i.
+          subst (EndsIn (part_of c.in-Some-after.next)) (sym (between-more buffer start end b (omega arith) here))
+          (c.in-Some-after.ensures (between buffer start end) (c.loop-byte.invariant.ends i));
+    }
 
 pub returns-clause-here : goal.returns-clause-here
-returns-clause-here c = λ mode b here begins.
+returns-clause-here c = λ i mode.
     let buffer = c.args.buffer.now in
     let start = c.args.start in
-    let rest = drop (start + 1) buffer in
-    let p = parts (drop start buffer) in
-    let front : drop start buffer ≡ b ∷ rest = drop-at_byte buffer start b here in
-    let cuts = cut_here-number mode buffer start b here begins in
-    let ends : parts_len (parts (b ∷ rest)) ≡ length (b ∷ rest) → ⊥ =
-    λ e. c.if-number_end-buffer.false
-    (omega (
-      arith,
-      e,
-      ap (λ l. parts_len (parts l)) front,
-      ap length front,
-      length-drop start buffer,
-      c.number_end.ensures,
-    )) in
-    found-here mode buffer start c.cut_number.result (cut_number start rest (parts_len p) (parts_hint p) (is_bare p))
-    c.cut_number.ensures (λ e. cut_here-something mode buffer start b here (sym cuts ∙ e)) cuts
-    (λ i. number-shut mode b rest begins ends (subst (IsBeginning mode) front i))
-
-pub returns-clause-within : goal.returns-clause-within
-returns-clause-within c = λ b here begins.
-    let buffer = c.args.buffer.now in
-    let start = c.args.start in
-    let p = parts (drop start buffer) in
-    let cuts = cut_here-number plain buffer start b here begins in (
-      omega arith,
-      answered-ends c.cut_number.result
-          (cut_number start (drop (start + 1) buffer) (parts_len p) (parts_hint p) (is_bare p)) _ c.cut_number.ensures
-          (subst (EndsWithin (length buffer)) (sym cuts) (cut_here-ends plain buffer start b here)),
-    )
+    let end = c.loop-byte.end in
+    let part = part_of c.loop-byte.part in
+    let all = between-all buffer start end c.in_default.ensures.lookup.3 in
+    (refl, Describes.number mode part (drop start buffer) (subst (EndsIn part) all (c.loop-byte.invariant.ends i)))

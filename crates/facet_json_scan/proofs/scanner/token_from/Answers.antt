@@ -1,15 +1,17 @@
 -- What the first byte begins is found, and another byte is cut.
-use Rattle.std.proofs.Common.{◌≡◌, ◌+◌, ◌<◌, ◌⊎◌, inl, inr, [], ◌∷◌, length, drop, false, Some, refl, sym, ap, ◌∙◌, subst, arith}
+use Rattle.std.proofs.Common.{◌≡◌, ◌+◌, ◌<◌, ◌⊎◌, inl, inr, [], ◌∷◌, length, drop, true, false, Some, refl, sym, ap, ◌∙◌, subst, arith}
 use Rattle.std.proofs.lemmas.List.{drop_all}
 use Rattle.facet_format.specs.Bytes.{quote, slash}
 use Rattle.facet_json_scan.specs.Token.{null, true_literal, false_literal}
+use Rattle.facet_format.specs.Number.{starts_number}
 use Rattle.facet_json_scan.specs.Cut.{ArePieces, start_of, cut_here}
 use Rattle.facet_json_scan.specs.Open.{IsBeginning}
-use Rattle.facet_json_scan.specs.Scanner.{Describes, in_text, answer_for}
+use Rattle.facet_json_scan.specs.Scanner.{Describes, EndsIn, in_digits, in_text, answer_for}
 use Rattle.facet_json_scan.specs.Views.{mode_of}
 use Rattle.facet_json_scan.proofs.Offsets.{drop-at_byte, slice_get-from_read}
-use Rattle.facet_json_scan.proofs.FirstBytes.{start_of-number_range, cut_here-something}
+use Rattle.facet_json_scan.proofs.FirstBytes.{starts_number-range, cut_here-something}
 use Rattle.facet_json_scan.proofs.Segments.{between-first}
+use Rattle.facet_json_scan.proofs.PendingNumber.{first-ends}
 use Rattle.facet_json_scan.proofs.Beginnings.{others_shut, nothing_shut}
 use Rattle.facet_json_scan.proofs.Answered.{found-here, answered-ends, cut_here-ends}
 use Rattle.facet_json_scan.proofs.scanner.token_from.Goals as goal
@@ -117,14 +119,11 @@ returns-in_default-first-clause-within c =
 
 pub returns-in-45-clause-here : goal.returns-in-45-clause-here
 returns-in-45-clause-here c = λ shut.
+    let buffer = c.args.buffer.now in
+    let at = c.args.at in
     let b = c.in-Some.first.now in
-    let here = slice_get-from_read c.args.buffer.now c.args.at b b c.in-Some.ensures.lookup.3 refl in
-    let begins = start_of-number_range b (grind arith) (grind arith) (grind arith) (grind arith) in
-    c.number_from.ensures.here (mode_of c.args.mode) b here begins
-
-pub returns-in-45-clause-within : goal.returns-in-45-clause-within
-returns-in-45-clause-within c =
-    let b = c.in-Some.first.now in
-    let here = slice_get-from_read c.args.buffer.now c.args.at b b c.in-Some.ensures.lookup.3 refl in
-    let begins = start_of-number_range b (grind arith) (grind arith) (grind arith) (grind arith) in
-    c.number_from.ensures.within b here begins
+    let here = slice_get-from_read buffer at b b c.in-Some.ensures.lookup.3 refl in
+    let starts : starts_number b ≡ true =
+    starts_number-range b (grind arith) (grind arith) (grind arith) (grind arith) in
+    c.number_from.ensures.here
+    (subst (EndsIn in_digits) (sym (between-first buffer at b here)) (first-ends b starts)) (mode_of c.args.mode)
