@@ -1,5 +1,5 @@
 -- What the types of the code stand for in the definitions. The one file of the definitions that names types of the code.
-use Rattle.std.specs.Prelude.{◌≡◌, ◌≤◌, ℕ, List, length}
+use Rattle.std.specs.Prelude.{◌≡◌, ◌≤◌, ℕ, List, map, length, Option, Result, Ok, Err}
 use Rattle.std.specs.Option.{option_map}
 use Rattle.facet_format.specs.declared.span.Span.{Span as RustSpan}
 use Rattle.facet_format.specs.declared.numeral.NumberHint.{NumberHint}
