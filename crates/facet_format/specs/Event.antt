@@ -21,7 +21,7 @@ pub data Scalar : Type 0 where
   i128 : ℤ → Scalar
   u128 : ℕ → Scalar
   -- a number's text
-  decimal : List ℕ → Scalar
+  decimal : Text → Scalar
   text : Text → Scalar
   bytes : List ℕ → Scalar
 
@@ -42,6 +42,11 @@ pub record Passed : Type 0 where
   pub event : Event
   pub last : Span
 
+-- the bytes of a text
+abbrev pub bytes_of : Text → List ℕ
+bytes_of (borrowed t) = t
+bytes_of (owned t) = t
+
 -- the text is made
 abbrev pub is_owned : Text → Bool
 is_owned (borrowed t) = false
@@ -49,8 +54,26 @@ is_owned (owned t) = true
 
 -- the scalar holds a text that is made
 abbrev pub is_made : Scalar → Bool
+is_made null = false
+is_made unit = false
+is_made (bool b) = false
+is_made (char c) = false
+is_made (i64 n) = false
+is_made (u64 n) = false
+is_made (i128 n) = false
+is_made (u128 n) = false
+is_made (decimal t) = is_owned t
 is_made (text t) = is_owned t
-is_made _ = false
+is_made (bytes b) = false
+
+-- an event of this kind holds a text that is made
+abbrev pub holds_made : EventKind → Bool
+holds_made (struct_start kind) = false
+holds_made struct_end = false
+holds_made (sequence_start kind) = false
+holds_made sequence_end = false
+holds_made (field_key name) = is_owned name
+holds_made (scalar value) = is_made value
 
 -- an event of this kind may take memory: a container to remember, or a text to make
 abbrev pub takes_memory : EventKind → Bool

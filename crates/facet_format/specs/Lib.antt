@@ -5,5 +5,7 @@ pub mod Complaint
 pub mod Views
 pub mod Laws
 pub mod Event
+pub mod HeldText
 pub mod Cursor
 pub mod Kept
+pub mod Standing

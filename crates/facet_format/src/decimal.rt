@@ -2,14 +2,15 @@
 
 ghost use Rattle.std.specs.Prelude.{◌≡◌, ◌≤◌, true, Some, None, length, MatchOption, MatchResult, nat_eq};
 ghost use Rattle.std.specs.List.{list_any};
-ghost use Rattle.std.specs.Cmp.{partial_equiv_from_equiv};
+ghost use Rattle.std.specs.Cmp.{partial_equiv_from_equiv, on_per, on_equiv};
 ghost use Rattle.std.specs.Cmp.Lexicographic.{pointwise, nat_list_eq_equiv};
 ghost use Rattle.facet_format.specs.Bytes.{is_digit};
+ghost use Rattle.facet_format.specs.Event.{borrowed, owned, bytes_of, is_owned};
 ghost use Rattle.facet_format.specs.Number.{number, is_number, float, decimal, has_value};
 ghost use Rattle.facet_format.specs.Views.{parts_of, ArePartsOf};
 
 use crate::numeral::{NumberHint, Parts, number_parts};
-use std::alloc::Global;
+use std::alloc::{AllocError, Global};
 use std::borrow::CowStr;
 use std::marker::Model;
 
@@ -19,21 +20,22 @@ use std::marker::Model;
 pub struct Decimal<'a>(CowStr<'a>);
 
 impl<'a> Model for Decimal<'a> {
-    ghost use Rattle.std.specs.Prelude.{◌≡◌, ℕ, List, Some};
-    ghost use Rattle.std.specs.Cow.{cow_str_bytes};
+    ghost use Rattle.std.specs.Prelude.{◌≡◌, Some};
+    ghost use Rattle.facet_format.specs.Event.{Text, bytes_of};
+    ghost use Rattle.facet_format.specs.HeldText.{text_of};
     ghost use Rattle.facet_format.specs.Number.{number, float, decimal};
 
-    ghost Value = { List ℕ };
+    ghost Value = { Text };
 
-    ghost view = { λ d. cow_str_bytes d.0 };
+    ghost view = { λ d. text_of d.0 };
 
-    ghost invariant = { λ d. number (cow_str_bytes d.0) float ≡ Some (decimal (cow_str_bytes d.0)) };
+    ghost invariant = { λ d. number (bytes_of (text_of d.0)) float ≡ Some (decimal (bytes_of (text_of d.0))) };
 }
 
 impl<'a> PartialEq for Decimal<'a> {
-    ghost eq = { pointwise nat_eq };
+    ghost eq = { λ x y. pointwise nat_eq (bytes_of x) (bytes_of y) };
 
-    ghost laws = { partial_equiv_from_equiv nat_list_eq_equiv };
+    ghost laws = { on_per bytes_of (partial_equiv_from_equiv nat_list_eq_equiv) };
 
     fn eq(&self, other: &Self) -> bool {
         self.as_str() == other.as_str()
@@ -41,7 +43,7 @@ impl<'a> PartialEq for Decimal<'a> {
 }
 
 impl<'a> Eq for Decimal<'a> {
-    ghost laws = { nat_list_eq_equiv };
+    ghost laws = { on_equiv bytes_of nat_list_eq_equiv };
 }
 
 impl<'a> Decimal<'a> {
@@ -56,7 +58,7 @@ impl<'a> Decimal<'a> {
     pub fn new(text: &'a str) -> Option<Decimal<'a>>
         ensures { MatchOption result
             (number text.now float ≡ None)
-            (λ d. (d ≡ text.now) × (number text.now float ≡ Some (decimal text.now))) }
+            (λ d. (d ≡ borrowed text.now) × (number text.now float ≡ Some (decimal text.now))) }
     {
         let parts = number_parts(text.as_bytes(), NumberHint::Float)?;
         Decimal::from_number(text, parts)
@@ -68,7 +70,7 @@ impl<'a> Decimal<'a> {
         requires parts { ArePartsOf text.now parts }
         ensures { MatchOption result
             (number text.now float ≡ None)
-            (λ d. (d ≡ text.now) × (number text.now float ≡ Some (decimal text.now))) }
+            (λ d. (d ≡ borrowed text.now) × (number text.now float ≡ Some (decimal text.now))) }
     {
         if has_value(text.as_bytes(), parts) {
             Some(Decimal(CowStr::Borrowed(text)))
@@ -79,15 +81,28 @@ impl<'a> Decimal<'a> {
 
     /// The text.
     pub fn as_str(&self) -> &str
-        ensures text { result.now ≡ self.now }
-        ensures number { number self.now float ≡ Some (decimal self.now) }
+        ensures text { result.now ≡ bytes_of self.now }
+        ensures number { number (bytes_of self.now) float ≡ Some (decimal (bytes_of self.now)) }
     {
         self.0.as_str()
     }
 
+    /// The same text. A borrowed one stays borrowed, and an owned one is copied, which alone takes memory.
+    pub fn clone(&self, alloc: Global) -> Result<Decimal<'a>, AllocError>
+        ensures { MatchResult result (λ d. d ≡ self.now) (λ _. is_owned self.now ≡ true) }
+    {
+        match &self.0 {
+            CowStr::Borrowed(text) => Ok(Decimal(CowStr::Borrowed(*text))),
+            CowStr::Owned(text) => Ok(Decimal(CowStr::Owned(String::from_str(
+                alloc,
+                text.as_str(),
+            )?))),
+        }
+    }
+
     /// The same text in memory of its own, or the value back where there is no memory for it.
     pub fn into_owned(self, alloc: Global) -> Result<Decimal<'static>, Decimal<'a>>
-        ensures { MatchResult result (λ d. d ≡ self.entry) (λ d. d ≡ self.entry) }
+        ensures { MatchResult result (λ d. d ≡ owned (bytes_of self.entry)) (λ d. d ≡ self.entry) }
     {
         match self.0 {
             CowStr::Owned(text) => Ok(Decimal(CowStr::Owned(text))),

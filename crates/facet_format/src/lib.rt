@@ -1,17 +1,23 @@
-//! What the formats of this library share: spans of the input, numbers that are kept as their text, and how reading is
-//! refused.
+//! What the formats of this library share: spans of the input, events, numbers that are kept as their text, and how
+//! reading is refused.
 #![tactic(auto)]
 
 mod decimal;
 mod error;
+mod event;
 pub mod laws;
 pub mod numeral;
 mod parse_error;
+mod parser;
 mod span;
 
 pub use decimal::Decimal;
 pub use error::{DeserializeError, DeserializeErrorKind};
+pub use event::{
+    ContainerKind, FieldKey, FieldLocationHint, ParseEvent, ParseEventKind, SavePoint, ScalarValue,
+};
 pub use parse_error::ParseError;
+pub use parser::FormatParser;
 pub use span::Span;
 
 #[cfg(test)]

@@ -127,7 +127,6 @@ fn refusals(rt: HostRuntime) -> Result<(), Fail> {
     )
 }
 
-
 #[test]
 fn refusals_of_parsers(rt: HostRuntime) -> Result<(), Fail> {
     let alloc = rt.alloc();

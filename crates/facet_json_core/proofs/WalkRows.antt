@@ -66,7 +66,7 @@ unfolding read_by spelled node_within tree_of tokens_past cut cut_here start_of 
 wide_number_row = refl
 
 -- Other numbers and literals.
-scalars_row : walk_of (codes "[-1,1.,null,true]") plain ≡ Some (at (sequence_start array) 0 1 ∷ at (scalar (i64 (neg_ℤ (pos 1)))) 1 2 ∷ at (scalar (decimal (codes "1."))) 4 2 ∷ at (scalar null) 7 4 ∷ at (scalar (bool true)) 12 4 ∷ at sequence_end 16 1 ∷ [])
+scalars_row : walk_of (codes "[-1,1.,null,true]") plain ≡ Some (at (sequence_start array) 0 1 ∷ at (scalar (i64 (neg_ℤ (pos 1)))) 1 2 ∷ at (scalar (decimal (borrowed (codes "1.")))) 4 2 ∷ at (scalar null) 7 4 ∷ at (scalar (bool true)) 12 4 ∷ at sequence_end 16 1 ∷ [])
 unfolding read_by spelled node_within tree_of tokens_past cut cut_here start_of gap_len_from parts number walk
 scalars_row = refl
 

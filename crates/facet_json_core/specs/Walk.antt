@@ -24,7 +24,7 @@ scalar_by kind tree.null = event.null
 scalar_by kind (tree.bool b) = event.bool b
 scalar_by kind (tree.i64 n) = event.i64 n
 scalar_by kind (tree.u64 n) = event.u64 n
-scalar_by kind (tree.decimal digits) = event.decimal digits
+scalar_by kind (tree.decimal digits) = event.decimal (event.borrowed digits)
 scalar_by kind (tree.text bytes) = event.text (text_by kind bytes)
 scalar_by kind _ = event.null
 

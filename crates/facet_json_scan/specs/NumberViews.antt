@@ -5,6 +5,7 @@ use Rattle.facet_json_scan.specs.declared.number.ParsedNumber.{ParsedNumber}
 use Rattle.facet_json_scan.specs.declared.number.ParsedNumber.TheVariants as parsed
 use Rattle.facet_json_scan.specs.declared.token.ScanError.{ScanError}
 use Rattle.facet_json_scan.specs.declared.token.ScanErrorKind.TheVariants as scan
+use Rattle.facet_format.specs.Event.{bytes_of}
 use Rattle.facet_format.specs.Number.{Number, u64, i64, u128, i128, decimal, Parts, parts, parts_len}
 
 abbrev pub number_of : ParsedNumber → Number
@@ -12,7 +13,7 @@ number_of (parsed.U64 n) = u64 n
 number_of (parsed.I64 n) = i64 n
 number_of (parsed.U128 n) = u128 n
 number_of (parsed.I128 n) = i128 n
-number_of (parsed.Decimal text) = decimal text
+number_of (parsed.Decimal text) = decimal (bytes_of text)
 
 -- how text that isn't a number is refused: by a question mark over all of it
 abbrev pub number_refusal : ℕ → ℕ → ScanError

@@ -1,0 +1,193 @@
+//! Events, in which a document is read: a parser gives them one by one.
+
+ghost use Rattle.std.specs.Prelude.{◌≡◌, true, MatchResult};
+ghost use Rattle.facet_format.specs.Event.{is_owned, is_made, holds_made};
+ghost use Rattle.facet_format.specs.HeldText.{text_of};
+ghost use Rattle.facet_format.specs.Views.{scalar_value_of, event_kind_of, event_of, span_of};
+
+use crate::decimal::Decimal;
+use crate::span::Span;
+use std::alloc::{AllocError, Global};
+use std::borrow::CowStr;
+
+/// What a container is in the text that it stands in.
+#[derive(Debug, Clone, Copy, PartialEq, Eq)]
+pub enum ContainerKind {
+    /// Pairs of a name and a value.
+    Object,
+    /// Values in order.
+    Array,
+}
+
+/// Where a field's name stands.
+#[derive(Debug, Clone, Copy, PartialEq, Eq)]
+pub enum FieldLocationHint {
+    /// Before the value, as the key of a pair.
+    KeyValue,
+}
+
+/// The name of a field, and where it stands.
+#[derive(Debug, PartialEq, Drop)]
+pub struct FieldKey<'a> {
+    /// The name.
+    pub name: CowStr<'a>,
+    /// Where it stands.
+    pub hint: FieldLocationHint,
+}
+
+impl<'a> FieldKey<'a> {
+    /// The field of this name, which stands there.
+    pub fn new(name: CowStr<'a>, hint: FieldLocationHint) -> FieldKey<'a>
+        ensures name { text_of result.name ≡ text_of name.entry }
+        ensures hint { result.hint ≡ hint }
+    {
+        FieldKey { name, hint }
+    }
+
+    /// The same name, copied where it is owned.
+    fn copy(&self, alloc: Global) -> Result<FieldKey<'a>, AllocError>
+        ensures { MatchResult result
+            (λ copy. text_of copy.name ≡ text_of self.now.name)
+            (λ _. is_owned (text_of self.now.name) ≡ true) }
+    {
+        Ok(FieldKey {
+            name: copy_text(&self.name, alloc)?,
+            hint: self.hint,
+        })
+    }
+}
+
+/// A value that holds no others.
+#[derive(Debug, PartialEq, Drop)]
+pub enum ScalarValue<'a> {
+    /// No value.
+    Null,
+    /// The value of the type with one value.
+    Unit,
+    /// A truth value.
+    Bool(bool),
+    /// A character.
+    Char(char),
+    /// A whole number of 64 bits, with a sign.
+    I64(i64),
+    /// A whole number of 64 bits, without one.
+    U64(u64),
+    /// A whole number of 128 bits, with a sign.
+    I128(i128),
+    /// A whole number of 128 bits, without one.
+    U128(u128),
+    /// A number with a fraction or an exponent.
+    Decimal(Decimal<'a>),
+    /// A text.
+    Str(CowStr<'a>),
+    /// Bytes.
+    Bytes(&'a [u8]),
+}
+
+impl<'a> ScalarValue<'a> {
+    /// The same value, copied where it holds an owned text.
+    fn copy(&self, alloc: Global) -> Result<ScalarValue<'a>, AllocError>
+        ensures { MatchResult result
+            (λ copy. scalar_value_of copy ≡ scalar_value_of self.now)
+            (λ _. is_made (scalar_value_of self.now) ≡ true) }
+    {
+        match self {
+            ScalarValue::Null => Ok(ScalarValue::Null),
+            ScalarValue::Unit => Ok(ScalarValue::Unit),
+            ScalarValue::Bool(b) => Ok(ScalarValue::Bool(*b)),
+            ScalarValue::Char(c) => Ok(ScalarValue::Char(*c)),
+            ScalarValue::I64(n) => Ok(ScalarValue::I64(*n)),
+            ScalarValue::U64(n) => Ok(ScalarValue::U64(*n)),
+            ScalarValue::I128(n) => Ok(ScalarValue::I128(*n)),
+            ScalarValue::U128(n) => Ok(ScalarValue::U128(*n)),
+            ScalarValue::Decimal(decimal) => Ok(ScalarValue::Decimal(decimal.clone(alloc)?)),
+            ScalarValue::Str(text) => Ok(ScalarValue::Str(copy_text(text, alloc)?)),
+            ScalarValue::Bytes(bytes) => Ok(ScalarValue::Bytes(*bytes)),
+        }
+    }
+}
+
+/// What an event is.
+#[derive(Debug, PartialEq, Drop)]
+pub enum ParseEventKind<'a> {
+    /// Fields begin.
+    StructStart(ContainerKind),
+    /// Fields end.
+    StructEnd,
+    /// Values in order begin.
+    SequenceStart(ContainerKind),
+    /// Values in order end.
+    SequenceEnd,
+    /// The name of the field whose value follows.
+    FieldKey(FieldKey<'a>),
+    /// A value that holds no others.
+    Scalar(ScalarValue<'a>),
+}
+
+impl<'a> ParseEventKind<'a> {
+    /// The same kind, copied where it holds an owned text.
+    fn copy(&self, alloc: Global) -> Result<ParseEventKind<'a>, AllocError>
+        ensures { MatchResult result
+            (λ copy. event_kind_of copy ≡ event_kind_of self.now)
+            (λ _. holds_made (event_kind_of self.now) ≡ true) }
+    {
+        match self {
+            ParseEventKind::StructStart(kind) => Ok(ParseEventKind::StructStart(*kind)),
+            ParseEventKind::StructEnd => Ok(ParseEventKind::StructEnd),
+            ParseEventKind::SequenceStart(kind) => Ok(ParseEventKind::SequenceStart(*kind)),
+            ParseEventKind::SequenceEnd => Ok(ParseEventKind::SequenceEnd),
+            ParseEventKind::FieldKey(key) => Ok(ParseEventKind::FieldKey(key.copy(alloc)?)),
+            ParseEventKind::Scalar(value) => Ok(ParseEventKind::Scalar(value.copy(alloc)?)),
+        }
+    }
+}
+
+/// A piece of a document, and where it stands.
+///
+/// Of `{"a":[1]}` the events are `StructStart` at 0+1, `FieldKey` of `a` at 1+3, `SequenceStart` at 5+1, `Scalar` of
+/// `U64(1)` at 6+1, `SequenceEnd` at 7+1 and `StructEnd` at 8+1.
+#[derive(Debug, PartialEq, Drop)]
+pub struct ParseEvent<'a> {
+    /// What the event is.
+    pub kind: ParseEventKind<'a>,
+    /// The bytes of the bracket, the key or the value that it comes from.
+    pub span: Span,
+}
+
+impl<'a> ParseEvent<'a> {
+    /// The event of this kind that comes from these bytes.
+    pub fn new(kind: ParseEventKind<'a>, span: Span) -> ParseEvent<'a>
+        ensures kind { event_kind_of result.kind ≡ event_kind_of kind.entry }
+        ensures span { result.span ≡ span }
+    {
+        ParseEvent { kind, span }
+    }
+
+    /// The same event. A borrowed text stays borrowed, and an owned one is copied, which alone takes memory.
+    pub fn clone(&self, alloc: Global) -> Result<ParseEvent<'a>, AllocError>
+        ensures { MatchResult result
+            (λ copy. event_of copy ≡ event_of self.now)
+            (λ _. holds_made (event_kind_of self.now.kind) ≡ true) }
+    {
+        Ok(ParseEvent {
+            kind: self.kind.copy(alloc)?,
+            span: self.span,
+        })
+    }
+}
+
+/// The number of a point that a parser keeps, to which it can go back.
+#[derive(Debug, Clone, Copy, PartialEq, Eq)]
+pub struct SavePoint(pub u64);
+
+/// The same text: a borrowed one stays borrowed, an owned one is copied.
+fn copy_text<'a>(text: &CowStr<'a>, alloc: Global) -> Result<CowStr<'a>, AllocError>
+    ensures { MatchResult result
+        (λ copy. text_of copy ≡ text_of text.now)
+        (λ _. is_owned (text_of text.now) ≡ true) }
+{
+    match text {
+        CowStr::Borrowed(borrowed) => Ok(CowStr::Borrowed(*borrowed)),
+        CowStr::Owned(owned) => Ok(CowStr::Owned(String::from_str(alloc, owned.as_str())?)),
+    }
+}

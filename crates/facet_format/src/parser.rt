@@ -1,0 +1,61 @@
+//! What every parser of a format offers: a document's events one by one, with a look ahead and points to go back to.
+
+ghost use Rattle.std.specs.Prelude.{◌≡◌, List, ◌++◌};
+ghost use Rattle.facet_format.specs.declared.event.ParseEvent.{ParseEvent};
+ghost use Rattle.facet_format.specs.Cursor.{next, peek, events, save, restore, restored, span};
+ghost use Rattle.facet_format.specs.Standing.{IsStep};
+ghost use Rattle.facet_format.specs.Views.{answer_of_event, answer_of_events, answer_of_save, answer_of_span};
+
+use crate::event::{ParseEvent, SavePoint};
+use crate::parse_error::ParseError;
+use crate::span::Span;
+use std::collections::VecDeque;
+
+/// A parser of a format, over an input that lives for `'de`.
+///
+/// On an input with a document it stands at a cursor on that document's walk, its list of events, and each call is one
+/// step of that cursor.
+pub trait FormatParser<'de> {
+    ghost use Rattle.std.specs.Prelude.{List};
+    ghost use Rattle.facet_format.specs.Event.{Passed};
+    ghost use Rattle.facet_format.specs.Cursor.{Cursor};
+
+    /// It stands at this cursor on this walk.
+    ghost at: { Self → List Passed → Cursor → Type 0 };
+
+    /// The next event, or `None` at the document's end.
+    fn next_event(&mut self) -> Result<Option<ParseEvent<'de>>, ParseError>
+        ensures { IsStep at self.old next (answer_of_event result) self.new };
+
+    /// The next event, which stays the next one.
+    fn peek_event(&mut self) -> Result<Option<ParseEvent<'de>>, ParseError>
+        ensures { IsStep at self.old peek (answer_of_event result) self.new };
+
+    /// Appends the next events to the queue, up to so many, and answers how many they are. Where a refusal comes, the
+    /// events before it are appended.
+    fn next_events(
+        &mut self,
+        buf: &mut VecDeque<ParseEvent<'de>>,
+        limit: usize,
+    ) -> Result<usize, ParseError>
+        ensures { (given : List ParseEvent) × (buf.new.items ≡ buf.old.items ++ given)
+            × IsStep at self.old (events limit) (answer_of_events given result) self.new };
+
+    /// Keeps where it stands, under a number of its own.
+    fn save(&mut self) -> Result<SavePoint, ParseError>
+        ensures { IsStep at self.old save (answer_of_save result) self.new };
+
+    /// Goes back to a point that is kept, and drops the point. Another point changes nothing.
+    fn restore(&mut self, point: SavePoint)
+        ensures { IsStep at self.old (restore point.0) restored self.new };
+
+    /// The bytes of the token that was read last.
+    fn current_span(&self) -> Option<Span>
+        ensures { IsStep at self.now span (answer_of_span result) self.now };
+
+    /// The input, where the parser has all of it.
+    fn input(&self) -> Option<&'de [u8]>;
+
+    /// The name of the format, where it has one by which fields are told apart.
+    fn format_namespace(&self) -> Option<&'static str>;
+}
