@@ -57,3 +57,4 @@ pub mod Given
 pub mod WalkRows
 pub mod Futures
 pub mod Stands
+pub mod CursorMoves
