@@ -1,5 +1,5 @@
 -- Where a parser stands on a document's walk: at its front when it is new, and one step on after each move.
-use Rattle.std.proofs.Common.{◌≡◌, ℕ, zero, suc, ◌+◌, ◌<◌, ◌≤◌, Bool, true, false, cond, ◌==◌, List, [], ◌∷◌, ◌++◌, map, length, take, drop, Option, Some, None, refl, sym, ap, ◌∙◌, subst, arith}
+use Rattle.std.proofs.Common.{◌≡◌, ℕ, zero, suc, ◌+◌, ◌≤◌, Bool, true, false, cond, ◌==◌, List, [], ◌∷◌, map, length, take, drop, Option, Some, None, refl, sym, ap, ◌∙◌, subst, arith}
 use Rattle.std.specs.Prelude.{slice_get}
 use Rattle.facet_json.specs.Gap.{Mode}
 use Rattle.facet_json.specs.Token.{Span}
@@ -16,7 +16,7 @@ use Rattle.facet_json.specs.Walk.{walk}
 use Rattle.facet_json.specs.Kept.{found, without, with_point}
 use Rattle.facet_json.specs.Cursor.{Spot, start, last_of, seen, current_span}
 use Rattle.facet_json.specs.Future.{Future, gives, finished, stuck, events_before, within, reads}
-use Rattle.facet_json.specs.Now.{Standing, Now, fresh, held_before, is_shown, last_shown, span_of, future_of, is_peeked, StandsOn, KeptAlike, none_kept, one_kept, StandsAt}
+use Rattle.facet_json.specs.Now.{Standing, Now, fresh, held_before, is_shown, last_shown, span_of, StandsOn, KeptAlike, none_kept, one_kept, StandsAt}
 use Rattle.facet_json.specs.Move.{Shows, IsAlike, Passes, no_events, one_event}
 use Rattle.facet_json.proofs.Futures.{walk-comes}
 

@@ -21,6 +21,7 @@ pub mod Cursor
 pub mod Future
 pub mod Now
 pub mod Move
+pub mod Begun
 pub mod Reading
 pub mod Same
 pub mod SameLaws
