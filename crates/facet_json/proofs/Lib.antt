@@ -58,3 +58,8 @@ pub mod WalkRows
 pub mod Futures
 pub mod Stands
 pub mod CursorMoves
+pub mod KeptLaws
+pub mod CursorLaws
+pub mod MoveLaws
+pub mod Outcomes
+pub mod BegunLaws

@@ -6,12 +6,12 @@ use Rattle.facet_json.specs.Token.{Kind, Token, Fault}
 use Rattle.facet_json.specs.Token as token
 use Rattle.facet_json.specs.Tokens.{Tokens, ended, refused, next}
 use Rattle.facet_json.specs.Node.{Node, scalar, Nodes, no_nodes, item, Members, no_members, member, is_scalar, is_string, Spells, one_token, brackets, braces, SpellsItems, closed, item_and_comma, last_item, SpellsMembers, ended_members, member_and_comma, last_member}
-use Rattle.facet_json.specs.Node as node
+use Rattle.facet_json.specs.Node as shapes
 use Rattle.facet_json.specs.Tree.{Tree, Trees, no_trees, Pairs, no_pairs}
-use Rattle.facet_json.specs.Tree as tree
+use Rattle.facet_json.specs.Tree as trees
 use Rattle.facet_json.specs.Meaning.{Meaning, tree_of, trees_of, pairs_of, text_of}
 use Rattle.facet_json.specs.Spelled.{count}
-use Rattle.facet_json.specs.Place.{Place, before_key, after_key, after_colon, after_member, before_item, after_item, is_colon}
+use Rattle.facet_json.specs.Place.{Place, root, before_key, after_key, after_colon, after_member, before_item, after_item, is_colon}
 use Rattle.facet_json.specs.Refusal.{needs_meaning}
 use Rattle.facet_json.specs.Reading.{TakesValue, at_root, behind_colon, of_list}
 use Rattle.facet_json.specs.Event.{ContainerKind, object, array, Passed}
@@ -193,7 +193,7 @@ module _ (m : Meaning) (sane : IsMeaning m) where
       t.kind ≡ token.array_start → ItemsCome m stack rest → ValueComes m stack place (next t rest)
   unfolding tree_of
   list_stands stack place t rest at k (items_stand after nodes last values s e) =
-      value_stands after (node.array t last nodes) (tree.list values) (brackets t last rest after nodes k s) (rw e refl)
+      value_stands after (shapes.array t last nodes) (trees.list values) (brackets t last rest after nodes k s) (rw e refl)
   list_stands stack place t rest at k (items_stop events here left b e) =
       let start = event_at (event.sequence_start array) t in
       value_stops (start ∷ events) here left (in_list place (after_value stack) (within here) t rest left events k b)
@@ -204,7 +204,7 @@ module _ (m : Meaning) (sane : IsMeaning m) where
       t.kind ≡ token.object_start → MembersCome m stack rest → ValueComes m stack place (next t rest)
   unfolding tree_of
   object_stands stack place t rest at k (members_stand after members last values s e) =
-      value_stands after (node.object t last members) (tree.pairs values) (braces t last rest after members k s) (rw e refl)
+      value_stands after (shapes.object t last members) (trees.pairs values) (braces t last rest after members k s) (rw e refl)
   object_stands stack place t rest at k (members_stop events here left b e) =
       let start = event_at (event.struct_start object) t in
       value_stops (start ∷ events) here left (in_object place (after_value stack) (within here) t rest left events k b)
@@ -231,7 +231,7 @@ module _ (m : Meaning) (sane : IsMeaning m) where
       ItemsCome m stack others → ItemsCome m stack ts
   unfolding trees_of
   item_goes_on stack ts others node value separator s t k (items_stand rest nodes last values more e) =
-      items_stand rest (item node nodes) last (tree.tree value values)
+      items_stand rest (item node nodes) last (trees.tree value values)
       (item_and_comma ts others rest node nodes separator last s k more) (rw (t, e) refl)
   item_goes_on stack ts others node value separator s t k (items_stop events here rest b e) =
       items_stop (walk m node ++ events) here rest
@@ -245,7 +245,7 @@ module _ (m : Meaning) (sane : IsMeaning m) where
       Spells ts node (next last rest) → tree_of m node ≡ Some value → last.kind ≡ token.array_end → ItemsCome m stack ts
   unfolding trees_of
   item_ends stack ts rest node value last s t k =
-      items_stand rest (item node no_nodes) last (tree.tree value no_trees) (last_item ts rest node last s k) (rw t refl)
+      items_stand rest (item node no_nodes) last (trees.tree value no_trees) (last_item ts rest node last s k) (rw t refl)
 
   -- No item, and the closing bracket.
   list_ends : (stack : List ContainerKind) (last : Token) (rest : Tokens) → last.kind ≡ token.array_end →
@@ -301,7 +301,7 @@ module _ (m : Meaning) (sane : IsMeaning m) where
         MembersCome m stack others → MembersCome m stack (next key (next mark ts))
     unfolding pairs_of
     member_goes_on others node value separator s t p (members_stand rest members last values more e) =
-        members_stand rest (member key mark node members) last (tree.pair name value values)
+        members_stand rest (member key mark node members) last (trees.pair name value values)
         (member_and_comma ts others rest key mark node members separator last k c s p more) (rw (n, t, e) refl)
     member_goes_on others node value separator s t p (members_stop events here rest b e) =
         let all = key_event m key mark ∷ walk m node ++ events in
@@ -317,5 +317,132 @@ module _ (m : Meaning) (sane : IsMeaning m) where
         tree_of m node ≡ Some value → last.kind ≡ token.object_end → MembersCome m stack (next key (next mark ts))
     unfolding pairs_of
     member_ends rest node value last s t p =
-        members_stand rest (member key mark node no_members) last (tree.pair name value no_pairs)
+        members_stand rest (member key mark node no_members) last (trees.pair name value no_pairs)
         (last_member ts rest key mark node last k c s p) (rw (n, t) refl)
+
+  -- ---- behind a key
+
+  colon-ended : (stack : List ContainerKind) (key : Token) → reads_colon m stack key ended ≡ stuck after_key ended
+  unfolding reads_colon
+  colon-ended stack key = refl
+
+  colon-refused : (stack : List ContainerKind) (key : Token) (f : Fault) →
+      reads_colon m stack key (refused f) ≡ stuck after_key (refused f)
+  unfolding reads_colon
+  colon-refused stack key f = refl
+
+  colon-missing : (stack : List ContainerKind) (key mark : Token) (rest : Tokens) → is_colon mark.kind ≡ false →
+      reads_colon m stack key (next mark rest) ≡ stuck after_key (next mark rest)
+  unfolding reads_colon
+  colon-missing stack key mark rest c = rw (c, reads_colon) refl
+
+  string_scalar : (kind : Kind) → is_string kind ≡ true → is_scalar kind ≡ true
+  string_scalar (token.string start finish has_escapes) e = refl
+  string_scalar _ e = cc
+
+  -- A string that is not without meaning has a text.
+  name_meant : (t : Token) → is_string t.kind ≡ true → is_meaningless m t ≡ false → (name : List ℕ) × (text_of (m t) ≡ Some name)
+  name_meant t k e =
+      let meant = scalar_meant t (string_scalar t.kind k) e in
+      sane.texts t meant.0 k meant.1
+
+  -- ---- all tokens
+
+  -- A suffix has no more tokens.
+  suffix-count : (a b : Tokens) → IsSuffix a b → count b ≤ count a
+  suffix-count a _ (all _) = omega arith
+  suffix-count _ b (later t ts _ p) = omega (arith, suffix-count ts b p)
+
+  -- What stands behind a value and the next token has fewer.
+  spelled-fewer : (ts others : Tokens) (node : Node) (t : Token) → Spells ts node (next t others) → suc (count others) ≤ count ts
+  spelled-fewer ts others node t s = suffix-count ts (next t others) (Spells-suffix ts node (next t others) s)
+
+  mutual
+    value_out : (n : ℕ) (stack : List ContainerKind) (place : Place) (t : Token) (rest : Tokens) → TakesValue place →
+        place_turn stack place t.kind ≡ value_turn stack t.kind → 2 * suc (count rest) ≤ n → ValueComes m stack place (next t rest)
+    value_out zero stack place t rest at j h = absurd (omega arith)
+    value_out (suc n) stack place t rest at j h = elim (sense m t) [
+          without e ↦ stops_here stack place (next t rest) (reads-meaningless stack place t rest e)
+        | sensible e ↦ elim (as_value stack t.kind) [
+          opens_list k ↦ list_stands stack place t rest at k (items_out n stack rest (omega arith))
+        | opens_object k ↦ object_stands stack place t rest at k (members_out n stack rest (omega arith))
+        | is_one k ↦ one_stands stack place t rest k e
+        | no_value k ↦ stops_here stack place (next t rest) (reads-stops stack place t rest e (j ∙ k)) ] ]
+
+    value_at : (n : ℕ) (stack : List ContainerKind) (place : Place) (ts : Tokens) → TakesValue place →
+        ((kind : Kind) → place_turn stack place kind ≡ value_turn stack kind) → 2 * count ts + 1 ≤ n → ValueComes m stack place ts
+    value_at zero stack place ts at j h = absurd (omega arith)
+    value_at (suc n) stack place ended at j h = stops_here stack place ended (reads-ended stack place)
+    value_at (suc n) stack place (refused f) at j h = stops_here stack place (refused f) (reads-refused stack place f)
+    value_at (suc n) stack place (next t rest) at j h = value_out n stack place t rest at (j t.kind) (omega arith)
+
+    items_out : (n : ℕ) (stack : List ContainerKind) (ts : Tokens) → 2 * count ts + 1 ≤ n → ItemsCome m stack ts
+    items_out zero stack ts h = absurd (omega arith)
+    items_out (suc n) stack ended h = list_stops stack ended (reads-ended (array ∷ stack) before_item)
+    items_out (suc n) stack (refused f) h = list_stops stack (refused f) (reads-refused (array ∷ stack) before_item f)
+    items_out (suc n) stack (next t rest) h = elim (sense m t) [
+          without e ↦ list_stops stack (next t rest) (reads-meaningless (array ∷ stack) before_item t rest e)
+        | sensible e ↦ elim (as_item (array ∷ stack) t.kind) [
+          closes_list k ↦ list_ends stack t rest k
+        | as_any j ↦ item_out n stack (next t rest) (value_out n (array ∷ stack) before_item t rest of_list j (omega arith)) (omega arith) ] ]
+
+    item_out : (n : ℕ) (stack : List ContainerKind) (ts : Tokens) → ValueComes m (array ∷ stack) before_item ts →
+        2 * count ts ≤ n → ItemsCome m stack ts
+    item_out n stack ts (value_stops events here rest b e) h = items_stop events here rest (begins_item ts rest events (within here) b) e
+    item_out n stack ts (value_stands ended node value s t) h =
+        item_stops stack ts ended node value s t (reads-ended (array ∷ stack) after_item)
+    item_out n stack ts (value_stands (refused f) node value s t) h =
+        item_stops stack ts (refused f) node value s t (reads-refused (array ∷ stack) after_item f)
+    item_out zero stack ts (value_stands (next u others) node value s t) h =
+        absurd (omega (arith, spelled-fewer ts others node u s))
+    item_out (suc n) stack ts (value_stands (next u others) node value s t) h = elim (sense m u) [
+          without e ↦ item_stops stack ts (next u others) node value s t (reads-meaningless (array ∷ stack) after_item u others e)
+        | sensible e ↦ elim (behind_an_item (array ∷ stack) u.kind) [
+          comma_item k ↦ item_goes_on stack ts others node value u s t k (items_out n stack others (omega (arith, spelled-fewer ts others node u s)))
+        | ends_list k ↦ item_ends stack ts others node value u s t k
+        | no_comma k ↦ item_stops stack ts (next u others) node value s t (reads-stops (array ∷ stack) after_item u others e k) ] ]
+
+    members_out : (n : ℕ) (stack : List ContainerKind) (ts : Tokens) → 2 * count ts + 1 ≤ n → MembersCome m stack ts
+    members_out zero stack ts h = absurd (omega arith)
+    members_out (suc n) stack ended h = object_stops stack ended (reads-ended (object ∷ stack) before_key)
+    members_out (suc n) stack (refused f) h = object_stops stack (refused f) (reads-refused (object ∷ stack) before_key f)
+    members_out (suc n) stack (next t rest) h = elim (sense m t) [
+          without e ↦ object_stops stack (next t rest) (reads-meaningless (object ∷ stack) before_key t rest e)
+        | sensible e ↦ elim (as_key (object ∷ stack) t.kind) [
+          closes_object k ↦ object_ends stack t rest k
+        | is_key k j ↦ key_out n stack t rest (name_meant t k e).0 k (name_meant t k e).1 (reads-turn m (object ∷ stack) before_key t rest names (turn-sensible (object ∷ stack) before_key t e ∙ j)) (omega arith)
+        | no_key_here k ↦ object_stops stack (next t rest) (reads-stops (object ∷ stack) before_key t rest e k) ] ]
+
+    key_out : (n : ℕ) (stack : List ContainerKind) (key : Token) (rest : Tokens) (name : List ℕ) → is_string key.kind ≡ true →
+        text_of (m key) ≡ Some name →
+        reads m (object ∷ stack) (within before_key) (next key rest) ≡ reads_colon m (object ∷ stack) key rest →
+        2 * count rest + 2 ≤ n → MembersCome m stack (next key rest)
+    key_out n stack key ended name k p e h = key_stops stack key ended name k p (e ∙ colon-ended (object ∷ stack) key)
+    key_out n stack key (refused f) name k p e h =
+        key_stops stack key (refused f) name k p (e ∙ colon-refused (object ∷ stack) key f)
+    key_out zero stack key (next mark ts) name k p e h = absurd (omega arith)
+    key_out (suc n) stack key (next mark ts) name k p e h = elim (as_colon mark.kind) [
+          is_mark c ↦ member_out n stack key mark ts name k p c (value_at n (object ∷ stack) after_colon ts behind_colon (λ kind. refl) (omega arith)) (omega arith)
+        | no_mark c ↦ key_stops stack key (next mark ts) name k p (e ∙ colon-missing (object ∷ stack) key mark ts c) ]
+
+    member_out : (n : ℕ) (stack : List ContainerKind) (key mark : Token) (ts : Tokens) (name : List ℕ) →
+        is_string key.kind ≡ true → text_of (m key) ≡ Some name → mark.kind ≡ token.colon →
+        ValueComes m (object ∷ stack) after_colon ts → 2 * count ts ≤ n → MembersCome m stack (next key (next mark ts))
+    member_out n stack key mark ts name k p c (value_stops events here rest b e) h =
+        member_begins stack key mark ts name k p c events here rest b e
+    member_out n stack key mark ts name k p c (value_stands ended node value s t) h =
+        member_stops stack key mark ts name k p c ended node value s t (reads-ended (object ∷ stack) after_member)
+    member_out n stack key mark ts name k p c (value_stands (refused f) node value s t) h =
+        member_stops stack key mark ts name k p c (refused f) node value s t (reads-refused (object ∷ stack) after_member f)
+    member_out zero stack key mark ts name k p c (value_stands (next u others) node value s t) h =
+        absurd (omega (arith, spelled-fewer ts others node u s))
+    member_out (suc n) stack key mark ts name k p c (value_stands (next u others) node value s t) h = elim (sense m u) [
+          without e ↦ member_stops stack key mark ts name k p c (next u others) node value s t (reads-meaningless (object ∷ stack) after_member u others e)
+        | sensible e ↦ elim (behind_a_member (object ∷ stack) u.kind) [
+          comma_member q ↦ member_goes_on stack key mark ts name k p c others node value u s t q (members_out n stack others (omega (arith, spelled-fewer ts others node u s)))
+        | ends_object q ↦ member_ends stack key mark ts name k p c others node value u s t q
+        | no_comma_here q ↦ member_stops stack key mark ts name k p c (next u others) node value s t (reads-stops (object ∷ stack) after_member u others e q) ] ]
+
+  -- At the root either a whole value stands, or a front of one, and then nothing comes any more.
+  pub root-comes : (ts : Tokens) → ValueComes m [] root ts
+  root-comes ts = value_at (2 * count ts + 1) [] root ts at_root (λ kind. refl) (omega arith)

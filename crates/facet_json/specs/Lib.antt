@@ -22,6 +22,7 @@ pub mod Future
 pub mod Now
 pub mod Move
 pub mod Begun
+pub mod Sound
 pub mod Reading
 pub mod Same
 pub mod SameLaws
