@@ -161,15 +161,19 @@ module _ (m : Meaning) where
   text_of-some None name e = cc
   text_of-some (Some value) name e = (value, refl)
 
+  -- A key: its colon has to follow.
+  pub reads-names : (stack : List ContainerKind) (key : Token) (rest : Tokens) (name : List ℕ) → is_string key.kind ≡ true →
+      text_of (m key) ≡ Some name → reads m stack (within before_key) (next key rest) ≡ reads_colon m stack key rest
+  reads-names stack key rest name k n =
+      let meant = text_of-some (m key) name n in
+      reads-turn stack before_key key rest names (turn-meant stack before_key key meant.0 meant.1 ∙ key_here stack key.kind k)
+
   -- A key and its colon.
   pub reads-key : (stack : List ContainerKind) (key mark : Token) (rest : Tokens) (name : List ℕ) →
       is_string key.kind ≡ true → text_of (m key) ≡ Some name → mark.kind ≡ token.colon →
       reads m stack (within before_key) (next key (next mark rest)) ≡ gives (key_event m key mark) (reads m stack (within after_colon) rest)
   unfolding reads
-  reads-key stack key mark rest name k n c =
-      let meant = text_of-some (m key) name n in
-      reads-turn stack before_key key (next mark rest) names (turn-meant stack before_key key meant.0 meant.1 ∙ key_here stack key.kind k)
-      ∙ rw (c, reads_colon) refl
+  reads-key stack key mark rest name k n c = reads-names stack key (next mark rest) name k n ∙ rw (c, reads_colon) refl
 
 -- ---- whole values
 

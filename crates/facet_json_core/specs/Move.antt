@@ -119,3 +119,10 @@ pub data Moves (complains : Token → Refusal → Type 0) (now : Now) : Call →
   restores_nothing : (point : ℕ) → found point now.kept ≡ None →
       Moves complains now (restore point) restored now
   tells : Moves complains now span (spans (Some (span_of now.standing))) now
+
+-- All calls in order are answered so.
+pub data MovesAll (complains : Token → Refusal → Type 0) : Now → List Call → List Answer → Now → Type 0 where
+  no_calls : (now : Now) → MovesAll complains now [] [] now
+  one_call : (now between new : Now) (call : Call) (answer : Answer) (calls : List Call) (answers : List Answer) →
+      Moves complains now call answer between → MovesAll complains between calls answers new →
+      MovesAll complains now (call ∷ calls) (answer ∷ answers) new
