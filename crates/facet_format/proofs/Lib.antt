@@ -2,3 +2,5 @@ pub mod NumberFronts
 pub mod NumberLaws
 pub mod NumberText
 pub mod NumberSteps
+pub mod CursorLaws
+pub mod KeptLaws

@@ -8,3 +8,7 @@ pub mod DocumentRows
 pub mod Futures
 pub mod Stands
 pub mod WalkRows
+pub mod BegunLaws
+pub mod CursorMoves
+pub mod MoveLaws
+pub mod Outcomes

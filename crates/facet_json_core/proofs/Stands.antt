@@ -1,24 +1,24 @@
 -- Where a parser stands on a document's walk: at its front when it is new, and one step on after each move.
 use Rattle.std.proofs.Common.{◌≡◌, ℕ, zero, suc, ◌+◌, ◌≤◌, Bool, true, false, cond, ◌==◌, List, [], ◌∷◌, map, length, take, drop, Option, Some, None, refl, sym, ap, ◌∙◌, subst, arith}
 use Rattle.std.specs.Prelude.{slice_get}
-use Rattle.facet_json.specs.Gap.{Mode}
-use Rattle.facet_json.specs.Token.{Span}
-use Rattle.facet_json.specs.Node.{Node}
-use Rattle.facet_json.specs.Tree.{Tree}
-use Rattle.facet_json.specs.Tokens.{Tokens, tokens}
-use Rattle.facet_json.specs.Meaning.{meaning}
-use Rattle.facet_json.specs.Document.{IsDocument}
-use Rattle.facet_json.specs.Place.{Place}
-use Rattle.facet_json.specs.Place as place
-use Rattle.facet_json.specs.Reading.{at_root}
-use Rattle.facet_json.specs.Event.{Event, Passed}
-use Rattle.facet_json.specs.Walk.{walk}
-use Rattle.facet_json.specs.Kept.{found, without, with_point}
-use Rattle.facet_json.specs.Cursor.{Spot, start, last_of, seen, current_span}
-use Rattle.facet_json.specs.Future.{Future, gives, finished, stuck, events_before, within, reads}
-use Rattle.facet_json.specs.Now.{Standing, Now, fresh, held_before, is_shown, last_shown, span_of, StandsOn, KeptAlike, none_kept, one_kept, StandsAt}
-use Rattle.facet_json.specs.Move.{Shows, IsAlike, Passes, no_events, one_event}
-use Rattle.facet_json.proofs.Futures.{walk-comes}
+use Rattle.facet_json_scan.specs.Gap.{Mode}
+use Rattle.facet_format.specs.Span.{Span}
+use Rattle.facet_json_core.specs.Node.{Node}
+use Rattle.facet_json_core.specs.Tree.{Tree}
+use Rattle.facet_json_scan.specs.Tokens.{Tokens, tokens}
+use Rattle.facet_json_core.specs.Meaning.{meaning}
+use Rattle.facet_json_core.specs.Document.{IsDocument}
+use Rattle.facet_json_core.specs.Place.{Place}
+use Rattle.facet_json_core.specs.Place as place
+use Rattle.facet_json_core.specs.Reading.{at_root}
+use Rattle.facet_format.specs.Event.{Event, Passed}
+use Rattle.facet_json_core.specs.Walk.{walk}
+use Rattle.facet_format.specs.Kept.{found, without, with_point}
+use Rattle.facet_format.specs.Cursor.{Spot, start, last_of, seen, current_span}
+use Rattle.facet_json_core.specs.Future.{Future, gives, finished, stuck, events_before, within, reads}
+use Rattle.facet_json_core.specs.Now.{Standing, Now, fresh, held_before, is_shown, last_shown, span_of, StandsOn, KeptAlike, none_kept, one_kept, StandsAt}
+use Rattle.facet_json_core.specs.Move.{Shows, IsAlike, Passes, no_events, one_event}
+use Rattle.facet_json_core.proofs.Futures.{walk-comes}
 
 -- ---- at the front
 

@@ -11,3 +11,5 @@ pub mod Walk
 pub mod Future
 pub mod Now
 pub mod Move
+pub mod Begun
+pub mod Sound

@@ -2,16 +2,18 @@
 use Rattle.std.proofs.Common.{◌≡◌, ℕ, zero, suc, ◌+◌, ◌<◌, ◌≤◌, Bool, true, false, List, [], ◌∷◌, map, length, take, drop, Option, Some, None, refl, sym, ap, ◌∙◌, arith, length-drop}
 use Rattle.std.specs.Prelude.{Ok, Err}
 use Rattle.std.proofs.lemmas.List.{take_all, length-take, length-map}
-use Rattle.facet_json.specs.Token.{Span, Token}
-use Rattle.facet_json.specs.Place.{Place, Refusal}
-use Rattle.facet_json.specs.Tokens.{Tokens}
-use Rattle.facet_json.specs.Event.{Event, Passed}
-use Rattle.facet_json.specs.Cursor.{Call, next, peek, events, save, restore, span, Answer, event, batch, saved, restored, spans, Spot, Cursor, Step, last_of, current_span, upcoming_events, moved, peeked_at, at_spot, refused_at, kept_here, no_memory_at}
-use Rattle.facet_json.specs.Cursor as cursor
-use Rattle.facet_json.specs.Future.{Future, gives, finished, stuck, events_before}
-use Rattle.facet_json.specs.Now.{Standing, Now, held_before, is_shown, future_of, is_peeked, span_of, StandsOn, StandsAt}
-use Rattle.facet_json.specs.Move.{NowShows, IsAlike, Passes, no_events, one_event, still_peeked, with_standing, with_refusal, Moves, repeats, passes, passes_without_memory, passes_the_end, passes_nothing, peeks, peeks_without_memory, peeks_at_the_end, peeks_at_nothing, gives_none, gives_all, gives_to_the_end, gives_up, gives_without_memory, saves, saves_at_the_limit, saves_without_memory, restores, restores_nothing, tells}
-use Rattle.facet_json.proofs.Stands.{ArePassed, comes-event, comes-end, comes-never_stuck, passes-walk, span-on, shows-on, alike-on, found-alike, lost-alike, without-alike, with_point-alike}
+use Rattle.facet_format.specs.Span.{Span}
+use Rattle.facet_json_scan.specs.Token.{Token}
+use Rattle.facet_json_core.specs.Place.{Place}
+use Rattle.facet_format.specs.Complaint.{Refusal}
+use Rattle.facet_json_scan.specs.Tokens.{Tokens}
+use Rattle.facet_format.specs.Event.{Event, Passed}
+use Rattle.facet_format.specs.Cursor.{Call, next, peek, events, save, restore, span, Answer, event, batch, saved, restored, spans, Spot, Cursor, Step, last_of, current_span, upcoming_events, moved, peeked_at, at_spot, refused_at, kept_here, no_memory_at}
+use Rattle.facet_format.specs.Cursor as cursor
+use Rattle.facet_json_core.specs.Future.{Future, gives, finished, stuck, events_before}
+use Rattle.facet_json_core.specs.Now.{Standing, Now, held_before, is_shown, future_of, is_peeked, span_of, StandsOn, StandsAt}
+use Rattle.facet_json_core.specs.Move.{NowShows, IsAlike, Passes, no_events, one_event, still_peeked, with_standing, with_refusal, Moves, repeats, passes, passes_without_memory, passes_the_end, passes_nothing, peeks, peeks_without_memory, peeks_at_the_end, peeks_at_nothing, gives_none, gives_all, gives_to_the_end, gives_up, gives_without_memory, saves, saves_at_the_limit, saves_without_memory, restores, restores_nothing, tells}
+use Rattle.facet_json_core.proofs.Stands.{ArePassed, comes-event, comes-end, comes-never_stuck, passes-walk, span-on, shows-on, alike-on, found-alike, lost-alike, without-alike, with_point-alike}
 
 -- The cursor steps to a new one, where the parser stands.
 abbrev pub StepsTo : List Passed → Cursor → Call → Answer → Now → Type 0

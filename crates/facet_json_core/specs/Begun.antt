@@ -1,18 +1,19 @@
 -- Begun documents: fronts of tokens with which some document begins, and the events that they give (RFC 8259, sections 2 to 5).
 use Rattle.std.specs.Prelude.{◌≡◌, ◌≤◌, ℕ, true, List, [], ◌∷◌, ◌++◌, Some}
-use Rattle.facet_json.specs.Gap.{Mode}
-use Rattle.facet_json.specs.Token.{Token}
-use Rattle.facet_json.specs.Token as token
-use Rattle.facet_json.specs.Tokens.{Tokens, next, tokens}
-use Rattle.facet_json.specs.Node.{Node, Spells, is_string}
-use Rattle.facet_json.specs.Tree.{Tree}
-use Rattle.facet_json.specs.Meaning.{Meaning, meaning, tree_of, text_of}
-use Rattle.facet_json.specs.Spelled.{count}
-use Rattle.facet_json.specs.Place.{Place, root, before_key, after_key, after_colon, after_member, before_item, after_item, Refusal}
-use Rattle.facet_json.specs.Refusal.{IsStuck}
-use Rattle.facet_json.specs.Event.{object, array, struct_start, sequence_start, Passed}
-use Rattle.facet_json.specs.Walk.{event_at, key_event, walk}
-use Rattle.facet_json.specs.Future.{Stage, within, over}
+use Rattle.facet_json_scan.specs.Gap.{Mode}
+use Rattle.facet_json_scan.specs.Token.{Token}
+use Rattle.facet_json_scan.specs.Token as token
+use Rattle.facet_json_scan.specs.Tokens.{Tokens, next, tokens}
+use Rattle.facet_json_core.specs.Node.{Node, Spells, is_string}
+use Rattle.facet_json_core.specs.Tree.{Tree}
+use Rattle.facet_json_core.specs.Meaning.{Meaning, meaning, tree_of, text_of}
+use Rattle.facet_json_core.specs.Spelled.{count}
+use Rattle.facet_json_core.specs.Place.{Place, root, before_key, after_key, after_colon, after_member, before_item, after_item}
+use Rattle.facet_format.specs.Complaint.{Refusal}
+use Rattle.facet_json_core.specs.Refusal.{IsStuck}
+use Rattle.facet_format.specs.Event.{object, array, struct_start, sequence_start, Passed}
+use Rattle.facet_json_core.specs.Walk.{event_at, key_event, walk}
+use Rattle.facet_json_core.specs.Future.{Stage, within, over}
 
 -- The tokens in front of the last ones, which have a meaning, begin a value, give these events, and lead to the stage `here`. The
 -- value stands at the place, and behind all of it stands the stage `after`. An event is there once its last token is.

@@ -1,13 +1,15 @@
 -- Where spans lie: each event that comes ends behind the one before, within the input.
 use Rattle.std.specs.Prelude.{◌<◌, ◌≤◌, ℕ, List, [], ◌∷◌, length, Option, Some, None, Result, Ok, Err, IfSome, ⊤}
-use Rattle.facet_json.specs.Gap.{Mode}
-use Rattle.facet_json.specs.Token.{Token, Fault, stop}
-use Rattle.facet_json.specs.Tokens.{Tokens, ended, refused, next}
-use Rattle.facet_json.specs.Place.{Place, Refusal}
-use Rattle.facet_json.specs.Event.{Event, Passed}
-use Rattle.facet_json.specs.Cursor.{Answer, event, batch, saved, restored, spans}
-use Rattle.facet_json.specs.Future.{Future, gives, finished, stuck}
-use Rattle.facet_json.specs.Now.{Standing, Now, future_at}
+use Rattle.facet_json_scan.specs.Gap.{Mode}
+use Rattle.facet_json_scan.specs.Token.{Token, Fault}
+use Rattle.facet_format.specs.Span.{stop}
+use Rattle.facet_json_scan.specs.Tokens.{Tokens, ended, refused, next}
+use Rattle.facet_json_core.specs.Place.{Place}
+use Rattle.facet_format.specs.Complaint.{Refusal}
+use Rattle.facet_format.specs.Event.{Event, Passed}
+use Rattle.facet_format.specs.Cursor.{Answer, event, batch, saved, restored, spans}
+use Rattle.facet_json_core.specs.Future.{Future, gives, finished, stuck}
+use Rattle.facet_json_core.specs.Now.{Standing, Now, future_at}
 
 -- Each token ends behind the one before, the first behind this offset, and all with the fault behind them lie within the buffer.
 pub data InOrder (buffer : List ℕ) : ℕ → Tokens → Type 0 where

@@ -1,7 +1,7 @@
 -- Points that are kept: one more, and one used up.
 use Rattle.std.proofs.Common.{◌≡◌, ◌≢◌, ℕ, suc, ◌<◌, Bool, true, false, cond, ◌==◌, List, [], ◌∷◌, Option, Some, None, refl, sym, ap, ◌∙◌, arith}
 use Rattle.std.proofs.lemmas.Bool.{eqb-true, eq-eqb, ne_eqb}
-use Rattle.facet_json.specs.Kept.{found, without, with_point}
+use Rattle.facet_format.specs.Kept.{found, without, with_point}
 
 -- No point has a greater number.
 abbrev pub AreUpTo : {S : Type 0} → ℕ → List (ℕ × S) → Type 0
