@@ -102,8 +102,7 @@ minus_len-is : (sign digits rest : List ℕ) (has : Bool) → IsMinus sign has �
 minus_len-is _ digits rest _ IsMinus.absent d some = minus_len-digits digits rest d some
 minus_len-is _ digits rest _ IsMinus.present d some = refl
 
--- The parts of a minus, digits, a fraction and what follows are as long as they are, where what follows goes on with neither
--- the digits nor the fraction.
+-- A numeral's parts are measured as long as they are where more follows, if that goes on with none of them.
 pub parts-by : (bytes : List ℕ) (hint : Hint) (n : IsNumeral bytes hint) (rest : List ℕ) →
     digits_len (n.fraction ++ (n.exponent ++ rest)) ≡ 0 →
     fraction_len (n.fraction ++ (n.exponent ++ rest)) ≡ length n.fraction →
