@@ -1,7 +1,6 @@
 -- A cursor over a finished list of events, and what each call of a reader answers there. Skips and captures are not among the calls yet.
 use Rattle.std.specs.Prelude.{◌≡◌, ◌<◌, ℕ, zero, suc, ◌+◌, Bool, true, false, List, [], ◌∷◌, map, length, take, drop, slice_get, Option, Some, None, Result, Ok, Err}
-use Rattle.facet_format.specs.Span.{Span}
-use Rattle.facet_format.specs.Span.{span_at}
+use Rattle.facet_format.specs.Span.{Span, span_at}
 use Rattle.facet_format.specs.Complaint.{Refusal, refusal_at, out_of_memory, save_limit}
 use Rattle.facet_format.specs.Event.{Event, Passed, takes_memory}
 use Rattle.facet_format.specs.Kept.{found, without, with_point}

@@ -2,8 +2,7 @@
 
 ghost use Rattle.std.specs.Prelude.{◌≡◌, ◌+◌, ◌^◌, ◌<◌, ◌≤◌, true, false, length, drop, MatchOption};
 ghost use Rattle.facet_format.specs.Number.{minus_len, digits_len, fraction_len, sign_len, exponent_len, parts, parts_len, parts_hint, is_bare, begins_number, is_number};
-ghost use Rattle.facet_format.specs.Views.{hint_of};
-ghost use Rattle.facet_format.specs.Views.{parts_of, ArePartsOf};
+ghost use Rattle.facet_format.specs.Views.{hint_of, parts_of, ArePartsOf};
 
 /// What stands in a number, from its bytes alone.
 #[derive(Debug, Clone, Copy, PartialEq)]

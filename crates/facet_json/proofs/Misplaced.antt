@@ -1,12 +1,12 @@
 -- A token that is read, and with which no document goes on at a place: how it is refused.
 use Rattle.std.proofs.Common.{◌≡◌, ◌≢◌, ◌∙◌, ℕ, Bool, true, false, List, Some, refl, sym, ap, subst, inr}
-use Rattle.std.specs.Prelude.{IsSome}
-use Rattle.std.specs.Prelude.{ℤ}
+use Rattle.std.specs.Prelude.{IsSome, ℤ}
 use Rattle.std.specs.declared.alloc.Global.{Global}
 use Rattle.std.specs.declared.borrow.CowStr.{CowStr}
 use Rattle.facet_json.specs.declared.materialized.TokenKind.{TokenKind}
 use Rattle.facet_json.specs.declared.materialized.TokenKind.TheVariants as kinds
 use Rattle.facet_json.specs.declared.materialized.MaterializedToken.{MaterializedToken}
+use Rattle.facet_format.specs.Event.{Text}
 use Rattle.facet_format.specs.Number.{Number, Hint}
 use Rattle.facet_format.specs.Number as numbers
 use Rattle.facet_json_scan.specs.Token.{Kind, Token}
@@ -142,7 +142,7 @@ value-stays _ _ of_list _ = refl
 -- What none of the arms for values takes begins none.
 pub begins_none : (p : Place) (k : TokenKind) → (p ≡ before_item → k ≢ kinds.ArrayEnd) → k ≢ kinds.Null →
     k ≢ kinds.True → k ≢ kinds.False → ((n : ℕ) → k ≢ kinds.U64 n) → ((n : ℤ) → k ≢ kinds.I64 n) →
-    ((n : ℕ) → k ≢ kinds.U128 n) → ((n : ℤ) → k ≢ kinds.I128 n) → ((d : List ℕ) → k ≢ kinds.Decimal d) →
+    ((n : ℕ) → k ≢ kinds.U128 n) → ((n : ℤ) → k ≢ kinds.I128 n) → ((d : Text) → k ≢ kinds.Decimal d) →
     ((s : CowStr Global) → k ≢ kinds.String s) → k ≢ kinds.ArrayStart → k ≢ kinds.ObjectStart → BeginsNone p k
 begins_none p kinds.ObjectStart end n t f u i v j d s a o = absurd (o refl)
 begins_none p kinds.ObjectEnd end n t f u i v j d s a o = brace

@@ -11,11 +11,10 @@ use Rattle.facet_json_scan.specs.declared.token.ScanErrorKind.TheVariants as sca
 use Rattle.facet_json_scan.specs.declared.token.ScanError.{ScanError}
 use Rattle.facet_json.specs.declared.materialized.TokenKind.{TokenKind}
 use Rattle.facet_json_scan.specs.Gap.{plain}
-use Rattle.facet_format.specs.Span.{Span, stop}
+use Rattle.facet_format.specs.Span.{Span, stop, span_at}
 use Rattle.facet_json_scan.specs.Token.{Kind, Token, Fault}
 use Rattle.facet_json_scan.specs.Token as token
 use Rattle.facet_json_scan.specs.Cut.{Cut, nothing_left, token as cut_token, fault, cut}
-use Rattle.facet_format.specs.Span.{span_at}
 use Rattle.facet_json_scan.specs.Tokens.{Tokens, next}
 use Rattle.facet_json_core.specs.Place.{Place, complaint_at_end, complaint_of_fault}
 use Rattle.facet_format.specs.Complaint.{Refusal, refusal_at}

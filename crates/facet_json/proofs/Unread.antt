@@ -8,14 +8,12 @@ use Rattle.facet_json_scan.specs.declared.token.ScanErrorKind.TheVariants as sca
 use Rattle.facet_json_scan.specs.declared.decode.DecodeError.{DecodeError}
 use Rattle.facet_json_scan.specs.declared.decode.DecodeError.TheVariants as decode
 use Rattle.facet_json_scan.specs.Token as token
-use Rattle.facet_json_scan.specs.Decoders.{IsItsText, RefusesContent}
+use Rattle.facet_json_scan.specs.Views.{IsItsText, RefusesContent, scan_complaint, decode_refusal}
 use Rattle.facet_json_core.specs.Tree as tree
 use Rattle.facet_format.specs.Complaint.{Refusal, refusal_at, invalid_utf8}
 use Rattle.facet_json_core.specs.Refusal.{IsTextComplaint, IsBetweenQuotes, at_a_character, at_an_end, not_utf8, of_plain_string, of_escaped_string}
 use Rattle.facet_format.specs.Views.{span_of}
-use Rattle.facet_json_scan.specs.Views.{scan_complaint}
 use Rattle.facet_json.specs.Views.{IsContent, IsUnread}
-use Rattle.facet_json_scan.specs.Views.{decode_refusal}
 use Rattle.facet_json_scan.proofs.PlainText.{decoded-plain_none}
 
 -- What is wrong with a content is what may be wrong with a string.

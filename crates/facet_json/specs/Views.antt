@@ -15,10 +15,10 @@ use Rattle.facet_json.specs.declared.tree.Tree.{Tree as RustTree, fold-Tree}
 use Rattle.facet_json.specs.declared.tree.Tree.TheOpen.{Tree-F}
 use Rattle.std.specs.List.{list_any}
 use Rattle.facet_format.specs.Bytes.{backslash}
-use Rattle.facet_format.specs.Number.{Number}
+use Rattle.facet_format.specs.Number.{Number, unsigned}
 use Rattle.facet_format.specs.Number as numbers
-use Rattle.facet_format.specs.Number.{unsigned}
 use Rattle.facet_format.specs.Span.{Span}
+use Rattle.facet_format.specs.Event.{bytes_of}
 use Rattle.facet_json_scan.specs.Token.{Kind, Token}
 use Rattle.facet_json_scan.specs.Token as token
 use Rattle.facet_json_core.specs.Place.{Place}
@@ -52,7 +52,7 @@ number_in (kinds.U64 n) = Some (numbers.u64 n)
 number_in (kinds.I64 n) = Some (numbers.i64 n)
 number_in (kinds.U128 n) = Some (numbers.u128 n)
 number_in (kinds.I128 n) = Some (numbers.i128 n)
-number_in (kinds.Decimal digits) = Some (numbers.decimal digits)
+number_in (kinds.Decimal digits) = Some (numbers.decimal (bytes_of digits))
 number_in _ = None
 
 -- what a kind of token of the buffer is read as
@@ -72,7 +72,7 @@ IsReadAs buffer kind (kinds.U64 n) = number_at buffer kind ≡ Some (numbers.u64
 IsReadAs buffer kind (kinds.I64 n) = number_at buffer kind ≡ Some (numbers.i64 n)
 IsReadAs buffer kind (kinds.U128 n) = number_at buffer kind ≡ Some (numbers.u128 n)
 IsReadAs buffer kind (kinds.I128 n) = number_at buffer kind ≡ Some (numbers.i128 n)
-IsReadAs buffer kind (kinds.Decimal digits) = number_at buffer kind ≡ Some (numbers.decimal digits)
+IsReadAs buffer kind (kinds.Decimal digits) = number_at buffer kind ≡ Some (numbers.decimal (bytes_of digits))
 
 -- The content of the string that takes the span stands there, between its quotes.
 pub record IsContent (buffer : List ℕ) (s : RustSpan) (start finish : ℕ) (has_escapes : Bool) : Type 0 where
@@ -169,7 +169,7 @@ tree_step Tree-F.Null = tree.null
 tree_step (Tree-F.Bool b) = tree.bool b
 tree_step (Tree-F.I64 n) = tree.i64 n
 tree_step (Tree-F.U64 n) = tree.u64 n
-tree_step (Tree-F.Decimal digits) = tree.decimal digits
+tree_step (Tree-F.Decimal digits) = tree.decimal (bytes_of digits)
 tree_step (Tree-F.Text t) = tree.text (string_bytes t)
 tree_step (Tree-F.List v) = tree.list (trees_of v.items)
 tree_step (Tree-F.Pairs v) = tree.pairs (pairs_of v.items)

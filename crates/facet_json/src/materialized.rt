@@ -5,10 +5,9 @@ ghost use Rattle.std.specs.Cow.{cow_str_bytes};
 ghost use Rattle.facet_json_scan.specs.Decode.{decoded};
 ghost use Rattle.facet_format.specs.Complaint.{refusal_at};
 ghost use Rattle.facet_json_scan.specs.Token as token_spec;
-ghost use Rattle.facet_json_scan.specs.NumberViews.{number_of};
+ghost use Rattle.facet_json_scan.specs.Views.{number_of, kind_of};
 ghost use Rattle.facet_format.specs.Views.{refusal_of, span_of};
 ghost use Rattle.facet_json.specs.Views.{place_of, misplaced_complaint, name_of, number_in, CanBeRead, IsContent, IsReadAs, IsUnread};
-ghost use Rattle.facet_json_scan.specs.Views.{kind_of};
 
 use facet_format::Decimal;
 use facet_json_scan::{decode_string_borrowed, decode_string_owned};

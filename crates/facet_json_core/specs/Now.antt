@@ -1,8 +1,7 @@
 -- What a parser is as a value, on any input, and where it stands on a document's walk.
 use Rattle.std.specs.Prelude.{◌≡◌, ◌≤◌, ℕ, ◌-◌, Bool, true, false, List, [], ◌∷◌, length, drop, Option, Some, None}
-use Rattle.facet_format.specs.Span.{Span, stop}
+use Rattle.facet_format.specs.Span.{Span, stop, span_at}
 use Rattle.facet_json_scan.specs.Gap.{Mode}
-use Rattle.facet_format.specs.Span.{span_at}
 use Rattle.facet_json_scan.specs.Tokens.{tokens_from}
 use Rattle.facet_json_core.specs.Meaning.{meaning}
 use Rattle.facet_json_core.specs.Place.{root}

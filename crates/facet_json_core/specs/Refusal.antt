@@ -1,10 +1,9 @@
 -- Fronts of documents, and how an input without a document is refused: at the first token with which the front can't go on.
 use Rattle.std.specs.Prelude.{◌≡◌, ◌<◌, ℕ, Bool, true, false, List, length, Some, None, IsSome, codes}
-use Rattle.facet_format.specs.Span.{Span, stop}
+use Rattle.facet_format.specs.Span.{Span, stop, span_at}
 use Rattle.facet_json_scan.specs.Token.{Kind, Token, Fault}
 use Rattle.facet_json_scan.specs.Token as token
 use Rattle.facet_json_scan.specs.Gap.{Mode}
-use Rattle.facet_format.specs.Span.{span_at}
 use Rattle.facet_json_scan.specs.Tokens.{Tokens, ended, refused, next, tokens}
 use Rattle.facet_json_core.specs.Node.{Node, Spells, is_string}
 use Rattle.facet_json_core.specs.Tree.{Tree}

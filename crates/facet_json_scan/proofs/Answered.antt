@@ -10,16 +10,14 @@ use Rattle.facet_json_scan.specs.declared.token.SpannedToken.{SpannedToken}
 use Rattle.facet_json_scan.specs.declared.token.ScanErrorKind.{ScanErrorKind}
 use Rattle.facet_json_scan.specs.declared.token.ScanErrorKind.TheVariants as scan
 use Rattle.facet_json_scan.specs.declared.token.ScanError.{ScanError}
-use Rattle.facet_format.specs.Span.{stop}
+use Rattle.facet_format.specs.Span.{stop, span_at}
 use Rattle.facet_json_scan.specs.Gap.{Mode}
 use Rattle.facet_json_scan.specs.Cut.{Cut, nothing_left, token, fault, cut_here}
-use Rattle.facet_format.specs.Span.{span_at}
 use Rattle.facet_json_scan.specs.Open.{IsBeginning}
 use Rattle.facet_json_scan.specs.Scanner.{ended, answer_for}
-use Rattle.facet_json_scan.specs.Views.{scanned, token_answer as token_scanned, fault_answer as fault_scanned}
+use Rattle.facet_json_scan.specs.Views.{scanned, token_answer as token_scanned, fault_answer as fault_scanned, answered, token_answered, fault_answered, span_answered, FoundHere}
 use Rattle.facet_format.specs.Views.{span_of}
 use Rattle.facet_json_scan.specs.declared.scanner.Found.TheVariants as found
-use Rattle.facet_json_scan.specs.ScannerViews.{answered, token_answered, fault_answered, span_answered, FoundHere}
 use Rattle.facet_json_scan.proofs.CutBounds.{CutFits, here_fits}
 use Rattle.facet_json_scan.proofs.FirstBytes.{cut_here-something}
 

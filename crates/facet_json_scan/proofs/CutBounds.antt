@@ -8,10 +8,9 @@ use Rattle.std.proofs.lemmas.Option.{slice_get_within}
 use Rattle.facet_format.specs.Bytes.{backslash, star}
 use Rattle.facet_json_scan.specs.Gap.{Mode, plain, jsonc, whole}
 use Rattle.facet_format.specs.Number.{Hint, parts, parts_len, parts_hint, is_bare, starts_number, is_number}
-use Rattle.facet_format.specs.Span.{Span, stop}
+use Rattle.facet_format.specs.Span.{Span, stop, span_at}
 use Rattle.facet_json_scan.specs.Token.{Kind, string, number, Token, Fault, unexpected_eof, unexpected_char, in_literal}
 use Rattle.facet_json_scan.specs.Cut.{Cut, nothing_left, token, fault, IsStructural, object_starts, IsLiteral, null_stands, Start, start_of, token_at, fault_at, common_len, cut_word, content_len, cut_text, cut_bare_minus, cut_number, cut_slash, cut_by, cut_here, past_gap, cut}
-use Rattle.facet_format.specs.Span.{span_at}
 use Rattle.facet_json_scan.proofs.Starts.{Begins, a_mark, a_word, a_text, a_number, a_comment, no_token, start_of-begins}
 use Rattle.facet_json_scan.proofs.TextShapes.{Below, content_len-below}
 use Rattle.facet_json_scan.proofs.Gaps.{gap_len-bound}

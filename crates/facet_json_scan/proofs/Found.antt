@@ -7,7 +7,7 @@ use Rattle.facet_json_scan.specs.Gap.{Mode, whole, growing, piece_len, gap_len}
 use Rattle.facet_json_scan.specs.Cut.{cut, cut_here, past_gap}
 use Rattle.facet_json_scan.specs.Open.{IsBeginning, IsOpen}
 use Rattle.facet_json_scan.specs.Scanner.{Describes, answer_for, past_growing_gap}
-use Rattle.facet_json_scan.specs.ScannerViews.{FoundHere, FoundFrom, state_of}
+use Rattle.facet_json_scan.specs.Views.{FoundHere, FoundFrom, state_of}
 use Rattle.facet_json_scan.proofs.GapSteps.{past_gap-piece}
 use Rattle.facet_json_scan.proofs.Gaps.{gap_len-none, gap_len-piece}
 use Rattle.facet_json_scan.proofs.GrowthOfGap.{piece_len-keeps}

@@ -6,7 +6,4 @@ pub mod Tokens
 pub mod Decode
 pub mod Scanner
 pub mod Views
-pub mod NumberViews
-pub mod ScannerViews
-pub mod Decoders
 pub mod Laws

@@ -3,10 +3,9 @@ use Rattle.std.specs.Prelude.{◌≡◌, ◌≢◌, ℕ, ◌+◌, ◌-◌, Bool,
 use Rattle.facet_format.specs.Bytes.{quote, backslash, slash, star}
 use Rattle.facet_json_scan.specs.Gap.{Mode, jsonc, growing, gap_len, OpensBlock, OpensLine}
 use Rattle.facet_format.specs.Number.{Hint, float, hint_of, IsNumeral, parts}
-use Rattle.facet_format.specs.Span.{Span, stop}
+use Rattle.facet_format.specs.Span.{Span, stop, span_at}
 use Rattle.facet_json_scan.specs.Token.{Kind, Token, Fault}
 use Rattle.facet_json_scan.specs.Cut.{ArePieces, IsLiteral, Cut, nothing_left, token, fault, past_gap, cut}
-use Rattle.facet_format.specs.Span.{span_at}
 use Rattle.facet_json_scan.specs.Open.{IsOpen}
 
 -- ---- what is kept

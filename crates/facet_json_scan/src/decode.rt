@@ -6,7 +6,7 @@ ghost use Rattle.std.specs.Cow.{cow_str_bytes, IsOwnedStr, IsBorrowedStr};
 ghost use Rattle.facet_json_scan.specs.declared.decode.DecodeError.TheVariants as refusal;
 ghost use Rattle.facet_format.specs.Bytes.{backslash};
 ghost use Rattle.facet_json_scan.specs.Decode.{decoded, Decodes};
-ghost use Rattle.facet_json_scan.specs.Decoders.{has_backslash, IsItsText, IsWithin, RefusesContent, whole_refused};
+ghost use Rattle.facet_json_scan.specs.Views.{has_backslash, IsItsText, IsWithin, RefusesContent, whole_refused};
 
 mod escape;
 mod unchecked;

@@ -4,7 +4,7 @@ ghost use Rattle.std.specs.Prelude.{◌≡◌, ◌≤◌, ◌<◌, ◌^◌, pos,
 ghost use Rattle.std.specs.Option.{option_map};
 ghost use Rattle.facet_format.specs.Number.{AreDigits, digits_value, number as spec_number, is_number, float, unsigned_number, negative_number};
 ghost use Rattle.facet_format.specs.Views.{hint_of};
-ghost use Rattle.facet_json_scan.specs.NumberViews.{number_of, number_refusal};
+ghost use Rattle.facet_json_scan.specs.Views.{number_of, number_refusal};
 
 use facet_format::Decimal;
 use facet_format::numeral::number_parts;

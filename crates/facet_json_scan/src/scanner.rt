@@ -7,17 +7,15 @@ ghost use Rattle.facet_format.specs.Bytes as bytes;
 ghost use Rattle.facet_json_scan.specs.Gap.{plain, jsonc};
 ghost use Rattle.facet_json_scan.specs.Gap as spec_gap;
 ghost use Rattle.facet_json_scan.specs.Token.{Kind};
-ghost use Rattle.facet_format.specs.Span.{stop};
+ghost use Rattle.facet_format.specs.Span.{stop, span_at};
 ghost use Rattle.facet_json_scan.specs.Cut.{start_of, letter};
-ghost use Rattle.facet_format.specs.Span.{span_at};
 ghost use Rattle.facet_json_scan.specs.Cut as spec_cut;
 ghost use Rattle.facet_json_scan.specs.Open.{IsBeginning};
 ghost use Rattle.facet_json_scan.specs.Scanner.{in_text, in_line, in_block, ended, answer_for, idle, scanner_at, first_of, first_byte_of, stands_at_end, part_hint, EndsIn, GoesOnWith, EndsBefore, Describes, GoesOnFrom, Gives};
 ghost use Rattle.facet_json_scan.specs.Scanner as spec_scanner;
 ghost use Rattle.facet_format.specs.Number.{parts, parts_len, parts_hint, is_bare};
-ghost use Rattle.facet_json_scan.specs.Views.{mode_of, kind_of, scanned};
+ghost use Rattle.facet_json_scan.specs.Views.{mode_of, kind_of, scanned, part_of, state_of, pending_of, answered, span_answered, stands_behind, stands_last, FoundHere, FoundFrom, FoundWithin, PieceHere, PieceWithin};
 ghost use Rattle.facet_format.specs.Views.{hint_of};
-ghost use Rattle.facet_json_scan.specs.ScannerViews.{part_of, state_of, pending_of, answered, span_answered, stands_behind, stands_last, FoundHere, FoundFrom, FoundWithin, PieceHere, PieceWithin};
 
 use crate::mode::Mode;
 use crate::plain_cut::{common_len, cut, cut_bare_minus, cut_token, cut_word, line_end, token_at};
@@ -499,8 +497,7 @@ pub struct Scanner {
 
 impl Model for Scanner {
     ghost use Rattle.std.specs.Prelude.{◌<◌, IfSome};
-    ghost use Rattle.facet_json_scan.specs.Views.{mode_of};
-    ghost use Rattle.facet_json_scan.specs.ScannerViews.{pending_of};
+    ghost use Rattle.facet_json_scan.specs.Views.{mode_of, pending_of};
     ghost use Rattle.facet_json_scan.specs.Scanner as spec;
 
     ghost Value = { spec.Scanner };

@@ -5,7 +5,7 @@ ghost use Rattle.std.specs.Char.{digit_value};
 ghost use Rattle.std.specs.Option.{SomeIff};
 ghost use Rattle.facet_format.specs.Bytes.{backslash, lower_u};
 ghost use Rattle.facet_json_scan.specs.Decode.{piece_at, short_of, short_escape as short_escape_of, code_unit as code_unit_of, is_high_surrogate as is_high_surrogate_of, is_low_surrogate as is_low_surrogate_of, low_at};
-ghost use Rattle.facet_json_scan.specs.Decoders.{IsWithin};
+ghost use Rattle.facet_json_scan.specs.Views.{IsWithin};
 
 use facet_format::Span;
 use crate::token::{ScanError, ScanErrorKind};

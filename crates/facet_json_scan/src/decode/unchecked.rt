@@ -3,7 +3,7 @@
 ghost use Rattle.std.specs.Prelude.{◌≡◌, ℕ, ◌+◌, ◌≤◌, List, Some, true, false, length, slice_range, string_bytes, IfOk, IfErr, IfSome, IsUtf8, MatchOption, MatchResult};
 ghost use Rattle.std.specs.Cow.{cow_str_bytes, IsOwnedStr, IsBorrowedStr};
 ghost use Rattle.facet_json_scan.specs.Decode.{decoded, Decodes};
-ghost use Rattle.facet_json_scan.specs.Decoders.{IsItsText, RefusesContent, whole_refused};
+ghost use Rattle.facet_json_scan.specs.Views.{IsItsText, RefusesContent, whole_refused};
 
 use super::escape::escape_at;
 use super::{DecodeError, run_end, whole_refusal};

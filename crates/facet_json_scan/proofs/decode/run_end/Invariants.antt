@@ -1,7 +1,7 @@
 -- No backslash stands between the start and the offset.
 use Rattle.std.proofs.Common.{◌≡◌, ◌-◌, ◌≤◌, false}
 use Rattle.std.specs.Prelude.{slice_range}
-use Rattle.facet_json_scan.specs.Decoders.{has_backslash}
+use Rattle.facet_json_scan.specs.Views.{has_backslash}
 use Rattle.facet_json_scan.proofs.decode.run_end.Given as goal
 
 abbrev pub invariant-loop-stop : goal.invariant-loop-stop

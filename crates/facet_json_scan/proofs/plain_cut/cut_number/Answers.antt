@@ -2,8 +2,7 @@
 use Rattle.std.proofs.Common.{◌≡◌, ◌+◌, drop, Some, true, ap, sym, ◌∙◌, refl}
 use Rattle.facet_format.specs.Number.{parts, parts_len, parts_hint, is_bare}
 use Rattle.facet_json_scan.specs.Token.{number}
-use Rattle.facet_format.specs.Views.{hint_of}
-use Rattle.facet_format.specs.Views.{parts_of}
+use Rattle.facet_format.specs.Views.{hint_of, parts_of}
 use Rattle.facet_json_scan.specs.Cut.{cut_number}
 use Rattle.facet_json_scan.proofs.NumberCuts.{cut_number-parts}
 use Rattle.facet_json_scan.proofs.plain_cut.cut_number.Goals as goal

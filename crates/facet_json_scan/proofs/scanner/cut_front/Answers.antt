@@ -4,8 +4,7 @@ use Rattle.std.proofs.lemmas.List.{length-take-le}
 use Rattle.facet_format.specs.Span.{stop}
 use Rattle.facet_json_scan.specs.Cut.{cut}
 use Rattle.facet_json_scan.specs.Scanner.{answer_for}
-use Rattle.facet_json_scan.specs.Views.{mode_of}
-use Rattle.facet_json_scan.specs.ScannerViews.{span_answered}
+use Rattle.facet_json_scan.specs.Views.{mode_of, span_answered}
 use Rattle.facet_json_scan.proofs.CutBounds.{cut-fits}
 use Rattle.facet_json_scan.proofs.Answered.{answered-cut_or_end, answered-end_within, fits-within}
 use Rattle.facet_json_scan.proofs.scanner.cut_front.Goals as goal

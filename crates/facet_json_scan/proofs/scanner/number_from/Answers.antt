@@ -4,7 +4,7 @@ use Rattle.std.proofs.lemmas.Option.{slice_get-get_or}
 use Rattle.facet_format.specs.Number.{parts}
 use Rattle.facet_json_scan.specs.Cut.{nothing_left}
 use Rattle.facet_json_scan.specs.Scanner.{EndsIn, Describes}
-use Rattle.facet_json_scan.specs.ScannerViews.{part_of}
+use Rattle.facet_json_scan.specs.Views.{part_of}
 use Rattle.facet_json_scan.proofs.Answered.{found-here}
 use Rattle.facet_json_scan.proofs.FirstBytes.{cut_here-something}
 use Rattle.facet_json_scan.proofs.Offsets.{slice_get-from_read, drop-at_byte}

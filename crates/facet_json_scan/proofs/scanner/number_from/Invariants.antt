@@ -1,7 +1,7 @@
 -- What was read of the number ends in the part.
 use Rattle.std.proofs.Common.{◌-◌, ◌≤◌, ◌<◌, length}
 use Rattle.facet_json_scan.specs.Scanner.{EndsIn}
-use Rattle.facet_json_scan.specs.ScannerViews.{part_of}
+use Rattle.facet_json_scan.specs.Views.{part_of}
 use Rattle.facet_json_scan.proofs.Segments.{between}
 use Rattle.facet_json_scan.proofs.scanner.number_from.Given as goal
 

@@ -6,7 +6,7 @@ use Rattle.facet_format.specs.Number.{parts}
 use Rattle.facet_json_scan.specs.Token.{number}
 use Rattle.facet_format.specs.Views.{hint_of}
 use Rattle.facet_json_scan.specs.Cut.{token_at}
-use Rattle.facet_json_scan.specs.ScannerViews.{part_of}
+use Rattle.facet_json_scan.specs.Views.{part_of}
 use Rattle.facet_json_scan.proofs.Answered.{answered-ends}
 use Rattle.facet_json_scan.proofs.Segments.{between}
 use Rattle.facet_json_scan.proofs.NumberCuts.{number_at}

@@ -2,8 +2,7 @@
 use Rattle.std.proofs.Common.{drop, ap, ◌∙◌, subst, arith}
 use Rattle.facet_json_scan.specs.Gap.{growing, piece_len}
 use Rattle.facet_json_scan.specs.Scanner.{Describes}
-use Rattle.facet_json_scan.specs.Views.{mode_of}
-use Rattle.facet_json_scan.specs.ScannerViews.{state_of, part_of}
+use Rattle.facet_json_scan.specs.Views.{mode_of, state_of, part_of}
 use Rattle.facet_json_scan.proofs.Segments.{between, between-rest}
 use Rattle.facet_json_scan.proofs.Found.{found-no_gap}
 use Rattle.facet_json_scan.proofs.Pieces.{text_no_piece, number_no_piece}

@@ -1,8 +1,7 @@
 -- What is found from here on is found from the position on.
 use Rattle.std.proofs.Common.{◌-◌, ◌≤◌, length}
 use Rattle.facet_json_scan.specs.declared.scanner.Found.{Found}
-use Rattle.facet_json_scan.specs.Views.{mode_of}
-use Rattle.facet_json_scan.specs.ScannerViews.{FoundFrom}
+use Rattle.facet_json_scan.specs.Views.{mode_of, FoundFrom}
 use Rattle.facet_json_scan.proofs.scanner.scan_from.Given as goal
 
 abbrev pub invariant-loop-end : goal.invariant-loop-end

@@ -3,7 +3,7 @@ use Rattle.std.proofs.Common.{◌<◌, ◌++◌, string_bytes, ap, ◌∙◌, ar
 use Rattle.std.proofs.lemmas.Result.{err_from_is_err_and}
 use Rattle.std.proofs.lemmas.List.Edits.{length-between}
 use Rattle.facet_format.specs.Bytes.{backslash}
-use Rattle.facet_json_scan.specs.Decoders.{IsWithin}
+use Rattle.facet_json_scan.specs.Views.{IsWithin}
 use Rattle.facet_json_scan.proofs.DecodeLaws.{decodes-decoded}
 use Rattle.facet_json_scan.proofs.DecodeSteps.{range-first, step-run, step-found, found-within, step-lost, step-end}
 use Rattle.facet_json_scan.proofs.Utf8Runs.{run-IsUtf8, found-IsUtf8}

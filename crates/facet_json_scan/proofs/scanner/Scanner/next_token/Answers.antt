@@ -1,7 +1,7 @@
 -- What is found is answered, and kept if it is open.
 use Rattle.std.proofs.Common.{◌≡◌, length, drop, sym, ap, subst}
 use Rattle.facet_json_scan.specs.Scanner.{GoesOnFrom, Describes, waiting, past_growing_gap}
-use Rattle.facet_json_scan.specs.ScannerViews.{state_of}
+use Rattle.facet_json_scan.specs.Views.{state_of}
 use Rattle.facet_json_scan.proofs.Given.{gives-open}
 use Rattle.facet_json_scan.proofs.scanner.Scanner.next_token.Goals as goal
 
