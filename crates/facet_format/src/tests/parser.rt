@@ -31,8 +31,6 @@ fn peek_and_next<'de, P: FormatParser<'de>>(
 struct Nulls;
 
 impl<'de> FormatParser<'de> for Nulls {
-    ghost use Rattle.std.specs.Prelude.{⊥};
-
     ghost at = { λ _ _ _. ⊥ };
 
     fn next_event(&mut self) -> Result<Option<ParseEvent<'de>>, ParseError> {
