@@ -19,9 +19,9 @@ ghost use Rattle.facet_format.specs.Views.{hint_of};
 
 use crate::mode::Mode;
 use crate::plain_cut::{common_len, cut, cut_bare_minus, cut_token, cut_word, line_end, token_at};
+use crate::token::{ScanResult, SpannedToken, Token};
 use facet_format::Span;
 use facet_format::numeral::NumberHint;
-use crate::token::{ScanResult, SpannedToken, Token};
 use std::marker::Model;
 
 /// The part of a number (RFC 8259, section 6) in which its last byte stands.
