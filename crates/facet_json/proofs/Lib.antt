@@ -63,3 +63,6 @@ pub mod CursorLaws
 pub mod MoveLaws
 pub mod Outcomes
 pub mod BegunLaws
+pub mod SoundFutures
+pub mod SoundMoves
+pub mod AloneLaws

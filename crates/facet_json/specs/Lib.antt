@@ -23,6 +23,7 @@ pub mod Now
 pub mod Move
 pub mod Begun
 pub mod Sound
+pub mod Alone
 pub mod Reading
 pub mod Same
 pub mod SameLaws
