@@ -1,10 +1,8 @@
 -- Laws of cursors: a peek is the next event, and runs put together.
-use Rattle.std.proofs.Common.{◌≡◌, ℕ, zero, suc, ◌+◌, true, false, List, [], ◌∷◌, ◌++◌, length, Option, Some, None, refl, sym, ap, ◌∙◌}
-use Rattle.std.specs.Prelude.{Ok, Err}
-use Rattle.facet_format.specs.Complaint.{Refusal}
-use Rattle.facet_format.specs.Event.{Event, Passed}
-use Rattle.facet_format.specs.Kept.{found}
-use Rattle.facet_format.specs.Cursor.{Call, next, peek, save, restore, Answer, event, saved, restored, Cursor, Step, repeats, passes, passes_without_memory, passes_the_end, peeks, saves, restores, restores_nothing, kept_here, back_at, Run, no_calls, one_call}
+use Rattle.std.proofs.Common.{◌≡◌, suc, List, [], ◌∷◌, ◌++◌, length, Some, refl, ap}
+use Rattle.std.specs.Prelude.{Ok}
+use Rattle.facet_json.specs.Event.{Event, Passed}
+use Rattle.facet_json.specs.Cursor.{Call, next, peek, Answer, event, Cursor, Step, repeats, passes, passes_without_memory, passes_the_end, peeks, Run, no_calls, one_call}
 
 -- An event that a peek answered is the next event.
 pub peeked-passes : (w : List Passed) (c mid new : Cursor) (e : Event) (shown answer : Answer) →

@@ -1,29 +1,28 @@
 -- Of begun documents: what comes behind a front of tokens, the longest front, and an input that has no document.
-use Rattle.std.proofs.Common.{◌≡◌, ℕ, suc, ◌≤◌, Bool, true, false, List, [], ◌∷◌, ◌++◌, Option, Some, None, refl, sym, ap, ◌∙◌, subst, arith}
+use Rattle.std.proofs.Common.{◌≡◌, ℕ, suc, ◌+◌, ◌≤◌, Bool, true, false, List, [], ◌∷◌, ◌++◌, length, Option, Some, None, refl, sym, ap, ◌∙◌, arith}
 use Rattle.std.specs.Option.{option_map}
-use Rattle.facet_json_scan.specs.Gap.{Mode}
-use Rattle.facet_json_scan.specs.Token.{Kind, Token}
-use Rattle.facet_json_scan.specs.Token as token
-use Rattle.facet_json_scan.specs.Tokens.{Tokens, ended, refused, next, tokens}
-use Rattle.facet_json_core.specs.Node.{Node, is_scalar, is_string}
-use Rattle.facet_json_core.specs.Tree.{Tree}
-use Rattle.facet_json_core.specs.Tree as trees
-use Rattle.facet_json_core.specs.Meaning.{Meaning, meaning_of, meaning, text_of}
-use Rattle.facet_json_core.specs.Document.{IsDocument}
-use Rattle.facet_json_core.specs.Spelled.{count}
-use Rattle.facet_json_core.specs.Place.{Place, root, before_key, after_key, after_colon, after_member, before_item, after_item, is_colon}
-use Rattle.facet_json_core.specs.Refusal.{needs_meaning}
-use Rattle.facet_json_core.specs.Reading.{TakesValue, at_root, behind_colon, of_list}
-use Rattle.facet_format.specs.Event.{ContainerKind, object, array, Passed}
-use Rattle.facet_format.specs.Event as event
-use Rattle.facet_json_core.specs.Walk.{event_at, scalar_event, key_event, walk}
-use Rattle.facet_json_core.specs.Future.{Future, gives, finished, stuck, events_before, Stage, within, over, after_value, Turn, stops, passes, says, says_scalar, names, turn, reads, reads_colon}
-use Rattle.facet_json_core.specs.Begun.{Begun, nothing, whole, in_list, in_object, ListBegun, begins_item, behind_item, ObjectBegun, no_key, key_alone, begins_member, behind_member, BegunDocument, LongestFront}
-use Rattle.facet_json_core.proofs.Suffixes.{IsSuffix, later}
-use Rattle.facet_json_core.proofs.Suffixes as suffix
-use Rattle.facet_json_core.proofs.Futures.{events_before-append, follows, reads-turn, turn-meant, reads-array, reads-object, reads-item_comma, reads-member_comma, reads-key, reads-names, walk-comes}
-use Rattle.facet_json_core.proofs.Stands.{document-comes}
-use Rattle.facet_json_core.proofs.Outcomes.{IsMeaning, ValueComes, value_stands, value_stops, root-comes}
+use Rattle.std.proofs.lemmas.List.{append-nil}
+use Rattle.facet_json.specs.Gap.{Mode}
+use Rattle.facet_json.specs.Token.{Kind, Token}
+use Rattle.facet_json.specs.Token as token
+use Rattle.facet_json.specs.Tokens.{Tokens, ended, refused, next, tokens}
+use Rattle.facet_json.specs.Node.{Node, is_scalar, is_string}
+use Rattle.facet_json.specs.Tree.{Tree}
+use Rattle.facet_json.specs.Tree as trees
+use Rattle.facet_json.specs.Meaning.{Meaning, meaning_of, meaning, text_of}
+use Rattle.facet_json.specs.Document.{IsDocument}
+use Rattle.facet_json.specs.Spelled.{count}
+use Rattle.facet_json.specs.Place.{Place, root, before_key, after_key, after_colon, before_item, is_colon}
+use Rattle.facet_json.specs.Refusal.{needs_meaning}
+use Rattle.facet_json.specs.Reading.{TakesValue, at_root, behind_colon, of_list}
+use Rattle.facet_json.specs.Event.{ContainerKind, object, array, Passed}
+use Rattle.facet_json.specs.Event as event
+use Rattle.facet_json.specs.Walk.{event_at, key_event, walk}
+use Rattle.facet_json.specs.Future.{Future, gives, finished, stuck, events_before, Stage, within, over, after_value, Turn, stops, passes, says, says_scalar, names, turn, reads, reads_colon}
+use Rattle.facet_json.specs.Begun.{Begun, nothing, whole, in_list, in_object, ListBegun, begins_item, behind_item, ObjectBegun, no_key, key_alone, begins_member, behind_member, BegunDocument, LongestFront}
+use Rattle.facet_json.proofs.Futures.{events_before-append, follows, reads-turn, reads-array, reads-object, reads-item_comma, reads-member_comma, reads-key, reads-names, walk-comes}
+use Rattle.facet_json.proofs.Stands.{document-comes}
+use Rattle.facet_json.proofs.Outcomes.{IsMeaning, ValueComes, value_stands, value_stops, root-comes}
 
 -- ---- what the tokens of a buffer mean
 
@@ -119,89 +118,100 @@ module _ (m : Meaning) where
 
   -- ---- where nothing comes any more
 
-  -- Wherever these tokens are stuck at the end, what is left are their last ones.
-  abbrev EndsIn : Tokens → Type 0
+  -- Wherever these tokens are stuck at the end, they are as many more as the events that they give, or more.
+  abbrev pub EndsIn : Tokens → Type 0
   EndsIn ts = (stack : List ContainerKind) (stage : Stage) (events : List Passed) (here : Place) (rest : Tokens) →
-      reads m stack stage ts ≡ events_before events (stuck here rest) → IsSuffix ts rest
+      reads m stack stage ts ≡ events_before events (stuck here rest) → count rest + length events ≤ count ts
 
   -- the same behind a key
-  abbrev EndsBehindKey : Tokens → Type 0
+  abbrev pub EndsBehindKey : Tokens → Type 0
   EndsBehindKey ts = (stack : List ContainerKind) (key : Token) (events : List Passed) (here : Place) (rest : Tokens) →
-      reads_colon m stack key ts ≡ events_before events (stuck here rest) → IsSuffix ts rest
+      reads_colon m stack key ts ≡ events_before events (stuck here rest) → count rest + length events ≤ count ts
 
-  turn-suffix : (stack : List ContainerKind) (place : Place) (t : Token) (ts : Tokens) (way : Turn) → EndsIn ts →
+  -- Where nothing is given, all tokens are left.
+  none_given : (ts rest : Tokens) (place here : Place) → stuck place ts ≡ stuck here rest → count rest + 0 ≤ count ts
+  none_given ts rest place here e =
+      let same : ts ≡ rest = cc in
+      omega (arith, ap count same)
+
+  turn-count : (stack : List ContainerKind) (place : Place) (t : Token) (ts : Tokens) (way : Turn) → EndsIn ts →
       EndsBehindKey ts → (events : List Passed) (here : Place) (rest : Tokens) →
-      follows m place t stack ts way ≡ events_before events (stuck here rest) → IsSuffix (next t ts) rest
-  turn-suffix stack place t ts stops h g [] here rest e =
-      let same : next t ts ≡ rest = cc in subst (IsSuffix (next t ts)) same (suffix.all (next t ts))
-  turn-suffix stack place t ts stops h g (p ∷ events) here rest e = cc
-  turn-suffix stack place t ts (passes others stage) h g events here rest e = later t ts rest (h others stage events here rest e)
-  turn-suffix stack place t ts (says kind others stage) h g [] here rest e = cc
-  turn-suffix stack place t ts (says kind others stage) h g (p ∷ events) here rest e =
+      follows m place t stack ts way ≡ events_before events (stuck here rest) → count rest + length events ≤ suc (count ts)
+  turn-count stack place t ts stops h g [] here rest e = none_given (next t ts) rest place here e
+  turn-count stack place t ts stops h g (p ∷ events) here rest e = cc
+  turn-count stack place t ts (passes others stage) h g events here rest e = omega (arith, h others stage events here rest e)
+  turn-count stack place t ts (says kind others stage) h g [] here rest e = cc
+  turn-count stack place t ts (says kind others stage) h g (p ∷ events) here rest e =
       let same : reads m others stage ts ≡ events_before events (stuck here rest) = cc in
-      later t ts rest (h others stage events here rest same)
-  turn-suffix stack place t ts (says_scalar others stage) h g [] here rest e = cc
-  turn-suffix stack place t ts (says_scalar others stage) h g (p ∷ events) here rest e =
+      omega (arith, h others stage events here rest same)
+  turn-count stack place t ts (says_scalar others stage) h g [] here rest e = cc
+  turn-count stack place t ts (says_scalar others stage) h g (p ∷ events) here rest e =
       let same : reads m others stage ts ≡ events_before events (stuck here rest) = cc in
-      later t ts rest (h others stage events here rest same)
-  turn-suffix stack place t ts names h g events here rest e = later t ts rest (g stack t events here rest e)
+      omega (arith, h others stage events here rest same)
+  turn-count stack place t ts names h g events here rest e = omega (arith, g stack t events here rest e)
 
-  mark-suffix : (stack : List ContainerKind) (key mark : Token) (ts : Tokens) (b : Bool) → EndsIn ts → is_colon mark.kind ≡ b →
+  mark-count : (stack : List ContainerKind) (key mark : Token) (ts : Tokens) (b : Bool) → EndsIn ts → is_colon mark.kind ≡ b →
       (events : List Passed) (here : Place) (rest : Tokens) →
-      reads_colon m stack key (next mark ts) ≡ events_before events (stuck here rest) → IsSuffix (next mark ts) rest
+      reads_colon m stack key (next mark ts) ≡ events_before events (stuck here rest) → count rest + length events ≤ suc (count ts)
   unfolding reads_colon
-  mark-suffix stack key mark ts false h c [] here rest e =
+  mark-count stack key mark ts false h c [] here rest e =
       let same : stuck after_key (next mark ts) ≡ stuck here rest = rw (c, reads_colon) at e in
-      let found : next mark ts ≡ rest = cc in
-      subst (IsSuffix (next mark ts)) found (suffix.all (next mark ts))
-  mark-suffix stack key mark ts false h c (p ∷ events) here rest e =
+      none_given (next mark ts) rest after_key here same
+  mark-count stack key mark ts false h c (p ∷ events) here rest e =
       let same : stuck after_key (next mark ts) ≡ gives p (events_before events (stuck here rest)) = rw (c, reads_colon) at e in cc
-  mark-suffix stack key mark ts true h c [] here rest e =
+  mark-count stack key mark ts true h c [] here rest e =
       let same : gives (key_event m key mark) (reads m stack (within after_colon) ts) ≡ stuck here rest = rw (c, reads_colon) at e in cc
-  mark-suffix stack key mark ts true h c (p ∷ events) here rest e =
+  mark-count stack key mark ts true h c (p ∷ events) here rest e =
       let same : gives (key_event m key mark) (reads m stack (within after_colon) ts) ≡ gives p (events_before events (stuck here rest)) = rw (c, reads_colon) at e in
       let behind : reads m stack (within after_colon) ts ≡ events_before events (stuck here rest) = cc in
-      later mark ts rest (h stack (within after_colon) events here rest behind)
+      omega (arith, h stack (within after_colon) events here rest behind)
 
   mutual
     unfolding reads
-    stuck-suffix : (ts : Tokens) → EndsIn ts
-    stuck-suffix ts stack over [] here rest e = cc
-    stuck-suffix ts stack over (p ∷ events) here rest e = cc
-    stuck-suffix ended stack (within place) [] here rest e =
-        let same : ended ≡ rest = cc in subst (IsSuffix ended) same (suffix.all ended)
-    stuck-suffix ended stack (within place) (p ∷ events) here rest e = cc
-    stuck-suffix (refused f) stack (within place) [] here rest e =
-        let same : refused f ≡ rest = cc in subst (IsSuffix (refused f)) same (suffix.all (refused f))
-    stuck-suffix (refused f) stack (within place) (p ∷ events) here rest e = cc
-    stuck-suffix (next t ts) stack (within place) events here rest e =
-        turn-suffix stack place t ts (turn m stack place t) (stuck-suffix ts) (colon-suffix ts) events here rest
+
+    -- Each event that is given takes a token at least.
+    pub stuck-count : (ts : Tokens) → EndsIn ts
+    stuck-count ts stack over [] here rest e = cc
+    stuck-count ts stack over (p ∷ events) here rest e = cc
+    stuck-count ended stack (within place) [] here rest e = none_given ended rest place here e
+    stuck-count ended stack (within place) (p ∷ events) here rest e = cc
+    stuck-count (refused f) stack (within place) [] here rest e = none_given (refused f) rest place here e
+    stuck-count (refused f) stack (within place) (p ∷ events) here rest e = cc
+    stuck-count (next t ts) stack (within place) events here rest e =
+        turn-count stack place t ts (turn m stack place t) (stuck-count ts) (colon-count ts) events here rest
         (sym (reads-turn m stack place t ts (turn m stack place t) refl) ∙ e)
 
-    colon-suffix : (ts : Tokens) → EndsBehindKey ts
-    colon-suffix ended stack key [] here rest e = let same : ended ≡ rest = cc in subst (IsSuffix ended) same (suffix.all ended)
-    colon-suffix ended stack key (p ∷ events) here rest e = cc
-    colon-suffix (refused f) stack key [] here rest e =
-        let same : refused f ≡ rest = cc in subst (IsSuffix (refused f)) same (suffix.all (refused f))
-    colon-suffix (refused f) stack key (p ∷ events) here rest e = cc
-    colon-suffix (next mark ts) stack key events here rest e =
-        mark-suffix stack key mark ts (is_colon mark.kind) (stuck-suffix ts) refl events here rest e
+    pub colon-count : (ts : Tokens) → EndsBehindKey ts
+    colon-count ended stack key [] here rest e = none_given ended rest after_key here e
+    colon-count ended stack key (p ∷ events) here rest e = cc
+    colon-count (refused f) stack key [] here rest e = none_given (refused f) rest after_key here e
+    colon-count (refused f) stack key (p ∷ events) here rest e = cc
+    colon-count (next mark ts) stack key events here rest e =
+        mark-count stack key mark ts (is_colon mark.kind) (stuck-count ts) refl events here rest e
 
-  from-suffix : (future : Future) (ts : Tokens) → ComesFrom m future ts → (events : List Passed) (here : Place) (rest : Tokens) →
-      future ≡ events_before events (stuck here rest) → IsSuffix ts rest
-  from-suffix future ts (from_stage stack stage f) events here rest e = stuck-suffix ts stack stage events here rest (sym f ∙ e)
-  from-suffix future ts (from_key stack key f) events here rest e = colon-suffix ts stack key events here rest (sym f ∙ e)
+  from-count : (future : Future) (ts : Tokens) → ComesFrom m future ts → (events : List Passed) (here : Place) (rest : Tokens) →
+      future ≡ events_before events (stuck here rest) → count rest + length events ≤ count ts
+  from-count future ts (from_stage stack stage f) events here rest e = stuck-count ts stack stage events here rest (sym f ∙ e)
+  from-count future ts (from_key stack key f) events here rest e = colon-count ts stack key events here rest (sym f ∙ e)
 
 -- ---- the longest front
 
 -- What comes behind fewer events ends in the same way.
 tail-stuck : (first events : List Passed) (future : Future) (here : Place) (rest : Tokens) →
-    events_before first future ≡ events_before events (stuck here rest) → (more : List Passed) × (future ≡ events_before more (stuck here rest))
-tail-stuck [] events future here rest e = (events, e)
+    events_before first future ≡ events_before events (stuck here rest) →
+    (more : List Passed) × (future ≡ events_before more (stuck here rest)) × (events ≡ first ++ more)
+tail-stuck [] events future here rest e = (events, e, refl)
 tail-stuck (p ∷ first) [] future here rest e = cc
 tail-stuck (p ∷ first) (q ∷ events) future here rest e =
     let same : events_before first future ≡ events_before events (stuck here rest) = cc in
-    tail-stuck first events future here rest same
+    let found = tail-stuck first events future here rest same in
+    let other = found.2 in
+    (found.0, found.1, cc)
+
+-- Of a longest front there are no more events than of another that begins there and leaves no more tokens.
+no_more : (n : ℕ) (events first more : List Passed) → events ≡ first ++ more → n + length more ≤ n → first ≡ events
+no_more n events first [] e h = sym (append-nil first) ∙ sym e
+no_more n events first (p ∷ more) e h = absurd (omega arith)
 
 -- A walk and its end aren't stuck behind any events.
 walk-never_stuck : (w events : List Passed) (here : Place) (rest : Tokens) →
@@ -213,11 +223,6 @@ walk-never_stuck (p ∷ w) (q ∷ events) here rest e =
     let same : events_before w finished ≡ events_before events (stuck here rest) = cc in
     walk-never_stuck w events here rest same
 
--- A suffix has no more tokens.
-suffix-count : (a b : Tokens) → IsSuffix a b → count b ≤ count a
-suffix-count a _ (suffix.all _) = omega arith
-suffix-count _ b (later t ts _ p) = omega (arith, suffix-count ts b p)
-
 -- The front in front of which nothing comes any more is the longest.
 pub stuck-longest : (m : Meaning) (ts : Tokens) (events : List Passed) (here : Place) (rest : Tokens) →
     BegunDocument m ts events (within here) rest → reads m [] (within root) ts ≡ events_before events (stuck here rest) →
@@ -227,8 +232,19 @@ stuck-longest m ts events here rest begun e =
     λ others there left b.
     (let leads = begun-leads m [] b at_root refl in
     let more = tail-stuck others events leads.behind here rest (sym leads.comes ∙ e) in
-    suffix-count left rest (from-suffix m leads.behind left leads.from more.0 here rest more.1)) in
+    omega (arith, from-count m leads.behind left leads.from more.0 here rest more.1)) in
     record { begun = begun; longest = no_longer }
+
+-- All longest fronts give the same events.
+pub longest-once : (m : Meaning) (ts : Tokens) (events others : List Passed) (here there : Place) (rest left : Tokens) →
+    BegunDocument m ts events (within here) rest → reads m [] (within root) ts ≡ events_before events (stuck here rest) →
+    LongestFront m ts others there left → others ≡ events
+longest-once m ts events others here there rest left begun e front =
+    let leads = begun-leads m [] front.begun at_root refl in
+    let more = tail-stuck others events leads.behind here rest (sym leads.comes ∙ e) in
+    let fewer = from-count m leads.behind left leads.from more.0 here rest more.1 in
+    let shortest = front.longest events (within here) rest begun in
+    no_more (count rest) events others more.0 more.2 (omega arith)
 
 -- What comes from the root of an input on: the walk of its document, or what the longest front gives.
 pub data RootComes (buffer : List ℕ) (mode : Mode) : Type 0 where

@@ -1,0 +1,103 @@
+-- Reading by the next event alone, on an input without a document: what the longest front gives, and then one refusal.
+use Rattle.std.proofs.Common.{◌≡◌, inl, inr, ℕ, List, [], ◌∷◌, Some, None, refl, sym, ap, ◌∙◌}
+use Rattle.std.specs.Prelude.{Err}
+use Rattle.facet_json.specs.Gap.{Mode}
+use Rattle.facet_json.specs.Token.{Token}
+use Rattle.facet_json.specs.Tokens.{Tokens, tokens}
+use Rattle.facet_json.specs.Node.{Node}
+use Rattle.facet_json.specs.Tree.{Tree}
+use Rattle.facet_json.specs.Meaning.{meaning}
+use Rattle.facet_json.specs.Document.{IsDocument}
+use Rattle.facet_json.specs.Place.{Place, Refusal}
+use Rattle.facet_json.specs.Refusal.{IsStuck}
+use Rattle.facet_json.specs.Event.{Passed}
+use Rattle.facet_json.specs.Cursor.{Call, next, Answer, event}
+use Rattle.facet_json.specs.Future.{gives, stuck, events_before}
+use Rattle.facet_json.specs.Now.{Standing, Now, fresh, future_of}
+use Rattle.facet_json.specs.Move.{StopsSo, Moves, repeats, passes, passes_without_memory, passes_the_end, passes_nothing, MovesAll, no_calls, one_call}
+use Rattle.facet_json.specs.Begun.{LongestFront, RefusesBehind}
+use Rattle.facet_json.specs.Alone.{AllNext, no_call, one_next, AllRefused, no_answer, one_refused, AnswersAlone, not_asked, one_event, refused, wants_memory}
+use Rattle.facet_json.proofs.MoveLaws.{moves-repeats}
+use Rattle.facet_json.proofs.BegunLaws.{RootComes, document_comes, front_comes, input-comes}
+
+module _ (complains : Token → Refusal → Type 0) where
+  -- A refused parser answers its refusal again and again.
+  all-refused : {now new : Now} {calls : List Call} {answers : List Answer} (r : Refusal) → now.refusal ≡ Some r →
+      AllNext calls → MovesAll complains now calls answers new → AllRefused r answers
+  all-refused r f no_call (no_calls now) = no_answer
+  all-refused r f (one_next calls only) (one_call now between new call answer _ answers move more) =
+      let both = moves-repeats complains now between r next answer (event (Err r)) move f refl in
+      let same = both.0 in
+      let still : between.refusal ≡ Some r = ap (λ n. n.refusal) both.1 ∙ f in
+      rw same (one_refused answers (all-refused r still only more))
+
+  module _ (refuses : Refusal → Type 0) (here : Place) (rest : Tokens) where
+    -- How the parser is refused in front of these tokens.
+    abbrev RefusesHere : Now → Type 0
+    RefusesHere now = (r : Refusal) → IsStuck now.buffer (meaning now.buffer) complains here rest r → refuses r
+
+    stops_alone : (now : Now) (s : Standing) (r : Refusal) (answers : List Answer) → RefusesHere now →
+        StopsSo complains now here rest s r → AllRefused r answers → AnswersAlone refuses [] (event (Err r) ∷ answers)
+    stops_alone now s r answers h (inl stops) same = refused r answers (h r stops) same
+    stops_alone now s r answers h (inr e) same = wants_memory r [] answers (ap (λ x. x.complaint) e) same
+
+    -- The first answer, and the others.
+    step_alone : (now : Now) (events : List Passed) {between new : Now} {answer : Answer} {calls : List Call} {answers : List Answer} →
+        now.refusal ≡ None → future_of now ≡ events_before events (stuck here rest) → RefusesHere now → AllNext calls →
+        Moves complains now next answer between → MovesAll complains between calls answers new →
+        ((p : Passed) (others : List Passed) → events ≡ p ∷ others → between.refusal ≡ None →
+        future_of between ≡ events_before others (stuck here rest) → RefusesHere between → AnswersAlone refuses others answers) →
+        AnswersAlone refuses events (answer ∷ answers)
+    step_alone now events free comes h only (repeats r call answer e a) more go = cc
+    step_alone now [] free comes h only (passes p future s none goes shows) more go = cc
+    step_alone now (q ∷ events) free comes h only (passes p future s none goes shows) more go =
+        let both : gives q (events_before events (stuck here rest)) ≡ gives p future = sym comes ∙ goes in
+        let first : q ≡ p = cc in
+        let behind : future ≡ events_before events (stuck here rest) = cc in
+        rw first (one_event p events _ (go q events refl none (shows.comes ∙ behind) h))
+    step_alone now events free comes h only (passes_without_memory p future s none goes takes off like) more go =
+        wants_memory _ events _ refl (all-refused _ refl only more)
+    step_alone now [] free comes h only (passes_the_end s none e like) more go = cc
+    step_alone now (q ∷ events) free comes h only (passes_the_end s none e like) more go = cc
+    step_alone now [] free comes h only (passes_nothing place left r s none e stops like) more go =
+        let both : stuck here rest ≡ stuck place left = sym comes ∙ e in
+        let at : place ≡ here = cc in
+        let in_front : left ≡ rest = cc in
+        stops_alone now s r _ h (rw (at, in_front) at stops) (all-refused r refl only more)
+    step_alone now (q ∷ events) free comes h only (passes_nothing place left r s none e stops like) more go = cc
+
+    -- What comes is answered event by event, and then the refusal.
+    pub answers-alone : (events : List Passed) {now new : Now} {calls : List Call} {answers : List Answer} → AllNext calls →
+        now.refusal ≡ None → future_of now ≡ events_before events (stuck here rest) → RefusesHere now →
+        MovesAll complains now calls answers new → AnswersAlone refuses events answers
+    answers-alone events no_call free comes h (no_calls now) = not_asked events
+    answers-alone events (one_next calls only) free comes h (one_call now between new call answer _ answers move more) =
+        step_alone now events free comes h only move more
+        (λ p others same none behind there. answers-alone others only none behind there more)
+
+-- What a new parser answers by the next event alone, where there is no document.
+pub record GivenAlone (buffer : List ℕ) (mode : Mode) (complains : Token → Refusal → Type 0) (answers : List Answer) : Type 0 where
+  pub events : List Passed
+  pub here : Place
+  pub rest : Tokens
+  pub front : LongestFront (meaning buffer) (tokens buffer mode) events here rest
+  pub alone : AnswersAlone (RefusesBehind buffer mode complains events) events answers
+
+given_by : (buffer : List ℕ) (mode : Mode) (complains : Token → Refusal → Type 0) {new : Now} {calls : List Call} {answers : List Answer} →
+    RootComes buffer mode → ((node : Node) (value : Tree) → IsDocument buffer mode node value → ⊥) → AllNext calls →
+    MovesAll complains (fresh buffer mode) calls answers new → GivenAlone buffer mode complains answers
+given_by buffer mode complains (document_comes node value d) none only moves = absurd (none node value d)
+given_by buffer mode complains (front_comes events here rest front e) none only moves = record {
+  events = events;
+  here = here;
+  rest = rest;
+  front = front;
+  alone = answers-alone complains (RefusesBehind buffer mode complains events) here rest events only refl e
+      (λ r stops. record { here = here; rest = rest; front = front; stuck = stops }) moves;
+}
+
+-- Where there is no document, what the longest front gives is answered, and then one refusal.
+pub given-alone : (buffer : List ℕ) (mode : Mode) (complains : Token → Refusal → Type 0) {new : Now} {calls : List Call} {answers : List Answer} →
+    ((node : Node) (value : Tree) → IsDocument buffer mode node value → ⊥) → AllNext calls →
+    MovesAll complains (fresh buffer mode) calls answers new → GivenAlone buffer mode complains answers
+given-alone buffer mode complains none only moves = given_by buffer mode complains (input-comes buffer mode) none only moves
