@@ -66,3 +66,7 @@ pub mod BegunLaws
 pub mod SoundFutures
 pub mod SoundMoves
 pub mod AloneLaws
+pub mod PointLaws
+pub mod NextEnds
+pub mod Completions
+pub mod CursorRows

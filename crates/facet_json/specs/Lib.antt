@@ -24,6 +24,7 @@ pub mod Move
 pub mod Begun
 pub mod Sound
 pub mod Alone
+pub mod EventLaws
 pub mod Reading
 pub mod Same
 pub mod SameLaws
