@@ -1,8 +1,10 @@
 -- Laws of cursors: a peek is the next event, and runs put together.
-use Rattle.std.proofs.Common.{◌≡◌, suc, List, [], ◌∷◌, ◌++◌, length, Some, refl, ap}
+use Rattle.std.proofs.Common.{◌≡◌, ℕ, suc, List, [], ◌∷◌, ◌++◌, length, Some, None, refl, ap, arith}
 use Rattle.std.specs.Prelude.{Ok}
 use Rattle.facet_json.specs.Event.{Event, Passed}
-use Rattle.facet_json.specs.Cursor.{Call, next, peek, Answer, event, Cursor, Step, repeats, passes, passes_without_memory, passes_the_end, peeks, Run, no_calls, one_call}
+use Rattle.facet_json.specs.Kept.{found}
+use Rattle.facet_json.specs.Cursor.{Call, next, peek, save, restore, Answer, event, saved, restored, Spot, Cursor, Step, repeats, passes, passes_without_memory, passes_the_end, peeks, saves, restores, restores_nothing, kept_here, back_at, Run, no_calls, one_call}
+use Rattle.facet_json.proofs.KeptLaws.{AreUpTo, found-new}
 
 -- An event that a peek answered is the next event.
 pub peeked-passes : (w : List Passed) (c mid new : Cursor) (e : Event) (shown answer : Answer) →
@@ -33,3 +35,29 @@ pub run-one_more : (w : List Passed) {a b c : Cursor} {calls : List Call} {answe
     Run w a calls answers b → Step w b call answer c → Run w a (calls ++ call ∷ []) (answers ++ answer ∷ []) c
 run-one_more w {b = b} {c = c} {call = call} {answer = answer} run step =
     run-append w run (one_call b c c call answer [] [] step (no_calls c))
+
+-- A save that answers a point keeps the spot under its number.
+pub step-saved : (w : List Passed) (c new : Cursor) (n : ℕ) (answer : Answer) → AreUpTo c.counter c.kept → answer ≡ saved (Ok n) →
+    Step w c save answer new → (n ≡ suc c.counter) × (new ≡ kept_here c) × (found n new.kept ≡ Some c.spot)
+step-saved w c new n answer up a (repeats r call b f g) = cc
+step-saved w c new n answer up a (saves none h) =
+    let number : n ≡ suc c.counter = cc in
+    let fits = found-new (suc c.counter) c.spot c.kept (up (suc c.counter) (omega arith)) in
+    (number, refl, rw number fits)
+step-saved w c new n answer up a _ = cc
+
+-- A restore of a kept point brings its spot back, with no refusal, and uses the point up.
+pub step-restored : (w : List Passed) (c : Cursor) (point : ℕ) (spot : Spot) (new : Cursor) (answer : Answer) →
+    found point c.kept ≡ Some spot → Step w c (restore point) answer new → (answer ≡ restored) × (new ≡ back_at c point spot)
+step-restored w c point spot new answer e (repeats r call b f g) = cc
+step-restored w c point spot new answer e (restores q t f) =
+    let same : t ≡ spot = cc in
+    (refl, ap (back_at c point) same)
+step-restored w c point spot new answer e (restores_nothing q f) = cc
+
+-- A restore of another point changes nothing.
+pub step-unknown : (w : List Passed) (c : Cursor) (point : ℕ) (new : Cursor) (answer : Answer) → found point c.kept ≡ None →
+    Step w c (restore point) answer new → (answer ≡ restored) × (new ≡ c)
+step-unknown w c point new answer e (repeats r call b f g) = cc
+step-unknown w c point new answer e (restores q t f) = cc
+step-unknown w c point new answer e (restores_nothing q f) = (refl, refl)

@@ -1,15 +1,15 @@
 -- Of begun documents: what comes behind a front of tokens, the longest front, and an input that has no document.
-use Rattle.std.proofs.Common.{◌≡◌, ℕ, suc, ◌+◌, ◌≤◌, Bool, true, false, List, [], ◌∷◌, ◌++◌, length, Option, Some, None, refl, sym, ap, ◌∙◌, arith}
+use Rattle.std.proofs.Common.{◌≡◌, ℕ, suc, ◌+◌, ◌≤◌, Bool, true, false, List, [], ◌∷◌, ◌++◌, length, Option, Some, None, refl, sym, ap, ◌∙◌, subst, arith}
 use Rattle.std.specs.Option.{option_map}
 use Rattle.std.proofs.lemmas.List.{append-nil}
 use Rattle.facet_json.specs.Gap.{Mode}
 use Rattle.facet_json.specs.Token.{Kind, Token}
 use Rattle.facet_json.specs.Token as token
 use Rattle.facet_json.specs.Tokens.{Tokens, ended, refused, next, tokens}
-use Rattle.facet_json.specs.Node.{Node, is_scalar, is_string}
+use Rattle.facet_json.specs.Node.{Node, Spells, is_scalar, is_string}
 use Rattle.facet_json.specs.Tree.{Tree}
 use Rattle.facet_json.specs.Tree as trees
-use Rattle.facet_json.specs.Meaning.{Meaning, meaning_of, meaning, text_of}
+use Rattle.facet_json.specs.Meaning.{Meaning, meaning_of, meaning, tree_of, text_of}
 use Rattle.facet_json.specs.Document.{IsDocument}
 use Rattle.facet_json.specs.Spelled.{count}
 use Rattle.facet_json.specs.Place.{Place, root, before_key, after_key, after_colon, before_item, is_colon}
@@ -20,6 +20,7 @@ use Rattle.facet_json.specs.Event as event
 use Rattle.facet_json.specs.Walk.{event_at, key_event, walk}
 use Rattle.facet_json.specs.Future.{Future, gives, finished, stuck, events_before, Stage, within, over, after_value, Turn, stops, passes, says, says_scalar, names, turn, reads, reads_colon}
 use Rattle.facet_json.specs.Begun.{Begun, nothing, whole, in_list, in_object, ListBegun, begins_item, behind_item, ObjectBegun, no_key, key_alone, begins_member, behind_member, BegunDocument, LongestFront}
+use Rattle.facet_json.specs.EventLaws.{IsReadFrom, from_stage, from_key, IsGiven}
 use Rattle.facet_json.proofs.Futures.{events_before-append, follows, reads-turn, reads-array, reads-object, reads-item_comma, reads-member_comma, reads-key, reads-names, walk-comes}
 use Rattle.facet_json.proofs.Stands.{document-comes}
 use Rattle.facet_json.proofs.Outcomes.{IsMeaning, ValueComes, value_stands, value_stops, root-comes}
@@ -52,16 +53,11 @@ is_meaning buffer = record {
 
 -- ---- what comes behind a front
 
--- What comes is read from these tokens on.
-data ComesFrom (m : Meaning) (future : Future) (ts : Tokens) : Type 0 where
-  from_stage : (stack : List ContainerKind) (stage : Stage) → future ≡ reads m stack stage ts → ComesFrom m future ts
-  from_key : (stack : List ContainerKind) (key : Token) → future ≡ reads_colon m stack key ts → ComesFrom m future ts
-
 -- These events come, and then what is read from the last tokens on.
 record Leads (m : Meaning) (start : Future) (events : List Passed) (rest : Tokens) : Type 0 where
   behind : Future
   comes : start ≡ events_before events behind
-  from : ComesFrom m behind rest
+  from : IsReadFrom m behind rest
 
 -- The same behind further events.
 leads_behind : (m : Meaning) (before : List Passed) (first start : Future) (events total : List Passed) (rest : Tokens) →
@@ -189,7 +185,7 @@ module _ (m : Meaning) where
     colon-count (next mark ts) stack key events here rest e =
         mark-count stack key mark ts (is_colon mark.kind) (stuck-count ts) refl events here rest e
 
-  from-count : (future : Future) (ts : Tokens) → ComesFrom m future ts → (events : List Passed) (here : Place) (rest : Tokens) →
+  from-count : (future : Future) (ts : Tokens) → IsReadFrom m future ts → (events : List Passed) (here : Place) (rest : Tokens) →
       future ≡ events_before events (stuck here rest) → count rest + length events ≤ count ts
   from-count future ts (from_stage stack stage f) events here rest e = stuck-count ts stack stage events here rest (sym f ∙ e)
   from-count future ts (from_key stack key f) events here rest e = colon-count ts stack key events here rest (sym f ∙ e)
@@ -269,3 +265,39 @@ pub stuck-none : (buffer : List ℕ) (mode : Mode) (events : List Passed) (here 
     IsDocument buffer mode node value → ⊥
 stuck-none buffer mode events here rest node value e d =
     walk-never_stuck (walk (meaning buffer) node) events here rest (sym (document-comes buffer mode node value d) ∙ e)
+
+-- ---- events of a front
+
+-- What comes behind fewer events of a walk are its others.
+tail-finished : (first w : List Passed) (future : Future) → events_before first future ≡ events_before w finished →
+    (more : List Passed) × (w ≡ first ++ more) × (future ≡ events_before more finished)
+tail-finished [] w future e = (w, refl, e)
+tail-finished (p ∷ first) [] future e = cc
+tail-finished (p ∷ first) (q ∷ w) future e =
+    let same : events_before first future ≡ events_before w finished = cc in
+    let found = tail-finished first w future same in
+    let other = found.1 in
+    (found.0, cc, found.2)
+
+-- Behind the end of the root nothing comes.
+over-finished : (m : Meaning) (ts : Tokens) → reads m [] over ts ≡ finished
+unfolding reads
+over-finished m ts = refl
+
+-- A front gives the first events of the walk of each value that goes on from it.
+pub front-walk : (m : Meaning) (ts mid rest : Tokens) (node : Node) (value : Tree) (events : List Passed) (here : Stage) →
+    BegunDocument m ts events here mid → Spells ts node rest → tree_of m node ≡ Some value →
+    (more : List Passed) × (walk m node ≡ events ++ more) × IsReadFrom m (events_before more finished) mid
+front-walk m ts mid rest node value events here b s t =
+    let leads = begun-leads m [] b at_root refl in
+    let whole_walk = walk-comes m value s t [] root at_root ∙ ap (events_before (walk m node)) (over-finished m rest) in
+    let found = tail-finished events (walk m node) leads.behind (sym leads.comes ∙ whole_walk) in
+    (found.0, found.1, subst (λ f. IsReadFrom m f mid) found.2 leads.from)
+
+-- An input without a document has a longest front, and all longest fronts give the same events.
+pub given_once : (buffer : List ℕ) (mode : Mode) → ((node : Node) (value : Tree) → IsDocument buffer mode node value → ⊥) →
+    RootComes buffer mode → (events : List Passed) × IsGiven buffer mode events
+    × ((others : List Passed) → IsGiven buffer mode others → others ≡ events)
+given_once buffer mode none (document_comes node value d) = absurd (none node value d)
+given_once buffer mode none (front_comes events here rest front e) =
+    (events, (here, rest, front), λ others given. longest-once (meaning buffer) (tokens buffer mode) events others here given.0 rest given.1 front.begun e given.2)

@@ -191,23 +191,23 @@ put_pair_meant (Some name) (Some t) None all e = cc
 put_pair_meant (Some name) (Some t) (Some others) all e = (name, t, others, refl, refl, refl)
 
 -- Items of a list with a meaning.
-list_meant : (o : Option Trees) (value : Tree) → option_map tree.list o ≡ Some value → (values : Trees) × (o ≡ Some values)
+pub list_meant : (o : Option Trees) (value : Tree) → option_map tree.list o ≡ Some value → (values : Trees) × (o ≡ Some values)
 list_meant None value e = cc
 list_meant (Some values) value e = (values, refl)
 
 -- Members of an object with a meaning.
-object_meant : (o : Option Pairs) (value : Tree) → option_map tree.pairs o ≡ Some value → (values : Pairs) × (o ≡ Some values)
+pub object_meant : (o : Option Pairs) (value : Tree) → option_map tree.pairs o ≡ Some value → (values : Pairs) × (o ≡ Some values)
 object_meant None value e = cc
 object_meant (Some values) value e = (values, refl)
 
 -- Items with a meaning: the first, and the others.
-item_meant : (m : Meaning) (node : Node) (nodes : Nodes) (all : Trees) → trees_of m (item node nodes) ≡ Some all →
+pub item_meant : (m : Meaning) (node : Node) (nodes : Nodes) (all : Trees) → trees_of m (item node nodes) ≡ Some all →
     (value : Tree) × (values : Trees) × (tree_of m node ≡ Some value) × (trees_of m nodes ≡ Some values)
 unfolding trees_of
 item_meant m node nodes all e = put_item_meant (tree_of m node) (trees_of m nodes) all e
 
 -- Members with a meaning: the key's name, the value, and the others.
-member_meant : (m : Meaning) (key mark : Token) (node : Node) (members : Members) (all : Pairs) →
+pub member_meant : (m : Meaning) (key mark : Token) (node : Node) (members : Members) (all : Pairs) →
     pairs_of m (member key mark node members) ≡ Some all →
     (name : List ℕ) × (value : Tree) × (values : Pairs) × (text_of (m key) ≡ Some name) × (tree_of m node ≡ Some value) × (pairs_of m members ≡ Some values)
 unfolding pairs_of

@@ -15,6 +15,11 @@ use Rattle.facet_format.specs.Event.{object, array, struct_start, sequence_start
 use Rattle.facet_json_core.specs.Walk.{event_at, key_event, walk}
 use Rattle.facet_json_core.specs.Future.{Stage, within, over}
 
+-- these tokens, and then others
+abbrev pub tokens_before : List Token → Tokens → Tokens
+tokens_before [] rest = rest
+tokens_before (t ∷ ts) rest = next t (tokens_before ts rest)
+
 -- The tokens in front of the last ones, which have a meaning, begin a value, give these events, and lead to the stage `here`. The
 -- value stands at the place, and behind all of it stands the stage `after`. An event is there once its last token is.
 mutual

@@ -1,0 +1,67 @@
+-- Runs of the cursor by computation: lists of calls on the walk of `[1]`, and their answers.
+use Rattle.std.proofs.Common.{ℕ, List, [], ◌∷◌, Some, None, refl, arith}
+use Rattle.std.specs.Prelude.{Ok, false}
+use Rattle.facet_json.specs.Cut.{span_at}
+use Rattle.facet_json.specs.Event.{EventKind, Event, Passed, array, sequence_start, sequence_end, scalar, u64}
+use Rattle.facet_json.specs.Cursor.{next, peek, events, save, restore, span, event, batch, saved, restored, spans, Spot, Cursor, start, Run, no_calls, one_call, passes, passes_the_end, peeks, gives_none, gives, saves, restores, restores_nothing, tells}
+
+-- an event of one token, with its offset and length
+abbrev at : EventKind → ℕ → ℕ → Event
+at kind offset len = record { kind = kind; span = span_at offset len }
+
+abbrev passed : Event → Passed
+passed e = record { event = e; last = e.span }
+
+abbrev opens : Event
+opens = at (sequence_start array) 0 1
+
+abbrev one : Event
+one = at (scalar (u64 1)) 1 1
+
+abbrev closes : Event
+closes = at sequence_end 2 1
+
+-- the walk of `[1]`
+abbrev w : List Passed
+w = passed opens ∷ passed one ∷ passed closes ∷ []
+
+-- where so many events are passed
+abbrev spot : ℕ → Spot
+spot n = record { place = n; peeked = false }
+
+-- a cursor behind all of them
+abbrev at_end : Cursor
+at_end = record start { spot = spot 3 }
+
+-- Event by event, then the end, again and again.
+next_row : Run w start (next ∷ next ∷ next ∷ next ∷ next ∷ [])
+    (event (Ok (Some opens)) ∷ event (Ok (Some one)) ∷ event (Ok (Some closes)) ∷ event (Ok None) ∷ event (Ok None) ∷ []) at_end
+next_row =
+    one_call _ _ _ _ _ _ _ (passes (passed opens) refl refl) (one_call _ _ _ _ _ _ _ (passes (passed one) refl refl)
+    (one_call _ _ _ _ _ _ _ (passes (passed closes) refl refl) (one_call _ _ _ _ _ _ _ (passes_the_end refl refl)
+    (one_call _ _ _ _ _ _ _ (passes_the_end refl refl) (no_calls _)))))
+
+-- A peek shows the event's span, and passes nothing.
+peek_row : Run w start (span ∷ peek ∷ span ∷ next ∷ [])
+    (spans (Some (span_at 0 0)) ∷ event (Ok (Some opens)) ∷ spans (Some (span_at 0 1)) ∷ event (Ok (Some opens)) ∷ [])
+    (record start { spot = spot 1 })
+peek_row =
+    one_call _ _ _ _ _ _ _ tells (one_call _ _ _ _ _ _ _ (peeks (passed opens) refl refl)
+    (one_call _ _ _ _ _ _ _ tells (one_call _ _ _ _ _ _ _ (passes (passed opens) refl refl) (no_calls _))))
+
+-- All that are left at once, a peeked one first; none where none is asked for.
+batch_row : Run w start (peek ∷ events 9 ∷ events 0 ∷ span ∷ [])
+    (event (Ok (Some opens)) ∷ batch (opens ∷ one ∷ closes ∷ []) (Ok 3) ∷ batch [] (Ok 0) ∷ spans (Some (span_at 2 1)) ∷ []) at_end
+batch_row =
+    one_call _ _ _ _ _ _ _ (peeks (passed opens) refl refl) (one_call _ _ _ _ _ _ _ (gives 8 3 _ refl refl refl)
+    (one_call _ _ _ _ _ _ _ gives_none (one_call _ _ _ _ _ _ _ tells (no_calls _))))
+
+-- A point that was restored is used up.
+restore_row : Run w start (next ∷ save ∷ next ∷ restore 1 ∷ next ∷ restore 1 ∷ next ∷ [])
+    (event (Ok (Some opens)) ∷ saved (Ok 1) ∷ event (Ok (Some one)) ∷ restored ∷ event (Ok (Some one)) ∷ restored ∷ event (Ok (Some closes)) ∷ [])
+    (record start { spot = spot 3; counter = 1 })
+restore_row =
+    one_call _ _ _ _ _ _ _ (passes (passed opens) refl refl) (one_call _ _ _ _ _ _ _ (saves refl (omega arith))
+    (one_call _ _ _ _ _ _ _ (passes (passed one) refl refl) (one_call _ _ _ _ _ _ _ (restores 1 (spot 1) refl)
+    (one_call _ _ _ _ _ _ _ (passes (passed one) refl refl) (one_call _ _ _ _ _ _ _ (restores_nothing 1 refl)
+    (one_call _ _ _ _ _ _ _ (passes (passed closes) refl refl) (no_calls _)))))))
