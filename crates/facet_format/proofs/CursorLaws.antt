@@ -1,10 +1,10 @@
 -- Laws of cursors: a peek is the next event, and runs put together.
 use Rattle.std.proofs.Common.{◌≡◌, ℕ, suc, List, [], ◌∷◌, ◌++◌, length, Some, None, refl, ap, arith}
 use Rattle.std.specs.Prelude.{Ok}
-use Rattle.facet_json.specs.Event.{Event, Passed}
-use Rattle.facet_json.specs.Kept.{found}
-use Rattle.facet_json.specs.Cursor.{Call, next, peek, save, restore, Answer, event, saved, restored, Spot, Cursor, Step, repeats, passes, passes_without_memory, passes_the_end, peeks, saves, restores, restores_nothing, kept_here, back_at, Run, no_calls, one_call}
-use Rattle.facet_json.proofs.KeptLaws.{AreUpTo, found-new}
+use Rattle.facet_format.specs.Event.{Event, Passed}
+use Rattle.facet_format.specs.Kept.{found}
+use Rattle.facet_format.specs.Cursor.{Call, next, peek, save, restore, Answer, event, saved, restored, Spot, Cursor, Step, repeats, passes, passes_without_memory, passes_the_end, peeks, saves, restores, restores_nothing, kept_here, back_at, Run, no_calls, one_call}
+use Rattle.facet_format.proofs.KeptLaws.{AreUpTo, found-new}
 
 -- An event that a peek answered is the next event.
 pub peeked-passes : (w : List Passed) (c mid new : Cursor) (e : Event) (shown answer : Answer) →

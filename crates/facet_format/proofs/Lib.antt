@@ -5,3 +5,4 @@ pub mod NumberSteps
 pub mod CursorLaws
 pub mod KeptLaws
 pub mod CursorSteps
+pub mod CursorRows

@@ -2,28 +2,28 @@
 use Rattle.std.proofs.Common.{◌≡◌, ℕ, suc, ◌+◌, ◌≤◌, Bool, true, false, List, [], ◌∷◌, ◌++◌, length, Option, Some, None, refl, sym, ap, ◌∙◌, subst, arith}
 use Rattle.std.specs.Option.{option_map}
 use Rattle.std.proofs.lemmas.List.{append-nil}
-use Rattle.facet_json.specs.Gap.{Mode}
-use Rattle.facet_json.specs.Token.{Kind, Token}
-use Rattle.facet_json.specs.Token as token
-use Rattle.facet_json.specs.Tokens.{Tokens, ended, refused, next, tokens}
-use Rattle.facet_json.specs.Node.{Node, Spells, is_scalar, is_string}
-use Rattle.facet_json.specs.Tree.{Tree}
-use Rattle.facet_json.specs.Tree as trees
-use Rattle.facet_json.specs.Meaning.{Meaning, meaning_of, meaning, tree_of, text_of}
-use Rattle.facet_json.specs.Document.{IsDocument}
-use Rattle.facet_json.specs.Spelled.{count}
-use Rattle.facet_json.specs.Place.{Place, root, before_key, after_key, after_colon, before_item, is_colon}
-use Rattle.facet_json.specs.Refusal.{needs_meaning}
-use Rattle.facet_json.specs.Reading.{TakesValue, at_root, behind_colon, of_list}
-use Rattle.facet_json.specs.Event.{ContainerKind, object, array, Passed}
-use Rattle.facet_json.specs.Event as event
-use Rattle.facet_json.specs.Walk.{event_at, key_event, walk}
-use Rattle.facet_json.specs.Future.{Future, gives, finished, stuck, events_before, Stage, within, over, after_value, Turn, stops, passes, says, says_scalar, names, turn, reads, reads_colon}
-use Rattle.facet_json.specs.Begun.{Begun, nothing, whole, in_list, in_object, ListBegun, begins_item, behind_item, ObjectBegun, no_key, key_alone, begins_member, behind_member, BegunDocument, LongestFront}
-use Rattle.facet_json.specs.EventLaws.{IsReadFrom, from_stage, from_key, IsGiven}
-use Rattle.facet_json.proofs.Futures.{events_before-append, follows, reads-turn, reads-array, reads-object, reads-item_comma, reads-member_comma, reads-key, reads-names, walk-comes}
-use Rattle.facet_json.proofs.Stands.{document-comes}
-use Rattle.facet_json.proofs.Outcomes.{IsMeaning, ValueComes, value_stands, value_stops, root-comes}
+use Rattle.facet_json_scan.specs.Gap.{Mode}
+use Rattle.facet_json_scan.specs.Token.{Kind, Token}
+use Rattle.facet_json_scan.specs.Token as token
+use Rattle.facet_json_scan.specs.Tokens.{Tokens, ended, refused, next, tokens}
+use Rattle.facet_json_core.specs.Node.{Node, Spells, is_scalar, is_string}
+use Rattle.facet_json_core.specs.Tree.{Tree}
+use Rattle.facet_json_core.specs.Tree as trees
+use Rattle.facet_json_core.specs.Meaning.{Meaning, meaning_of, meaning, tree_of, text_of}
+use Rattle.facet_json_core.specs.Document.{IsDocument}
+use Rattle.facet_json_core.specs.Spelled.{count}
+use Rattle.facet_json_core.specs.Place.{Place, root, before_key, after_key, after_colon, before_item, is_colon}
+use Rattle.facet_json_core.specs.Refusal.{needs_meaning}
+use Rattle.facet_json_core.specs.Reading.{TakesValue, at_root, behind_colon, of_list}
+use Rattle.facet_format.specs.Event.{ContainerKind, object, array, Passed}
+use Rattle.facet_format.specs.Event as event
+use Rattle.facet_json_core.specs.Walk.{event_at, key_event, walk}
+use Rattle.facet_json_core.specs.Future.{Future, gives, finished, stuck, events_before, Stage, within, over, after_value, Turn, stops, passes, says, says_scalar, names, turn, reads, reads_colon}
+use Rattle.facet_json_core.specs.Begun.{Begun, nothing, whole, in_list, in_object, ListBegun, begins_item, behind_item, ObjectBegun, no_key, key_alone, begins_member, behind_member, BegunDocument, LongestFront}
+use Rattle.facet_json_core.specs.EventLaws.{IsReadFrom, from_stage, from_key, IsGiven}
+use Rattle.facet_json_core.proofs.Futures.{events_before-append, follows, reads-turn, reads-array, reads-object, reads-item_comma, reads-member_comma, reads-key, reads-names, walk-comes}
+use Rattle.facet_json_core.proofs.Stands.{document-comes}
+use Rattle.facet_json_core.proofs.Outcomes.{IsMeaning, ValueComes, value_stands, value_stops, root-comes}
 
 -- ---- what the tokens of a buffer mean
 

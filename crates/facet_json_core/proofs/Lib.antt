@@ -12,3 +12,9 @@ pub mod BegunLaws
 pub mod CursorMoves
 pub mod MoveLaws
 pub mod Outcomes
+pub mod SoundMoves
+pub mod AloneLaws
+pub mod SoundFutures
+pub mod Completions
+pub mod NextEnds
+pub mod PointLaws

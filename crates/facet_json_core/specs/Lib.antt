@@ -13,3 +13,5 @@ pub mod Now
 pub mod Move
 pub mod Begun
 pub mod Sound
+pub mod Alone
+pub mod EventLaws

@@ -1,17 +1,19 @@
 -- What a call does to a parser on any input, whether a document stands there or not. The code is shown to move so; that it is a cursor
 -- on a document's walk follows.
 use Rattle.std.specs.Prelude.{◌≡◌, ◌⊎◌, ◌<◌, ◌≤◌, ℕ, suc, Bool, true, false, List, [], ◌∷◌, length, Some, None, Ok, Err}
-use Rattle.facet_json.specs.Token.{Span, Token}
-use Rattle.facet_json.specs.Gap.{Mode}
-use Rattle.facet_json.specs.Tokens.{Tokens}
-use Rattle.facet_json.specs.Meaning.{meaning}
-use Rattle.facet_json.specs.Place.{Place, Refusal, refusal_at, save_limit}
-use Rattle.facet_json.specs.Refusal.{IsStuck}
-use Rattle.facet_json.specs.Event.{Event, Passed, takes_memory}
-use Rattle.facet_json.specs.Kept.{found, without, with_point}
-use Rattle.facet_json.specs.Cursor.{Call, next, peek, events, save, restore, span, Answer, event, batch, saved, restored, spans, greatest, no_memory_at, repeated}
-use Rattle.facet_json.specs.Future.{Future, gives, finished, stuck}
-use Rattle.facet_json.specs.Now.{Standing, Now, future_at, future_of, is_peeked, span_of}
+use Rattle.facet_format.specs.Span.{Span}
+use Rattle.facet_json_scan.specs.Token.{Token}
+use Rattle.facet_json_scan.specs.Gap.{Mode}
+use Rattle.facet_json_scan.specs.Tokens.{Tokens}
+use Rattle.facet_json_core.specs.Meaning.{meaning}
+use Rattle.facet_json_core.specs.Place.{Place}
+use Rattle.facet_format.specs.Complaint.{Refusal, refusal_at, save_limit}
+use Rattle.facet_json_core.specs.Refusal.{IsStuck}
+use Rattle.facet_format.specs.Event.{Event, Passed, takes_memory}
+use Rattle.facet_format.specs.Kept.{found, without, with_point}
+use Rattle.facet_format.specs.Cursor.{Call, next, peek, events, save, restore, span, Answer, event, batch, saved, restored, spans, greatest, no_memory_at, repeated}
+use Rattle.facet_json_core.specs.Future.{Future, gives, finished, stuck}
+use Rattle.facet_json_core.specs.Now.{Standing, Now, future_at, future_of, is_peeked, span_of}
 
 -- ---- what can be seen of a standing
 

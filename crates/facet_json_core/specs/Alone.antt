@@ -1,8 +1,8 @@
 -- What a parser answers where only the next event is asked for, again and again, on an input without a document.
 use Rattle.std.specs.Prelude.{◌≡◌, List, [], ◌∷◌, Some, Ok, Err}
-use Rattle.facet_json.specs.Place.{Refusal, out_of_memory}
-use Rattle.facet_json.specs.Event.{Passed}
-use Rattle.facet_json.specs.Cursor.{Call, next, Answer, event}
+use Rattle.facet_format.specs.Complaint.{Refusal, out_of_memory}
+use Rattle.facet_format.specs.Event.{Passed}
+use Rattle.facet_format.specs.Cursor.{Call, next, Answer, event}
 
 -- Only the next event is asked for.
 pub data AllNext : List Call → Type 0 where

@@ -1,17 +1,17 @@
 -- Laws of begun documents and of what they give.
 use Rattle.std.specs.Prelude.{◌≡◌, List, ◌++◌, ℕ, Some}
-use Rattle.facet_json.specs.Gap.{Mode}
-use Rattle.facet_json.specs.Token.{Token}
-use Rattle.facet_json.specs.Tokens.{Tokens, tokens}
-use Rattle.facet_json.specs.Node.{Node, Spells}
-use Rattle.facet_json.specs.Tree.{Tree}
-use Rattle.facet_json.specs.Meaning.{Meaning, meaning, tree_of}
-use Rattle.facet_json.specs.Document.{IsDocument}
-use Rattle.facet_json.specs.Place.{Place}
-use Rattle.facet_json.specs.Event.{ContainerKind, Passed}
-use Rattle.facet_json.specs.Walk.{walk}
-use Rattle.facet_json.specs.Future.{Future, finished, events_before, Stage, reads, reads_colon}
-use Rattle.facet_json.specs.Begun.{BegunDocument, LongestFront, tokens_before}
+use Rattle.facet_json_scan.specs.Gap.{Mode}
+use Rattle.facet_json_scan.specs.Token.{Token}
+use Rattle.facet_json_scan.specs.Tokens.{Tokens, tokens}
+use Rattle.facet_json_core.specs.Node.{Node, Spells}
+use Rattle.facet_json_core.specs.Tree.{Tree}
+use Rattle.facet_json_core.specs.Meaning.{Meaning, meaning, tree_of}
+use Rattle.facet_json_core.specs.Document.{IsDocument}
+use Rattle.facet_json_core.specs.Place.{Place}
+use Rattle.facet_format.specs.Event.{ContainerKind, Passed}
+use Rattle.facet_json_core.specs.Walk.{walk}
+use Rattle.facet_json_core.specs.Future.{Future, finished, events_before, Stage, reads, reads_colon}
+use Rattle.facet_json_core.specs.Begun.{BegunDocument, LongestFront, tokens_before}
 
 -- Tokens that begin a document are a front of the spelling of some value with a meaning, whatever follows that.
 abbrev pub BegunIsFront : Type 0

@@ -1,24 +1,25 @@
 -- Reading by the next event alone, on an input without a document: what the longest front gives, and then one refusal.
 use Rattle.std.proofs.Common.{◌≡◌, inl, inr, ℕ, List, [], ◌∷◌, Some, None, refl, sym, ap, ◌∙◌}
 use Rattle.std.specs.Prelude.{Err}
-use Rattle.facet_json.specs.Gap.{Mode}
-use Rattle.facet_json.specs.Token.{Token}
-use Rattle.facet_json.specs.Tokens.{Tokens, tokens}
-use Rattle.facet_json.specs.Node.{Node}
-use Rattle.facet_json.specs.Tree.{Tree}
-use Rattle.facet_json.specs.Meaning.{meaning}
-use Rattle.facet_json.specs.Document.{IsDocument}
-use Rattle.facet_json.specs.Place.{Place, Refusal}
-use Rattle.facet_json.specs.Refusal.{IsStuck}
-use Rattle.facet_json.specs.Event.{Passed}
-use Rattle.facet_json.specs.Cursor.{Call, next, Answer, event}
-use Rattle.facet_json.specs.Future.{gives, stuck, events_before}
-use Rattle.facet_json.specs.Now.{Standing, Now, fresh, future_of}
-use Rattle.facet_json.specs.Move.{StopsSo, Moves, repeats, passes, passes_without_memory, passes_the_end, passes_nothing, MovesAll, no_calls, one_call}
-use Rattle.facet_json.specs.Begun.{LongestFront, RefusesBehind}
-use Rattle.facet_json.specs.Alone.{AllNext, no_call, one_next, AllRefused, no_answer, one_refused, AnswersAlone, not_asked, one_event, refused, wants_memory}
-use Rattle.facet_json.proofs.MoveLaws.{moves-repeats}
-use Rattle.facet_json.proofs.BegunLaws.{RootComes, document_comes, front_comes, input-comes}
+use Rattle.facet_json_scan.specs.Gap.{Mode}
+use Rattle.facet_json_scan.specs.Token.{Token}
+use Rattle.facet_json_scan.specs.Tokens.{Tokens, tokens}
+use Rattle.facet_json_core.specs.Node.{Node}
+use Rattle.facet_json_core.specs.Tree.{Tree}
+use Rattle.facet_json_core.specs.Meaning.{meaning}
+use Rattle.facet_json_core.specs.Document.{IsDocument}
+use Rattle.facet_json_core.specs.Place.{Place}
+use Rattle.facet_format.specs.Complaint.{Refusal}
+use Rattle.facet_json_core.specs.Refusal.{IsStuck}
+use Rattle.facet_format.specs.Event.{Passed}
+use Rattle.facet_format.specs.Cursor.{Call, next, Answer, event}
+use Rattle.facet_json_core.specs.Future.{gives, stuck, events_before}
+use Rattle.facet_json_core.specs.Now.{Standing, Now, fresh, future_of}
+use Rattle.facet_json_core.specs.Move.{StopsSo, Moves, repeats, passes, passes_without_memory, passes_the_end, passes_nothing, MovesAll, no_calls, one_call}
+use Rattle.facet_json_core.specs.Begun.{LongestFront, RefusesBehind}
+use Rattle.facet_json_core.specs.Alone.{AllNext, no_call, one_next, AllRefused, no_answer, one_refused, AnswersAlone, not_asked, one_event, refused, wants_memory}
+use Rattle.facet_json_core.proofs.MoveLaws.{moves-repeats}
+use Rattle.facet_json_core.proofs.BegunLaws.{RootComes, document_comes, front_comes, input-comes}
 
 module _ (complains : Token → Refusal → Type 0) where
   -- A refused parser answers its refusal again and again.

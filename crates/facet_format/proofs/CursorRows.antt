@@ -1,9 +1,9 @@
 -- Runs of the cursor by computation: lists of calls on the walk of `[1]`, and their answers.
 use Rattle.std.proofs.Common.{ℕ, List, [], ◌∷◌, Some, None, refl, arith}
 use Rattle.std.specs.Prelude.{Ok, false}
-use Rattle.facet_json.specs.Cut.{span_at}
-use Rattle.facet_json.specs.Event.{EventKind, Event, Passed, array, sequence_start, sequence_end, scalar, u64}
-use Rattle.facet_json.specs.Cursor.{next, peek, events, save, restore, span, event, batch, saved, restored, spans, Spot, Cursor, start, Run, no_calls, one_call, passes, passes_the_end, peeks, gives_none, gives, saves, restores, restores_nothing, tells}
+use Rattle.facet_format.specs.Span.{span_at}
+use Rattle.facet_format.specs.Event.{EventKind, Event, Passed, array, sequence_start, sequence_end, scalar, u64}
+use Rattle.facet_format.specs.Cursor.{next, peek, events, save, restore, span, event, batch, saved, restored, spans, Spot, Cursor, start, Run, no_calls, one_call, passes, passes_the_end, peeks, gives_none, gives, saves, restores, restores_nothing, tells}
 
 -- an event of one token, with its offset and length
 abbrev at : EventKind → ℕ → ℕ → Event

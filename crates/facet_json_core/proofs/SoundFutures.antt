@@ -1,17 +1,18 @@
 -- What comes from a position on lies behind it, in order and within the buffer.
 use Rattle.std.proofs.Common.{◌≡◌, ℕ, zero, suc, ◌+◌, ◌-◌, ◌<◌, ◌≤◌, Bool, true, false, List, [], ◌∷◌, length, drop, refl, arith, length-drop}
-use Rattle.facet_json.specs.Gap.{Mode}
-use Rattle.facet_json.specs.Token.{Token, stop}
-use Rattle.facet_json.specs.Cut.{Cut, nothing_left, token, fault, cut}
-use Rattle.facet_json.specs.Tokens.{Tokens, ended, refused, next, tokens_past, tokens_from}
-use Rattle.facet_json.specs.Meaning.{Meaning}
-use Rattle.facet_json.specs.Place.{Place, after_colon, is_colon}
-use Rattle.facet_json.specs.Event.{ContainerKind}
-use Rattle.facet_json.specs.Walk.{event_at, scalar_event, key_event}
-use Rattle.facet_json.specs.Future.{Future, Stage, within, over, Turn, stops, passes, says, says_scalar, names, turn, reads, reads_colon}
-use Rattle.facet_json.specs.Sound.{InOrder, at_the_end, at_a_fault, at_a_token, IsSound, sound_event, sound_end, sound_stuck}
-use Rattle.facet_json.proofs.CutBounds.{CutFits, cut-fits}
-use Rattle.facet_json.proofs.Futures.{follows, reads-turn}
+use Rattle.facet_json_scan.specs.Gap.{Mode}
+use Rattle.facet_json_scan.specs.Token.{Token}
+use Rattle.facet_format.specs.Span.{stop}
+use Rattle.facet_json_scan.specs.Cut.{Cut, nothing_left, token, fault, cut}
+use Rattle.facet_json_scan.specs.Tokens.{Tokens, ended, refused, next, tokens_past, tokens_from}
+use Rattle.facet_json_core.specs.Meaning.{Meaning}
+use Rattle.facet_json_core.specs.Place.{Place, after_colon, is_colon}
+use Rattle.facet_format.specs.Event.{ContainerKind}
+use Rattle.facet_json_core.specs.Walk.{event_at, scalar_event, key_event}
+use Rattle.facet_json_core.specs.Future.{Future, Stage, within, over, Turn, stops, passes, says, says_scalar, names, turn, reads, reads_colon}
+use Rattle.facet_json_core.specs.Sound.{InOrder, at_the_end, at_a_fault, at_a_token, IsSound, sound_event, sound_end, sound_stuck}
+use Rattle.facet_json_scan.proofs.CutBounds.{CutFits, cut-fits}
+use Rattle.facet_json_core.proofs.Futures.{follows, reads-turn}
 
 -- ---- tokens
 

@@ -1,22 +1,24 @@
 -- On every input: the spans that a move answers lie within the input, and each event that is passed leaves fewer bytes behind it.
 use Rattle.std.proofs.Common.{◌≡◌, ℕ, zero, suc, ◌-◌, ◌<◌, ◌≤◌, inl, inr, Bool, true, false, cond, ◌==◌, List, [], ◌∷◌, length, Option, Some, None, refl, sym, subst, arith}
 use Rattle.std.specs.Prelude.{Ok, Err, IfSome}
-use Rattle.facet_json.specs.Gap.{Mode}
-use Rattle.facet_json.specs.Token.{Span, Token, stop}
-use Rattle.facet_json.specs.Tokens.{Tokens}
-use Rattle.facet_json.specs.Meaning.{meaning}
-use Rattle.facet_json.specs.Place.{Place, root, Refusal}
-use Rattle.facet_json.specs.Refusal.{IsStuck, at_end, at_fault, meaningless, misplaced}
-use Rattle.facet_json.specs.Event.{Event, Passed}
-use Rattle.facet_json.specs.Kept.{found, without, with_point}
-use Rattle.facet_json.specs.Cursor.{Call, next, restore, Answer, event}
-use Rattle.facet_json.specs.Cursor as cursor
-use Rattle.facet_json.specs.Future.{Future, gives, finished, stuck, within}
-use Rattle.facet_json.specs.Now.{Standing, Now, fresh, held_before, last_shown, future_at, future_of, is_peeked, span_of, ahead}
-use Rattle.facet_json.specs.Move.{NowShows, IsAlike, StopsSo, Passes, no_events, one_event, Moves, repeats, passes, passes_without_memory, passes_the_end, passes_nothing, peeks, peeks_without_memory, peeks_at_the_end, peeks_at_nothing, gives_none, gives_all, gives_to_the_end, gives_up, gives_without_memory, saves, saves_at_the_limit, saves_without_memory, restores, restores_nothing, tells}
-use Rattle.facet_json.specs.Sound.{InOrder, at_the_end, at_a_fault, at_a_token, IsSound, sound_event, sound_end, sound_stuck, StandsSound, KeptSound, none_kept, one_kept, RefusalWithin, NowSound, EventsWithin, ResultWithin, AnswerWithin}
-use Rattle.facet_json.specs.Sound as sound
-use Rattle.facet_json.proofs.SoundFutures.{position-sound}
+use Rattle.facet_json_scan.specs.Gap.{Mode}
+use Rattle.facet_format.specs.Span.{Span, stop}
+use Rattle.facet_json_scan.specs.Token.{Token}
+use Rattle.facet_json_scan.specs.Tokens.{Tokens}
+use Rattle.facet_json_core.specs.Meaning.{meaning}
+use Rattle.facet_json_core.specs.Place.{Place, root}
+use Rattle.facet_format.specs.Complaint.{Refusal}
+use Rattle.facet_json_core.specs.Refusal.{IsStuck, at_end, at_fault, meaningless, misplaced}
+use Rattle.facet_format.specs.Event.{Event, Passed}
+use Rattle.facet_format.specs.Kept.{found, without, with_point}
+use Rattle.facet_format.specs.Cursor.{Call, next, restore, Answer, event}
+use Rattle.facet_format.specs.Cursor as cursor
+use Rattle.facet_json_core.specs.Future.{Future, gives, finished, stuck, within}
+use Rattle.facet_json_core.specs.Now.{Standing, Now, fresh, held_before, last_shown, future_at, future_of, is_peeked, span_of, ahead}
+use Rattle.facet_json_core.specs.Move.{NowShows, IsAlike, StopsSo, Passes, no_events, one_event, Moves, repeats, passes, passes_without_memory, passes_the_end, passes_nothing, peeks, peeks_without_memory, peeks_at_the_end, peeks_at_nothing, gives_none, gives_all, gives_to_the_end, gives_up, gives_without_memory, saves, saves_at_the_limit, saves_without_memory, restores, restores_nothing, tells}
+use Rattle.facet_json_core.specs.Sound.{InOrder, at_the_end, at_a_fault, at_a_token, IsSound, sound_event, sound_end, sound_stuck, StandsSound, KeptSound, none_kept, one_kept, RefusalWithin, NowSound, EventsWithin, ResultWithin, AnswerWithin}
+use Rattle.facet_json_core.specs.Sound as sound
+use Rattle.facet_json_core.proofs.SoundFutures.{position-sound}
 
 -- A new parser is sound.
 pub fresh-sound : (buffer : List ℕ) (mode : Mode) → NowSound (fresh buffer mode)

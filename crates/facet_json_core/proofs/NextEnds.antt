@@ -1,16 +1,16 @@
 -- Reading by the next event alone ends: there are no more events than bytes.
 use Rattle.std.proofs.Common.{ℕ, ◌≤◌, List, [], ◌∷◌, length, Some, refl, arith}
 use Rattle.std.specs.Prelude.{Ok}
-use Rattle.facet_json.specs.Gap.{Mode}
-use Rattle.facet_json.specs.Token.{Token}
-use Rattle.facet_json.specs.Place.{Refusal}
-use Rattle.facet_json.specs.Event.{Event}
-use Rattle.facet_json.specs.Cursor.{Call, Answer, event}
-use Rattle.facet_json.specs.Now.{Now, fresh, ahead}
-use Rattle.facet_json.specs.Move.{MovesAll, no_calls, one_call}
-use Rattle.facet_json.specs.Sound.{NowSound}
-use Rattle.facet_json.specs.Alone.{AllNext, no_call, one_next}
-use Rattle.facet_json.proofs.SoundMoves.{ComplainsWithin, moves-sound, next-lowers, fresh-sound}
+use Rattle.facet_json_scan.specs.Gap.{Mode}
+use Rattle.facet_json_scan.specs.Token.{Token}
+use Rattle.facet_format.specs.Complaint.{Refusal}
+use Rattle.facet_format.specs.Event.{Event}
+use Rattle.facet_format.specs.Cursor.{Call, Answer, event}
+use Rattle.facet_json_core.specs.Now.{Now, fresh, ahead}
+use Rattle.facet_json_core.specs.Move.{MovesAll, no_calls, one_call}
+use Rattle.facet_json_core.specs.Sound.{NowSound}
+use Rattle.facet_json_core.specs.Alone.{AllNext, no_call, one_next}
+use Rattle.facet_json_core.proofs.SoundMoves.{ComplainsWithin, moves-sound, next-lowers, fresh-sound}
 
 -- Every answer is an event.
 pub data AllEvents : List Answer → Type 0 where

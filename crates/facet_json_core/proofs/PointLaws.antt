@@ -1,15 +1,15 @@
 -- Points on every input: a point that was saved stays what it is until it is restored, and its restore brings back where the parser stood.
 use Rattle.std.proofs.Common.{◌≡◌, ◌≢◌, ℕ, suc, ◌≤◌, List, [], ◌∷◌, Some, refl, sym, ap, ◌∙◌, arith}
 use Rattle.std.specs.Prelude.{Ok}
-use Rattle.facet_json.specs.Gap.{Mode}
-use Rattle.facet_json.specs.Token.{Token}
-use Rattle.facet_json.specs.Place.{Refusal}
-use Rattle.facet_json.specs.Kept.{found, with_point}
-use Rattle.facet_json.specs.Cursor.{Call, save, restore, Answer, saved, restored}
-use Rattle.facet_json.specs.Now.{Standing, Now, fresh}
-use Rattle.facet_json.specs.Move.{back_at, Moves, saves, restores, MovesAll, no_calls, one_call}
-use Rattle.facet_json.proofs.KeptLaws.{AreUpTo, found-new, found-other, found-kept, up_to-new, up_to-used}
-use Rattle.facet_json.proofs.MoveLaws.{moves-saved, moves-restored}
+use Rattle.facet_json_scan.specs.Gap.{Mode}
+use Rattle.facet_json_scan.specs.Token.{Token}
+use Rattle.facet_format.specs.Complaint.{Refusal}
+use Rattle.facet_format.specs.Kept.{found, with_point}
+use Rattle.facet_format.specs.Cursor.{Call, save, restore, Answer, saved, restored}
+use Rattle.facet_json_core.specs.Now.{Standing, Now, fresh}
+use Rattle.facet_json_core.specs.Move.{back_at, Moves, saves, restores, MovesAll, no_calls, one_call}
+use Rattle.facet_format.proofs.KeptLaws.{AreUpTo, found-new, found-other, found-kept, up_to-new, up_to-used}
+use Rattle.facet_json_core.proofs.MoveLaws.{moves-saved, moves-restored}
 
 -- No call restores the point.
 pub data NeverRestored (point : ℕ) : List Call → Type 0 where
