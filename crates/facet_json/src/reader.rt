@@ -1,7 +1,6 @@
 //! Reads the tree of a document, token by token and by recursion.
 
 ghost use Rattle.std.specs.Prelude.{◌≡◌, ◌≢◌, ◌≤◌, ◌<◌, ◌+◌, ◌⊎◌, length, IfOk, IfErr, IfSome, OnOk, MatchResult, string_bytes};
-ghost use Rattle.std.specs.Fmt.{decimal, signed_decimal};
 ghost use Rattle.facet_json.specs.declared.materialized.TokenKind.TheVariants.{ArrayEnd};
 ghost use Rattle.facet_json_scan.specs.Token.{array_start, object_start};
 ghost use Rattle.facet_json_scan.specs.Tokens.{Tokens};
@@ -87,7 +86,7 @@ impl<'a> Reader<'a> {
             TokenKind::U64(n) => Ok(Tree::U64(n)),
             TokenKind::I64(n) => Ok(Tree::I64(n)),
             TokenKind::U128(n) => Ok(Tree::Text(digits(alloc, n)?)),
-            TokenKind::I128(n) => Ok(Tree::Text(signed_digits(alloc, n)?)),
+            TokenKind::I128(n) => Ok(Tree::Text(digits(alloc, n)?)),
             TokenKind::Decimal(decimal) => Ok(Tree::Decimal(owned(alloc, decimal)?)),
             TokenKind::String(text) => Ok(Tree::Text(text.into_owned(alloc)?)),
             TokenKind::ArrayStart => Ok(Tree::List(self.list(alloc)?)),
@@ -169,18 +168,9 @@ impl<'a> Reader<'a> {
     }
 }
 
-/// The decimal digits of a number.
-fn digits<'t>(alloc: Global, n: u128) -> Result<String, DeserializeError<'t>>
-    ensures text { IfOk result (λ s. string_bytes s ≡ decimal n) }
-    ensures refused { IfErr result (λ e. refusal_of e ≡ no_memory) }
-{
-    let mut buffer = itoa::Buffer::new();
-    Ok(String::from_str(alloc, buffer.format(n))?)
-}
-
-/// The decimal digits of a number, behind a minus where it is negative.
-fn signed_digits<'t>(alloc: Global, n: i128) -> Result<String, DeserializeError<'t>>
-    ensures text { IfOk result (λ s. string_bytes s ≡ signed_decimal n) }
+/// The decimal digits of a whole number, behind a minus where it is negative.
+fn digits<'t, N: itoa::Integer>(alloc: Global, n: N) -> Result<String, DeserializeError<'t>>
+    ensures text { IfOk result (λ s. string_bytes s ≡ N.text n) }
     ensures refused { IfErr result (λ e. refusal_of e ≡ no_memory) }
 {
     let mut buffer = itoa::Buffer::new();

@@ -1,7 +1,6 @@
 //! Writing a tree as compact text (RFC 8259, sections 2 to 7).
 ghost use Rattle.std.specs.Prelude.{◌≡◌, ◌<◌, ◌||◌, ◌==◌, ◌++◌, ◌∷◌, [], true, nat_lt, codes, IfOk, OnOk};
-ghost use Rattle.std.specs.Fmt.{decimal, signed_decimal};
-ghost use Rattle.facet_format.specs.Bytes.{quote, backslash, space, delete, left_bracket, left_brace};
+ghost use Rattle.facet_json.specs.Bytes.{quote, backslash, space, delete, left_bracket, left_brace};
 ghost use Rattle.facet_json.specs.Quoted.{escaped, quoted, hex_byte};
 ghost use Rattle.facet_json.specs.Quoted as spelled;
 ghost use Rattle.facet_json.specs.Text.{default_options, text, separator, items_text, members_text};
@@ -29,7 +28,7 @@ fn push_tree(out: &mut Vec<u8>, tree: &Tree) -> Result<(), JsonSerializeError>
         Tree::Null => push_bytes(out, b"null"),
         Tree::Bool(true) => push_bytes(out, b"true"),
         Tree::Bool(false) => push_bytes(out, b"false"),
-        Tree::I64(n) => push_signed(out, *n),
+        Tree::I64(n) => push_number(out, *n),
         Tree::U64(n) => push_number(out, *n),
         Tree::Decimal(decimal) => push_bytes(out, decimal.as_str().as_bytes()),
         Tree::Text(text) => push_quoted(out, text.as_str()),
@@ -89,16 +88,8 @@ fn push_separator(out: &mut Vec<u8>, first: bool) -> Result<(), JsonSerializeErr
     Ok(())
 }
 
-fn push_number(out: &mut Vec<u8>, n: u64) -> Result<(), JsonSerializeError>
-    ensures { OnOk result (out.new.items ≡ out.old.items ++ decimal n) }
-{
-    let mut buffer = itoa::Buffer::new();
-    out.extend_from_slice(buffer.format(n).as_bytes())?;
-    Ok(())
-}
-
-fn push_signed(out: &mut Vec<u8>, n: i64) -> Result<(), JsonSerializeError>
-    ensures { OnOk result (out.new.items ≡ out.old.items ++ signed_decimal n) }
+fn push_number<N: itoa::Integer>(out: &mut Vec<u8>, n: N) -> Result<(), JsonSerializeError>
+    ensures { OnOk result (out.new.items ≡ out.old.items ++ N.text n) }
 {
     let mut buffer = itoa::Buffer::new();
     out.extend_from_slice(buffer.format(n).as_bytes())?;

@@ -1,6 +1,7 @@
 -- Documents by computation: small inputs, and the tree of each, or none.
 use Rattle.std.proofs.Common.{◌≡◌, ℕ, true, List, [], ◌∷◌, Option, Some, None, refl, codes}
 use Rattle.std.specs.Prelude.{pos, neg_ℤ}
+use Rattle.std.specs.Fmt.{digits}
 use Rattle.std.specs.Option.{option_map}
 use lib.Utf8.{encode}
 use Rattle.facet_format.specs.Bytes.{quote, backslash, lower_u}
@@ -155,6 +156,26 @@ surrogate_pair_row = refl
 leading_zeros_row : read (codes "[007,-1,1.]") plain ≡ Some (list (tree (u64 7) (tree (i64 (neg_ℤ (pos 1))) (tree (decimal (codes "1.")) no_trees))))
 unfolding read_by spelled node_within tree_of tokens_past cut cut_here start_of gap_len_from parts number
 leading_zeros_row = refl
+
+-- A whole number past 64 bits is the text of its digits.
+wide_row : read (codes "0018446744073709551616") plain ≡ Some (text (codes "18446744073709551616"))
+unfolding read_by spelled node_within tree_of tokens_past cut cut_here start_of gap_len_from parts number digits
+wide_row = refl
+
+-- Its minus stays.
+negative_wide_row : read (codes "-9223372036854775809") plain ≡ Some (text (codes "-9223372036854775809"))
+unfolding read_by spelled node_within tree_of tokens_past cut cut_here start_of gap_len_from parts number digits
+negative_wide_row = refl
+
+-- Minus zero is zero.
+minus_zero_row : read (codes "-0") plain ≡ Some (i64 (pos 0))
+unfolding read_by spelled node_within tree_of tokens_past cut cut_here start_of gap_len_from parts number
+minus_zero_row = refl
+
+-- No number lies past 128 bits.
+past_128_bits_row : read (codes "340282366920938463463374607431768211456") plain ≡ None
+unfolding read_by spelled node_within tree_of tokens_past cut cut_here start_of gap_len_from parts number
+past_128_bits_row = refl
 
 -- the tree of the plain document that all of the input is
 abbrev read_whole : List ℕ → Option Tree

@@ -32,11 +32,26 @@ const fn refused(input: &'static str, code: u8, offset: usize, len: usize) -> Ca
     }
 }
 
-fn cases() -> [Case; 6] {
+fn cases() -> [Case; 12] {
     [
         written("{\"a\":[1,2,],}", "{\"a\":[1,2]}"),
         written(" [\"é\", 007 , true ] x", "[\"é\",7,true]"),
-        refused("[\"\\q\"]", 5, 1, 4),
+        written(
+            " [\"\\u00e9\\q\", 18446744073709551616 , -0 ] x",
+            "[\"éq\",\"18446744073709551616\",0]",
+        ),
+        written("[1.,-.5,007]", "[1.,-.5,7]"),
+        written(
+            "{\n  \"x\": [\n    0.0\n  ],\n  \"y\": [\n    5e-05\n  ]\n}",
+            "{\"x\":[0.0],\"y\":[5e-05]}",
+        ),
+        written(
+            "{\r\n  \"x\": [\r\n    0.0\r\n  ],\r\n  \"y\": [\r\n    5e-05\r\n  ]\r\n}",
+            "{\"x\":[0.0],\"y\":[5e-05]}",
+        ),
+        written("{\r\n\"y\": [\r\n5e-05\r\n]\r\n}", "{\"y\":[5e-05]}"),
+        refused("[\"\\ud800\"]", 4, 2, 6),
+        refused("[1e]", 1, 1, 2),
         refused("", 2, 0, 0),
         refused("[,]", 3, 1, 1),
         refused(".5", 1, 0, 1),

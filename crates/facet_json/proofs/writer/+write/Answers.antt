@@ -37,13 +37,13 @@ push_tree-returns-in-Bool-false t c =
 pub push_tree-returns-in-U64 : goal.push_tree-returns-in-U64
 unfolding text
 push_tree-returns-in-U64 t c =
-    put _ _ _ _ _ (ap compact (ap tree_view c.in-U64.is ∙ tree_view-U64 _)) c.push_number.ensures
+    put _ _ _ _ _ (ap compact (ap tree_view c.in-U64.is ∙ tree_view-U64 _)) c.push_number-in-U64.ensures
 
 pub push_tree-returns-in-I64 : goal.push_tree-returns-in-I64
 unfolding text
 push_tree-returns-in-I64 t c =
     let fits : SFits w64 c.in-I64.n = search rules in
-    let sent = rw (to_z-of_z w64 c.in-I64.n fits) at c.push_signed.ensures in
+    let sent = rw (to_z-of_z w64 c.in-I64.n fits) at c.push_number.ensures in
     put _ _ _ _ _ (ap compact (ap tree_view c.in-I64.is ∙ tree_view-I64 _)) sent
 
 pub push_tree-returns-in-Decimal : goal.push_tree-returns-in-Decimal

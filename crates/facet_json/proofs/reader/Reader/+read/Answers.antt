@@ -286,12 +286,12 @@ value-returns-in_ok-digits-in-U128-clause-value t c =
     let a = first_as _ _ _ _ (kinds.U128 c.in-U128.n) f c.in-U128.is in
     rw (tree_view-Text, c.in_ok-digits-in-U128.ensures.text) (number_read _ (numbers.u128 c.in-U128.n) ts _ a.first a.is_first a.read)
 
-pub value-returns-in_ok-signed_digits-in-I128-clause-value : goal.value-returns-in_ok-signed_digits-in-I128-clause-value
-value-returns-in_ok-signed_digits-in-I128-clause-value t c =
+pub value-returns-in_ok-digits-in-I128-clause-value : goal.value-returns-in_ok-digits-in-I128-clause-value
+value-returns-in_ok-digits-in-I128-clause-value t c =
     λ ts f.
     let a = first_as _ _ _ _ (kinds.I128 c.in-I128.n) f c.in-I128.is in
     let fits : SFits w128 c.in-I128.n = search rules in
-    rw (tree_view-Text, c.in_ok-signed_digits-in-I128.ensures.text, to_z-of_z w128 c.in-I128.n fits) (number_read _ (numbers.i128 c.in-I128.n) ts _ a.first a.is_first a.read)
+    rw (tree_view-Text, c.in_ok-digits-in-I128.ensures.text, to_z-of_z w128 c.in-I128.n fits) (number_read _ (numbers.i128 c.in-I128.n) ts _ a.first a.is_first a.read)
 
 pub value-returns-in_ok-owned-in-Decimal-clause-value : goal.value-returns-in_ok-owned-in-Decimal-clause-value
 value-returns-in_ok-owned-in-Decimal-clause-value t c =
