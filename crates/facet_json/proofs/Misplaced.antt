@@ -6,7 +6,7 @@ use Rattle.std.specs.declared.borrow.CowStr.{CowStr}
 use Rattle.facet_json.specs.declared.materialized.TokenKind.{TokenKind}
 use Rattle.facet_json.specs.declared.materialized.TokenKind.TheVariants as kinds
 use Rattle.facet_json.specs.declared.materialized.MaterializedToken.{MaterializedToken}
-use Rattle.facet_format.specs.Event.{Text}
+use Rattle.facet_format.specs.Event.{Text, bytes_of}
 use Rattle.facet_format.specs.Number.{Number, Hint}
 use Rattle.facet_format.specs.Number as numbers
 use Rattle.facet_json_scan.specs.Token.{Kind, Token}
@@ -78,7 +78,7 @@ judged buffer (token.number a b h) (kinds.U64 n) r = number_judged buffer a b h 
 judged buffer (token.number a b h) (kinds.I64 n) r = number_judged buffer a b h _ (numbers.i64 n) r refl refl
 judged buffer (token.number a b h) (kinds.U128 n) r = number_judged buffer a b h _ (numbers.u128 n) r refl refl
 judged buffer (token.number a b h) (kinds.I128 n) r = number_judged buffer a b h _ (numbers.i128 n) r refl refl
-judged buffer (token.number a b h) (kinds.Decimal d) r = number_judged buffer a b h _ (numbers.decimal d) r refl refl
+judged buffer (token.number a b h) (kinds.Decimal d) r = number_judged buffer a b h _ (numbers.decimal (bytes_of d)) r refl refl
 judged buffer _ (kinds.String s) r = cc
 judged buffer _ (kinds.U64 n) r = cc
 judged buffer _ (kinds.I64 n) r = cc

@@ -2,6 +2,7 @@
 use Rattle.std.proofs.Common.{◌≡◌, ℕ, suc, ◌+◌, ◌<◌, Bool, List, [], ◌∷◌, length, get_or, drop, refl, sym, ap, ◌∙◌, rules, Vec, String, Global, string_bytes}
 use Rattle.std.specs.Prelude.{ℤ}
 use Rattle.std.proofs.lemmas.List.{drop_more}
+use Rattle.facet_format.specs.Event.{Text, bytes_of}
 use Rattle.facet_json_core.specs.Tree as tree
 use Rattle.facet_json.specs.Views.{tree_view, trees_view, pairs_view}
 use Rattle.facet_json.specs.declared.tree.Tree.{Tree, the_lemmas}
@@ -16,7 +17,7 @@ tree_view-Bool b = search (rules, the_lemmas)
 pub tree_view-I64 : (n : ℤ) → tree_view (code.I64 n) ≡ tree.i64 n
 tree_view-I64 n = search (rules, the_lemmas)
 
-pub tree_view-Decimal : (digits : List ℕ) → tree_view (code.Decimal digits) ≡ tree.decimal digits
+pub tree_view-Decimal : (digits : Text) → tree_view (code.Decimal digits) ≡ tree.decimal (bytes_of digits)
 tree_view-Decimal digits = search (rules, the_lemmas)
 
 pub tree_view-U64 : (n : ℕ) → tree_view (code.U64 n) ≡ tree.u64 n

@@ -10,6 +10,7 @@ ghost use Rattle.facet_json_scan.specs.Gap.{plain};
 ghost use Rattle.facet_json_core.specs.Meaning.{meaning};
 ghost use Rattle.facet_json_core.specs.Document.{IsDocument};
 ghost use Rattle.facet_json_core.specs.Place.{after_key, before_item};
+ghost use Rattle.facet_format.specs.Event.{bytes_of};
 ghost use Rattle.facet_format.specs.Complaint.{no_memory};
 ghost use Rattle.facet_json_core.specs.Refusal.{Refuses};
 ghost use Rattle.facet_json_core.specs.Reading.{left, ReadsValue, ReadsList, ReadsObject, IsColonNext, StopsAt, StopsFrom, StopsBehind, TakesValue};
@@ -179,7 +180,7 @@ fn digits<'t, N: itoa::Integer>(alloc: Global, n: N) -> Result<String, Deseriali
 
 /// The same number, its text in memory of its own.
 fn owned<'t>(alloc: Global, decimal: Decimal<'_>) -> Result<Decimal<'static>, DeserializeError<'t>>
-    ensures text { IfOk result (λ d. d ≡ decimal.entry) }
+    ensures text { IfOk result (λ d. bytes_of d ≡ bytes_of decimal.entry) }
     ensures refused { IfErr result (λ e. refusal_of e ≡ no_memory) }
 {
     match decimal.into_owned(alloc) {

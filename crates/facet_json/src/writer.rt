@@ -1,6 +1,6 @@
 //! Writing a tree as compact text (RFC 8259, sections 2 to 7).
 ghost use Rattle.std.specs.Prelude.{◌≡◌, ◌<◌, ◌||◌, ◌==◌, ◌++◌, ◌∷◌, [], true, nat_lt, codes, IfOk, OnOk};
-ghost use Rattle.facet_json.specs.Bytes.{quote, backslash, space, delete, left_bracket, left_brace};
+ghost use Rattle.facet_format.specs.Bytes.{quote, backslash, space, delete, left_bracket, left_brace};
 ghost use Rattle.facet_json.specs.Quoted.{escaped, quoted, hex_byte};
 ghost use Rattle.facet_json.specs.Quoted as spelled;
 ghost use Rattle.facet_json.specs.Text.{default_options, text, separator, items_text, members_text};

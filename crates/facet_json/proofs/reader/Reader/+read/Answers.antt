@@ -5,6 +5,7 @@ use Rattle.std.specs.Cow.{cow_str_bytes}
 use Rattle.std.proofs.lemmas.List.{map-append}
 use Rattle.std.proofs.lemmas.Result.{err_from_is_err_and}
 use Rattle.facet_json.specs.declared.materialized.TokenKind.TheVariants as kinds
+use Rattle.facet_format.specs.Event.{bytes_of}
 use Rattle.facet_format.specs.Number as numbers
 use Rattle.facet_json_core.specs.Place.{before_key, after_colon, after_member, before_item, after_item}
 use Rattle.facet_json_core.specs.Reading.{of_list, behind_colon}
@@ -297,7 +298,7 @@ pub value-returns-in_ok-owned-in-Decimal-clause-value : goal.value-returns-in_ok
 value-returns-in_ok-owned-in-Decimal-clause-value t c =
     λ ts f.
     let a = first_as _ _ _ _ (kinds.Decimal c.in-Decimal.decimal) f c.in-Decimal.is in
-    rw (tree_view-Decimal, c.in_ok-owned-in-Decimal.ensures.text, c.in-Decimal.is) (number_read _ (numbers.decimal c.in-Decimal.decimal) ts _ a.first a.is_first a.read)
+    rw (tree_view-Decimal, c.in_ok-owned-in-Decimal.ensures.text, c.in-Decimal.is) (number_read _ (numbers.decimal (bytes_of c.in-Decimal.decimal)) ts _ a.first a.is_first a.read)
 
 pub value-returns-in_ok-into_owned-in-String-clause-value : goal.value-returns-in_ok-into_owned-in-String-clause-value
 value-returns-in_ok-into_owned-in-String-clause-value t c =
