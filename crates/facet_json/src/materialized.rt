@@ -9,13 +9,11 @@ ghost use Rattle.facet_json_scan.specs.Views.{number_of, kind_of};
 ghost use Rattle.facet_format.specs.Views.{refusal_of, span_of};
 ghost use Rattle.facet_json.specs.Views.{place_of, misplaced_complaint, name_of, number_in, CanBeRead, IsContent, IsReadAs, IsUnread};
 
-use facet_format::Decimal;
-use facet_json_scan::{decode_string_borrowed, decode_string_owned};
-use facet_format::{DeserializeError, DeserializeErrorKind};
-use facet_json_scan::{ParsedNumber, parse_number};
 use crate::place::Place;
-use facet_format::Span;
-use facet_json_scan::{SpannedToken, Token};
+use facet_format::{Decimal, DeserializeError, DeserializeErrorKind, Span};
+use facet_json_scan::{
+    ParsedNumber, SpannedToken, Token, decode_string_borrowed, decode_string_owned, parse_number,
+};
 use std::alloc::Global;
 use std::borrow::CowStr;
 

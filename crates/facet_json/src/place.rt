@@ -7,9 +7,8 @@ ghost use Rattle.facet_format.specs.Span.{span_at};
 ghost use Rattle.facet_json.specs.Views.{place_of, sample};
 ghost use Rattle.facet_format.specs.Views.{complaint_of, refusal_of};
 
-use facet_format::{DeserializeError, DeserializeErrorKind};
 use crate::materialized::TokenKind;
-use facet_format::Span;
+use facet_format::{DeserializeError, DeserializeErrorKind, Span};
 
 /// Where no value has begun yet, or what stands in front within the innermost open container.
 #[derive(Debug, Clone, Copy, PartialEq, Eq)]

@@ -17,14 +17,11 @@ ghost use Rattle.facet_json_core.specs.Reading.{left, ReadsValue, ReadsList, Rea
 ghost use Rattle.facet_format.specs.Views.{refusal_of};
 ghost use Rattle.facet_json.specs.Views.{place_of, tree_view, trees_view, pairs_view, IsReadFirst};
 
-use facet_format::Decimal;
-use facet_format::DeserializeError;
 use crate::materialized::{MaterializedToken, TokenKind, materialize};
-use facet_json_scan::Mode;
 use crate::place::Place;
-use facet_json_scan::cut;
-use facet_json_scan::Token;
 use crate::tree::Tree;
+use facet_format::{Decimal, DeserializeError};
+use facet_json_scan::{Mode, Token, cut};
 use std::alloc::Global;
 
 /// A place in the bytes of the input.
