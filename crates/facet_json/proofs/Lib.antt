@@ -69,4 +69,5 @@ pub mod AloneLaws
 pub mod PointLaws
 pub mod NextEnds
 pub mod Completions
+pub mod BegunBegins
 pub mod CursorRows
