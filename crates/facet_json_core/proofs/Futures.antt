@@ -1,21 +1,21 @@
 -- What comes, token by token; and that from the front of a value on its walk comes.
 use Rattle.std.proofs.Common.{◌≡◌, ℕ, true, false, List, [], ◌∷◌, ◌++◌, Option, Some, None, refl, sym, ap, ◌∙◌}
 use Rattle.std.proofs.Math.Bool.{and-false}
-use Rattle.facet_json_scan.specs.Token.{Kind, Token}
-use Rattle.facet_json_scan.specs.Token as token
-use Rattle.facet_json_scan.specs.Tokens.{Tokens, next}
-use Rattle.facet_json_core.specs.Node.{Node, Nodes, no_nodes, item, Members, no_members, member, is_scalar, is_string, Spells, one_token, brackets, braces, SpellsItems, closed, item_and_comma, last_item, SpellsMembers, ended_members, member_and_comma, last_member}
+use Rattle.facet_json.specs.Token.{Kind, Token, Fault}
+use Rattle.facet_json.specs.Token as token
+use Rattle.facet_json.specs.Tokens.{Tokens, ended, refused, next}
+use Rattle.facet_json.specs.Node.{Node, Nodes, no_nodes, item, Members, no_members, member, is_scalar, is_string, Spells, one_token, brackets, braces, SpellsItems, closed, item_and_comma, last_item, SpellsMembers, ended_members, member_and_comma, last_member}
 use Rattle.std.specs.Option.{option_map}
-use Rattle.facet_json_core.specs.Tree.{Tree, Trees, no_trees, Pairs, no_pairs}
-use Rattle.facet_json_core.specs.Tree as tree
-use Rattle.facet_json_core.specs.Meaning.{Meaning, tree_of, trees_of, pairs_of, text_of, put_item, put_pair}
-use Rattle.facet_json_core.specs.Place.{Place, before_key, after_colon, after_member, before_item, after_item}
-use Rattle.facet_json_core.specs.Refusal.{needs_meaning}
-use Rattle.facet_json_core.specs.Reading.{TakesValue, at_root, behind_colon, of_list}
-use Rattle.facet_format.specs.Event.{ContainerKind, object, array, Passed}
-use Rattle.facet_format.specs.Event as event
-use Rattle.facet_json_core.specs.Walk.{event_at, scalar_event, key_event, walk, walk_items, walk_members}
-use Rattle.facet_json_core.specs.Future.{Future, gives, stuck, events_before, within, after_value, Turn, stops, passes, says, says_scalar, names, place_turn, turn, reads, reads_colon}
+use Rattle.facet_json.specs.Tree.{Tree, Trees, no_trees, Pairs, no_pairs}
+use Rattle.facet_json.specs.Tree as tree
+use Rattle.facet_json.specs.Meaning.{Meaning, tree_of, trees_of, pairs_of, text_of, put_item, put_pair}
+use Rattle.facet_json.specs.Place.{Place, root, before_key, after_key, after_colon, after_member, before_item, after_item, is_colon, goes_on, begins_value}
+use Rattle.facet_json.specs.Refusal.{needs_meaning}
+use Rattle.facet_json.specs.Reading.{TakesValue, at_root, behind_colon, of_list}
+use Rattle.facet_json.specs.Event.{ContainerKind, object, array, Passed}
+use Rattle.facet_json.specs.Event as event
+use Rattle.facet_json.specs.Walk.{event_at, scalar_event, key_event, walk, walk_items, walk_members}
+use Rattle.facet_json.specs.Future.{Future, gives, stuck, events_before, within, after_value, Turn, stops, passes, says, says_scalar, names, value_turn, place_turn, is_meaningless, turn, reads, reads_colon}
 
 -- Events behind events.
 pub events_before-append : (a b : List Passed) (f : Future) →
@@ -174,6 +174,86 @@ module _ (m : Meaning) where
       reads m stack (within before_key) (next key (next mark rest)) ≡ gives (key_event m key mark) (reads m stack (within after_colon) rest)
   unfolding reads
   reads-key stack key mark rest name k n c = reads-names stack key (next mark rest) name k n ∙ rw (c, reads_colon) refl
+
+  -- ---- tokens that are stuck
+
+  -- The turn of a token with a meaning is its place's.
+  pub turn-sensible : (stack : List ContainerKind) (place : Place) (t : Token) → is_meaningless m t ≡ false →
+      turn m stack place t ≡ place_turn stack place t.kind
+  turn-sensible stack place t e = rw e refl
+
+  -- A string or number without a meaning is stuck.
+  pub reads-meaningless : (stack : List ContainerKind) (place : Place) (t : Token) (rest : Tokens) →
+      is_meaningless m t ≡ true → reads m stack (within place) (next t rest) ≡ stuck place (next t rest)
+  reads-meaningless stack place t rest e = reads-turn stack place t rest stops (rw e refl)
+
+  -- So is a token with which no document goes on at the place.
+  pub reads-stops : (stack : List ContainerKind) (place : Place) (t : Token) (rest : Tokens) → is_meaningless m t ≡ false →
+      place_turn stack place t.kind ≡ stops → reads m stack (within place) (next t rest) ≡ stuck place (next t rest)
+  reads-stops stack place t rest e k = reads-turn stack place t rest stops (turn-sensible stack place t e ∙ k)
+
+  -- So is the end.
+  pub reads-ended : (stack : List ContainerKind) (place : Place) → reads m stack (within place) ended ≡ stuck place ended
+  unfolding reads
+  reads-ended stack place = refl
+
+  -- So is a fault.
+  pub reads-refused : (stack : List ContainerKind) (place : Place) (f : Fault) →
+      reads m stack (within place) (refused f) ≡ stuck place (refused f)
+  unfolding reads
+  reads-refused stack place f = refl
+
+  no_value_turn : (stack : List ContainerKind) (kind : Kind) → begins_value kind ≡ false → value_turn stack kind ≡ stops
+  no_value_turn stack token.object_end e = refl
+  no_value_turn stack token.array_end e = refl
+  no_value_turn stack token.colon e = refl
+  no_value_turn stack token.comma e = refl
+  no_value_turn stack _ e = cc
+
+  -- With a token with which no document goes on at the place its turn is to stop.
+  pub turn-misplaced : (stack : List ContainerKind) (place : Place) (kind : Kind) → goes_on place kind ≡ false →
+      place_turn stack place kind ≡ stops
+  turn-misplaced stack root kind e = no_value_turn stack kind e
+  turn-misplaced stack before_key token.object_end e = cc
+  turn-misplaced stack before_key (token.string start finish has_escapes) e = cc
+  turn-misplaced stack before_key _ e = refl
+  turn-misplaced stack after_key kind e = refl
+  turn-misplaced stack after_colon kind e = no_value_turn stack kind e
+  turn-misplaced stack after_member token.comma e = cc
+  turn-misplaced stack after_member token.object_end e = cc
+  turn-misplaced stack after_member _ e = refl
+  turn-misplaced stack before_item token.array_end e = cc
+  turn-misplaced stack before_item token.object_end e = refl
+  turn-misplaced stack before_item token.colon e = refl
+  turn-misplaced stack before_item token.comma e = refl
+  turn-misplaced stack before_item _ e = cc
+  turn-misplaced stack after_item token.comma e = cc
+  turn-misplaced stack after_item token.array_end e = cc
+  turn-misplaced stack after_item _ e = refl
+
+  -- Such a token is stuck.
+  pub reads-misplaced : (stack : List ContainerKind) (place : Place) (t : Token) (rest : Tokens) → is_meaningless m t ≡ false →
+      goes_on place t.kind ≡ false → reads m stack (within place) (next t rest) ≡ stuck place (next t rest)
+  reads-misplaced stack place t rest e k = reads-stops stack place t rest e (turn-misplaced stack place t.kind k)
+
+  -- ---- behind a key
+
+  -- Behind a key the end is stuck.
+  pub colon-ended : (stack : List ContainerKind) (key : Token) → reads_colon m stack key ended ≡ stuck after_key ended
+  unfolding reads_colon
+  colon-ended stack key = refl
+
+  -- So is a fault.
+  pub colon-refused : (stack : List ContainerKind) (key : Token) (f : Fault) →
+      reads_colon m stack key (refused f) ≡ stuck after_key (refused f)
+  unfolding reads_colon
+  colon-refused stack key f = refl
+
+  -- So is a token other than a colon.
+  pub colon-missing : (stack : List ContainerKind) (key mark : Token) (rest : Tokens) → is_colon mark.kind ≡ false →
+      reads_colon m stack key (next mark rest) ≡ stuck after_key (next mark rest)
+  unfolding reads_colon
+  colon-missing stack key mark rest c = rw (c, reads_colon) refl
 
 -- ---- whole values
 

@@ -1,17 +1,23 @@
 -- Laws of a parser's moves, on every input: what is kept, what is repeated, a peek is the next event, save and restore.
 use Rattle.std.proofs.Common.{◌≡◌, ℕ, zero, suc, Bool, true, false, List, [], ◌∷◌, ◌++◌, length, Option, Some, None, refl, ap}
 use Rattle.std.specs.Prelude.{Ok, Err}
-use Rattle.facet_format.specs.Span.{Span}
-use Rattle.facet_json_scan.specs.Token.{Token}
-use Rattle.facet_format.specs.Complaint.{Refusal}
-use Rattle.facet_format.specs.Event.{Event, Passed}
-use Rattle.facet_format.specs.Kept.{found}
-use Rattle.facet_format.specs.Cursor.{Call, next, peek, events, save, restore, span, Answer, event, saved, restored, Cursor, Run, repeated}
-use Rattle.facet_format.specs.Cursor as cursor
-use Rattle.facet_json_core.specs.Future.{Future, gives}
-use Rattle.facet_json_core.specs.Now.{Standing, Now, StandsAt}
-use Rattle.facet_json_core.specs.Move.{Passes, no_events, one_event, with_kept, back_at, Moves, repeats, passes, passes_without_memory, passes_the_end, passes_nothing, peeks, peeks_without_memory, peeks_at_the_end, peeks_at_nothing, gives_none, gives_all, gives_to_the_end, gives_up, gives_without_memory, saves, saves_at_the_limit, saves_without_memory, restores, restores_nothing, tells, MovesAll, no_calls, one_call}
-use Rattle.facet_json_core.proofs.CursorMoves.{moves-step}
+use Rattle.facet_json.specs.Gap.{Mode}
+use Rattle.facet_json.specs.Token.{Span, Token}
+use Rattle.facet_json.specs.Node.{Node}
+use Rattle.facet_json.specs.Tree.{Tree}
+use Rattle.facet_json.specs.Meaning.{meaning}
+use Rattle.facet_json.specs.Document.{IsDocument}
+use Rattle.facet_json.specs.Walk.{walk}
+use Rattle.facet_json.specs.Place.{Refusal}
+use Rattle.facet_json.specs.Event.{Event, Passed}
+use Rattle.facet_json.specs.Kept.{found}
+use Rattle.facet_json.specs.Cursor.{Call, next, peek, events, save, restore, span, Answer, event, saved, restored, Cursor, Run, repeated, start}
+use Rattle.facet_json.specs.Cursor as cursor
+use Rattle.facet_json.specs.Future.{Future, gives}
+use Rattle.facet_json.specs.Now.{Standing, Now, StandsAt, fresh, IsStep, IsRun}
+use Rattle.facet_json.specs.Move.{Passes, no_events, one_event, with_kept, back_at, Moves, repeats, passes, passes_without_memory, passes_the_end, passes_nothing, peeks, peeks_without_memory, peeks_at_the_end, peeks_at_nothing, gives_none, gives_all, gives_to_the_end, gives_up, gives_without_memory, saves, saves_at_the_limit, saves_without_memory, restores, restores_nothing, tells, MovesAll, no_calls, one_call}
+use Rattle.facet_json.proofs.Stands.{fresh-stands}
+use Rattle.facet_json.proofs.CursorMoves.{moves-step}
 
 -- One more event is passed.
 pub Passes-one_more : {before after : Span} {future rest : Future} {given : List Event} (p : Passed) →
@@ -165,3 +171,21 @@ module _ (complains : Token → Refusal → Type 0) where
       let step = moves-step complains now w c stands move in
       let rest = moves-run w step.0 step.2 more in
       (rest.0, cursor.one_call c step.0 rest.0 call answer calls answers step.1 rest.1, rest.2)
+
+  -- The same of one move, wherever the parser stands on a walk.
+  pub moves-is_step : {now new : Now} {call : Call} {answer : Answer} → Moves complains now call answer new →
+      IsStep now call answer new
+  moves-is_step {now = now} move w c stands = moves-step complains now w c stands move
+
+  -- The same of a list of calls.
+  pub moves-is_run : {now new : Now} {calls : List Call} {answers : List Answer} → MovesAll complains now calls answers new →
+      IsRun now calls answers new
+  moves-is_run moves w c stands = moves-run w c stands moves
+
+-- On a document a new parser answers every list of calls as the cursor does from its start.
+pub document-run : (complains : Token → Refusal → Type 0) (buffer : List ℕ) (mode : Mode) (node : Node) (value : Tree)
+    {new : Now} {calls : List Call} {answers : List Answer} → IsDocument buffer mode node value →
+    MovesAll complains (fresh buffer mode) calls answers new →
+    (d : Cursor) × Run (walk (meaning buffer) node) start calls answers d × StandsAt new (walk (meaning buffer) node) d
+document-run complains buffer mode node value d moves =
+    moves-run complains (walk (meaning buffer) node) start (fresh-stands buffer mode node value d) moves

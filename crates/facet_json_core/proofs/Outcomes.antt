@@ -1,25 +1,25 @@
 -- From a place on where a value may stand either a whole value stands, or the longest front of one, and then no event comes any more.
 use Rattle.std.proofs.Common.{◌≡◌, ℕ, zero, suc, ◌+◌, ◌*◌, ◌≤◌, Bool, true, false, ◌&&◌, List, [], ◌∷◌, ◌++◌, Option, Some, None, refl, sym, ap, ◌∙◌, arith}
 use Rattle.std.specs.Prelude.{is_none}
-use Rattle.facet_json_scan.specs.Token.{Kind, Token, Fault}
-use Rattle.facet_json_scan.specs.Token as token
-use Rattle.facet_json_scan.specs.Tokens.{Tokens, ended, refused, next}
-use Rattle.facet_json_core.specs.Node.{Node, scalar, Nodes, no_nodes, item, Members, no_members, member, is_scalar, is_string, Spells, one_token, brackets, braces, SpellsItems, closed, item_and_comma, last_item, SpellsMembers, ended_members, member_and_comma, last_member}
-use Rattle.facet_json_core.specs.Node as shapes
-use Rattle.facet_json_core.specs.Tree.{Tree, Trees, no_trees, Pairs, no_pairs}
-use Rattle.facet_json_core.specs.Tree as trees
-use Rattle.facet_json_core.specs.Meaning.{Meaning, tree_of, trees_of, pairs_of, text_of}
-use Rattle.facet_json_core.specs.Spelled.{count}
-use Rattle.facet_json_core.specs.Place.{Place, root, before_key, after_key, after_colon, after_member, before_item, after_item, is_colon}
-use Rattle.facet_json_core.specs.Refusal.{needs_meaning}
-use Rattle.facet_json_core.specs.Reading.{TakesValue, at_root, behind_colon, of_list}
-use Rattle.facet_format.specs.Event.{ContainerKind, object, array, Passed}
-use Rattle.facet_format.specs.Event as event
-use Rattle.facet_json_core.specs.Walk.{event_at, key_event, walk}
-use Rattle.facet_json_core.specs.Future.{Future, gives, stuck, events_before, within, after_value, stops, names, value_turn, place_turn, is_meaningless, turn, reads, reads_colon}
-use Rattle.facet_json_core.specs.Begun.{Begun, nothing, whole, in_list, in_object, ListBegun, begins_item, behind_item, ObjectBegun, no_key, key_alone, begins_member, behind_member}
-use Rattle.facet_json_core.proofs.Suffixes.{IsSuffix, all, later, Spells-suffix}
-use Rattle.facet_json_core.proofs.Futures.{events_before-append, reads-turn, reads-array, reads-object, reads-item_comma, reads-member_comma, reads-key, walk-comes}
+use Rattle.facet_json.specs.Token.{Kind, Token, Fault}
+use Rattle.facet_json.specs.Token as token
+use Rattle.facet_json.specs.Tokens.{Tokens, ended, refused, next}
+use Rattle.facet_json.specs.Node.{Node, scalar, Nodes, no_nodes, item, Members, no_members, member, is_scalar, is_string, Spells, one_token, brackets, braces, SpellsItems, closed, item_and_comma, last_item, SpellsMembers, ended_members, member_and_comma, last_member}
+use Rattle.facet_json.specs.Node as shapes
+use Rattle.facet_json.specs.Tree.{Tree, Trees, no_trees, Pairs, no_pairs}
+use Rattle.facet_json.specs.Tree as trees
+use Rattle.facet_json.specs.Meaning.{Meaning, tree_of, trees_of, pairs_of, text_of}
+use Rattle.facet_json.specs.Spelled.{count}
+use Rattle.facet_json.specs.Place.{Place, root, before_key, after_key, after_colon, after_member, before_item, after_item, is_colon}
+use Rattle.facet_json.specs.Refusal.{needs_meaning}
+use Rattle.facet_json.specs.Reading.{TakesValue, at_root, behind_colon, of_list}
+use Rattle.facet_json.specs.Event.{ContainerKind, object, array, Passed}
+use Rattle.facet_json.specs.Event as event
+use Rattle.facet_json.specs.Walk.{event_at, key_event, walk}
+use Rattle.facet_json.specs.Future.{Future, gives, stuck, events_before, within, after_value, stops, names, value_turn, place_turn, is_meaningless, reads, reads_colon}
+use Rattle.facet_json.specs.Begun.{Begun, nothing, whole, in_list, in_object, ListBegun, begins_item, behind_item, ObjectBegun, no_key, key_alone, begins_member, behind_member}
+use Rattle.facet_json.proofs.Suffixes.{IsSuffix, all, later, Spells-suffix}
+use Rattle.facet_json.proofs.Futures.{events_before-append, reads-turn, reads-array, reads-object, reads-item_comma, reads-member_comma, reads-key, walk-comes, turn-sensible, reads-meaningless, reads-stops, reads-ended, reads-refused, colon-ended, colon-refused, colon-missing}
 
 -- ---- meanings
 
@@ -141,34 +141,6 @@ pub data MembersCome (m : Meaning) (stack : List ContainerKind) (ts : Tokens) : 
       reads m (object ∷ stack) (within before_key) ts ≡ events_before events (stuck here rest) → MembersCome m stack ts
 
 module _ (m : Meaning) (sane : IsMeaning m) where
-  -- ---- tokens that are stuck
-
-  -- The turn of a token with a meaning is its place's.
-  turn-sensible : (stack : List ContainerKind) (place : Place) (t : Token) → is_meaningless m t ≡ false →
-      turn m stack place t ≡ place_turn stack place t.kind
-  turn-sensible stack place t e = rw e refl
-
-  -- A string or number without a meaning is stuck.
-  pub reads-meaningless : (stack : List ContainerKind) (place : Place) (t : Token) (rest : Tokens) →
-      is_meaningless m t ≡ true → reads m stack (within place) (next t rest) ≡ stuck place (next t rest)
-  reads-meaningless stack place t rest e = reads-turn m stack place t rest stops (rw e refl)
-
-  -- So is a token with which no document goes on at the place.
-  pub reads-stops : (stack : List ContainerKind) (place : Place) (t : Token) (rest : Tokens) → is_meaningless m t ≡ false →
-      place_turn stack place t.kind ≡ stops → reads m stack (within place) (next t rest) ≡ stuck place (next t rest)
-  reads-stops stack place t rest e k = reads-turn m stack place t rest stops (turn-sensible stack place t e ∙ k)
-
-  -- So is the end.
-  pub reads-ended : (stack : List ContainerKind) (place : Place) → reads m stack (within place) ended ≡ stuck place ended
-  unfolding reads
-  reads-ended stack place = refl
-
-  -- So is a fault.
-  pub reads-refused : (stack : List ContainerKind) (place : Place) (f : Fault) →
-      reads m stack (within place) (refused f) ≡ stuck place (refused f)
-  unfolding reads
-  reads-refused stack place f = refl
-
   -- A scalar that is not without meaning has one.
   scalar_meant : (t : Token) → is_scalar t.kind ≡ true → is_meaningless m t ≡ false → (value : Tree) × (m t ≡ Some value)
   scalar_meant t k e = some_by (m t) (needs_meaning t.kind) e (sane.literals t k)
@@ -319,21 +291,7 @@ module _ (m : Meaning) (sane : IsMeaning m) where
         members_stand rest (member key mark node no_members) last (trees.pair name value no_pairs)
         (last_member ts rest key mark node last k c s p) (rw (n, t) refl)
 
-  -- ---- behind a key
-
-  colon-ended : (stack : List ContainerKind) (key : Token) → reads_colon m stack key ended ≡ stuck after_key ended
-  unfolding reads_colon
-  colon-ended stack key = refl
-
-  colon-refused : (stack : List ContainerKind) (key : Token) (f : Fault) →
-      reads_colon m stack key (refused f) ≡ stuck after_key (refused f)
-  unfolding reads_colon
-  colon-refused stack key f = refl
-
-  colon-missing : (stack : List ContainerKind) (key mark : Token) (rest : Tokens) → is_colon mark.kind ≡ false →
-      reads_colon m stack key (next mark rest) ≡ stuck after_key (next mark rest)
-  unfolding reads_colon
-  colon-missing stack key mark rest c = rw (c, reads_colon) refl
+  -- ---- meanings of scalars
 
   string_scalar : (kind : Kind) → is_string kind ≡ true → is_scalar kind ≡ true
   string_scalar (token.string start finish has_escapes) e = refl
@@ -361,28 +319,28 @@ module _ (m : Meaning) (sane : IsMeaning m) where
         place_turn stack place t.kind ≡ value_turn stack t.kind → 2 * suc (count rest) ≤ n → ValueComes m stack place (next t rest)
     value_out zero stack place t rest at j h = absurd (omega arith)
     value_out (suc n) stack place t rest at j h = elim (sense m t) [
-      | without e ↦ stops_here stack place (next t rest) (reads-meaningless stack place t rest e)
+      | without e ↦ stops_here stack place (next t rest) (reads-meaningless m stack place t rest e)
       | sensible e ↦ elim (as_value stack t.kind) [
         | opens_list k ↦ list_stands stack place t rest at k (items_out n stack rest (omega arith))
         | opens_object k ↦ object_stands stack place t rest at k (members_out n stack rest (omega arith))
         | is_one k ↦ one_stands stack place t rest k e
-        | no_value k ↦ stops_here stack place (next t rest) (reads-stops stack place t rest e (j ∙ k))
+        | no_value k ↦ stops_here stack place (next t rest) (reads-stops m stack place t rest e (j ∙ k))
       ]
     ]
 
     value_at : (n : ℕ) (stack : List ContainerKind) (place : Place) (ts : Tokens) → TakesValue place →
         ((kind : Kind) → place_turn stack place kind ≡ value_turn stack kind) → 2 * count ts + 1 ≤ n → ValueComes m stack place ts
     value_at zero stack place ts at j h = absurd (omega arith)
-    value_at (suc n) stack place ended at j h = stops_here stack place ended (reads-ended stack place)
-    value_at (suc n) stack place (refused f) at j h = stops_here stack place (refused f) (reads-refused stack place f)
+    value_at (suc n) stack place ended at j h = stops_here stack place ended (reads-ended m stack place)
+    value_at (suc n) stack place (refused f) at j h = stops_here stack place (refused f) (reads-refused m stack place f)
     value_at (suc n) stack place (next t rest) at j h = value_out n stack place t rest at (j t.kind) (omega arith)
 
     items_out : (n : ℕ) (stack : List ContainerKind) (ts : Tokens) → 2 * count ts + 1 ≤ n → ItemsCome m stack ts
     items_out zero stack ts h = absurd (omega arith)
-    items_out (suc n) stack ended h = list_stops stack ended (reads-ended (array ∷ stack) before_item)
-    items_out (suc n) stack (refused f) h = list_stops stack (refused f) (reads-refused (array ∷ stack) before_item f)
+    items_out (suc n) stack ended h = list_stops stack ended (reads-ended m (array ∷ stack) before_item)
+    items_out (suc n) stack (refused f) h = list_stops stack (refused f) (reads-refused m (array ∷ stack) before_item f)
     items_out (suc n) stack (next t rest) h = elim (sense m t) [
-      | without e ↦ list_stops stack (next t rest) (reads-meaningless (array ∷ stack) before_item t rest e)
+      | without e ↦ list_stops stack (next t rest) (reads-meaningless m (array ∷ stack) before_item t rest e)
       | sensible e ↦ elim (as_item (array ∷ stack) t.kind) [
         | closes_list k ↦ list_ends stack t rest k
         | as_any j ↦ item_out n stack (next t rest) (value_out n (array ∷ stack) before_item t rest of_list j (omega arith)) (omega arith)
@@ -393,30 +351,30 @@ module _ (m : Meaning) (sane : IsMeaning m) where
         2 * count ts ≤ n → ItemsCome m stack ts
     item_out n stack ts (value_stops events here rest b e) h = items_stop events here rest (begins_item ts rest events (within here) b) e
     item_out n stack ts (value_stands ended node value s t) h =
-        item_stops stack ts ended node value s t (reads-ended (array ∷ stack) after_item)
+        item_stops stack ts ended node value s t (reads-ended m (array ∷ stack) after_item)
     item_out n stack ts (value_stands (refused f) node value s t) h =
-        item_stops stack ts (refused f) node value s t (reads-refused (array ∷ stack) after_item f)
+        item_stops stack ts (refused f) node value s t (reads-refused m (array ∷ stack) after_item f)
     item_out zero stack ts (value_stands (next u others) node value s t) h =
         absurd (omega (arith, spelled-fewer ts others node u s))
     item_out (suc n) stack ts (value_stands (next u others) node value s t) h = elim (sense m u) [
-      | without e ↦ item_stops stack ts (next u others) node value s t (reads-meaningless (array ∷ stack) after_item u others e)
+      | without e ↦ item_stops stack ts (next u others) node value s t (reads-meaningless m (array ∷ stack) after_item u others e)
       | sensible e ↦ elim (behind_an_item (array ∷ stack) u.kind) [
         | comma_item k ↦ item_goes_on stack ts others node value u s t k (items_out n stack others (omega (arith, spelled-fewer ts others node u s)))
         | ends_list k ↦ item_ends stack ts others node value u s t k
-        | no_comma k ↦ item_stops stack ts (next u others) node value s t (reads-stops (array ∷ stack) after_item u others e k)
+        | no_comma k ↦ item_stops stack ts (next u others) node value s t (reads-stops m (array ∷ stack) after_item u others e k)
       ]
     ]
 
     members_out : (n : ℕ) (stack : List ContainerKind) (ts : Tokens) → 2 * count ts + 1 ≤ n → MembersCome m stack ts
     members_out zero stack ts h = absurd (omega arith)
-    members_out (suc n) stack ended h = object_stops stack ended (reads-ended (object ∷ stack) before_key)
-    members_out (suc n) stack (refused f) h = object_stops stack (refused f) (reads-refused (object ∷ stack) before_key f)
+    members_out (suc n) stack ended h = object_stops stack ended (reads-ended m (object ∷ stack) before_key)
+    members_out (suc n) stack (refused f) h = object_stops stack (refused f) (reads-refused m (object ∷ stack) before_key f)
     members_out (suc n) stack (next t rest) h = elim (sense m t) [
-      | without e ↦ object_stops stack (next t rest) (reads-meaningless (object ∷ stack) before_key t rest e)
+      | without e ↦ object_stops stack (next t rest) (reads-meaningless m (object ∷ stack) before_key t rest e)
       | sensible e ↦ elim (as_key (object ∷ stack) t.kind) [
         | closes_object k ↦ object_ends stack t rest k
-        | is_key k j ↦ key_out n stack t rest (name_meant t k e).0 k (name_meant t k e).1 (reads-turn m (object ∷ stack) before_key t rest names (turn-sensible (object ∷ stack) before_key t e ∙ j)) (omega arith)
-        | no_key_here k ↦ object_stops stack (next t rest) (reads-stops (object ∷ stack) before_key t rest e k)
+        | is_key k j ↦ key_out n stack t rest (name_meant t k e).0 k (name_meant t k e).1 (reads-turn m (object ∷ stack) before_key t rest names (turn-sensible m (object ∷ stack) before_key t e ∙ j)) (omega arith)
+        | no_key_here k ↦ object_stops stack (next t rest) (reads-stops m (object ∷ stack) before_key t rest e k)
       ]
     ]
 
@@ -424,13 +382,13 @@ module _ (m : Meaning) (sane : IsMeaning m) where
         text_of (m key) ≡ Some name →
         reads m (object ∷ stack) (within before_key) (next key rest) ≡ reads_colon m (object ∷ stack) key rest →
         2 * count rest + 2 ≤ n → MembersCome m stack (next key rest)
-    key_out n stack key ended name k p e h = key_stops stack key ended name k p (e ∙ colon-ended (object ∷ stack) key)
+    key_out n stack key ended name k p e h = key_stops stack key ended name k p (e ∙ colon-ended m (object ∷ stack) key)
     key_out n stack key (refused f) name k p e h =
-        key_stops stack key (refused f) name k p (e ∙ colon-refused (object ∷ stack) key f)
+        key_stops stack key (refused f) name k p (e ∙ colon-refused m (object ∷ stack) key f)
     key_out zero stack key (next mark ts) name k p e h = absurd (omega arith)
     key_out (suc n) stack key (next mark ts) name k p e h = elim (as_colon mark.kind) [
       | is_mark c ↦ member_out n stack key mark ts name k p c (value_at n (object ∷ stack) after_colon ts behind_colon (λ kind. refl) (omega arith)) (omega arith)
-      | no_mark c ↦ key_stops stack key (next mark ts) name k p (e ∙ colon-missing (object ∷ stack) key mark ts c)
+      | no_mark c ↦ key_stops stack key (next mark ts) name k p (e ∙ colon-missing m (object ∷ stack) key mark ts c)
     ]
 
     member_out : (n : ℕ) (stack : List ContainerKind) (key mark : Token) (ts : Tokens) (name : List ℕ) →
@@ -439,17 +397,17 @@ module _ (m : Meaning) (sane : IsMeaning m) where
     member_out n stack key mark ts name k p c (value_stops events here rest b e) h =
         member_begins stack key mark ts name k p c events here rest b e
     member_out n stack key mark ts name k p c (value_stands ended node value s t) h =
-        member_stops stack key mark ts name k p c ended node value s t (reads-ended (object ∷ stack) after_member)
+        member_stops stack key mark ts name k p c ended node value s t (reads-ended m (object ∷ stack) after_member)
     member_out n stack key mark ts name k p c (value_stands (refused f) node value s t) h =
-        member_stops stack key mark ts name k p c (refused f) node value s t (reads-refused (object ∷ stack) after_member f)
+        member_stops stack key mark ts name k p c (refused f) node value s t (reads-refused m (object ∷ stack) after_member f)
     member_out zero stack key mark ts name k p c (value_stands (next u others) node value s t) h =
         absurd (omega (arith, spelled-fewer ts others node u s))
     member_out (suc n) stack key mark ts name k p c (value_stands (next u others) node value s t) h = elim (sense m u) [
-      | without e ↦ member_stops stack key mark ts name k p c (next u others) node value s t (reads-meaningless (object ∷ stack) after_member u others e)
+      | without e ↦ member_stops stack key mark ts name k p c (next u others) node value s t (reads-meaningless m (object ∷ stack) after_member u others e)
       | sensible e ↦ elim (behind_a_member (object ∷ stack) u.kind) [
         | comma_member q ↦ member_goes_on stack key mark ts name k p c others node value u s t q (members_out n stack others (omega (arith, spelled-fewer ts others node u s)))
         | ends_object q ↦ member_ends stack key mark ts name k p c others node value u s t q
-        | no_comma_here q ↦ member_stops stack key mark ts name k p c (next u others) node value s t (reads-stops (object ∷ stack) after_member u others e q)
+        | no_comma_here q ↦ member_stops stack key mark ts name k p c (next u others) node value s t (reads-stops m (object ∷ stack) after_member u others e q)
       ]
     ]
 

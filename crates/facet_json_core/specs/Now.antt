@@ -1,14 +1,14 @@
 -- What a parser is as a value, on any input, and where it stands on a document's walk.
 use Rattle.std.specs.Prelude.{◌≡◌, ◌≤◌, ℕ, ◌-◌, Bool, true, false, List, [], ◌∷◌, length, drop, Option, Some, None}
-use Rattle.facet_format.specs.Span.{Span, stop, span_at}
-use Rattle.facet_json_scan.specs.Gap.{Mode}
-use Rattle.facet_json_scan.specs.Tokens.{tokens_from}
-use Rattle.facet_json_core.specs.Meaning.{meaning}
-use Rattle.facet_json_core.specs.Place.{root}
-use Rattle.facet_format.specs.Complaint.{Refusal}
-use Rattle.facet_format.specs.Event.{ContainerKind, Passed}
-use Rattle.facet_format.specs.Cursor.{Spot, Cursor, last_of}
-use Rattle.facet_json_core.specs.Future.{Future, gives, finished, events_before, Stage, within, reads}
+use Rattle.facet_json.specs.Token.{Span, stop}
+use Rattle.facet_json.specs.Gap.{Mode}
+use Rattle.facet_json.specs.Cut.{span_at}
+use Rattle.facet_json.specs.Tokens.{tokens_from}
+use Rattle.facet_json.specs.Meaning.{meaning}
+use Rattle.facet_json.specs.Place.{root, Refusal}
+use Rattle.facet_json.specs.Event.{ContainerKind, Passed}
+use Rattle.facet_json.specs.Cursor.{Call, Answer, Spot, Cursor, Step, Run, last_of}
+use Rattle.facet_json.specs.Future.{Future, gives, finished, events_before, Stage, within, reads}
 
 -- what a point keeps
 pub record Standing : Type 0 where
@@ -112,3 +112,13 @@ pub record StandsAt (now : Now) (w : List Passed) (c : Cursor) : Type 0 where
   pub refusal : now.refusal ≡ c.refusal
   pub kept : KeptAlike now.buffer now.mode w now.kept c.kept
   pub counter : now.counter ≡ c.counter
+
+-- Wherever the old parser stands on a walk, the call is a step of the cursor there, and the new parser stands behind it.
+abbrev pub IsStep : Now → Call → Answer → Now → Type 0
+IsStep old call answer new = (w : List Passed) (c : Cursor) → StandsAt old w c →
+    (d : Cursor) × Step w c call answer d × StandsAt new w d
+
+-- The same of calls in order.
+abbrev pub IsRun : Now → List Call → List Answer → Now → Type 0
+IsRun old calls answers new = (w : List Passed) (c : Cursor) → StandsAt old w c →
+    (d : Cursor) × Run w c calls answers d × StandsAt new w d
