@@ -1,21 +1,21 @@
 -- What comes, token by token; and that from the front of a value on its walk comes.
 use Rattle.std.proofs.Common.{◌≡◌, ℕ, true, false, List, [], ◌∷◌, ◌++◌, Option, Some, None, refl, sym, ap, ◌∙◌}
 use Rattle.std.proofs.Math.Bool.{and-false}
-use Rattle.facet_json.specs.Token.{Kind, Token, Fault}
-use Rattle.facet_json.specs.Token as token
-use Rattle.facet_json.specs.Tokens.{Tokens, ended, refused, next}
-use Rattle.facet_json.specs.Node.{Node, Nodes, no_nodes, item, Members, no_members, member, is_scalar, is_string, Spells, one_token, brackets, braces, SpellsItems, closed, item_and_comma, last_item, SpellsMembers, ended_members, member_and_comma, last_member}
+use Rattle.facet_json_scan.specs.Token.{Kind, Token, Fault}
+use Rattle.facet_json_scan.specs.Token as token
+use Rattle.facet_json_scan.specs.Tokens.{Tokens, ended, refused, next}
+use Rattle.facet_json_core.specs.Node.{Node, Nodes, no_nodes, item, Members, no_members, member, is_scalar, is_string, Spells, one_token, brackets, braces, SpellsItems, closed, item_and_comma, last_item, SpellsMembers, ended_members, member_and_comma, last_member}
 use Rattle.std.specs.Option.{option_map}
-use Rattle.facet_json.specs.Tree.{Tree, Trees, no_trees, Pairs, no_pairs}
-use Rattle.facet_json.specs.Tree as tree
-use Rattle.facet_json.specs.Meaning.{Meaning, tree_of, trees_of, pairs_of, text_of, put_item, put_pair}
-use Rattle.facet_json.specs.Place.{Place, root, before_key, after_key, after_colon, after_member, before_item, after_item, is_colon, goes_on, begins_value}
-use Rattle.facet_json.specs.Refusal.{needs_meaning}
-use Rattle.facet_json.specs.Reading.{TakesValue, at_root, behind_colon, of_list}
-use Rattle.facet_json.specs.Event.{ContainerKind, object, array, Passed}
-use Rattle.facet_json.specs.Event as event
-use Rattle.facet_json.specs.Walk.{event_at, scalar_event, key_event, walk, walk_items, walk_members}
-use Rattle.facet_json.specs.Future.{Future, gives, stuck, events_before, within, after_value, Turn, stops, passes, says, says_scalar, names, value_turn, place_turn, is_meaningless, turn, reads, reads_colon}
+use Rattle.facet_json_core.specs.Tree.{Tree, Trees, no_trees, Pairs, no_pairs}
+use Rattle.facet_json_core.specs.Tree as tree
+use Rattle.facet_json_core.specs.Meaning.{Meaning, tree_of, trees_of, pairs_of, text_of, put_item, put_pair}
+use Rattle.facet_json_core.specs.Place.{Place, root, before_key, after_key, after_colon, after_member, before_item, after_item, is_colon, goes_on, begins_value}
+use Rattle.facet_json_core.specs.Refusal.{needs_meaning}
+use Rattle.facet_json_core.specs.Reading.{TakesValue, at_root, behind_colon, of_list}
+use Rattle.facet_format.specs.Event.{ContainerKind, object, array, Passed}
+use Rattle.facet_format.specs.Event as event
+use Rattle.facet_json_core.specs.Walk.{event_at, scalar_event, key_event, walk, walk_items, walk_members}
+use Rattle.facet_json_core.specs.Future.{Future, gives, stuck, events_before, within, after_value, Turn, stops, passes, says, says_scalar, names, value_turn, place_turn, is_meaningless, turn, reads, reads_colon}
 
 -- Events behind events.
 pub events_before-append : (a b : List Passed) (f : Future) →

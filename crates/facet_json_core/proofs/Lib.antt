@@ -18,3 +18,4 @@ pub mod SoundFutures
 pub mod Completions
 pub mod NextEnds
 pub mod PointLaws
+pub mod BegunBegins

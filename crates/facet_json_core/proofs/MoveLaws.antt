@@ -1,23 +1,24 @@
 -- Laws of a parser's moves, on every input: what is kept, what is repeated, a peek is the next event, save and restore.
 use Rattle.std.proofs.Common.{◌≡◌, ℕ, zero, suc, Bool, true, false, List, [], ◌∷◌, ◌++◌, length, Option, Some, None, refl, ap}
 use Rattle.std.specs.Prelude.{Ok, Err}
-use Rattle.facet_json.specs.Gap.{Mode}
-use Rattle.facet_json.specs.Token.{Span, Token}
-use Rattle.facet_json.specs.Node.{Node}
-use Rattle.facet_json.specs.Tree.{Tree}
-use Rattle.facet_json.specs.Meaning.{meaning}
-use Rattle.facet_json.specs.Document.{IsDocument}
-use Rattle.facet_json.specs.Walk.{walk}
-use Rattle.facet_json.specs.Place.{Refusal}
-use Rattle.facet_json.specs.Event.{Event, Passed}
-use Rattle.facet_json.specs.Kept.{found}
-use Rattle.facet_json.specs.Cursor.{Call, next, peek, events, save, restore, span, Answer, event, saved, restored, Cursor, Run, repeated, start}
-use Rattle.facet_json.specs.Cursor as cursor
-use Rattle.facet_json.specs.Future.{Future, gives}
-use Rattle.facet_json.specs.Now.{Standing, Now, StandsAt, fresh, IsStep, IsRun}
-use Rattle.facet_json.specs.Move.{Passes, no_events, one_event, with_kept, back_at, Moves, repeats, passes, passes_without_memory, passes_the_end, passes_nothing, peeks, peeks_without_memory, peeks_at_the_end, peeks_at_nothing, gives_none, gives_all, gives_to_the_end, gives_up, gives_without_memory, saves, saves_at_the_limit, saves_without_memory, restores, restores_nothing, tells, MovesAll, no_calls, one_call}
-use Rattle.facet_json.proofs.Stands.{fresh-stands}
-use Rattle.facet_json.proofs.CursorMoves.{moves-step}
+use Rattle.facet_json_scan.specs.Gap.{Mode}
+use Rattle.facet_format.specs.Span.{Span}
+use Rattle.facet_json_scan.specs.Token.{Token}
+use Rattle.facet_json_core.specs.Node.{Node}
+use Rattle.facet_json_core.specs.Tree.{Tree}
+use Rattle.facet_json_core.specs.Meaning.{meaning}
+use Rattle.facet_json_core.specs.Document.{IsDocument}
+use Rattle.facet_json_core.specs.Walk.{walk}
+use Rattle.facet_format.specs.Complaint.{Refusal}
+use Rattle.facet_format.specs.Event.{Event, Passed}
+use Rattle.facet_format.specs.Kept.{found}
+use Rattle.facet_format.specs.Cursor.{Call, next, peek, events, save, restore, span, Answer, event, saved, restored, Cursor, Run, repeated, start}
+use Rattle.facet_format.specs.Cursor as cursor
+use Rattle.facet_json_core.specs.Future.{Future, gives}
+use Rattle.facet_json_core.specs.Now.{Standing, Now, StandsAt, fresh, IsStep, IsRun}
+use Rattle.facet_json_core.specs.Move.{Passes, no_events, one_event, with_kept, back_at, Moves, repeats, passes, passes_without_memory, passes_the_end, passes_nothing, peeks, peeks_without_memory, peeks_at_the_end, peeks_at_nothing, gives_none, gives_all, gives_to_the_end, gives_up, gives_without_memory, saves, saves_at_the_limit, saves_without_memory, restores, restores_nothing, tells, MovesAll, no_calls, one_call}
+use Rattle.facet_json_core.proofs.Stands.{fresh-stands}
+use Rattle.facet_json_core.proofs.CursorMoves.{moves-step}
 
 -- One more event is passed.
 pub Passes-one_more : {before after : Span} {future rest : Future} {given : List Event} (p : Passed) →

@@ -1,25 +1,25 @@
 -- From a place on where a value may stand either a whole value stands, or the longest front of one, and then no event comes any more.
 use Rattle.std.proofs.Common.{◌≡◌, ℕ, zero, suc, ◌+◌, ◌*◌, ◌≤◌, Bool, true, false, ◌&&◌, List, [], ◌∷◌, ◌++◌, Option, Some, None, refl, sym, ap, ◌∙◌, arith}
 use Rattle.std.specs.Prelude.{is_none}
-use Rattle.facet_json.specs.Token.{Kind, Token, Fault}
-use Rattle.facet_json.specs.Token as token
-use Rattle.facet_json.specs.Tokens.{Tokens, ended, refused, next}
-use Rattle.facet_json.specs.Node.{Node, scalar, Nodes, no_nodes, item, Members, no_members, member, is_scalar, is_string, Spells, one_token, brackets, braces, SpellsItems, closed, item_and_comma, last_item, SpellsMembers, ended_members, member_and_comma, last_member}
-use Rattle.facet_json.specs.Node as shapes
-use Rattle.facet_json.specs.Tree.{Tree, Trees, no_trees, Pairs, no_pairs}
-use Rattle.facet_json.specs.Tree as trees
-use Rattle.facet_json.specs.Meaning.{Meaning, tree_of, trees_of, pairs_of, text_of}
-use Rattle.facet_json.specs.Spelled.{count}
-use Rattle.facet_json.specs.Place.{Place, root, before_key, after_key, after_colon, after_member, before_item, after_item, is_colon}
-use Rattle.facet_json.specs.Refusal.{needs_meaning}
-use Rattle.facet_json.specs.Reading.{TakesValue, at_root, behind_colon, of_list}
-use Rattle.facet_json.specs.Event.{ContainerKind, object, array, Passed}
-use Rattle.facet_json.specs.Event as event
-use Rattle.facet_json.specs.Walk.{event_at, key_event, walk}
-use Rattle.facet_json.specs.Future.{Future, gives, stuck, events_before, within, after_value, stops, names, value_turn, place_turn, is_meaningless, reads, reads_colon}
-use Rattle.facet_json.specs.Begun.{Begun, nothing, whole, in_list, in_object, ListBegun, begins_item, behind_item, ObjectBegun, no_key, key_alone, begins_member, behind_member}
-use Rattle.facet_json.proofs.Suffixes.{IsSuffix, all, later, Spells-suffix}
-use Rattle.facet_json.proofs.Futures.{events_before-append, reads-turn, reads-array, reads-object, reads-item_comma, reads-member_comma, reads-key, walk-comes, turn-sensible, reads-meaningless, reads-stops, reads-ended, reads-refused, colon-ended, colon-refused, colon-missing}
+use Rattle.facet_json_scan.specs.Token.{Kind, Token, Fault}
+use Rattle.facet_json_scan.specs.Token as token
+use Rattle.facet_json_scan.specs.Tokens.{Tokens, ended, refused, next}
+use Rattle.facet_json_core.specs.Node.{Node, scalar, Nodes, no_nodes, item, Members, no_members, member, is_scalar, is_string, Spells, one_token, brackets, braces, SpellsItems, closed, item_and_comma, last_item, SpellsMembers, ended_members, member_and_comma, last_member}
+use Rattle.facet_json_core.specs.Node as shapes
+use Rattle.facet_json_core.specs.Tree.{Tree, Trees, no_trees, Pairs, no_pairs}
+use Rattle.facet_json_core.specs.Tree as trees
+use Rattle.facet_json_core.specs.Meaning.{Meaning, tree_of, trees_of, pairs_of, text_of}
+use Rattle.facet_json_core.specs.Spelled.{count}
+use Rattle.facet_json_core.specs.Place.{Place, root, before_key, after_key, after_colon, after_member, before_item, after_item, is_colon}
+use Rattle.facet_json_core.specs.Refusal.{needs_meaning}
+use Rattle.facet_json_core.specs.Reading.{TakesValue, at_root, behind_colon, of_list}
+use Rattle.facet_format.specs.Event.{ContainerKind, object, array, Passed}
+use Rattle.facet_format.specs.Event as event
+use Rattle.facet_json_core.specs.Walk.{event_at, key_event, walk}
+use Rattle.facet_json_core.specs.Future.{Future, gives, stuck, events_before, within, after_value, stops, names, value_turn, place_turn, is_meaningless, reads, reads_colon}
+use Rattle.facet_json_core.specs.Begun.{Begun, nothing, whole, in_list, in_object, ListBegun, begins_item, behind_item, ObjectBegun, no_key, key_alone, begins_member, behind_member}
+use Rattle.facet_json_core.proofs.Suffixes.{IsSuffix, all, later, Spells-suffix}
+use Rattle.facet_json_core.proofs.Futures.{events_before-append, reads-turn, reads-array, reads-object, reads-item_comma, reads-member_comma, reads-key, walk-comes, turn-sensible, reads-meaningless, reads-stops, reads-ended, reads-refused, colon-ended, colon-refused, colon-missing}
 
 -- ---- meanings
 

@@ -1,14 +1,14 @@
 -- What a parser is as a value, on any input, and where it stands on a document's walk.
 use Rattle.std.specs.Prelude.{◌≡◌, ◌≤◌, ℕ, ◌-◌, Bool, true, false, List, [], ◌∷◌, length, drop, Option, Some, None}
-use Rattle.facet_json.specs.Token.{Span, stop}
-use Rattle.facet_json.specs.Gap.{Mode}
-use Rattle.facet_json.specs.Cut.{span_at}
-use Rattle.facet_json.specs.Tokens.{tokens_from}
-use Rattle.facet_json.specs.Meaning.{meaning}
-use Rattle.facet_json.specs.Place.{root, Refusal}
-use Rattle.facet_json.specs.Event.{ContainerKind, Passed}
-use Rattle.facet_json.specs.Cursor.{Call, Answer, Spot, Cursor, Step, Run, last_of}
-use Rattle.facet_json.specs.Future.{Future, gives, finished, events_before, Stage, within, reads}
+use Rattle.facet_format.specs.Span.{Span, stop, span_at}
+use Rattle.facet_json_scan.specs.Gap.{Mode}
+use Rattle.facet_json_scan.specs.Tokens.{tokens_from}
+use Rattle.facet_json_core.specs.Meaning.{meaning}
+use Rattle.facet_json_core.specs.Place.{root}
+use Rattle.facet_format.specs.Complaint.{Refusal}
+use Rattle.facet_format.specs.Event.{ContainerKind, Passed}
+use Rattle.facet_format.specs.Cursor.{Call, Answer, Spot, Cursor, Step, Run, last_of}
+use Rattle.facet_json_core.specs.Future.{Future, gives, finished, events_before, Stage, within, reads}
 
 -- what a point keeps
 pub record Standing : Type 0 where

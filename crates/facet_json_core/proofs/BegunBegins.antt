@@ -1,18 +1,19 @@
 -- A begun document with its events is a front as refusals speak of it, so what is refused behind one is refused from the root.
 use Rattle.std.proofs.Common.{◌≡◌, ℕ, true, List, Some, refl, subst}
-use Rattle.facet_json.specs.Gap.{Mode}
-use Rattle.facet_json.specs.Token.{Token}
-use Rattle.facet_json.specs.Token as token
-use Rattle.facet_json.specs.Tokens.{Tokens, next, tokens}
-use Rattle.facet_json.specs.Node.{Node, Spells, is_string}
-use Rattle.facet_json.specs.Tree.{Tree}
-use Rattle.facet_json.specs.Meaning.{Meaning, meaning, tree_of, text_of}
-use Rattle.facet_json.specs.Place.{Place, root, before_key, after_key, after_colon, after_member, before_item, after_item, Refusal}
-use Rattle.facet_json.specs.Refusal.{PassesItems, PassesMembers, Begins, RefusesFrom}
-use Rattle.facet_json.specs.Refusal as fronts
-use Rattle.facet_json.specs.Event.{Passed}
-use Rattle.facet_json.specs.Future.{Stage, within, over}
-use Rattle.facet_json.specs.Begun.{Begun, nothing, whole, in_list, in_object, ListBegun, begins_item, behind_item, ObjectBegun, no_key, key_alone, begins_member, behind_member, RefusesBehind}
+use Rattle.facet_json_scan.specs.Gap.{Mode}
+use Rattle.facet_json_scan.specs.Token.{Token}
+use Rattle.facet_json_scan.specs.Token as token
+use Rattle.facet_json_scan.specs.Tokens.{Tokens, next, tokens}
+use Rattle.facet_json_core.specs.Node.{Node, Spells, is_string}
+use Rattle.facet_json_core.specs.Tree.{Tree}
+use Rattle.facet_json_core.specs.Meaning.{Meaning, meaning, tree_of, text_of}
+use Rattle.facet_json_core.specs.Place.{Place, root, before_key, after_key, after_colon, after_member, before_item, after_item}
+use Rattle.facet_format.specs.Complaint.{Refusal}
+use Rattle.facet_json_core.specs.Refusal.{PassesItems, PassesMembers, Begins, RefusesFrom}
+use Rattle.facet_json_core.specs.Refusal as fronts
+use Rattle.facet_format.specs.Event.{Passed}
+use Rattle.facet_json_core.specs.Future.{Stage, within, over}
+use Rattle.facet_json_core.specs.Begun.{Begun, nothing, whole, in_list, in_object, ListBegun, begins_item, behind_item, ObjectBegun, no_key, key_alone, begins_member, behind_member, RefusesBehind}
 
 -- ---- what stands behind whole items or members
 
