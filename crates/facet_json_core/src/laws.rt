@@ -2,8 +2,10 @@
 //! function without effect.
 
 mod documents;
+mod fronts;
 
 pub use documents::{
     document_is_found, one_document, one_spelling, plain_is_jsonc, refused_has_none,
     spelled_is_spells, whole_document_is_found,
 };
+pub use fronts::{begun_is_front, front_gives_walk, front_is_begun, one_given};
