@@ -70,4 +70,5 @@ pub mod PointLaws
 pub mod NextEnds
 pub mod Completions
 pub mod BegunBegins
+pub mod Halts
 pub mod CursorRows
