@@ -1,5 +1,5 @@
 -- A front of tokens begins a document exactly where it is a front of the spelling of some value.
-use Rattle.std.proofs.Common.{◌≡◌, ℕ, ◌≤◌, ◌⊎◌, inl, inr, true, List, [], ◌∷◌, ◌++◌, Some, refl, sym, ap, ◌∙◌, subst, arith}
+use Rattle.std.proofs.Common.{◌≡◌, ℕ, ◌⊎◌, inl, inr, true, List, [], ◌∷◌, ◌++◌, Some, refl, sym, ap, ◌∙◌, subst, arith}
 use Rattle.facet_json.specs.Cut.{span_at}
 use Rattle.facet_json.specs.Token.{Kind, Token}
 use Rattle.facet_json.specs.Token as token
@@ -9,7 +9,6 @@ use Rattle.facet_json.specs.Node as shapes
 use Rattle.facet_json.specs.Tree.{Tree, Trees, no_trees, Pairs, no_pairs}
 use Rattle.facet_json.specs.Tree as trees
 use Rattle.facet_json.specs.Meaning.{Meaning, meaning, tree_of, trees_of, pairs_of, text_of}
-use Rattle.facet_json.specs.Spelled.{count}
 use Rattle.facet_json.specs.Place.{Place, root, before_key, after_key, after_colon, after_member, before_item, after_item}
 use Rattle.facet_json.specs.Event.{Passed}
 use Rattle.facet_json.specs.Event as event
@@ -19,7 +18,7 @@ use Rattle.facet_json.specs.Begun.{Begun, nothing, whole, in_list, in_object, Li
 use Rattle.facet_json.proofs.Suffixes.{IsSuffix, all, later, Spells-suffix}
 use Rattle.facet_json.proofs.Futures.{list_meant, object_meant, item_meant, member_meant}
 use Rattle.facet_json.specs.EventLaws.{BegunIsFront, FrontIsBegun, FrontGivesWalk, OneGiven}
-use Rattle.facet_json.proofs.Outcomes.{IsMeaning}
+use Rattle.facet_json.proofs.Outcomes.{IsMeaning, suffix-count}
 use Rattle.facet_json.proofs.BegunLaws.{is_meaning, front-walk, given_once, input-comes}
 
 -- ---- lists of tokens in front of others
@@ -283,10 +282,6 @@ suffix-either : (a b c : Tokens) → IsSuffix a b → IsSuffix a c → IsSuffix 
 suffix-either a _ c (all _) q = inl q
 suffix-either _ b _ (later t ts _ p) (all _) = inr (later t ts b p)
 suffix-either _ b c (later t ts _ p) (later _ _ _ q) = suffix-either ts b c p q
-
-suffix-count : (a b : Tokens) → IsSuffix a b → count b ≤ count a
-suffix-count a _ (all _) = omega arith
-suffix-count _ b (later t ts _ p) = omega (arith, suffix-count ts b p)
 
 -- Tokens that are suffixes of one another are the same.
 suffix-same : (a b : Tokens) → IsSuffix a b → IsSuffix b a → a ≡ b
