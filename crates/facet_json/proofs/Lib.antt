@@ -71,4 +71,5 @@ pub mod NextEnds
 pub mod Completions
 pub mod BegunBegins
 pub mod Halts
+pub mod Borrowed
 pub mod CursorRows
