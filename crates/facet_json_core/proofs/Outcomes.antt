@@ -140,6 +140,11 @@ pub data MembersCome (m : Meaning) (stack : List ContainerKind) (ts : Tokens) : 
   members_stop : (events : List Passed) (here : Place) (rest : Tokens) → ObjectBegun m ts events (within here) rest →
       reads m (object ∷ stack) (within before_key) ts ≡ events_before events (stuck here rest) → MembersCome m stack ts
 
+-- A suffix has no more tokens.
+pub suffix-count : (a b : Tokens) → IsSuffix a b → count b ≤ count a
+suffix-count a _ (all _) = omega arith
+suffix-count _ b (later t ts _ p) = omega (arith, suffix-count ts b p)
+
 module _ (m : Meaning) (sane : IsMeaning m) where
   -- A scalar that is not without meaning has one.
   scalar_meant : (t : Token) → is_scalar t.kind ≡ true → is_meaningless m t ≡ false → (value : Tree) × (m t ≡ Some value)
@@ -304,11 +309,6 @@ module _ (m : Meaning) (sane : IsMeaning m) where
       sane.texts t meant.0 k meant.1
 
   -- ---- all tokens
-
-  -- A suffix has no more tokens.
-  suffix-count : (a b : Tokens) → IsSuffix a b → count b ≤ count a
-  suffix-count a _ (all _) = omega arith
-  suffix-count _ b (later t ts _ p) = omega (arith, suffix-count ts b p)
 
   -- What stands behind a value and the next token has fewer.
   spelled-fewer : (ts others : Tokens) (node : Node) (t : Token) → Spells ts node (next t others) → suc (count others) ≤ count ts

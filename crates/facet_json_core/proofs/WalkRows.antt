@@ -10,6 +10,7 @@ use Rattle.facet_json_scan.specs.Cut.{start_of, cut_here, cut}
 use Rattle.facet_format.specs.Span.{span_at}
 use Rattle.facet_json_scan.specs.Tokens.{Tokens, tokens_past, tokens}
 use Rattle.facet_json_scan.specs.Tokens as tokens
+use Rattle.facet_json_scan.specs.Token as token
 use Rattle.facet_json_scan.specs.Decode.{short_escape, code_unit, utf8_at, unit_at, escape_at, piece_at, decoded_past}
 use Rattle.facet_json_core.specs.Meaning.{meaning, tree_of}
 use Rattle.facet_json_core.specs.Spelled.{node_within, spelled, document, read_by}
@@ -91,3 +92,17 @@ ended_row = refl
 key_alone_row : given (codes "{\"a\"") plain ≡ gives (at (struct_start object) 0 1) (stuck place.after_key tokens.ended)
 unfolding reads tokens_past cut cut_here start_of gap_len_from parts number decoded_past piece_at utf8_at escape_at unit_at code_unit short_escape encode
 key_alone_row = refl
+
+-- what is left of a list's first comma, where nothing else follows it
+abbrev comma_at : ℕ → Tokens → Tokens
+comma_at offset rest = tokens.next (record { kind = token.comma; span = span_at offset 1 }) rest
+
+-- A comma alone is no item, and it is no end of the list.
+comma_alone_row : given (codes "[,]") plain ≡ gives (at (sequence_start array) 0 1) (stuck place.before_item (comma_at 1 (tokens.next (record { kind = token.array_end; span = span_at 2 1 }) tokens.ended)))
+unfolding reads tokens_past cut cut_here start_of gap_len_from parts number
+comma_alone_row = refl
+
+-- A string without a text is stuck, whatever may stand there.
+meaningless_row : given (codes "[1 \"\\ud800\"") plain ≡ gives (at (sequence_start array) 0 1) (gives (at (scalar (u64 1)) 1 1) (stuck place.after_item (tokens.next (record { kind = token.string 4 10 true; span = span_at 3 8 }) tokens.ended)))
+unfolding reads tokens_past cut cut_here start_of gap_len_from parts number decoded_past piece_at utf8_at escape_at unit_at code_unit short_escape encode
+meaningless_row = refl
