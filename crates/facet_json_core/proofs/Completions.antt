@@ -1,25 +1,25 @@
 -- A front of tokens begins a document exactly where it is a front of the spelling of some value.
 use Rattle.std.proofs.Common.{◌≡◌, ℕ, ◌⊎◌, inl, inr, true, List, [], ◌∷◌, ◌++◌, Some, refl, sym, ap, ◌∙◌, subst, arith}
-use Rattle.facet_json.specs.Cut.{span_at}
-use Rattle.facet_json.specs.Token.{Kind, Token}
-use Rattle.facet_json.specs.Token as token
-use Rattle.facet_json.specs.Tokens.{Tokens, next}
-use Rattle.facet_json.specs.Node.{Node, scalar, Nodes, no_nodes, item, Members, no_members, member, is_scalar, is_string, Spells, one_token, brackets, braces, SpellsItems, closed, item_and_comma, last_item, SpellsMembers, ended_members, member_and_comma, last_member}
-use Rattle.facet_json.specs.Node as shapes
-use Rattle.facet_json.specs.Tree.{Tree, Trees, no_trees, Pairs, no_pairs}
-use Rattle.facet_json.specs.Tree as trees
-use Rattle.facet_json.specs.Meaning.{Meaning, meaning, tree_of, trees_of, pairs_of, text_of}
-use Rattle.facet_json.specs.Place.{Place, root, before_key, after_key, after_colon, after_member, before_item, after_item}
-use Rattle.facet_json.specs.Event.{Passed}
-use Rattle.facet_json.specs.Event as event
-use Rattle.facet_json.specs.Walk.{event_at, key_event, walk}
-use Rattle.facet_json.specs.Future.{Stage, within, over}
-use Rattle.facet_json.specs.Begun.{Begun, nothing, whole, in_list, in_object, ListBegun, begins_item, behind_item, ObjectBegun, no_key, key_alone, begins_member, behind_member, tokens_before}
-use Rattle.facet_json.proofs.Suffixes.{IsSuffix, all, later, Spells-suffix}
-use Rattle.facet_json.proofs.Futures.{list_meant, object_meant, item_meant, member_meant}
-use Rattle.facet_json.specs.EventLaws.{BegunIsFront, FrontIsBegun, FrontGivesWalk, OneGiven}
-use Rattle.facet_json.proofs.Outcomes.{IsMeaning, suffix-count}
-use Rattle.facet_json.proofs.BegunLaws.{is_meaning, front-walk, given_once, input-comes}
+use Rattle.facet_format.specs.Span.{span_at}
+use Rattle.facet_json_scan.specs.Token.{Kind, Token}
+use Rattle.facet_json_scan.specs.Token as token
+use Rattle.facet_json_scan.specs.Tokens.{Tokens, next}
+use Rattle.facet_json_core.specs.Node.{Node, scalar, Nodes, no_nodes, item, Members, no_members, member, is_scalar, is_string, Spells, one_token, brackets, braces, SpellsItems, closed, item_and_comma, last_item, SpellsMembers, ended_members, member_and_comma, last_member}
+use Rattle.facet_json_core.specs.Node as shapes
+use Rattle.facet_json_core.specs.Tree.{Tree, Trees, no_trees, Pairs, no_pairs}
+use Rattle.facet_json_core.specs.Tree as trees
+use Rattle.facet_json_core.specs.Meaning.{Meaning, meaning, tree_of, trees_of, pairs_of, text_of}
+use Rattle.facet_json_core.specs.Place.{Place, root, before_key, after_key, after_colon, after_member, before_item, after_item}
+use Rattle.facet_format.specs.Event.{Passed}
+use Rattle.facet_format.specs.Event as event
+use Rattle.facet_json_core.specs.Walk.{event_at, key_event, walk}
+use Rattle.facet_json_core.specs.Future.{Stage, within, over}
+use Rattle.facet_json_core.specs.Begun.{Begun, nothing, whole, in_list, in_object, ListBegun, begins_item, behind_item, ObjectBegun, no_key, key_alone, begins_member, behind_member, tokens_before}
+use Rattle.facet_json_core.proofs.Suffixes.{IsSuffix, all, later, Spells-suffix}
+use Rattle.facet_json_core.proofs.Futures.{list_meant, object_meant, item_meant, member_meant}
+use Rattle.facet_json_core.specs.EventLaws.{BegunIsFront, FrontIsBegun, FrontGivesWalk, OneGiven}
+use Rattle.facet_json_core.proofs.Outcomes.{IsMeaning, suffix-count}
+use Rattle.facet_json_core.proofs.BegunLaws.{is_meaning, front-walk, given_once, input-comes}
 
 -- ---- lists of tokens in front of others
 

@@ -19,3 +19,5 @@ pub mod Completions
 pub mod NextEnds
 pub mod PointLaws
 pub mod BegunBegins
+pub mod Borrowed
+pub mod Halts

@@ -1,22 +1,23 @@
 -- Where nothing comes any more, no document goes on, so some refusal stands there.
 use Rattle.std.proofs.Common.{◌≡◌, ℕ, Bool, true, false, ◌&&◌, List, [], ◌∷◌, Option, Some, None, refl, sym, ◌∙◌}
 use Rattle.std.specs.Prelude.{⊤, is_none, IsSome}
-use Rattle.facet_json.specs.Token.{Kind, Token, Fault}
-use Rattle.facet_json.specs.Token as token
-use Rattle.facet_json.specs.Gap.{Mode}
-use Rattle.facet_json.specs.Node.{Node}
-use Rattle.facet_json.specs.Document.{IsDocument}
-use Rattle.facet_json.specs.Begun.{RefusesBehind}
-use Rattle.facet_json.specs.Tokens.{Tokens, ended, refused, next, tokens}
-use Rattle.facet_json.specs.Tree.{Tree}
-use Rattle.facet_json.specs.Meaning.{Meaning, meaning}
-use Rattle.facet_json.specs.Place.{Place, root, before_key, after_key, after_colon, after_member, before_item, after_item, is_colon, begins_value, goes_on, Refusal}
-use Rattle.facet_json.specs.Refusal.{needs_meaning, IsStuck, at_end, at_fault, meaningless, misplaced}
-use Rattle.facet_json.specs.Event.{ContainerKind, object, array, Passed}
-use Rattle.facet_json.specs.Walk.{key_event}
-use Rattle.facet_json.specs.Future.{gives, stuck, events_before, Stage, within, over, after_value, around, Turn, stops, passes, says, says_scalar, names, value_turn, place_turn, unless_meaningless, is_meaningless, turn, reads, reads_colon}
-use Rattle.facet_json.proofs.Futures.{follows, reads-turn}
-use Rattle.facet_json.proofs.BegunLaws.{RootComes, document_comes, front_comes, input-comes}
+use Rattle.facet_json_scan.specs.Token.{Kind, Token, Fault}
+use Rattle.facet_json_scan.specs.Token as token
+use Rattle.facet_json_scan.specs.Gap.{Mode}
+use Rattle.facet_json_core.specs.Node.{Node}
+use Rattle.facet_json_core.specs.Document.{IsDocument}
+use Rattle.facet_json_core.specs.Begun.{RefusesBehind}
+use Rattle.facet_json_scan.specs.Tokens.{Tokens, ended, refused, next, tokens}
+use Rattle.facet_json_core.specs.Tree.{Tree}
+use Rattle.facet_json_core.specs.Meaning.{Meaning, meaning}
+use Rattle.facet_json_core.specs.Place.{Place, root, before_key, after_key, after_colon, after_member, before_item, after_item, is_colon, begins_value, goes_on}
+use Rattle.facet_format.specs.Complaint.{Refusal}
+use Rattle.facet_json_core.specs.Refusal.{needs_meaning, IsStuck, at_end, at_fault, meaningless, misplaced}
+use Rattle.facet_format.specs.Event.{ContainerKind, object, array, Passed}
+use Rattle.facet_json_core.specs.Walk.{key_event}
+use Rattle.facet_json_core.specs.Future.{gives, stuck, events_before, Stage, within, over, after_value, around, Turn, stops, passes, says, says_scalar, names, value_turn, place_turn, unless_meaningless, is_meaningless, turn, reads, reads_colon}
+use Rattle.facet_json_core.proofs.Futures.{follows, reads-turn}
+use Rattle.facet_json_core.proofs.BegunLaws.{RootComes, document_comes, front_comes, input-comes}
 
 -- The stage is not behind a key.
 abbrev IsNoKey : Stage → Type 0

@@ -1,10 +1,10 @@
 -- A text that is borrowed is the part of the input between its quotes.
 use Rattle.std.proofs.Common.{◌≡◌, ℕ, false, List, Some, sym}
 use Rattle.std.specs.Prelude.{slice_range}
-use Rattle.facet_json.specs.Decode.{decoded}
-use Rattle.facet_json.specs.Token.{Span}
-use Rattle.facet_json.proofs.CutBounds.{StringFits}
-use Rattle.facet_json.proofs.PlainText.{plain-text}
+use Rattle.facet_json_scan.specs.Decode.{decoded}
+use Rattle.facet_format.specs.Span.{Span}
+use Rattle.facet_json_scan.proofs.CutBounds.{StringFits}
+use Rattle.facet_json_scan.proofs.PlainText.{plain-text}
 
 -- The text of a string that holds no backslash is its content.
 pub borrowed-slice : (buffer : List ℕ) (span : Span) (start finish : ℕ) (bytes : List ℕ) →
