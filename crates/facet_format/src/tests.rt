@@ -163,8 +163,25 @@ fn decimals(rt: HostRuntime) -> Result<(), Fail> {
             None => assert!(rt; false, "{text}"),
         }
     }
-    for text in ["", ".5", "1e", "-.", "-e1", "5", "-5", "1e5 ", "1.5x"] {
+    for text in [
+        "", ".5", "1e", "1e+", "-.", "-e1", ".e1", "5", "-5", "1e5 ", " 1e5", "1.5x", "1.5.5",
+    ] {
         assert!(rt; Decimal::new(text).is_none(), "{text}");
     }
+    Ok(())
+}
+
+#[test]
+fn decimals_are_their_texts(rt: HostRuntime) -> Result<(), Fail> {
+    let one = Decimal::new("1.0").ok_or("a decimal")?;
+    let same = Decimal::new("1.0").ok_or("a decimal")?;
+    let longer = Decimal::new("1.00").ok_or("a decimal")?;
+    assert_eq!(rt; one, same);
+    assert!(rt; one != longer);
+    assert_eq!(rt; one.as_str(), "1.0");
+    let owned = one.into_owned(rt.alloc())?;
+    assert_eq!(rt; owned, same);
+    let again = owned.into_owned(rt.alloc())?;
+    assert_eq!(rt; again.as_str(), "1.0");
     Ok(())
 }

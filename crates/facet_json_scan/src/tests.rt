@@ -1,6 +1,6 @@
 //! What the public types derive: copies, equality and how they are shown.
 
-use crate::{Mode, ScanError, ScanErrorKind, SpannedToken, Token};
+use crate::{DecodeError, Mode, ParsedNumber, ScanError, ScanErrorKind, SpannedToken, Token};
 use facet_format::Span;
 use facet_format::numeral::NumberHint;
 use std::alloc::Global;
@@ -99,5 +99,33 @@ fn scan_answers(rt: HostRuntime) -> Result<(), Fail> {
             shown,
         )?;
     }
+    Ok(())
+}
+
+#[test]
+fn numbers_and_refused_decodes(rt: HostRuntime) -> Result<(), Fail> {
+    let alloc = rt.alloc();
+    for (number, shown) in [
+        (ParsedNumber::U64(1), "U64(1)"),
+        (ParsedNumber::I64(-1), "I64(-1)"),
+        (ParsedNumber::U128(2), "U128(2)"),
+        (ParsedNumber::I128(-2), "I128(-2)"),
+    ] {
+        assert_eq!(rt; format!(in alloc; "{number:?}")?.as_str(), shown);
+        assert!(rt; number == number && number != ParsedNumber::U64(3));
+    }
+    let refused = DecodeError::Scan(ScanError {
+        kind: ScanErrorKind::InvalidUtf8,
+        span: Span::new(0, 1),
+    });
+    assert!(rt; refused != DecodeError::OutOfMemory);
+    assert_eq!(rt;
+        format!(in alloc; "{refused:?}")?.as_str(),
+        "Scan(ScanError { kind: InvalidUtf8, span: Span { offset: 0, len: 1 } })"
+    );
+    assert_eq!(rt;
+        format!(in alloc; "{:?}", DecodeError::OutOfMemory)?.as_str(),
+        "OutOfMemory"
+    );
     Ok(())
 }

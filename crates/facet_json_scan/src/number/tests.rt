@@ -166,24 +166,4 @@ fn decimals(rt: HostRuntime) {
         );
         assert!(rt; Decimal::new(text).is_some(), "{text}");
     }
-    for text in [
-        ".5", "1e", "1e+", "-.", "-e1", ".e1", "5", "1e5 ", " 1e5", "1.5.5", "",
-    ] {
-        assert!(rt; Decimal::new(text).is_none(), "{text}");
-    }
-}
-
-#[test]
-fn decimals_are_their_texts(rt: HostRuntime) -> Result<(), Fail> {
-    let one = Decimal::new("1.0").ok_or("a decimal")?;
-    let same = Decimal::new("1.0").ok_or("a decimal")?;
-    let longer = Decimal::new("1.00").ok_or("a decimal")?;
-    assert_eq!(rt; one, same);
-    assert!(rt; one != longer);
-    assert_eq!(rt; one.as_str(), "1.0");
-    let owned = one.into_owned(rt.alloc())?;
-    assert_eq!(rt; owned, same);
-    let again = owned.into_owned(rt.alloc())?;
-    assert_eq!(rt; again.as_str(), "1.0");
-    Ok(())
 }

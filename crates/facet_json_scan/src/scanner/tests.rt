@@ -199,6 +199,54 @@ fn comments_go_on(rt: HostRuntime) {
 }
 
 #[test]
+fn white_space_around_a_member(rt: HostRuntime) {
+    let buffer = b"  {\n\t\"key\"  :  42  }  ";
+    let mut scanner = Scanner::new();
+    next(
+        &rt,
+        &mut scanner,
+        buffer,
+        token(Token::ObjectStart, 2, 1),
+        3,
+    );
+    next(
+        &rt,
+        &mut scanner,
+        buffer,
+        token(text(6, 9, false), 5, 5),
+        10,
+    );
+    next(&rt, &mut scanner, buffer, token(Token::Colon, 12, 1), 13);
+    next(
+        &rt,
+        &mut scanner,
+        buffer,
+        number(15, 17, NumberHint::Unsigned),
+        17,
+    );
+    next(
+        &rt,
+        &mut scanner,
+        buffer,
+        token(Token::ObjectEnd, 19, 1),
+        20,
+    );
+    next(&rt, &mut scanner, buffer, eof(22), 22);
+}
+
+#[test]
+fn an_escape_in_a_string(rt: HostRuntime) {
+    let mut scanner = Scanner::new();
+    next(
+        &rt,
+        &mut scanner,
+        b"\"hello\\nworld\"",
+        token(text(1, 13, true), 0, 14),
+        14,
+    );
+}
+
+#[test]
 fn punctuation(rt: HostRuntime) {
     let mut scanner = Scanner::new();
     for (at, want) in [
