@@ -1,10 +1,10 @@
 //! The values of numbers.
 
-ghost use Rattle.std.specs.Prelude.{◌≡◌, ◌≤◌, ◌<◌, ◌^◌, pos, neg_ℤ, true, None, Some, length, slice_range, IsUtf8, IfErr, MatchOption, MatchResult};
+ghost use Rattle.std.specs.Prelude.{◌≡◌, ◌≤◌, ◌<◌, ◌^◌, pos, neg_ℤ, true, false, None, Some, length, slice_range, IsUtf8, IfOk, IfErr, IfSome, MatchOption, MatchResult};
 ghost use Rattle.std.specs.Option.{option_map};
 ghost use Rattle.facet_format.specs.Number.{AreDigits, digits_value, number as spec_number, is_number, float, unsigned_number, negative_number};
 ghost use Rattle.facet_format.specs.Views.{hint_of};
-ghost use Rattle.facet_json_scan.specs.NumberViews.{number_of, number_refusal};
+ghost use Rattle.facet_json_scan.specs.NumberViews.{number_of, number_refusal, is_made};
 
 use facet_format::Decimal;
 use facet_format::numeral::number_parts;
@@ -46,6 +46,7 @@ pub fn parse_number<'a>(
     ensures number { let text = slice_range buf.now start end in MatchResult result
         (λ v. spec_number text (hint_of hint) ≡ Some (number_of v))
         (λ e. spec_number text (hint_of hint) ≡ None) }
+    ensures borrowed { IfOk result (λ v. is_made v ≡ false) }
     ensures refusal { IfErr result (λ e. e ≡ number_refusal start end) }
 {
     match number(&buf[start..end], hint) {
@@ -70,6 +71,7 @@ pub fn parse_number_unchecked<'a>(
     ensures number { let text = slice_range buf.now start end in MatchResult result
         (λ v. spec_number text (hint_of hint) ≡ Some (number_of v))
         (λ e. spec_number text (hint_of hint) ≡ None) }
+    ensures borrowed { IfOk result (λ v. is_made v ≡ false) }
     ensures refusal { IfErr result (λ e. e ≡ number_refusal start end) }
 {
     parse_number(buf, start, end, hint)
@@ -77,7 +79,8 @@ pub fn parse_number_unchecked<'a>(
 
 /// The value of a number's text with that hint, or `None`.
 fn number<'a>(text: &'a [u8], hint: NumberHint) -> Option<ParsedNumber<'a>>
-    ensures { option_map number_of result ≡ spec_number text.now (hint_of hint) }
+    ensures number { option_map number_of result ≡ spec_number text.now (hint_of hint) }
+    ensures borrowed { IfSome result (λ v. is_made v ≡ false) }
 {
     let parts = number_parts(text, hint)?;
     match hint {
@@ -90,7 +93,8 @@ fn number<'a>(text: &'a [u8], hint: NumberHint) -> Option<ParsedNumber<'a>>
 /// The value of decimal digits, in 64 bits where it fits, else in 128.
 fn unsigned_number<'a>(digits: &[u8]) -> Option<ParsedNumber<'a>>
     requires { AreDigits digits.now }
-    ensures { option_map number_of result ≡ unsigned_number (digits_value 0 digits.now) }
+    ensures number { option_map number_of result ≡ unsigned_number (digits_value 0 digits.now) }
+    ensures borrowed { IfSome result (λ v. is_made v ≡ false) }
 {
     match parse_unsigned(digits) {
         Some(n) => Some(ParsedNumber::U64(n)),
@@ -101,7 +105,8 @@ fn unsigned_number<'a>(digits: &[u8]) -> Option<ParsedNumber<'a>>
 /// The value of decimal digits behind a minus, in 64 bits where it fits, else in 128.
 fn negative_number<'a>(digits: &[u8]) -> Option<ParsedNumber<'a>>
     requires { AreDigits digits.now }
-    ensures { option_map number_of result ≡ negative_number (digits_value 0 digits.now) }
+    ensures number { option_map number_of result ≡ negative_number (digits_value 0 digits.now) }
+    ensures borrowed { IfSome result (λ v. is_made v ≡ false) }
 {
     match negative(digits) {
         Some(n) => Some(ParsedNumber::I64(n)),
@@ -112,7 +117,8 @@ fn negative_number<'a>(digits: &[u8]) -> Option<ParsedNumber<'a>>
 /// The text of a number with a fraction or an exponent, or `None` where it lacks a digit.
 fn decimal_number<'a>(text: &'a [u8]) -> Option<ParsedNumber<'a>>
     requires is_number { is_number text.now float ≡ true }
-    ensures { option_map number_of result ≡ spec_number text.now float }
+    ensures number { option_map number_of result ≡ spec_number text.now float }
+    ensures borrowed { IfSome result (λ v. is_made v ≡ false) }
 {
     // All bytes of a number are ASCII.
     let text = unsafe { str::from_utf8_unchecked(text) };
