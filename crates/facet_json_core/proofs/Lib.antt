@@ -8,3 +8,11 @@ pub mod DocumentRows
 pub mod Futures
 pub mod Stands
 pub mod WalkRows
+pub mod FaultTexts
+pub mod Scans
+pub mod Unread
+pub mod Turns
+pub mod Comings
+pub mod Readings
+pub mod Colons
+pub mod Advancing

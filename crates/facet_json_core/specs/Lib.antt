@@ -11,3 +11,7 @@ pub mod Walk
 pub mod Future
 pub mod Now
 pub mod Move
+pub mod Views
+pub mod TokenViews
+pub mod ReaderViews
+pub mod StandingViews

@@ -1,6 +1,6 @@
 -- Fronts of documents, and how an input without a document is refused: at the first token with which the front can't go on.
-use Rattle.std.specs.Prelude.{◌≡◌, ℕ, Bool, true, false, cond, List, length, Some, None, IsSome, codes}
-use Rattle.facet_format.specs.Span.{Span}
+use Rattle.std.specs.Prelude.{◌≡◌, ◌<◌, ℕ, Bool, true, false, cond, List, length, Some, None, IsSome, codes}
+use Rattle.facet_format.specs.Span.{Span, stop}
 use Rattle.facet_json_scan.specs.Token.{Kind, Token, Fault}
 use Rattle.facet_json_scan.specs.Token as token
 use Rattle.facet_json_scan.specs.Gap.{plain}
@@ -10,7 +10,7 @@ use Rattle.facet_json_core.specs.Node.{Node, Spells, is_string}
 use Rattle.facet_json_core.specs.Tree.{Tree}
 use Rattle.facet_json_core.specs.Meaning.{Meaning, tree_of, text_of, thin_meaning}
 use Rattle.facet_json_core.specs.Place.{Place, root, before_key, after_key, after_colon, after_member, before_item, after_item, goes_on, expected_at, complaint_at_end, complaint_of_fault, kind_name}
-use Rattle.facet_format.specs.Complaint.{Complaint, unexpected_token, invalid_utf8, invalid_value, Refusal, refusal_at}
+use Rattle.facet_format.specs.Complaint.{Complaint, unexpected_char, unexpected_eof, unexpected_token, invalid_utf8, invalid_value, Refusal, refusal_at}
 
 -- Items, each with its comma, stand in front of the last tokens.
 pub data PassesItems (m : Meaning) : Tokens → Tokens → Type 0 where
@@ -80,6 +80,32 @@ pub record RefusesFrom (buffer : List ℕ) (m : Meaning) (complains : Token → 
   pub rest : Tokens
   pub begins : Begins m place ts here rest
   pub stuck : IsStuck buffer m complains here rest refusal
+
+-- ---- how strings and numbers are refused
+
+-- what is wrong with a number that has no value: a question mark
+abbrev pub number_complaint : Complaint
+number_complaint = unexpected_char 0x3f (codes "valid JSON token")
+
+-- what may be wrong with a string that holds a backslash: a character or an end within an escape, or bytes that are not UTF-8
+pub data IsTextComplaint : Complaint → Type 0 where
+  at_a_character : (c : ℕ) → IsTextComplaint (unexpected_char c (codes "valid JSON token"))
+  at_an_end : (expected : List ℕ) → IsTextComplaint (unexpected_eof expected)
+  not_utf8 : IsTextComplaint invalid_utf8
+
+-- The bytes lie between the quotes of the string that takes the span.
+abbrev pub IsBetweenQuotes : Span → Span → Type 0
+IsBetweenQuotes string bytes = (string.offset < bytes.offset) × (stop bytes < stop string)
+
+-- How a token without a meaning is refused: a number as a question mark over all of it, a string without a backslash as bytes that
+-- are not UTF-8 over all of it, and a string with one for some of the bytes between its quotes.
+pub data Complains (t : Token) (refusal : Refusal) : Type 0 where
+  of_number : is_number t.kind ≡ true → refusal ≡ refusal_at number_complaint t.span → Complains t refusal
+  of_plain_string : (start finish : ℕ) → t.kind ≡ token.string start finish false →
+      refusal ≡ refusal_at invalid_utf8 t.span → Complains t refusal
+  of_escaped_string : (start finish : ℕ) (complaint : Complaint) (bytes : Span) →
+      t.kind ≡ token.string start finish true → IsTextComplaint complaint → IsBetweenQuotes t.span bytes →
+      refusal ≡ refusal_at complaint bytes → Complains t refusal
 
 -- ---- thin documents
 
