@@ -20,12 +20,12 @@ use Rattle.facet_json_core.specs.Meaning.{meaning_of}
 use Rattle.facet_json_core.specs.Place.{Place, kind_name, expected_at, goes_on}
 use Rattle.facet_json_core.specs.Refusal.{needs_meaning, misplaced}
 use Rattle.facet_json_core.specs.Views.{name_text, expected_text}
-use Rattle.facet_json_core.specs.TokenViews.{number_at, number_in, is_made_number, IsReadAs, IsRead, IsUnmade}
+use Rattle.facet_json_core.specs.TokenViews.{number_at, number_in, holds_made, IsReadAs, IsRead, IsUnmade}
 use Rattle.facet_json_core.specs.ReaderViews.{IsNamed, IsNameOf, StopsAt}
 
 -- A number of the buffer is read as itself.
 pub number_read : (buffer : List ℕ) (k : Kind) (kind : TokenKind) (n : Number) → number_at buffer k ≡ Some n →
-    number_in kind ≡ Some n → is_made_number kind ≡ false → IsReadAs buffer k kind
+    number_in kind ≡ Some n → holds_made kind ≡ false → IsReadAs buffer k kind
 number_read buffer k (kinds.U64 m) n e i f = e ∙ sym i
 number_read buffer k (kinds.I64 m) n e i f = e ∙ sym i
 number_read buffer k (kinds.U128 m) n e i f = e ∙ sym i

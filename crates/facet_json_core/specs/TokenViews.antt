@@ -62,9 +62,9 @@ number_in (kinds.Decimal digits) = Some (numbers.decimal (bytes_of digits))
 number_in _ = None
 
 -- whether the number that is read holds a text that is made
-abbrev pub is_made_number : TokenKind → Bool
-is_made_number (kinds.Decimal digits) = is_owned digits
-is_made_number _ = false
+abbrev pub holds_made : TokenKind → Bool
+holds_made (kinds.Decimal digits) = is_owned digits
+holds_made _ = false
 
 -- A string of this kind has this text, which is borrowed where no backslash stands in it.
 pub record IsTextOf (buffer : List ℕ) (kind : Kind) (t : Text) : Type 0 where

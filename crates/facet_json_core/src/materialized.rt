@@ -1,17 +1,17 @@
 //! Tokens with what they stand for.
 
 ghost use Rattle.std.specs.Prelude.{◌≡◌, true, false, List, ℕ, Some, IfOk, IfErr, IfSome, MatchOption, MatchResult, string_bytes};
-ghost use Rattle.facet_format.specs.Event.{is_made as is_made_scalar};
+ghost use Rattle.facet_format.specs.Event.{is_made};
 ghost use Rattle.facet_format.specs.HeldText.{text_of};
 ghost use Rattle.facet_format.specs.Views.{span_of, scalar_value_of};
-ghost use Rattle.facet_json_scan.specs.NumberViews.{number_of, is_made};
+ghost use Rattle.facet_json_scan.specs.NumberViews.{number_of, is_made_number};
 ghost use Rattle.facet_json_scan.specs.Token.{Kind, string};
 ghost use Rattle.facet_json_scan.specs.Views.{kind_of};
 ghost use Rattle.facet_json_core.specs.Meaning.{meaning_of};
 ghost use Rattle.facet_json_core.specs.Place.{kind_name};
 ghost use Rattle.facet_json_core.specs.Walk.{scalar_of};
 ghost use Rattle.facet_json_core.specs.Views.{refused_of, name_text};
-ghost use Rattle.facet_json_core.specs.TokenViews.{number_in, is_made_number, CanBeRead, IsContent, IsReadAs, IsRead, IsTextOf, IsUnmade, IsMeaningless};
+ghost use Rattle.facet_json_core.specs.TokenViews.{number_in, holds_made, CanBeRead, IsContent, IsReadAs, IsRead, IsTextOf, IsUnmade, IsMeaningless};
 
 use crate::refusal::{Name, Refused, Why};
 use facet_format::{Decimal, ScalarValue, Span};
@@ -69,7 +69,7 @@ pub struct MaterializedToken<'a> {
 }
 
 impl<'a> From<ParsedNumber<'a>> for TokenKind<'a> {
-    ghost from_gives = { λ number kind. (number_in kind ≡ Some (number_of number)) × (is_made_number kind ≡ is_made number) };
+    ghost from_gives = { λ number kind. (number_in kind ≡ Some (number_of number)) × (holds_made kind ≡ is_made_number number) };
 
     fn from(number: ParsedNumber<'a>) -> Self {
         match number {
@@ -84,7 +84,7 @@ impl<'a> From<ParsedNumber<'a>> for TokenKind<'a> {
 
 impl<'a> TokenKind<'a> {
     /// How the kind is called in a refusal.
-    pub fn name(&self) -> Name
+    pub(crate) fn name(&self) -> Name
         ensures { (buffer : List ℕ) (kind : Kind) → IsReadAs buffer kind self.now → name_text result ≡ kind_name buffer kind }
     {
         match self {
@@ -109,10 +109,10 @@ impl<'a> TokenKind<'a> {
 
     /// The scalar. Whole numbers past 64 bits become the text of their digits, which alone takes memory; what is no scalar
     /// becomes null.
-    pub fn into_scalar(self, alloc: Global) -> Result<ScalarValue<'a>, AllocError>
+    pub(crate) fn into_scalar(self, alloc: Global) -> Result<ScalarValue<'a>, AllocError>
         ensures { (buffer : List ℕ) (kind : Kind) → IsReadAs buffer kind self.entry → MatchResult result
             (λ v. scalar_value_of v ≡ scalar_of kind (meaning_of buffer kind))
-            (λ _. is_made_scalar (scalar_of kind (meaning_of buffer kind)) ≡ true) }
+            (λ _. is_made (scalar_of kind (meaning_of buffer kind)) ≡ true) }
     {
         match self {
             TokenKind::True => Ok(ScalarValue::Bool(true)),

@@ -16,9 +16,12 @@ number_of (parsed.I128 n) = i128 n
 number_of (parsed.Decimal text) = decimal (bytes_of text)
 
 -- the number holds a text that is made
-abbrev pub is_made : ParsedNumber → Bool
-is_made (parsed.Decimal text) = is_owned text
-is_made _ = false
+abbrev pub is_made_number : ParsedNumber → Bool
+is_made_number (parsed.U64 n) = false
+is_made_number (parsed.I64 n) = false
+is_made_number (parsed.U128 n) = false
+is_made_number (parsed.I128 n) = false
+is_made_number (parsed.Decimal text) = is_owned text
 
 -- how text that isn't a number is refused: by a question mark over all of it
 abbrev pub number_refusal : ℕ → ℕ → ScanError

@@ -11,9 +11,9 @@ ghost use Rattle.facet_json_scan.specs.Decoders.{has_backslash, IsItsText, IsWit
 mod escape;
 mod unchecked;
 
-use facet_format::Span;
 use crate::token::{ScanError, ScanErrorKind};
 use escape::escape_at;
+use facet_format::Span;
 use std::alloc::{AllocError, Global};
 use std::borrow::CowStr;
 use std::str;

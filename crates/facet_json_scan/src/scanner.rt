@@ -19,10 +19,10 @@ ghost use Rattle.facet_json_scan.specs.Views.{mode_of, kind_of};
 ghost use Rattle.facet_json_scan.specs.ScannerViews.{state_of, pending_of, answered, span_answered, stands_behind, stands_last, FoundHere, FoundFrom, FoundWithin, PieceHere, PieceWithin};
 
 use crate::mode::Mode;
-use facet_format::numeral::{digits_end, exponent_end, fraction_end, minus_end};
 use crate::plain_cut::{common_len, cut, cut_number, cut_token, cut_word, line_end, token_at};
-use facet_format::Span;
 use crate::token::{ScanResult, SpannedToken, Token};
+use facet_format::Span;
+use facet_format::numeral::{digits_end, exponent_end, fraction_end, minus_end};
 use std::marker::Model;
 
 /// How an open token or comment goes on.
