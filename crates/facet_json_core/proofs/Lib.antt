@@ -21,3 +21,11 @@ pub mod PointLaws
 pub mod BegunBegins
 pub mod Borrowed
 pub mod Halts
+pub mod FaultTexts
+pub mod Scans
+pub mod Unread
+pub mod Turns
+pub mod Comings
+pub mod Readings
+pub mod Colons
+pub mod Advancing

@@ -15,3 +15,7 @@ pub mod Begun
 pub mod Sound
 pub mod Alone
 pub mod EventLaws
+pub mod Views
+pub mod TokenViews
+pub mod ReaderViews
+pub mod StandingViews

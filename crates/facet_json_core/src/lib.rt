@@ -1,4 +1,12 @@
 //! JSON documents (RFC 8259, with lenient readings, and JSONC comments), proved: what they are, and how they are read.
 #![tactic(auto)]
 
+mod contexts;
 pub mod laws;
+mod materialized;
+mod place;
+mod reader;
+mod refusal;
+mod standing;
+
+pub use materialized::{MaterializedToken, TokenKind};
