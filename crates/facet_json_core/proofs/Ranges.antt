@@ -8,13 +8,13 @@ use Rattle.facet_format.specs.Span.{Span, stop}
 use Rattle.facet_json_scan.specs.Gap.{Mode}
 use Rattle.facet_json_scan.specs.Token.{Token}
 use Rattle.facet_json_scan.specs.Tokens.{Tokens, ended, refused, next, tokens_from}
-use Rattle.facet_json_core.specs.Future.{Future, gives, finished, stuck, Stage, within, over, Turn, stops, passes, says, says_scalar, names, turn, reads, reads_colon}
+use Rattle.facet_json_core.specs.Future.{Future, stuck, Stage, within, over, Turn, stops, passes, says, says_scalar, names, turn, reads, reads_colon}
 use Rattle.facet_json_core.specs.Meaning.{Meaning, meaning}
 use Rattle.facet_json_core.specs.Place.{Place, is_colon}
 use Rattle.facet_json_core.specs.Refusal.{at_end, at_fault, meaningless, misplaced, Complains, of_number, of_plain_string, of_escaped_string}
 use Rattle.facet_json_core.specs.ReaderViews.{stage_of, coming, StopsAt, IsRefusedBefore, without_memory, at_a_stop}
 use Rattle.facet_json_core.proofs.Futures.{follows, reads-turn}
-use Rattle.facet_json_core.proofs.Suffixes.{AreWithin, at_the_end, at_a_fault, at_a_token, past_within}
+use Rattle.facet_json_core.proofs.Suffixes.{AreWithin, at_a_fault, at_a_token, past_within}
 
 -- the tokens at which nothing goes on
 abbrev stuck_at : Tokens → Future → Tokens
