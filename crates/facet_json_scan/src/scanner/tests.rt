@@ -3,9 +3,9 @@
 use super::Scanner;
 use crate::mode::Mode;
 use crate::plain_cut::cut;
+use crate::token::{ScanError, ScanErrorKind, ScanResult, SpannedToken, Token};
 use facet_format::Span;
 use facet_format::numeral::NumberHint;
-use crate::token::{ScanError, ScanErrorKind, ScanResult, SpannedToken, Token};
 use std::process::Abort;
 
 fn token(token: Token, offset: usize, len: usize) -> ScanResult {
