@@ -1,6 +1,5 @@
 -- The token that is next where a reader stands, and answers that are also those of a reader that stood in front of separators.
-use Rattle.std.proofs.Common.{◌≡◌, ◌≤◌, ◌∙◌, ℕ, false, List, length, Option, Some, None, Ok, Err, refl, sym, ap, subst, arith}
-use Rattle.std.proofs.lemmas.Option.{same_Some}
+use Rattle.std.proofs.Common.{◌≡◌, ◌≤◌, ◌∙◌, ℕ, false, List, Some, refl, sym, ap, subst, arith}
 use Rattle.facet_json_scan.specs.declared.token.Token.{Token as RustToken}
 use Rattle.facet_json_scan.specs.declared.token.Token.TheVariants as code
 use Rattle.facet_json_scan.specs.declared.token.SpannedToken.{SpannedToken}
@@ -12,13 +11,13 @@ use Rattle.facet_json_core.specs.declared.reader.Reader.{Reader}
 use Rattle.facet_json_core.specs.declared.reader.Stage.TheVariants as stages
 use Rattle.facet_format.specs.Complaint.{Refusal}
 use Rattle.facet_format.specs.Event.{ContainerKind}
-use Rattle.facet_format.specs.Span.{Span, span_at}
+use Rattle.facet_format.specs.Span.{Span}
 use Rattle.facet_format.specs.Views.{span_of}
 use Rattle.facet_json_scan.specs.Gap.{Mode}
 use Rattle.facet_json_scan.specs.Token.{Kind}
 use Rattle.facet_json_scan.specs.Tokens.{Tokens, ended, next, tokens_from}
 use Rattle.facet_json_scan.specs.Views.{kind_of}
-use Rattle.facet_json_core.specs.Future.{Future, finished, within, over, stops, reads}
+use Rattle.facet_json_core.specs.Future.{Future, finished, over, stops, reads}
 use Rattle.facet_json_core.specs.Meaning.{Meaning, meaning}
 use Rattle.facet_json_core.specs.Place.{goes_on}
 use Rattle.facet_json_core.specs.Views.{place_of, turn_of, turn_by}

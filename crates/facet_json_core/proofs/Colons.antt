@@ -5,13 +5,12 @@ use Rattle.facet_json_scan.specs.declared.token.Token.{Token as RustToken}
 use Rattle.facet_json_scan.specs.declared.token.Token.TheVariants as code
 use Rattle.facet_json_scan.specs.declared.token.SpannedToken.{SpannedToken}
 use Rattle.facet_format.specs.Complaint.{Refusal, refusal_at, unexpected_token}
-use Rattle.facet_format.specs.Span.{Span, span_at}
+use Rattle.facet_format.specs.Span.{span_at}
 use Rattle.facet_format.specs.Views.{span_of}
 use Rattle.std.specs.Prelude.{codes}
 use Rattle.facet_json_scan.specs.Cut.{cut}
 use Rattle.facet_json_scan.specs.Gap.{Mode}
 use Rattle.facet_json_scan.specs.Token.{Kind, colon}
-use Rattle.facet_json_scan.specs.Token as token
 use Rattle.facet_json_scan.specs.Tokens.{Tokens, next, tokens_from}
 use Rattle.facet_json_scan.specs.Views.{kind_of, scanned}
 use Rattle.facet_json_core.specs.Place.{after_key, is_colon}

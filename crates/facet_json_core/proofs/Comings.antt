@@ -1,9 +1,7 @@
 -- What comes where a reader stands at a token whose turn is known, and how it is refused there.
-use Rattle.std.proofs.Common.{◌≡◌, ◌∙◌, ℕ, ◌≤◌, ◌<◌, ◌&&◌, Bool, true, false, List, Option, Some, None, Ok, Err, length, refl, sym, ap, ap₂, subst, inl, inr, arith}
+use Rattle.std.proofs.Common.{◌≡◌, ◌∙◌, ℕ, ◌≤◌, ◌<◌, ◌&&◌, Bool, true, false, List, Option, Some, None, length, refl, sym, ap, ap₂, subst, inl, inr, arith}
 use Rattle.std.specs.Prelude.{◌⊎◌, IsSome, is_none, slice_range}
 use Rattle.std.specs.Option.{option_map}
-use Rattle.std.specs.declared.alloc.Global.{Global}
-use Rattle.std.specs.declared.borrow.CowStr.{CowStr}
 use Rattle.facet_format.specs.declared.span.Span.{Span as RustSpan}
 use Rattle.facet_format.specs.declared.event.ContainerKind.{ContainerKind as RustContainerKind}
 use Rattle.facet_format.specs.declared.event.ContainerKind.TheVariants as containers
@@ -14,25 +12,23 @@ use Rattle.facet_json_core.specs.declared.reader.Held.{Held}
 use Rattle.facet_json_core.specs.declared.reader.Reader.{Reader}
 use Rattle.facet_format.specs.Complaint.{Refusal}
 use Rattle.facet_format.specs.Cursor.{no_memory_at}
-use Rattle.facet_format.specs.Event.{ContainerKind, EventKind, Event, Passed, Scalar, Text, scalar, field_key, takes_memory, is_made, is_owned, bytes_of}
-use Rattle.facet_format.specs.HeldText.{text_of}
+use Rattle.facet_format.specs.Event.{ContainerKind, EventKind, Event, Passed, Scalar, Text, scalar, field_key, takes_memory, is_made, is_owned}
 use Rattle.facet_format.specs.Span.{Span, stop}
 use Rattle.facet_format.specs.Views.{span_of, event_of}
 use Rattle.facet_json_scan.specs.Decode.{decoded}
 use Rattle.facet_json_scan.specs.Gap.{Mode}
 use Rattle.facet_json_scan.specs.Token.{Kind, Token, colon}
 use Rattle.facet_json_scan.specs.Token as token
-use Rattle.facet_json_scan.specs.Tokens.{Tokens, next, tokens_from}
-use Rattle.facet_json_scan.specs.Views.{kind_of}
+use Rattle.facet_json_scan.specs.Tokens.{Tokens, tokens_from}
 use Rattle.facet_json_core.specs.Future.{Future, gives, stuck, Stage, within, after_value, Turn, passes, says, says_scalar, names, place_turn, turn, unless_meaningless, reads, reads_colon}
 use Rattle.facet_json_core.specs.Meaning.{meaning, meaning_of, text_of as text_in}
 use Rattle.facet_json_core.specs.Place.{Place, after_key, after_colon}
 use Rattle.facet_json_core.specs.Refusal.{needs_meaning, meaningless, Complains}
 use Rattle.facet_json_core.specs.Tree.{Tree}
 use Rattle.facet_json_core.specs.Tree as tree
-use Rattle.facet_json_core.specs.Walk.{event_at, scalar_event, key_event, scalar_of, name_of, text_by}
+use Rattle.facet_json_core.specs.Walk.{event_at, scalar_event, key_event, scalar_of, name_of}
 use Rattle.facet_json_core.specs.Views.{turn_of, opening}
-use Rattle.facet_json_core.specs.TokenViews.{is_escaped, IsTextOf, IsUnmade, IsMeaningless}
+use Rattle.facet_json_core.specs.TokenViews.{IsTextOf, IsUnmade, IsMeaningless}
 use Rattle.facet_json_core.specs.ReaderViews.{stage_of, passed_of, coming, IsTurn, StopsAt, IsUnmadeScalar, IsColon, GivesHeld, RefusesNext, IsRefusedBefore, without_memory, at_a_stop}
 use Rattle.facet_json_core.proofs.Futures.{follows, reads-turn, turn-plain}
 use Rattle.facet_json_core.proofs.Turns.{says-plain, passes-plain, stuck-reads, stuck-reads_colon}

@@ -5,8 +5,8 @@ use Rattle.std.proofs.lemmas.Bool.{cond_both}
 use Rattle.facet_format.specs.Bytes.{star}
 use Rattle.facet_format.specs.Number.{Hint, parts, parts_len, parts_hint, is_bare}
 use Rattle.facet_json_scan.specs.Gap.{Mode, plain, jsonc}
-use Rattle.facet_json_scan.specs.Token.{Kind, Fault, FaultKind, unexpected_char, unexpected_eof, in_literal, in_block_comment}
-use Rattle.facet_json_scan.specs.Cut.{Cut, nothing_left, token, fault, Start, punctuation, letter, opens_text, opens_number, opens_comment, opens_nothing, start_of, token_at, fault_at, cut_word, common_len, cut_text, content_len, cut_bare_minus, cut_number, cut_slash, cut_by, cut_here, past_gap, cut}
+use Rattle.facet_json_scan.specs.Token.{Fault, FaultKind, unexpected_char, unexpected_eof, in_literal}
+use Rattle.facet_json_scan.specs.Cut.{Cut, nothing_left, token, fault, Start, punctuation, letter, opens_text, opens_number, opens_comment, opens_nothing, start_of, fault_at, common_len, cut_text, content_len, cut_bare_minus, cut_number, cut_slash, cut_by, cut_here, past_gap, cut}
 use Rattle.facet_json_core.specs.Views.{IsCutText, a_string, a_number, a_literal, a_comment}
 
 -- The fault says one of the texts, or a character.

@@ -1,10 +1,8 @@
 -- What a token that is read says of its kind: a meaning where it needs one, and a name.
-use Rattle.std.proofs.Common.{◌≡◌, ◌∙◌, ℕ, Bool, true, false, List, Option, Some, None, Ok, refl, sym}
+use Rattle.std.proofs.Common.{◌≡◌, ◌∙◌, ℕ, true, false, List, Option, Some, None, Ok, refl, sym}
 use Rattle.std.specs.Prelude.{IsSome, IfSome}
 use Rattle.std.specs.declared.alloc.Global.{Global}
 use Rattle.std.specs.declared.borrow.CowStr.{CowStr}
-use Rattle.facet_json_scan.specs.declared.token.Token.{Token as RustToken}
-use Rattle.facet_json_scan.specs.declared.token.Token.TheVariants as code
 use Rattle.facet_json_core.specs.declared.materialized.TokenKind.{TokenKind}
 use Rattle.facet_json_core.specs.declared.materialized.TokenKind.TheVariants as kinds
 use Rattle.facet_json_core.specs.declared.materialized.MaterializedToken.{MaterializedToken}

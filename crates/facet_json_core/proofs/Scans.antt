@@ -1,5 +1,5 @@
 -- What an answer of the plain cut in code says of the tokens that are left, and of its own slices.
-use Rattle.std.proofs.Common.{◌≡◌, ℕ, ◌+◌, ◌≤◌, ◌<◌, ◌∙◌, List, length, Some, None, Ok, Err, refl, sym, ap, subst, arith}
+use Rattle.std.proofs.Common.{◌≡◌, ℕ, ◌≤◌, ◌<◌, List, length, Some, Ok, Err, refl, sym, subst, arith}
 use Rattle.std.proofs.lemmas.Option.{same_Some}
 use Rattle.facet_format.specs.declared.span.Span.{Span as RustSpan}
 use Rattle.facet_json_scan.specs.declared.token.Token.{Token as RustToken}
@@ -9,14 +9,14 @@ use Rattle.facet_json_scan.specs.declared.token.ScanErrorKind.{ScanErrorKind}
 use Rattle.facet_json_scan.specs.declared.token.ScanErrorKind.TheVariants as scan
 use Rattle.facet_json_scan.specs.declared.token.ScanError.{ScanError}
 use Rattle.facet_format.specs.Complaint.{Refusal, refusal_at}
-use Rattle.facet_format.specs.Span.{Span, stop}
+use Rattle.facet_format.specs.Span.{stop}
 use Rattle.facet_format.specs.Views.{span_of, hint_of}
 use Rattle.facet_json_scan.specs.Gap.{Mode}
 use Rattle.facet_json_scan.specs.Token.{Kind, Token, Fault}
 use Rattle.facet_json_scan.specs.Token as token
 use Rattle.facet_json_scan.specs.Cut.{Cut, nothing_left, token as cut_token, fault, cut}
-use Rattle.facet_json_scan.specs.Tokens.{Tokens, ended, refused, next, tokens_from}
-use Rattle.facet_json_scan.specs.Views.{kind_of, token_answer, fault_answer, scanned, scan_complaint, scan_refusal}
+use Rattle.facet_json_scan.specs.Tokens.{ended, next, tokens_from}
+use Rattle.facet_json_scan.specs.Views.{kind_of, token_answer, fault_answer, scanned, scan_complaint}
 use Rattle.facet_json_scan.proofs.CutBounds.{TokenFits, KindFits, StringFits, NumberFits, cut-token_fits}
 use Rattle.facet_json_scan.proofs.TokensSteps.{tokens_from-token, tokens_from-fault, tokens_from-nothing}
 use Rattle.facet_json_core.specs.Place.{Place, complaint_of_fault}

@@ -89,7 +89,8 @@ cut_within buffer position nothing_left others f w = at_the_end
 cut_within buffer position (token t) others f w = at_a_token t (others t) (record { within = f.within }) (w t)
 cut_within buffer position (fault x) others f w = at_a_fault x (record { within = f.within })
 
-past_within : (buffer : List ℕ) (mode : Mode) (inside at : ℕ) (left : List ℕ) → at + length left ≤ length buffer → AreWithin buffer (tokens_past buffer mode inside at left)
+-- The tokens from a place on are within the buffer.
+pub past_within : (buffer : List ℕ) (mode : Mode) (inside at : ℕ) (left : List ℕ) → at + length left ≤ length buffer → AreWithin buffer (tokens_past buffer mode inside at left)
 unfolding tokens_past
 past_within buffer mode inside at [] h = at_the_end
 past_within buffer mode (suc inside) at (b ∷ left) h = past_within buffer mode inside (suc at) left (omega arith)

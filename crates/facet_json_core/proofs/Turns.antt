@@ -1,20 +1,18 @@
 -- What comes where a token stands whose turn is known, and where none may stand.
-use Rattle.std.proofs.Common.{◌≡◌, ◌∙◌, ℕ, Bool, true, false, List, Option, Some, None, refl, sym, ap, subst}
-use Rattle.std.specs.Prelude.{IsSome}
+use Rattle.std.proofs.Common.{◌≡◌, ℕ, Bool, true, false, List, refl}
 use Rattle.facet_format.specs.Complaint.{Refusal}
 use Rattle.facet_format.specs.Event.{ContainerKind, EventKind}
 use Rattle.facet_json_core.specs.declared.place.Place.{Place as RustPlace}
 use Rattle.facet_json_core.specs.declared.place.Place.TheVariants as places
 use Rattle.facet_json_scan.specs.Token.{Kind, Token}
 use Rattle.facet_json_scan.specs.Token as token
-use Rattle.facet_json_scan.specs.Tokens.{Tokens, ended, refused, next}
-use Rattle.facet_json_core.specs.Future.{Future, gives, finished, stuck, Stage, within, over, Turn, stops, passes, says, says_scalar, names, value_turn, key_turn, member_turn, first_item_turn, item_turn, place_turn, turn, unless_meaningless, is_meaningless, reads, reads_colon}
+use Rattle.facet_json_scan.specs.Tokens.{Tokens}
+use Rattle.facet_json_core.specs.Future.{stuck, Stage, within, Turn, stops, passes, says, value_turn, key_turn, member_turn, first_item_turn, item_turn, place_turn, turn, unless_meaningless, is_meaningless, reads, reads_colon}
 use Rattle.facet_json_core.specs.Meaning.{Meaning}
 use Rattle.facet_json_core.specs.Place.{Place, root, before_key, after_key, after_colon, after_member, before_item, after_item, begins_value, begins_key, goes_on_member, begins_item, goes_on_item, goes_on, is_colon}
 use Rattle.facet_json_core.specs.Refusal.{needs_meaning, IsStuck, at_end, at_fault, meaningless, misplaced}
-use Rattle.facet_json_core.specs.Tree.{Tree}
 use Rattle.facet_json_core.specs.Views.{place_of}
-use Rattle.facet_json_core.proofs.Futures.{reads-turn, turn-plain}
+use Rattle.facet_json_core.proofs.Futures.{reads-turn}
 
 -- ---- turns without a meaning
 

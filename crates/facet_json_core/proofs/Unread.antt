@@ -1,5 +1,5 @@
 -- How a string or number without a meaning is refused where it is read.
-use Rattle.std.proofs.Common.{◌≡◌, ℕ, ◌+◌, ◌-◌, Bool, true, false, List, Some, None, refl, sym, ap, arith}
+use Rattle.std.proofs.Common.{◌≡◌, ℕ, ◌-◌, Bool, true, false, List, Some, None, refl, sym, ap, arith}
 use Rattle.std.specs.Prelude.{slice_range}
 use Rattle.std.specs.Option.{option_map}
 use Rattle.facet_format.specs.declared.span.Span.{Span as RustSpan}
@@ -7,7 +7,6 @@ use Rattle.facet_json_scan.specs.declared.token.ScanError.{ScanError}
 use Rattle.facet_format.specs.Complaint.{Refusal, refusal_at, invalid_utf8}
 use Rattle.facet_format.specs.Number.{Hint}
 use Rattle.facet_format.specs.Number as numbers
-use Rattle.facet_format.specs.Span.{Span}
 use Rattle.facet_format.specs.Views.{span_of}
 use Rattle.facet_json_scan.specs.Decode.{decoded}
 use Rattle.facet_json_scan.specs.Views.{IsItsText, IsWithin, number_refusal}

@@ -1,6 +1,5 @@
 -- What the reader of events and its answers stand for in the definitions.
 use Rattle.std.specs.Prelude.{◌≡◌, ◌≤◌, ◌<◌, ◌⊎◌, ℕ, true, List, Option, Some, None, Result, Ok, Err, IsSome, length}
-use Rattle.std.specs.Option.{option_map}
 use Rattle.std.specs.declared.alloc.Global.{Global}
 use Rattle.std.specs.declared.borrow.CowStr.{CowStr}
 use Rattle.facet_format.specs.declared.span.Span.{Span as RustSpan}
@@ -15,12 +14,12 @@ use Rattle.facet_json_core.specs.declared.reader.Held.{Held}
 use Rattle.facet_json_core.specs.declared.reader.Reader.{Reader}
 use Rattle.facet_format.specs.Complaint.{Refusal}
 use Rattle.facet_format.specs.Cursor.{no_memory_at}
-use Rattle.facet_format.specs.Event.{Passed, takes_memory, is_made, bytes_of}
+use Rattle.facet_format.specs.Event.{Passed, takes_memory, is_made}
 use Rattle.facet_format.specs.HeldText.{text_of}
 use Rattle.facet_format.specs.Span.{Span, stop}
 use Rattle.facet_format.specs.Views.{span_of, event_of, scalar_value_of}
 use Rattle.facet_json_scan.specs.Gap.{Mode}
-use Rattle.facet_json_scan.specs.Token.{Kind, Token, colon}
+use Rattle.facet_json_scan.specs.Token.{Kind, colon}
 use Rattle.facet_json_scan.specs.Tokens.{Tokens, next, tokens_from}
 use Rattle.facet_json_scan.specs.Views.{kind_of}
 use Rattle.facet_json_core.specs.Future.{Future, gives, finished, stuck, Stage, within, over, place_turn, reads}
@@ -29,7 +28,7 @@ use Rattle.facet_json_core.specs.Place.{Place, after_key, kind_name}
 use Rattle.facet_json_core.specs.Refusal.{needs_meaning, IsStuck, Complains}
 use Rattle.facet_json_core.specs.Walk.{scalar_of}
 use Rattle.facet_json_core.specs.Views.{place_of, turn_of, name_text, refused_of}
-use Rattle.facet_json_core.specs.TokenViews.{CanBeRead, IsTextOf, IsUnmade, IsMeaningless}
+use Rattle.facet_json_core.specs.TokenViews.{IsTextOf, IsUnmade, IsMeaningless}
 
 -- ---- values
 

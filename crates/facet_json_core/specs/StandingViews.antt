@@ -1,5 +1,5 @@
 -- What a standing of the code stands for in the definitions.
-use Rattle.std.specs.Prelude.{◌≡◌, ℕ, List, Option, Some, None, Result, Ok, Err}
+use Rattle.std.specs.Prelude.{◌≡◌, ℕ, List, None, Result, Ok, Err}
 use Rattle.std.specs.Option.{option_map}
 use Rattle.facet_json_core.specs.declared.refusal.Refused.{Refused}
 use Rattle.facet_json_core.specs.declared.standing.Standing.{Standing as RustStanding}

@@ -1,7 +1,5 @@
 -- What the types of the code stand for in the definitions. The one file of the definitions that names types of the code.
-use Rattle.std.specs.Prelude.{◌≡◌, ◌⊎◌, ◌+◌, ◌≤◌, ◌==◌, ℕ, Bool, true, false, List, [], ◌∷◌, Option, Some, None, Result, Ok, Err, IsSome, codes, length, slice_range}
-use Rattle.std.specs.List.{list_any}
-use Rattle.facet_format.specs.declared.span.Span.{Span as RustSpan}
+use Rattle.std.specs.Prelude.{◌≡◌, ℕ, Bool, true, false, List, [], ◌∷◌, Option, Some, None, codes}
 use Rattle.facet_format.specs.declared.event.ContainerKind.{ContainerKind as RustContainerKind}
 use Rattle.facet_format.specs.declared.event.ContainerKind.TheVariants as containers
 use Rattle.facet_json_scan.specs.declared.token.Token.{Token as RustToken}

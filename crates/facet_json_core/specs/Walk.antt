@@ -1,6 +1,5 @@
 -- The walk of a value: its events, in the order in which its tokens stand (RFC 8259, sections 3 to 7).
 use Rattle.std.specs.Prelude.{ℕ, false, List, [], ◌∷◌, ◌++◌, Option, Some, None}
-use Rattle.facet_format.specs.Span.{Span}
 use Rattle.facet_json_scan.specs.Token.{Kind, Token}
 use Rattle.facet_json_scan.specs.Token as token
 use Rattle.facet_json_core.specs.Node.{Node, scalar, array, object, Nodes, no_nodes, item, Members, no_members, member}

@@ -126,6 +126,8 @@ impl Reader {
         requires within { self.old.position ≤ length input.now }
         ensures within { self.new.position ≤ length input.now }
         ensures forward { self.old.position ≤ self.new.position }
+        ensures range { IfErr result (λ e. stop (span_of last) ≤ length input.now
+            → stop (span_of e.span) ≤ length input.now) }
         ensures read { Advances input.now (mode_of mode) self.old self.new (span_of last) result }
     {
         loop {

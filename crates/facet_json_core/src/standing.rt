@@ -1,6 +1,7 @@
 //! Where a parser stands on a document: what a save keeps.
 
-ghost use Rattle.std.specs.Prelude.{◌≡◌, ◌≤◌, length, IfOk};
+ghost use Rattle.std.specs.Prelude.{◌≡◌, ◌≤◌, length, IfOk, IfErr};
+ghost use Rattle.facet_format.specs.Span.{stop};
 ghost use Rattle.facet_format.specs.Views.{span_of};
 ghost use Rattle.facet_json_scan.specs.Views.{mode_of};
 ghost use Rattle.facet_json_core.specs.Now.{first_standing};
@@ -63,6 +64,8 @@ impl<'de> Standing<'de> {
         ensures forward { self.old.reader.position ≤ self.new.reader.position }
         ensures shown { self.new.shown ≡ self.old.shown }
         ensures last { self.new.last ≡ self.old.last }
+        ensures range { IfErr result (λ e. stop (span_of self.old.last) ≤ length input.now
+            → stop (span_of e.span) ≤ length input.now) }
         ensures filled { Fills input.now (mode_of mode) self.old self.new result }
     {
         if self.held.is_some() {

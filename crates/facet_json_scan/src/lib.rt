@@ -12,8 +12,9 @@ mod scanner;
 mod token;
 
 pub use decode::{
-    DecodeError, check_string, decode_string, decode_string_borrowed, decode_string_borrowed_unchecked,
-    decode_string_owned, decode_string_owned_unchecked, decode_string_unchecked,
+    DecodeError, check_string, decode_string, decode_string_borrowed,
+    decode_string_borrowed_unchecked, decode_string_owned, decode_string_owned_unchecked,
+    decode_string_unchecked,
 };
 pub use facet_format::numeral::NumberHint;
 pub use mode::Mode;

@@ -1,4 +1,4 @@
-use Rattle.std.proofs.Common.{◌∙◌, refl}
+use Rattle.std.proofs.Common.{◌∙◌}
 use Rattle.facet_format.specs.Views.{hint_of}
 use Rattle.facet_json_scan.specs.Token.{number}
 use Rattle.facet_json_core.proofs.Readings.{number_read}

@@ -9,6 +9,7 @@ use Rattle.facet_json_core.specs.Views.{place_of}
 use Rattle.facet_json_core.specs.ReaderViews.{stage_of}
 use Rattle.facet_json_core.proofs.Advancing.{over-finished, is-turn, stopped-refused, earlier-given, earlier-refused}
 use Rattle.facet_json_core.proofs.Comings.{passes-comes, stops-refused}
+use Rattle.facet_json_core.proofs.Ranges.{refusal-within}
 use Rattle.facet_json_core.proofs.Scans.{is_cut, cut-readable, fault-stops}
 use Rattle.facet_json_core.proofs.reader.Reader.advance.Goals as goal
 
@@ -26,6 +27,16 @@ returns-in_err-token-clause-read c =
     let here = stops-refused c.args.input.now m r (span_of c.args.last) (place_of c.in-Within.place) _ _ (ap stage_of c.in-Within.is) refl stops in
     rw p.1 (earlier-refused c.args.input.now m c.args.self.now r r (span_of c.args.last) _ c.loop-self.invariant.same here)
 
+pub returns-in_err-token-clause-range : goal.returns-in_err-token-clause-range
+returns-in_err-token-clause-range c =
+    let r = c.loop-self.self in
+    let m = mode_of c.args.mode in
+    let p = err_from_is_err_and c.from_residual.result c.from_residual.ensures.1 in
+    let stops = fault-stops c.args.input.now r.position m c.in_err-token.field-0.0 (place_of c.in-Within.place) _ c.in_err-token.ensures.answer p.2 in
+    let here = stops-refused c.args.input.now m r (span_of c.args.last) (place_of c.in-Within.place) _ _ (ap stage_of c.in-Within.is) refl stops in
+    let front = earlier-refused c.args.input.now m c.args.self.now r r (span_of c.args.last) _ c.loop-self.invariant.same here in
+    rw p.1 (λ l. refusal-within c.args.input.now m c.args.self.now (span_of c.args.last) _ c.requires.within l front.refused)
+
 pub stopped-requires : goal.stopped-requires
 stopped-requires c =
     cut-readable c.args.input.now c.loop-self.self.position (mode_of c.args.mode) c.in_ok-token.token c.loop-self.invariant.within c.in_ok-token.ensures.answer
@@ -37,6 +48,15 @@ returns-in-Stops-clause-read c =
     let found = is_cut c.args.input.now r.position m c.in_ok-token.token c.loop-self.invariant.within c.in_ok-token.ensures.answer in
     let here = stopped-refused c.args.input.now m r c.in_ok-token.token c.in-Within.place (span_of c.args.last) _ c.in-Within.is found (c.in-Stops.ensures.turn r.contexts) (λ e. c.stopped.ensures.end e (c.in_ok-token.ensures.end e)) c.stopped.ensures.token in
     earlier-refused c.args.input.now m c.args.self.now r r (span_of c.args.last) _ c.loop-self.invariant.same here
+
+pub returns-in-Stops-clause-range : goal.returns-in-Stops-clause-range
+returns-in-Stops-clause-range c =
+    let r = c.loop-self.self in
+    let m = mode_of c.args.mode in
+    let found = is_cut c.args.input.now r.position m c.in_ok-token.token c.loop-self.invariant.within c.in_ok-token.ensures.answer in
+    let here = stopped-refused c.args.input.now m r c.in_ok-token.token c.in-Within.place (span_of c.args.last) _ c.in-Within.is found (c.in-Stops.ensures.turn r.contexts) (λ e. c.stopped.ensures.end e (c.in_ok-token.ensures.end e)) c.stopped.ensures.token in
+    let front = earlier-refused c.args.input.now m c.args.self.now r r (span_of c.args.last) _ c.loop-self.invariant.same here in
+    λ l. refusal-within c.args.input.now m c.args.self.now (span_of c.args.last) _ c.requires.within l front.refused
 
 pub end-self-requires : goal.end-self-requires
 end-self-requires c =
@@ -114,10 +134,12 @@ returns-in_err-open-in-Opens c =
     let t = is-turn c.args.input.now m r c.in_ok-token.token c.in-Within.place (turns.Opens c.in-Opens.kind) c.in-Within.is found (c.in-Opens.ensures.turn r.contexts) (λ e. cc) in
     let p = err_from_is_err_and c.from_residual-in_err-open-in-Opens.result c.from_residual-in_err-open-in-Opens.ensures.1 in
     let x = c.in_err-open-in-Opens.ensures c.args.input.now m t in
+    let front = earlier-refused c.args.input.now m c.args.self.now r _ (span_of c.args.last) _ c.loop-self.invariant.same x.0 in
     record {
       within = omega (arith, x.1, c.loop-self.invariant.within);
       forward = omega (arith, x.1, c.loop-self.invariant.forward);
-      read = rw (p.1, p.2) (earlier-refused c.args.input.now m c.args.self.now r _ (span_of c.args.last) _ c.loop-self.invariant.same x.0);
+      range = rw (p.1, p.2) (λ l. refusal-within c.args.input.now m c.args.self.now (span_of c.args.last) _ c.requires.within l front.refused);
+      read = rw (p.1, p.2) front;
     }
 
 pub returns-in_err-scalar-in-Scalar : goal.returns-in_err-scalar-in-Scalar
@@ -128,10 +150,12 @@ returns-in_err-scalar-in-Scalar c =
     let t = is-turn c.args.input.now m r c.in_ok-token.token c.in-Within.place turns.Scalar c.in-Within.is found (c.in-Scalar.ensures.turn r.contexts) (λ e. cc) in
     let p = err_from_is_err_and c.from_residual-in_err-scalar-in-Scalar.result c.from_residual-in_err-scalar-in-Scalar.ensures.1 in
     let x = c.in_err-scalar-in-Scalar.ensures m t in
+    let front = earlier-refused c.args.input.now m c.args.self.now r _ (span_of c.args.last) _ c.loop-self.invariant.same x.0 in
     record {
       within = omega (arith, x.1, c.loop-self.invariant.within);
       forward = omega (arith, x.1, c.loop-self.invariant.forward);
-      read = rw (p.1, p.2) (earlier-refused c.args.input.now m c.args.self.now r _ (span_of c.args.last) _ c.loop-self.invariant.same x.0);
+      range = rw (p.1, p.2) (λ l. refusal-within c.args.input.now m c.args.self.now (span_of c.args.last) _ c.requires.within l front.refused);
+      read = rw (p.1, p.2) front;
     }
 
 pub returns-in_err-key-in-Names : goal.returns-in_err-key-in-Names
@@ -142,10 +166,12 @@ returns-in_err-key-in-Names c =
     let t = is-turn c.args.input.now m r c.in_ok-token.token c.in-Within.place turns.Names c.in-Within.is found (c.in-Names.ensures.turn r.contexts) (λ e. cc) in
     let p = err_from_is_err_and c.from_residual-in_err-key-in-Names.result c.from_residual-in_err-key-in-Names.ensures.1 in
     let x = c.in_err-key-in-Names.ensures t in
+    let front = earlier-refused c.args.input.now m c.args.self.now r _ (span_of c.args.last) _ c.loop-self.invariant.same x.0 in
     record {
       within = omega (arith, x.1, c.loop-self.invariant.within);
       forward = omega (arith, x.1, c.loop-self.invariant.forward);
-      read = rw (p.1, p.2) (earlier-refused c.args.input.now m c.args.self.now r _ (span_of c.args.last) _ c.loop-self.invariant.same x.0);
+      range = rw (p.1, p.2) (λ l. refusal-within c.args.input.now m c.args.self.now (span_of c.args.last) _ c.requires.within l front.refused);
+      read = rw (p.1, p.2) front;
     }
 
 pub returns-in-Opens : goal.returns-in-Opens
@@ -158,6 +184,7 @@ returns-in-Opens c =
     record {
       within = g.within_input;
       forward = omega (arith, g.past, c.loop-self.invariant.forward);
+      range = tt;
       read = earlier-given c.args.input.now m c.args.self.now r _ _ c.loop-self.invariant.same c.loop-self.invariant.forward g;
     }
 
@@ -171,6 +198,7 @@ returns-in-Closes c =
     record {
       within = g.within_input;
       forward = omega (arith, g.past, c.loop-self.invariant.forward);
+      range = tt;
       read = earlier-given c.args.input.now m c.args.self.now r _ _ c.loop-self.invariant.same c.loop-self.invariant.forward g;
     }
 
@@ -184,6 +212,7 @@ returns-in-Scalar c =
     record {
       within = g.within_input;
       forward = omega (arith, g.past, c.loop-self.invariant.forward);
+      range = tt;
       read = earlier-given c.args.input.now m c.args.self.now r _ _ c.loop-self.invariant.same c.loop-self.invariant.forward g;
     }
 
@@ -197,5 +226,6 @@ returns-in-Names c =
     record {
       within = g.within_input;
       forward = omega (arith, g.past, c.loop-self.invariant.forward);
+      range = tt;
       read = earlier-given c.args.input.now m c.args.self.now r _ _ c.loop-self.invariant.same c.loop-self.invariant.forward g;
     }

@@ -1,8 +1,6 @@
-use Rattle.std.proofs.Common.{◌≡◌, true, refl, ap, ◌∷◌}
+use Rattle.std.proofs.Common.{refl, ap}
 use Rattle.facet_format.specs.Views.{span_of}
-use Rattle.facet_format.specs.Event.{takes_memory}
 use Rattle.facet_json_core.specs.declared.place.Turn.TheVariants as turns
-use Rattle.facet_json_core.specs.Views.{opening}
 use Rattle.facet_json_core.proofs.Comings.{says-given, says-unmade, opening-takes}
 use Rattle.facet_json_core.proofs.reader.Reader.open.Goals as goal
 
