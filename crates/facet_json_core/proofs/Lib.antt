@@ -12,3 +12,5 @@ pub mod BegunLaws
 pub mod CursorMoves
 pub mod MoveLaws
 pub mod Outcomes
+pub mod Filling
+pub mod Calls

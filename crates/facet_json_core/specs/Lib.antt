@@ -13,3 +13,8 @@ pub mod Now
 pub mod Move
 pub mod Begun
 pub mod Sound
+pub mod Views
+pub mod ReaderViews
+pub mod StandingViews
+pub mod Fill
+pub mod Ready

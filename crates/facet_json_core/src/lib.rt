@@ -1,4 +1,13 @@
 //! JSON documents (RFC 8259, with lenient readings, and JSONC comments), proved: what they are, and how they are read.
 #![tactic(auto)]
 
+mod contexts;
 pub mod laws;
+mod parser;
+mod place;
+mod points;
+mod reader;
+mod refusal;
+mod standing;
+
+pub use parser::JsonParser;

@@ -1,0 +1,44 @@
+//! The points that a parser keeps, each under its number, the last one last.
+
+ghost use Rattle.std.specs.Prelude.{◌≡◌, ℕ, Some, None, map, MatchOption, MatchResult};
+ghost use Rattle.facet_format.specs.Kept.{found, without, with_point};
+ghost use Rattle.facet_json_core.specs.Ready.{ArePoints};
+ghost use Rattle.facet_json_core.specs.StandingViews.{standing_of, point_of};
+
+use crate::standing::Standing;
+use std::alloc::{AllocError, Global};
+
+/// A standing that is kept under a number.
+#[derive(Debug, Drop)]
+pub struct Point<'de> {
+    /// The number.
+    pub number: u64,
+    /// Where the parser stood.
+    pub standing: Standing<'de>,
+}
+
+/// Keeps a copy of the standing under this number. Without memory for it nothing changes.
+pub fn keep<'de>(
+    points: &mut Vec<Point<'de>>,
+    alloc: Global,
+    number: u64,
+    standing: &Standing<'de>,
+) -> Result<(), AllocError>
+    ensures { MatchResult result
+        (λ _. map point_of points.new.items ≡ with_point number (standing_of standing.now) (map point_of points.old.items))
+        (λ _. points.new.items ≡ points.old.items) }
+{
+    let standing = standing.copy(alloc)?;
+    Ok(points.push(Point { number, standing })?)
+}
+
+/// Takes out the standing under this number, if one is kept.
+pub fn bring_back<'de>(points: &mut Vec<Point<'de>>, number: u64) -> Option<Standing<'de>>
+    ensures { (bytes counter : ℕ) → ArePoints bytes counter (map point_of points.old.items) → MatchOption result
+        ((found number (map point_of points.old.items) ≡ None) × (points.new.items ≡ points.old.items))
+        (λ s. (found number (map point_of points.old.items) ≡ Some (standing_of s))
+            × (map point_of points.new.items ≡ without number (map point_of points.old.items))) }
+{
+    let at = points.iter().position(|point| point.number == number)?;
+    Some(points.remove(at).standing)
+}
