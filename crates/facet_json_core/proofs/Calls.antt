@@ -1,11 +1,12 @@
 -- What a call of a parser answers, behind the reading of the next event, is a move.
-use Rattle.std.proofs.Common.{◌≡◌, ℕ, suc, ◌≤◌, Bool, true, false, List, [], ◌∷◌, ◌++◌, length, Option, Some, None, refl, sym, ap, subst, ◌∙◌, arith}
+use Rattle.std.proofs.Common.{◌≡◌, ℕ, suc, ◌<◌, ◌≤◌, Bool, true, false, List, [], ◌∷◌, ◌++◌, length, Option, Some, None, refl, sym, ap, subst, ◌∙◌, arith}
 use Rattle.std.specs.Prelude.{Ok, Err, MatchOption}
 use Rattle.std.specs.Option.{option_map}
 use Rattle.facet_format.specs.Span.{Span}
-use Rattle.facet_format.specs.Complaint.{Refusal}
+use Rattle.facet_format.specs.Complaint.{Refusal, refusal_at, save_limit}
 use Rattle.facet_format.specs.Event.{Event, Passed, takes_memory}
-use Rattle.facet_format.specs.Cursor.{Answer, event, next, peek, no_memory_at}
+use Rattle.facet_format.specs.Kept.{found, without, with_point}
+use Rattle.facet_format.specs.Cursor.{Answer, event, saved, restored, next, peek, save, restore, greatest, no_memory_at}
 use Rattle.facet_format.specs.declared.event.ParseEvent.{ParseEvent}
 use Rattle.facet_format.specs.Views.{event_of}
 use Rattle.facet_json_scan.specs.Gap.{Mode}
@@ -16,7 +17,7 @@ use Rattle.facet_json_core.specs.Views.{refused_of}
 use Rattle.facet_json_core.specs.Meaning.{meaning}
 use Rattle.facet_json_scan.specs.Tokens.{tokens_from}
 use Rattle.facet_json_core.specs.Now.{Standing, Now, held_before, future_at, future_of, is_shown, is_peeked, span_of}
-use Rattle.facet_json_core.specs.Move.{Moves, repeats, passes, passes_without_memory, passes_the_end, passes_nothing, peeks, peeks_without_memory, peeks_at_the_end, peeks_at_nothing, with_standing, with_refusal}
+use Rattle.facet_json_core.specs.Move.{Moves, repeats, passes, passes_without_memory, passes_the_end, passes_nothing, peeks, peeks_without_memory, peeks_at_the_end, peeks_at_nothing, saves, saves_at_the_limit, saves_without_memory, restores, restores_nothing, with_standing, with_refusal, with_kept, back_at}
 use Rattle.facet_json_core.specs.Fill.{ShowsSame, Fills, holds, is_over, lacks_memory, stops, FillsParser, fills, refuses, Takes, Lends, Withholds, behind}
 use Rattle.facet_json_core.specs.Fill as fill
 
@@ -143,3 +144,39 @@ pub peek-fails : (now mid made new : Now) (s : Standing) (r : Refusal) → Fills
     Moves Complains now peek (event (Err r)) new
 peek-fails now mid made new s r f e w same after =
     rw (same, after) (peek-withheld now made s (subst (λ x. FillsParser now None x) (sym e) f) w)
+
+-- ---- points
+
+pub save-repeats : (made now : Now) (r q : Refusal) → made ≡ now → made.refusal ≡ Some r → q ≡ r →
+    Moves Complains now save (saved (Err q)) now
+save-repeats made now r q e refused same =
+    rw same (repeats r save (saved (Err r)) (subst (λ x. x.refusal ≡ Some r) e refused) refl)
+
+pub save-stops : (made now : Now) (q : Refusal) → made ≡ now → made.refusal ≡ None → made.counter ≡ greatest →
+    q ≡ refusal_at save_limit (span_of made.standing) → Moves Complains now save (saved (Err q)) now
+save-stops made now q e none at same =
+    rw same (subst (λ x. Moves Complains x save (saved (Err (refusal_at save_limit (span_of made.standing)))) x) e
+    (saves_at_the_limit none at))
+
+pub save-fails : (made now new : Now) (q : Refusal) → made ≡ now → new ≡ made → made.refusal ≡ None → made.counter < greatest →
+    q ≡ no_memory_at (span_of made.standing) → Moves Complains now save (saved (Err q)) new
+save-fails made now new q e after none less same =
+    rw (same, after) (subst (λ x. Moves Complains x save (saved (Err (no_memory_at (span_of made.standing)))) made) e
+    (saves_without_memory none less))
+
+pub save-keeps : (made now : Now) (kept : List (ℕ × Standing)) (n : ℕ) → made ≡ now → made.refusal ≡ None →
+    made.counter < greatest → n ≡ suc made.counter → kept ≡ with_point n made.standing made.kept →
+    Moves Complains now save (saved (Ok n)) (record made { kept = kept; counter = n })
+save-keeps made now kept n e none less same list =
+    rw (list, same) (subst (λ x. Moves Complains x save (saved (Ok (suc made.counter))) (with_kept made)) e (saves none less))
+
+pub restore-brings : (made now : Now) (kept : List (ℕ × Standing)) (number : ℕ) (s : Standing) → made ≡ now →
+    found number made.kept ≡ Some s → kept ≡ without number made.kept →
+    Moves Complains now (restore number) restored (record made { standing = s; refusal = None; kept = kept })
+restore-brings made now kept number s e here list =
+    rw list (subst (λ x. Moves Complains x (restore number) restored (back_at made number s)) e (restores number s here))
+
+pub restore-leaves : (made now new : Now) (number : ℕ) → made ≡ now → new ≡ made → found number made.kept ≡ None →
+    Moves Complains now (restore number) restored new
+restore-leaves made now new number e after none =
+    rw after (subst (λ x. Moves Complains x (restore number) restored made) e (restores_nothing number none))

@@ -14,3 +14,4 @@ pub mod MoveLaws
 pub mod Outcomes
 pub mod Filling
 pub mod Calls
+pub mod KeptPoints

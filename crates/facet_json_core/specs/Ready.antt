@@ -1,6 +1,7 @@
 -- What holds of every parser: it stands within the input, and its points have numbers of their own, none above the counter.
 use Rattle.std.specs.Prelude.{◌≡◌, ◌≤◌, ℕ, List, [], ◌∷◌, length, None, ⊤}
 use Rattle.facet_format.specs.Kept.{found}
+use Rattle.facet_format.specs.Cursor.{greatest}
 use Rattle.facet_json_core.specs.Now.{Standing, Now}
 
 -- Each point stands within so many bytes, has a number of its own, and none above the counter.
@@ -11,4 +12,5 @@ ArePoints bytes counter (point ∷ points) =
 
 pub record IsReady (now : Now) : Type 0 where
   pub position_within : now.standing.position ≤ length now.buffer
+  pub counter_fits : now.counter ≤ greatest
   pub points : ArePoints (length now.buffer) now.counter now.kept

@@ -136,11 +136,13 @@ impl<'de> JsonParser<'de> {
         let Some(number) = self.counter.checked_add(1) else {
             return Err(ParseError::from(Refused::save_limit(self.standing.span())));
         };
-        if keep(&mut self.points, self.alloc, number, &self.standing).is_err() {
-            return Err(ParseError::from(Refused::out_of_memory(self.standing.span())));
+        match keep(&mut self.points, self.alloc, number, &self.standing) {
+            Ok(()) => {
+                self.counter = number;
+                Ok(SavePoint(number))
+            }
+            Err(_) => Err(ParseError::from(Refused::out_of_memory(self.standing.span()))),
         }
-        self.counter = number;
-        Ok(SavePoint(number))
     }
 
     /// Goes back to a point that is kept, and drops the point. Another point changes nothing.
