@@ -1,6 +1,6 @@
 -- What a call of a parser answers, behind the reading of the next event, is a move.
 use Rattle.std.proofs.Common.{◌≡◌, ℕ, suc, ◌<◌, ◌≤◌, Bool, true, false, List, [], ◌∷◌, ◌++◌, length, Option, Some, None, refl, sym, ap, subst, ◌∙◌, arith}
-use Rattle.std.specs.Prelude.{Ok, Err, MatchOption}
+use Rattle.std.specs.Prelude.{Ok, Err, is_some, MatchOption}
 use Rattle.std.specs.Option.{option_map}
 use Rattle.facet_format.specs.Span.{Span}
 use Rattle.facet_format.specs.Complaint.{Refusal, refusal_at, save_limit}
@@ -13,12 +13,14 @@ use Rattle.facet_json_scan.specs.Gap.{Mode}
 use Rattle.facet_json_core.specs.Refusal.{Complains}
 use Rattle.facet_json_core.specs.Future.{Future, gives, finished, stuck, reads}
 use Rattle.facet_json_core.specs.declared.refusal.Refused.{Refused}
+use Rattle.facet_json_core.specs.declared.reader.Held.{Held}
+use Rattle.facet_json_core.specs.ReaderViews.{passed_of}
 use Rattle.facet_json_core.specs.Views.{refused_of}
 use Rattle.facet_json_core.specs.Meaning.{meaning}
 use Rattle.facet_json_scan.specs.Tokens.{tokens_from}
 use Rattle.facet_json_core.specs.Now.{Standing, Now, held_before, future_at, future_of, is_shown, is_peeked, span_of}
 use Rattle.facet_json_core.specs.Move.{Moves, repeats, passes, passes_without_memory, passes_the_end, passes_nothing, peeks, peeks_without_memory, peeks_at_the_end, peeks_at_nothing, saves, saves_at_the_limit, saves_without_memory, restores, restores_nothing, with_standing, with_refusal, with_kept, back_at}
-use Rattle.facet_json_core.specs.Fill.{ShowsSame, Fills, holds, is_over, lacks_memory, stops, FillsParser, fills, refuses, Takes, Lends, Withholds, behind}
+use Rattle.facet_json_core.specs.Fill.{ShowsSame, Fills, holds, is_over, lacks_memory, stops, FillsParser, fills, refuses, Takes, Lends, Withholds, GivesOne, gives_event, gives_end, lacks_room, behind}
 use Rattle.facet_json_core.specs.Fill as fill
 
 -- what comes behind what is held
@@ -26,24 +28,24 @@ abbrev pub behind_held : List ℕ → Mode → Standing → Future
 behind_held buffer mode s = reads (meaning buffer) s.stack s.stage (tokens_from buffer mode s.position)
 
 -- A held event comes first.
-held-comes : (buffer : List ℕ) (mode : Mode) (s : Standing) (p : Passed) → s.held ≡ Some p →
+pub held-comes : (buffer : List ℕ) (mode : Mode) (s : Standing) (p : Passed) → s.held ≡ Some p →
     future_at buffer mode s ≡ gives p (behind_held buffer mode s)
 held-comes buffer mode s p e = rw e refl
 
 -- What is held comes also where the reading began.
-fills-holds : (buffer : List ℕ) (mode : Mode) (s t : Standing) (p : Passed) → Fills buffer mode s None t → t.held ≡ Some p →
+pub fills-holds : (buffer : List ℕ) (mode : Mode) (s t : Standing) (p : Passed) → Fills buffer mode s None t → t.held ≡ Some p →
     future_at buffer mode s ≡ gives p (behind_held buffer mode t)
 fills-holds buffer mode s t p (holds q _ same e) f = sym same.comes ∙ held-comes buffer mode t p f
 fills-holds buffer mode s t p (is_over _ same n e) f = cc
 
 -- Where nothing is held, the document has ended.
-fills-over : (buffer : List ℕ) (mode : Mode) (s t : Standing) → Fills buffer mode s None t → t.held ≡ None →
+pub fills-over : (buffer : List ℕ) (mode : Mode) (s t : Standing) → Fills buffer mode s None t → t.held ≡ None →
     future_at buffer mode s ≡ finished
 fills-over buffer mode s t (holds q _ same e) n = cc
 fills-over buffer mode s t (is_over _ same n e) m = e
 
 -- What it shows stays.
-fills-same : (buffer : List ℕ) (mode : Mode) (s t : Standing) {refusal : Option Refusal} → Fills buffer mode s refusal t →
+pub fills-same : (buffer : List ℕ) (mode : Mode) (s t : Standing) {refusal : Option Refusal} → Fills buffer mode s refusal t →
     ShowsSame buffer mode s t
 fills-same buffer mode s t (holds q _ same e) = same
 fills-same buffer mode s t (is_over _ same n e) = same
@@ -180,3 +182,33 @@ pub restore-leaves : (made now new : Now) (number : ℕ) → made ≡ now → ne
     Moves Complains now (restore number) restored new
 restore-leaves made now new number e after none =
     rw after (subst (λ x. Moves Complains x (restore number) restored made) e (restores_nothing number none))
+
+-- ---- an event, once there is room for it
+
+no-held : (held : Option Held) → is_some held ≡ false → option_map passed_of held ≡ None
+no-held None e = refl
+no-held (Some h) e = cc
+
+some-held : (held : Option Held) → is_some held ≡ true → (p : Passed) × (option_map passed_of held ≡ Some p)
+some-held None e = cc
+some-held (Some h) e = (passed_of h, refl)
+
+pub room-ended : (now mid made : Now) (held : Option Held) → made ≡ mid → made.standing.held ≡ option_map passed_of held →
+    is_some held ≡ false → FillsParser now None mid → GivesOne now (Ok None) mid
+room-ended now mid made held e code n f =
+    gives_end mid f (subst (λ x. x.standing.held ≡ None) e (code ∙ no-held held n))
+
+pub room-taken : (now mid made : Now) (o : Option ParseEvent) (s : Standing) → FillsParser now None mid → made ≡ mid →
+    MatchOption o ((s ≡ made.standing) × (made.standing.held ≡ None)) (λ e. Takes made.standing (event_of e) s) →
+    GivesOne now (Ok (option_map event_of o)) (with_standing made s)
+room-taken now mid made None s f e taken =
+    rw taken.0 (gives_end made (subst (λ x. FillsParser now None x) (sym e) f) taken.1)
+room-taken now mid made (Some o) s f e taken =
+    gives_event made (event_of o) s (subst (λ x. FillsParser now None x) (sym e) f) taken
+
+pub room-lacked : (now mid made new : Now) (r : Refusal) (held : Option Held) → FillsParser now None mid → made ≡ mid →
+    made.standing.held ≡ option_map passed_of held → is_some held ≡ true → r ≡ no_memory_at (span_of mid.standing) →
+    new ≡ with_refusal mid mid.standing (no_memory_at (span_of mid.standing)) → GivesOne now (Err r) new
+room-lacked now mid made new r held f e code n same after =
+    let p = some-held held n in
+    rw (same, after) (lacks_room mid p.0 f (subst (λ x. x.standing.held ≡ Some p.0) e (code ∙ p.1)))

@@ -15,3 +15,4 @@ pub mod Outcomes
 pub mod Filling
 pub mod Calls
 pub mod KeptPoints
+pub mod Batches

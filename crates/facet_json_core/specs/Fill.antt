@@ -1,5 +1,5 @@
 -- What a parser does in front of a call that answers events: it reads the next one, where it holds none, and keeps it.
-use Rattle.std.specs.Prelude.{◌≡◌, ℕ, true, false, List, Option, Some, None}
+use Rattle.std.specs.Prelude.{◌≡◌, ℕ, true, false, List, Option, Some, None, Result, Ok, Err}
 use Rattle.facet_format.specs.Complaint.{Refusal}
 use Rattle.facet_format.specs.Event.{Event, Passed, takes_memory}
 use Rattle.facet_format.specs.Cursor.{no_memory_at}
@@ -60,3 +60,12 @@ pub record Withholds (s : Standing) (t : Standing) : Type 0 where
   pub held : s.held ≡ Some p
   pub takes : takes_memory p.event.kind ≡ true
   pub new : t ≡ s
+
+-- The next event is given, where room for it was there; at the end there is none.
+pub data GivesOne (now : Now) : Result (Option Event) Refusal → Now → Type 0 where
+  gives_event : (mid : Now) (e : Event) (s : Standing) → FillsParser now None mid → Takes mid.standing e s →
+      GivesOne now (Ok (Some e)) (with_standing mid s)
+  gives_end : (mid : Now) → FillsParser now None mid → mid.standing.held ≡ None → GivesOne now (Ok None) mid
+  gives_refusal : (refusal : Refusal) (new : Now) → FillsParser now (Some refusal) new → GivesOne now (Err refusal) new
+  lacks_room : (mid : Now) (p : Passed) → FillsParser now None mid → mid.standing.held ≡ Some p →
+      GivesOne now (Err (no_memory_at (span_of mid.standing))) (with_refusal mid mid.standing (no_memory_at (span_of mid.standing)))

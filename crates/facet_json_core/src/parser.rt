@@ -1,6 +1,6 @@
 //! Reads a document event by event, with a look ahead and points to go back to.
 
-ghost use Rattle.std.specs.Prelude.{◌≡◌, ◌≤◌, List, Some, None, Ok, Err, length, ◌++◌, IfSome, IsSome, codes, MatchOption, MatchResult};
+ghost use Rattle.std.specs.Prelude.{◌≡◌, ◌≤◌, List, Some, None, Ok, Err, ◌<◌, length, ◌++◌, OnSome, IfOk, IfSome, IsSome, codes, MatchOption, MatchResult};
 ghost use Rattle.facet_format.specs.declared.event.ParseEvent.{ParseEvent as RustEvent};
 ghost use Rattle.facet_json_scan.specs.Gap.{plain, jsonc};
 ghost use Rattle.facet_json_scan.specs.Views.{mode_of};
@@ -10,7 +10,9 @@ ghost use Rattle.facet_format.specs.Views.{event_of, parse_refusal, answer_of_ev
 ghost use Rattle.facet_json_core.specs.Refusal.{Complains};
 ghost use Rattle.facet_json_core.specs.Now.{fresh, span_of, StandsAt};
 ghost use Rattle.facet_json_core.specs.Move.{Moves, with_standing, with_refusal};
-ghost use Rattle.facet_json_core.specs.Fill.{FillsParser, Takes, Lends, Withholds};
+ghost use Rattle.facet_json_core.specs.Fill.{FillsParser, GivesOne};
+ghost use Rattle.std.specs.Option.{option_map};
+ghost use Rattle.std.specs.VecDeque.{deque_len, deque_capacity};
 
 use crate::refusal::Refused;
 use crate::points::{Point, bring_back, keep};
@@ -124,6 +126,46 @@ impl<'de> JsonParser<'de> {
             Ok(event) => Ok(event),
             Err(_) => Err(self.refuse_growth()),
         }
+    }
+
+    /// The next event, once the queue has room for it.
+    fn next_with_room(
+        &mut self,
+        queue: &mut VecDeque<ParseEvent<'de>>,
+    ) -> Result<Option<ParseEvent<'de>>, ParseError>
+        ensures items { queue.new.items ≡ queue.old.items }
+        ensures room { IfOk result (λ o. OnSome o (deque_len queue.new < deque_capacity queue.new)) }
+        ensures event { MatchResult result
+            (λ o. GivesOne self.old (Ok (option_map event_of o)) self.new)
+            (λ e. GivesOne self.old (Err (parse_refusal e)) self.new) }
+    {
+        self.fill()?;
+        if self.standing.held.is_none() {
+            return Ok(None);
+        }
+        match queue.reserve(1) {
+            Ok(()) => Ok(self.standing.take()),
+            Err(_) => Err(self.refuse_growth()),
+        }
+    }
+
+    /// Appends the next events to the queue, up to so many, and answers how many they are. Where a refusal comes, the
+    /// events before it are appended.
+    pub fn next_events(
+        &mut self,
+        buf: &mut VecDeque<ParseEvent<'de>>,
+        limit: usize,
+    ) -> Result<usize, ParseError>
+        ensures { (given : List RustEvent) × (buf.new.items ≡ buf.old.items ++ given)
+            × Moves Complains self.old (events limit) (answer_of_events given result) self.new }
+    {
+        for count in 0..limit {
+            let Some(event) = self.next_with_room(buf)? else {
+                return Ok(count);
+            };
+            buf.push_back_reserved(event);
+        }
+        Ok(limit)
     }
 
     /// Keeps where it stands, under a number of its own.
