@@ -6,7 +6,9 @@ use Rattle.facet_format.specs.Span.{Span}
 use Rattle.facet_format.specs.Complaint.{Refusal, refusal_at, save_limit}
 use Rattle.facet_format.specs.Event.{Event, Passed, takes_memory}
 use Rattle.facet_format.specs.Kept.{found, without, with_point}
-use Rattle.facet_format.specs.Cursor.{Answer, event, saved, restored, next, peek, save, restore, greatest, no_memory_at}
+use Rattle.facet_format.specs.Cursor.{Call, Answer, event, saved, restored, spans, next, peek, save, restore, span, greatest, no_memory_at}
+use Rattle.facet_format.specs.Standing.{IsStep}
+use Rattle.facet_json_core.proofs.CursorMoves.{moves-step}
 use Rattle.facet_format.specs.declared.event.ParseEvent.{ParseEvent}
 use Rattle.facet_format.specs.Views.{event_of}
 use Rattle.facet_json_scan.specs.Gap.{Mode}
@@ -18,8 +20,8 @@ use Rattle.facet_json_core.specs.ReaderViews.{passed_of}
 use Rattle.facet_json_core.specs.Views.{refused_of}
 use Rattle.facet_json_core.specs.Meaning.{meaning}
 use Rattle.facet_json_scan.specs.Tokens.{tokens_from}
-use Rattle.facet_json_core.specs.Now.{Standing, Now, held_before, future_at, future_of, is_shown, is_peeked, span_of}
-use Rattle.facet_json_core.specs.Move.{Moves, repeats, passes, passes_without_memory, passes_the_end, passes_nothing, peeks, peeks_without_memory, peeks_at_the_end, peeks_at_nothing, saves, saves_at_the_limit, saves_without_memory, restores, restores_nothing, with_standing, with_refusal, with_kept, back_at}
+use Rattle.facet_json_core.specs.Now.{Standing, Now, held_before, future_at, future_of, is_shown, is_peeked, span_of, StandsAt}
+use Rattle.facet_json_core.specs.Move.{Moves, repeats, passes, passes_without_memory, passes_the_end, passes_nothing, peeks, peeks_without_memory, peeks_at_the_end, peeks_at_nothing, saves, saves_at_the_limit, saves_without_memory, restores, restores_nothing, tells, with_standing, with_refusal, with_kept, back_at}
 use Rattle.facet_json_core.specs.Fill.{ShowsSame, Fills, holds, is_over, lacks_memory, stops, FillsParser, fills, refuses, Takes, Lends, Withholds, GivesOne, gives_event, gives_end, lacks_room, behind}
 use Rattle.facet_json_core.specs.Fill as fill
 
@@ -212,3 +214,15 @@ pub room-lacked : (now mid made new : Now) (r : Refusal) (held : Option Held) �
 room-lacked now mid made new r held f e code n same after =
     let p = some-held held n in
     rw (same, after) (lacks_room mid p.0 f (subst (λ x. x.standing.held ≡ Some p.0) e (code ∙ p.1)))
+
+-- ---- steps
+
+-- Where a call is a move, it is a step of the cursor.
+pub move-steps : (old new : Now) (call : Call) (answer : Answer) → Moves Complains old call answer new →
+    IsStep StandsAt old call answer new
+move-steps old new call answer move = λ w c stands. moves-step Complains old w c stands move
+
+-- The current span is told.
+pub told-moves : (now : Now) (answer : Answer) → answer ≡ spans (Some (span_of now.standing)) →
+    Moves Complains now span answer now
+told-moves now answer e = rw e tells

@@ -16,3 +16,11 @@ pub mod Filling
 pub mod Calls
 pub mod KeptPoints
 pub mod Batches
+pub mod FaultTexts
+pub mod Scans
+pub mod Unread
+pub mod Turns
+pub mod Comings
+pub mod Readings
+pub mod Colons
+pub mod Advancing

@@ -18,3 +18,5 @@ pub mod ReaderViews
 pub mod StandingViews
 pub mod Fill
 pub mod Ready
+pub mod TokenViews
+pub mod ScriptViews

@@ -1,5 +1,13 @@
--- What the reader of events and its answers stand for in the definitions. (A stand-in until the reader is here.)
-use Rattle.std.specs.Prelude.{◌≡◌, ◌≤◌, ◌<◌, ℕ, true, List, Option, Some, None, Result, Ok, Err, length}
+-- What the reader of events and its answers stand for in the definitions.
+use Rattle.std.specs.Prelude.{◌≡◌, ◌≤◌, ◌<◌, ◌⊎◌, ℕ, true, List, Option, Some, None, Result, Ok, Err, IsSome, length}
+use Rattle.std.specs.Option.{option_map}
+use Rattle.std.specs.declared.alloc.Global.{Global}
+use Rattle.std.specs.declared.borrow.CowStr.{CowStr}
+use Rattle.facet_format.specs.declared.span.Span.{Span as RustSpan}
+use Rattle.facet_format.specs.declared.event.ScalarValue.{ScalarValue}
+use Rattle.facet_json_scan.specs.declared.token.SpannedToken.{SpannedToken}
+use Rattle.facet_json_core.specs.declared.place.Turn.{Turn as RustTurn}
+use Rattle.facet_json_core.specs.declared.refusal.Name.{Name}
 use Rattle.facet_json_core.specs.declared.refusal.Refused.{Refused}
 use Rattle.facet_json_core.specs.declared.reader.Stage.{Stage as RustStage}
 use Rattle.facet_json_core.specs.declared.reader.Stage.TheVariants as stages
@@ -7,16 +15,21 @@ use Rattle.facet_json_core.specs.declared.reader.Held.{Held}
 use Rattle.facet_json_core.specs.declared.reader.Reader.{Reader}
 use Rattle.facet_format.specs.Complaint.{Refusal}
 use Rattle.facet_format.specs.Cursor.{no_memory_at}
-use Rattle.facet_format.specs.Event.{Passed, takes_memory}
+use Rattle.facet_format.specs.Event.{Passed, takes_memory, is_made, bytes_of}
+use Rattle.facet_format.specs.HeldText.{text_of}
 use Rattle.facet_format.specs.Span.{Span, stop}
-use Rattle.facet_format.specs.Views.{span_of, event_of}
+use Rattle.facet_format.specs.Views.{span_of, event_of, scalar_value_of}
 use Rattle.facet_json_scan.specs.Gap.{Mode}
-use Rattle.facet_json_scan.specs.Tokens.{Tokens, tokens_from}
-use Rattle.facet_json_core.specs.Future.{Future, gives, finished, stuck, Stage, within, over, reads}
-use Rattle.facet_json_core.specs.Meaning.{meaning}
-use Rattle.facet_json_core.specs.Place.{Place}
-use Rattle.facet_json_core.specs.Refusal.{IsStuck, Complains}
-use Rattle.facet_json_core.specs.Views.{place_of, refused_of}
+use Rattle.facet_json_scan.specs.Token.{Kind, Token, colon}
+use Rattle.facet_json_scan.specs.Tokens.{Tokens, next, tokens_from}
+use Rattle.facet_json_scan.specs.Views.{kind_of}
+use Rattle.facet_json_core.specs.Future.{Future, gives, finished, stuck, Stage, within, over, place_turn, reads}
+use Rattle.facet_json_core.specs.Meaning.{meaning, meaning_of}
+use Rattle.facet_json_core.specs.Place.{Place, after_key, kind_name}
+use Rattle.facet_json_core.specs.Refusal.{needs_meaning, IsStuck, Complains}
+use Rattle.facet_json_core.specs.Walk.{scalar_of}
+use Rattle.facet_json_core.specs.Views.{place_of, turn_of, name_text, refused_of}
+use Rattle.facet_json_core.specs.TokenViews.{CanBeRead, IsTextOf, IsUnmade, IsMeaningless}
 
 -- ---- values
 
@@ -31,9 +44,57 @@ passed_of h = record { event = event_of h.event; last = span_of h.last }
 abbrev pub coming : List ℕ → Mode → Reader → Future
 coming buffer mode r = reads (meaning buffer) r.contexts (stage_of r.stage) (tokens_from buffer mode r.position)
 
+-- ---- tokens
+
+-- This token of the buffer is next, and this is its turn where the reader stands.
+pub record IsTurn (buffer : List ℕ) (mode : Mode) (r : Reader) (t : SpannedToken) (turn : RustTurn) : Type 0 where
+  pub place : Place
+  pub is_place : stage_of r.stage ≡ within place
+  pub kind : Kind
+  pub is_kind : kind_of t.token ≡ Some kind
+  pub past : r.position < stop (span_of t.span)
+  pub ends : stop (span_of t.span) ≤ length buffer
+  pub tokens : tokens_from buffer mode r.position
+      ≡ next (record { kind = kind; span = span_of t.span }) (tokens_from buffer mode (stop (span_of t.span)))
+  pub turns : place_turn r.contexts place kind ≡ turn_of r.contexts turn
+
 -- The tokens don't go on with a document at the place, and are refused so.
 abbrev pub StopsAt : List ℕ → Place → Tokens → Refusal → Type 0
 StopsAt buffer place ts refusal = IsStuck buffer (meaning buffer) Complains place ts refusal
+
+-- A token of this kind has this name in a refusal, and a meaning where it needs one.
+pub record IsNamed (buffer : List ℕ) (kind : Kind) (name : Name) : Type 0 where
+  pub name_is : name_text name ≡ kind_name buffer kind
+  pub has_meaning : needs_meaning kind ≡ true → IsSome (meaning_of buffer kind)
+
+-- There was no memory for the text that is made of a token of this kind.
+pub record IsUnmadeScalar (buffer : List ℕ) (kind : Kind) (last : Span) (refusal : Refusal) : Type 0 where
+  pub made : is_made (scalar_of kind (meaning_of buffer kind)) ≡ true
+  pub refused : refusal ≡ no_memory_at last
+
+-- a scalar's token of this kind is read so
+abbrev pub IsValueOf : List ℕ → Kind → Span → Span → Result ScalarValue Refused → Type 0
+IsValueOf buffer kind s last (Ok v) =
+    (scalar_value_of v ≡ scalar_of kind (meaning_of buffer kind)) × (needs_meaning kind ≡ true → IsSome (meaning_of buffer kind))
+IsValueOf buffer kind s last (Err r) =
+    IsUnmadeScalar buffer kind last (refused_of r) ⊎ IsMeaningless buffer kind s (refused_of r)
+
+-- a key's token of this kind is read so
+abbrev pub IsNameOf : List ℕ → Kind → Span → Result (Option (CowStr Global)) Refused → Type 0
+IsNameOf buffer kind s (Ok None) = IsUnmade buffer kind
+IsNameOf buffer kind s (Ok (Some name)) = IsTextOf buffer kind (text_of name)
+IsNameOf buffer kind s (Err r) = IsMeaningless buffer kind s (refused_of r)
+
+-- A colon is next, which takes these bytes.
+pub record IsColon (buffer : List ℕ) (mode : Mode) (position : ℕ) (s : Span) : Type 0 where
+  pub past : position < stop s
+  pub ends : stop s ≤ length buffer
+  pub tokens : tokens_from buffer mode position
+      ≡ next (record { kind = colon; span = s }) (tokens_from buffer mode (stop s))
+
+abbrev pub IsColonAt : List ℕ → Mode → ℕ → Result RustSpan Refused → Type 0
+IsColonAt buffer mode position (Ok s) = IsColon buffer mode position (span_of s)
+IsColonAt buffer mode position (Err r) = StopsAt buffer after_key (tokens_from buffer mode position) (refused_of r)
 
 -- ---- answers
 

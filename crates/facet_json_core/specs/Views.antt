@@ -22,7 +22,7 @@ use Rattle.facet_json_core.specs.declared.place.Turn.{Turn as RustTurn}
 use Rattle.facet_json_core.specs.declared.place.Turn.TheVariants as turns
 use Rattle.facet_format.specs.Complaint.{Complaint, Refusal}
 use Rattle.facet_format.specs.Complaint as complaint
-use Rattle.facet_format.specs.Event.{ContainerKind, object, array}
+use Rattle.facet_format.specs.Event.{ContainerKind, object, array, EventKind}
 use Rattle.facet_format.specs.Event as event
 use Rattle.facet_format.specs.Views.{span_of, container_of}
 use Rattle.facet_json_scan.specs.Token.{Kind, in_string, in_number, in_literal, in_block_comment}
@@ -30,7 +30,7 @@ use Rattle.facet_json_scan.specs.Views.{scan_complaint}
 use Rattle.facet_json_core.specs.Place.{Place}
 use Rattle.facet_json_core.specs.Place as place
 use Rattle.facet_json_core.specs.Refusal.{IsTextComplaint}
-use Rattle.facet_json_core.specs.Future.{Turn, within, after_value, place_turn, closing_turn}
+use Rattle.facet_json_core.specs.Future.{Turn, Stage, within, after_value, place_turn, closing_turn}
 use Rattle.facet_json_core.specs.Future as future
 
 -- ---- refusals
@@ -112,21 +112,26 @@ place_of places.AfterMember = place.after_member
 place_of places.BeforeItem = place.before_item
 place_of places.AfterItem = place.after_item
 
--- the turn that opens a container
-abbrev pub opens : List ContainerKind → RustContainerKind → Turn
-opens stack containers.Object = future.says (event.struct_start object) (object ∷ stack) (within place.before_key)
-opens stack containers.Array = future.says (event.sequence_start array) (array ∷ stack) (within place.before_item)
+-- the event of a bracket that opens a container
+abbrev pub opening : RustContainerKind → EventKind
+opening containers.Object = event.struct_start object
+opening containers.Array = event.sequence_start array
 
--- the turn that closes one
-abbrev pub closes : List ContainerKind → RustContainerKind → Turn
-closes stack containers.Object = closing_turn event.struct_end stack
-closes stack containers.Array = closing_turn event.sequence_end stack
+-- behind that bracket
+abbrev pub opened : RustContainerKind → Stage
+opened containers.Object = within place.before_key
+opened containers.Array = within place.before_item
+
+-- the event of a bracket that closes a container
+abbrev pub closing : RustContainerKind → EventKind
+closing containers.Object = event.struct_end
+closing containers.Array = event.sequence_end
 
 abbrev pub turn_of : List ContainerKind → RustTurn → Turn
 turn_of stack turns.Stops = future.stops
 turn_of stack (turns.Passes p) = future.passes stack (within (place_of p))
-turn_of stack (turns.Opens kind) = opens stack kind
-turn_of stack (turns.Closes kind) = closes stack kind
+turn_of stack (turns.Opens kind) = future.says (opening kind) (container_of kind ∷ stack) (opened kind)
+turn_of stack (turns.Closes kind) = closing_turn (closing kind) stack
 turn_of stack turns.Scalar = future.says_scalar stack (after_value stack)
 turn_of stack turns.Names = future.names
 
@@ -134,6 +139,11 @@ turn_of stack turns.Names = future.names
 abbrev pub turn_by : List ContainerKind → Place → Option Kind → Turn
 turn_by stack p None = future.stops
 turn_by stack p (Some kind) = place_turn stack p kind
+
+-- a string's token
+abbrev pub is_text : RustToken → Bool
+is_text (code.String start finish has_escapes) = true
+is_text _ = false
 
 -- The innermost container is of this kind.
 abbrev pub innermost_of : Option RustContainerKind → List ContainerKind → Type 0

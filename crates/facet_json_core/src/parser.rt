@@ -1,6 +1,6 @@
 //! Reads a document event by event, with a look ahead and points to go back to.
 
-ghost use Rattle.std.specs.Prelude.{◌≡◌, ◌≤◌, List, Some, None, Ok, Err, ◌<◌, length, ◌++◌, OnSome, IfOk, IfSome, IsSome, codes, MatchOption, MatchResult};
+ghost use Rattle.std.specs.Prelude.{◌≡◌, ◌≤◌, List, Some, None, Ok, Err, ◌<◌, length, ◌++◌, OnSome, IfOk, IfSome, IsSome, IsUtf8, codes, MatchOption, MatchResult};
 ghost use Rattle.facet_format.specs.declared.event.ParseEvent.{ParseEvent as RustEvent};
 ghost use Rattle.facet_json_scan.specs.Gap.{plain, jsonc};
 ghost use Rattle.facet_json_scan.specs.Views.{mode_of};
@@ -61,6 +61,22 @@ impl<'de> JsonParser<'de> {
 
     /// A parser of a document with comments.
     pub fn new_jsonc(alloc: Global, input: &'de [u8]) -> JsonParser<'de>
+        ensures { result ≡ fresh input.now jsonc }
+    {
+        JsonParser::in_mode(alloc, input, Mode::Jsonc)
+    }
+
+    /// A parser of a plain document, over an input that is UTF-8. It answers as the one that checks its strings.
+    pub fn new_trusted(alloc: Global, input: &'de [u8]) -> JsonParser<'de>
+        requires utf8 { IsUtf8 input.now }
+        ensures { result ≡ fresh input.now plain }
+    {
+        JsonParser::in_mode(alloc, input, Mode::Plain)
+    }
+
+    /// A parser of a document with comments, over an input that is UTF-8. It answers as the one that checks its strings.
+    pub fn new_jsonc_trusted(alloc: Global, input: &'de [u8]) -> JsonParser<'de>
+        requires utf8 { IsUtf8 input.now }
         ensures { result ≡ fresh input.now jsonc }
     {
         JsonParser::in_mode(alloc, input, Mode::Jsonc)
@@ -218,5 +234,45 @@ impl<'de> JsonParser<'de> {
         ensures given { IsSome result }
     {
         Some("json")
+    }
+}
+
+impl<'de> FormatParser<'de> for JsonParser<'de> {
+    ghost at = { StandsAt };
+
+    fn next_event(&mut self) -> Result<Option<ParseEvent<'de>>, ParseError> {
+        JsonParser::next_event(self)
+    }
+
+    fn peek_event(&mut self) -> Result<Option<ParseEvent<'de>>, ParseError> {
+        JsonParser::peek_event(self)
+    }
+
+    fn next_events(
+        &mut self,
+        buf: &mut VecDeque<ParseEvent<'de>>,
+        limit: usize,
+    ) -> Result<usize, ParseError> {
+        JsonParser::next_events(self, buf, limit)
+    }
+
+    fn save(&mut self) -> Result<SavePoint, ParseError> {
+        JsonParser::save(self)
+    }
+
+    fn restore(&mut self, point: SavePoint) {
+        JsonParser::restore(self, point);
+    }
+
+    fn current_span(&self) -> Option<Span> {
+        JsonParser::current_span(self)
+    }
+
+    fn input(&self) -> Option<&'de [u8]> {
+        JsonParser::input(self)
+    }
+
+    fn format_namespace(&self) -> Option<&'static str> {
+        JsonParser::format_namespace(self)
     }
 }

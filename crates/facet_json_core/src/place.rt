@@ -1,11 +1,11 @@
 //! Where a parser stands in a document, and what follows from a token there.
 
-ghost use Rattle.std.specs.Prelude.{◌≡◌, List, Some};
+ghost use Rattle.std.specs.Prelude.{◌≡◌, true, List, Some};
 ghost use Rattle.facet_format.specs.Event.{ContainerKind as SpecContainer};
 ghost use Rattle.facet_json_scan.specs.Token.{Kind};
 ghost use Rattle.facet_json_scan.specs.Views.{kind_of};
 ghost use Rattle.facet_json_core.specs.Place.{root, after_colon, before_key, after_member, before_item, after_item, complaint_at_end, expected_at};
-ghost use Rattle.facet_json_core.specs.Views.{place_of, turn_of, turn_by, expected_text, why_of};
+ghost use Rattle.facet_json_core.specs.Views.{place_of, turn_of, turn_by, expected_text, why_of, is_text};
 
 use crate::refusal::{Expected, Why};
 use facet_format::ContainerKind;
@@ -75,7 +75,8 @@ impl Place {
 
     /// What follows from a token at this place.
     pub fn turn(self, token: &Token) -> Turn
-        ensures { (stack : List SpecContainer) → turn_of stack result ≡ turn_by stack (place_of self) (kind_of token.now) }
+        ensures turn { (stack : List SpecContainer) → turn_of stack result ≡ turn_by stack (place_of self) (kind_of token.now) }
+        ensures names { result ≡ Turn.Names → is_text token.now ≡ true }
     {
         match self {
             Place::Root | Place::AfterColon => value_turn(token),
@@ -102,6 +103,7 @@ fn expected_item(token: &Token) -> Expected
 fn value_turn(token: &Token) -> Turn
     ensures root { (stack : List SpecContainer) → turn_of stack result ≡ turn_by stack root (kind_of token.now) }
     ensures colon { (stack : List SpecContainer) → turn_of stack result ≡ turn_by stack after_colon (kind_of token.now) }
+    ensures names { result ≡ Turn.Names → is_text token.now ≡ true }
 {
     match token {
         Token::ObjectStart => Turn::Opens(ContainerKind::Object),
@@ -117,7 +119,8 @@ fn value_turn(token: &Token) -> Turn
 
 /// The turn of a token behind `{`, or behind a comma in an object.
 fn key_turn(token: &Token) -> Turn
-    ensures { (stack : List SpecContainer) → turn_of stack result ≡ turn_by stack before_key (kind_of token.now) }
+    ensures turn { (stack : List SpecContainer) → turn_of stack result ≡ turn_by stack before_key (kind_of token.now) }
+    ensures names { result ≡ Turn.Names → is_text token.now ≡ true }
 {
     match token {
         Token::ObjectEnd => Turn::Closes(ContainerKind::Object),
@@ -128,7 +131,8 @@ fn key_turn(token: &Token) -> Turn
 
 /// The turn of a token behind a member.
 fn member_turn(token: &Token) -> Turn
-    ensures { (stack : List SpecContainer) → turn_of stack result ≡ turn_by stack after_member (kind_of token.now) }
+    ensures turn { (stack : List SpecContainer) → turn_of stack result ≡ turn_by stack after_member (kind_of token.now) }
+    ensures names { result ≡ Turn.Names → is_text token.now ≡ true }
 {
     match token {
         Token::Comma => Turn::Passes(Place::BeforeKey),
@@ -139,7 +143,8 @@ fn member_turn(token: &Token) -> Turn
 
 /// The turn of a token behind `[`, or behind a comma in an array.
 fn first_item_turn(token: &Token) -> Turn
-    ensures { (stack : List SpecContainer) → turn_of stack result ≡ turn_by stack before_item (kind_of token.now) }
+    ensures turn { (stack : List SpecContainer) → turn_of stack result ≡ turn_by stack before_item (kind_of token.now) }
+    ensures names { result ≡ Turn.Names → is_text token.now ≡ true }
 {
     match token {
         Token::ArrayEnd => Turn::Closes(ContainerKind::Array),
@@ -149,7 +154,8 @@ fn first_item_turn(token: &Token) -> Turn
 
 /// The turn of a token behind an item.
 fn item_turn(token: &Token) -> Turn
-    ensures { (stack : List SpecContainer) → turn_of stack result ≡ turn_by stack after_item (kind_of token.now) }
+    ensures turn { (stack : List SpecContainer) → turn_of stack result ≡ turn_by stack after_item (kind_of token.now) }
+    ensures names { result ≡ Turn.Names → is_text token.now ≡ true }
 {
     match token {
         Token::Comma => Turn::Passes(Place::BeforeItem),

@@ -8,7 +8,6 @@ ghost use Rattle.facet_json_core.specs.Now.{first_standing, span_of};
 ghost use Rattle.facet_json_core.specs.Fill.{Fills, Takes, Lends, Withholds};
 ghost use Rattle.facet_json_core.specs.Views.{refused_of};
 ghost use Rattle.facet_json_core.specs.StandingViews.{standing_of};
-ghost use Rattle.facet_json_core.specs.ReaderViews.{passed_of};
 
 use crate::reader::{Held, Reader};
 use crate::refusal::Refused;
@@ -56,14 +55,17 @@ impl<'de> Standing<'de> {
     pub fn fill(&mut self, alloc: Global, input: &'de [u8], mode: Mode) -> Result<(), Refused>
         requires within { self.old.reader.position ≤ length input.now }
         ensures within { self.new.reader.position ≤ length input.now }
+        ensures forward { self.old.reader.position ≤ self.new.reader.position }
+        ensures last { self.new.last ≡ self.old.last }
         ensures filled { MatchResult result
             (λ _. Fills input.now (mode_of mode) (standing_of self.old) None (standing_of self.new))
             (λ r. Fills input.now (mode_of mode) (standing_of self.old) (Some (refused_of r)) (standing_of self.new)) }
     {
-        if self.held.is_none() {
-            self.shown = false;
-            self.held = self.reader.advance(alloc, input, mode, self.last)?;
+        if self.held.is_some() {
+            return Ok(());
         }
+        self.shown = false;
+        self.held = self.reader.advance(alloc, input, mode, self.last)?;
         Ok(())
     }
 
@@ -109,18 +111,6 @@ impl<'de> Standing<'de> {
             reader: self.reader.copy(alloc)?,
             held,
             shown: self.shown,
-            last: self.last,
-        })
-    }
-}
-
-impl<'de> Held<'de> {
-    /// The same event.
-    fn copy(&self, alloc: Global) -> Result<Held<'de>, AllocError>
-        ensures { IfOk result (λ h. passed_of h ≡ passed_of self.now) }
-    {
-        Ok(Held {
-            event: self.event.clone(alloc)?,
             last: self.last,
         })
     }
