@@ -116,7 +116,7 @@ refused-of old given s _ r k on again (refuses _ t none f) le = stops-by old giv
 room-of : (old : Now) (given : List Event) (s : Standing) (mid : Now) (p : Passed) (k : ℕ) → (old.refusal ≡ None → IsOn old given s) →
     FillsParser (with_standing old s) None mid → mid.standing.held ≡ Some p → length given ≤ k →
     Moves Complains old (events (suc k)) (batch given (Err (no_memory_at (span_of mid.standing))))
-        (with_refusal mid mid.standing (no_memory_at (span_of mid.standing)))
+    (with_refusal mid mid.standing (no_memory_at (span_of mid.standing)))
 room-of old given s _ p k on (fills t none f) held le =
     let there = on none in
     let same = fills-same old.buffer old.mode s t f in
@@ -173,9 +173,12 @@ pub given-more : (start now next : List ParseEvent) (old cur new : Now) (e : Par
     (given : List ParseEvent) × (now ≡ start ++ given) × (length given ≡ count) × Batch old (map event_of given) cur →
     next ≡ now ++ e ∷ [] → GivesOne cur (Ok (Some (event_of e))) new →
     (given : List ParseEvent) × (next ≡ start ++ given) × (length given ≡ count + 1) × Batch old (map event_of given) new
-given-more start now next old cur new e count (given, items, n, b) more one =
-    (given ++ e ∷ [], more ∙ (ap (λ xs. xs ++ e ∷ []) items ∙ append_assoc start given (e ∷ [])), rw length-append (omega (arith, n)),
-    subst (λ x. Batch old x new) (sym (map-append event_of given (e ∷ []))) (batch-more old cur new (map event_of given) (event_of e) b one))
+given-more start now next old cur new e count (given, items, n, b) more one = (
+  given ++ e ∷ [],
+  more ∙ (ap (λ xs. xs ++ e ∷ []) items ∙ append_assoc start given (e ∷ [])),
+  rw length-append (omega (arith, n)),
+  subst (λ x. Batch old x new) (sym (map-append event_of given (e ∷ []))) (batch-more old cur new (map event_of given) (event_of e) b one),
+)
 
 -- The end came behind what is given.
 pub given-end : (start now next : List ParseEvent) (old cur new : Now) (count limit : ℕ) →
@@ -184,9 +187,12 @@ pub given-end : (start now next : List ParseEvent) (old cur new : Now) (count li
     (given : List ParseEvent) × (next ≡ start ++ given) × Moves Complains old (events limit) (answer_of_events given (Ok count)) new
 given-end start now next old cur new count zero g same less one = absurd (omega (arith, less))
 given-end start now next old cur new count (suc k) (given, items, n, b) same less one =
-    let len : length (map event_of given) ≡ count = rw length-map n in
-    (given, same ∙ items, subst (λ x. Moves Complains old (events (suc k)) (batch (map event_of given) (Ok x)) new) len
-    (batch-end old cur new (map event_of given) k b one (omega (arith, len, less))))
+    let len : length (map event_of given) ≡ count = rw length-map n in (
+      given,
+      same ∙ items,
+      subst (λ x. Moves Complains old (events (suc k)) (batch (map event_of given) (Ok x)) new) len
+          (batch-end old cur new (map event_of given) k b one (omega (arith, len, less))),
+    )
 
 -- A refusal came behind what is given.
 pub given-refused : (start now next : List ParseEvent) (old cur new : Now) (e : ParseError) (count limit : ℕ) →

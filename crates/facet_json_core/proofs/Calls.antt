@@ -85,7 +85,7 @@ pub next-taken : (now mid : Now) (e : Event) (s : Standing) → FillsParser now 
     Moves Complains now next (event (Ok (Some e))) (with_standing mid s)
 next-taken now _ e s (fills t none f) taken =
     let move = passes taken.p (behind_held now.buffer now.mode t) (behind t taken.p) none
-        (fills-holds now.buffer now.mode now.standing t taken.p f taken.held) (record { comes = refl; last_is = refl; peeked_is = refl }) in
+    (fills-holds now.buffer now.mode now.standing t taken.p f taken.held) (record { comes = refl; last_is = refl; peeked_is = refl }) in
     rw (taken.event, taken.new) move
 
 pub next-ended : (now mid : Now) (s : Standing) → FillsParser now None mid → mid.standing.held ≡ None → s ≡ mid.standing →
@@ -118,8 +118,8 @@ peek-shown now _ e s (fills t none f) lent =
     let held = lent.held in
     let shown : is_shown t.held true ≡ true = rw held refl in
     let move = peeks p (behind_held now.buffer now.mode t) (record t { shown = true }) none
-        (fills-holds now.buffer now.mode now.standing t p f held)
-        (record { comes = held-comes now.buffer now.mode t p held; last_is = same.last_is; peeked_is = shown }) in
+    (fills-holds now.buffer now.mode now.standing t p f held)
+    (record { comes = held-comes now.buffer now.mode t p held; last_is = same.last_is; peeked_is = shown }) in
     rw (lent.event, lent.new) move
 
 pub peek-ended : (now mid : Now) (s : Standing) → FillsParser now None mid → mid.standing.held ≡ None → s ≡ mid.standing →
@@ -132,7 +132,7 @@ pub peek-withheld : (now mid : Now) (s : Standing) → FillsParser now None mid 
     Moves Complains now peek (event (Err (no_memory_at (span_of s)))) (with_refusal mid s (no_memory_at (span_of s)))
 peek-withheld now _ s (fills t none f) w =
     let move = peeks_without_memory w.p (behind_held now.buffer now.mode t) t none
-        (fills-holds now.buffer now.mode now.standing t w.p f w.held) w.takes (fills-same now.buffer now.mode now.standing t f) in
+    (fills-holds now.buffer now.mode now.standing t w.p f w.held) w.takes (fills-same now.buffer now.mode now.standing t f) in
     rw w.new move
 
 pub peek-answers : (now mid made : Now) (o : Option ParseEvent) (s : Standing) → FillsParser now None mid → made ≡ mid →

@@ -134,7 +134,7 @@ point-taken bytes counter number (p ∷ points) zero d h same a =
 point-taken bytes counter number (p ∷ points) (suc i) d h same a =
     let more = point-taken bytes counter number points i d (omega (arith, h)) same a.3 in
     let other : p.number ≢ number = λ e. absent (found number (map point_of points)) _
-        (subst (λ x. found x (map point_of points) ≡ None) e a.2) more.here in
+    (subst (λ x. found x (map point_of points) ≡ None) e a.2) more.here in
     record {
       here = rw (ne_eqb p.number number other) more.here;
       others = rw (ne_eqb p.number number other) (ap (λ ps. point_of p ∷ ps) more.others);

@@ -14,8 +14,8 @@ ghost use Rattle.facet_json_core.specs.Fill.{FillsParser, GivesOne};
 ghost use Rattle.std.specs.Option.{option_map};
 ghost use Rattle.std.specs.VecDeque.{deque_len, deque_capacity};
 
-use crate::refusal::Refused;
 use crate::points::{Point, bring_back, keep};
+use crate::refusal::Refused;
 use crate::standing::Standing;
 use facet_format::{FormatParser, ParseError, ParseEvent, SavePoint, Span};
 use facet_json_scan::Mode;

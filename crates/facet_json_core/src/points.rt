@@ -48,8 +48,8 @@ pub fn bring_back<'de>(points: &mut Vec<Point<'de>>, number: u64) -> Option<Stan
     ensures { MatchOption result
         ((found number (map point_of points.old.items) ≡ None) × (points.new.items ≡ points.old.items))
         (λ s. (bytes counter : ℕ) → ArePoints bytes counter (map point_of points.old.items)
-            → (found number (map point_of points.old.items) ≡ Some (standing_of s))
-            × (map point_of points.new.items ≡ without number (map point_of points.old.items))) }
+        → (found number (map point_of points.old.items) ≡ Some (standing_of s))
+        × (map point_of points.new.items ≡ without number (map point_of points.old.items))) }
 {
     let at = place_of(points, number)?;
     Some(points.remove(at).standing)

@@ -87,8 +87,8 @@ impl<'de> Standing<'de> {
         ensures reader { self.new.reader ≡ self.old.reader }
         ensures shown { MatchResult result
             (λ shown. MatchOption shown
-                ((standing_of self.new ≡ standing_of self.old) × ((standing_of self.old).held ≡ None))
-                (λ e. Lends (standing_of self.old) (event_of e) (standing_of self.new)))
+            ((standing_of self.new ≡ standing_of self.old) × ((standing_of self.old).held ≡ None))
+            (λ e. Lends (standing_of self.old) (event_of e) (standing_of self.new)))
             (λ _. Withholds (standing_of self.old) (standing_of self.new)) }
     {
         let Some(held) = &self.held else {

@@ -9,8 +9,8 @@ returns-in_err-self-clause-filled c =
     let none = nothing_held c.args.self.now.held (sym c.is_some.ensures ∙ c.if-is_some.false) in
     rw (p.1, p.2) (refused-fills c.args.input.now _ c.args.self.now c.advance.new.self _ none c.in_err-self.ensures.read)
 
-pub returns-in_ok-self-clause-filled : goal.returns-in_ok-self-clause-filled
-returns-in_ok-self-clause-filled c =
+pub returns-clause-filled : goal.returns-clause-filled
+returns-clause-filled c =
     let none = nothing_held c.args.self.now.held (sym c.is_some.ensures ∙ c.if-is_some.false) in
     given-fills c.args.input.now _ c.args.self.now c.advance.new.self c.in_ok-self.field-0 none c.in_ok-self.ensures.read
 
