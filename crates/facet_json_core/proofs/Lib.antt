@@ -24,3 +24,4 @@ pub mod Comings
 pub mod Readings
 pub mod Colons
 pub mod Advancing
+pub mod Scripts

@@ -1,6 +1,9 @@
 //! Calls of a parser as values, made in order: by lists of them a parser is tried and compared.
 
 ghost use Rattle.std.specs.Prelude.{◌≡◌, ◌+◌, ◌≤◌, List, length, map, IfOk, IfErr};
+ghost use Rattle.facet_format.specs.Event.{Passed};
+ghost use Rattle.facet_format.specs.Cursor.{Cursor, Run};
+ghost use Rattle.facet_json_core.specs.Now.{StandsAt};
 ghost use Rattle.facet_json_core.specs.Refusal.{Complains};
 ghost use Rattle.facet_json_core.specs.Move.{Moves, MovesAll};
 ghost use Rattle.facet_json_core.specs.ScriptViews.{call_of, answer_of};
@@ -73,6 +76,8 @@ pub fn drive<'de>(
     calls: &[Call],
 ) -> Result<Vec<Answer<'de>>, AllocError>
     ensures moves { IfOk result (λ answers. MovesAll Complains parser.old (map call_of calls.now) (map answer_of answers.items) parser.new) }
+    ensures run { IfOk result (λ answers. (w : List Passed) (c : Cursor) → StandsAt parser.old w c
+        → (d : Cursor) × Run w c (map call_of calls.now) (map answer_of answers.items) d × StandsAt parser.new w d) }
     ensures unmoved { IfErr result (λ _. parser.new ≡ parser.old) }
 {
     let mut answers = Vec::with_capacity(alloc, calls.len())?;
