@@ -21,6 +21,10 @@ pub mod PointLaws
 pub mod BegunBegins
 pub mod Borrowed
 pub mod Halts
+pub mod Filling
+pub mod Calls
+pub mod KeptPoints
+pub mod Batches
 pub mod FaultTexts
 pub mod Scans
 pub mod Unread
@@ -30,3 +34,4 @@ pub mod Readings
 pub mod Colons
 pub mod Advancing
 pub mod Ranges
+pub mod Scripts

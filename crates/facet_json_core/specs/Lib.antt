@@ -16,6 +16,9 @@ pub mod Sound
 pub mod Alone
 pub mod EventLaws
 pub mod Views
-pub mod TokenViews
 pub mod ReaderViews
 pub mod StandingViews
+pub mod Fill
+pub mod Ready
+pub mod TokenViews
+pub mod ScriptViews

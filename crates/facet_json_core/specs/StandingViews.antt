@@ -1,14 +1,15 @@
--- What a standing of the code stands for in the definitions.
-use Rattle.std.specs.Prelude.{◌≡◌, ℕ, List, None, Result, Ok, Err}
+-- What a parser's standing and its points stand for in the definitions.
+use Rattle.std.specs.Prelude.{ℕ, List, map, Option}
 use Rattle.std.specs.Option.{option_map}
-use Rattle.facet_json_core.specs.declared.refusal.Refused.{Refused}
-use Rattle.facet_json_core.specs.declared.standing.Standing.{Standing as RustStanding}
 use Rattle.facet_format.specs.Views.{span_of}
-use Rattle.facet_json_scan.specs.Gap.{Mode}
-use Rattle.facet_json_core.specs.Future.{Future, finished}
-use Rattle.facet_json_core.specs.Now.{Standing, future_at}
+use Rattle.facet_json_core.specs.declared.standing.Standing.{Standing as RustStanding}
+use Rattle.facet_json_core.specs.declared.points.Point.{Point}
+use Rattle.facet_json_scan.specs.declared.mode.Mode.{Mode}
+use Rattle.facet_json_scan.specs.Views.{mode_of}
+use Rattle.facet_json_core.specs.declared.refusal.Refused.{Refused}
+use Rattle.facet_json_core.specs.Now.{Standing, Now}
 use Rattle.facet_json_core.specs.Views.{refused_of}
-use Rattle.facet_json_core.specs.ReaderViews.{stage_of, passed_of, IsRefusedBefore}
+use Rattle.facet_json_core.specs.ReaderViews.{stage_of, passed_of}
 
 abbrev pub standing_of : RustStanding → Standing
 standing_of s = record {
@@ -20,16 +21,16 @@ standing_of s = record {
   last = span_of s.last;
 }
 
--- what is given out from the standing on
-abbrev pub awaits : List ℕ → Mode → RustStanding → Future
-awaits buffer mode s = future_at buffer mode (standing_of s)
+abbrev pub point_of : Point → ℕ × Standing
+point_of p = (p.number, standing_of p.standing)
 
--- where none is held, none comes
-abbrev pub IsFilled : List ℕ → Mode → RustStanding → Type 0
-IsFilled buffer mode s = s.held ≡ None → awaits buffer mode s ≡ finished
-
--- The standing is filled, or refused so; what comes is as it was.
-abbrev pub Fills : List ℕ → Mode → RustStanding → RustStanding → Result Unit Refused → Type 0
-Fills buffer mode old new (Ok u) = (awaits buffer mode new ≡ awaits buffer mode old) × IsFilled buffer mode new
-Fills buffer mode old new (Err r) = (awaits buffer mode new ≡ awaits buffer mode old) × (new.held ≡ None)
-    × IsRefusedBefore buffer (span_of old.last) (awaits buffer mode old) (refused_of r)
+-- what a parser with these fields is
+abbrev pub now_of : List ℕ → Mode → RustStanding → Option Refused → List Point → ℕ → Now
+now_of input mode standing refusal points counter = record {
+  buffer = input;
+  mode = mode_of mode;
+  standing = standing_of standing;
+  refusal = option_map refused_of refusal;
+  kept = map point_of points;
+  counter = counter;
+}

@@ -4,9 +4,14 @@
 mod contexts;
 pub mod laws;
 mod materialized;
+mod parser;
 mod place;
+mod points;
 mod reader;
 mod refusal;
+mod script;
 mod standing;
 
 pub use materialized::{MaterializedToken, TokenKind};
+pub use parser::JsonParser;
+pub use script::{Answer, Call, drive};
