@@ -4,3 +4,4 @@ pub mod NumberText
 pub mod NumberSteps
 pub mod CursorLaws
 pub mod KeptLaws
+pub mod CursorSteps

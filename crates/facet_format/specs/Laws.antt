@@ -1,5 +1,7 @@
--- What the definitions of numbers mean, in the subject's own words. Each law is the contract of a function of the module `laws`.
+-- What the definitions of numbers and cursors mean, in the subject's own words. Each law is the contract of a function of the module `laws`.
 use Rattle.std.specs.Prelude.{◌≡◌, ℕ, ◌≤◌, ◌↔◌, true, false, List, length, take}
+use Rattle.facet_format.specs.Event.{Passed}
+use Rattle.facet_format.specs.Cursor.{Cursor, Step, Answer, next, peek}
 use Rattle.facet_format.specs.Number.{Hint, IsNumber, parts, parts_len, parts_hint, is_bare, begins_number, is_number}
 
 -- Where more than a minus stands, the number at the front is a number, and no longer front of the bytes is one.
@@ -12,3 +14,8 @@ NumberIsLongest = (bytes : List ℕ) → begins_number bytes ≡ true → is_bar
 -- A text is tested to be a number with a hint exactly where it is one.
 abbrev pub NumberIsTested : Type 0
 NumberIsTested = (text : List ℕ) (hint : Hint) → (is_number text hint ≡ true) ↔ IsNumber text hint
+
+-- The call behind a peek answers what the peek did.
+abbrev pub PeekIsNext : Type 0
+PeekIsNext = (w : List Passed) (c between last : Cursor) (shown answer : Answer) → Step w c peek shown between →
+    Step w between next answer last → shown ≡ answer

@@ -1,7 +1,7 @@
-//! What the definitions of numbers mean, in the subject's own words: each law is the contract of a function without
-//! effect.
+//! What the definitions of numbers and cursors mean, in the subject's own words: each law is the contract of a function
+//! without effect.
 
-ghost use Rattle.facet_format.specs.Laws.{NumberIsLongest, NumberIsTested};
+ghost use Rattle.facet_format.specs.Laws.{NumberIsLongest, NumberIsTested, PeekIsNext};
 
 /// Where more than a minus stands, the number at the front of the bytes is a number, and no longer front of them is one
 /// (RFC 8259, section 6).
@@ -12,4 +12,10 @@ pub fn number_is_longest()
 /// A text is tested to be a number with a hint exactly where it is one (RFC 8259, section 6).
 pub fn number_is_tested()
     ensures { NumberIsTested }
+{}
+
+/// A peek is the next event: the call behind it answers what it did, a refusal too, and want of memory comes between
+/// them nowhere.
+pub fn peek_is_next()
+    ensures { PeekIsNext }
 {}

@@ -1,5 +1,8 @@
 //! What the public types derive, copies, equality and how they are shown, and what conversions keep.
 
+mod event;
+mod parser;
+
 use crate::numeral::NumberHint;
 use crate::{Decimal, DeserializeError, DeserializeErrorKind, ParseError, Span};
 use std::alloc::Global;

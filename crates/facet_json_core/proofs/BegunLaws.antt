@@ -165,6 +165,7 @@ module _ (m : Meaning) where
 
   mutual
     unfolding reads
+
     stuck-suffix : (ts : Tokens) → EndsIn ts
     stuck-suffix ts stack over [] here rest e = cc
     stuck-suffix ts stack over (p ∷ events) here rest e = cc

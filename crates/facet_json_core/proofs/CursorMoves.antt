@@ -114,9 +114,11 @@ module _ (complains : Token → Refusal → Type 0) (now : Now) (w : List Passed
       let one : c.spot.place + 1 ≡ suc c.spot.place = omega arith in
       let last : p.last ≡ last_of w (c.spot.place + 1) = rw (one, there) refl in
       let behind : future ≡ events_before (drop (c.spot.place + 1) w) finished = rw one first.behind in
-      let within : c.spot.place + 1 ≤ length w = rw one first.place_within in
-      (at_spot c (moved c.spot 1), cursor.passes p (no_refusal none) there,
-      settled s (moved c.spot 1) (shows-on now.buffer now.mode w s (moved c.spot 1) future p.last shows behind last within))
+      let within : c.spot.place + 1 ≤ length w = rw one first.place_within in (
+        at_spot c (moved c.spot 1),
+        cursor.passes p (no_refusal none) there,
+        settled s (moved c.spot 1) (shows-on now.buffer now.mode w s (moved c.spot 1) future p.last shows behind last within),
+      )
 
   -- An event is shown.
   peeked : (p : Passed) (future : Future) (s : Standing) → now.refusal ≡ None → future_of now ≡ gives p future →
@@ -124,9 +126,11 @@ module _ (complains : Token → Refusal → Type 0) (now : Now) (w : List Passed
       StepsTo w c peek (event (Ok (Some p.event))) (with_standing now s)
   peeked p future s none comes shows =
       let here = stands.standing in
-      let first = comes-event w c.spot.place p future (sym here.comes ∙ comes) in
-      (at_spot c (peeked_at c.spot), cursor.peeks p (no_refusal none) first.there,
-      settled s (peeked_at c.spot) (shows-on now.buffer now.mode w s (peeked_at c.spot) (gives p future) now.standing.last shows (sym comes ∙ here.comes) here.last here.place_within))
+      let first = comes-event w c.spot.place p future (sym here.comes ∙ comes) in (
+        at_spot c (peeked_at c.spot),
+        cursor.peeks p (no_refusal none) first.there,
+        settled s (peeked_at c.spot) (shows-on now.buffer now.mode w s (peeked_at c.spot) (gives p future) now.standing.last shows (sym comes ∙ here.comes) here.last here.place_within),
+      )
 
   -- The end is there.
   no_more : now.refusal ≡ None → future_of now ≡ finished → cursor.upcoming w c.spot ≡ None
@@ -231,25 +235,31 @@ module _ (complains : Token → Refusal → Type 0) (now : Now) (w : List Passed
   moves-step (saves none h) =
       let same = stands.counter in
       let points = with_point-alike now.buffer now.mode w (suc c.counter) now.standing c.spot stands.kept stands.standing in
-      let step : Step w c save (saved (Ok (suc now.counter))) (kept_here c) = rw same (cursor.saves (no_refusal none) (rw same at h)) in
-      (kept_here c, step, record {
-        standing = stands.standing;
-        refusal = stands.refusal;
-        kept = rw same points;
-        counter = ap suc same;
-      })
+      let step : Step w c save (saved (Ok (suc now.counter))) (kept_here c) = rw same (cursor.saves (no_refusal none) (rw same at h)) in (
+        kept_here c,
+        step,
+        record {
+          standing = stands.standing;
+          refusal = stands.refusal;
+          kept = rw same points;
+          counter = ap suc same;
+        },
+      )
   moves-step (saves_at_the_limit none e) =
       rw current (c, cursor.saves_at_the_limit (no_refusal none) (sym stands.counter ∙ e), stands)
   moves-step (saves_without_memory none h) =
       rw current (c, cursor.saves_without_memory (no_refusal none) (rw stands.counter at h), stands)
   moves-step (restores point s e) =
-      let there = found-alike now.buffer now.mode w point s stands.kept e in
-      (cursor.back_at c point there.0, cursor.restores point there.0 there.1, record {
-        standing = there.2;
-        refusal = refl;
-        kept = without-alike now.buffer now.mode w point stands.kept;
-        counter = stands.counter;
-      })
+      let there = found-alike now.buffer now.mode w point s stands.kept e in (
+        cursor.back_at c point there.0,
+        cursor.restores point there.0 there.1,
+        record {
+          standing = there.2;
+          refusal = refl;
+          kept = without-alike now.buffer now.mode w point stands.kept;
+          counter = stands.counter;
+        },
+      )
   moves-step (restores_nothing point e) =
       (c, cursor.restores_nothing point (lost-alike now.buffer now.mode w point stands.kept e), stands)
   moves-step tells = rw current (c, cursor.tells, stands)

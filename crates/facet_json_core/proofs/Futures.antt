@@ -216,6 +216,7 @@ member_meant m key mark node members all e = put_pair_meant (text_of (m key)) (t
 module _ (m : Meaning) where
   mutual
     unfolding tree_of walk
+
     -- From the front of a value on its walk comes, then what comes behind a value.
     pub walk-comes : {ts rest : Tokens} {node : Node} (value : Tree) → Spells ts node rest → tree_of m node ≡ Some value →
         (stack : List ContainerKind) (place : Place) → TakesValue place →

@@ -12,3 +12,16 @@ pub mod BegunLaws
 pub mod CursorMoves
 pub mod MoveLaws
 pub mod Outcomes
+pub mod Filling
+pub mod Calls
+pub mod KeptPoints
+pub mod Batches
+pub mod FaultTexts
+pub mod Scans
+pub mod Unread
+pub mod Turns
+pub mod Comings
+pub mod Readings
+pub mod Colons
+pub mod Advancing
+pub mod Scripts

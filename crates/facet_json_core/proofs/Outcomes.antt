@@ -362,12 +362,14 @@ module _ (m : Meaning) (sane : IsMeaning m) where
         place_turn stack place t.kind ≡ value_turn stack t.kind → 2 * suc (count rest) ≤ n → ValueComes m stack place (next t rest)
     value_out zero stack place t rest at j h = absurd (omega arith)
     value_out (suc n) stack place t rest at j h = elim (sense m t) [
-          without e ↦ stops_here stack place (next t rest) (reads-meaningless stack place t rest e)
-        | sensible e ↦ elim (as_value stack t.kind) [
-          opens_list k ↦ list_stands stack place t rest at k (items_out n stack rest (omega arith))
+      | without e ↦ stops_here stack place (next t rest) (reads-meaningless stack place t rest e)
+      | sensible e ↦ elim (as_value stack t.kind) [
+        | opens_list k ↦ list_stands stack place t rest at k (items_out n stack rest (omega arith))
         | opens_object k ↦ object_stands stack place t rest at k (members_out n stack rest (omega arith))
         | is_one k ↦ one_stands stack place t rest k e
-        | no_value k ↦ stops_here stack place (next t rest) (reads-stops stack place t rest e (j ∙ k)) ] ]
+        | no_value k ↦ stops_here stack place (next t rest) (reads-stops stack place t rest e (j ∙ k))
+      ]
+    ]
 
     value_at : (n : ℕ) (stack : List ContainerKind) (place : Place) (ts : Tokens) → TakesValue place →
         ((kind : Kind) → place_turn stack place kind ≡ value_turn stack kind) → 2 * count ts + 1 ≤ n → ValueComes m stack place ts
@@ -381,10 +383,12 @@ module _ (m : Meaning) (sane : IsMeaning m) where
     items_out (suc n) stack ended h = list_stops stack ended (reads-ended (array ∷ stack) before_item)
     items_out (suc n) stack (refused f) h = list_stops stack (refused f) (reads-refused (array ∷ stack) before_item f)
     items_out (suc n) stack (next t rest) h = elim (sense m t) [
-          without e ↦ list_stops stack (next t rest) (reads-meaningless (array ∷ stack) before_item t rest e)
-        | sensible e ↦ elim (as_item (array ∷ stack) t.kind) [
-          closes_list k ↦ list_ends stack t rest k
-        | as_any j ↦ item_out n stack (next t rest) (value_out n (array ∷ stack) before_item t rest of_list j (omega arith)) (omega arith) ] ]
+      | without e ↦ list_stops stack (next t rest) (reads-meaningless (array ∷ stack) before_item t rest e)
+      | sensible e ↦ elim (as_item (array ∷ stack) t.kind) [
+        | closes_list k ↦ list_ends stack t rest k
+        | as_any j ↦ item_out n stack (next t rest) (value_out n (array ∷ stack) before_item t rest of_list j (omega arith)) (omega arith)
+      ]
+    ]
 
     item_out : (n : ℕ) (stack : List ContainerKind) (ts : Tokens) → ValueComes m (array ∷ stack) before_item ts →
         2 * count ts ≤ n → ItemsCome m stack ts
@@ -396,22 +400,26 @@ module _ (m : Meaning) (sane : IsMeaning m) where
     item_out zero stack ts (value_stands (next u others) node value s t) h =
         absurd (omega (arith, spelled-fewer ts others node u s))
     item_out (suc n) stack ts (value_stands (next u others) node value s t) h = elim (sense m u) [
-          without e ↦ item_stops stack ts (next u others) node value s t (reads-meaningless (array ∷ stack) after_item u others e)
-        | sensible e ↦ elim (behind_an_item (array ∷ stack) u.kind) [
-          comma_item k ↦ item_goes_on stack ts others node value u s t k (items_out n stack others (omega (arith, spelled-fewer ts others node u s)))
+      | without e ↦ item_stops stack ts (next u others) node value s t (reads-meaningless (array ∷ stack) after_item u others e)
+      | sensible e ↦ elim (behind_an_item (array ∷ stack) u.kind) [
+        | comma_item k ↦ item_goes_on stack ts others node value u s t k (items_out n stack others (omega (arith, spelled-fewer ts others node u s)))
         | ends_list k ↦ item_ends stack ts others node value u s t k
-        | no_comma k ↦ item_stops stack ts (next u others) node value s t (reads-stops (array ∷ stack) after_item u others e k) ] ]
+        | no_comma k ↦ item_stops stack ts (next u others) node value s t (reads-stops (array ∷ stack) after_item u others e k)
+      ]
+    ]
 
     members_out : (n : ℕ) (stack : List ContainerKind) (ts : Tokens) → 2 * count ts + 1 ≤ n → MembersCome m stack ts
     members_out zero stack ts h = absurd (omega arith)
     members_out (suc n) stack ended h = object_stops stack ended (reads-ended (object ∷ stack) before_key)
     members_out (suc n) stack (refused f) h = object_stops stack (refused f) (reads-refused (object ∷ stack) before_key f)
     members_out (suc n) stack (next t rest) h = elim (sense m t) [
-          without e ↦ object_stops stack (next t rest) (reads-meaningless (object ∷ stack) before_key t rest e)
-        | sensible e ↦ elim (as_key (object ∷ stack) t.kind) [
-          closes_object k ↦ object_ends stack t rest k
+      | without e ↦ object_stops stack (next t rest) (reads-meaningless (object ∷ stack) before_key t rest e)
+      | sensible e ↦ elim (as_key (object ∷ stack) t.kind) [
+        | closes_object k ↦ object_ends stack t rest k
         | is_key k j ↦ key_out n stack t rest (name_meant t k e).0 k (name_meant t k e).1 (reads-turn m (object ∷ stack) before_key t rest names (turn-sensible (object ∷ stack) before_key t e ∙ j)) (omega arith)
-        | no_key_here k ↦ object_stops stack (next t rest) (reads-stops (object ∷ stack) before_key t rest e k) ] ]
+        | no_key_here k ↦ object_stops stack (next t rest) (reads-stops (object ∷ stack) before_key t rest e k)
+      ]
+    ]
 
     key_out : (n : ℕ) (stack : List ContainerKind) (key : Token) (rest : Tokens) (name : List ℕ) → is_string key.kind ≡ true →
         text_of (m key) ≡ Some name →
@@ -422,8 +430,9 @@ module _ (m : Meaning) (sane : IsMeaning m) where
         key_stops stack key (refused f) name k p (e ∙ colon-refused (object ∷ stack) key f)
     key_out zero stack key (next mark ts) name k p e h = absurd (omega arith)
     key_out (suc n) stack key (next mark ts) name k p e h = elim (as_colon mark.kind) [
-          is_mark c ↦ member_out n stack key mark ts name k p c (value_at n (object ∷ stack) after_colon ts behind_colon (λ kind. refl) (omega arith)) (omega arith)
-        | no_mark c ↦ key_stops stack key (next mark ts) name k p (e ∙ colon-missing (object ∷ stack) key mark ts c) ]
+      | is_mark c ↦ member_out n stack key mark ts name k p c (value_at n (object ∷ stack) after_colon ts behind_colon (λ kind. refl) (omega arith)) (omega arith)
+      | no_mark c ↦ key_stops stack key (next mark ts) name k p (e ∙ colon-missing (object ∷ stack) key mark ts c)
+    ]
 
     member_out : (n : ℕ) (stack : List ContainerKind) (key mark : Token) (ts : Tokens) (name : List ℕ) →
         is_string key.kind ≡ true → text_of (m key) ≡ Some name → mark.kind ≡ token.colon →
@@ -437,11 +446,13 @@ module _ (m : Meaning) (sane : IsMeaning m) where
     member_out zero stack key mark ts name k p c (value_stands (next u others) node value s t) h =
         absurd (omega (arith, spelled-fewer ts others node u s))
     member_out (suc n) stack key mark ts name k p c (value_stands (next u others) node value s t) h = elim (sense m u) [
-          without e ↦ member_stops stack key mark ts name k p c (next u others) node value s t (reads-meaningless (object ∷ stack) after_member u others e)
-        | sensible e ↦ elim (behind_a_member (object ∷ stack) u.kind) [
-          comma_member q ↦ member_goes_on stack key mark ts name k p c others node value u s t q (members_out n stack others (omega (arith, spelled-fewer ts others node u s)))
+      | without e ↦ member_stops stack key mark ts name k p c (next u others) node value s t (reads-meaningless (object ∷ stack) after_member u others e)
+      | sensible e ↦ elim (behind_a_member (object ∷ stack) u.kind) [
+        | comma_member q ↦ member_goes_on stack key mark ts name k p c others node value u s t q (members_out n stack others (omega (arith, spelled-fewer ts others node u s)))
         | ends_object q ↦ member_ends stack key mark ts name k p c others node value u s t q
-        | no_comma_here q ↦ member_stops stack key mark ts name k p c (next u others) node value s t (reads-stops (object ∷ stack) after_member u others e q) ] ]
+        | no_comma_here q ↦ member_stops stack key mark ts name k p c (next u others) node value s t (reads-stops (object ∷ stack) after_member u others e q)
+      ]
+    ]
 
   -- At the root either a whole value stands, or a front of one, and then nothing comes any more.
   pub root-comes : (ts : Tokens) → ValueComes m [] root ts

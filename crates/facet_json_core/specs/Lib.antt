@@ -13,3 +13,10 @@ pub mod Now
 pub mod Move
 pub mod Begun
 pub mod Sound
+pub mod Views
+pub mod ReaderViews
+pub mod StandingViews
+pub mod Fill
+pub mod Ready
+pub mod TokenViews
+pub mod ScriptViews

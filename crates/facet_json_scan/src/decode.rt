@@ -1,7 +1,7 @@
 //! Strings' contents to text (RFC 8259, section 7), in one pass: runs of bytes up to a backslash are checked and copied
 //! whole, and escapes between them are read one by one, in `escape`.
 
-ghost use Rattle.std.specs.Prelude.{◌≡◌, ℕ, ◌+◌, ◌≤◌, ◌<◌, List, Some, None, true, false, length, slice_range, slice_index, string_bytes, IfOk, IfErr, IfSome, IsUtf8, MatchOption, MatchResult};
+ghost use Rattle.std.specs.Prelude.{◌≡◌, ℕ, ◌+◌, ◌≤◌, ◌<◌, List, Some, None, true, false, length, slice_range, slice_index, string_bytes, IfOk, IfErr, IfSome, IsSome, IsUtf8, MatchOption, MatchResult};
 ghost use Rattle.std.specs.Cow.{cow_str_bytes, IsOwnedStr, IsBorrowedStr};
 ghost use Rattle.facet_json_scan.specs.declared.decode.DecodeError.TheVariants as refusal;
 ghost use Rattle.facet_format.specs.Bytes.{backslash};
@@ -11,9 +11,9 @@ ghost use Rattle.facet_json_scan.specs.Decoders.{has_backslash, IsItsText, IsWit
 mod escape;
 mod unchecked;
 
-use facet_format::Span;
 use crate::token::{ScanError, ScanErrorKind};
 use escape::escape_at;
+use facet_format::Span;
 use std::alloc::{AllocError, Global};
 use std::borrow::CowStr;
 use std::str;
@@ -82,6 +82,32 @@ pub fn decode_string_owned(
         let escape = escape_at(&buf[stop..end], stop)?;
         text.push(escape.character)?;
         at = stop + escape.len;
+    }
+}
+
+/// Whether the content of a string that stands in `buf[start..end]` has a text: the refusal of `decode_string_owned`
+/// where it has none. Takes no memory.
+///
+/// ```text
+/// check_string(br"caf\u00e9\n", 0, 11)   Ok
+/// check_string(br"\ud800", 0, 6)         Err: InvalidUtf8, span 0+6
+/// ```
+pub fn check_string(buf: &[u8], start: usize, end: usize) -> Result<(), ScanError>
+    requires in_order { start ≤ end }
+    requires in_range { end ≤ length buf.now }
+    ensures text { IfOk result (λ _. IsSome (decoded (slice_range buf.now start end))) }
+    ensures none { IfErr result (λ _. decoded (slice_range buf.now start end) ≡ None) }
+    ensures within { IfErr result (λ e. IsWithin start end e.span) }
+{
+    let mut at = start;
+    loop {
+        let stop = run_end(buf, at, end);
+        run_at(buf, at, stop)?;
+        if stop == end {
+            return Ok(());
+        }
+        let found = escape_at(&buf[stop..end], stop)?;
+        at = stop + found.len;
     }
 }
 

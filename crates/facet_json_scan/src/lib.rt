@@ -12,7 +12,7 @@ mod scanner;
 mod token;
 
 pub use decode::{
-    DecodeError, decode_string, decode_string_borrowed, decode_string_borrowed_unchecked,
+    DecodeError, check_string, decode_string, decode_string_borrowed, decode_string_borrowed_unchecked,
     decode_string_owned, decode_string_owned_unchecked, decode_string_unchecked,
 };
 pub use facet_format::numeral::NumberHint;

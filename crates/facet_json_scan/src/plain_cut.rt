@@ -14,10 +14,9 @@ ghost use Rattle.facet_json_scan.specs.Views.{mode_of, kind_of, scanned};
 ghost use Rattle.facet_format.specs.Views.{span_of};
 
 use crate::mode::Mode;
-use facet_format::numeral::parts_at;
-use facet_format::Span;
-use facet_format::numeral::NumberHint;
 use crate::token::{ScanError, ScanErrorKind, ScanResult, SpannedToken, Token};
+use facet_format::Span;
+use facet_format::numeral::{NumberHint, parts_at};
 
 /// Cuts what stands at `position`, byte by byte and without look-ahead: the gap (RFC 8259, section 2), and then a
 /// token, the end or a fault. `buffer` is the whole input.

@@ -7,8 +7,8 @@ ghost use Rattle.facet_format.specs.Bytes.{backslash, lower_u};
 ghost use Rattle.facet_json_scan.specs.Decode.{piece_at, short_of, short_escape as short_escape_of, code_unit as code_unit_of, is_high_surrogate as is_high_surrogate_of, is_low_surrogate as is_low_surrogate_of, low_at};
 ghost use Rattle.facet_json_scan.specs.Decoders.{IsWithin};
 
-use facet_format::Span;
 use crate::token::{ScanError, ScanErrorKind};
+use facet_format::Span;
 
 /// What an escape stands for.
 #[derive(Clone, Copy)]

@@ -4,8 +4,8 @@ use super::{
     DecodeError, decode_string, decode_string_borrowed, decode_string_borrowed_unchecked,
     decode_string_owned, decode_string_owned_unchecked, decode_string_unchecked,
 };
-use facet_format::Span;
 use crate::token::{ScanError, ScanErrorKind};
+use facet_format::Span;
 use std::alloc::{AllocError, Global};
 use std::borrow::CowStr;
 use std::process::Abort;

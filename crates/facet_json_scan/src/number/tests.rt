@@ -1,10 +1,9 @@
 //! Worked rows: which text is which number.
 
 use super::{ParsedNumber, parse_number, parse_number_unchecked};
-use facet_format::Decimal;
-use facet_format::Span;
-use facet_format::numeral::NumberHint;
 use crate::token::{ScanError, ScanErrorKind};
+use facet_format::numeral::NumberHint;
+use facet_format::{Decimal, Span};
 use std::process::Abort;
 use std::test::Fail;
 

@@ -2,9 +2,9 @@
 
 use super::cut;
 use crate::mode::Mode;
+use crate::token::{ScanError, ScanErrorKind, ScanResult, SpannedToken, Token};
 use facet_format::Span;
 use facet_format::numeral::NumberHint;
-use crate::token::{ScanError, ScanErrorKind, ScanResult, SpannedToken, Token};
 use std::process::Abort;
 
 fn token(token: Token, offset: usize, len: usize) -> ScanResult {

@@ -4,8 +4,8 @@ use Rattle.facet_format.specs.Views.{hint_of}
 use Rattle.facet_format.proofs.NumberText.{unsigned-digits, number-unsigned, signed-digits, number-signed, number-none}
 use Rattle.facet_json_scan.proofs.number.number.Goals as goal
 
-pub returns-in_err-parts : goal.returns-in_err-parts
-returns-in_err-parts c =
+pub returns-in_err-parts-clause-number : goal.returns-in_err-parts-clause-number
+returns-in_err-parts-clause-number c =
     rw c.from_residual.ensures (sym (number-none c.args.text.now (hint_of c.args.hint) c.in_err-parts.ensures))
 
 pub unsigned_number-requires : goal.unsigned_number-requires
@@ -17,13 +17,13 @@ negative_number-requires c =
     let same = ap (λ (p : Parts). p.sign) c.in_ok-parts.ensures.0.0 in
     signed-digits c.args.text.now _ same (rw c.in-Signed.is at c.in_ok-parts.ensures.1)
 
-pub returns-in-Unsigned : goal.returns-in-Unsigned
-returns-in-Unsigned c =
+pub returns-in-Unsigned-clause-number : goal.returns-in-Unsigned-clause-number
+returns-in-Unsigned-clause-number c =
     let is = rw c.in-Unsigned.is at c.in_ok-parts.ensures.1 in
-    rw c.in-Unsigned.is (c.unsigned_number.ensures ∙ sym (number-unsigned c.args.text.now is))
+    rw c.in-Unsigned.is (c.unsigned_number.ensures.number ∙ sym (number-unsigned c.args.text.now is))
 
-pub returns-in-Signed : goal.returns-in-Signed
-returns-in-Signed c =
+pub returns-in-Signed-clause-number : goal.returns-in-Signed-clause-number
+returns-in-Signed-clause-number c =
     let same = ap (λ (p : Parts). p.sign) c.in_ok-parts.ensures.0.0 in
     let is = rw c.in-Signed.is at c.in_ok-parts.ensures.1 in
-    rw c.in-Signed.is (c.negative_number.ensures ∙ sym (number-signed c.args.text.now _ same is))
+    rw c.in-Signed.is (c.negative_number.ensures.number ∙ sym (number-signed c.args.text.now _ same is))

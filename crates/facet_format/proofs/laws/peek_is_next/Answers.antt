@@ -1,0 +1,5 @@
+use Rattle.facet_format.proofs.CursorSteps as steps
+use Rattle.facet_format.proofs.laws.peek_is_next.Goals as goal
+
+pub returns : goal.returns
+returns c = steps.peek-next

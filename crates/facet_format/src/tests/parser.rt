@@ -1,0 +1,77 @@
+//! Generic code over parsers is proved from the trait alone.
+
+ghost use Rattle.std.specs.Prelude.{◌≡◌, List, IfSome};
+ghost use Rattle.facet_format.specs.Event.{Passed};
+ghost use Rattle.facet_format.specs.Cursor.{Cursor};
+ghost use Rattle.facet_format.specs.Views.{event_of};
+
+use crate::{FormatParser, ParseError, ParseEvent, ParseEventKind, SavePoint, ScalarValue, Span};
+use std::collections::VecDeque;
+use std::test::Fail;
+
+/// The event that a peek shows, and the one that follows.
+fn peek_and_next<'de, P: FormatParser<'de>>(
+    parser: &mut P,
+) -> Option<(ParseEvent<'de>, ParseEvent<'de>)>
+    ensures alike { (w : List Passed) (c : Cursor) → P.at parser.old w c
+        → IfSome result (λ events. event_of events.0 ≡ event_of events.1) }
+    ensures stands { (w : List Passed) (c : Cursor) → P.at parser.old w c → (last : Cursor) × P.at parser.new w last }
+{
+    match parser.peek_event() {
+        Ok(Some(shown)) => match parser.next_event() {
+            Ok(Some(event)) => Some((shown, event)),
+            _ => None,
+        },
+        _ => None,
+    }
+}
+
+/// Stands on no walk, and gives `null` again and again.
+#[derive(Drop)]
+struct Nulls;
+
+impl<'de> FormatParser<'de> for Nulls {
+    ghost at = { λ _ _ _. ⊥ };
+
+    fn next_event(&mut self) -> Result<Option<ParseEvent<'de>>, ParseError> {
+        let kind = ParseEventKind::Scalar(ScalarValue::Null);
+        Ok(Some(ParseEvent::new(kind, Span::new(0, 4))))
+    }
+
+    fn peek_event(&mut self) -> Result<Option<ParseEvent<'de>>, ParseError> {
+        self.next_event()
+    }
+
+    fn next_events(
+        &mut self,
+        _buf: &mut VecDeque<ParseEvent<'de>>,
+        _limit: usize,
+    ) -> Result<usize, ParseError> {
+        Ok(0)
+    }
+
+    fn save(&mut self) -> Result<SavePoint, ParseError> {
+        Ok(SavePoint(1))
+    }
+
+    fn restore(&mut self, _point: SavePoint) {}
+
+    fn current_span(&self) -> Option<Span> {
+        None
+    }
+
+    fn input(&self) -> Option<&'de [u8]> {
+        None
+    }
+
+    fn format_namespace(&self) -> Option<&'static str> {
+        None
+    }
+}
+
+#[test]
+fn a_peek_shows_the_next_event(rt: HostRuntime) -> Result<(), Fail> {
+    let (shown, event) = peek_and_next(&mut Nulls).ok_or("two events")?;
+    assert!(rt; shown == event);
+    Ok(())
+}

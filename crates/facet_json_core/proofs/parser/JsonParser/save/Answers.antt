@@ -1,0 +1,40 @@
+use Rattle.std.proofs.Common.{◌∙◌, ap, map}
+use Rattle.std.specs.Option.{option_map}
+use Rattle.facet_format.specs.Cursor.{no_memory_at}
+use Rattle.facet_format.specs.Complaint.{refusal_at, save_limit}
+use Rattle.facet_json_core.specs.Views.{refused_of}
+use Rattle.facet_json_core.specs.StandingViews.{point_of, now_of}
+use Rattle.facet_json_core.proofs.KeptPoints.{at-greatest, below-greatest, next-number, new-ready}
+use Rattle.facet_json_core.proofs.Calls.{none_refused, save-repeats, save-stops, save-fails, save-keeps}
+use Rattle.facet_json_core.proofs.parser.JsonParser.save.Goals as goal
+
+pub returns-in-Some : goal.returns-in-Some
+returns-in-Some c = save-repeats _ _ _ _ c.self.view_is (ap (option_map refused_of) c.in-Some.is) c.from.ensures
+
+pub returns-in_default-checked_add : goal.returns-in_default-checked_add
+returns-in_default-checked_add c =
+    let full = c.in_default-checked_add.ensures in
+    let at = at-greatest c.self.inside.counter full c.self.invariant.counter_fits in
+    save-stops _ _ _ c.self.view_is (none_refused _ c.in_default.not-Some) at
+    (c.from-in_default-checked_add.ensures ∙ c.save_limit.ensures ∙ ap (refusal_at save_limit) c.span.ensures)
+
+pub invariant_of-self : goal.invariant_of-self
+invariant_of-self c =
+    let i = c.self.inside in
+    let e = c.in-Some-checked_add.ensures in
+    new-ready (now_of i.input.now i.mode i.standing i.refusal i.points.items i.counter) (map point_of c.keep.new.points.items) c.in-Some-checked_add.number
+    c.self.invariant (below-greatest i.counter e.0) (next-number i.counter c.in-Some-checked_add.number e.1) c.in-Ok.ensures
+
+pub returns-in-Ok : goal.returns-in-Ok
+returns-in-Ok c =
+    let i = c.self.inside in
+    let e = c.in-Some-checked_add.ensures in
+    save-keeps _ _ (map point_of c.keep.new.points.items) c.in-Some-checked_add.number c.self.view_is (none_refused _ c.in_default.not-Some)
+    (below-greatest i.counter e.0) (next-number i.counter c.in-Some-checked_add.number e.1) c.in-Ok.ensures
+
+pub returns-in-Err : goal.returns-in-Err
+returns-in-Err c =
+    let i = c.self.inside in
+    save-fails _ _ _ _ c.self.view_is (ap (λ ps. now_of i.input.now i.mode i.standing i.refusal ps i.counter) c.in-Err.ensures)
+    (none_refused _ c.in_default.not-Some) (below-greatest i.counter c.in-Some-checked_add.ensures.0)
+    (c.from-in-Err.ensures ∙ c.out_of_memory.ensures ∙ ap no_memory_at c.span-in-Err.ensures)

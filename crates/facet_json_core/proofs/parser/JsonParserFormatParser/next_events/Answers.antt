@@ -1,0 +1,7 @@
+use Rattle.facet_json_core.proofs.Calls.{move-steps}
+use Rattle.facet_json_core.proofs.parser.JsonParserFormatParser.next_events.Goals as goal
+
+pub returns : goal.returns
+returns c =
+    let (given, items, move) = c.next_events.ensures in
+    (given, items, move-steps _ _ _ _ move)

@@ -1,0 +1,278 @@
+//! Reads a document event by event, with a look ahead and points to go back to.
+
+ghost use Rattle.std.specs.Prelude.{◌≡◌, ◌≤◌, List, Some, None, Ok, Err, ◌<◌, length, ◌++◌, OnSome, IfOk, IfSome, IsSome, IsUtf8, codes, MatchOption, MatchResult};
+ghost use Rattle.facet_format.specs.declared.event.ParseEvent.{ParseEvent as RustEvent};
+ghost use Rattle.facet_json_scan.specs.Gap.{plain, jsonc};
+ghost use Rattle.facet_json_scan.specs.Views.{mode_of};
+ghost use Rattle.facet_format.specs.Cursor.{next, peek, events, save, restore, restored, span, spans, no_memory_at};
+ghost use Rattle.facet_format.specs.Standing.{IsStep};
+ghost use Rattle.facet_format.specs.Views.{event_of, parse_refusal, answer_of_event, answer_of_events, answer_of_save, answer_of_span};
+ghost use Rattle.facet_json_core.specs.Refusal.{Complains};
+ghost use Rattle.facet_json_core.specs.Now.{fresh, span_of, StandsAt};
+ghost use Rattle.facet_json_core.specs.Move.{Moves, with_standing, with_refusal};
+ghost use Rattle.facet_json_core.specs.Fill.{FillsParser, GivesOne};
+ghost use Rattle.std.specs.Option.{option_map};
+ghost use Rattle.std.specs.VecDeque.{deque_len, deque_capacity};
+
+use crate::points::{Point, bring_back, keep};
+use crate::refusal::Refused;
+use crate::standing::Standing;
+use facet_format::{FormatParser, ParseError, ParseEvent, SavePoint, Span};
+use facet_json_scan::Mode;
+use std::alloc::Global;
+use std::collections::VecDeque;
+use std::marker::Model;
+
+/// A parser of an input that lives for `'de`.
+#[derive(Debug, Drop)]
+pub struct JsonParser<'de> {
+    alloc: Global,
+    input: &'de [u8],
+    mode: Mode,
+    standing: Standing<'de>,
+    refusal: Option<Refused>,
+    points: Vec<Point<'de>>,
+    counter: u64,
+}
+
+impl<'de> Model for JsonParser<'de> {
+    ghost use Rattle.std.specs.Prelude.{map};
+    ghost use Rattle.std.specs.Option.{option_map};
+    ghost use Rattle.facet_json_scan.specs.Views.{mode_of};
+    ghost use Rattle.facet_json_core.specs.Now.{Now};
+    ghost use Rattle.facet_json_core.specs.Ready.{IsReady};
+    ghost use Rattle.facet_json_core.specs.Views.{refused_of};
+    ghost use Rattle.facet_json_core.specs.StandingViews.{now_of};
+
+    ghost Value = { Now };
+
+    ghost view = { λ p. now_of p.input.now p.mode p.standing p.refusal p.points.items p.counter };
+
+    ghost invariant = { λ p. IsReady (now_of p.input.now p.mode p.standing p.refusal p.points.items p.counter) };
+}
+
+impl<'de> JsonParser<'de> {
+    /// A parser of a plain document.
+    pub fn new(alloc: Global, input: &'de [u8]) -> JsonParser<'de>
+        ensures { result ≡ fresh input.now plain }
+    {
+        JsonParser::in_mode(alloc, input, Mode::Plain)
+    }
+
+    /// A parser of a document with comments.
+    pub fn new_jsonc(alloc: Global, input: &'de [u8]) -> JsonParser<'de>
+        ensures { result ≡ fresh input.now jsonc }
+    {
+        JsonParser::in_mode(alloc, input, Mode::Jsonc)
+    }
+
+    /// A parser of a plain document, over an input that is UTF-8. It answers as the one that checks its strings.
+    pub fn new_trusted(alloc: Global, input: &'de [u8]) -> JsonParser<'de>
+        requires utf8 { IsUtf8 input.now }
+        ensures { result ≡ fresh input.now plain }
+    {
+        JsonParser::in_mode(alloc, input, Mode::Plain)
+    }
+
+    /// A parser of a document with comments, over an input that is UTF-8. It answers as the one that checks its strings.
+    pub fn new_jsonc_trusted(alloc: Global, input: &'de [u8]) -> JsonParser<'de>
+        requires utf8 { IsUtf8 input.now }
+        ensures { result ≡ fresh input.now jsonc }
+    {
+        JsonParser::in_mode(alloc, input, Mode::Jsonc)
+    }
+
+    /// A parser in front of the input.
+    fn in_mode(alloc: Global, input: &'de [u8], mode: Mode) -> JsonParser<'de>
+        ensures { result ≡ fresh input.now (mode_of mode) }
+    {
+        JsonParser {
+            alloc,
+            input,
+            mode,
+            standing: Standing::new(alloc),
+            refusal: None,
+            points: Vec::new(alloc),
+            counter: 0,
+        }
+    }
+
+    /// Reads the next event, where none is held.
+    fn fill(&mut self) -> Result<(), ParseError>
+        ensures { MatchResult result
+            (λ _. FillsParser self.old None self.new)
+            (λ e. FillsParser self.old (Some (parse_refusal e)) self.new) }
+    {
+        if let Some(refused) = self.refusal {
+            return Err(ParseError::from(refused));
+        }
+        match self.standing.fill(self.alloc, self.input, self.mode) {
+            Ok(()) => Ok(()),
+            Err(refused) => {
+                self.refusal = Some(refused);
+                Err(ParseError::from(refused))
+            }
+        }
+    }
+
+    /// Refuses for want of memory from now on.
+    fn refuse_growth(&mut self) -> ParseError
+        ensures error { parse_refusal result ≡ no_memory_at (span_of self.old.standing) }
+        ensures kept { self.new ≡ with_refusal self.old self.old.standing (no_memory_at (span_of self.old.standing)) }
+    {
+        let refused = Refused::out_of_memory(self.standing.span());
+        self.refusal = Some(refused);
+        ParseError::from(refused)
+    }
+
+    /// The next event, or `None` at the document's end.
+    pub fn next_event(&mut self) -> Result<Option<ParseEvent<'de>>, ParseError>
+        ensures { Moves Complains self.old next (answer_of_event result) self.new }
+    {
+        self.fill()?;
+        Ok(self.standing.take())
+    }
+
+    /// The next event, which stays the next one.
+    pub fn peek_event(&mut self) -> Result<Option<ParseEvent<'de>>, ParseError>
+        ensures { Moves Complains self.old peek (answer_of_event result) self.new }
+    {
+        self.fill()?;
+        match self.standing.peek(self.alloc) {
+            Ok(event) => Ok(event),
+            Err(_) => Err(self.refuse_growth()),
+        }
+    }
+
+    /// The next event, once the queue has room for it.
+    fn next_with_room(
+        &mut self,
+        queue: &mut VecDeque<ParseEvent<'de>>,
+    ) -> Result<Option<ParseEvent<'de>>, ParseError>
+        ensures items { queue.new.items ≡ queue.old.items }
+        ensures room { IfOk result (λ o. OnSome o (deque_len queue.new < deque_capacity queue.new)) }
+        ensures event { MatchResult result
+            (λ o. GivesOne self.old (Ok (option_map event_of o)) self.new)
+            (λ e. GivesOne self.old (Err (parse_refusal e)) self.new) }
+    {
+        self.fill()?;
+        if self.standing.held.is_none() {
+            return Ok(None);
+        }
+        match queue.reserve(1) {
+            Ok(()) => Ok(self.standing.take()),
+            Err(_) => Err(self.refuse_growth()),
+        }
+    }
+
+    /// Appends the next events to the queue, up to so many, and answers how many they are. Where a refusal comes, the
+    /// events before it are appended.
+    pub fn next_events(
+        &mut self,
+        buf: &mut VecDeque<ParseEvent<'de>>,
+        limit: usize,
+    ) -> Result<usize, ParseError>
+        ensures { (given : List RustEvent) × (buf.new.items ≡ buf.old.items ++ given)
+            × Moves Complains self.old (events limit) (answer_of_events given result) self.new }
+    {
+        for count in 0..limit {
+            let Some(event) = self.next_with_room(buf)? else {
+                return Ok(count);
+            };
+            buf.push_back_reserved(event);
+        }
+        Ok(limit)
+    }
+
+    /// Keeps where it stands, under a number of its own.
+    pub fn save(&mut self) -> Result<SavePoint, ParseError>
+        ensures { Moves Complains self.old save (answer_of_save result) self.new }
+    {
+        if let Some(refused) = self.refusal {
+            return Err(ParseError::from(refused));
+        }
+        let Some(number) = self.counter.checked_add(1) else {
+            return Err(ParseError::from(Refused::save_limit(self.standing.span())));
+        };
+        match keep(&mut self.points, self.alloc, number, &self.standing) {
+            Ok(()) => {
+                self.counter = number;
+                Ok(SavePoint(number))
+            }
+            Err(_) => Err(ParseError::from(Refused::out_of_memory(self.standing.span()))),
+        }
+    }
+
+    /// Goes back to a point that is kept, and drops the point. Another point changes nothing.
+    pub fn restore(&mut self, point: SavePoint)
+        ensures { Moves Complains self.old (restore point.0) restored self.new }
+    {
+        if let Some(standing) = bring_back(&mut self.points, point.0) {
+            self.standing = standing;
+            self.refusal = None;
+        }
+    }
+
+    /// The bytes of the token that was read last, also by a peek.
+    pub fn current_span(&self) -> Option<Span>
+        ensures { answer_of_span result ≡ spans (Some (span_of self.now.standing)) }
+    {
+        Some(self.standing.span())
+    }
+
+    /// The input.
+    pub fn input(&self) -> Option<&'de [u8]>
+        ensures bytes { IfSome result (λ bytes. bytes.now ≡ self.now.buffer) }
+        ensures given { IsSome result }
+    {
+        Some(self.input)
+    }
+
+    /// The name of the format.
+    pub fn format_namespace(&self) -> Option<&'static str>
+        ensures name { IfSome result (λ name. name.now ≡ codes "json") }
+        ensures given { IsSome result }
+    {
+        Some("json")
+    }
+}
+
+impl<'de> FormatParser<'de> for JsonParser<'de> {
+    ghost at = { StandsAt };
+
+    fn next_event(&mut self) -> Result<Option<ParseEvent<'de>>, ParseError> {
+        JsonParser::next_event(self)
+    }
+
+    fn peek_event(&mut self) -> Result<Option<ParseEvent<'de>>, ParseError> {
+        JsonParser::peek_event(self)
+    }
+
+    fn next_events(
+        &mut self,
+        buf: &mut VecDeque<ParseEvent<'de>>,
+        limit: usize,
+    ) -> Result<usize, ParseError> {
+        JsonParser::next_events(self, buf, limit)
+    }
+
+    fn save(&mut self) -> Result<SavePoint, ParseError> {
+        JsonParser::save(self)
+    }
+
+    fn restore(&mut self, point: SavePoint) {
+        JsonParser::restore(self, point);
+    }
+
+    fn current_span(&self) -> Option<Span> {
+        JsonParser::current_span(self)
+    }
+
+    fn input(&self) -> Option<&'de [u8]> {
+        JsonParser::input(self)
+    }
+
+    fn format_namespace(&self) -> Option<&'static str> {
+        JsonParser::format_namespace(self)
+    }
+}

@@ -1,0 +1,88 @@
+//! Calls of a parser as values, made in order: by lists of them a parser is tried and compared.
+
+ghost use Rattle.std.specs.Prelude.{◌≡◌, ◌+◌, ◌≤◌, List, length, map, IfOk, IfErr};
+ghost use Rattle.facet_format.specs.Event.{Passed};
+ghost use Rattle.facet_format.specs.Cursor.{Cursor, Run};
+ghost use Rattle.facet_json_core.specs.Now.{StandsAt};
+ghost use Rattle.facet_json_core.specs.Refusal.{Complains};
+ghost use Rattle.facet_json_core.specs.Move.{Moves, MovesAll};
+ghost use Rattle.facet_json_core.specs.ScriptViews.{call_of, answer_of};
+
+use crate::parser::JsonParser;
+use facet_format::{ParseError, ParseEvent, SavePoint, Span};
+use std::alloc::{AllocError, Global};
+use std::collections::VecDeque;
+
+/// A call of a parser.
+#[derive(Debug, Clone, Copy, PartialEq, Eq)]
+pub enum Call {
+    /// `next_event`
+    Next,
+    /// `peek_event`
+    Peek,
+    /// `next_events`, up to so many.
+    Events(usize),
+    /// `save`
+    Save,
+    /// `restore`, of the point with this number.
+    Restore(u64),
+    /// `current_span`
+    Span,
+}
+
+/// What a call answers.
+#[derive(Debug, Drop)]
+pub enum Answer<'de> {
+    /// Of `next_event` and `peek_event`.
+    Event(Result<Option<ParseEvent<'de>>, ParseError>),
+    /// Of `next_events`, with the events that were appended.
+    Events(VecDeque<ParseEvent<'de>>, Result<usize, ParseError>),
+    /// Of `save`.
+    Saved(Result<SavePoint, ParseError>),
+    /// Of `restore`, which answers nothing.
+    Restored,
+    /// Of `current_span`.
+    Span(Option<Span>),
+}
+
+impl Call {
+    /// Makes the call.
+    fn make<'de>(self, alloc: Global, parser: &mut JsonParser<'de>) -> Answer<'de>
+        ensures { Moves Complains parser.old (call_of self) (answer_of result) parser.new }
+    {
+        match self {
+            Call::Next => Answer::Event(parser.next_event()),
+            Call::Peek => Answer::Event(parser.peek_event()),
+            Call::Events(limit) => {
+                let mut events = VecDeque::new(alloc);
+                let result = parser.next_events(&mut events, limit);
+                Answer::Events(events, result)
+            }
+            Call::Save => Answer::Saved(parser.save()),
+            Call::Restore(point) => {
+                parser.restore(SavePoint(point));
+                Answer::Restored
+            }
+            Call::Span => Answer::Span(parser.current_span()),
+        }
+    }
+}
+
+/// Makes all calls in order, also behind a refusal. Room for the answers is reserved first; where there is none, no call is
+/// made.
+pub fn drive<'de>(
+    alloc: Global,
+    parser: &mut JsonParser<'de>,
+    calls: &[Call],
+) -> Result<Vec<Answer<'de>>, AllocError>
+    ensures moves { IfOk result (λ answers. MovesAll Complains parser.old (map call_of calls.now) (map answer_of answers.items) parser.new) }
+    ensures run { IfOk result (λ answers. (w : List Passed) (c : Cursor) → StandsAt parser.old w c
+        → (d : Cursor) × Run w c (map call_of calls.now) (map answer_of answers.items) d × StandsAt parser.new w d) }
+    ensures unmoved { IfErr result (λ _. parser.new ≡ parser.old) }
+{
+    let mut answers = Vec::with_capacity(alloc, calls.len())?;
+    for call in calls {
+        answers.push_reserved(call.make(alloc, parser));
+    }
+    Ok(answers)
+}
