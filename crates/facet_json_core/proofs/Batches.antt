@@ -1,25 +1,24 @@
 -- Events that are given one by one are a batch.
-use Rattle.std.proofs.Common.{◌≡◌, ℕ, zero, suc, ◌<◌, ◌≤◌, Bool, true, false, List, [], ◌∷◌, ◌++◌, map, length, Option, Some, None, refl, sym, ap, subst, ◌∙◌, arith, append-nil, append_assoc, length-append, ◌+◌}
+use Rattle.std.proofs.Common.{inl, ◌≡◌, ℕ, zero, suc, ◌<◌, ◌≤◌, Bool, false, List, [], ◌∷◌, ◌++◌, map, length, Option, Some, None, refl, sym, ap, subst, ◌∙◌, arith, append-nil, append_assoc, length-append, ◌+◌}
 use Rattle.std.proofs.lemmas.List.{map-append, length-map}
 use Rattle.facet_format.specs.declared.event.ParseEvent.{ParseEvent}
 use Rattle.facet_format.specs.declared.parse_error.ParseError.{ParseError}
 use Rattle.facet_format.specs.Views.{event_of, parse_refusal, answer_of_events}
-use Rattle.std.specs.Prelude.{Result, Ok, Err}
+use Rattle.std.specs.Prelude.{Ok, Err}
 use Rattle.std.specs.Option.{option_map}
-use Rattle.facet_format.specs.Span.{Span}
 use Rattle.facet_format.specs.Complaint.{Refusal}
-use Rattle.facet_format.specs.Event.{Event, Passed, takes_memory}
-use Rattle.facet_format.specs.Cursor.{Answer, batch, events, no_memory_at}
+use Rattle.facet_format.specs.Event.{Event, Passed}
+use Rattle.facet_format.specs.Cursor.{batch, events, no_memory_at}
 use Rattle.facet_json_scan.specs.Tokens.{Tokens}
 use Rattle.facet_json_core.specs.Place.{Place}
 use Rattle.facet_json_core.specs.Refusal.{Complains}
-use Rattle.facet_json_core.specs.Future.{Future, gives, finished, stuck}
+use Rattle.facet_json_core.specs.Future.{Future, stuck}
 use Rattle.facet_json_core.specs.Now.{Standing, Now, held_before, future_at, future_of, is_shown, is_peeked, span_of}
-use Rattle.facet_json_core.specs.Move.{Moves, repeats, gives_none, gives_all, gives_to_the_end, gives_up, gives_without_memory, Passes, no_events, one_event, still_peeked, with_standing, with_refusal}
+use Rattle.facet_json_core.specs.Move.{Moves, repeats, gives_none, gives_all, gives_to_the_end, gives_up, gives_without_memory, Passes, no_events, still_peeked, with_standing, with_refusal}
 use Rattle.facet_json_core.specs.Fill.{Fills, holds, is_over, lacks_memory, stops, FillsParser, fills, refuses, Takes, GivesOne, gives_event, gives_end, gives_refusal, lacks_room, behind}
 use Rattle.facet_json_core.specs.Fill as fill
 use Rattle.facet_json_core.proofs.MoveLaws.{Passes-one_more}
-use Rattle.facet_json_core.proofs.Calls.{behind_held, held-comes, fills-holds, fills-over, fills-same}
+use Rattle.facet_json_core.proofs.Calls.{behind_held, fills-holds, fills-over, fills-same}
 
 -- These events are passed, and it stands there.
 pub record IsOn (old : Now) (given : List Event) (s : Standing) : Type 0 where
@@ -104,7 +103,7 @@ stops-by old given s t _ k on (lacks_memory p future _ same comes takes off) le 
     (record { comes = same.comes ∙ comes; last_is = same.last_is; peeked_is = same.peeked_is ∙ on.peeked })
 stops-by old given s t r k on (stops place rest _ _ same comes so) le =
     gives_up k given s.last place rest r t on.unrefused
-    (subst (λ x. Passes old.standing.last (future_of old) given s.last x) comes on.passes) le so
+    (subst (λ x. Passes old.standing.last (future_of old) given s.last x) comes on.passes) le (inl so)
     (record { comes = same.comes ∙ comes; last_is = same.last_is; peeked_is = same.peeked_is ∙ stuck-not_shown s.held s.shown place rest _ comes })
 
 refused-of : (old : Now) (given : List Event) (s : Standing) (new : Now) (r : Refusal) (k : ℕ) → (old.refusal ≡ None → IsOn old given s) →

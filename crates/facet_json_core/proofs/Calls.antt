@@ -1,10 +1,9 @@
 -- What a call of a parser answers, behind the reading of the next event, is a move.
-use Rattle.std.proofs.Common.{◌≡◌, ℕ, suc, ◌<◌, ◌≤◌, Bool, true, false, List, [], ◌∷◌, ◌++◌, length, Option, Some, None, refl, sym, ap, subst, ◌∙◌, arith}
+use Rattle.std.proofs.Common.{inl, ◌≡◌, ℕ, suc, ◌<◌, true, false, List, Option, Some, None, refl, sym, subst, ◌∙◌}
 use Rattle.std.specs.Prelude.{Ok, Err, is_some, MatchOption}
 use Rattle.std.specs.Option.{option_map}
-use Rattle.facet_format.specs.Span.{Span}
 use Rattle.facet_format.specs.Complaint.{Refusal, refusal_at, save_limit}
-use Rattle.facet_format.specs.Event.{Event, Passed, takes_memory}
+use Rattle.facet_format.specs.Event.{Event, Passed}
 use Rattle.facet_format.specs.Kept.{found, without, with_point}
 use Rattle.facet_format.specs.Cursor.{Call, Answer, event, saved, restored, spans, next, peek, save, restore, span, greatest, no_memory_at}
 use Rattle.facet_format.specs.Standing.{IsStep}
@@ -13,14 +12,14 @@ use Rattle.facet_format.specs.declared.event.ParseEvent.{ParseEvent}
 use Rattle.facet_format.specs.Views.{event_of}
 use Rattle.facet_json_scan.specs.Gap.{Mode}
 use Rattle.facet_json_core.specs.Refusal.{Complains}
-use Rattle.facet_json_core.specs.Future.{Future, gives, finished, stuck, reads}
+use Rattle.facet_json_core.specs.Future.{Future, gives, finished, reads}
 use Rattle.facet_json_core.specs.declared.refusal.Refused.{Refused}
 use Rattle.facet_json_core.specs.declared.reader.Held.{Held}
 use Rattle.facet_json_core.specs.ReaderViews.{passed_of}
 use Rattle.facet_json_core.specs.Views.{refused_of}
 use Rattle.facet_json_core.specs.Meaning.{meaning}
 use Rattle.facet_json_scan.specs.Tokens.{tokens_from}
-use Rattle.facet_json_core.specs.Now.{Standing, Now, held_before, future_at, future_of, is_shown, is_peeked, span_of, StandsAt}
+use Rattle.facet_json_core.specs.Now.{Standing, Now, future_at, is_shown, span_of, StandsAt}
 use Rattle.facet_json_core.specs.Move.{Moves, repeats, passes, passes_without_memory, passes_the_end, passes_nothing, peeks, peeks_without_memory, peeks_at_the_end, peeks_at_nothing, saves, saves_at_the_limit, saves_without_memory, restores, restores_nothing, tells, with_standing, with_refusal, with_kept, back_at}
 use Rattle.facet_json_core.specs.Fill.{ShowsSame, Fills, holds, is_over, lacks_memory, stops, FillsParser, fills, refuses, Takes, Lends, Withholds, GivesOne, gives_event, gives_end, lacks_room, behind}
 use Rattle.facet_json_core.specs.Fill as fill
@@ -79,7 +78,7 @@ pub next-refused : (now new : Now) (r : Refusal) → FillsParser now (Some r) ne
 next-refused now new r (fill.repeats _ e) = repeats r next (event (Err r)) e refl
 next-refused now _ r (refuses _ t none (lacks_memory p future _ same comes takes off)) =
     passes_without_memory p future t none comes takes off same
-next-refused now _ r (refuses _ t none (stops place rest _ _ same comes so)) = passes_nothing place rest r t none comes so same
+next-refused now _ r (refuses _ t none (stops place rest _ _ same comes so)) = passes_nothing place rest r t none comes (inl so) same
 
 pub next-taken : (now mid : Now) (e : Event) (s : Standing) → FillsParser now None mid → Takes mid.standing e s →
     Moves Complains now next (event (Ok (Some e))) (with_standing mid s)
@@ -108,7 +107,7 @@ pub peek-refused : (now new : Now) (r : Refusal) → FillsParser now (Some r) ne
 peek-refused now new r (fill.repeats _ e) = repeats r peek (event (Err r)) e refl
 peek-refused now _ r (refuses _ t none (lacks_memory p future _ same comes takes off)) =
     peeks_without_memory p future t none comes takes same
-peek-refused now _ r (refuses _ t none (stops place rest _ _ same comes so)) = peeks_at_nothing place rest r t none comes so same
+peek-refused now _ r (refuses _ t none (stops place rest _ _ same comes so)) = peeks_at_nothing place rest r t none comes (inl so) same
 
 pub peek-shown : (now mid : Now) (e : Event) (s : Standing) → FillsParser now None mid → Lends mid.standing e s →
     Moves Complains now peek (event (Ok (Some e))) (with_standing mid s)

@@ -1,6 +1,6 @@
 -- A standing reads the next event: what it shows stays, and it holds what comes, or is refused.
 use Rattle.std.proofs.Common.{◌≡◌, ℕ, Bool, true, false, List, Option, Some, None, refl, sym, ap, subst, ◌∙◌}
-use Rattle.std.specs.Prelude.{Result, Ok, Err, is_some}
+use Rattle.std.specs.Prelude.{Ok, Err, is_some}
 use Rattle.std.specs.Option.{option_map}
 use Rattle.facet_format.specs.Span.{Span}
 use Rattle.facet_format.specs.Complaint.{Refusal}
@@ -12,8 +12,8 @@ use Rattle.facet_json_core.specs.declared.reader.Held.{Held}
 use Rattle.facet_json_core.specs.declared.reader.Reader.{Reader}
 use Rattle.facet_json_core.specs.declared.refusal.Refused.{Refused}
 use Rattle.facet_json_core.specs.declared.standing.Standing.{Standing as RustStanding}
-use Rattle.facet_json_core.specs.Future.{Future, gives, finished, stuck}
-use Rattle.facet_json_core.specs.Now.{Standing, last_shown, future_at, is_peeked}
+use Rattle.facet_json_core.specs.Future.{Future}
+use Rattle.facet_json_core.specs.Now.{Standing, last_shown, future_at}
 use Rattle.facet_json_core.specs.Views.{refused_of}
 use Rattle.facet_json_core.specs.ReaderViews.{passed_of, coming, IsRefusedBefore, without_memory, at_a_stop, Advances}
 use Rattle.facet_json_core.specs.StandingViews.{standing_of}

@@ -1,5 +1,4 @@
 -- What calls and answers of the code stand for in the definitions.
-use Rattle.std.specs.Option.{option_map}
 use Rattle.facet_json_core.specs.declared.script.Call.{Call as RustCall}
 use Rattle.facet_json_core.specs.declared.script.Call.TheVariants as calls
 use Rattle.facet_json_core.specs.declared.script.Answer.{Answer as RustAnswer}

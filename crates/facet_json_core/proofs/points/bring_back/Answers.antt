@@ -1,6 +1,4 @@
-use Rattle.std.proofs.Common.{◌∙◌, refl, sym, ap, arith}
-use Rattle.std.specs.Prelude.{Some}
-use Rattle.facet_json_core.specs.StandingViews.{standing_of}
+use Rattle.std.proofs.Common.{refl}
 use Rattle.facet_json_core.proofs.KeptPoints.{all-missing, point-taken, taken-out}
 use Rattle.facet_json_core.proofs.points.bring_back.Goals as goal
 

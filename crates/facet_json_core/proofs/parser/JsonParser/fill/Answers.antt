@@ -1,4 +1,4 @@
-use Rattle.std.proofs.Common.{refl, sym, ap, ◌∙◌}
+use Rattle.std.proofs.Common.{ap}
 use Rattle.std.specs.Option.{option_map}
 use Rattle.facet_json_core.specs.Views.{refused_of}
 use Rattle.facet_json_core.specs.StandingViews.{standing_of}

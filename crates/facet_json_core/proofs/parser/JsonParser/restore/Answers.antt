@@ -1,5 +1,4 @@
-use Rattle.std.proofs.Common.{◌∙◌, refl, sym, ap, map, length}
-use Rattle.facet_json_core.specs.Ready.{IsReady}
+use Rattle.std.proofs.Common.{ap, map}
 use Rattle.facet_json_core.specs.StandingViews.{standing_of, point_of, now_of}
 use Rattle.facet_json_core.proofs.KeptPoints.{old-ready}
 use Rattle.facet_json_core.proofs.Calls.{restore-brings, restore-leaves}

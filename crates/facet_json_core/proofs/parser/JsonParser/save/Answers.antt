@@ -3,7 +3,7 @@ use Rattle.std.specs.Option.{option_map}
 use Rattle.facet_format.specs.Cursor.{no_memory_at}
 use Rattle.facet_format.specs.Complaint.{refusal_at, save_limit}
 use Rattle.facet_json_core.specs.Views.{refused_of}
-use Rattle.facet_json_core.specs.StandingViews.{standing_of, point_of, now_of}
+use Rattle.facet_json_core.specs.StandingViews.{point_of, now_of}
 use Rattle.facet_json_core.proofs.KeptPoints.{at-greatest, below-greatest, next-number, new-ready}
 use Rattle.facet_json_core.proofs.Calls.{none_refused, save-repeats, save-stops, save-fails, save-keeps}
 use Rattle.facet_json_core.proofs.parser.JsonParser.save.Goals as goal
