@@ -86,3 +86,6 @@ pub fn drive<'de>(
     }
     Ok(answers)
 }
+
+#[cfg(test)]
+mod tests;
