@@ -17,6 +17,7 @@ use Rattle.facet_json_core.specs.Future.{gives, stuck, events_before}
 use Rattle.facet_json_core.specs.Now.{Standing, Now, fresh, future_of}
 use Rattle.facet_json_core.specs.Move.{StopsSo, Moves, repeats, passes, passes_without_memory, passes_the_end, passes_nothing, MovesAll, no_calls, one_call}
 use Rattle.facet_json_core.specs.Begun.{LongestFront, RefusesBehind}
+use Rattle.facet_json_core.specs.ParserLaws.{GivenAlone}
 use Rattle.facet_json_core.specs.Alone.{AllNext, no_call, one_next, AllRefused, no_answer, one_refused, AnswersAlone, not_asked, one_event, refused, wants_memory}
 use Rattle.facet_json_core.proofs.MoveLaws.{moves-repeats}
 use Rattle.facet_json_core.proofs.BegunLaws.{RootComes, document_comes, front_comes, input-comes}
@@ -75,14 +76,6 @@ module _ (complains : Token → Refusal → Type 0) where
     answers-alone events (one_next calls only) free comes h (one_call now between new call answer _ answers move more) =
         step_alone now events free comes h only move more
         (λ p others same none behind there. answers-alone others only none behind there more)
-
--- What a new parser answers by the next event alone, where there is no document.
-pub record GivenAlone (buffer : List ℕ) (mode : Mode) (complains : Token → Refusal → Type 0) (answers : List Answer) : Type 0 where
-  pub events : List Passed
-  pub here : Place
-  pub rest : Tokens
-  pub front : LongestFront (meaning buffer) (tokens buffer mode) events here rest
-  pub alone : AnswersAlone (RefusesBehind buffer mode complains events) events answers
 
 given_by : (buffer : List ℕ) (mode : Mode) (complains : Token → Refusal → Type 0) {new : Now} {calls : List Call} {answers : List Answer} →
     RootComes buffer mode → ((node : Node) (value : Tree) → IsDocument buffer mode node value → ⊥) → AllNext calls →

@@ -22,3 +22,4 @@ pub mod Fill
 pub mod Ready
 pub mod TokenViews
 pub mod ScriptViews
+pub mod ParserLaws

@@ -3,9 +3,11 @@
 
 mod documents;
 mod fronts;
+mod parsers;
 
 pub use documents::{
     document_is_found, one_document, one_spelling, plain_is_jsonc, refused_has_none,
     spelled_is_spells, whole_document_is_found,
 };
 pub use fronts::{begun_is_front, front_gives_walk, front_is_begun, one_given};
+pub use parsers::{alone_is_given, new_stands};

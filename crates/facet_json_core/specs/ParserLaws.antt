@@ -1,0 +1,39 @@
+-- Laws of parsers: where a new one stands, and what reading by the next event alone answers where there is no document.
+use Rattle.std.specs.Prelude.{ℕ, List}
+use Rattle.facet_json_scan.specs.Gap.{Mode}
+use Rattle.facet_json_scan.specs.Token.{Token}
+use Rattle.facet_json_scan.specs.Tokens.{Tokens, tokens}
+use Rattle.facet_format.specs.Complaint.{Refusal}
+use Rattle.facet_format.specs.Event.{Passed}
+use Rattle.facet_format.specs.Cursor.{Call, Answer, start}
+use Rattle.facet_json_core.specs.Node.{Node}
+use Rattle.facet_json_core.specs.Tree.{Tree}
+use Rattle.facet_json_core.specs.Meaning.{meaning}
+use Rattle.facet_json_core.specs.Document.{IsDocument}
+use Rattle.facet_json_core.specs.Place.{Place}
+use Rattle.facet_json_core.specs.Refusal.{Complains}
+use Rattle.facet_json_core.specs.Walk.{walk}
+use Rattle.facet_json_core.specs.Now.{Now, fresh, StandsAt}
+use Rattle.facet_json_core.specs.Move.{MovesAll}
+use Rattle.facet_json_core.specs.Begun.{LongestFront, RefusesBehind}
+use Rattle.facet_json_core.specs.Alone.{AllNext, AnswersAlone}
+
+-- A new parser of an input with a document stands where the cursor starts on the document's walk.
+abbrev pub NewStands : Type 0
+NewStands = (buffer : List ℕ) (mode : Mode) (root : Node) (value : Tree) → IsDocument buffer mode root value →
+    StandsAt (fresh buffer mode) (walk (meaning buffer) root) start
+
+-- What a new parser answers by the next event alone, where there is no document.
+pub record GivenAlone (buffer : List ℕ) (mode : Mode) (complains : Token → Refusal → Type 0) (answers : List Answer) : Type 0 where
+  pub events : List Passed
+  pub here : Place
+  pub rest : Tokens
+  pub front : LongestFront (meaning buffer) (tokens buffer mode) events here rest
+  pub alone : AnswersAlone (RefusesBehind buffer mode complains events) events answers
+
+-- Where the input has no document, a new parser that is asked for the next event alone answers what the longest front gives, one
+-- event a call, and from then on one refusal of what stands behind that front; or from some call on the want of memory.
+abbrev pub AloneIsGiven : Type 0
+AloneIsGiven = (buffer : List ℕ) (mode : Mode) (new : Now) (calls : List Call) (answers : List Answer) →
+    ((node : Node) (value : Tree) → IsDocument buffer mode node value → ⊥) → AllNext calls →
+    MovesAll Complains (fresh buffer mode) calls answers new → GivenAlone buffer mode Complains answers
