@@ -1,12 +1,6 @@
-pub mod Fronts
-pub mod Scans
-pub mod Misplaced
 pub mod QuotedLaws
 pub mod CompactText
 pub mod Escapes
 pub mod TreeViews
-pub mod Unread
-pub mod ReaderSteps
 pub mod TextRows
-pub mod DocumentAnswers
 pub mod QuotedRows
