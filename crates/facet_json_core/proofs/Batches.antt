@@ -1,5 +1,5 @@
 -- Events that are given one by one are a batch.
-use Rattle.std.proofs.Common.{inl, ◌≡◌, ℕ, zero, suc, ◌<◌, ◌≤◌, Bool, false, List, [], ◌∷◌, ◌++◌, map, length, Option, Some, None, refl, sym, ap, subst, ◌∙◌, arith, append-nil, append_assoc, length-append, ◌+◌}
+use Rattle.std.proofs.Common.{◌≡◌, ℕ, zero, suc, ◌<◌, ◌≤◌, Bool, false, List, [], ◌∷◌, ◌++◌, map, length, Option, Some, None, refl, sym, ap, subst, ◌∙◌, arith, append-nil, append_assoc, length-append, ◌+◌}
 use Rattle.std.proofs.lemmas.List.{map-append, length-map}
 use Rattle.facet_format.specs.declared.event.ParseEvent.{ParseEvent}
 use Rattle.facet_format.specs.declared.parse_error.ParseError.{ParseError}
@@ -103,7 +103,7 @@ stops-by old given s t _ k on (lacks_memory p future _ same comes takes off) le 
     (record { comes = same.comes ∙ comes; last_is = same.last_is; peeked_is = same.peeked_is ∙ on.peeked })
 stops-by old given s t r k on (stops place rest _ _ same comes so) le =
     gives_up k given s.last place rest r t on.unrefused
-    (subst (λ x. Passes old.standing.last (future_of old) given s.last x) comes on.passes) le (inl so)
+    (subst (λ x. Passes old.standing.last (future_of old) given s.last x) comes on.passes) le so
     (record { comes = same.comes ∙ comes; last_is = same.last_is; peeked_is = same.peeked_is ∙ stuck-not_shown s.held s.shown place rest _ comes })
 
 refused-of : (old : Now) (given : List Event) (s : Standing) (new : Now) (r : Refusal) (k : ℕ) → (old.refusal ≡ None → IsOn old given s) →

@@ -1,5 +1,5 @@
 -- On every input: the spans that a move answers lie within the input, and each event that is passed leaves fewer bytes behind it.
-use Rattle.std.proofs.Common.{◌≡◌, ℕ, zero, suc, ◌-◌, ◌<◌, ◌≤◌, inl, inr, Bool, true, false, cond, ◌==◌, List, [], ◌∷◌, length, Option, Some, None, refl, sym, subst, arith}
+use Rattle.std.proofs.Common.{◌≡◌, ℕ, zero, suc, ◌-◌, ◌<◌, ◌≤◌, Bool, true, false, cond, ◌==◌, List, [], ◌∷◌, length, Option, Some, None, refl, sym, subst, arith}
 use Rattle.std.specs.Prelude.{Ok, Err, IfSome}
 use Rattle.facet_json_scan.specs.Gap.{Mode}
 use Rattle.facet_format.specs.Span.{Span, stop}
@@ -15,7 +15,7 @@ use Rattle.facet_format.specs.Cursor.{Call, next, restore, Answer, event}
 use Rattle.facet_format.specs.Cursor as cursor
 use Rattle.facet_json_core.specs.Future.{Future, gives, finished, stuck, within}
 use Rattle.facet_json_core.specs.Now.{Standing, Now, fresh, held_before, last_shown, future_at, future_of, is_peeked, span_of, ahead}
-use Rattle.facet_json_core.specs.Move.{NowShows, IsAlike, StopsSo, Passes, no_events, one_event, Moves, repeats, passes, passes_without_memory, passes_the_end, passes_nothing, peeks, peeks_without_memory, peeks_at_the_end, peeks_at_nothing, gives_none, gives_all, gives_to_the_end, gives_up, gives_without_memory, saves, saves_at_the_limit, saves_without_memory, restores, restores_nothing, tells}
+use Rattle.facet_json_core.specs.Move.{NowShows, IsAlike, Passes, no_events, one_event, Moves, repeats, passes, passes_without_memory, passes_the_end, passes_nothing, peeks, peeks_without_memory, peeks_at_the_end, peeks_at_nothing, gives_none, gives_all, gives_to_the_end, gives_up, gives_without_memory, saves, saves_at_the_limit, saves_without_memory, restores, restores_nothing, tells}
 use Rattle.facet_json_core.specs.Sound.{InOrder, at_the_end, at_a_fault, at_a_token, IsSound, sound_event, sound_end, sound_stuck, StandsSound, KeptSound, none_kept, one_kept, RefusalWithin, NowSound, EventsWithin, ResultWithin, AnswerWithin}
 use Rattle.facet_json_core.specs.Sound as sound
 use Rattle.facet_json_core.proofs.SoundFutures.{position-sound}
@@ -149,15 +149,14 @@ module _ (complains : Token → Refusal → Type 0) (c : ComplainsWithin complai
   first-sound p future e = subst (IsSound now.buffer (stop now.standing.last)) e good.standing.sound
 
   -- A refusal where nothing goes on.
-  stops_within : (place : Place) (rest : Tokens) (s : Standing) (r : Refusal) (from : ℕ) → StandsSound now.buffer now.mode s →
-      IsSound now.buffer from (stuck place rest) → StopsSo complains now place rest s r → RefusalWithin now.buffer r
-  stops_within place rest s r from stands o (inl stops) = stuck_sound complains now.buffer now.mode place rest r from c stops o
-  stops_within place rest s r from stands o (inr e) = rw e (span-within now.buffer now.mode s stands)
+  stops_within : (place : Place) (rest : Tokens) (r : Refusal) (from : ℕ) → IsSound now.buffer from (stuck place rest) →
+      IsStuck now.buffer (meaning now.buffer) complains place rest r → RefusalWithin now.buffer r
+  stops_within place rest r from o stops = stuck_sound complains now.buffer now.mode place rest r from c stops o
 
-  ends-sound : (place : Place) (rest : Tokens) (s : Standing) (r : Refusal) → future_of now ≡ stuck place rest →
-      IsAlike now s → StopsSo complains now place rest s r → RefusalWithin now.buffer r
-  ends-sound place rest s r e like stops =
-      stops_within place rest s r _ (alike s like) (subst (IsSound now.buffer (stop now.standing.last)) e good.standing.sound) stops
+  ends-sound : (place : Place) (rest : Tokens) (r : Refusal) → future_of now ≡ stuck place rest →
+      IsStuck now.buffer (meaning now.buffer) complains place rest r → RefusalWithin now.buffer r
+  ends-sound place rest r e stops =
+      stops_within place rest r _ (subst (IsSound now.buffer (stop now.standing.last)) e good.standing.sound) stops
 
   behind : {given : List Event} {last : Span} {future : Future} → Passes now.standing.last (future_of now) given last future →
       PassedSound now.buffer now.standing.last given last future
@@ -207,7 +206,7 @@ module _ (complains : Token → Refusal → Type 0) (c : ComplainsWithin complai
       let stands = alike s like in record { parser = refused s _ stands (last_within s stands); within = last_within s stands }
   moves-sound (passes_the_end s none e like) = record { parser = settled s (alike s like); within = tt }
   moves-sound (passes_nothing place rest r s none e stops like) =
-      let w = ends-sound place rest s r e like stops in record { parser = refused s r (alike s like) w; within = w }
+      let w = ends-sound place rest r e stops in record { parser = refused s r (alike s like) w; within = w }
   moves-sound (peeks p future s none comes shows) =
       let here = first-sound p future comes in
       record { parser = settled s (shows-sound now s (gives p future) now.standing.last true shows good.standing.last_within here); within = event_within p future here }
@@ -215,7 +214,7 @@ module _ (complains : Token → Refusal → Type 0) (c : ComplainsWithin complai
       let stands = alike s like in record { parser = refused s _ stands (last_within s stands); within = last_within s stands }
   moves-sound (peeks_at_the_end s none e like) = record { parser = settled s (alike s like); within = tt }
   moves-sound (peeks_at_nothing place rest r s none e stops like) =
-      let w = ends-sound place rest s r e like stops in record { parser = refused s r (alike s like) w; within = w }
+      let w = ends-sound place rest r e stops in record { parser = refused s r (alike s like) w; within = w }
   moves-sound gives_none = unchanged _ (sound.no_events, tt)
   moves-sound (gives_all k given last future s none all n shows) =
       let there = behind all in
@@ -226,7 +225,7 @@ module _ (complains : Token → Refusal → Type 0) (c : ComplainsWithin complai
   moves-sound (gives_up k given last place rest r s none all le stops shows) =
       let there = behind all in
       let stands = shows-sound now s (stuck place rest) last false shows there.last_within there.sound in
-      let w = stops_within place rest s r _ stands there.sound stops in
+      let w = stops_within place rest r _ there.sound stops in
       record { parser = refused s r stands w; within = (there.within, w) }
   moves-sound (gives_without_memory k given last p future s none all le shows) =
       let there = behind all in
