@@ -4,3 +4,9 @@ pub mod Escapes
 pub mod TreeViews
 pub mod TextRows
 pub mod QuotedRows
+pub mod WalkTells
+pub mod BegunBreaks
+pub mod Told
+pub mod Reading
+pub mod Documents
+pub mod NextMoves

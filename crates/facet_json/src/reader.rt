@@ -1,21 +1,18 @@
 //! Reads the tree of a document, event by event and by recursion.
 
-ghost use Rattle.std.specs.Prelude.{◌≡◌, ◌⊎◌, ◌≤◌, ◌+◌, length, None, Some, IfOk, IfErr, IfSome, OnOk, MatchResult};
+ghost use Rattle.std.specs.Prelude.{◌≡◌, ◌⊎◌, None, Some, IfOk, IfErr, OnOk, MatchResult};
 ghost use Rattle.facet_format.specs.Complaint.{no_memory, out_of_memory};
 ghost use Rattle.facet_format.specs.Event.{bytes_of};
 ghost use Rattle.facet_format.specs.Span.{Span as SpecSpan};
 ghost use Rattle.facet_format.specs.Views.{event_of, refusal_of, scalar_value_of};
 ghost use Rattle.facet_json_scan.specs.Gap.{plain, jsonc};
-ghost use Rattle.facet_json_scan.specs.Tokens.{Tokens};
 ghost use Rattle.facet_json_core.specs.Node.{Node};
-ghost use Rattle.facet_json_core.specs.Tree.{Tree as SpecTree, Trees, Pairs};
-ghost use Rattle.facet_json_core.specs.Place.{Place};
+ghost use Rattle.facet_json_core.specs.Tree.{Tree as SpecTree};
 ghost use Rattle.facet_json_core.specs.Document.{IsDocument};
 ghost use Rattle.facet_json_core.specs.Refusal.{Refuses};
-ghost use Rattle.facet_json_core.specs.Future.{Future};
 ghost use Rattle.facet_json_core.specs.Now.{future_of};
-ghost use Rattle.facet_json.specs.Told.{tree_of_scalar, Tells, TellsItems, TellsMembers, Breaks, BreaksItems, BreaksMembers};
-ghost use Rattle.facet_json.specs.Reading.{first_then, GaveNext, GivesNone, LacksMemory, StopsAt, WentOn};
+ghost use Rattle.facet_json.specs.Told.{tree_of_scalar};
+ghost use Rattle.facet_json.specs.Reading.{first_then, GaveNext, GivesNone, LacksMemory, WentOn, IsValueRead, AreItemsRead, AreMembersRead, IsValueUnread, AreItemsUnread, AreMembersUnread};
 ghost use Rattle.facet_json.specs.Views.{tree_view, trees_view, pairs_view};
 
 use crate::tree::Tree;
@@ -48,10 +45,8 @@ pub fn from_slice_jsonc<'t>(alloc: Global, input: &[u8]) -> Result<Tree, Deseria
 /// The value in front of which the parser stands.
 fn root<'t>(alloc: Global, parser: &mut JsonParser<'_>) -> Result<Tree, DeserializeError<'t>>
     requires free { parser.old.refusal ≡ None }
-    ensures told { (t : SpecTree) (rest : Future) → Tells (future_of parser.old) t rest
-        → MatchResult result (λ v. tree_view v ≡ t) (λ e. LacksMemory (refusal_of e)) }
-    ensures broken { (place : Place) (rest : Tokens) → Breaks place rest (future_of parser.old)
-        → MatchResult result (λ _. ⊥) (λ e. StopsAt parser.old.buffer place rest (refusal_of e)) }
+    ensures read { IfOk result (λ t. IsValueRead (future_of parser.old) (tree_view t) (future_of parser.new)) }
+    ensures refused { IfErr result (λ e. IsValueUnread parser.old.buffer (future_of parser.old) (refusal_of e)) }
 {
     let first = next(parser)?;
     value(alloc, parser, first)
@@ -92,20 +87,19 @@ fn value<'t>(
     requires free { parser.old.refusal ≡ None }
     ensures same { parser.new.buffer ≡ parser.old.buffer }
     ensures went { OnOk result (WentOn parser.old parser.new) }
-    ensures told { (last : SpecSpan) (t : SpecTree) (rest : Future)
-        → Tells (first_then (event_of first.entry) last (future_of parser.old)) t rest
-        → MatchResult result (λ v. (tree_view v ≡ t) × (future_of parser.new ≡ rest)) (λ e. LacksMemory (refusal_of e)) }
-    ensures broken { (last : SpecSpan) (place : Place) (rest : Tokens)
-        → Breaks place rest (first_then (event_of first.entry) last (future_of parser.old))
-        → MatchResult result (λ _. ⊥) (λ e. StopsAt parser.old.buffer place rest (refusal_of e)) }
+    ensures read { IfOk result (λ t. (last : SpecSpan) → IsValueRead (first_then (event_of first.entry) last (future_of parser.old))
+        (tree_view t) (future_of parser.new)) }
+    ensures refused { IfErr result (λ e. (last : SpecSpan)
+        → IsValueUnread parser.old.buffer (first_then (event_of first.entry) last (future_of parser.old)) (refusal_of e)) }
 {
-    match first.kind {
-        ParseEventKind::Scalar(value) => scalar(alloc, value, first.span),
+    let ParseEvent { kind, span } = first;
+    match kind {
+        ParseEventKind::Scalar(value) => scalar(alloc, value, span),
         ParseEventKind::SequenceStart(_) => Ok(Tree::List(items(alloc, parser)?)),
         ParseEventKind::StructStart(_) => Ok(Tree::Pairs(members(alloc, parser)?)),
-        ParseEventKind::FieldKey(_) => Err(mismatch("value", "key", first.span)),
-        ParseEventKind::SequenceEnd => Err(mismatch("value", "end", first.span)),
-        ParseEventKind::StructEnd => Err(mismatch("value", "end", first.span)),
+        ParseEventKind::FieldKey(_) => Err(mismatch("value", "key", span)),
+        ParseEventKind::SequenceEnd => Err(mismatch("value", "end", span)),
+        ParseEventKind::StructEnd => Err(mismatch("value", "end", span)),
     }
 }
 
@@ -118,10 +112,8 @@ fn items<'t>(
     requires free { parser.old.refusal ≡ None }
     ensures same { parser.new.buffer ≡ parser.old.buffer }
     ensures went { OnOk result (WentOn parser.old parser.new) }
-    ensures told { (values : Trees) (rest : Future) → TellsItems (future_of parser.old) values rest
-        → MatchResult result (λ v. (trees_view v.items ≡ values) × (future_of parser.new ≡ rest)) (λ e. LacksMemory (refusal_of e)) }
-    ensures broken { (place : Place) (rest : Tokens) → BreaksItems place rest (future_of parser.old)
-        → MatchResult result (λ _. ⊥) (λ e. StopsAt parser.old.buffer place rest (refusal_of e)) }
+    ensures read { IfOk result (λ v. AreItemsRead (future_of parser.old) (trees_view v.items) (future_of parser.new)) }
+    ensures refused { IfErr result (λ e. AreItemsUnread parser.old.buffer (future_of parser.old) (refusal_of e)) }
 {
     let mut items = Vec::new(alloc);
     loop {
@@ -142,18 +134,16 @@ fn members<'t>(
     requires free { parser.old.refusal ≡ None }
     ensures same { parser.new.buffer ≡ parser.old.buffer }
     ensures went { OnOk result (WentOn parser.old parser.new) }
-    ensures told { (values : Pairs) (rest : Future) → TellsMembers (future_of parser.old) values rest
-        → MatchResult result (λ v. (pairs_view v.items ≡ values) × (future_of parser.new ≡ rest)) (λ e. LacksMemory (refusal_of e)) }
-    ensures broken { (place : Place) (rest : Tokens) → BreaksMembers place rest (future_of parser.old)
-        → MatchResult result (λ _. ⊥) (λ e. StopsAt parser.old.buffer place rest (refusal_of e)) }
+    ensures read { IfOk result (λ v. AreMembersRead (future_of parser.old) (pairs_view v.items) (future_of parser.new)) }
+    ensures refused { IfErr result (λ e. AreMembersUnread parser.old.buffer (future_of parser.old) (refusal_of e)) }
 {
     let mut members = Vec::new(alloc);
     loop {
-        let event = next(parser)?;
-        let key = match event.kind {
+        let ParseEvent { kind, span } = next(parser)?;
+        let key = match kind {
             ParseEventKind::FieldKey(key) => key.name.into_owned(alloc)?,
             ParseEventKind::StructEnd => return Ok(members),
-            _ => return Err(mismatch("key", "value", event.span)),
+            _ => return Err(mismatch("key", "value", span)),
         };
         let first = next(parser)?;
         members.push((key, value(alloc, parser, first)?))?;

@@ -10,4 +10,4 @@ pub use documents::{
     spelled_is_spells, whole_document_is_found,
 };
 pub use fronts::{begun_is_front, front_gives_walk, front_is_begun, one_given};
-pub use parsers::{alone_is_given, new_stands};
+pub use parsers::{alone_is_given, behind_is_refused, input_comes, new_stands};
