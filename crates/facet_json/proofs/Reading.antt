@@ -1,5 +1,15 @@
 -- A reader of a tree, step by step: what was read so far, and how what it is refused with answers for what it reads.
-use Rattle.std.proofs.Common.{◌≡◌, ◌≢◌, ◌⊎◌, inl, inr, ℕ, true, false, List, [], ◌∷◌, ◌++◌, None, Some, refl, sym, ap, ◌∙◌, subst}
+use Rattle.std.proofs.Common.{◌≡◌, ◌≢◌, ◌⊎◌, inl, inr, ℕ, true, false, List, [], ◌∷◌, ◌++◌, None, Some, refl, sym, ap, ◌∙◌, subst, suc, arith, map, string_bytes}
+use Rattle.std.specs.declared.string.String.{String}
+use Rattle.std.specs.declared.alloc.Global.{Global}
+use Rattle.std.specs.Cow.{cow_str_bytes}
+use Rattle.std.specs.declared.borrow.CowStr.{CowStr}
+use Rattle.std.specs.declared.borrow.CowStr.TheVariants as cow
+use Rattle.facet_format.specs.HeldText.{text_of}
+use Rattle.facet_format.specs.declared.event.FieldKey.{FieldKey}
+use Rattle.facet_format.specs.declared.event.ParseEventKind.{ParseEventKind}
+use Rattle.facet_format.specs.declared.event.ParseEventKind.TheVariants as kinds
+use Rattle.facet_json.specs.declared.tree.Tree.{Tree as RustTree}
 use Rattle.facet_format.specs.Complaint.{Refusal}
 use Rattle.facet_format.specs.Event.{ContainerKind, struct_start, struct_end, sequence_start, sequence_end, field_key, scalar, Scalar, Text, bytes_of, Passed}
 use Rattle.facet_json_scan.specs.Tokens.{Tokens}
@@ -9,16 +19,37 @@ use Rattle.facet_json_core.specs.Meaning.{meaning}
 use Rattle.facet_json_core.specs.Refusal.{IsStuck, Complains}
 use Rattle.facet_json_core.specs.Future.{Future, gives, finished, stuck}
 use Rattle.facet_json_core.specs.Now.{Now, future_of}
-use Rattle.facet_json.specs.Told.{tree_of_scalar, Tells, TellsItems, TellsMembers, Breaks, BreaksItems, BreaksMembers}
-use Rattle.facet_json.specs.Reading.{LacksMemory, StopsAt, GivesNone, lacks_memory, at_the_end, is_stuck, IsRead, IsUnread, IsValueRead, AreItemsRead, AreMembersRead, IsValueUnread, AreItemsUnread, AreMembersUnread}
+use Rattle.facet_format.specs.Views.{event_kind_of}
+use Rattle.facet_json.specs.Views.{trees_of, pairs_view, tree_view}
+use Rattle.facet_json.specs.Told.{events_in, tree_of_scalar, Tells, TellsItems, TellsMembers, Breaks, BreaksItems, BreaksMembers}
+use Rattle.facet_json.specs.Reading.{WentOn, LacksMemory, StopsAt, GivesNone, lacks_memory, at_the_end, is_stuck, IsRead, IsUnread, IsValueRead, AreItemsRead, AreMembersRead, IsValueUnread, AreItemsUnread, AreMembersUnread}
 use Rattle.facet_json.proofs.Told.{opens, begins, is_member, told-begins, broken-opens, scalar-told, list-told, object-told, list-broken, object-broken, items-ended, items-first, items_end-whole, items-broken, members-ended, members-first, members-begin, members_broken-begin, members-broken, HasFirst, has_first, HasFirstOr, first, none, told-has, items-has, members-has, broken-has, items_broken-has, members_broken-has}
 
 -- ---- refusals
 
--- Want of memory leaves anything unread.
-pub memory-unread : (V : Type 0) (tells : Future → V → Future → Type 0) (breaks : Place → Tokens → Future → Type 0)
-    (buffer : List ℕ) (f : Future) (r : Refusal) → LacksMemory r → IsUnread V tells breaks buffer f r
-memory-unread V tells breaks buffer f r h = record { told = λ v rest t. h; broken = λ place rest b. inl h }
+-- It is the same input.
+pub unread-same : {V : Type 0} {tells : Future → V → Future → Type 0} {breaks : Place → Tokens → Future → Type 0}
+    {a b : List ℕ} {f : Future} {r : Refusal} → a ≡ b → IsUnread V tells breaks a f r → IsUnread V tells breaks b f r
+unread-same {V = V} {tells = tells} {breaks = breaks} {f = f} {r = r} e h = subst (λ x. IsUnread V tells breaks x f r) e h
+
+-- It is read from what comes.
+pub unread-at : {V : Type 0} {tells : Future → V → Future → Type 0} {breaks : Place → Tokens → Future → Type 0}
+    {buffer : List ℕ} {f g : Future} {r : Refusal} → f ≡ g → IsUnread V tells breaks buffer g r → IsUnread V tells breaks buffer f r
+unread-at {V = V} {tells = tells} {breaks = breaks} {buffer = buffer} {r = r} e h = subst (λ x. IsUnread V tells breaks buffer x r) (sym e) h
+
+pub read-at : {V : Type 0} {tells : Future → V → Future → Type 0} {breaks : Place → Tokens → Future → Type 0}
+    {f g rest : Future} {value : V} → f ≡ g → IsRead V tells breaks g value rest → IsRead V tells breaks f value rest
+read-at {V = V} {tells = tells} {breaks = breaks} {rest = rest} {value = value} e h = subst (λ x. IsRead V tells breaks x value rest) (sym e) h
+
+-- A parser that isn't refused has gone on by nothing.
+pub went-none : (now : Now) → now.refusal ≡ None → WentOn now now
+went-none now free = record { free = free; fewer = omega arith }
+
+-- No more events come behind an event and what goes on from it.
+pub went-behind : (a b c d : Now) (p : Passed) → WentOn a b → future_of b ≡ gives p (future_of c) → WentOn c d → WentOn a d
+went-behind a b c d p before comes behind =
+    let one : events_in (future_of b) ≡ suc (events_in (future_of c)) = ap events_in comes in
+    record { free = behind.free; fewer = omega (arith, before.fewer, one, behind.fewer) }
 
 -- Where an event comes, its refusal is want of memory.
 none-memory : (now : Now) (r : Refusal) (f : Future) → future_of now ≡ f → GivesNone now r → HasFirst f → LacksMemory r
@@ -47,13 +78,13 @@ none-value now r g = record {
   broken = λ place rest h. none-stops now r (future_of now) place rest refl g (broken-has _ _ _ h);
 }
 
-none-items : (now : Now) (r : Refusal) → GivesNone now r → AreItemsUnread now.buffer (future_of now) r
+pub none-items : (now : Now) (r : Refusal) → GivesNone now r → AreItemsUnread now.buffer (future_of now) r
 none-items now r g = record {
   told = λ t rest h. none-memory now r (future_of now) refl g (items-has _ _ _ h);
   broken = λ place rest h. none-stops now r (future_of now) place rest refl g (items_broken-has _ _ _ h);
 }
 
-none-members : (now : Now) (r : Refusal) → GivesNone now r → AreMembersUnread now.buffer (future_of now) r
+pub none-members : (now : Now) (r : Refusal) → GivesNone now r → AreMembersUnread now.buffer (future_of now) r
 none-members now r g = record {
   told = λ t rest h. none-memory now r (future_of now) refl g (members-has _ _ _ h);
   broken = λ place rest h. none-stops now r (future_of now) place rest refl g (members_broken-has _ _ _ h);
@@ -107,14 +138,6 @@ module _ (p : Passed) (f : Future) where
     broken = λ place left b. unread.broken place left (object-broken place left p f kind k b);
   }
 
-  -- No value begins with a key or an end.
-  pub misfit-unread : (buffer : List ℕ) (r : Refusal) → begins p.event.kind ≡ false → opens p.event.kind ≡ false →
-      IsValueUnread buffer (gives p f) r
-  misfit-unread buffer r b o = record {
-    told = λ t rest s. let begun = told-begins p f rest t s in cc;
-    broken = λ place rest s. let opened = broken-opens place rest p f s in cc;
-  }
-
 -- ---- items
 
 -- trees in front of others
@@ -125,6 +148,19 @@ trees_before (t ∷ ts) others = tree t (trees_before ts others)
 trees_before-more : (ts : List Tree) (t : Tree) (others : Trees) → trees_before (ts ++ t ∷ []) others ≡ trees_before ts (tree t others)
 trees_before-more [] t others = refl
 trees_before-more (u ∷ ts) t others = ap (tree u) (trees_before-more ts t others)
+
+trees_before-none : (ts : List Tree) → trees_before ts no_trees ≡ trees_of ts
+trees_before-none [] = refl
+trees_before-none (t ∷ ts) = ap (tree t) (trees_before-none ts)
+
+-- An event that is not the end of a list isn't so in the definitions.
+pub not_list_end : (kind : ParseEventKind) → kind ≢ kinds.SequenceEnd → event_kind_of kind ≢ sequence_end
+not_list_end (kinds.StructStart c) h e = cc
+not_list_end kinds.StructEnd h e = cc
+not_list_end (kinds.SequenceStart c) h e = cc
+not_list_end kinds.SequenceEnd h e = h refl
+not_list_end (kinds.FieldKey key) h e = cc
+not_list_end (kinds.Scalar v) h e = cc
 
 -- Between the start and here these items were passed.
 pub record ItemsPassed (start here : Future) (items : List Tree) : Type 0 where
@@ -145,12 +181,12 @@ module _ (start here : Future) (items : List Tree) (passed : ItemsPassed start h
 
   module _ (p : Passed) (f : Future) (comes : here ≡ gives p f) where
     -- At the end of the list all its items were read.
-    pub items-closed : p.event.kind ≡ sequence_end → AreItemsRead start (trees_before items no_trees) f
+    pub items-closed : p.event.kind ≡ sequence_end → AreItemsRead start (trees_of items) f
     items-closed k = record {
       told = λ all rest h.
           let more = passed.told all rest h in
           let both = items-ended p f rest more.0 k (subst (λ g. TellsItems g more.0 rest) comes more.1) in
-          (ap (trees_before items) both.0 ∙ more.2, both.1);
+          (sym (trees_before-none items) ∙ ap (trees_before items) both.0 ∙ more.2, both.1);
       whole = λ place rest h.
           items_end-whole place rest p f k (subst (λ g. BreaksItems place rest g) comes (passed.broken place rest h));
     }
@@ -198,6 +234,27 @@ pairs_before-more : (ms : List (List ℕ × Tree)) (key : List ℕ) (t : Tree) (
     pairs_before (ms ++ (key, t) ∷ []) others ≡ pairs_before ms (pair key t others)
 pairs_before-more [] key t others = refl
 pairs_before-more (m ∷ ms) key t others = ap (pair m.0 m.1) (pairs_before-more ms key t others)
+
+-- The members of an object as the views of the code have them.
+pub pairs_before-none : (ms : List (String Global × RustTree)) →
+    pairs_before (map (λ p. (string_bytes p.0, tree_view p.1)) ms) no_pairs ≡ pairs_view ms
+pairs_before-none [] = refl
+pairs_before-none (m ∷ ms) = ap (pair (string_bytes m.0) (tree_view m.1)) (pairs_before-none ms)
+
+-- The bytes of a text that is held.
+pub held-bytes : {A : Type 0} (s : CowStr A) → cow_str_bytes s ≡ bytes_of (text_of s)
+held-bytes (cow.Borrowed t) = refl
+held-bytes (cow.Owned t) = refl
+
+-- An event that is neither a key nor the end of an object isn't so in the definitions.
+pub not_member : (kind : ParseEventKind) → kind ≢ kinds.StructEnd → ((key : FieldKey) → kind ≢ kinds.FieldKey key) →
+    is_member (event_kind_of kind) ≡ false
+not_member (kinds.StructStart c) h k = refl
+not_member kinds.StructEnd h k = absurd (h refl)
+not_member (kinds.SequenceStart c) h k = refl
+not_member kinds.SequenceEnd h k = refl
+not_member (kinds.FieldKey key) h k = absurd (k key refl)
+not_member (kinds.Scalar v) h k = refl
 
 -- Between the start and here these members were passed.
 pub record MembersPassed (start here : Future) (members : List (List ℕ × Tree)) : Type 0 where

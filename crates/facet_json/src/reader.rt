@@ -156,8 +156,8 @@ fn scalar<'t>(
     value: ScalarValue<'_>,
     span: Span,
 ) -> Result<Tree, DeserializeError<'t>>
-    ensures { (t : SpecTree) → tree_of_scalar (scalar_value_of value.entry) ≡ Some t
-        → MatchResult result (λ v. tree_view v ≡ t) (λ e. LacksMemory (refusal_of e)) }
+    ensures read { IfOk result (λ t. (u : SpecTree) → tree_of_scalar (scalar_value_of value.entry) ≡ Some u → tree_view t ≡ u) }
+    ensures refused { IfErr result (λ e. (u : SpecTree) → tree_of_scalar (scalar_value_of value.entry) ≡ Some u → LacksMemory (refusal_of e)) }
 {
     match value {
         ScalarValue::Null => Ok(Tree::Null),
