@@ -20,11 +20,10 @@ use Rattle.facet_json_scan.specs.Token.{Kind}
 use Rattle.facet_json_scan.specs.Token as token
 use Rattle.facet_json_scan.specs.Cut.{Cut, nothing_left, fault, cut_here, cut, past_gap}
 use Rattle.facet_json_scan.specs.Cut as cutting
-use Rattle.facet_format.specs.declared.numeral.Parts.{Parts as RustParts}
 use Rattle.facet_json_scan.specs.declared.number.ParsedNumber.{ParsedNumber}
 use Rattle.facet_json_scan.specs.declared.number.ParsedNumber.TheVariants as parsed
 use Rattle.facet_format.specs.Event.{bytes_of, is_owned}
-use Rattle.facet_format.specs.Number.{Number, u64, i64, u128, i128, decimal, Parts, parts, parts_len}
+use Rattle.facet_format.specs.Number.{Number, u64, i64, u128, i128, decimal}
 use Rattle.std.specs.List.{list_any}
 use Rattle.facet_json_scan.specs.declared.token.ScanErrorKind.TheVariants.{InvalidUtf8}
 use Rattle.facet_json_scan.specs.declared.decode.DecodeError.TheVariants.{Scan, OutOfMemory}
