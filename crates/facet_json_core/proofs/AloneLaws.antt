@@ -3,7 +3,7 @@ use Rattle.std.proofs.Common.{◌≡◌, ℕ, List, [], ◌∷◌, Some, None, r
 use Rattle.std.specs.Prelude.{Err}
 use Rattle.facet_json_scan.specs.Gap.{Mode}
 use Rattle.facet_json_scan.specs.Token.{Token}
-use Rattle.facet_json_scan.specs.Tokens.{Tokens, tokens}
+use Rattle.facet_json_scan.specs.Tokens.{Tokens}
 use Rattle.facet_json_core.specs.Node.{Node}
 use Rattle.facet_json_core.specs.Tree.{Tree}
 use Rattle.facet_json_core.specs.Meaning.{meaning}
@@ -14,9 +14,9 @@ use Rattle.facet_json_core.specs.Refusal.{IsStuck}
 use Rattle.facet_format.specs.Event.{Passed}
 use Rattle.facet_format.specs.Cursor.{Call, next, Answer, event}
 use Rattle.facet_json_core.specs.Future.{gives, stuck, events_before}
-use Rattle.facet_json_core.specs.Now.{Standing, Now, fresh, future_of}
+use Rattle.facet_json_core.specs.Now.{Now, fresh, future_of}
 use Rattle.facet_json_core.specs.Move.{Moves, repeats, passes, passes_without_memory, passes_the_end, passes_nothing, MovesAll, no_calls, one_call}
-use Rattle.facet_json_core.specs.Begun.{LongestFront, RefusesBehind}
+use Rattle.facet_json_core.specs.Begun.{RefusesBehind}
 use Rattle.facet_json_core.specs.ParserLaws.{GivenAlone, RootComes, document_comes, front_comes}
 use Rattle.facet_json_core.specs.Alone.{AllNext, no_call, one_next, AllRefused, no_answer, one_refused, AnswersAlone, not_asked, one_event, refused, wants_memory}
 use Rattle.facet_json_core.proofs.MoveLaws.{moves-repeats}

@@ -15,6 +15,7 @@ use Rattle.facet_json_core.specs.Refusal.{Complains}
 use Rattle.facet_json_core.specs.Future.{Future, stuck}
 use Rattle.facet_json_core.specs.Now.{Standing, Now, held_before, future_at, future_of, is_shown, is_peeked, span_of}
 use Rattle.facet_json_core.specs.Move.{Moves, repeats, gives_none, gives_all, gives_to_the_end, gives_up, gives_without_memory, Passes, no_events, still_peeked, with_standing, with_refusal}
+use Rattle.facet_json_core.specs.Sound.{NowSound}
 use Rattle.facet_json_core.specs.Fill.{Fills, holds, is_over, lacks_memory, stops, FillsParser, fills, refuses, Takes, GivesOne, gives_event, gives_end, gives_refusal, lacks_room, behind}
 use Rattle.facet_json_core.specs.Fill as fill
 use Rattle.facet_json_core.proofs.MoveLaws.{Passes-one_more}
@@ -211,3 +212,17 @@ pub given-full : (start now : List ParseEvent) (old cur : Now) (count limit : �
 given-full start now old cur count limit (given, items, n, b) e =
     let len : length (map event_of given) ≡ limit = rw length-map (n ∙ e) in
     (given, items, batch-full old cur (map event_of given) limit b len)
+
+-- ---- what holds of every parser
+
+batch-sound : (old cur : Now) (given : List Event) → Batch old given cur → (0 < length given → NowSound old) → NowSound cur → NowSound old
+batch-sound old _ _ (nothing_yet) known here = here
+batch-sound old _ given (some_given _ s h on) known here = known (omega (arith, h))
+
+-- Once one event is asked for, the parser is known to be sound.
+pub given-sound : (start now : List ParseEvent) (old cur : Now) (count : ℕ) →
+    (given : List ParseEvent) × (now ≡ start ++ given) × (length given ≡ count) × Batch old (map event_of given) cur →
+    (0 < count → NowSound old) → NowSound cur → NowSound old
+given-sound start now old cur count (given, items, n, b) known here =
+    let len : length (map event_of given) ≡ count = rw length-map n in
+    batch-sound old cur (map event_of given) b (λ h. known (omega (arith, len, h))) here

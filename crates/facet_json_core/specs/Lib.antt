@@ -22,3 +22,4 @@ pub mod Ready
 pub mod TokenViews
 pub mod ScriptViews
 pub mod ParserLaws
+pub mod CallLaws
