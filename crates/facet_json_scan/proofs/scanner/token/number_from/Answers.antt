@@ -11,7 +11,7 @@ use Rattle.facet_json_scan.proofs.Offsets.{slice_get-from_read, drop-at_byte}
 use Rattle.facet_json_scan.proofs.Segments.{between, between-more, between-rest, between-all}
 use Rattle.facet_json_scan.proofs.NumberCuts.{number_at}
 use Rattle.facet_json_scan.proofs.PendingNumber.{number-found}
-use Rattle.facet_json_scan.proofs.scanner.number_from.Goals as goal
+use Rattle.facet_json_scan.proofs.scanner.token.number_from.Goals as goal
 
 pub returns-in_default-after-clause-here : goal.returns-in_default-after-clause-here
 returns-in_default-after-clause-here c = λ i mode.

@@ -9,8 +9,8 @@ use Rattle.facet_json_scan.proofs.FirstBytes.{cut_here-word, cut_here-something}
 use Rattle.facet_json_scan.proofs.PendingWord.{word-open, word-shut}
 use Rattle.facet_json_scan.proofs.Answered.{EndsWithin, found-here, answered-ends, cut_here-ends}
 use Rattle.facet_json_scan.specs.Gap.{plain}
-use Rattle.facet_json_scan.proofs.scanner.word_from.Goals as goal
-use Rattle.facet_json_scan.proofs.scanner.word_from.Goals.{else-len-word-via-then-len-word+else-len-buffer, else-len-word-via-else-len-word}
+use Rattle.facet_json_scan.proofs.scanner.token.word_from.Goals as goal
+use Rattle.facet_json_scan.proofs.scanner.token.word_from.Goals.{else-len-word-via-then-len-word+else-len-buffer, else-len-word-via-else-len-word}
 
 pub returns-then-len-buffer-clause-here : goal.returns-then-len-buffer-clause-here
 returns-then-len-buffer-clause-here c = λ mode b kind here begins is.

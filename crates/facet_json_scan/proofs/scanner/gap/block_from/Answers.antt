@@ -7,7 +7,7 @@ use Rattle.facet_json_scan.specs.Scanner.{Describes, in_block}
 use Rattle.facet_json_scan.proofs.Offsets.{slice_get-from_read}
 use Rattle.facet_json_scan.proofs.Segments.{between, between-more}
 use Rattle.facet_json_scan.proofs.PendingComment.{block-step, block-ends}
-use Rattle.facet_json_scan.proofs.scanner.block_from.Goals as goal
+use Rattle.facet_json_scan.proofs.scanner.gap.block_from.Goals as goal
 
 pub returns-then-ends_in_star-clause-here : goal.returns-then-ends_in_star-clause-here
 returns-then-ends_in_star-clause-here c = λ d.

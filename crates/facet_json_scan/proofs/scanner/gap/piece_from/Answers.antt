@@ -9,7 +9,7 @@ use Rattle.facet_json_scan.specs.Open.{IsBeginning}
 use Rattle.facet_json_scan.specs.Views.{mode_of}
 use Rattle.facet_json_scan.proofs.Offsets.{drop-at_byte, slice_get-from_read}
 use Rattle.facet_json_scan.proofs.Pieces.{no_piece, blank_piece, slash_shut-plain}
-use Rattle.facet_json_scan.proofs.scanner.piece_from.Goals as goal
+use Rattle.facet_json_scan.proofs.scanner.gap.piece_from.Goals as goal
 
 pub returns-in_default-clause-here : goal.returns-in_default-clause-here
 returns-in_default-clause-here c =

@@ -1,10 +1,10 @@
 -- A piece more leaves what is found as it is, and where the gap ends it is found.
 use Rattle.std.proofs.Common.{refl}
 use Rattle.facet_json_scan.specs.Views.{mode_of, state_of}
-use Rattle.facet_json_scan.specs.declared.scanner.Found.TheVariants as found
+use Rattle.facet_json_scan.specs.declared.scanner.token.Found.TheVariants as found
 use Rattle.facet_json_scan.proofs.Found.{found-no_gap, found-piece}
 use Rattle.facet_json_scan.proofs.Pieces.{open_no_piece}
-use Rattle.facet_json_scan.proofs.scanner.scan_from.Goals as goal
+use Rattle.facet_json_scan.proofs.scanner.token.scan_from.Goals as goal
 
 pub loop-end-preserved : goal.loop-end-preserved
 loop-end-preserved c =

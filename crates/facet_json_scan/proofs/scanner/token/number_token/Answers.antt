@@ -11,8 +11,8 @@ use Rattle.facet_json_scan.proofs.Answered.{answered-ends}
 use Rattle.facet_json_scan.proofs.Segments.{between}
 use Rattle.facet_json_scan.proofs.NumberCuts.{number_at}
 use Rattle.facet_json_scan.proofs.PendingNumber.{number-token, number-bare}
-use Rattle.facet_json_scan.proofs.scanner.number_token.Goals as goal
-use Rattle.facet_json_scan.proofs.scanner.number_token.Goals.{else-is_negative-via-then-is_negative+else-end-start, else-is_negative-via-else-is_negative}
+use Rattle.facet_json_scan.proofs.scanner.token.number_token.Goals as goal
+use Rattle.facet_json_scan.proofs.scanner.token.number_token.Goals.{else-is_negative-via-then-is_negative+else-end-start, else-is_negative-via-else-is_negative}
 
 pub returns-then-end-start-clause-token : goal.returns-then-end-start-clause-token
 returns-then-end-start-clause-token c = λ i.

@@ -8,7 +8,7 @@ use Rattle.facet_json_scan.specs.Scanner.{Describes, behind_slash, in_block, in_
 use Rattle.facet_json_scan.proofs.Offsets.{drop-at_byte, slice_get-from_read}
 use Rattle.facet_json_scan.proofs.Segments.{between-two}
 use Rattle.facet_json_scan.proofs.Pieces.{slash_shut-jsonc, no_comment}
-use Rattle.facet_json_scan.proofs.scanner.comment_from.Goals as goal
+use Rattle.facet_json_scan.proofs.scanner.gap.comment_from.Goals as goal
 
 pub returns-in_default-clause-here : goal.returns-in_default-clause-here
 returns-in_default-clause-here c =

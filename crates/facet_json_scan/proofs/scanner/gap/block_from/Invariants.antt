@@ -3,7 +3,7 @@ use Rattle.std.proofs.Common.{◌-◌, ◌≤◌, ◌<◌, length}
 use Rattle.facet_json_scan.specs.Gap.{jsonc}
 use Rattle.facet_json_scan.specs.Scanner.{Describes, in_block}
 use Rattle.facet_json_scan.proofs.Segments.{between}
-use Rattle.facet_json_scan.proofs.scanner.block_from.Given as goal
+use Rattle.facet_json_scan.proofs.scanner.gap.block_from.Given as goal
 
 abbrev pub invariant-loop-byte : goal.invariant-loop-byte
 invariant-loop-byte l =

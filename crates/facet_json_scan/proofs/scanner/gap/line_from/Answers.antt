@@ -1,6 +1,6 @@
 -- The line feed that is found ends the comment, and where none is found it goes on.
 use Rattle.facet_json_scan.proofs.PendingComment.{line-ends, line-goes_on}
-use Rattle.facet_json_scan.proofs.scanner.line_from.Goals as goal
+use Rattle.facet_json_scan.proofs.scanner.gap.line_from.Goals as goal
 
 pub returns-in-Some-clause-here : goal.returns-in-Some-clause-here
 returns-in-Some-clause-here c = λ d.

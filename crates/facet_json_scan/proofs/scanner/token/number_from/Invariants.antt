@@ -3,7 +3,7 @@ use Rattle.std.proofs.Common.{◌-◌, ◌≤◌, ◌<◌, length}
 use Rattle.facet_json_scan.specs.Scanner.{EndsIn}
 use Rattle.facet_json_scan.specs.Views.{part_of}
 use Rattle.facet_json_scan.proofs.Segments.{between}
-use Rattle.facet_json_scan.proofs.scanner.number_from.Given as goal
+use Rattle.facet_json_scan.proofs.scanner.token.number_from.Given as goal
 
 abbrev pub invariant-loop-byte : goal.invariant-loop-byte
 invariant-loop-byte l =

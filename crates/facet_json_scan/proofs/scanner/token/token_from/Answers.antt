@@ -14,8 +14,8 @@ use Rattle.facet_json_scan.proofs.Segments.{between-first}
 use Rattle.facet_json_scan.proofs.PendingNumber.{first-ends}
 use Rattle.facet_json_scan.proofs.Beginnings.{others_shut, nothing_shut}
 use Rattle.facet_json_scan.proofs.Answered.{found-here, answered-ends, cut_here-ends}
-use Rattle.facet_json_scan.proofs.scanner.token_from.Goals as goal
-use Rattle.facet_json_scan.proofs.scanner.token_from.Goals.{in_default-first-via-then-first-lt48, in_default-first-via-else-first-lt48+else-first-lt58}
+use Rattle.facet_json_scan.proofs.scanner.token.token_from.Goals as goal
+use Rattle.facet_json_scan.proofs.scanner.token.token_from.Goals.{in_default-first-via-then-first-lt48, in_default-first-via-else-first-lt48+else-first-lt58}
 
 pub returns-in_default-clause-here : goal.returns-in_default-clause-here
 unfolding cut_here

@@ -9,7 +9,7 @@ use Rattle.facet_json_scan.proofs.TextSteps.{no_quote}
 use Rattle.facet_json_scan.proofs.Segments.{between, between-more}
 use Rattle.facet_json_scan.proofs.PendingText.{text-step, text-found}
 use Rattle.facet_json_scan.proofs.Answered.{found-here, answered-ends}
-use Rattle.facet_json_scan.proofs.scanner.text_from.Goals as goal
+use Rattle.facet_json_scan.proofs.scanner.token.text_from.Goals as goal
 
 pub returns-then-not-escaped-clause-here : goal.returns-then-not-escaped-clause-here
 returns-then-not-escaped-clause-here c = λ mode d.

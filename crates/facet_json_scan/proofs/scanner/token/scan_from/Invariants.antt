@@ -1,8 +1,8 @@
 -- What is found from here on is found from the position on.
 use Rattle.std.proofs.Common.{◌-◌, ◌≤◌, length}
-use Rattle.facet_json_scan.specs.declared.scanner.Found.{Found}
+use Rattle.facet_json_scan.specs.declared.scanner.token.Found.{Found}
 use Rattle.facet_json_scan.specs.Views.{mode_of, FoundFrom}
-use Rattle.facet_json_scan.proofs.scanner.scan_from.Given as goal
+use Rattle.facet_json_scan.proofs.scanner.token.scan_from.Given as goal
 
 abbrev pub invariant-loop-end : goal.invariant-loop-end
 invariant-loop-end l =

@@ -3,7 +3,7 @@ use Rattle.std.proofs.Common.{◌-◌, ◌≤◌, ◌<◌, length}
 use Rattle.facet_json_scan.specs.Gap.{Mode}
 use Rattle.facet_json_scan.specs.Scanner.{Describes, in_text}
 use Rattle.facet_json_scan.proofs.Segments.{between}
-use Rattle.facet_json_scan.proofs.scanner.text_from.Given as goal
+use Rattle.facet_json_scan.proofs.scanner.token.text_from.Given as goal
 
 abbrev pub invariant-loop-byte : goal.invariant-loop-byte
 invariant-loop-byte l =
