@@ -200,6 +200,8 @@ impl<'de> JsonParser<'de> {
     pub fn save(&mut self) -> Result<SavePoint, ParseError>
         ensures moves { Moves Complains self.old save (answer_of_save result) self.new }
         ensures within { AnswerWithin self.new.buffer (answer_of_save result) }
+        ensures input { SameInput self.old self.new }
+        ensures onward { ahead self.new ≤ ahead self.old }
         ensures point { IfOk result (λ p. (p.0 ≡ suc self.old.counter) × (self.new ≡ with_kept self.old)) }
         ensures unchanged { IfErr result (λ _. self.new ≡ self.old) }
     {
