@@ -2,8 +2,6 @@
 #![tactic(auto)]
 
 pub mod laws;
-mod materialized;
-mod place;
 mod reader;
 pub mod scanner;
 mod ser_error;
@@ -11,7 +9,7 @@ mod tree;
 mod writer;
 
 pub use facet_format::{Decimal, DeserializeError, DeserializeErrorKind, ParseError, Span};
-pub use reader::from_slice;
+pub use reader::{from_slice, from_slice_jsonc};
 pub use ser_error::JsonSerializeError;
 pub use tree::Tree;
 pub use writer::to_vec;
