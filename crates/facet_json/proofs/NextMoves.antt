@@ -1,5 +1,5 @@
 -- What a parser's answer of the next event says of what comes.
-use Rattle.std.proofs.Common.{◌≡◌, None, Some, refl, sym, ap, ◌∙◌}
+use Rattle.std.proofs.Common.{◌≡◌, None, Some, sym, ap, ◌∙◌}
 use Rattle.std.specs.Prelude.{Ok, Err}
 use Rattle.facet_format.specs.Complaint.{Refusal}
 use Rattle.facet_format.specs.Cursor.{next, Answer, event, no_memory_at}
@@ -9,14 +9,6 @@ use Rattle.facet_json_core.specs.Future.{gives}
 use Rattle.facet_json_core.specs.Now.{Now, future_of, span_of}
 use Rattle.facet_json_core.specs.Move.{with_standing, Moves, repeats, passes, passes_without_memory, passes_the_end, passes_nothing}
 use Rattle.facet_json.specs.Reading.{GaveNext, GivesNone, lacks_memory, is_stuck}
-
--- The input stays.
-pub next-same : {old new : Now} {answer : Answer} → Moves Complains old next answer new → new.buffer ≡ old.buffer
-next-same (repeats r call answer e a) = refl
-next-same (passes p future s none goes shows) = refl
-next-same (passes_without_memory p future s none goes takes off like) = refl
-next-same (passes_the_end s none e like) = refl
-next-same (passes_nothing place rest r s none e stops like) = refl
 
 -- An event that is answered came.
 pub next-gave : {old new : Now} {answer : Answer} (e : Event) → old.refusal ≡ None → answer ≡ event (Ok (Some e)) → Moves Complains old next answer new → GaveNext old e new

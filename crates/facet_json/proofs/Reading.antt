@@ -1,5 +1,5 @@
 -- A reader of a tree, step by step: what was read so far, and how what it is refused with answers for what it reads.
-use Rattle.std.proofs.Common.{◌≡◌, ◌≢◌, ◌⊎◌, inl, inr, ℕ, true, false, List, [], ◌∷◌, ◌++◌, None, Some, refl, sym, ap, ◌∙◌, subst, suc, arith, map, string_bytes}
+use Rattle.std.proofs.Common.{◌≡◌, ◌≢◌, ◌<◌, ◌⊎◌, inl, inr, ℕ, true, false, List, [], ◌∷◌, ◌++◌, None, Some, refl, sym, ap, ◌∙◌, subst, arith, map, string_bytes}
 use Rattle.std.specs.declared.string.String.{String}
 use Rattle.std.specs.declared.alloc.Global.{Global}
 use Rattle.std.specs.Cow.{cow_str_bytes}
@@ -18,10 +18,10 @@ use Rattle.facet_json_core.specs.Place.{Place}
 use Rattle.facet_json_core.specs.Meaning.{meaning}
 use Rattle.facet_json_core.specs.Refusal.{IsStuck, Complains}
 use Rattle.facet_json_core.specs.Future.{Future, gives, finished, stuck}
-use Rattle.facet_json_core.specs.Now.{Now, future_of}
+use Rattle.facet_json_core.specs.Now.{Now, ahead, future_of}
 use Rattle.facet_format.specs.Views.{event_kind_of}
 use Rattle.facet_json.specs.Views.{trees_of, pairs_view, tree_view}
-use Rattle.facet_json.specs.Told.{events_in, tree_of_scalar, Tells, TellsItems, TellsMembers, Breaks, BreaksItems, BreaksMembers}
+use Rattle.facet_json.specs.Told.{tree_of_scalar, Tells, TellsItems, TellsMembers, Breaks, BreaksItems, BreaksMembers}
 use Rattle.facet_json.specs.Reading.{WentOn, LacksMemory, StopsAt, GivesNone, lacks_memory, at_the_end, is_stuck, IsRead, IsUnread, IsValueRead, AreItemsRead, AreMembersRead, IsValueUnread, AreItemsUnread, AreMembersUnread}
 use Rattle.facet_json.proofs.Told.{opens, begins, is_member, told-begins, broken-opens, scalar-told, list-told, object-told, list-broken, object-broken, items-ended, items-first, items_end-whole, items-broken, members-ended, members-first, members-begin, members_broken-begin, members-broken, HasFirst, has_first, HasFirstOr, first, none, told-has, items-has, members-has, broken-has, items_broken-has, members_broken-has}
 
@@ -43,13 +43,12 @@ read-at {V = V} {tells = tells} {breaks = breaks} {rest = rest} {value = value} 
 
 -- A parser that isn't refused has gone on by nothing.
 pub went-none : (now : Now) → now.refusal ≡ None → WentOn now now
-went-none now free = record { free = free; fewer = omega arith }
+went-none now free = record { free = free; onward = omega arith }
 
--- No more events come behind an event and what goes on from it.
-pub went-behind : (a b c d : Now) (p : Passed) → WentOn a b → future_of b ≡ gives p (future_of c) → WentOn c d → WentOn a d
-went-behind a b c d p before comes behind =
-    let one : events_in (future_of b) ≡ suc (events_in (future_of c)) = ap events_in comes in
-    record { free = behind.free; fewer = omega (arith, before.fewer, one, behind.fewer) }
+-- Behind an event and what goes on from it no more bytes are ahead.
+pub went-behind : (a b c d : Now) → WentOn a b → ahead c < ahead b → WentOn c d → WentOn a d
+went-behind a b c d before shorter behind =
+    record { free = behind.free; onward = omega (arith, before.onward, shorter, behind.onward) }
 
 -- Where an event comes, its refusal is want of memory.
 none-memory : (now : Now) (r : Refusal) (f : Future) → future_of now ≡ f → GivesNone now r → HasFirst f → LacksMemory r
@@ -108,14 +107,7 @@ module _ (p : Passed) (f : Future) where
     broken = λ place rest b. let opened = broken-opens place rest p f b in let ends : opens p.event.kind ≡ false = ap opens k in cc;
   }
 
-  -- A list is read where its items are.
-  pub list-read : (kind : ContainerKind) (items : Trees) (rest : Future) → p.event.kind ≡ sequence_start kind →
-      AreItemsRead f items rest → IsValueRead (gives p f) (list items) rest
-  list-read kind items rest k read = record {
-    told = λ t behind s. let h = list-told p f behind t kind k s in let both = read.told h.0 behind h.2 in (ap list both.0 ∙ h.1, both.1);
-    whole = λ place left b. read.whole place left (list-broken place left p f kind k b);
-  }
-
+  -- A list is unread where its items are.
   pub list-unread : (buffer : List ℕ) (kind : ContainerKind) (r : Refusal) → p.event.kind ≡ sequence_start kind →
       AreItemsUnread buffer f r → IsValueUnread buffer (gives p f) r
   list-unread buffer kind r k unread = record {
@@ -123,14 +115,7 @@ module _ (p : Passed) (f : Future) where
     broken = λ place left b. unread.broken place left (list-broken place left p f kind k b);
   }
 
-  -- An object is read where its members are.
-  pub object-read : (kind : ContainerKind) (members : Pairs) (rest : Future) → p.event.kind ≡ struct_start kind →
-      AreMembersRead f members rest → IsValueRead (gives p f) (pairs members) rest
-  object-read kind members rest k read = record {
-    told = λ t behind s. let h = object-told p f behind t kind k s in let both = read.told h.0 behind h.2 in (ap pairs both.0 ∙ h.1, both.1);
-    whole = λ place left b. read.whole place left (object-broken place left p f kind k b);
-  }
-
+  -- An object is unread where its members are.
   pub object-unread : (buffer : List ℕ) (kind : ContainerKind) (r : Refusal) → p.event.kind ≡ struct_start kind →
       AreMembersUnread buffer f r → IsValueUnread buffer (gives p f) r
   object-unread buffer kind r k unread = record {
@@ -167,9 +152,6 @@ pub record ItemsPassed (start here : Future) (items : List Tree) : Type 0 where
   pub told : (all : Trees) (rest : Future) → TellsItems start all rest →
       (others : Trees) × TellsItems here others rest × (trees_before items others ≡ all)
   pub broken : (place : Place) (rest : Tokens) → BreaksItems place rest start → BreaksItems place rest here
-
-pub items-none : (f : Future) → ItemsPassed f f []
-items-none f = record { told = λ all rest h. (all, h, refl); broken = λ place rest h. h }
 
 module _ (start here : Future) (items : List Tree) (passed : ItemsPassed start here items) where
   -- How the others are refused, all of them are.
@@ -261,9 +243,6 @@ pub record MembersPassed (start here : Future) (members : List (List ℕ × Tree
   pub told : (all : Pairs) (rest : Future) → TellsMembers start all rest →
       (others : Pairs) × TellsMembers here others rest × (pairs_before members others ≡ all)
   pub broken : (place : Place) (rest : Tokens) → BreaksMembers place rest start → BreaksMembers place rest here
-
-pub members-none : (f : Future) → MembersPassed f f []
-members-none f = record { told = λ all rest h. (all, h, refl); broken = λ place rest h. h }
 
 module _ (start here : Future) (members : List (List ℕ × Tree)) (passed : MembersPassed start here members) where
   pub members-unread : (buffer : List ℕ) (r : Refusal) → AreMembersUnread buffer here r → AreMembersUnread buffer start r

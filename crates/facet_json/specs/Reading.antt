@@ -9,8 +9,8 @@ use Rattle.facet_json_core.specs.Place.{Place}
 use Rattle.facet_json_core.specs.Refusal.{IsStuck, Complains}
 use Rattle.facet_json_core.specs.Tree.{Tree, Trees, Pairs}
 use Rattle.facet_json_core.specs.Future.{Future, gives, finished, stuck}
-use Rattle.facet_json_core.specs.Now.{Now, future_of}
-use Rattle.facet_json.specs.Told.{Tells, TellsItems, TellsMembers, Breaks, BreaksItems, BreaksMembers, events_in}
+use Rattle.facet_json_core.specs.Now.{Now, ahead, future_of}
+use Rattle.facet_json.specs.Told.{Tells, TellsItems, TellsMembers, Breaks, BreaksItems, BreaksMembers}
 
 -- ---- how a reader is refused
 
@@ -43,10 +43,10 @@ pub data GivesNone (now : Now) (refusal : Refusal) : Type 0 where
 
 -- ---- values
 
--- The parser is not refused, and no more events come than before.
+-- The parser is not refused, and no more bytes are ahead of it.
 pub record WentOn (old new : Now) : Type 0 where
   pub free : new.refusal ≡ None
-  pub fewer : events_in (future_of new) ≤ events_in (future_of old)
+  pub onward : ahead new ≤ ahead old
 
 -- What was read is what the events tell, where they tell something, and they don't break off within it.
 pub record IsRead (V : Type 0) (tells : Future → V → Future → Type 0) (breaks : Place → Tokens → Future → Type 0)
@@ -54,7 +54,8 @@ pub record IsRead (V : Type 0) (tells : Future → V → Future → Type 0) (bre
   pub told : (v : V) (rest : Future) → tells start v rest → (value ≡ v) × (behind ≡ rest)
   pub whole : (place : Place) (rest : Tokens) → breaks place rest start → ⊥
 
--- Where the events tell something, memory ran out; where they break off within it, it is for that.
+-- It was refused: where the events tell something, for want of memory, and where they break off within it, for that or because
+-- nothing goes on there.
 pub record IsUnread (V : Type 0) (tells : Future → V → Future → Type 0) (breaks : Place → Tokens → Future → Type 0)
     (buffer : List ℕ) (start : Future) (refusal : Refusal) : Type 0 where
   pub told : (v : V) (rest : Future) → tells start v rest → LacksMemory refusal

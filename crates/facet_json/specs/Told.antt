@@ -1,12 +1,12 @@
 -- Which values events tell (RFC 8259, section 3), as far as a `Tree` holds them, and where events break off within one.
-use Rattle.std.specs.Prelude.{◌≡◌, ℕ, zero, suc, Option, Some, None}
+use Rattle.std.specs.Prelude.{◌≡◌, Option, Some, None}
 use Rattle.facet_format.specs.Event.{ContainerKind, struct_start, struct_end, sequence_start, sequence_end, field_key, scalar, Scalar, Text, bytes_of, Passed}
 use Rattle.facet_format.specs.Event as event
 use Rattle.facet_json_scan.specs.Tokens.{Tokens}
 use Rattle.facet_json_core.specs.Tree.{Tree, list, pairs, Trees, no_trees, tree, Pairs, no_pairs, pair}
 use Rattle.facet_json_core.specs.Tree as trees
 use Rattle.facet_json_core.specs.Place.{Place}
-use Rattle.facet_json_core.specs.Future.{Future, gives, finished, stuck}
+use Rattle.facet_json_core.specs.Future.{Future, gives, stuck}
 
 -- what a value that holds no others is in a tree, where a tree holds it
 abbrev pub tree_of_scalar : Scalar → Option Tree
@@ -65,9 +65,3 @@ mutual
         Breaks place rest inner → BreaksMembers place rest (gives key inner)
     behind_member : (key : Passed) (inner others : Future) (name : Text) (t : Tree) → key.event.kind ≡ field_key name →
         Tells inner t others → BreaksMembers place rest others → BreaksMembers place rest (gives key inner)
-
--- how many events still come
-abbrev pub events_in : Future → ℕ
-events_in (gives p future) = suc (events_in future)
-events_in finished = zero
-events_in (stuck place rest) = zero

@@ -8,7 +8,11 @@ mod ser_error;
 mod tree;
 mod writer;
 
-pub use facet_format::{Decimal, DeserializeError, DeserializeErrorKind, ParseError, Span};
+pub use facet_format::{
+    ContainerKind, Decimal, DeserializeError, DeserializeErrorKind, FieldKey, FieldLocationHint,
+    FormatParser, ParseError, ParseEvent, ParseEventKind, SavePoint, ScalarValue, Span,
+};
+pub use facet_json_core::JsonParser;
 pub use reader::{from_slice, from_slice_jsonc};
 pub use ser_error::JsonSerializeError;
 pub use tree::Tree;

@@ -1,16 +1,16 @@
 //! Reads the tree of a document, event by event and by recursion.
 
-ghost use Rattle.std.specs.Prelude.{◌≡◌, ◌⊎◌, None, Some, IfOk, IfErr, OnOk, MatchResult};
+ghost use Rattle.std.specs.Prelude.{◌≡◌, ◌≤◌, ◌<◌, ◌+◌, ◌⊎◌, length, None, Some, IfOk, IfErr, IfSome, OnOk, MatchResult};
 ghost use Rattle.facet_format.specs.Complaint.{no_memory, out_of_memory};
 ghost use Rattle.facet_format.specs.Event.{bytes_of};
-ghost use Rattle.facet_format.specs.Span.{Span as SpecSpan};
+ghost use Rattle.facet_format.specs.Span.{Span as SpecSpan, stop};
 ghost use Rattle.facet_format.specs.Views.{event_of, refusal_of, scalar_value_of};
 ghost use Rattle.facet_json_scan.specs.Gap.{plain, jsonc};
 ghost use Rattle.facet_json_core.specs.Node.{Node};
 ghost use Rattle.facet_json_core.specs.Tree.{Tree as SpecTree};
 ghost use Rattle.facet_json_core.specs.Document.{IsDocument};
 ghost use Rattle.facet_json_core.specs.Refusal.{Refuses};
-ghost use Rattle.facet_json_core.specs.Now.{future_of};
+ghost use Rattle.facet_json_core.specs.Now.{ahead, future_of};
 ghost use Rattle.facet_json.specs.Told.{tree_of_scalar};
 ghost use Rattle.facet_json.specs.Reading.{first_then, GaveNext, GivesNone, LacksMemory, WentOn, IsValueRead, AreItemsRead, AreMembersRead, IsValueUnread, AreItemsUnread, AreMembersUnread};
 ghost use Rattle.facet_json.specs.Views.{tree_view, trees_view, pairs_view};
@@ -28,6 +28,7 @@ pub fn from_slice<'t>(alloc: Global, input: &[u8]) -> Result<Tree, DeserializeEr
     ensures refused { IfErr result (λ e. ((refusal_of e).complaint ≡ out_of_memory) ⊎ Refuses input.now plain (refusal_of e)) }
     ensures only { (root : Node) (value : SpecTree) → IsDocument input.now plain root value
         → MatchResult result (λ t. tree_view t ≡ value) (λ e. (refusal_of e).complaint ≡ out_of_memory) }
+    ensures within { IfErr result (λ e. IfSome e.span (λ s. s.offset + s.len ≤ length input.now)) }
 {
     root(alloc, &mut JsonParser::new(alloc, input))
 }
@@ -38,6 +39,7 @@ pub fn from_slice_jsonc<'t>(alloc: Global, input: &[u8]) -> Result<Tree, Deseria
     ensures refused { IfErr result (λ e. ((refusal_of e).complaint ≡ out_of_memory) ⊎ Refuses input.now jsonc (refusal_of e)) }
     ensures only { (root : Node) (value : SpecTree) → IsDocument input.now jsonc root value
         → MatchResult result (λ t. tree_view t ≡ value) (λ e. (refusal_of e).complaint ≡ out_of_memory) }
+    ensures within { IfErr result (λ e. IfSome e.span (λ s. s.offset + s.len ≤ length input.now)) }
 {
     root(alloc, &mut JsonParser::new_jsonc(alloc, input))
 }
@@ -45,8 +47,10 @@ pub fn from_slice_jsonc<'t>(alloc: Global, input: &[u8]) -> Result<Tree, Deseria
 /// The value in front of which the parser stands.
 fn root<'t>(alloc: Global, parser: &mut JsonParser<'_>) -> Result<Tree, DeserializeError<'t>>
     requires free { parser.old.refusal ≡ None }
+    ensures same { parser.new.buffer ≡ parser.old.buffer }
     ensures read { IfOk result (λ t. IsValueRead (future_of parser.old) (tree_view t) (future_of parser.new)) }
     ensures refused { IfErr result (λ e. IsValueUnread parser.old.buffer (future_of parser.old) (refusal_of e)) }
+    ensures within { IfErr result (λ e. IfSome e.span (λ s. s.offset + s.len ≤ length parser.new.buffer)) }
 {
     let first = next(parser)?;
     value(alloc, parser, first)
@@ -57,7 +61,10 @@ fn next<'t, 'de>(parser: &mut JsonParser<'de>) -> Result<ParseEvent<'de>, Deseri
     requires free { parser.old.refusal ≡ None }
     ensures same { parser.new.buffer ≡ parser.old.buffer }
     ensures gave { IfOk result (λ e. GaveNext parser.old (event_of e) parser.new) }
+    ensures shorter { OnOk result (ahead parser.new < ahead parser.old) }
+    ensures event_within { IfOk result (λ e. stop (event_of e).span ≤ length parser.new.buffer) }
     ensures refused { IfErr result (λ e. GivesNone parser.old (refusal_of e)) }
+    ensures within { IfErr result (λ e. IfSome e.span (λ s. s.offset + s.len ≤ length parser.new.buffer)) }
 {
     match parser.next_event()? {
         Some(event) => Ok(event),
@@ -66,7 +73,9 @@ fn next<'t, 'de>(parser: &mut JsonParser<'de>) -> Result<ParseEvent<'de>, Deseri
 }
 
 /// The refusal of a value where the parser is at the end.
-fn ended<'t>(parser: &JsonParser<'_>) -> DeserializeError<'t> {
+fn ended<'t>(parser: &JsonParser<'_>) -> DeserializeError<'t>
+    ensures { IfSome result.span (λ s. s.offset + s.len ≤ length parser.now.buffer) }
+{
     let end = match parser.current_span() {
         Some(span) => span.offset.saturating_add(span.len),
         None => 0,
@@ -85,12 +94,14 @@ fn value<'t>(
     first: ParseEvent<'_>,
 ) -> Result<Tree, DeserializeError<'t>>
     requires free { parser.old.refusal ≡ None }
+    requires within { stop (event_of first).span ≤ length parser.old.buffer }
     ensures same { parser.new.buffer ≡ parser.old.buffer }
     ensures went { OnOk result (WentOn parser.old parser.new) }
     ensures read { IfOk result (λ t. (last : SpecSpan) → IsValueRead (first_then (event_of first.entry) last (future_of parser.old))
         (tree_view t) (future_of parser.new)) }
     ensures refused { IfErr result (λ e. (last : SpecSpan)
         → IsValueUnread parser.old.buffer (first_then (event_of first.entry) last (future_of parser.old)) (refusal_of e)) }
+    ensures within { IfErr result (λ e. IfSome e.span (λ s. s.offset + s.len ≤ length parser.new.buffer)) }
 {
     let ParseEvent { kind, span } = first;
     match kind {
@@ -114,6 +125,7 @@ fn items<'t>(
     ensures went { OnOk result (WentOn parser.old parser.new) }
     ensures read { IfOk result (λ v. AreItemsRead (future_of parser.old) (trees_view v.items) (future_of parser.new)) }
     ensures refused { IfErr result (λ e. AreItemsUnread parser.old.buffer (future_of parser.old) (refusal_of e)) }
+    ensures within { IfErr result (λ e. IfSome e.span (λ s. s.offset + s.len ≤ length parser.new.buffer)) }
 {
     let mut items = Vec::new(alloc);
     loop {
@@ -136,6 +148,7 @@ fn members<'t>(
     ensures went { OnOk result (WentOn parser.old parser.new) }
     ensures read { IfOk result (λ v. AreMembersRead (future_of parser.old) (pairs_view v.items) (future_of parser.new)) }
     ensures refused { IfErr result (λ e. AreMembersUnread parser.old.buffer (future_of parser.old) (refusal_of e)) }
+    ensures within { IfErr result (λ e. IfSome e.span (λ s. s.offset + s.len ≤ length parser.new.buffer)) }
 {
     let mut members = Vec::new(alloc);
     loop {
@@ -158,6 +171,7 @@ fn scalar<'t>(
 ) -> Result<Tree, DeserializeError<'t>>
     ensures read { IfOk result (λ t. (u : SpecTree) → tree_of_scalar (scalar_value_of value.entry) ≡ Some u → tree_view t ≡ u) }
     ensures refused { IfErr result (λ e. (u : SpecTree) → tree_of_scalar (scalar_value_of value.entry) ≡ Some u → LacksMemory (refusal_of e)) }
+    ensures span { IfErr result (λ e. IfSome e.span (λ s. s ≡ span)) }
 {
     match value {
         ScalarValue::Null => Ok(Tree::Null),
@@ -183,7 +197,9 @@ fn owned<'t>(alloc: Global, decimal: Decimal<'_>) -> Result<Decimal<'static>, De
 }
 
 /// The refusal of an event that stands there in place of what a value goes on with.
-fn mismatch<'t>(expected: &'t str, got: &'t str, span: Span) -> DeserializeError<'t> {
+fn mismatch<'t>(expected: &'t str, got: &'t str, span: Span) -> DeserializeError<'t>
+    ensures { result.span ≡ Some span }
+{
     DeserializeError {
         kind: DeserializeErrorKind::TypeMismatch { expected, got },
         span: Some(span),

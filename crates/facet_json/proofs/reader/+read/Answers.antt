@@ -29,6 +29,7 @@ items-returns-in_err-value t c =
       went = tt;
       read = tt;
       refused = item-unread _ _ _ i.passed _ _ g.comes _ _ (not_list_end _ c.in_default.not-SequenceEnd) (unread-same e (c.in_err-value.ensures.refused g.last));
+      within = c.in_err-value.ensures.within;
     })
 
 pub items-loop-items-preserved : goal.items-loop-items-preserved
@@ -37,7 +38,7 @@ items-loop-items-preserved t c =
     let g = c.in_ok-first.ensures.gave in
     record {
       same = c.value.ensures.same ∙ c.next.ensures.same ∙ i.same;
-      went = went-behind _ _ _ _ _ i.went g.comes c.in_ok-value.ensures.went;
+      went = went-behind _ _ _ _ i.went c.in_ok-first.ensures.shorter c.in_ok-value.ensures.went;
       passed = rw (c.in_ok-push.ensures.items, map-append) (item-passed _ _ _ i.passed _ _ g.comes _ _ (not_list_end _ c.in_default.not-SequenceEnd) (c.in_ok-value.ensures.read g.last));
     }
 
@@ -63,6 +64,7 @@ members-returns-in_default t c =
       went = tt;
       read = tt;
       refused = no_key-unread _ _ _ i.passed _ _ g.comes _ _ (not_member _ c.in_default.not-StructEnd c.in_default.not-FieldKey);
+      within = rw c.mismatch.ensures c.in_ok-kind.ensures.event_within;
     }
 
 pub members-returns-in_err-first-clause-refused : goal.members-returns-in_err-first-clause-refused
@@ -89,7 +91,7 @@ members-loop-members-preserved t c =
     let key = c.in_ok-key-in-FieldKey.ensures.ok ∙ held-bytes c.in-FieldKey.key.name in
     record {
       same = c.value.ensures.same ∙ c.next-in-loop-members.ensures.same ∙ c.next.ensures.same ∙ i.same;
-      went = went-behind _ _ _ _ _ i.went g.comes (went-behind _ _ _ _ _ (went-none c.next.new.parser g.free) h.comes c.in_ok-value.ensures.went);
+      went = went-behind _ _ _ _ i.went c.in_ok-kind.ensures.shorter (went-behind _ _ _ _ (went-none c.next.new.parser g.free) c.in_ok-first.ensures.shorter c.in_ok-value.ensures.went);
       passed = rw (c.in_ok-push.ensures.items, map-append, key) (member-passed _ _ _ i.passed _ _ g.comes _ (ap event_kind_of c.in-FieldKey.is) _ _ (read-at h.comes (c.in_ok-value.ensures.read h.last)));
     }
 

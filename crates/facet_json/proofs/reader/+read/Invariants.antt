@@ -1,20 +1,19 @@
 use Rattle.std.proofs.Common.{◌≡◌, ◌≤◌, ◌+◌, ◌*◌, map, None, string_bytes}
-use Rattle.facet_json_core.specs.Now.{future_of}
+use Rattle.facet_json_core.specs.Now.{ahead, future_of}
 use Rattle.facet_json.specs.Reading.{WentOn}
-use Rattle.facet_json.specs.Told.{events_in}
 use Rattle.facet_json.specs.Views.{tree_view}
 use Rattle.facet_json.proofs.Reading.{ItemsPassed, MembersPassed}
 use Rattle.facet_json.proofs.reader.+read.Given as goal
 
--- how many events come, twice; one more where an event was taken in front
+-- how many bytes are ahead, twice; one more where an event was taken in front
 abbrev pub decreases-value : goal.decreases-value
-decreases-value l = 2 * events_in (future_of l.parser.now) + 1
+decreases-value l = 2 * ahead l.parser.now + 1
 
 abbrev pub decreases-items : goal.decreases-items
-decreases-items l = 2 * events_in (future_of l.parser.now)
+decreases-items l = 2 * ahead l.parser.now
 
 abbrev pub decreases-members : goal.decreases-members
-decreases-members l = 2 * events_in (future_of l.parser.now)
+decreases-members l = 2 * ahead l.parser.now
 
 abbrev pub invariant-items-loop-items : goal.invariant-items-loop-items
 invariant-items-loop-items l = record {
@@ -24,7 +23,7 @@ invariant-items-loop-items l = record {
 }
 
 abbrev pub decreases-items-loop-items : goal.decreases-items-loop-items
-decreases-items-loop-items l = events_in (future_of l.parser)
+decreases-items-loop-items l = ahead l.parser
 
 abbrev pub invariant-members-loop-members : goal.invariant-members-loop-members
 invariant-members-loop-members l = record {
@@ -34,4 +33,4 @@ invariant-members-loop-members l = record {
 }
 
 abbrev pub decreases-members-loop-members : goal.decreases-members-loop-members
-decreases-members-loop-members l = events_in (future_of l.parser)
+decreases-members-loop-members l = ahead l.parser
