@@ -10,9 +10,10 @@ mod shown;
 
 use super::{Answer, Call, drive};
 use crate::parser::JsonParser;
+use facet_format::ParseEvent;
 use facet_json_scan::Mode;
 use shown::{answer_shown, error_shown, event_shown};
-use std::alloc::Global;
+use std::alloc::{AllocError, Global};
 use std::process::Abort;
 use std::test::Fail;
 
@@ -48,41 +49,64 @@ fn parser_of<'de>(alloc: Global, mode: Mode, is_trusted: bool, input: &'de str) 
     }
 }
 
-/// What answers tell: the events, what comes behind them, which may come again and is told once, and spans.
-fn told(rt: &impl Abort, alloc: Global, answers: &[Answer<'_>]) -> Result<String, Fail> {
-    let mut shown = String::new(alloc);
-    let mut ending: Option<String> = None;
-    for answer in answers {
+/// What answers tell, one after the other.
+#[derive(Debug, Drop)]
+struct Told {
+    /// The events.
+    events: String,
+    /// What comes behind them. It may come again.
+    ending: Option<String>,
+}
+
+impl Told {
+    fn event(
+        &mut self,
+        rt: &impl Abort,
+        alloc: Global,
+        event: &ParseEvent<'_>,
+    ) -> Result<(), Fail> {
+        assert!(rt; self.ending.is_none(), "an event behind the end");
+        self.events.push_str(event_shown(alloc, event)?.as_str())?;
+        self.events.push_str("; ")?;
+        Ok(())
+    }
+
+    fn end(&mut self, rt: &impl Abort, text: String) {
+        match &self.ending {
+            Some(end) => assert_eq!(rt; text.as_str(), end.as_str()),
+            None => self.ending = Some(text),
+        }
+    }
+
+    fn answer(&mut self, rt: &impl Abort, alloc: Global, answer: &Answer<'_>) -> Result<(), Fail> {
         match answer {
+            Answer::Event(Ok(Some(event))) => self.event(rt, alloc, event)?,
             Answer::Events(events, result) => {
                 for event in events {
-                    assert!(rt; ending.is_none());
-                    shown.push_str(event_shown(alloc, event)?.as_str())?;
-                    shown.push_str("; ")?;
+                    self.event(rt, alloc, event)?;
                 }
                 match result {
                     Ok(count) => assert_eq!(rt; *count, events.len()),
-                    Err(error) => {
-                        assert!(rt; ending.is_none());
-                        ending = Some(error_shown(alloc, error)?);
-                    }
+                    Err(error) => self.end(rt, error_shown(alloc, error)?),
                 }
             }
-            Answer::Event(Ok(Some(event))) => {
-                assert!(rt; ending.is_none());
-                shown.push_str(event_shown(alloc, event)?.as_str())?;
-                shown.push_str("; ")?;
-            }
-            other => {
-                let text = answer_shown(alloc, other)?;
-                match &ending {
-                    Some(end) => assert_eq!(rt; text.as_str(), end.as_str()),
-                    None => ending = Some(text),
-                }
-            }
+            other => self.end(rt, answer_shown(alloc, other)?),
         }
+        Ok(())
     }
-    match ending {
+}
+
+/// The events that answers tell, and the end or refusal behind them.
+fn all_told(rt: &impl Abort, alloc: Global, answers: &[Answer<'_>]) -> Result<String, Fail> {
+    let mut told = Told {
+        events: String::new(alloc),
+        ending: None,
+    };
+    for answer in answers {
+        told.answer(rt, alloc, answer)?;
+    }
+    let mut shown = told.events;
+    match told.ending {
         Some(end) => shown.push_str(end.as_str())?,
         None => assert!(rt; false, "neither an end nor a refusal"),
     }
@@ -110,15 +134,8 @@ fn seconds<'de>(
     Ok(seconds)
 }
 
-/// All that a parser tells of an input of so many bytes, in one call of `next_event` more than there are bytes, or in as
-/// many events; and its span then.
-fn read(
-    rt: &impl Abort,
-    alloc: Global,
-    parser: &mut JsonParser<'_>,
-    way: Way,
-    len: usize,
-) -> Result<String, Fail> {
+/// Calls that ask for all events of an input of so many bytes: `next_event` once more than there are bytes, or as many events.
+fn calls_of(alloc: Global, way: Way, len: usize) -> Result<Vec<Call>, AllocError> {
     let mut calls = Vec::new(alloc);
     match way {
         Way::ByNext => {
@@ -138,11 +155,23 @@ fn read(
             calls.push(Call::Next)?;
         }
     }
+    Ok(calls)
+}
+
+/// All that a parser tells of an input of so many bytes, and its span then.
+fn read(
+    rt: &impl Abort,
+    alloc: Global,
+    parser: &mut JsonParser<'_>,
+    way: Way,
+    len: usize,
+) -> Result<String, Fail> {
+    let calls = calls_of(alloc, way, len)?;
     let mut answers = drive(alloc, parser, calls.as_slice())?;
     if matches!(way, Way::ByPeekAndNext) {
         answers = seconds(rt, alloc, answers)?;
     }
-    let mut shown = told(rt, alloc, answers.as_slice())?;
+    let mut shown = all_told(rt, alloc, answers.as_slice())?;
     for answer in &drive(alloc, parser, &[Call::Span])? {
         shown.push_str("; ")?;
         shown.push_str(answer_shown(alloc, answer)?.as_str())?;

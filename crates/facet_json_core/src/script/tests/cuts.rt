@@ -1,6 +1,6 @@
 //! Inputs cut at each of their bytes.
 
-use super::{BOTH, checking, told};
+use super::{BOTH, all_told, checking};
 use crate::script::{Answer, Call, drive};
 use facet_format::Span;
 use std::alloc::Global;
@@ -26,7 +26,7 @@ fn ends(rt: &impl Abort, alloc: Global, input: &[u8]) -> Result<(), Fail> {
     for mode in BOTH {
         let mut parser = checking(alloc, mode, input);
         let mut answers = drive(alloc, &mut parser, calls.as_slice())?;
-        told(rt, alloc, answers.as_slice())?;
+        all_told(rt, alloc, answers.as_slice())?;
         answers.extend(drive(alloc, &mut parser, &[Call::Next, Call::Span])?)?;
         for answer in &answers {
             let span = span_of(answer);
