@@ -134,7 +134,7 @@ fn seconds<'de>(
     Ok(seconds)
 }
 
-/// Calls that ask for all events of an input of so many bytes: `next_event` once more than there are bytes, or as many events.
+/// Calls that ask for all events of an input of so many bytes, and for what comes behind them, twice.
 fn calls_of(alloc: Global, way: Way, len: usize) -> Result<Vec<Call>, AllocError> {
     let mut calls = Vec::new(alloc);
     match way {
@@ -142,6 +142,7 @@ fn calls_of(alloc: Global, way: Way, len: usize) -> Result<Vec<Call>, AllocError
             for _ in 0..=len {
                 calls.push(Call::Next)?;
             }
+            calls.push(Call::Next)?;
         }
         Way::ByPeekAndNext => {
             for _ in 0..=len {

@@ -37,11 +37,12 @@ fn points_and_peeks(rt: HostRuntime) -> Result<(), Fail> {
             Call::Save,
             Call::Next,
             Call::Next,
+            Call::Span,
             Call::Restore(1),
             Call::Events(9),
             Call::Span,
         ],
-        "span 0+0; { 0+1; span 0+1; point 1; { 0+1; key(a) 1+3; restored; { 0+1; key(a) 1+3; U64(1) 5+1; } 7+1; events 4; span 7+1",
+        "span 0+0; { 0+1; span 0+1; point 1; { 0+1; key(a) 1+3; span 4+1; restored; { 0+1; key(a) 1+3; U64(1) 5+1; } 7+1; events 4; span 7+1",
     )?;
     expect_with_spans(
         &rt,

@@ -164,6 +164,7 @@ fn places(rt: HostRuntime) -> Result<(), Fail> {
 fn tokens(rt: HostRuntime) -> Result<(), Fail> {
     let alloc = rt.alloc();
     for (input, want) in [
+        ("[,]", "[ 0+1; refused 3(Comma, value or ']') 1+1; span 0+1"),
         ("[}", "[ 0+1; refused 3(ObjectEnd, value) 1+1; span 0+1"),
         ("{\"a\"", "{ 0+1; refused 3(Eof, ':') 4+0; span 0+1"),
         (
