@@ -73,7 +73,7 @@ impl<'de> JsonParser<'de> {
         requires utf8 { IsUtf8 input.now }
         ensures { result ≡ fresh input.now plain }
     {
-        JsonParser::in_mode(alloc, input, Mode::Plain)
+        JsonParser::new(alloc, input)
     }
 
     /// A parser of a document with comments, over an input that is UTF-8. It answers as the one that checks its strings.
@@ -81,7 +81,7 @@ impl<'de> JsonParser<'de> {
         requires utf8 { IsUtf8 input.now }
         ensures { result ≡ fresh input.now jsonc }
     {
-        JsonParser::in_mode(alloc, input, Mode::Jsonc)
+        JsonParser::new_jsonc(alloc, input)
     }
 
     /// A parser in front of the input.
