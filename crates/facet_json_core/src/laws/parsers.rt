@@ -1,7 +1,7 @@
 //! Laws about parsers: what the calls' contracts say of a new one, and of calls behind one another.
 
 ghost use Rattle.facet_json_core.specs.ParserLaws.{NewStands, InputComes, BehindIsRefused, AloneIsGiven};
-ghost use Rattle.facet_json_core.specs.CallLaws.{PeekIsNext, RefusalRepeats, SaveIsNumbered, RestoreBringsBack, UnknownChangesNothing, EndsInTime};
+ghost use Rattle.facet_json_core.specs.CallLaws.{PeekIsNext, RefusalRepeats, SaveIsNumbered, RestoreBringsBack, NumbersAreNew, UnknownChangesNothing, EndsInTime};
 
 /// A new parser of an input with a document stands at the start of the document's walk.
 pub fn new_stands()
@@ -42,9 +42,14 @@ pub fn save_is_numbered()
 {}
 
 /// On every input the restore of a point brings back where the parser stood at its save, whatever other calls were
-/// between. The point is used up, and other points stay.
+/// between. The point is used up, and other points stay. (That no other point has its number the save's contract says.)
 pub fn restore_brings_back()
     ensures { RestoreBringsBack }
+{}
+
+/// Whatever calls a new parser answered, no point has the next number.
+pub fn numbers_are_new()
+    ensures { NumbersAreNew }
 {}
 
 /// The restore of a point that isn't kept changes nothing.
