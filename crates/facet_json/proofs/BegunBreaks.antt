@@ -1,13 +1,13 @@
 -- What a begun document gives begins a value, and breaks off before its end.
-use Rattle.std.proofs.Common.{◌≡◌, ℕ, List, [], ◌∷◌, Some, refl, sym, ap, ◌∙◌, subst}
-use Rattle.facet_format.specs.Event.{Passed, array, object, sequence_start, struct_start}
+use Rattle.std.proofs.Common.{◌≡◌, ℕ, List, refl, sym, ap, ◌∙◌, subst}
+use Rattle.facet_format.specs.Event.{Passed, array, object}
 use Rattle.facet_json_scan.specs.Token.{Token}
 use Rattle.facet_json_scan.specs.Tokens.{Tokens}
 use Rattle.facet_json_core.specs.Tree.{Tree}
-use Rattle.facet_json_core.specs.Meaning.{meaning, text_of}
+use Rattle.facet_json_core.specs.Meaning.{meaning}
 use Rattle.facet_json_core.specs.Place.{Place}
-use Rattle.facet_json_core.specs.Walk.{event_at, key_event, walk}
-use Rattle.facet_json_core.specs.Future.{Future, gives, stuck, events_before, Stage, within, over}
+use Rattle.facet_json_core.specs.Walk.{key_event, walk}
+use Rattle.facet_json_core.specs.Future.{gives, stuck, events_before, Stage, within, over}
 use Rattle.facet_json_core.specs.Begun.{Begun, nothing, whole, in_list, in_object, ListBegun, begins_item, behind_item, ObjectBegun, no_key, key_alone, begins_member, behind_member, BegunDocument}
 use Rattle.facet_json_core.proofs.Futures.{events_before-append}
 use Rattle.facet_json.specs.Told.{Tells, Breaks, in_front, BreaksItems, BreaksMembers}

@@ -1,16 +1,12 @@
 -- From a reader of the value at the root to a reader of a document, in either mode.
-use Rattle.std.proofs.Common.{◌≡◌, ◌⊎◌, inl, inr, ℕ, List, refl, sym, ap, ◌∙◌, subst}
+use Rattle.std.proofs.Common.{◌≡◌, ◌⊎◌, inl, inr, ℕ, List, sym, subst}
 use Rattle.facet_format.specs.Complaint.{Refusal}
 use Rattle.facet_json_scan.specs.Gap.{Mode}
-use Rattle.facet_json_scan.specs.Tokens.{Tokens}
 use Rattle.facet_json_core.specs.Node.{Node}
 use Rattle.facet_json_core.specs.Tree.{Tree}
-use Rattle.facet_json_core.specs.Meaning.{meaning}
 use Rattle.facet_json_core.specs.Document.{IsDocument}
-use Rattle.facet_json_core.specs.Place.{Place}
 use Rattle.facet_json_core.specs.Refusal.{Refuses}
-use Rattle.facet_json_core.specs.Walk.{walk}
-use Rattle.facet_json_core.specs.Future.{Future, finished, stuck, events_before}
+use Rattle.facet_json_core.specs.Future.{Future, finished}
 use Rattle.facet_json_core.specs.Now.{fresh, future_of}
 use Rattle.facet_json_core.specs.ParserLaws.{RootComes, document_comes, front_comes}
 use Rattle.facet_json_core.proofs.Stands.{fresh-stands}

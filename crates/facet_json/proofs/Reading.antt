@@ -1,5 +1,5 @@
 -- A reader of a tree, step by step: what was read so far, and how what it is refused with answers for what it reads.
-use Rattle.std.proofs.Common.{◌≡◌, ◌≢◌, ◌<◌, ◌⊎◌, inl, inr, ℕ, true, false, List, [], ◌∷◌, ◌++◌, None, Some, refl, sym, ap, ◌∙◌, subst, arith, map, string_bytes}
+use Rattle.std.proofs.Common.{◌≡◌, ◌≢◌, ◌<◌, inl, inr, ℕ, true, false, List, [], ◌∷◌, ◌++◌, None, Some, refl, sym, ap, ◌∙◌, subst, arith, map, string_bytes}
 use Rattle.std.specs.declared.string.String.{String}
 use Rattle.std.specs.declared.alloc.Global.{Global}
 use Rattle.std.specs.Cow.{cow_str_bytes}
@@ -13,17 +13,17 @@ use Rattle.facet_json.specs.declared.tree.Tree.{Tree as RustTree}
 use Rattle.facet_format.specs.Complaint.{Refusal}
 use Rattle.facet_format.specs.Event.{ContainerKind, struct_start, struct_end, sequence_start, sequence_end, field_key, scalar, Scalar, Text, bytes_of, Passed}
 use Rattle.facet_json_scan.specs.Tokens.{Tokens}
-use Rattle.facet_json_core.specs.Tree.{Tree, list, pairs, Trees, no_trees, tree, Pairs, no_pairs, pair}
+use Rattle.facet_json_core.specs.Tree.{Tree, Trees, no_trees, tree, Pairs, no_pairs, pair}
 use Rattle.facet_json_core.specs.Place.{Place}
 use Rattle.facet_json_core.specs.Meaning.{meaning}
 use Rattle.facet_json_core.specs.Refusal.{IsStuck, Complains}
-use Rattle.facet_json_core.specs.Future.{Future, gives, finished, stuck}
+use Rattle.facet_json_core.specs.Future.{Future, gives, stuck}
 use Rattle.facet_json_core.specs.Now.{Now, ahead, future_of}
 use Rattle.facet_format.specs.Views.{event_kind_of}
 use Rattle.facet_json.specs.Views.{trees_of, pairs_view, tree_view}
-use Rattle.facet_json.specs.Told.{tree_of_scalar, Tells, TellsItems, TellsMembers, Breaks, BreaksItems, BreaksMembers}
+use Rattle.facet_json.specs.Told.{tree_of_scalar, TellsItems, TellsMembers, BreaksItems, BreaksMembers}
 use Rattle.facet_json.specs.Reading.{WentOn, LacksMemory, StopsAt, GivesNone, lacks_memory, at_the_end, is_stuck, IsRead, IsUnread, IsValueRead, AreItemsRead, AreMembersRead, IsValueUnread, AreItemsUnread, AreMembersUnread}
-use Rattle.facet_json.proofs.Told.{opens, begins, is_member, told-begins, broken-opens, scalar-told, list-told, object-told, list-broken, object-broken, items-ended, items-first, items_end-whole, items-broken, members-ended, members-first, members-begin, members_broken-begin, members-broken, HasFirst, has_first, HasFirstOr, first, none, told-has, items-has, members-has, broken-has, items_broken-has, members_broken-has}
+use Rattle.facet_json.proofs.Told.{opens, is_member, broken-opens, scalar-told, list-told, object-told, list-broken, object-broken, items-ended, items-first, items_end-whole, items-broken, members-ended, members-first, members-begin, members_broken-begin, members-broken, HasFirst, has_first, HasFirstOr, first, none, told-has, items-has, members-has, broken-has, items_broken-has, members_broken-has}
 
 -- ---- refusals
 
@@ -195,9 +195,11 @@ module _ (start here : Future) (items : List Tree) (passed : ItemsPassed start h
       told = λ all last h.
           let more = passed.told all last h in
           let one = items-first p f last more.0 k (subst (λ g. TellsItems g more.0 last) comes more.1) in
-          let both = read.told one.0 one.1 one.3 in
-          (one.2, subst (λ g. TellsItems g one.2 last) (sym both.1) one.4,
-          trees_before-more items t one.2 ∙ ap (λ u. trees_before items (tree u one.2)) both.0 ∙ ap (trees_before items) (sym one.5) ∙ more.2);
+          let both = read.told one.0 one.1 one.3 in (
+            one.2,
+            subst (λ g. TellsItems g one.2 last) (sym both.1) one.4,
+            trees_before-more items t one.2 ∙ ap (λ u. trees_before items (tree u one.2)) both.0 ∙ ap (trees_before items) (sym one.5) ∙ more.2,
+          );
       broken = λ place last h.
           elim (items-broken place last (gives p f) (subst (λ g. BreaksItems place last g) comes (passed.broken place last h))) [
             | inl b ↦ absurd (read.whole place last b)
@@ -297,10 +299,12 @@ module _ (start here : Future) (members : List (List ℕ × Tree)) (passed : Mem
         told = λ all last h.
             let more = passed.told all last h in
             let one = members-first p f last more.0 name k (subst (λ g. TellsMembers g more.0 last) comes more.1) in
-            let both = read.told one.0 one.1 one.3 in
-            (one.2, subst (λ g. TellsMembers g one.2 last) (sym both.1) one.4,
-            pairs_before-more members (bytes_of name) t one.2 ∙ ap (λ u. pairs_before members (pair (bytes_of name) u one.2)) both.0
-            ∙ ap (pairs_before members) (sym one.5) ∙ more.2);
+            let both = read.told one.0 one.1 one.3 in (
+              one.2,
+              subst (λ g. TellsMembers g one.2 last) (sym both.1) one.4,
+              pairs_before-more members (bytes_of name) t one.2 ∙ ap (λ u. pairs_before members (pair (bytes_of name) u one.2)) both.0
+                  ∙ ap (pairs_before members) (sym one.5) ∙ more.2,
+            );
         broken = λ place last h.
             elim (members-broken place last p f (subst (λ g. BreaksMembers place last g) comes (passed.broken place last h))) [
               | inl b ↦ absurd (read.whole place last b)

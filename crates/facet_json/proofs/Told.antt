@@ -1,10 +1,10 @@
 -- What the first event says of the value that events tell, or within which they break off.
-use Rattle.std.proofs.Common.{◌≡◌, ◌≢◌, ◌⊎◌, inl, inr, ℕ, Bool, true, false, Some, refl, sym, ap, ◌∙◌}
+use Rattle.std.proofs.Common.{◌≡◌, ◌≢◌, ◌⊎◌, inl, inr, Bool, true, false, Some, refl, ap, ◌∙◌}
 use Rattle.facet_format.specs.Event.{ContainerKind, EventKind, struct_start, struct_end, sequence_start, sequence_end, field_key, scalar, Scalar, Text, bytes_of, Passed}
 use Rattle.facet_json_scan.specs.Tokens.{Tokens}
 use Rattle.facet_json_core.specs.Tree.{Tree, list, pairs, Trees, no_trees, tree, Pairs, no_pairs, pair}
 use Rattle.facet_json_core.specs.Place.{Place}
-use Rattle.facet_json_core.specs.Future.{Future, gives, finished, stuck}
+use Rattle.facet_json_core.specs.Future.{Future, gives, stuck}
 use Rattle.facet_json.specs.Told.{tree_of_scalar, Tells, a_scalar, a_list, an_object, TellsItems, no_item, one_item, TellsMembers, no_member, one_member, Breaks, in_front, in_list, in_object, BreaksItems, in_item, behind_item, BreaksMembers, in_key, in_member, behind_member}
 
 -- ---- events with which a value begins

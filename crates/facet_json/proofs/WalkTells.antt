@@ -117,7 +117,7 @@ module _ (buffer : List ℕ) where
         let m = meaning buffer in
         let has = item_meant m n nodes values e in
         let made : Some (tree has.0 has.1) ≡ Some values =
-            sym (ap (λ o. put_item o (trees_of m nodes)) has.2 ∙ ap (put_item (Some has.0)) has.3) ∙ e in
+        sym (ap (λ o. put_item o (trees_of m nodes)) has.2 ∙ ap (put_item (Some has.0)) has.3) ∙ e in
         let same : tree has.0 has.1 ≡ values = cc in
         let others = events_before (walk_items m nodes) (gives last rest) in
         let parts = sym (events_before-append (walk m n) (walk_items m nodes) (gives last rest)) in
@@ -135,8 +135,8 @@ module _ (buffer : List ℕ) where
         let m = meaning buffer in
         let has = member_meant m key mark n members values e in
         let made : Some (pair has.0 has.1 has.2) ≡ Some values =
-            sym (ap (λ o. put_pair o (tree_of m n) (pairs_of m members)) has.3 ∙ ap (λ o. put_pair (Some has.0) o (pairs_of m members)) has.4
-            ∙ ap (put_pair (Some has.0) (Some has.1)) has.5) ∙ e in
+        sym (ap (λ o. put_pair o (tree_of m n) (pairs_of m members)) has.3 ∙ ap (λ o. put_pair (Some has.0) o (pairs_of m members)) has.4
+        ∙ ap (put_pair (Some has.0) (Some has.1)) has.5) ∙ e in
         let same : pair has.0 has.1 has.2 ≡ values = cc in
         let others = events_before (walk_members m members) (gives last rest) in
         let parts = sym (events_before-append (walk m n) (walk_members m members) (gives last rest)) in

@@ -116,10 +116,7 @@ fn value<'t>(
 
 /// The items of a list, behind its opening bracket. Passes the closing one.
 #[cycle(read)]
-fn items<'t>(
-    alloc: Global,
-    parser: &mut JsonParser<'_>,
-) -> Result<Vec<Tree>, DeserializeError<'t>>
+fn items<'t>(alloc: Global, parser: &mut JsonParser<'_>) -> Result<Vec<Tree>, DeserializeError<'t>>
     requires free { parser.old.refusal ≡ None }
     ensures same { parser.new.buffer ≡ parser.old.buffer }
     ensures went { OnOk result (WentOn parser.old parser.new) }

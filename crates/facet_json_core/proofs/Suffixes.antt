@@ -1,15 +1,11 @@
 -- What stands behind a value is a suffix of the tokens, and every token and fault of a buffer's tokens is within it.
-use Rattle.std.proofs.Common.{ℕ, zero, suc, ◌+◌, ◌-◌, ◌≤◌, List, [], ◌∷◌, length, drop, IfSome, arith, length-drop}
+use Rattle.std.proofs.Common.{ℕ, zero, suc, ◌+◌, ◌-◌, ◌≤◌, List, [], ◌∷◌, length, arith}
 use Rattle.facet_json_scan.specs.Gap.{Mode}
 use Rattle.facet_format.specs.Span.{Span, stop}
 use Rattle.facet_json_scan.specs.Token.{Token, Fault}
 use Rattle.facet_json_scan.specs.Cut.{Cut, nothing_left, token, fault, cut}
-use Rattle.facet_json_scan.specs.Tokens.{Tokens, ended, refused, next, tokens_past, tokens}
+use Rattle.facet_json_scan.specs.Tokens.{Tokens, ended, refused, next, tokens_past}
 use Rattle.facet_json_core.specs.Node.{Node, Nodes, Members, Spells, one_token, brackets, braces, SpellsItems, closed, item_and_comma, last_item, SpellsMembers, ended_members, member_and_comma, last_member}
-use Rattle.facet_json_core.specs.Meaning.{Meaning}
-use Rattle.facet_json_core.specs.Place.{Place}
-use Rattle.facet_format.specs.Complaint.{Refusal}
-use Rattle.facet_json_core.specs.Refusal.{PassesItems, no_items, one_item, PassesMembers, no_members, one_member, Begins, nothing, in_item, behind_item, behind_members, behind_key, in_member, behind_member, IsStuck, at_end, at_fault, meaningless, misplaced, Complains, of_number, of_plain_string, of_escaped_string, Refuses}
 use Rattle.facet_json_scan.proofs.CutBounds.{CutFits, cut-fits}
 
 -- ---- suffixes

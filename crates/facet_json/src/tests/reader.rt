@@ -364,18 +364,19 @@ fn no_token_stands(rt: HostRuntime) {
 #[test]
 fn comments_are_read_in_jsonc_alone(rt: HostRuntime) -> Result<(), Fail> {
     let alloc = rt.alloc();
-    for input in [
-        "/*a*/[1,//b\n2]//c",
-        "//\n[1/**/,2 , /*]*/ ]",
-        "[1,2] /",
-    ] {
+    for input in ["/*a*/[1,//b\n2]//c", "//\n[1/**/,2 , /*]*/ ]", "[1,2] /"] {
         let numbers = Tree::List(vec![in alloc; Tree::U64(1), Tree::U64(2)]?);
         let bytes = input.as_bytes();
         expect_tree(&rt, bytes, from_slice_jsonc(alloc, bytes), &numbers);
     }
     for (input, offset) in [("/*a*/[1,//b\n2]//c", 0), ("/**/1", 0), ("[1,//\n2]", 3)] {
         let bytes = input.as_bytes();
-        expect_error(&rt, bytes, from_slice(alloc, bytes), unexpected('/', offset));
+        expect_error(
+            &rt,
+            bytes,
+            from_slice(alloc, bytes),
+            unexpected('/', offset),
+        );
     }
     Ok(())
 }

@@ -1,4 +1,4 @@
-use Rattle.std.proofs.Common.{◌≡◌, ◌≤◌, ◌+◌, ◌*◌, map, None, string_bytes}
+use Rattle.std.proofs.Common.{◌≡◌, ◌+◌, ◌*◌, map, string_bytes}
 use Rattle.facet_json_core.specs.Now.{ahead, future_of}
 use Rattle.facet_json.specs.Reading.{WentOn}
 use Rattle.facet_json.specs.Views.{tree_view}
