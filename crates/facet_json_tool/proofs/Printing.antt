@@ -1,0 +1,78 @@
+-- Printing in pieces: what was written before, and one more piece.
+use Rattle.std.proofs.Common.{◌≡◌, ℕ, List, [], ◌∷◌, ◌++◌, Option, Some, None, Result, Ok, Err, suc, length, drop, refl, sym, ap, ◌∙◌, arith}
+use Rattle.std.specs.Io.KnownBytes.{Appends, Keeps}
+use Rattle.std.proofs.lemmas.List.{append-nil, append_assoc}
+use Rattle.facet_json_tool.specs.declared.outcome.Outcome.{Outcome}
+use Rattle.facet_json_tool.specs.declared.outcome.Outcome.TheVariants.{Done, Refused, Io, Usage}
+use Rattle.facet_json_tool.specs.Run.{Grows, Prints, Goes}
+
+pub appends_nothing : (held : Option (List ℕ)) → Appends held held []
+appends_nothing None = tt
+appends_nothing (Some xs) = sym (append-nil xs)
+
+pub appends_both : (a b c : Option (List ℕ)) (xs ys : List ℕ) → Appends a b xs → Appends b c ys → Appends a c (xs ++ ys)
+appends_both None b c xs ys first second = tt
+appends_both (Some held) None c xs ys first second = absurd first
+appends_both (Some held) (Some mid) None xs ys first second = absurd second
+appends_both (Some held) (Some mid) (Some last) xs ys first second = second ∙ ap (λ l. l ++ ys) first ∙ append_assoc held xs ys
+
+pub appends_keeps : (a b c : Option (List ℕ)) (xs : List ℕ) → Appends a b xs → Keeps b c → Appends a c xs
+appends_keeps None b c xs appends keeps = tt
+appends_keeps (Some held) None c xs appends keeps = absurd appends
+appends_keeps (Some held) (Some mid) None xs appends keeps = absurd keeps
+appends_keeps (Some held) (Some mid) (Some last) xs appends keeps = keeps ∙ appends
+
+pub grows_both : (a b c : Option (List ℕ)) (xs : List ℕ) → Appends a b xs → Grows b c → Grows a c
+grows_both a b c xs first second = (xs ++ second.0, appends_both a b c xs second.0 first second.1)
+
+-- what is printed behind what is written already
+pub prints_behind : {T : Type 0} (a b c : Option (List ℕ)) (xs ys : List ℕ) (result : Result T Outcome) →
+    Appends a b xs → Prints b c ys result → Prints a c (xs ++ ys) result
+prints_behind a b c xs ys (Ok done) first second = appends_both a b c xs ys first second
+prints_behind a b c xs ys (Err Done) first second = absurd second
+prints_behind a b c xs ys (Err (Refused code span)) first second = (second.0, grows_both a b c xs first second.1)
+prints_behind a b c xs ys (Err Io) first second = tt
+prints_behind a b c xs ys (Err Usage) first second = absurd second
+
+-- where printing stopped in front of the end, any text behind it was to come
+pub stops_within : {T U : Type 0} (a b : Option (List ℕ)) (xs ys : List ℕ) (outcome : Outcome) →
+    Prints {T} a b xs (Err outcome) → Prints {U} a b ys (Err outcome)
+stops_within a b xs ys Done prints = prints
+stops_within a b xs ys (Refused code span) prints = prints
+stops_within a b xs ys Io prints = prints
+stops_within a b xs ys Usage prints = prints
+
+pub no_memory_here : {T : Type 0} (held : Option (List ℕ)) (xs : List ℕ) → Prints {T} held held xs (Err (Refused 9 None))
+no_memory_here held xs = (refl, ([], appends_nothing held))
+
+-- Printing that stopped behind what was written
+pub stops_behind : {T U : Type 0} (a b c : Option (List ℕ)) (xs ys zs : List ℕ) (outcome : Outcome) →
+    Appends a b xs → Prints {T} b c ys (Err outcome) → Prints {U} a c zs (Err outcome)
+stops_behind a b c xs ys zs outcome first second =
+    stops_within a c (xs ++ ys) zs outcome (prints_behind a b c xs ys (Err outcome) first second)
+
+-- A text of which a front is printed, and what is left of it
+pub record IsPrintedUpTo (before now : Option (List ℕ)) (whole left : List ℕ) : Type 0 where
+  pub front : List ℕ
+  pub appended : Appends before now front
+  pub parts : whole ≡ front ++ left
+
+pub up_to_nothing : (held : Option (List ℕ)) (whole : List ℕ) → IsPrintedUpTo held held whole whole
+up_to_nothing held whole = record { front = []; appended = appends_nothing held; parts = refl }
+
+pub up_to_more : (a b c : Option (List ℕ)) (whole left line rest : List ℕ) → left ≡ line ++ rest →
+    IsPrintedUpTo a b whole left → Appends b c line → IsPrintedUpTo a c whole rest
+up_to_more a b c whole left line rest cut printed more = record {
+  front = printed.front ++ line;
+  appended = appends_both a b c printed.front line printed.appended more;
+  parts = printed.parts ∙ ap (λ l. printed.front ++ l) cut ∙ sym (append_assoc printed.front line rest);
+}
+
+pub up_to_the_end : (a b : Option (List ℕ)) (whole left : List ℕ) → left ≡ [] → IsPrintedUpTo a b whole left → Appends a b whole
+up_to_the_end a b whole left none printed =
+    rw (printed.parts ∙ ap (λ l. printed.front ++ l) none ∙ append-nil printed.front) printed.appended
+
+-- a list that is its own rest is empty
+pub own_rest : {X : Type 0} (xs : List X) → xs ≡ drop 1 xs → xs ≡ []
+own_rest [] same = refl
+own_rest (x ∷ xs) same = let lengths : suc (length xs) ≡ length xs = ap length same in absurd (omega (arith, lengths))
