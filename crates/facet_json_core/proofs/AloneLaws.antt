@@ -1,9 +1,9 @@
 -- Reading by the next event alone, on an input without a document: what the longest front gives, and then one refusal.
-use Rattle.std.proofs.Common.{◌≡◌, inl, inr, ℕ, List, [], ◌∷◌, Some, None, refl, sym, ap, ◌∙◌}
+use Rattle.std.proofs.Common.{◌≡◌, ℕ, List, [], ◌∷◌, Some, None, refl, sym, ap, ◌∙◌}
 use Rattle.std.specs.Prelude.{Err}
 use Rattle.facet_json_scan.specs.Gap.{Mode}
 use Rattle.facet_json_scan.specs.Token.{Token}
-use Rattle.facet_json_scan.specs.Tokens.{Tokens, tokens}
+use Rattle.facet_json_scan.specs.Tokens.{Tokens}
 use Rattle.facet_json_core.specs.Node.{Node}
 use Rattle.facet_json_core.specs.Tree.{Tree}
 use Rattle.facet_json_core.specs.Meaning.{meaning}
@@ -14,9 +14,9 @@ use Rattle.facet_json_core.specs.Refusal.{IsStuck}
 use Rattle.facet_format.specs.Event.{Passed}
 use Rattle.facet_format.specs.Cursor.{Call, next, Answer, event}
 use Rattle.facet_json_core.specs.Future.{gives, stuck, events_before}
-use Rattle.facet_json_core.specs.Now.{Standing, Now, fresh, future_of}
-use Rattle.facet_json_core.specs.Move.{StopsSo, Moves, repeats, passes, passes_without_memory, passes_the_end, passes_nothing, MovesAll, no_calls, one_call}
-use Rattle.facet_json_core.specs.Begun.{LongestFront, RefusesBehind}
+use Rattle.facet_json_core.specs.Now.{Now, fresh, future_of}
+use Rattle.facet_json_core.specs.Move.{Moves, repeats, passes, passes_without_memory, passes_the_end, passes_nothing, MovesAll, no_calls, one_call}
+use Rattle.facet_json_core.specs.Begun.{RefusesBehind}
 use Rattle.facet_json_core.specs.ParserLaws.{GivenAlone}
 use Rattle.facet_json_core.specs.Alone.{AllNext, no_call, one_next, AllRefused, no_answer, one_refused, AnswersAlone, not_asked, one_event, refused, wants_memory}
 use Rattle.facet_json_core.proofs.MoveLaws.{moves-repeats}
@@ -38,11 +38,6 @@ module _ (complains : Token → Refusal → Type 0) where
     abbrev RefusesHere : Now → Type 0
     RefusesHere now = (r : Refusal) → IsStuck now.buffer (meaning now.buffer) complains here rest r → refuses r
 
-    stops_alone : (now : Now) (s : Standing) (r : Refusal) (answers : List Answer) → RefusesHere now →
-        StopsSo complains now here rest s r → AllRefused r answers → AnswersAlone refuses [] (event (Err r) ∷ answers)
-    stops_alone now s r answers h (inl stops) same = refused r answers (h r stops) same
-    stops_alone now s r answers h (inr e) same = wants_memory r [] answers (ap (λ x. x.complaint) e) same
-
     -- The first answer, and the others.
     step_alone : (now : Now) (events : List Passed) {between new : Now} {answer : Answer} {calls : List Call} {answers : List Answer} →
         now.refusal ≡ None → future_of now ≡ events_before events (stuck here rest) → RefusesHere now → AllNext calls →
@@ -57,15 +52,18 @@ module _ (complains : Token → Refusal → Type 0) where
         let first : q ≡ p = cc in
         let behind : future ≡ events_before events (stuck here rest) = cc in
         rw first (one_event p events _ (go q events refl none (shows.comes ∙ behind) h))
-    step_alone now events free comes h only (passes_without_memory p future s none goes takes off like) more go =
-        wants_memory _ events _ refl (all-refused _ refl only more)
+    step_alone now [] free comes h only (passes_without_memory p future s none goes takes off like) more go = cc
+    step_alone now (q ∷ events) free comes h only (passes_without_memory p future s none goes takes off like) more go =
+        let both : gives q (events_before events (stuck here rest)) ≡ gives p future = sym comes ∙ goes in
+        let first : q ≡ p = cc in
+        wants_memory _ q events _ (rw first takes) refl (all-refused _ refl only more)
     step_alone now [] free comes h only (passes_the_end s none e like) more go = cc
     step_alone now (q ∷ events) free comes h only (passes_the_end s none e like) more go = cc
     step_alone now [] free comes h only (passes_nothing place left r s none e stops like) more go =
         let both : stuck here rest ≡ stuck place left = sym comes ∙ e in
         let at : place ≡ here = cc in
         let in_front : left ≡ rest = cc in
-        stops_alone now s r _ h (rw (at, in_front) at stops) (all-refused r refl only more)
+        refused r _ (h r (rw (at, in_front) at stops)) (all-refused r refl only more)
     step_alone now (q ∷ events) free comes h only (passes_nothing place left r s none e stops like) more go = cc
 
     -- What comes is answered event by event, and then the refusal.

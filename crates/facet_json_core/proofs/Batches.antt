@@ -1,5 +1,5 @@
 -- Events that are given one by one are a batch.
-use Rattle.std.proofs.Common.{inl, ◌≡◌, ℕ, zero, suc, ◌<◌, ◌≤◌, Bool, false, List, [], ◌∷◌, ◌++◌, map, length, Option, Some, None, refl, sym, ap, subst, ◌∙◌, arith, append-nil, append_assoc, length-append, ◌+◌}
+use Rattle.std.proofs.Common.{◌≡◌, ℕ, zero, suc, ◌<◌, ◌≤◌, Bool, false, List, [], ◌∷◌, ◌++◌, map, length, Option, Some, None, refl, sym, ap, subst, ◌∙◌, arith, append-nil, append_assoc, length-append, ◌+◌}
 use Rattle.std.proofs.lemmas.List.{map-append, length-map}
 use Rattle.facet_format.specs.declared.event.ParseEvent.{ParseEvent}
 use Rattle.facet_format.specs.declared.parse_error.ParseError.{ParseError}
@@ -15,6 +15,7 @@ use Rattle.facet_json_core.specs.Refusal.{Complains}
 use Rattle.facet_json_core.specs.Future.{Future, stuck}
 use Rattle.facet_json_core.specs.Now.{Standing, Now, held_before, future_at, future_of, is_shown, is_peeked, span_of}
 use Rattle.facet_json_core.specs.Move.{Moves, repeats, gives_none, gives_all, gives_to_the_end, gives_up, gives_without_memory, Passes, no_events, still_peeked, with_standing, with_refusal}
+use Rattle.facet_json_core.specs.Sound.{NowSound}
 use Rattle.facet_json_core.specs.Fill.{Fills, holds, is_over, lacks_memory, stops, FillsParser, fills, refuses, Takes, GivesOne, gives_event, gives_end, gives_refusal, lacks_room, behind}
 use Rattle.facet_json_core.specs.Fill as fill
 use Rattle.facet_json_core.proofs.MoveLaws.{Passes-one_more}
@@ -103,7 +104,7 @@ stops-by old given s t _ k on (lacks_memory p future _ same comes takes off) le 
     (record { comes = same.comes ∙ comes; last_is = same.last_is; peeked_is = same.peeked_is ∙ on.peeked })
 stops-by old given s t r k on (stops place rest _ _ same comes so) le =
     gives_up k given s.last place rest r t on.unrefused
-    (subst (λ x. Passes old.standing.last (future_of old) given s.last x) comes on.passes) le (inl so)
+    (subst (λ x. Passes old.standing.last (future_of old) given s.last x) comes on.passes) le so
     (record { comes = same.comes ∙ comes; last_is = same.last_is; peeked_is = same.peeked_is ∙ stuck-not_shown s.held s.shown place rest _ comes })
 
 refused-of : (old : Now) (given : List Event) (s : Standing) (new : Now) (r : Refusal) (k : ℕ) → (old.refusal ≡ None → IsOn old given s) →
@@ -211,3 +212,17 @@ pub given-full : (start now : List ParseEvent) (old cur : Now) (count limit : �
 given-full start now old cur count limit (given, items, n, b) e =
     let len : length (map event_of given) ≡ limit = rw length-map (n ∙ e) in
     (given, items, batch-full old cur (map event_of given) limit b len)
+
+-- ---- what holds of every parser
+
+batch-sound : (old cur : Now) (given : List Event) → Batch old given cur → (0 < length given → NowSound old) → NowSound cur → NowSound old
+batch-sound old _ _ (nothing_yet) known here = here
+batch-sound old _ given (some_given _ s h on) known here = known (omega (arith, h))
+
+-- Once one event is asked for, the parser is known to be sound.
+pub given-sound : (start now : List ParseEvent) (old cur : Now) (count : ℕ) →
+    (given : List ParseEvent) × (now ≡ start ++ given) × (length given ≡ count) × Batch old (map event_of given) cur →
+    (0 < count → NowSound old) → NowSound cur → NowSound old
+given-sound start now old cur count (given, items, n, b) known here =
+    let len : length (map event_of given) ≡ count = rw length-map n in
+    batch-sound old cur (map event_of given) b (λ h. known (omega (arith, len, h))) here

@@ -1,5 +1,5 @@
 -- What a call of a parser answers, behind the reading of the next event, is a move.
-use Rattle.std.proofs.Common.{inl, ◌≡◌, ℕ, suc, ◌<◌, true, false, List, Option, Some, None, refl, sym, subst, ◌∙◌}
+use Rattle.std.proofs.Common.{◌≡◌, ℕ, suc, ◌<◌, true, false, List, Option, Some, None, refl, sym, subst, ◌∙◌}
 use Rattle.std.specs.Prelude.{Ok, Err, is_some, MatchOption}
 use Rattle.std.specs.Option.{option_map}
 use Rattle.facet_format.specs.Complaint.{Refusal, refusal_at, save_limit}
@@ -78,7 +78,7 @@ pub next-refused : (now new : Now) (r : Refusal) → FillsParser now (Some r) ne
 next-refused now new r (fill.repeats _ e) = repeats r next (event (Err r)) e refl
 next-refused now _ r (refuses _ t none (lacks_memory p future _ same comes takes off)) =
     passes_without_memory p future t none comes takes off same
-next-refused now _ r (refuses _ t none (stops place rest _ _ same comes so)) = passes_nothing place rest r t none comes (inl so) same
+next-refused now _ r (refuses _ t none (stops place rest _ _ same comes so)) = passes_nothing place rest r t none comes so same
 
 pub next-taken : (now mid : Now) (e : Event) (s : Standing) → FillsParser now None mid → Takes mid.standing e s →
     Moves Complains now next (event (Ok (Some e))) (with_standing mid s)
@@ -107,7 +107,7 @@ pub peek-refused : (now new : Now) (r : Refusal) → FillsParser now (Some r) ne
 peek-refused now new r (fill.repeats _ e) = repeats r peek (event (Err r)) e refl
 peek-refused now _ r (refuses _ t none (lacks_memory p future _ same comes takes off)) =
     peeks_without_memory p future t none comes takes same
-peek-refused now _ r (refuses _ t none (stops place rest _ _ same comes so)) = peeks_at_nothing place rest r t none comes (inl so) same
+peek-refused now _ r (refuses _ t none (stops place rest _ _ same comes so)) = peeks_at_nothing place rest r t none comes so same
 
 pub peek-shown : (now mid : Now) (e : Event) (s : Standing) → FillsParser now None mid → Lends mid.standing e s →
     Moves Complains now peek (event (Ok (Some e))) (with_standing mid s)

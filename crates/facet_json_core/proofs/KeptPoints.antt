@@ -11,6 +11,7 @@ use Rattle.facet_json_core.specs.Now.{Standing, Now}
 use Rattle.facet_json_core.specs.Ready.{ArePoints, IsReady}
 use Rattle.facet_json_core.specs.Move.{with_kept, back_at}
 use Rattle.facet_json_core.specs.StandingViews.{standing_of, point_of}
+use Rattle.facet_json_core.proofs.SoundMoves.{found-sound, without-sound, with_point-sound}
 use Rattle.facet_format.specs.Cursor.{greatest}
 
 absent : (o : Option Standing) (s : Standing) → o ≡ None → o ≡ Some s → ⊥
@@ -45,6 +46,11 @@ kept-ready now r less = record {
   position_within = r.position_within;
   counter_fits = omega (arith, less);
   points = up_to-new (length now.buffer) now.counter now.standing now.kept r.position_within r.points;
+  sound = record {
+    standing = r.sound.standing;
+    kept = with_point-sound now.buffer now.mode (suc now.counter) now.standing now.kept r.sound.kept r.sound.standing;
+    refusal = r.sound.refusal;
+  };
 }
 
 pub new-ready : (made : Now) (kept : List (ℕ × Standing)) (n : ℕ) → IsReady made → made.counter < greatest →
@@ -99,6 +105,11 @@ back-ready now number s r e = record {
   position_within = found-within (length now.buffer) now.counter number s now.kept r.points e;
   counter_fits = r.counter_fits;
   points = points-without (length now.buffer) now.counter number now.kept r.points;
+  sound = record {
+    standing = found-sound now.buffer now.mode number s now.kept r.sound.kept e;
+    kept = without-sound now.buffer now.mode number now.kept r.sound.kept;
+    refusal = tt;
+  };
 }
 
 pub old-ready : (made : Now) (kept : List (ℕ × Standing)) (number : ℕ) (s : Standing) → IsReady made →

@@ -18,12 +18,14 @@ pub mod SoundFutures
 pub mod Completions
 pub mod NextEnds
 pub mod PointLaws
+pub mod RefusalLaws
 pub mod BegunBegins
 pub mod Borrowed
 pub mod Halts
 pub mod Filling
 pub mod Calls
 pub mod KeptPoints
+pub mod ParserSound
 pub mod Batches
 pub mod FaultTexts
 pub mod Scans

@@ -1,35 +1,48 @@
 -- Reading by the next event alone ends: there are no more events than bytes.
-use Rattle.std.proofs.Common.{ℕ, ◌≤◌, List, [], ◌∷◌, length, Some, refl, arith}
-use Rattle.std.specs.Prelude.{Ok}
+use Rattle.std.proofs.Common.{◌≡◌, ℕ, ◌<◌, List, ◌∷◌, length, Option, Some, None, refl, arith}
+use Rattle.std.specs.Prelude.{Result, Ok, Err}
 use Rattle.facet_json_scan.specs.Gap.{Mode}
 use Rattle.facet_json_scan.specs.Token.{Token}
 use Rattle.facet_format.specs.Complaint.{Refusal}
 use Rattle.facet_format.specs.Event.{Event}
-use Rattle.facet_format.specs.Cursor.{Call, Answer, event}
+use Rattle.facet_format.specs.Cursor.{Call, next, Answer, event}
 use Rattle.facet_json_core.specs.Now.{Now, fresh, ahead}
-use Rattle.facet_json_core.specs.Move.{MovesAll, no_calls, one_call}
+use Rattle.facet_json_core.specs.Move.{Moves, repeats, passes, passes_without_memory, passes_the_end, passes_nothing, MovesAll, no_calls, one_call}
 use Rattle.facet_json_core.specs.Sound.{NowSound}
 use Rattle.facet_json_core.specs.Alone.{AllNext, no_call, one_next}
+use Rattle.facet_json_core.specs.CallLaws.{Ends, at_the_end, at_a_refusal, behind_event}
 use Rattle.facet_json_core.proofs.SoundMoves.{ComplainsWithin, moves-sound, next-lowers, fresh-sound}
 
--- Every answer is an event.
-pub data AllEvents : List Answer → Type 0 where
-  no_answer : AllEvents []
-  an_event : (e : Event) (answers : List Answer) → AllEvents answers → AllEvents (event (Ok (Some e)) ∷ answers)
+-- What the next event is answered with.
+data AnswersNext : Answer → Type 0 where
+  one : (result : Result (Option Event) Refusal) → AnswersNext (event result)
 
 module _ (complains : Token → Refusal → Type 0) (c : ComplainsWithin complains) where
-  -- Each event is a byte less ahead.
-  pub events-ahead : {now new : Now} {calls : List Call} {answers : List Answer} → NowSound now → AllNext calls →
-      AllEvents answers → MovesAll complains now calls answers new → length answers ≤ ahead now
-  events-ahead good no_call no_answer (no_calls now) = omega arith
-  events-ahead good no_call (an_event e answers others) moves = elim moves [ ]
-  events-ahead good (one_next calls only) no_answer moves = elim moves [ ]
-  events-ahead good (one_next _ only) (an_event e _ others) (one_call now between new call answer calls answers move more) =
-      let less = next-lowers complains c now good between e _ refl move in
-      let rest = events-ahead (moves-sound complains c now good move).parser only others more in
-      omega (arith, less, rest)
+  answers-next : {now new : Now} {answer : Answer} → Moves complains now next answer new → AnswersNext answer
+  answers-next (repeats r call answer e a) =
+      let same : answer ≡ event (Err r) = cc in rw same (one (Err r))
+  answers-next (passes p future s none comes shows) = one _
+  answers-next (passes_without_memory p future s none comes takes off like) = one _
+  answers-next (passes_the_end s none e like) = one _
+  answers-next (passes_nothing place rest r s none e stops like) = one _
 
-  -- Of one call more than there are bytes, one does not answer an event.
+  -- The first answer, and the others.
+  first-ends : (now between : Now) {answer : Answer} (answers : List Answer) → NowSound now → AnswersNext answer →
+      Moves complains now next answer between → (ahead between < ahead now → Ends answers) → Ends (answer ∷ answers)
+  first-ends now between answers good (one (Ok None)) move more = at_the_end answers
+  first-ends now between answers good (one (Err r)) move more = at_a_refusal r answers
+  first-ends now between answers good (one (Ok (Some e))) move more =
+      behind_event e answers (more (next-lowers complains c now good between e _ refl move))
+
+  -- Of more calls than there are bytes ahead one is answered with the end or a refusal.
+  pub ahead-ends : {now new : Now} {calls : List Call} {answers : List Answer} → NowSound now → AllNext calls →
+      ahead now < length calls → MovesAll complains now calls answers new → Ends answers
+  ahead-ends good no_call h (no_calls now) = absurd (omega (arith, h))
+  ahead-ends good (one_next _ only) h (one_call now between new call answer calls answers move more) =
+      first-ends now between answers good (answers-next move) move
+      (λ less. ahead-ends (moves-sound complains c now good move).parser only (omega (arith, less, h)) more)
+
+  -- So it is of a new parser, and of more calls than the input has bytes.
   pub next-ends : (buffer : List ℕ) (mode : Mode) {new : Now} {calls : List Call} {answers : List Answer} → AllNext calls →
-      MovesAll complains (fresh buffer mode) calls answers new → AllEvents answers → length answers ≤ length buffer
-  next-ends buffer mode only moves all = omega (arith, events-ahead (fresh-sound buffer mode) only all moves)
+      length buffer < length calls → MovesAll complains (fresh buffer mode) calls answers new → Ends answers
+  next-ends buffer mode only h moves = ahead-ends (fresh-sound buffer mode) only (omega (arith, h)) moves

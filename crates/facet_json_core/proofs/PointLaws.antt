@@ -1,21 +1,16 @@
 -- Points on every input: a point that was saved stays what it is until it is restored, and its restore brings back where the parser stood.
-use Rattle.std.proofs.Common.{◌≡◌, ◌≢◌, ℕ, suc, ◌≤◌, List, [], ◌∷◌, Some, refl, sym, ap, ◌∙◌, arith}
-use Rattle.std.specs.Prelude.{Ok}
+use Rattle.std.proofs.Common.{◌≡◌, ◌≢◌, ℕ, suc, ◌≤◌, List, Some, None, refl, sym, ap, ◌∙◌, arith}
+use Rattle.std.specs.Prelude.{Result, Ok, Err, MatchResult}
 use Rattle.facet_json_scan.specs.Gap.{Mode}
 use Rattle.facet_json_scan.specs.Token.{Token}
-use Rattle.facet_format.specs.Complaint.{Refusal}
+use Rattle.facet_format.specs.Complaint.{Refusal, refusal_at, save_limit}
 use Rattle.facet_format.specs.Kept.{found, with_point}
-use Rattle.facet_format.specs.Cursor.{Call, save, restore, Answer, saved, restored}
-use Rattle.facet_json_core.specs.Now.{Standing, Now, fresh}
-use Rattle.facet_json_core.specs.Move.{back_at, Moves, saves, restores, MovesAll, no_calls, one_call}
-use Rattle.facet_format.proofs.KeptLaws.{AreUpTo, found-new, found-other, found-kept, up_to-new, up_to-used}
-use Rattle.facet_json_core.proofs.MoveLaws.{moves-saved, moves-restored}
-
--- No call restores the point.
-pub data NeverRestored (point : ℕ) : List Call → Type 0 where
-  no_call : NeverRestored point []
-  another : (call : Call) (calls : List Call) → (call ≡ restore point → ⊥) → NeverRestored point calls →
-      NeverRestored point (call ∷ calls)
+use Rattle.facet_format.specs.Cursor.{Call, save, restore, Answer, saved, no_memory_at}
+use Rattle.facet_json_core.specs.Now.{Standing, Now, fresh, span_of, SameInput}
+use Rattle.facet_json_core.specs.Move.{with_kept, Moves, repeats, saves, saves_at_the_limit, saves_without_memory, restores, MovesAll, no_calls, one_call}
+use Rattle.facet_json_core.specs.CallLaws.{NoPoint, no_number, no_memory, NeverRestored, no_call, another, IsBack}
+use Rattle.facet_format.proofs.KeptLaws.{AreUpTo, found-new, found-other, found-kept, found-used, up_to-new, up_to-used}
+use Rattle.facet_json_core.proofs.MoveLaws.{moves-input, moves-saved, moves-restored}
 
 -- A point with this standing is kept, and its number is not greater than the counter.
 pub record IsKept (now : Now) (point : ℕ) (s : Standing) : Type 0 where
@@ -66,7 +61,66 @@ module _ (complains : Token → Refusal → Type 0) where
       found-new (suc now.counter) now.standing now.kept (up (suc now.counter) (omega arith)) in
       rw (new_is, number_is) (record { there = fits; numbered = omega arith })
 
-  -- Its restore brings that back, with no refusal, and uses the point up.
-  pub restored-there : (now : Now) (point : ℕ) (s : Standing) (new : Now) (answer : Answer) → IsKept now point s →
-      Moves complains now (restore point) answer new → (answer ≡ restored) × (new ≡ back_at now point s)
-  restored-there now point s new answer kept move = moves-restored complains now point s new answer kept.there move
+  -- So they are by all calls.
+  pub all-up_to : {now new : Now} {calls : List Call} {answers : List Answer} → MovesAll complains now calls answers new →
+      AreUpTo now.counter now.kept → AreUpTo new.counter new.kept
+  all-up_to (no_calls now) up = up
+  all-up_to (one_call now between new call answer calls answers move more) up = all-up_to more (moves-up_to now between move up)
+
+  -- The input is the same behind all calls.
+  pub all-input : {now new : Now} {calls : List Call} {answers : List Answer} → MovesAll complains now calls answers new →
+      SameInput now new
+  all-input (no_calls now) = record { buffer = refl; mode = refl }
+  all-input (one_call now between new call answer calls answers move more) =
+      let first = moves-input complains now between move in
+      let others = all-input more in
+      record { buffer = others.buffer ∙ first.0; mode = others.mode ∙ first.1 }
+
+  -- The restore of a kept point brings back where the parser stood, with no refusal, and uses the point up.
+  pub restored-back : (at_save before new : Now) (point : ℕ) (answer : Answer) → SameInput at_save before →
+      IsKept before point at_save.standing → Moves complains before (restore point) answer new → IsBack at_save before new point
+  restored-back at_save before new point answer input kept move =
+      let new_is = (moves-restored complains before point at_save.standing new answer kept.there move).1 in
+      rw new_is (record {
+        input = record { buffer = input.buffer; mode = input.mode };
+        standing = refl;
+        unrefused = refl;
+        counter = refl;
+        used_up = found-used point before.kept;
+        others = λ other differs. found-kept other point before.kept differs;
+      })
+
+  -- Behind a save that answered a point and calls that don't restore it, its restore goes back to where the parser stood.
+  pub saved-back : (at_save behind before new : Now) (point : ℕ) (told answer : Answer) {calls : List Call} {answers : List Answer} →
+      AreUpTo at_save.counter at_save.kept → told ≡ saved (Ok point) → Moves complains at_save save told behind →
+      NeverRestored point calls → MovesAll complains behind calls answers before → Moves complains before (restore point) answer new →
+      IsBack at_save before new point
+  saved-back at_save behind before new point told answer up t saving never between restoring =
+      let first = moves-input complains at_save behind saving in
+      let others = all-input between in
+      restored-back at_save before new point answer (record { buffer = others.buffer ∙ first.0; mode = others.mode ∙ first.1 })
+      (all-keep point at_save.standing never between (saved-kept at_save behind point told up t saving)) restoring
+
+  -- A save of a parser that is not refused is numbered, or there is a reason.
+  pub moves-numbered : (now new : Now) (result : Result ℕ Refusal) (answer : Answer) → answer ≡ saved result → now.refusal ≡ None →
+      Moves complains now save answer new →
+      MatchResult result (λ n. (n ≡ suc now.counter) × (new ≡ with_kept now)) (λ r. NoPoint now r × (new ≡ now))
+  moves-numbered now new result answer a free (repeats r call _ e f) = cc
+  moves-numbered now new (Ok n) answer a free (saves none h) = (cc, refl)
+  moves-numbered now new (Ok n) answer a free (saves_at_the_limit none e) = cc
+  moves-numbered now new (Ok n) answer a free (saves_without_memory none h) = cc
+  moves-numbered now new (Err r) answer a free (saves none h) = cc
+  moves-numbered now new (Err r) answer a free (saves_at_the_limit none e) =
+      let same : r ≡ refusal_at save_limit (span_of now.standing) = cc in rw same (no_number e, refl)
+  moves-numbered now new (Err r) answer a free (saves_without_memory none h) =
+      let same : r ≡ no_memory_at (span_of now.standing) = cc in rw same (no_memory h, refl)
+
+-- So it is of a new parser, behind whatever calls.
+pub restore-brings_back : (complains : Token → Refusal → Type 0) (buffer : List ℕ) (mode : Mode) (at_save behind before new : Now)
+    (point : ℕ) (answer : Answer) {first calls : List Call} {these those : List Answer} →
+    MovesAll complains (fresh buffer mode) first these at_save → Moves complains at_save save (saved (Ok point)) behind →
+    NeverRestored point calls → MovesAll complains behind calls those before → Moves complains before (restore point) answer new →
+    IsBack at_save before new point
+restore-brings_back complains buffer mode at_save behind before new point answer start saving never between restoring =
+    saved-back complains at_save behind before new point _ answer (all-up_to complains start (fresh-up_to buffer mode)) refl saving never between
+    restoring

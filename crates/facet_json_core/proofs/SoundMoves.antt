@@ -1,5 +1,5 @@
 -- On every input: the spans that a move answers lie within the input, and each event that is passed leaves fewer bytes behind it.
-use Rattle.std.proofs.Common.{◌≡◌, ℕ, zero, suc, ◌-◌, ◌<◌, ◌≤◌, inl, inr, Bool, true, false, cond, ◌==◌, List, [], ◌∷◌, length, Option, Some, None, refl, sym, subst, arith}
+use Rattle.std.proofs.Common.{◌≡◌, ℕ, zero, suc, ◌+◌, ◌-◌, ◌<◌, ◌≤◌, Bool, true, false, cond, ◌==◌, List, [], ◌∷◌, length, Option, Some, None, refl, sym, subst, ◌∙◌, arith}
 use Rattle.std.specs.Prelude.{Ok, Err, IfSome}
 use Rattle.facet_json_scan.specs.Gap.{Mode}
 use Rattle.facet_format.specs.Span.{Span, stop}
@@ -11,11 +11,11 @@ use Rattle.facet_format.specs.Complaint.{Refusal}
 use Rattle.facet_json_core.specs.Refusal.{IsStuck, at_end, at_fault, meaningless, misplaced}
 use Rattle.facet_format.specs.Event.{Event, Passed}
 use Rattle.facet_format.specs.Kept.{found, without, with_point}
-use Rattle.facet_format.specs.Cursor.{Call, next, restore, Answer, event}
+use Rattle.facet_format.specs.Cursor.{Call, next, events, restore, Answer, event, batch}
 use Rattle.facet_format.specs.Cursor as cursor
 use Rattle.facet_json_core.specs.Future.{Future, gives, finished, stuck, within}
 use Rattle.facet_json_core.specs.Now.{Standing, Now, fresh, held_before, last_shown, future_at, future_of, is_peeked, span_of, ahead}
-use Rattle.facet_json_core.specs.Move.{NowShows, IsAlike, StopsSo, Passes, no_events, one_event, Moves, repeats, passes, passes_without_memory, passes_the_end, passes_nothing, peeks, peeks_without_memory, peeks_at_the_end, peeks_at_nothing, gives_none, gives_all, gives_to_the_end, gives_up, gives_without_memory, saves, saves_at_the_limit, saves_without_memory, restores, restores_nothing, tells}
+use Rattle.facet_json_core.specs.Move.{NowShows, IsAlike, Passes, no_events, one_event, Moves, repeats, passes, passes_without_memory, passes_the_end, passes_nothing, peeks, peeks_without_memory, peeks_at_the_end, peeks_at_nothing, gives_none, gives_all, gives_to_the_end, gives_up, gives_without_memory, saves, saves_at_the_limit, saves_without_memory, restores, restores_nothing, tells}
 use Rattle.facet_json_core.specs.Sound.{InOrder, at_the_end, at_a_fault, at_a_token, IsSound, sound_event, sound_end, sound_stuck, StandsSound, KeptSound, none_kept, one_kept, RefusalWithin, NowSound, EventsWithin, ResultWithin, AnswerWithin}
 use Rattle.facet_json_core.specs.Sound as sound
 use Rattle.facet_json_core.proofs.SoundFutures.{position-sound}
@@ -45,7 +45,7 @@ pub span-within : (buffer : List ℕ) (mode : Mode) (s : Standing) → StandsSou
 span-within buffer mode s sound = shown-within buffer s.held s.shown s.last _ sound.last_within sound.sound
 
 -- What shows something sound is sound.
-shows-sound : (now : Now) (s : Standing) (future : Future) (last : Span) (peeked : Bool) → NowShows now s future last peeked →
+pub shows-sound : (now : Now) (s : Standing) (future : Future) (last : Span) (peeked : Bool) → NowShows now s future last peeked →
     stop last ≤ length now.buffer → IsSound now.buffer (stop last) future → StandsSound now.buffer now.mode s
 shows-sound now s future last peeked shows w sound = record {
   last_within = rw shows.last_is w;
@@ -57,7 +57,8 @@ shows-sound now s future last peeked shows w sound = record {
 record PassedSound (buffer : List ℕ) (before : Span) (given : List Event) (after : Span) (rest : Future) : Type 0 where
   within : EventsWithin buffer given
   last_within : stop after ≤ length buffer
-  further : stop before ≤ stop after
+  -- each event ends behind the one before
+  further : length given + stop before ≤ stop after
   sound : IsSound buffer (stop after) rest
 
 passes-sound : (buffer : List ℕ) {before after : Span} {future rest : Future} {given : List Event} →
@@ -81,7 +82,7 @@ found_by : (b : Bool) (buffer : List ℕ) (mode : Mode) (s t : Standing) (o : Op
 found_by true buffer mode s t o sound h e = let same : t ≡ s = cc in subst (StandsSound buffer mode) same sound
 found_by false buffer mode s t o sound h e = h e
 
-found-sound : (buffer : List ℕ) (mode : Mode) (number : ℕ) (s : Standing) (points : List (ℕ × Standing)) →
+pub found-sound : (buffer : List ℕ) (mode : Mode) (number : ℕ) (s : Standing) (points : List (ℕ × Standing)) →
     KeptSound buffer mode points → found number points ≡ Some s → StandsSound buffer mode s
 found-sound buffer mode number s _ none_kept e = cc
 found-sound buffer mode number s _ (one_kept point t points sound more) e =
@@ -92,13 +93,13 @@ without_by : (b : Bool) (buffer : List ℕ) (mode : Mode) (point : ℕ) (s : Sta
 without_by true buffer mode point s points sound more = more
 without_by false buffer mode point s points sound more = one_kept point s points sound more
 
-without-sound : (buffer : List ℕ) (mode : Mode) (number : ℕ) (points : List (ℕ × Standing)) → KeptSound buffer mode points →
+pub without-sound : (buffer : List ℕ) (mode : Mode) (number : ℕ) (points : List (ℕ × Standing)) → KeptSound buffer mode points →
     KeptSound buffer mode (without number points)
 without-sound buffer mode number _ none_kept = none_kept
 without-sound buffer mode number _ (one_kept point s points sound more) =
     without_by (point == number) buffer mode point s (without number points) sound (without-sound buffer mode number points more)
 
-with_point-sound : (buffer : List ℕ) (mode : Mode) (number : ℕ) (s : Standing) (points : List (ℕ × Standing)) →
+pub with_point-sound : (buffer : List ℕ) (mode : Mode) (number : ℕ) (s : Standing) (points : List (ℕ × Standing)) →
     KeptSound buffer mode points → StandsSound buffer mode s → KeptSound buffer mode (with_point number s points)
 with_point-sound buffer mode number s _ none_kept here = one_kept number s [] here none_kept
 with_point-sound buffer mode number s _ (one_kept point t points sound more) here =
@@ -149,15 +150,14 @@ module _ (complains : Token → Refusal → Type 0) (c : ComplainsWithin complai
   first-sound p future e = subst (IsSound now.buffer (stop now.standing.last)) e good.standing.sound
 
   -- A refusal where nothing goes on.
-  stops_within : (place : Place) (rest : Tokens) (s : Standing) (r : Refusal) (from : ℕ) → StandsSound now.buffer now.mode s →
-      IsSound now.buffer from (stuck place rest) → StopsSo complains now place rest s r → RefusalWithin now.buffer r
-  stops_within place rest s r from stands o (inl stops) = stuck_sound complains now.buffer now.mode place rest r from c stops o
-  stops_within place rest s r from stands o (inr e) = rw e (span-within now.buffer now.mode s stands)
+  stops_within : (place : Place) (rest : Tokens) (r : Refusal) (from : ℕ) → IsSound now.buffer from (stuck place rest) →
+      IsStuck now.buffer (meaning now.buffer) complains place rest r → RefusalWithin now.buffer r
+  stops_within place rest r from o stops = stuck_sound complains now.buffer now.mode place rest r from c stops o
 
-  ends-sound : (place : Place) (rest : Tokens) (s : Standing) (r : Refusal) → future_of now ≡ stuck place rest →
-      IsAlike now s → StopsSo complains now place rest s r → RefusalWithin now.buffer r
-  ends-sound place rest s r e like stops =
-      stops_within place rest s r _ (alike s like) (subst (IsSound now.buffer (stop now.standing.last)) e good.standing.sound) stops
+  ends-sound : (place : Place) (rest : Tokens) (r : Refusal) → future_of now ≡ stuck place rest →
+      IsStuck now.buffer (meaning now.buffer) complains place rest r → RefusalWithin now.buffer r
+  ends-sound place rest r e stops =
+      stops_within place rest r _ (subst (IsSound now.buffer (stop now.standing.last)) e good.standing.sound) stops
 
   behind : {given : List Event} {last : Span} {future : Future} → Passes now.standing.last (future_of now) given last future →
       PassedSound now.buffer now.standing.last given last future
@@ -172,9 +172,9 @@ module _ (complains : Token → Refusal → Type 0) (c : ComplainsWithin complai
       RefusalWithin now.buffer r → AnswerWithin now.buffer answer
   repeated_within r next answer e w = let same : event (Err r) ≡ answer = cc in subst (AnswerWithin now.buffer) same w
   repeated_within r cursor.peek answer e w = let same : event (Err r) ≡ answer = cc in subst (AnswerWithin now.buffer) same w
-  repeated_within r (cursor.events zero) answer e w = cc
-  repeated_within r (cursor.events (suc k)) answer e w =
-      let same : cursor.batch [] (Err r) ≡ answer = cc in subst (AnswerWithin now.buffer) same (sound.no_events, w)
+  repeated_within r (events zero) answer e w = cc
+  repeated_within r (events (suc k)) answer e w =
+      let same : batch [] (Err r) ≡ answer = cc in subst (AnswerWithin now.buffer) same (sound.no_events, w)
   repeated_within r cursor.save answer e w = let same : cursor.saved (Err r) ≡ answer = cc in subst (AnswerWithin now.buffer) same w
   repeated_within r (restore point) answer e w = cc
   repeated_within r cursor.span answer e w = cc
@@ -207,7 +207,7 @@ module _ (complains : Token → Refusal → Type 0) (c : ComplainsWithin complai
       let stands = alike s like in record { parser = refused s _ stands (last_within s stands); within = last_within s stands }
   moves-sound (passes_the_end s none e like) = record { parser = settled s (alike s like); within = tt }
   moves-sound (passes_nothing place rest r s none e stops like) =
-      let w = ends-sound place rest s r e like stops in record { parser = refused s r (alike s like) w; within = w }
+      let w = ends-sound place rest r e stops in record { parser = refused s r (alike s like) w; within = w }
   moves-sound (peeks p future s none comes shows) =
       let here = first-sound p future comes in
       record { parser = settled s (shows-sound now s (gives p future) now.standing.last true shows good.standing.last_within here); within = event_within p future here }
@@ -215,7 +215,7 @@ module _ (complains : Token → Refusal → Type 0) (c : ComplainsWithin complai
       let stands = alike s like in record { parser = refused s _ stands (last_within s stands); within = last_within s stands }
   moves-sound (peeks_at_the_end s none e like) = record { parser = settled s (alike s like); within = tt }
   moves-sound (peeks_at_nothing place rest r s none e stops like) =
-      let w = ends-sound place rest s r e like stops in record { parser = refused s r (alike s like) w; within = w }
+      let w = ends-sound place rest r e stops in record { parser = refused s r (alike s like) w; within = w }
   moves-sound gives_none = unchanged _ (sound.no_events, tt)
   moves-sound (gives_all k given last future s none all n shows) =
       let there = behind all in
@@ -226,7 +226,7 @@ module _ (complains : Token → Refusal → Type 0) (c : ComplainsWithin complai
   moves-sound (gives_up k given last place rest r s none all le stops shows) =
       let there = behind all in
       let stands = shows-sound now s (stuck place rest) last false shows there.last_within there.sound in
-      let w = stops_within place rest s r _ stands there.sound stops in
+      let w = stops_within place rest r _ there.sound stops in
       record { parser = refused s r stands w; within = (there.within, w) }
   moves-sound (gives_without_memory k given last p future s none all le shows) =
       let there = behind all in
@@ -279,10 +279,10 @@ module _ (complains : Token → Refusal → Type 0) (c : ComplainsWithin complai
   moves-onward (peeks_at_the_end s none e like) onward = same-last s like.last_is
   moves-onward (peeks_at_nothing place rest r s none e stops like) onward = same-last s like.last_is
   moves-onward gives_none onward = omega arith
-  moves-onward (gives_all k given last future s none all n shows) onward = rw shows.last_is (behind all).further
-  moves-onward (gives_to_the_end k n given last s none all count le shows) onward = rw shows.last_is (behind all).further
-  moves-onward (gives_up k given last place rest r s none all le stops shows) onward = rw shows.last_is (behind all).further
-  moves-onward (gives_without_memory k given last p future s none all le shows) onward = rw shows.last_is (behind all).further
+  moves-onward (gives_all k given last future s none all n shows) onward = rw shows.last_is (omega (arith, (behind all).further))
+  moves-onward (gives_to_the_end k n given last s none all count le shows) onward = rw shows.last_is (omega (arith, (behind all).further))
+  moves-onward (gives_up k given last place rest r s none all le stops shows) onward = rw shows.last_is (omega (arith, (behind all).further))
+  moves-onward (gives_without_memory k given last p future s none all le shows) onward = rw shows.last_is (omega (arith, (behind all).further))
   moves-onward (saves none h) onward = omega arith
   moves-onward (saves_at_the_limit none e) onward = omega arith
   moves-onward (saves_without_memory none h) onward = omega arith
@@ -296,3 +296,25 @@ module _ (complains : Token → Refusal → Type 0) (c : ComplainsWithin complai
   next-lowers new e answer a (passes p future s none comes shows) = rw shows.last_is (ahead_first p future (first-sound p future comes))
   next-lowers new e answer a (repeats r call _ f g) = cc
   next-lowers new e answer a _ = cc
+
+  batch_first : (given : List Event) (before last : Span) (n : ℕ) → n ≡ length given → length given + stop before ≤ stop last →
+      stop last ≤ length now.buffer → length now.buffer - stop last + n ≤ length now.buffer - stop before
+  batch_first given before last n e further w = omega (arith, e)
+
+  -- So many events leave so many bytes less ahead.
+  pub events-lower : (new : Now) (limit n : ℕ) (given : List Event) (answer : Answer) → answer ≡ batch given (Ok n) →
+      Moves complains now (events limit) answer new → ahead new + n ≤ ahead now
+  events-lower new zero n given answer a (repeats r call _ f g) = cc
+  events-lower new (suc k) n given answer a (repeats r call _ f g) = cc
+  events-lower new limit n given answer a gives_none =
+      let none : n ≡ 0 = cc in omega (arith, none)
+  events-lower new limit n given answer a (gives_all k others last future s none all count shows) =
+      let there = behind all in
+      let same : suc k ≡ n = cc in
+      rw shows.last_is (batch_first others now.standing.last last n (sym same ∙ sym count) there.further there.last_within)
+  events-lower new limit n given answer a (gives_to_the_end k m others last s none all count le shows) =
+      let there = behind all in
+      let same : m ≡ n = cc in
+      rw shows.last_is (batch_first others now.standing.last last n (sym same ∙ count) there.further there.last_within)
+  events-lower new limit n given answer a (gives_up k others last place rest r s none all le stops shows) = cc
+  events-lower new limit n given answer a (gives_without_memory k others last p future s none all le shows) = cc

@@ -23,3 +23,4 @@ pub mod Ready
 pub mod TokenViews
 pub mod ScriptViews
 pub mod ParserLaws
+pub mod CallLaws

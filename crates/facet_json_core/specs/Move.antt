@@ -1,6 +1,6 @@
 -- What a call does to a parser on any input, whether a document stands there or not. The code is shown to move so; that it is a cursor
 -- on a document's walk follows.
-use Rattle.std.specs.Prelude.{◌≡◌, ◌⊎◌, ◌<◌, ◌≤◌, ℕ, suc, Bool, true, false, List, [], ◌∷◌, length, Some, None, Ok, Err}
+use Rattle.std.specs.Prelude.{◌≡◌, ◌<◌, ◌≤◌, ℕ, suc, Bool, true, false, List, [], ◌∷◌, length, Some, None, Ok, Err}
 use Rattle.facet_format.specs.Span.{Span}
 use Rattle.facet_json_scan.specs.Token.{Token}
 use Rattle.facet_json_scan.specs.Gap.{Mode}
@@ -60,12 +60,6 @@ back_at now point s = record now { standing = s; refusal = None; kept = without 
 
 -- ---- moves
 
--- No document goes on with these tokens at the place, and the parser, whose standing is then this one, is refused so; or memory ran
--- out before that was seen.
-abbrev pub StopsSo : (Token → Refusal → Type 0) → Now → Place → Tokens → Standing → Refusal → Type 0
-StopsSo complains now place rest s refusal =
-    IsStuck now.buffer (meaning now.buffer) complains place rest refusal ⊎ (refusal ≡ no_memory_at (span_of s))
-
 -- The call may be answered so, and leaves the parser so.
 pub data Moves (complains : Token → Refusal → Type 0) (now : Now) : Call → Answer → Now → Type 0 where
   repeats : (r : Refusal) (call : Call) (answer : Answer) → now.refusal ≡ Some r → repeated r call ≡ Some answer →
@@ -80,7 +74,7 @@ pub data Moves (complains : Token → Refusal → Type 0) (now : Now) : Call →
   passes_the_end : (s : Standing) → now.refusal ≡ None → future_of now ≡ finished → IsAlike now s →
       Moves complains now next (event (Ok None)) (with_standing now s)
   passes_nothing : (place : Place) (rest : Tokens) (r : Refusal) (s : Standing) → now.refusal ≡ None →
-      future_of now ≡ stuck place rest → StopsSo complains now place rest s r → IsAlike now s →
+      future_of now ≡ stuck place rest → IsStuck now.buffer (meaning now.buffer) complains place rest r → IsAlike now s →
       Moves complains now next (event (Err r)) (with_refusal now s r)
   peeks : (p : Passed) (future : Future) (s : Standing) → now.refusal ≡ None → future_of now ≡ gives p future →
       NowShows now s (gives p future) now.standing.last true →
@@ -91,7 +85,7 @@ pub data Moves (complains : Token → Refusal → Type 0) (now : Now) : Call →
   peeks_at_the_end : (s : Standing) → now.refusal ≡ None → future_of now ≡ finished → IsAlike now s →
       Moves complains now peek (event (Ok None)) (with_standing now s)
   peeks_at_nothing : (place : Place) (rest : Tokens) (r : Refusal) (s : Standing) → now.refusal ≡ None →
-      future_of now ≡ stuck place rest → StopsSo complains now place rest s r → IsAlike now s →
+      future_of now ≡ stuck place rest → IsStuck now.buffer (meaning now.buffer) complains place rest r → IsAlike now s →
       Moves complains now peek (event (Err r)) (with_refusal now s r)
   gives_none : Moves complains now (events 0) (batch [] (Ok 0)) now
   gives_all : (k : ℕ) (given : List Event) (last : Span) (future : Future) (s : Standing) → now.refusal ≡ None →
@@ -104,7 +98,7 @@ pub data Moves (complains : Token → Refusal → Type 0) (now : Now) : Call →
       Moves complains now (events (suc k)) (batch given (Ok n)) (with_standing now s)
   gives_up : (k : ℕ) (given : List Event) (last : Span) (place : Place) (rest : Tokens) (r : Refusal) (s : Standing) →
       now.refusal ≡ None → Passes now.standing.last (future_of now) given last (stuck place rest) →
-      length given ≤ k → StopsSo complains now place rest s r → NowShows now s (stuck place rest) last false →
+      length given ≤ k → IsStuck now.buffer (meaning now.buffer) complains place rest r → NowShows now s (stuck place rest) last false →
       Moves complains now (events (suc k)) (batch given (Err r)) (with_refusal now s r)
   gives_without_memory : (k : ℕ) (given : List Event) (last : Span) (p : Passed) (future : Future) (s : Standing) →
       now.refusal ≡ None → Passes now.standing.last (future_of now) given last (gives p future) → length given ≤ k →

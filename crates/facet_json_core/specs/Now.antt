@@ -90,6 +90,24 @@ span_of s = last_shown s.held s.shown s.last
 abbrev pub ahead : Now → ℕ
 ahead now = length now.buffer - stop now.standing.last
 
+-- ---- what a call leaves
+
+-- The input is the same, read in the same mode.
+pub record SameInput (old new : Now) : Type 0 where
+  pub buffer : new.buffer ≡ old.buffer
+  pub mode : new.mode ≡ old.mode
+
+-- The same points are kept, and the next one will have the same number.
+pub record SamePoints (old new : Now) : Type 0 where
+  pub kept : new.kept ≡ old.kept
+  pub counter : new.counter ≡ old.counter
+
+-- The input, the mode and the points stay, and no more bytes are ahead.
+pub record GoesOn (old new : Now) : Type 0 where
+  pub input : SameInput old new
+  pub points : SamePoints old new
+  pub onward : ahead new ≤ ahead old
+
 -- ---- where it stands on a document's walk
 
 -- The standing is the spot on the walk.

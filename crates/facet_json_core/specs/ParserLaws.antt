@@ -32,7 +32,7 @@ pub record GivenAlone (buffer : List ℕ) (mode : Mode) (complains : Token → R
   pub alone : AnswersAlone (RefusesBehind buffer mode complains events) events answers
 
 -- Where the input has no document, a new parser that is asked for the next event alone answers what the longest front gives, one
--- event a call, and from then on one refusal of what stands behind that front; or from some call on the want of memory.
+-- event a call, and from then on one refusal of what stands behind that front; or in place of some event the want of memory.
 abbrev pub AloneIsGiven : Type 0
 AloneIsGiven = (buffer : List ℕ) (mode : Mode) (new : Now) (calls : List Call) (answers : List Answer) →
     ((node : Node) (value : Tree) → IsDocument buffer mode node value → ⊥) → AllNext calls →

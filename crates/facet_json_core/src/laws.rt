@@ -10,4 +10,7 @@ pub use documents::{
     spelled_is_spells, whole_document_is_found,
 };
 pub use fronts::{begun_is_front, front_gives_walk, front_is_begun, one_given};
-pub use parsers::{alone_is_given, new_stands};
+pub use parsers::{
+    alone_is_given, ends_in_time, new_stands, peek_is_next, refusal_repeats, restore_brings_back,
+    save_is_numbered, unknown_changes_nothing,
+};

@@ -1,6 +1,6 @@
 //! Reads a document event by event, with a look ahead and points to go back to.
 
-ghost use Rattle.std.specs.Prelude.{◌≡◌, ◌≤◌, List, Some, None, Ok, Err, ◌<◌, length, ◌++◌, OnSome, IfOk, IfSome, IsSome, IsUtf8, codes, MatchOption, MatchResult};
+ghost use Rattle.std.specs.Prelude.{◌≡◌, ◌≤◌, ◌+◌, suc, List, Some, None, Ok, Err, ◌<◌, length, ◌++◌, OnSome, IfOk, IfErr, IfSome, IsSome, IsUtf8, codes, MatchOption, MatchResult};
 ghost use Rattle.facet_format.specs.declared.event.ParseEvent.{ParseEvent as RustEvent};
 ghost use Rattle.facet_json_scan.specs.Gap.{plain, jsonc};
 ghost use Rattle.facet_json_scan.specs.Views.{mode_of};
@@ -8,8 +8,10 @@ ghost use Rattle.facet_format.specs.Cursor.{next, peek, events, save, restore, r
 ghost use Rattle.facet_format.specs.Standing.{IsStep};
 ghost use Rattle.facet_format.specs.Views.{event_of, parse_refusal, answer_of_event, answer_of_events, answer_of_save, answer_of_span};
 ghost use Rattle.facet_json_core.specs.Refusal.{Complains};
-ghost use Rattle.facet_json_core.specs.Now.{fresh, span_of, StandsAt};
-ghost use Rattle.facet_json_core.specs.Move.{Moves, with_standing, with_refusal};
+ghost use Rattle.facet_format.specs.Kept.{without};
+ghost use Rattle.facet_json_core.specs.Now.{fresh, span_of, ahead, SameInput, GoesOn, StandsAt};
+ghost use Rattle.facet_json_core.specs.Move.{Moves, with_standing, with_refusal, with_kept};
+ghost use Rattle.facet_json_core.specs.Sound.{NowSound, AnswerWithin};
 ghost use Rattle.facet_json_core.specs.Fill.{FillsParser, GivesOne};
 ghost use Rattle.std.specs.Option.{option_map};
 ghost use Rattle.std.specs.VecDeque.{deque_len, deque_capacity};
@@ -99,9 +101,10 @@ impl<'de> JsonParser<'de> {
 
     /// Reads the next event, where none is held.
     fn fill(&mut self) -> Result<(), ParseError>
-        ensures { MatchResult result
+        ensures filled { MatchResult result
             (λ _. FillsParser self.old None self.new)
             (λ e. FillsParser self.old (Some (parse_refusal e)) self.new) }
+        ensures sound { NowSound self.old }
     {
         if let Some(refused) = self.refusal {
             return Err(ParseError::from(refused));
@@ -127,7 +130,10 @@ impl<'de> JsonParser<'de> {
 
     /// The next event, or `None` at the document's end.
     pub fn next_event(&mut self) -> Result<Option<ParseEvent<'de>>, ParseError>
-        ensures { Moves Complains self.old next (answer_of_event result) self.new }
+        ensures moves { Moves Complains self.old next (answer_of_event result) self.new }
+        ensures within { AnswerWithin self.new.buffer (answer_of_event result) }
+        ensures onward { GoesOn self.old self.new }
+        ensures shorter { IfOk result (λ o. OnSome o (ahead self.new < ahead self.old)) }
     {
         self.fill()?;
         Ok(self.standing.take())
@@ -135,7 +141,9 @@ impl<'de> JsonParser<'de> {
 
     /// The next event, which stays the next one.
     pub fn peek_event(&mut self) -> Result<Option<ParseEvent<'de>>, ParseError>
-        ensures { Moves Complains self.old peek (answer_of_event result) self.new }
+        ensures moves { Moves Complains self.old peek (answer_of_event result) self.new }
+        ensures within { AnswerWithin self.new.buffer (answer_of_event result) }
+        ensures onward { GoesOn self.old self.new }
     {
         self.fill()?;
         match self.standing.peek(self.alloc) {
@@ -154,6 +162,7 @@ impl<'de> JsonParser<'de> {
         ensures event { MatchResult result
             (λ o. GivesOne self.old (Ok (option_map event_of o)) self.new)
             (λ e. GivesOne self.old (Err (parse_refusal e)) self.new) }
+        ensures sound { NowSound self.old }
     {
         self.fill()?;
         if self.standing.held.is_none() {
@@ -172,8 +181,11 @@ impl<'de> JsonParser<'de> {
         buf: &mut VecDeque<ParseEvent<'de>>,
         limit: usize,
     ) -> Result<usize, ParseError>
-        ensures { (given : List RustEvent) × (buf.new.items ≡ buf.old.items ++ given)
-            × Moves Complains self.old (events limit) (answer_of_events given result) self.new }
+        ensures moves { (given : List RustEvent) × (buf.new.items ≡ buf.old.items ++ given)
+            × Moves Complains self.old (events limit) (answer_of_events given result) self.new
+            × AnswerWithin self.new.buffer (answer_of_events given result) }
+        ensures onward { GoesOn self.old self.new }
+        ensures shorter { IfOk result (λ n. ahead self.new + n ≤ ahead self.old) }
     {
         for count in 0..limit {
             let Some(event) = self.next_with_room(buf)? else {
@@ -186,7 +198,10 @@ impl<'de> JsonParser<'de> {
 
     /// Keeps where it stands, under a number of its own.
     pub fn save(&mut self) -> Result<SavePoint, ParseError>
-        ensures { Moves Complains self.old save (answer_of_save result) self.new }
+        ensures moves { Moves Complains self.old save (answer_of_save result) self.new }
+        ensures within { AnswerWithin self.new.buffer (answer_of_save result) }
+        ensures point { IfOk result (λ p. (p.0 ≡ suc self.old.counter) × (self.new ≡ with_kept self.old)) }
+        ensures unchanged { IfErr result (λ _. self.new ≡ self.old) }
     {
         if let Some(refused) = self.refusal {
             return Err(ParseError::from(refused));
@@ -205,7 +220,10 @@ impl<'de> JsonParser<'de> {
 
     /// Goes back to a point that is kept, and drops the point. Another point changes nothing.
     pub fn restore(&mut self, point: SavePoint)
-        ensures { Moves Complains self.old (restore point.0) restored self.new }
+        ensures moves { Moves Complains self.old (restore point.0) restored self.new }
+        ensures input { SameInput self.old self.new }
+        ensures points { self.new.kept ≡ without point.0 self.old.kept }
+        ensures counter { self.new.counter ≡ self.old.counter }
     {
         if let Some(standing) = bring_back(&mut self.points, point.0) {
             self.standing = standing;
@@ -215,7 +233,8 @@ impl<'de> JsonParser<'de> {
 
     /// The bytes of the token that was read last, also by a peek.
     pub fn current_span(&self) -> Option<Span>
-        ensures { answer_of_span result ≡ spans (Some (span_of self.now.standing)) }
+        ensures told { answer_of_span result ≡ spans (Some (span_of self.now.standing)) }
+        ensures within { AnswerWithin self.now.buffer (answer_of_span result) }
     {
         Some(self.standing.span())
     }

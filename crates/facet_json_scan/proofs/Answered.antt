@@ -17,7 +17,7 @@ use Rattle.facet_json_scan.specs.Open.{IsBeginning}
 use Rattle.facet_json_scan.specs.Scanner.{ended, answer_for}
 use Rattle.facet_json_scan.specs.Views.{scanned, token_answer as token_scanned, fault_answer as fault_scanned, answered, token_answered, fault_answered, span_answered, FoundHere}
 use Rattle.facet_format.specs.Views.{span_of}
-use Rattle.facet_json_scan.specs.declared.scanner.Found.TheVariants as found
+use Rattle.facet_json_scan.specs.declared.scanner.token.Found.TheVariants as found
 use Rattle.facet_json_scan.proofs.CutBounds.{CutFits, here_fits}
 use Rattle.facet_json_scan.proofs.FirstBytes.{cut_here-something}
 

@@ -1,8 +1,8 @@
 -- What is found behind a gap, from what is found where it ends.
 use Rattle.std.proofs.Common.{◌≡◌, ℕ, zero, suc, ◌+◌, ◌≤◌, ◌<◌, List, [], length, drop, Some, refl, sym, ap, ◌∙◌, subst, arith}
 use Rattle.std.proofs.lemmas.List.{append-nil, drop-drop, length-drop}
-use Rattle.facet_json_scan.specs.declared.scanner.Found.{Found}
-use Rattle.facet_json_scan.specs.declared.scanner.Found.TheVariants as found
+use Rattle.facet_json_scan.specs.declared.scanner.token.Found.{Found}
+use Rattle.facet_json_scan.specs.declared.scanner.token.Found.TheVariants as found
 use Rattle.facet_json_scan.specs.Gap.{Mode, whole, growing, piece_len, gap_len}
 use Rattle.facet_json_scan.specs.Cut.{cut, cut_here, past_gap}
 use Rattle.facet_json_scan.specs.Open.{IsBeginning, IsOpen}

@@ -5,7 +5,7 @@ use Rattle.facet_format.specs.Bytes.{quote, backslash, slash, star, left_brace, 
 use Rattle.facet_format.specs.Bytes as bytes
 use Rattle.facet_json_scan.specs.Gap.{Mode, plain, jsonc, whole, gap_len, one_more}
 use Rattle.facet_format.specs.Number.{Hint, IsNumber, parts, parts_len, parts_hint, is_bare, starts_number}
-use Rattle.facet_format.specs.Span.{Span, span_at}
+use Rattle.facet_format.specs.Span.{span_at}
 use Rattle.facet_json_scan.specs.Token.{Kind, object_start, object_end, array_start, array_end, colon, comma, null, true_literal, false_literal, string, number, Token, FaultKind, unexpected_char, unexpected_eof, Fault, in_string, in_number, in_literal, in_block_comment}
 
 -- ---- what a token looks like

@@ -1,5 +1,5 @@
 -- What the definitions mean, in the subject's own words. Each law is the contract of a function of the module `laws`.
-use Rattle.std.specs.Prelude.{◌≡◌, ◌≢◌, ℕ, ◌≤◌, ◌↔◌, true, false, List, ◌++◌, length, take, drop, Some}
+use Rattle.std.specs.Prelude.{◌≡◌, ◌≢◌, ℕ, ◌≤◌, ◌↔◌, true, List, ◌++◌, length, take, drop, Some}
 use Rattle.facet_json_scan.specs.Gap.{Mode, Input, IsGap, gap_len}
 use Rattle.facet_json_scan.specs.Token.{Kind}
 use Rattle.facet_json_scan.specs.Cut.{IsShape, nothing_left, token_at, cut_here, cut}

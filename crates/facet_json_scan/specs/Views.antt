@@ -20,25 +20,24 @@ use Rattle.facet_json_scan.specs.Token.{Kind}
 use Rattle.facet_json_scan.specs.Token as token
 use Rattle.facet_json_scan.specs.Cut.{Cut, nothing_left, fault, cut_here, cut, past_gap}
 use Rattle.facet_json_scan.specs.Cut as cutting
-use Rattle.facet_format.specs.declared.numeral.Parts.{Parts as RustParts}
 use Rattle.facet_json_scan.specs.declared.number.ParsedNumber.{ParsedNumber}
 use Rattle.facet_json_scan.specs.declared.number.ParsedNumber.TheVariants as parsed
 use Rattle.facet_format.specs.Event.{bytes_of, is_owned}
-use Rattle.facet_format.specs.Number.{Number, u64, i64, u128, i128, decimal, Parts, parts, parts_len}
+use Rattle.facet_format.specs.Number.{Number, u64, i64, u128, i128, decimal}
 use Rattle.std.specs.List.{list_any}
 use Rattle.facet_json_scan.specs.declared.token.ScanErrorKind.TheVariants.{InvalidUtf8}
 use Rattle.facet_json_scan.specs.declared.decode.DecodeError.TheVariants.{Scan, OutOfMemory}
 use Rattle.facet_format.specs.Bytes.{backslash, slash}
 use Rattle.facet_json_scan.specs.Decode.{decoded}
-use Rattle.facet_json_scan.specs.declared.scanner.Part.{Part as RustPart}
-use Rattle.facet_json_scan.specs.declared.scanner.Part.TheVariants as part
-use Rattle.facet_json_scan.specs.declared.scanner.State.{State as RustState}
-use Rattle.facet_json_scan.specs.declared.scanner.State.TheVariants as state
-use Rattle.facet_json_scan.specs.declared.scanner.Pending.{Pending as RustPending}
-use Rattle.facet_json_scan.specs.declared.scanner.Found.{Found}
-use Rattle.facet_json_scan.specs.declared.scanner.Found.TheVariants as found
-use Rattle.facet_json_scan.specs.declared.scanner.Piece.{Piece}
-use Rattle.facet_json_scan.specs.declared.scanner.Piece.TheVariants as piece
+use Rattle.facet_json_scan.specs.declared.scanner.pending.Part.{Part as RustPart}
+use Rattle.facet_json_scan.specs.declared.scanner.pending.Part.TheVariants as part
+use Rattle.facet_json_scan.specs.declared.scanner.pending.State.{State as RustState}
+use Rattle.facet_json_scan.specs.declared.scanner.pending.State.TheVariants as state
+use Rattle.facet_json_scan.specs.declared.scanner.pending.Pending.{Pending as RustPending}
+use Rattle.facet_json_scan.specs.declared.scanner.token.Found.{Found}
+use Rattle.facet_json_scan.specs.declared.scanner.token.Found.TheVariants as found
+use Rattle.facet_json_scan.specs.declared.scanner.gap.Piece.{Piece}
+use Rattle.facet_json_scan.specs.declared.scanner.gap.Piece.TheVariants as piece
 use Rattle.facet_json_scan.specs.Open.{IsBeginning, IsOpen}
 use Rattle.facet_json_scan.specs.Scanner.{Part, in_digits, in_fraction, at_mark, in_exponent, State, in_text, in_word, in_number, behind_slash, in_line, in_block, Pending, nothing_pending, pending_at, Answer, needs_more, ended, cuts, refuses, answer_for, Describes, past_growing_gap}
 

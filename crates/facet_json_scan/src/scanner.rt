@@ -1,480 +1,26 @@
 //! The scanner over a buffer that grows: a string, number or comment that the buffer's end cuts is gone on with, and not
 //! read again.
 
-ghost use Rattle.std.specs.Prelude.{◌≡◌, ℕ, ◌+◌, ◌-◌, ◌<◌, ◌≤◌, length, take, drop, Some, slice_get, IfSome, MatchOption};
-ghost use Rattle.facet_format.specs.Bytes.{slash};
-ghost use Rattle.facet_format.specs.Bytes as bytes;
+ghost use Rattle.std.specs.Prelude.{◌≡◌, ℕ, ◌-◌, ◌<◌, ◌≤◌, length, take, drop, Some, IfSome};
 ghost use Rattle.facet_json_scan.specs.Gap.{plain, jsonc};
-ghost use Rattle.facet_json_scan.specs.Gap as spec_gap;
-ghost use Rattle.facet_json_scan.specs.Token.{Kind};
 ghost use Rattle.facet_format.specs.Span.{stop, span_at};
-ghost use Rattle.facet_json_scan.specs.Cut.{start_of, letter};
 ghost use Rattle.facet_json_scan.specs.Cut as spec_cut;
-ghost use Rattle.facet_json_scan.specs.Open.{IsBeginning};
-ghost use Rattle.facet_json_scan.specs.Scanner.{in_text, in_line, in_block, ended, answer_for, idle, scanner_at, first_of, first_byte_of, stands_at_end, part_hint, EndsIn, GoesOnWith, EndsBefore, Describes, GoesOnFrom, Gives};
+ghost use Rattle.facet_json_scan.specs.Scanner.{answer_for, idle, scanner_at, first_of, first_byte_of, stands_at_end, Describes, GoesOnFrom, Gives};
 ghost use Rattle.facet_json_scan.specs.Scanner as spec_scanner;
-ghost use Rattle.facet_format.specs.Number.{parts, parts_len, parts_hint, is_bare};
-ghost use Rattle.facet_json_scan.specs.Views.{mode_of, kind_of, scanned, part_of, state_of, pending_of, answered, span_answered, stands_behind, stands_last, FoundHere, FoundFrom, FoundWithin, PieceHere, PieceWithin};
-ghost use Rattle.facet_format.specs.Views.{hint_of};
+ghost use Rattle.facet_json_scan.specs.Views.{mode_of, state_of, pending_of, answered, span_answered, stands_behind, stands_last, FoundFrom, FoundWithin, PieceHere, PieceWithin};
+
+mod gap;
+mod pending;
+mod token;
 
 use crate::mode::Mode;
-use crate::plain_cut::{common_len, cut, cut_bare_minus, cut_token, cut_word, line_end, token_at};
+use crate::plain_cut::cut;
+use crate::scanner::gap::{Piece, block_from, line_from};
+use crate::scanner::pending::{Pending, State};
+use crate::scanner::token::{Found, number_from, scan_from, text_from};
 use crate::token::{ScanResult, SpannedToken, Token};
 use facet_format::Span;
-use facet_format::numeral::NumberHint;
 use std::marker::Model;
-
-/// The part of a number (RFC 8259, section 6) in which its last byte stands.
-#[derive(Debug, Clone, Copy, PartialEq)]
-enum Part {
-    /// The minus and the digits.
-    Digits,
-    /// The dot and its digits.
-    Fraction,
-    /// The exponent mark.
-    Mark,
-    /// The exponent's sign and its digits.
-    Exponent,
-}
-
-/// How an open token or comment goes on.
-#[derive(Debug, Clone, Copy, PartialEq)]
-enum State {
-    /// In a string.
-    Text {
-        /// Whether a backslash escapes the next byte.
-        escaped: bool,
-        /// Whether a backslash was seen.
-        has_escapes: bool,
-    },
-    /// In a literal, of which at most five letters are compared again.
-    Word,
-    /// In this part of a number.
-    Number(Part),
-    /// Behind a slash.
-    Slash,
-    /// In a line comment.
-    Line,
-    /// In a block comment.
-    Block {
-        /// Whether the last byte is a star.
-        after_star: bool,
-    },
-}
-
-/// A token or comment that the end of the buffer cuts.
-#[derive(Debug, Clone, Copy, PartialEq)]
-struct Pending {
-    /// Its first byte.
-    start: usize,
-    /// How it goes on.
-    state: State,
-}
-
-/// What stands at a place.
-#[derive(Drop)]
-enum Found {
-    /// A token, the end or a refusal, which starts there.
-    Answer {
-        /// The first byte.
-        start: usize,
-        /// The answer.
-        result: ScanResult,
-    },
-    /// A token or comment that the end of the buffer cuts.
-    Open {
-        /// Its first byte.
-        start: usize,
-        /// How it goes on.
-        state: State,
-    },
-}
-
-/// What of a gap stands at a place.
-#[derive(Drop)]
-enum Piece {
-    /// White space or a closed comment, which ends here.
-    Closed(usize),
-    /// A comment that the end of the buffer cuts.
-    Open(State),
-    /// Neither.
-    Absent,
-}
-
-// ---- the gap
-
-/// The piece of a gap at `at`.
-fn piece_from(buffer: &[u8], at: usize, mode: Mode) -> Piece
-    requires { at ≤ length buffer.now }
-    ensures here { PieceHere (mode_of mode) buffer.now at result }
-    ensures within { PieceWithin at (length buffer.now) result }
-{
-    let Some(first) = buffer.get(at) else {
-        return Piece::Absent;
-    };
-    if is_space(*first) {
-        return Piece::Closed(at + 1);
-    }
-    if *first != b'/' {
-        return Piece::Absent;
-    }
-    match mode {
-        Mode::Plain => Piece::Absent,
-        Mode::Jsonc => comment_from(buffer, at),
-    }
-}
-
-/// Whether the byte is white space (RFC 8259, section 2).
-fn is_space(byte: u8) -> bool
-    ensures { result ≡ bytes.is_space byte }
-{
-    byte == b' ' || byte == b'\t' || byte == b'\n' || byte == b'\r'
-}
-
-/// The comment whose slash is at `at`.
-fn comment_from(buffer: &[u8], at: usize) -> Piece
-    requires { slice_get buffer.now at ≡ Some slash }
-    ensures here { PieceHere jsonc buffer.now at result }
-    ensures within { PieceWithin at (length buffer.now) result }
-{
-    let Some(second) = buffer.get(at + 1) else {
-        return Piece::Open(State::Slash);
-    };
-    match *second {
-        b'*' => block_from(buffer, at, at + 2, false),
-        b'/' => line_from(buffer, at, at + 2),
-        _ => Piece::Absent,
-    }
-}
-
-/// Goes on at `at` with the line comment at `start`.
-fn line_from(buffer: &[u8], start: usize, at: usize) -> Piece
-    requires order { start < at }
-    requires room { at ≤ length buffer.now }
-    ensures here { Describes jsonc in_line (drop start (take at buffer.now)) → PieceHere jsonc buffer.now start result }
-    ensures within { PieceWithin start (length buffer.now) result }
-{
-    match line_end(buffer, at) {
-        Some(end) => Piece::Closed(end),
-        None => Piece::Open(State::Line),
-    }
-}
-
-/// Goes on at `at` with the block comment at `start`.
-fn block_from(buffer: &[u8], start: usize, at: usize, after_star: bool) -> Piece
-    requires order { start < at }
-    requires room { at ≤ length buffer.now }
-    ensures here { Describes jsonc (in_block after_star) (drop start (take at buffer.now))
-        → PieceHere jsonc buffer.now start result }
-    ensures within { PieceWithin start (length buffer.now) result }
-{
-    let mut end = at;
-    let mut ends_in_star = after_star;
-    while let Some(byte) = buffer.get(end) {
-        if *byte == b'/' && ends_in_star {
-            return Piece::Closed(end + 1);
-        }
-        ends_in_star = *byte == b'*';
-        end += 1;
-    }
-    Piece::Open(State::Block {
-        after_star: ends_in_star,
-    })
-}
-
-// ---- the token
-
-/// What stands at `position`, a gap in front.
-fn scan_from(buffer: &[u8], position: usize, mode: Mode) -> Found
-    requires { position ≤ length buffer.now }
-    ensures here { FoundFrom (mode_of mode) buffer.now position result }
-    ensures within { FoundWithin (length buffer.now) result }
-{
-    let mut at = position;
-    loop {
-        match piece_from(buffer, at, mode) {
-            Piece::Closed(end) => at = end,
-            Piece::Open(state) => return Found::Open { start: at, state },
-            Piece::Absent => return token_from(buffer, at, mode),
-        }
-    }
-}
-
-/// The token at `at`, where no piece of a gap stands.
-fn token_from(buffer: &[u8], at: usize, mode: Mode) -> Found
-    requires { at ≤ length buffer.now }
-    ensures here { (slice_get buffer.now at ≡ Some slash → IsBeginning (mode_of mode) (drop at buffer.now) → ⊥)
-        → FoundHere (mode_of mode) buffer.now at result }
-    ensures within { FoundWithin (length buffer.now) result }
-{
-    let Some(first) = buffer.get(at) else {
-        return Found::Answer {
-            start: at,
-            result: eof_at(buffer.len()),
-        };
-    };
-    match *first {
-        b'"' => text_from(buffer, at, at + 1, false, false),
-        b'n' => word_from(buffer, at, b"null", Token::Null),
-        b't' => word_from(buffer, at, b"true", Token::True),
-        b'f' => word_from(buffer, at, b"false", Token::False),
-        b'-' | b'0'..=b'9' => number_from(buffer, at, at + 1, Part::Digits),
-        _ => Found::Answer {
-            start: at,
-            result: cut_token(buffer, at, *first, mode),
-        },
-    }
-}
-
-/// The end, at this offset.
-fn eof_at(offset: usize) -> ScanResult
-    ensures { answered result ≡ Some (ended (span_at offset 0)) }
-{
-    Ok(SpannedToken {
-        token: Token::Eof,
-        span: Span::new(offset, 0),
-    })
-}
-
-/// Goes on at `at` with the string whose quote is at `start`.
-fn text_from(buffer: &[u8], start: usize, at: usize, escaped: bool, has_escapes: bool) -> Found
-    requires order { start < at }
-    requires room { at ≤ length buffer.now }
-    ensures here { (mode : spec_gap.Mode) → Describes mode (in_text escaped has_escapes) (drop start (take at buffer.now))
-        → FoundHere mode buffer.now start result }
-    ensures within { FoundWithin (length buffer.now) result }
-{
-    let mut end = at;
-    let mut escaped = escaped;
-    let mut has_escapes = has_escapes;
-    while let Some(byte) = buffer.get(end) {
-        if *byte == b'"' && !escaped {
-            let token = Token::String {
-                start: start + 1,
-                end,
-                has_escapes,
-            };
-            return Found::Answer {
-                start,
-                result: token_at(token, start, end + 1 - start),
-            };
-        }
-        let is_backslash = *byte == b'\\';
-        escaped = is_backslash & !escaped;
-        has_escapes |= is_backslash;
-        end += 1;
-    }
-    Found::Open {
-        start,
-        state: State::Text {
-            escaped,
-            has_escapes,
-        },
-    }
-}
-
-/// The literal of these letters at `at`.
-fn word_from(buffer: &[u8], at: usize, word: &[u8], token: Token) -> Found
-    requires { at < length buffer.now }
-    ensures here { (mode : spec_gap.Mode) (b : ℕ) (kind : Kind) → slice_get buffer.now at ≡ Some b
-        → start_of b ≡ letter word.now kind → kind_of token ≡ Some kind → FoundHere mode buffer.now at result }
-    ensures within { (b : ℕ) (kind : Kind) → slice_get buffer.now at ≡ Some b → start_of b ≡ letter word.now kind
-        → kind_of token ≡ Some kind → FoundWithin (length buffer.now) result }
-{
-    let len = common_len(buffer, at, word);
-    if len < word.len() && len == buffer.len() - at {
-        return Found::Open {
-            start: at,
-            state: State::Word,
-        };
-    }
-    Found::Answer {
-        start: at,
-        result: cut_word(buffer, at, word, token),
-    }
-}
-
-/// Goes on at `at` with the number, or the bare minus, at `start`, whose last byte so far stands in this part.
-fn number_from(buffer: &[u8], start: usize, at: usize, part: Part) -> Found
-    requires order { start < at }
-    requires room { at ≤ length buffer.now }
-    ensures here { EndsIn (part_of part) (drop start (take at buffer.now))
-        → (mode : spec_gap.Mode) → FoundHere mode buffer.now start result }
-    ensures within { FoundWithin (length buffer.now) result }
-{
-    let mut end = at;
-    let mut part = part;
-    while let Some(byte) = buffer.get(end) {
-        let Some(next) = part.after(*byte) else {
-            return Found::Answer {
-                start,
-                result: number_token(buffer, start, end, part),
-            };
-        };
-        part = next;
-        end += 1;
-    }
-    Found::Open {
-        start,
-        state: State::Number(part),
-    }
-}
-
-/// The token of the number from `start` to `end`, whose last byte stands in this part, or the fault of a bare minus.
-fn number_token(buffer: &[u8], start: usize, end: usize, part: Part) -> ScanResult
-    requires order { start < end }
-    requires room { end ≤ length buffer.now }
-    ensures token { let text = drop start (take end buffer.now) in EndsIn (part_of part) text
-        → scanned result ≡ Some (spec_cut.cut_number start (drop (start + 1) buffer.now)
-        (parts_len (parts text)) (parts_hint (parts text)) (is_bare (parts text))) }
-    ensures span { stop (span_answered result) ≤ length buffer.now }
-{
-    let is_negative = buffer[start] == b'-';
-    if is_negative && end == start + 1 {
-        return cut_bare_minus(buffer, start);
-    }
-    let token = Token::Number {
-        start,
-        end,
-        hint: part.hint(is_negative),
-    };
-    token_at(token, start, end - start)
-}
-
-impl Part {
-    /// The part in which this byte stands, if it goes on with the number.
-    fn after(self, byte: u8) -> Option<Part>
-        ensures { MatchOption result (EndsBefore (part_of self) byte)
-            (λ next. GoesOnWith (part_of self) byte (part_of next)) }
-    {
-        let is_digit = is_digit(byte);
-        match self {
-            Part::Digits => {
-                if is_digit {
-                    Some(Part::Digits)
-                } else if byte == b'.' {
-                    Some(Part::Fraction)
-                } else if is_exponent_mark(byte) {
-                    Some(Part::Mark)
-                } else {
-                    None
-                }
-            }
-            Part::Fraction => {
-                if is_digit {
-                    Some(Part::Fraction)
-                } else if is_exponent_mark(byte) {
-                    Some(Part::Mark)
-                } else {
-                    None
-                }
-            }
-            Part::Mark => {
-                if is_digit || is_sign(byte) {
-                    Some(Part::Exponent)
-                } else {
-                    None
-                }
-            }
-            Part::Exponent => { if is_digit { Some(Part::Exponent) } else { None } }
-        }
-    }
-
-    /// What stands in a number whose last byte stands in this part.
-    fn hint(self, is_negative: bool) -> NumberHint
-        ensures { hint_of result ≡ part_hint (part_of self) is_negative }
-    {
-        match self {
-            Part::Digits => {
-                if is_negative {
-                    NumberHint::Signed
-                } else {
-                    NumberHint::Unsigned
-                }
-            }
-            _ => NumberHint::Float,
-        }
-    }
-}
-
-/// Whether the byte is a digit.
-fn is_digit(byte: u8) -> bool
-    ensures { result ≡ bytes.is_digit byte }
-{
-    matches!(byte, b'0'..=b'9')
-}
-
-/// Whether the byte is the mark of an exponent.
-fn is_exponent_mark(byte: u8) -> bool
-    ensures { result ≡ bytes.is_exponent_mark byte }
-{
-    byte == b'e' || byte == b'E'
-}
-
-/// Whether the byte is the sign of an exponent.
-fn is_sign(byte: u8) -> bool
-    ensures { result ≡ bytes.is_sign byte }
-{
-    byte == b'-' || byte == b'+'
-}
-
-/// What stands at `position`, or goes on there with what is pending.
-fn find(buffer: &[u8], position: usize, pending: Option<Pending>, mode: Mode) -> Found
-    requires room { position ≤ length buffer.now }
-    requires order { IfSome pending (λ p. p.start < position) }
-    ensures here { (p : ℕ) → GoesOnFrom (scanner_at position (mode_of mode) (pending_of pending)) buffer.now p
-        → FoundFrom (mode_of mode) buffer.now p result }
-    ensures within { FoundWithin (length buffer.now) result }
-{
-    match pending {
-        Some(pending) => resume(buffer, position, pending, mode),
-        None => scan_from(buffer, position, mode),
-    }
-}
-
-/// Goes on at `at` with what is pending.
-fn resume(buffer: &[u8], at: usize, pending: Pending, mode: Mode) -> Found
-    requires order { pending.start < at }
-    requires room { at ≤ length buffer.now }
-    ensures here { Describes (mode_of mode) (state_of pending.state) (drop pending.start (take at buffer.now))
-        → FoundFrom (mode_of mode) buffer.now pending.start result }
-    ensures within { FoundWithin (length buffer.now) result }
-{
-    let start = pending.start;
-    match pending.state {
-        State::Text {
-            escaped,
-            has_escapes,
-        } => text_from(buffer, start, at, escaped, has_escapes),
-        State::Line => behind_comment(buffer, start, line_from(buffer, start, at), mode),
-        State::Block { after_star } => {
-            behind_comment(
-                buffer,
-                start,
-                block_from(buffer, start, at, after_star),
-                mode,
-            )
-        }
-        State::Number(part) => number_from(buffer, start, at, part),
-        State::Word | State::Slash => scan_from(buffer, start, mode),
-    }
-}
-
-/// What stands behind the comment at `start`, if it is closed.
-fn behind_comment(buffer: &[u8], start: usize, comment: Piece, mode: Mode) -> Found
-    requires room { start ≤ length buffer.now }
-    requires within { PieceWithin start (length buffer.now) comment }
-    ensures here { PieceHere (mode_of mode) buffer.now start comment → FoundFrom (mode_of mode) buffer.now start result }
-    ensures within { FoundWithin (length buffer.now) result }
-{
-    match comment {
-        Piece::Closed(end) => scan_from(buffer, end, mode),
-        Piece::Open(state) => Found::Open { start, state },
-        Piece::Absent => scan_from(buffer, start, mode),
-    }
-}
-
-// ---- the scanner
 
 /// Cuts tokens off a buffer that grows.
 ///
@@ -609,6 +155,62 @@ impl Scanner {
         self.pending = None;
         self.position = stands_at_end(self.position, first, &result);
         result
+    }
+}
+
+/// What stands at `position`, or goes on there with what is pending.
+fn find(buffer: &[u8], position: usize, pending: Option<Pending>, mode: Mode) -> Found
+    requires room { position ≤ length buffer.now }
+    requires order { IfSome pending (λ p. p.start < position) }
+    ensures here { (p : ℕ) → GoesOnFrom (scanner_at position (mode_of mode) (pending_of pending)) buffer.now p
+        → FoundFrom (mode_of mode) buffer.now p result }
+    ensures within { FoundWithin (length buffer.now) result }
+{
+    match pending {
+        Some(pending) => resume(buffer, position, pending, mode),
+        None => scan_from(buffer, position, mode),
+    }
+}
+
+/// Goes on at `at` with what is pending.
+fn resume(buffer: &[u8], at: usize, pending: Pending, mode: Mode) -> Found
+    requires order { pending.start < at }
+    requires room { at ≤ length buffer.now }
+    ensures here { Describes (mode_of mode) (state_of pending.state) (drop pending.start (take at buffer.now))
+        → FoundFrom (mode_of mode) buffer.now pending.start result }
+    ensures within { FoundWithin (length buffer.now) result }
+{
+    let start = pending.start;
+    match pending.state {
+        State::Text {
+            escaped,
+            has_escapes,
+        } => text_from(buffer, start, at, escaped, has_escapes),
+        State::Line => behind_comment(buffer, start, line_from(buffer, start, at), mode),
+        State::Block { after_star } => {
+            behind_comment(
+                buffer,
+                start,
+                block_from(buffer, start, at, after_star),
+                mode,
+            )
+        }
+        State::Number(part) => number_from(buffer, start, at, part),
+        State::Word | State::Slash => scan_from(buffer, start, mode),
+    }
+}
+
+/// What stands behind the comment at `start`, if it is closed.
+fn behind_comment(buffer: &[u8], start: usize, comment: Piece, mode: Mode) -> Found
+    requires room { start ≤ length buffer.now }
+    requires within { PieceWithin start (length buffer.now) comment }
+    ensures here { PieceHere (mode_of mode) buffer.now start comment → FoundFrom (mode_of mode) buffer.now start result }
+    ensures within { FoundWithin (length buffer.now) result }
+{
+    match comment {
+        Piece::Closed(end) => scan_from(buffer, end, mode),
+        Piece::Open(state) => Found::Open { start, state },
+        Piece::Absent => scan_from(buffer, start, mode),
     }
 }
 

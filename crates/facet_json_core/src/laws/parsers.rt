@@ -1,6 +1,7 @@
-//! Laws about parsers: what the calls' contracts say of a new one.
+//! Laws about parsers: what the calls' contracts say of a new one, and of calls behind one another.
 
 ghost use Rattle.facet_json_core.specs.ParserLaws.{NewStands, AloneIsGiven};
+ghost use Rattle.facet_json_core.specs.CallLaws.{PeekIsNext, RefusalRepeats, SaveIsNumbered, RestoreBringsBack, UnknownChangesNothing, EndsInTime};
 
 /// A new parser of an input with a document stands at the start of the document's walk.
 pub fn new_stands()
@@ -11,4 +12,38 @@ pub fn new_stands()
 /// that begins a document gives, and then one refusal, never the end.
 pub fn alone_is_given()
     ensures { AloneIsGiven }
+{}
+
+/// On every input the next event, right behind a peek that answered one, is the one that the peek answered.
+pub fn peek_is_next()
+    ensures { PeekIsNext }
+{}
+
+/// On every input a call for events that is refused is refused from then on, and so is each save; nothing changes, until
+/// a point that is kept is restored.
+pub fn refusal_repeats()
+    ensures { RefusalRepeats }
+{}
+
+/// On every input a save of a parser that isn't refused answers the next number. It answers none only for want of memory,
+/// or where there are no more numbers; then nothing changes, and the refusal doesn't stick.
+pub fn save_is_numbered()
+    ensures { SaveIsNumbered }
+{}
+
+/// On every input the restore of a point brings back where the parser stood at its save, whatever other calls were
+/// between. The point is used up, and other points stay.
+pub fn restore_brings_back()
+    ensures { RestoreBringsBack }
+{}
+
+/// The restore of a point that isn't kept changes nothing.
+pub fn unknown_changes_nothing()
+    ensures { UnknownChangesNothing }
+{}
+
+/// On every input reading ends: where the next event is asked for once more than the input has bytes, the end or a refusal
+/// is answered.
+pub fn ends_in_time()
+    ensures { EndsInTime }
 {}

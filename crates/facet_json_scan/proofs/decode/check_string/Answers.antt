@@ -1,8 +1,7 @@
 -- What each run and each escape says of the text, and that there is none where a run is no text or no escape stands.
-use Rattle.std.proofs.Common.{◌<◌, ◌++◌, refl, arith}
+use Rattle.std.proofs.Common.{◌<◌, refl, arith}
 use Rattle.std.proofs.lemmas.Result.{err_from_is_err_and}
 use Rattle.std.proofs.lemmas.List.Edits.{length-between}
-use Rattle.std.specs.Char.{encode_utf8}
 use Rattle.facet_format.specs.Bytes.{backslash}
 use Rattle.facet_json_scan.specs.Views.{IsWithin}
 use Rattle.facet_json_scan.proofs.DecodeSteps.{range-first, step-run, step-broken, step-found, found-within, step-lost, step-end}

@@ -1,7 +1,7 @@
 -- Behind a closed comment it is found from the comment on, and an open one is found itself.
 use Rattle.std.proofs.Common.{refl}
 use Rattle.facet_json_scan.specs.Views.{mode_of, state_of}
-use Rattle.facet_json_scan.specs.declared.scanner.Found.TheVariants as found
+use Rattle.facet_json_scan.specs.declared.scanner.token.Found.TheVariants as found
 use Rattle.facet_json_scan.proofs.Found.{found-no_gap, found-piece}
 use Rattle.facet_json_scan.proofs.Pieces.{open_no_piece}
 use Rattle.facet_json_scan.proofs.scanner.behind_comment.Goals as goal

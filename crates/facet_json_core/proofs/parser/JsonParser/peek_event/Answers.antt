@@ -1,17 +1,26 @@
+use Rattle.std.proofs.Common.{refl}
 use Rattle.std.proofs.lemmas.Result.{err_from_is_err_and}
 use Rattle.facet_json_core.specs.StandingViews.{standing_of}
 use Rattle.facet_json_core.proofs.Calls.{peek-refused, peek-answers, peek-fails}
+use Rattle.facet_json_core.proofs.ParserSound.{answer-within, goes-on}
 use Rattle.facet_json_core.proofs.parser.JsonParser.peek_event.Goals as goal
 
 pub returns-in_err-fill : goal.returns-in_err-fill
 returns-in_err-fill c =
     let p = err_from_is_err_and c.from_residual.result c.from_residual.ensures.1 in
-    rw (p.1, p.2) (peek-refused _ _ _ c.in_err-fill.ensures)
+    let known = c.in_err-fill.ensures.sound in
+    let move = peek-refused _ _ _ c.in_err-fill.ensures.filled in
+    rw (p.1, p.2) (record { moves = move; within = answer-within _ _ known move; onward = goes-on _ _ known refl move })
 
 pub returns-in-Ok : goal.returns-in-Ok
-returns-in-Ok c = peek-answers _ _ _ _ (standing_of c.peek.new.self) c.in_ok-fill.ensures c.self.view_is c.in-Ok.ensures.shown
+returns-in-Ok c =
+    let known = c.in_ok-fill.ensures.sound in
+    let move = peek-answers _ _ _ _ (standing_of c.peek.new.self) c.in_ok-fill.ensures.filled c.self.view_is c.in-Ok.ensures.shown in
+    record { moves = move; within = answer-within _ _ known move; onward = goes-on _ _ known refl move }
 
 pub returns-in-Err : goal.returns-in-Err
 returns-in-Err c =
-    peek-fails _ _ _ _ (standing_of c.peek.new.self) _ c.in_ok-fill.ensures c.self.view_is c.in-Err.ensures.shown
-    c.refuse_growth.ensures.error c.refuse_growth.ensures.kept
+    let known = c.in_ok-fill.ensures.sound in
+    let move = peek-fails _ _ _ _ (standing_of c.peek.new.self) _ c.in_ok-fill.ensures.filled c.self.view_is c.in-Err.ensures.shown
+    c.refuse_growth.ensures.error c.refuse_growth.ensures.kept in
+    record { moves = move; within = answer-within _ _ known move; onward = goes-on _ _ known refl move }

@@ -3,5 +3,5 @@ use Rattle.facet_json_core.proofs.parser.JsonParserFormatParser.next_events.Goal
 
 pub returns : goal.returns
 returns c =
-    let (given, items, move) = c.next_events.ensures in
+    let (given, items, move, within) = c.next_events.ensures.moves in
     (given, items, move-steps _ _ _ _ move)

@@ -2,4 +2,4 @@ use Rattle.facet_json_core.proofs.Calls.{move-steps}
 use Rattle.facet_json_core.proofs.parser.JsonParserFormatParser.save.Goals as goal
 
 pub returns : goal.returns
-returns c = move-steps _ _ _ _ c.save.ensures
+returns c = move-steps _ _ _ _ c.save.ensures.moves
