@@ -1,9 +1,8 @@
 -- The words of calls: none has a comma, and which call stands in front of a script.
 use Rattle.std.proofs.Common.{◌≡◌, ◌≢◌, ℕ, ◌<◌, ◌≤◌, ◌⊎◌, ◌^◌, List, [], ◌∷◌, ◌++◌, map, length, get_or, drop, slice_index, codes, refl, sym, ap, subst, ◌∙◌, arith, rules, inl, inr, Result, Ok, Err, Option, Some, None, MatchOption, cond}
-use Rattle.std.specs.Result.{result_ok}
+use Rattle.std.proofs.lemmas.List.{map-append, append_assoc}
 use Rattle.std.specs.Char.{digit_value}
-use Rattle.std.proofs.lemmas.Bool.{ne_eqb}
-use Rattle.std.specs.Str.Parse.{AllDigits, IsNumeral, ParsesUnsigned, digits_value, without_leading_plus}
+use Rattle.std.specs.Str.Parse.{AllDigits}
 use Rattle.facet_format.specs.Cursor.{Call, next, peek, events, save, restore, span}
 use Rattle.facet_json_core.specs.declared.script.Call.{Call as RustCall}
 use Rattle.facet_json_core.specs.ScriptViews.{call_of}
@@ -68,3 +67,22 @@ pub call_or_none : (word : List ℕ) (answer : Option RustCall) → word ≢ cod
     MatchOption answer ((call : Call) → ¬ IsWordOf call word) (λ c. IsWordOf (call_of c) word)
 call_or_none word None n p sa sp numbered = no_call word n p sa sp numbered
 call_or_none word (Some c) n p sa sp is = is
+
+-- ---- the loop over the words: the calls so far, and what is left of the script
+
+-- One more call was read, with a comma behind its word.
+pub one_more_call : (script rest word behind : List ℕ) (calls more : List RustCall) (call : RustCall) →
+    rest ≡ word ++ (comma ∷ behind) → more ≡ calls ++ (call ∷ []) → IsWordOf (call_of call) word →
+    ((others : List Call) → IsScript rest others → IsScript script (map call_of calls ++ others)) →
+    (others : List Call) → IsScript behind others → IsScript script (map call_of more ++ others)
+one_more_call script rest word behind calls more call cut added is whole others left =
+    rw (added, map-append call_of calls (call ∷ []), append_assoc (map call_of calls) (call_of call ∷ []) others)
+      (whole (call_of call ∷ others) (word_first rest word behind (call_of call) others cut is left))
+
+-- The last call was read.
+pub last_call : (script rest : List ℕ) (calls more : List RustCall) (call : RustCall) → more ≡ calls ++ (call ∷ []) →
+    IsWordOf (call_of call) rest →
+    ((others : List Call) → IsScript rest others → IsScript script (map call_of calls ++ others)) →
+    IsScript script (map call_of more)
+last_call script rest calls more call added is whole =
+    rw (added, map-append call_of calls (call ∷ [])) (whole (call_of call ∷ []) (one_word rest (call_of call) is))

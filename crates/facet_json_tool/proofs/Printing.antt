@@ -1,10 +1,11 @@
 -- Printing in pieces: what was written before, and one more piece.
 use Rattle.std.proofs.Common.{◌≡◌, ℕ, List, [], ◌∷◌, ◌++◌, Option, Some, None, Result, Ok, Err, suc, length, drop, refl, sym, ap, ◌∙◌, arith}
+use Rattle.std.specs.Result.{OnOk}
 use Rattle.std.specs.Io.KnownBytes.{Appends, Keeps}
 use Rattle.std.proofs.lemmas.List.{append-nil, append_assoc}
 use Rattle.facet_json_tool.specs.declared.outcome.Outcome.{Outcome}
 use Rattle.facet_json_tool.specs.declared.outcome.Outcome.TheVariants.{Done, Refused, Io, Usage}
-use Rattle.facet_json_tool.specs.Run.{Grows, Prints, Goes}
+use Rattle.facet_json_tool.specs.Run.{Grows, Prints}
 
 pub appends_nothing : (held : Option (List ℕ)) → Appends held held []
 appends_nothing None = tt
@@ -35,30 +36,24 @@ prints_behind a b c xs ys (Err Io) first second = tt
 prints_behind a b c xs ys (Err Usage) first second = absurd second
 
 -- where printing stopped in front of the end, any text behind it was to come
-pub stops_within : {T U : Type 0} (a b : Option (List ℕ)) (xs ys : List ℕ) (outcome : Outcome) →
-    Prints {T} a b xs (Err outcome) → Prints {U} a b ys (Err outcome)
-stops_within a b xs ys Done prints = prints
-stops_within a b xs ys (Refused code span) prints = prints
-stops_within a b xs ys Io prints = prints
-stops_within a b xs ys Usage prints = prints
-
-pub no_memory_here : {T : Type 0} (held : Option (List ℕ)) (xs : List ℕ) → Prints {T} held held xs (Err (Refused 9 None))
-no_memory_here held xs = (refl, ([], appends_nothing held))
+pub stops_within : (T U : Type 0) (a b : Option (List ℕ)) (xs ys : List ℕ) (outcome : Outcome) →
+    Prints {T = T} a b xs (Err outcome) → Prints {T = U} a b ys (Err outcome)
+stops_within T U a b xs ys Done prints = prints
+stops_within T U a b xs ys (Refused code span) prints = prints
+stops_within T U a b xs ys Io prints = prints
+stops_within T U a b xs ys Usage prints = prints
 
 -- Printing that stopped behind what was written
-pub stops_behind : {T U : Type 0} (a b c : Option (List ℕ)) (xs ys zs : List ℕ) (outcome : Outcome) →
-    Appends a b xs → Prints {T} b c ys (Err outcome) → Prints {U} a c zs (Err outcome)
-stops_behind a b c xs ys zs outcome first second =
-    stops_within a c (xs ++ ys) zs outcome (prints_behind a b c xs ys (Err outcome) first second)
+pub stops_behind : (T U : Type 0) (a b c : Option (List ℕ)) (xs ys zs : List ℕ) (outcome : Outcome) →
+    Appends a b xs → Prints {T = T} b c ys (Err outcome) → Prints {T = U} a c zs (Err outcome)
+stops_behind T U a b c xs ys zs outcome first second =
+    stops_within T U a c (xs ++ ys) zs outcome (prints_behind a b c xs ys (Err outcome) first second)
 
 -- A text of which a front is printed, and what is left of it
 pub record IsPrintedUpTo (before now : Option (List ℕ)) (whole left : List ℕ) : Type 0 where
   pub front : List ℕ
   pub appended : Appends before now front
   pub parts : whole ≡ front ++ left
-
-pub up_to_nothing : (held : Option (List ℕ)) (whole : List ℕ) → IsPrintedUpTo held held whole whole
-up_to_nothing held whole = record { front = []; appended = appends_nothing held; parts = refl }
 
 pub up_to_more : (a b c : Option (List ℕ)) (whole left line rest : List ℕ) → left ≡ line ++ rest →
     IsPrintedUpTo a b whole left → Appends b c line → IsPrintedUpTo a c whole rest
@@ -68,11 +63,9 @@ up_to_more a b c whole left line rest cut printed more = record {
   parts = printed.parts ∙ ap (λ l. printed.front ++ l) cut ∙ sym (append_assoc printed.front line rest);
 }
 
-pub up_to_the_end : (a b : Option (List ℕ)) (whole left : List ℕ) → left ≡ [] → IsPrintedUpTo a b whole left → Appends a b whole
-up_to_the_end a b whole left none printed =
-    rw (printed.parts ∙ ap (λ l. printed.front ++ l) none ∙ append-nil printed.front) printed.appended
-
--- a list that is its own rest is empty
-pub own_rest : {X : Type 0} (xs : List X) → xs ≡ drop 1 xs → xs ≡ []
-own_rest [] same = refl
-own_rest (x ∷ xs) same = let lengths : suc (length xs) ≡ length xs = ap length same in absurd (omega (arith, lengths))
+-- a line in three pieces
+pub three_pieces : {T E : Type 0} (a b c d : Option (List ℕ)) (xs ys zs : List ℕ) (result : Result T E) → Appends a b xs →
+    Appends b c ys → OnOk result (Appends c d zs) → OnOk result (Appends a d (xs ++ ys ++ zs))
+three_pieces a b c d xs ys zs (Ok done) first second third =
+    appends_both a c d (xs ++ ys) zs (appends_both a b c xs ys first second) third
+three_pieces a b c d xs ys zs (Err e) first second third = tt

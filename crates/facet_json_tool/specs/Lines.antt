@@ -16,10 +16,13 @@ use Rattle.facet_json.specs.Quoted.{quoted}
 abbrev pub place_line : List ℕ → Span → List ℕ
 place_line name span = name ++ codes " " ++ decimal span.offset ++ codes "+" ++ decimal span.len ++ codes "\n"
 
--- the same with a value, as `U64 5+1 1`
+-- a name and where it stands, in front of a value
+abbrev pub head_text : List ℕ → Span → List ℕ
+head_text name span = name ++ codes " " ++ decimal span.offset ++ codes "+" ++ decimal span.len ++ codes " "
+
+-- a line with a value, as `U64 5+1 1`
 abbrev pub value_line : List ℕ → Span → List ℕ → List ℕ
-value_line name span value =
-    name ++ codes " " ++ decimal span.offset ++ codes "+" ++ decimal span.len ++ codes " " ++ value ++ codes "\n"
+value_line name span value = head_text name span ++ value ++ codes "\n"
 
 abbrev pub scalar_line : Scalar → Span → List ℕ
 scalar_line event.null span = place_line (codes "Null") span

@@ -1,5 +1,5 @@
 -- What a run of the program owes.
-use Rattle.std.specs.Prelude.{◌≡◌, ℕ, ◌⊎◌, List, ◌++◌, Option, Some, None, Result, Ok, Err}
+use Rattle.std.specs.Prelude.{◌≡◌, ℕ, ◌⊎◌, List, [], ◌∷◌, ◌++◌, map, Option, Some, None, Result, Ok, Err, IfSome}
 use Rattle.std.specs.Option.{option_map}
 use Rattle.std.specs.List.{flat_map}
 use Rattle.std.specs.Io.KnownBytes.{Appends}
@@ -12,10 +12,12 @@ use Rattle.facet_format.specs.Complaint.{Refusal, code_of}
 use Rattle.facet_json_core.specs.Refusal.{Refuses, Complains}
 use Rattle.facet_json_core.specs.Now.{Now, fresh}
 use Rattle.facet_json_core.specs.Move.{MovesAll}
-use Rattle.facet_format.specs.Cursor.{Call, Answer}
+use Rattle.facet_format.specs.Event.{Event}
+use Rattle.facet_format.specs.Cursor.{Call, next, Answer, event}
 use Rattle.facet_json.specs.Text.{default_options, text}
 use Rattle.facet_format.specs.Views.{span_of}
-use Rattle.facet_json_tool.specs.Lines.{answer_lines}
+use Rattle.facet_json_tool.specs.Arguments.{Command, fmt, events, drive}
+use Rattle.facet_json_tool.specs.Lines.{event_line, answer_lines}
 use Rattle.facet_json_tool.specs.declared.outcome.Outcome.{Outcome}
 use Rattle.facet_json_tool.specs.declared.outcome.Outcome.TheVariants.{Done, Refused, Io, Usage}
 
@@ -69,13 +71,31 @@ Prints before after text (Err (Refused code span)) = (code ≡ 9) × Grows befor
 Prints before after text (Err Io) = Unit {0}
 Prints before after text (Err Usage) = ⊥
 
--- How the printing of events ends: all that was printed is there, or a write failed.
-abbrev pub Goes : {T : Type 0} → Option (List ℕ) → Option (List ℕ) → Result T Outcome → Type 0
-Goes before after (Ok done) = Grows before after
-Goes before after (Err Done) = ⊥
-Goes before after (Err (Refused code span)) = Grows before after
-Goes before after (Err Io) = Unit {0}
-Goes before after (Err Usage) = ⊥
+-- `next` for each of these events, and once more
+abbrev pub nexts : List Event → List Call
+nexts given = map (λ e. next) given ++ (next ∷ [])
+
+-- A parser that has read nothing gave these events, whose lines are printed, and then answered so.
+pub record AreListed (mode : Mode) (input : List ℕ) (before after : Option (List ℕ)) (last : Answer) : Type 0 where
+  pub given : List Event
+  pub parser : Now
+  pub moves : MovesAll Complains (fresh input mode) (nexts given) (map (λ e. event (Ok (Some e))) given ++ (last ∷ [])) parser
+  pub printed : Appends before after (flat_map event_line given)
+
+-- A parser that has read nothing was refused so behind the events whose lines are printed.
+pub record AreListedUpTo (mode : Mode) (input : List ℕ) (before after : Option (List ℕ)) (code : ℕ) (span : Option Span) : Type 0 where
+  pub refusal : Refusal
+  pub listed : AreListed mode input before after (event (Err refusal))
+  pub has_code : code ≡ code_of refusal.complaint
+  pub has_span : option_map span_of span ≡ refusal.span
+
+-- What `events` answers to an input, where the writer held the known bytes before and then holds those after.
+abbrev pub Lists : Mode → List ℕ → Option (List ℕ) → Option (List ℕ) → Outcome → Type 0
+Lists mode input before after Done = AreListed mode input before after (event (Ok None))
+Lists mode input before after (Refused code span) =
+    ((code ≡ 9) × Grows before after) ⊎ AreListedUpTo mode input before after code span
+Lists mode input before after Io = Unit {0}
+Lists mode input before after Usage = ⊥
 
 -- how a run ends that printed so
 abbrev pub outcome_of : {T : Type 0} → Result T Outcome → Outcome
@@ -90,3 +110,21 @@ Drives mode calls input before after Done = (answers : List Answer) × (parser :
 Drives mode calls input before after (Refused code span) = code ≡ 9
 Drives mode calls input before after Io = Unit {0}
 Drives mode calls input before after Usage = ⊥
+
+-- What a command answers to an input, where the writer held the known bytes before and then holds those after.
+abbrev pub Answers : Command → List ℕ → Option (List ℕ) → Option (List ℕ) → Outcome → Type 0
+Answers (fmt mode) input before after outcome = IfSome before (λ held. Formats mode input held after outcome)
+Answers (events mode) input before after outcome = Lists mode input before after outcome
+Answers (drive mode calls) input before after outcome = IfSome before (λ held. Drives mode calls input held after outcome)
+
+-- where the command is `fmt`
+abbrev pub ForFmt : Command → (Mode → Type 0) → Type 0
+ForFmt (fmt mode) P = P mode
+ForFmt (events mode) P = Unit {0}
+ForFmt (drive mode calls) P = Unit {0}
+
+-- where the command is `drive`
+abbrev pub ForDrive : Command → Type 0 → Type 0
+ForDrive (fmt mode) P = Unit {0}
+ForDrive (events mode) P = Unit {0}
+ForDrive (drive mode calls) P = P

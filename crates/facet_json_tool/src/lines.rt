@@ -10,7 +10,7 @@ ghost use Rattle.facet_format.specs.Views.{span_of, event_of, scalar_value_of, p
 ghost use Rattle.facet_json_core.specs.ScriptViews.{answer_of};
 ghost use Rattle.facet_json.specs.Quoted.{quoted as quoted_text};
 ghost use Rattle.facet_json_tool.specs.declared.outcome.Outcome.TheVariants as outcome;
-ghost use Rattle.facet_json_tool.specs.Lines.{place_line, value_line, scalar_line, event_line, refusal_line, count_line, next_line, answer_lines};
+ghost use Rattle.facet_json_tool.specs.Lines.{head_text, place_line, value_line, scalar_line, event_line, refusal_line, count_line, next_line, answer_lines};
 ghost use Rattle.facet_json_tool.specs.Views.{count_of};
 ghost use Rattle.facet_json_tool.specs.Run.{Prints};
 
@@ -194,11 +194,18 @@ fn write_text<W: Write>(
 fn write_pieces<W: Write>(writer: &mut W, name: &str, span: Span, bytes: &[u8]) -> io::Result<()>
     ensures { OnOk result (Appends (W.contents writer.old) (W.contents writer.new) (value_line name.now (span_of span) bytes.now)) }
 {
-    let offset = span.offset;
-    let len = span.len;
-    write!(writer, "{name} {offset}+{len} ")?;
+    write_head(writer, name, span)?;
     writer.write_all(bytes)?;
     writer.write_all(b"\n")
+}
+
+/// Writes the front of a line, a name and where it stands.
+fn write_head<W: Write>(writer: &mut W, name: &str, span: Span) -> io::Result<()>
+    ensures { OnOk result (Appends (W.contents writer.old) (W.contents writer.new) (head_text name.now (span_of span))) }
+{
+    let offset = span.offset;
+    let len = span.len;
+    write!(writer, "{name} {offset}+{len} ")
 }
 
 /// The text as it is written in a document.

@@ -17,10 +17,10 @@ ghost use Rattle.facet_json_core.specs.Now.{fresh};
 ghost use Rattle.facet_json_core.specs.ScriptViews.{call_of, answer_of};
 ghost use Rattle.facet_json.specs.Views.{tree_view};
 ghost use Rattle.facet_json_tool.specs.declared.outcome.Outcome.TheVariants as outcome;
-ghost use Rattle.facet_json_tool.specs.Arguments.{AskFor, AskForNothing, fmt, drive as drives};
-ghost use Rattle.facet_json_tool.specs.Views.{words_of};
+ghost use Rattle.facet_json_tool.specs.Arguments.{Command as SpecCommand, AskFor, AskForNothing, fmt, drive as drives};
+ghost use Rattle.facet_json_tool.specs.Views.{words_of, command_view};
 ghost use Rattle.facet_json_tool.specs.Lines.{answer_lines};
-ghost use Rattle.facet_json_tool.specs.Run.{HasDocument, IsReformatted, IsFailure, IsRefusal, Formats, Grows, Prints, Goes, Drives, outcome_of};
+ghost use Rattle.facet_json_tool.specs.Run.{HasDocument, IsReformatted, IsFailure, IsRefusal, Formats, Grows, Prints, Lists, Drives, Answers, ForFmt, ForDrive, outcome_of};
 
 use crate::arguments::{Command, command_of};
 use crate::lines::{write_answer, write_event};
@@ -42,26 +42,45 @@ pub fn run<R: Read, W: Write>(
     ensures usage { result ≡ outcome.Usage → AskForNothing (words_of args.now) }
     ensures told { AskForNothing (words_of args.now) → (result ≡ outcome.Usage) ⊎ (result ≡ outcome.Refused 9 None) }
     ensures untouched { AskForNothing (words_of args.now) → (reader.new ≡ reader.old) × (writer.new ≡ writer.old) }
+    ensures answer { (command : SpecCommand) → AskFor command (words_of args.now) → IfSome (R.remaining reader.old) (λ input.
+        Answers command input (W.contents writer.old) (W.contents writer.new) result) }
     ensures refused { (mode : SpecMode) (code : ℕ) (span : Option TheSpan) → AskFor (fmt mode) (words_of args.now)
         → result ≡ outcome.Refused code span → writer.new ≡ writer.old }
-    ensures answer { (mode : SpecMode) → AskFor (fmt mode) (words_of args.now) → IfSome (R.remaining reader.old) (λ input.
-        IfSome (W.contents writer.old) (λ before. Formats mode input before (W.contents writer.new) result)) }
     ensures only { (mode : SpecMode) → AskFor (fmt mode) (words_of args.now) → IfSome (R.remaining reader.old) (λ input.
         HasDocument mode input → (result ≡ outcome.Done) ⊎ IsFailure result) }
     ensures driven { (mode : SpecMode) (calls : List SpecCall) → AskFor (drives mode calls) (words_of args.now)
         → (result ≡ outcome.Done) ⊎ IsFailure result }
-    ensures answers { (mode : SpecMode) (calls : List SpecCall) → AskFor (drives mode calls) (words_of args.now)
-        → IfSome (R.remaining reader.old) (λ input. IfSome (W.contents writer.old) (λ before.
-            Drives mode calls input before (W.contents writer.new) result)) }
     ensures grows { result ≢ outcome.Io → Grows (W.contents writer.old) (W.contents writer.new) }
 {
     match command_of(alloc, args) {
-        Ok(Command::Fmt { mode }) => format(alloc, mode, reader, writer),
-        Ok(Command::Events { mode }) => print_events(alloc, mode, reader, writer),
-        Ok(Command::Drive { mode, calls }) => {
+        Ok(command) => obey(alloc, command, reader, writer),
+        Err(unasked) => unasked,
+    }
+}
+
+/// Does what it is asked to do.
+fn obey<R: Read, W: Write>(
+    alloc: Global,
+    command: Command,
+    reader: &mut R,
+    writer: &mut W,
+) -> Outcome
+    ensures ends { result ≢ outcome.Usage }
+    ensures answer { IfSome (R.remaining reader.old) (λ input.
+        Answers (command_view command) input (W.contents writer.old) (W.contents writer.new) result) }
+    ensures refused { ForFmt (command_view command) (λ mode. (code : ℕ) (span : Option TheSpan)
+        → result ≡ outcome.Refused code span → writer.new ≡ writer.old) }
+    ensures only { ForFmt (command_view command) (λ mode. IfSome (R.remaining reader.old) (λ input.
+        HasDocument mode input → (result ≡ outcome.Done) ⊎ IsFailure result)) }
+    ensures driven { ForDrive (command_view command) ((result ≡ outcome.Done) ⊎ IsFailure result) }
+    ensures grows { result ≢ outcome.Io → Grows (W.contents writer.old) (W.contents writer.new) }
+{
+    match command {
+        Command::Fmt { mode } => format(alloc, mode, reader, writer),
+        Command::Events { mode } => print_events(alloc, mode, reader, writer),
+        Command::Drive { mode, calls } => {
             print_answers(alloc, mode, calls.as_slice(), reader, writer)
         }
-        Err(unasked) => unasked,
     }
 }
 
@@ -158,6 +177,8 @@ fn print_events<R: Read, W: Write>(
     writer: &mut W,
 ) -> Outcome
     ensures ends { result ≢ outcome.Usage }
+    ensures listed { IfSome (R.remaining reader.old) (λ input.
+        Lists (mode_of mode) input (W.contents writer.old) (W.contents writer.new) result) }
     ensures grows { result ≢ outcome.Io → Grows (W.contents writer.old) (W.contents writer.new) }
 {
     match read_all(alloc, reader) {
@@ -169,24 +190,23 @@ fn print_events<R: Read, W: Write>(
     }
 }
 
-/// Writes a line for each event of the input, which has no more of them than bytes.
+/// Writes a line for each event of the input.
 fn list_events<W: Write>(
     alloc: Global,
     mode: Mode,
     input: &[u8],
     writer: &mut W,
 ) -> Result<(), Outcome>
-    ensures { Goes (W.contents writer.old) (W.contents writer.new) result }
+    ensures { Lists (mode_of mode) input.now (W.contents writer.old) (W.contents writer.new) (outcome_of result) }
 {
     let mut parser = parser_of(alloc, mode, input);
-    for _ in 0..=input.len() {
+    loop {
         match parser.next_event() {
             Ok(Some(event)) => write_event(alloc, event, writer)?,
             Ok(None) => return Ok(()),
             Err(error) => return Err(Outcome::Refused(error.kind.code(), Some(error.span))),
         }
     }
-    Ok(())
 }
 
 /// Reads all there is, makes the calls of a parser of it, and prints their answers.
