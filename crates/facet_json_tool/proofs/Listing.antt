@@ -14,7 +14,7 @@ use Rattle.facet_json_core.specs.Move.{Moves, MovesAll, no_calls, one_call}
 use Rattle.facet_json_tool.specs.Lines.{event_line}
 use Rattle.facet_json_tool.specs.declared.outcome.Outcome.{Outcome}
 use Rattle.facet_json_tool.specs.declared.outcome.Outcome.TheVariants.{Done, Refused, Io, Usage}
-use Rattle.facet_json_tool.specs.Run.{Grows, Prints, AreListed, AreListedUpTo, Lists}
+use Rattle.facet_json_tool.specs.Run.{Grows, Stops, AreListed, AreListedUpTo, Lists}
 use Rattle.facet_json_tool.proofs.Printing.{appends_nothing, appends_both, appends_keeps, grows_both}
 
 one_more_move : (old mid new : Now) (calls : List Call) (answers : List Answer) (call : Call) (answer : Answer) →
@@ -74,13 +74,13 @@ last_answer mode input a b old new answer so_far move = record {
 }
 
 -- A line could not be printed.
-pub line_stopped : (T : Type 0) (mode : Mode) (input : List ℕ) (a b c : Option (List ℕ)) (parser : Now) (line : List ℕ) (outcome : Outcome) →
-    AreSoFar mode input a b parser → Prints {T = T} b c line (Err outcome) → Lists mode input a c outcome
-line_stopped T mode input a b c parser line Done so_far prints = absurd prints
-line_stopped T mode input a b c parser line (Refused code span) so_far prints =
-    inl (prints.0, grows_both a b c (flat_map event_line so_far.given) so_far.printed prints.1)
-line_stopped T mode input a b c parser line Io so_far prints = tt
-line_stopped T mode input a b c parser line Usage so_far prints = absurd prints
+pub line_stopped : (mode : Mode) (input : List ℕ) (a b c : Option (List ℕ)) (parser : Now) (outcome : Outcome) →
+    AreSoFar mode input a b parser → Stops b c outcome → Lists mode input a c outcome
+line_stopped mode input a b c parser Done so_far stops = absurd stops
+line_stopped mode input a b c parser (Refused code span) so_far stops =
+    inl (stops.0, grows_both a b c (flat_map event_line so_far.given) so_far.printed stops.1)
+line_stopped mode input a b c parser Io so_far stops = tt
+line_stopped mode input a b c parser Usage so_far stops = absurd stops
 
 -- ---- behind the last line
 

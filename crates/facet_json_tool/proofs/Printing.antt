@@ -5,7 +5,7 @@ use Rattle.std.specs.Io.KnownBytes.{Appends, Keeps}
 use Rattle.std.proofs.lemmas.List.{append-nil, append_assoc}
 use Rattle.facet_json_tool.specs.declared.outcome.Outcome.{Outcome}
 use Rattle.facet_json_tool.specs.declared.outcome.Outcome.TheVariants.{Done, Refused, Io, Usage}
-use Rattle.facet_json_tool.specs.Run.{Grows, Prints}
+use Rattle.facet_json_tool.specs.Run.{Grows, Stops, Prints}
 
 pub appends_nothing : (held : Option (List ℕ)) → Appends held held []
 appends_nothing None = tt
@@ -26,28 +26,18 @@ appends_keeps (Some held) (Some mid) (Some last) xs appends keeps = keeps ∙ ap
 pub grows_both : (a b c : Option (List ℕ)) (xs : List ℕ) → Appends a b xs → Grows b c → Grows a c
 grows_both a b c xs first second = (xs ++ second.0, appends_both a b c xs second.0 first second.1)
 
+-- Printing that stopped behind what was written
+pub stops_behind : (a b c : Option (List ℕ)) (xs : List ℕ) (outcome : Outcome) → Appends a b xs → Stops b c outcome → Stops a c outcome
+stops_behind a b c xs Done first second = second
+stops_behind a b c xs (Refused code span) first second = (second.0, grows_both a b c xs first second.1)
+stops_behind a b c xs Io first second = second
+stops_behind a b c xs Usage first second = second
+
 -- what is printed behind what is written already
 pub prints_behind : {T : Type 0} (a b c : Option (List ℕ)) (xs ys : List ℕ) (result : Result T Outcome) →
     Appends a b xs → Prints b c ys result → Prints a c (xs ++ ys) result
 prints_behind a b c xs ys (Ok done) first second = appends_both a b c xs ys first second
-prints_behind a b c xs ys (Err Done) first second = absurd second
-prints_behind a b c xs ys (Err (Refused code span)) first second = (second.0, grows_both a b c xs first second.1)
-prints_behind a b c xs ys (Err Io) first second = tt
-prints_behind a b c xs ys (Err Usage) first second = absurd second
-
--- where printing stopped in front of the end, any text behind it was to come
-pub stops_within : (T U : Type 0) (a b : Option (List ℕ)) (xs ys : List ℕ) (outcome : Outcome) →
-    Prints {T = T} a b xs (Err outcome) → Prints {T = U} a b ys (Err outcome)
-stops_within T U a b xs ys Done prints = prints
-stops_within T U a b xs ys (Refused code span) prints = prints
-stops_within T U a b xs ys Io prints = prints
-stops_within T U a b xs ys Usage prints = prints
-
--- Printing that stopped behind what was written
-pub stops_behind : (T U : Type 0) (a b c : Option (List ℕ)) (xs ys zs : List ℕ) (outcome : Outcome) →
-    Appends a b xs → Prints {T = T} b c ys (Err outcome) → Prints {T = U} a c zs (Err outcome)
-stops_behind T U a b c xs ys zs outcome first second =
-    stops_within T U a c (xs ++ ys) zs outcome (prints_behind a b c xs ys (Err outcome) first second)
+prints_behind a b c xs ys (Err outcome) first second = stops_behind a b c xs outcome first second
 
 -- A text of which a front is printed, and what is left of it
 pub record IsPrintedUpTo (before now : Option (List ℕ)) (whole left : List ℕ) : Type 0 where

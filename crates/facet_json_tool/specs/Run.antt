@@ -63,13 +63,17 @@ Formats mode input before after Usage = ⊥
 abbrev pub Grows : Option (List ℕ) → Option (List ℕ) → Type 0
 Grows before after = (written : List ℕ) × Appends before after written
 
--- How the printing of a text ends: it is written; or memory was wanted, and at most a front of it is; or a write failed.
+-- How printing stops in front of its end: memory was wanted, and a front is written; or a write failed.
+abbrev pub Stops : Option (List ℕ) → Option (List ℕ) → Outcome → Type 0
+Stops before after Done = ⊥
+Stops before after (Refused code span) = (code ≡ 9) × Grows before after
+Stops before after Io = Unit {0}
+Stops before after Usage = ⊥
+
+-- How the printing of a text ends: it is written, or printing stopped.
 abbrev pub Prints : {T : Type 0} → Option (List ℕ) → Option (List ℕ) → List ℕ → Result T Outcome → Type 0
 Prints before after text (Ok done) = Appends before after text
-Prints before after text (Err Done) = ⊥
-Prints before after text (Err (Refused code span)) = (code ≡ 9) × Grows before after
-Prints before after text (Err Io) = Unit {0}
-Prints before after text (Err Usage) = ⊥
+Prints before after text (Err outcome) = Stops before after outcome
 
 -- `next` for each of these events, and once more
 abbrev pub nexts : List Event → List Call

@@ -14,4 +14,4 @@ loop-event-preserved g c =
 pub returns-in_err-write_event : goal.returns-in_err-write_event
 returns-in_err-write_event g c =
     let p = err_from_is_err_and c.from_residual.result c.from_residual.ensures.1 in
-    rw (p.1, p.2) (stops_behind _ _ _ _ _ _ _ _ _ c.loop-event.invariant.appended c.in_err-write_event.ensures)
+    rw (p.1, p.2) (stops_behind _ _ _ _ _ c.loop-event.invariant.appended c.in_err-write_event.ensures)

@@ -15,7 +15,7 @@ loop-event-preserved g c =
 pub returns-in_err-write_event-in-Ok-Some : goal.returns-in_err-write_event-in-Ok-Some
 returns-in_err-write_event-in-Ok-Some g c =
     let p = err_from_is_err_and c.from_residual.result c.from_residual.ensures.1 in
-    rw (p.1, p.2) (line_stopped _ _ _ _ _ _ _ _ _ c.loop-event.invariant c.in_err-write_event-in-Ok-Some.ensures)
+    rw (p.1, p.2) (line_stopped _ _ _ _ _ _ _ c.loop-event.invariant c.in_err-write_event-in-Ok-Some.ensures)
 
 pub returns-in-Ok-None : goal.returns-in-Ok-None
 returns-in-Ok-None g c =

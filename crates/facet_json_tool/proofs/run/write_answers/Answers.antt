@@ -15,4 +15,4 @@ loop-answer-preserved g c =
 pub returns-in_err-write_answer : goal.returns-in_err-write_answer
 returns-in_err-write_answer g c =
     let p = err_from_is_err_and c.from_residual.result c.from_residual.ensures.1 in
-    rw (p.1, p.2) (stops_behind _ _ _ _ _ _ _ _ _ c.loop-answer.invariant.appended c.in_err-write_answer.ensures)
+    rw (p.1, p.2) (stops_behind _ _ _ _ _ c.loop-answer.invariant.appended c.in_err-write_answer.ensures)
