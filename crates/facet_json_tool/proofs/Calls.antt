@@ -1,12 +1,12 @@
 -- The words of calls: none has a comma, and which call stands in front of a script.
-use Rattle.std.proofs.Common.{◌≡◌, ◌≢◌, ℕ, ◌<◌, ◌≤◌, ◌⊎◌, ◌^◌, List, [], ◌∷◌, ◌++◌, map, length, get_or, drop, slice_index, codes, refl, sym, ap, subst, ◌∙◌, arith, rules, inl, inr, Result, Ok, Err, Option, Some, None, MatchOption, cond}
+use Rattle.std.proofs.Common.{◌≡◌, ◌≢◌, ℕ, ◌<◌, ◌⊎◌, List, [], ◌∷◌, ◌++◌, map, codes, sym, subst, ◌∙◌, arith, rules, inl, inr, Option, Some, None, MatchOption}
 use Rattle.std.proofs.lemmas.List.{map-append, append_assoc}
 use Rattle.std.specs.Char.{digit_value}
 use Rattle.std.specs.Str.Parse.{AllDigits}
 use Rattle.facet_format.specs.Cursor.{Call, next, peek, events, save, restore, span}
 use Rattle.facet_json_core.specs.declared.script.Call.{Call as RustCall}
 use Rattle.facet_json_core.specs.ScriptViews.{call_of}
-use Rattle.facet_json_tool.specs.Script.{comma, IsNumber, IsNumbered, IsWordOf, IsScript, one_word, word_first}
+use Rattle.facet_json_tool.specs.Script.{comma, IsNumbered, IsWordOf, IsScript, one_word, word_first}
 use Rattle.facet_json_tool.proofs.Cuts.{Lacks, one_cut, has_byte, lacks_both}
 
 -- ---- commas
@@ -62,8 +62,8 @@ no_call word n p sa sp numbered span is = sp is
 pub call_or_none : (word : List ℕ) (answer : Option RustCall) → word ≢ codes "next" → word ≢ codes "peek" →
     word ≢ codes "save" → word ≢ codes "span" →
     MatchOption answer
-      ((number : ℕ) → ¬ (IsNumbered (codes "events:") word number ⊎ IsNumbered (codes "restore:") word number))
-      (λ c. IsWordOf (call_of c) word) →
+    ((number : ℕ) → ¬ (IsNumbered (codes "events:") word number ⊎ IsNumbered (codes "restore:") word number))
+    (λ c. IsWordOf (call_of c) word) →
     MatchOption answer ((call : Call) → ¬ IsWordOf call word) (λ c. IsWordOf (call_of c) word)
 call_or_none word None n p sa sp numbered = no_call word n p sa sp numbered
 call_or_none word (Some c) n p sa sp is = is
@@ -77,7 +77,7 @@ pub one_more_call : (script rest word behind : List ℕ) (calls more : List Rust
     (others : List Call) → IsScript behind others → IsScript script (map call_of more ++ others)
 one_more_call script rest word behind calls more call cut added is whole others left =
     rw (added, map-append call_of calls (call ∷ []), append_assoc (map call_of calls) (call_of call ∷ []) others)
-      (whole (call_of call ∷ others) (word_first rest word behind (call_of call) others cut is left))
+    (whole (call_of call ∷ others) (word_first rest word behind (call_of call) others cut is left))
 
 -- The last call was read.
 pub last_call : (script rest : List ℕ) (calls more : List RustCall) (call : RustCall) → more ≡ calls ++ (call ∷ []) →

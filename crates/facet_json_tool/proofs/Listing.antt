@@ -1,10 +1,9 @@
 -- Printing events one by one, as a parser gives them.
-use Rattle.std.proofs.Common.{◌≡◌, ◌≢◌, ◌⊎◌, ℕ, List, [], ◌∷◌, ◌++◌, map, Option, Some, None, Result, Ok, Err, refl, sym, ap, subst, ◌∙◌, inl, inr}
+use Rattle.std.proofs.Common.{◌≡◌, ◌≢◌, ℕ, List, [], ◌∷◌, ◌++◌, map, Option, Some, None, Ok, Err, refl, ap, inl, inr}
 use Rattle.std.specs.List.{flat_map}
 use Rattle.std.specs.Io.KnownBytes.{Appends, Keeps}
 use Rattle.std.proofs.lemmas.List.{append-nil}
 use Rattle.std.proofs.lemmas.Grind.{flat_map-append}
-use Rattle.facet_format.specs.declared.span.Span.{Span}
 use Rattle.facet_format.specs.Event.{Event}
 use Rattle.facet_format.specs.Cursor.{Call, next, Answer, event}
 use Rattle.facet_json_scan.specs.Gap.{Mode}
@@ -14,7 +13,7 @@ use Rattle.facet_json_core.specs.Move.{Moves, MovesAll, no_calls, one_call}
 use Rattle.facet_json_tool.specs.Lines.{event_line}
 use Rattle.facet_json_tool.specs.declared.outcome.Outcome.{Outcome}
 use Rattle.facet_json_tool.specs.declared.outcome.Outcome.TheVariants.{Done, Refused, Io, Usage}
-use Rattle.facet_json_tool.specs.Run.{Grows, Stops, AreListed, AreListedUpTo, Lists}
+use Rattle.facet_json_tool.specs.Run.{Grows, Stops, AreListed, Lists}
 use Rattle.facet_json_tool.proofs.Printing.{appends_nothing, appends_both, appends_keeps, grows_both}
 
 one_more_move : (old mid new : Now) (calls : List Call) (answers : List Answer) (call : Call) (answer : Answer) →
@@ -23,7 +22,7 @@ one_more_move : (old mid new : Now) (calls : List Call) (answers : List Answer) 
 one_more_move _ _ new _ _ call answer (no_calls now) move = one_call now new new call answer [] [] move (no_calls new)
 one_more_move _ _ new _ _ call answer (one_call now between mid first firsts calls answers head rest) move =
     one_call now between new first firsts (calls ++ (call ∷ [])) (answers ++ (answer ∷ [])) head
-      (one_more_move between mid new calls answers call answer rest move)
+    (one_more_move between mid new calls answers call answer rest move)
 
 -- the answers that give these events
 abbrev pub given_out : List Event → List Answer
@@ -58,9 +57,9 @@ pub one_more_event : (mode : Mode) (input : List ℕ) (a b c : Option (List ℕ)
 one_more_event mode input a b c old new e so_far move line = record {
   given = so_far.given ++ (e ∷ []);
   moves = rw (nexts_more so_far.given e, given_more so_far.given e)
-    (one_more_move (fresh input mode) old new _ _ next (event (Ok (Some e))) so_far.moves move);
+      (one_more_move (fresh input mode) old new _ _ next (event (Ok (Some e))) so_far.moves move);
   printed = rw (flat_map-append event_line so_far.given (e ∷ []), append-nil (event_line e))
-    (appends_both a b c (flat_map event_line so_far.given) (event_line e) so_far.printed line);
+      (appends_both a b c (flat_map event_line so_far.given) (event_line e) so_far.printed line);
 }
 
 -- The parser answered something else.

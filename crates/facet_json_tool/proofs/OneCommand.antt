@@ -1,11 +1,11 @@
 -- Arguments ask for one thing at most.
-use Rattle.std.proofs.Common.{◌≡◌, ◌≢◌, ℕ, ◌+◌, ◌*◌, ◌==◌, cond, List, [], ◌∷◌, ◌++◌, length, get_or, drop, codes, refl, sym, ap, subst, ◌∙◌, arith}
+use Rattle.std.proofs.Common.{◌≡◌, ◌≢◌, ℕ, ◌+◌, ◌*◌, ◌==◌, cond, List, [], ◌∷◌, get_or, drop, codes, refl, sym, ap, subst, ◌∙◌, arith}
 use Rattle.std.specs.Str.Parse.{digits_value}
 use Rattle.facet_format.specs.Cursor.{Call, next, peek, events, save, restore, span}
 use Rattle.facet_json_scan.specs.Gap.{Mode}
 use Rattle.facet_json_tool.specs.Script.{comma, IsWordOf, IsScript, one_word, word_first}
 use Rattle.facet_json_tool.specs.Arguments.{Command, fmt, events as list, drive, AreWords, AreArguments, AskFor}
-use Rattle.facet_json_tool.proofs.Cuts.{Lacks, same_tail, one_cut, has_byte}
+use Rattle.facet_json_tool.proofs.Cuts.{same_tail, one_cut, has_byte}
 use Rattle.facet_json_tool.proofs.Calls.{word_lacks}
 use Rattle.facet_json_tool.proofs.Operands.{name_is, one_reading}
 
@@ -76,19 +76,19 @@ drive_once args mode other calls others first second =
 fmt_is_not_events : (args : List (List ℕ)) (mode other : Mode) → AskFor (fmt mode) args → AskFor (list other) args → ⊥
 fmt_is_not_events args mode other first second =
     differ (codes "fmt") (codes "events") (λ e. absurd (omega (arith, e)))
-      (arguments_once args (codes "fmt") (codes "events") mode other [] [] first second).0
+    (arguments_once args (codes "fmt") (codes "events") mode other [] [] first second).0
 
 fmt_is_not_drive : (args : List (List ℕ)) (mode other : Mode) (calls : List Call) → AskFor (fmt mode) args →
     AskFor (drive other calls) args → ⊥
 fmt_is_not_drive args mode other calls first second =
     differ (codes "fmt") (codes "drive") (λ e. absurd (omega (arith, e)))
-      (arguments_once args (codes "fmt") (codes "drive") mode other [] (second.0 ∷ []) first second.1).0
+    (arguments_once args (codes "fmt") (codes "drive") mode other [] (second.0 ∷ []) first second.1).0
 
 events_is_not_drive : (args : List (List ℕ)) (mode other : Mode) (calls : List Call) → AskFor (list mode) args →
     AskFor (drive other calls) args → ⊥
 events_is_not_drive args mode other calls first second =
     differ (codes "events") (codes "drive") (λ e. absurd (omega (arith, e)))
-      (arguments_once args (codes "events") (codes "drive") mode other [] (second.0 ∷ []) first second.1).0
+    (arguments_once args (codes "events") (codes "drive") mode other [] (second.0 ∷ []) first second.1).0
 
 pub one_command : (args : List (List ℕ)) (command other : Command) → AskFor command args → AskFor other args → command ≡ other
 one_command args (fmt mode) (fmt other) first second = ap fmt (fmt_once args mode other first second)

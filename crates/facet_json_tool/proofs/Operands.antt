@@ -1,9 +1,9 @@
 -- The words behind a command: the option once at most, and other words, read from the front.
-use Rattle.std.proofs.Common.{◌≡◌, ◌≢◌, ℕ, zero, suc, ◌<◌, ◌≤◌, List, [], ◌∷◌, ◌++◌, length, get_or, take, drop, codes, String, Global, string_bytes, subst, refl, sym, ap, ◌∙◌, arith}
+use Rattle.std.proofs.Common.{◌≡◌, ◌≢◌, ℕ, zero, suc, ◌<◌, ◌≤◌, List, [], ◌∷◌, ◌++◌, length, get_or, take, drop, codes, String, Global, string_bytes, subst, refl, sym, ap, arith}
 use Rattle.facet_json_scan.specs.Gap.{Mode, plain, jsonc}
 use Rattle.facet_format.specs.Cursor.{Call}
 use Rattle.facet_json_tool.specs.Script.{IsScript}
-use Rattle.facet_json_tool.specs.Arguments.{Command, fmt, events, drive, comments, AreWords, no_words, operand, option, AreArguments, AskFor, AskForNothing}
+use Rattle.facet_json_tool.specs.Arguments.{fmt, events, drive, comments, AreWords, no_words, operand, option, AreArguments, AskForNothing}
 use Rattle.facet_json_tool.specs.Views.{words_of}
 use Rattle.facet_json_tool.proofs.Cuts.{same_tail}
 
@@ -109,7 +109,7 @@ operand_asks_nothing name script rest mode words none (events other) args =
 operand_asks_nothing name script rest mode words none (drive other calls) args =
     let same = operands_are name (codes "drive") rest mode other (script ∷ []) (args.0 ∷ []) words args.1 in
     none (name_is name (codes "drive") rest args.1.0 args.1.1) calls
-      (subst (λ t. IsScript t calls) (sym (name_is script args.0 [] [] same)) args.2)
+    (subst (λ t. IsScript t calls) (sym (name_is script args.0 [] [] same)) args.2)
 
 -- ---- the loop over the arguments: the words so far, one more, and what is left
 

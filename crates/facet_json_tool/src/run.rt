@@ -85,12 +85,7 @@ fn obey<R: Read, W: Write>(
 }
 
 /// Reads all there is, and writes the document in it anew and nothing else.
-fn format<R: Read, W: Write>(
-    alloc: Global,
-    mode: Mode,
-    reader: &mut R,
-    writer: &mut W,
-) -> Outcome
+fn format<R: Read, W: Write>(alloc: Global, mode: Mode, reader: &mut R, writer: &mut W) -> Outcome
     ensures ends { result ≢ outcome.Usage }
     ensures refused { (code : ℕ) (span : Option TheSpan) → result ≡ outcome.Refused code span
         → writer.new ≡ writer.old }

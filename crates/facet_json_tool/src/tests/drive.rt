@@ -87,7 +87,11 @@ fn lists() -> [Case; 9] {
             b"[1,]",
             "SequenceStart 0+1\nU64 1+1 1\nSequenceEnd 3+1\nNone\n",
         ),
-        done("drive next,next", b"[,]", "SequenceStart 0+1\nerror 3 1+1\n"),
+        done(
+            "drive next,next",
+            b"[,]",
+            "SequenceStart 0+1\nerror 3 1+1\n",
+        ),
         done("drive next,next", b"[}", "SequenceStart 0+1\nerror 3 1+1\n"),
         done("drive next,next", b"truex", "Bool 0+4 true\nNone\n"),
         done(
@@ -95,7 +99,11 @@ fn lists() -> [Case; 9] {
             b"[truex]",
             "SequenceStart 0+1\nBool 1+4 true\nerror 1 5+1\n",
         ),
-        done("drive next,next", b"{\"a\"", "StructStart 0+1\nerror 3 4+0\n"),
+        done(
+            "drive next,next",
+            b"{\"a\"",
+            "StructStart 0+1\nerror 3 4+0\n",
+        ),
         done("drive next", b"\xef\xbb\xbf1", "error 1 0+1\n"),
         done(
             "drive --jsonc next,next,next,next",
@@ -108,7 +116,12 @@ fn lists() -> [Case; 9] {
 #[test]
 fn looks_and_goes_back(rt: HostRuntime) -> Result<(), Fail> {
     for case in looks_and_points() {
-        assert!(rt; is_answered(rt.alloc(), &case)?, "{} of {:?}", case.args, case.input);
+        assert!(rt;
+            is_answered(rt.alloc(), &case)?,
+            "{} of {:?}",
+            case.args,
+            case.input
+        );
     }
     Ok(())
 }
@@ -116,7 +129,12 @@ fn looks_and_goes_back(rt: HostRuntime) -> Result<(), Fail> {
 #[test]
 fn prints_values(rt: HostRuntime) -> Result<(), Fail> {
     for case in values() {
-        assert!(rt; is_answered(rt.alloc(), &case)?, "{} of {:?}", case.args, case.input);
+        assert!(rt;
+            is_answered(rt.alloc(), &case)?,
+            "{} of {:?}",
+            case.args,
+            case.input
+        );
     }
     Ok(())
 }
@@ -124,7 +142,12 @@ fn prints_values(rt: HostRuntime) -> Result<(), Fail> {
 #[test]
 fn prints_lists(rt: HostRuntime) -> Result<(), Fail> {
     for case in lists() {
-        assert!(rt; is_answered(rt.alloc(), &case)?, "{} of {:?}", case.args, case.input);
+        assert!(rt;
+            is_answered(rt.alloc(), &case)?,
+            "{} of {:?}",
+            case.args,
+            case.input
+        );
     }
     Ok(())
 }
@@ -132,7 +155,12 @@ fn prints_lists(rt: HostRuntime) -> Result<(), Fail> {
 #[test]
 fn tells_of_each_failed_read(rt: HostRuntime) -> Result<(), Fail> {
     for case in looks_and_points() {
-        assert!(rt; tells_of_each_read(rt.alloc(), &case)?, "{} of {:?}", case.args, case.input);
+        assert!(rt;
+            tells_of_each_read(rt.alloc(), &case)?,
+            "{} of {:?}",
+            case.args,
+            case.input
+        );
     }
     Ok(())
 }
@@ -140,7 +168,12 @@ fn tells_of_each_failed_read(rt: HostRuntime) -> Result<(), Fail> {
 #[test]
 fn tells_of_each_failed_write(rt: HostRuntime) -> Result<(), Fail> {
     for case in looks_and_points() {
-        assert!(rt; tells_of_each_write(rt.alloc(), &case)?, "{} of {:?}", case.args, case.input);
+        assert!(rt;
+            tells_of_each_write(rt.alloc(), &case)?,
+            "{} of {:?}",
+            case.args,
+            case.input
+        );
     }
     Ok(())
 }

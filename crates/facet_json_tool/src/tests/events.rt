@@ -1,6 +1,9 @@
 //! The command `events`.
 
-use super::{Case, done, is_answered, refused, span, tells_of_each_read, tells_of_each_write, tells_of_no_memory};
+use super::{
+    Case, done, is_answered, refused, span, tells_of_each_read, tells_of_each_write,
+    tells_of_no_memory,
+};
 use std::test::Fail;
 
 fn cases() -> [Case; 9] {
@@ -48,7 +51,12 @@ fn cases() -> [Case; 9] {
 #[test]
 fn answers(rt: HostRuntime) -> Result<(), Fail> {
     for case in cases() {
-        assert!(rt; is_answered(rt.alloc(), &case)?, "{} of {:?}", case.args, case.input);
+        assert!(rt;
+            is_answered(rt.alloc(), &case)?,
+            "{} of {:?}",
+            case.args,
+            case.input
+        );
     }
     Ok(())
 }
@@ -56,7 +64,12 @@ fn answers(rt: HostRuntime) -> Result<(), Fail> {
 #[test]
 fn tells_of_each_failed_read(rt: HostRuntime) -> Result<(), Fail> {
     for case in cases() {
-        assert!(rt; tells_of_each_read(rt.alloc(), &case)?, "{} of {:?}", case.args, case.input);
+        assert!(rt;
+            tells_of_each_read(rt.alloc(), &case)?,
+            "{} of {:?}",
+            case.args,
+            case.input
+        );
     }
     Ok(())
 }
@@ -64,7 +77,12 @@ fn tells_of_each_failed_read(rt: HostRuntime) -> Result<(), Fail> {
 #[test]
 fn tells_of_each_failed_write(rt: HostRuntime) -> Result<(), Fail> {
     for case in cases() {
-        assert!(rt; tells_of_each_write(rt.alloc(), &case)?, "{} of {:?}", case.args, case.input);
+        assert!(rt;
+            tells_of_each_write(rt.alloc(), &case)?,
+            "{} of {:?}",
+            case.args,
+            case.input
+        );
     }
     Ok(())
 }

@@ -1,6 +1,9 @@
 //! The command `fmt`.
 
-use super::{Case, done, is_answered, refused, span, tells_of_each_read, tells_of_each_write, tells_of_no_memory};
+use super::{
+    Case, done, is_answered, refused, span, tells_of_each_read, tells_of_each_write,
+    tells_of_no_memory,
+};
 use std::test::Fail;
 
 fn plain() -> [Case; 13] {
@@ -27,7 +30,11 @@ fn plain() -> [Case; 13] {
             b"{\r\n  \"x\": [\r\n    0.0\r\n  ],\r\n  \"y\": [\r\n    5e-05\r\n  ]\r\n}",
             "{\"x\":[0.0],\"y\":[5e-05]}",
         ),
-        done("fmt", b"{\r\n\"y\": [\r\n5e-05\r\n]\r\n}", "{\"y\":[5e-05]}"),
+        done(
+            "fmt",
+            b"{\r\n\"y\": [\r\n5e-05\r\n]\r\n}",
+            "{\"y\":[5e-05]}",
+        ),
         refused("fmt", b"[\"\\ud800\"]", "", 4, span(2, 6)),
         refused("fmt", b"[1e]", "", 1, span(1, 2)),
         refused("fmt", b"", "", 2, span(0, 0)),
@@ -48,7 +55,12 @@ fn with_comments() -> [Case; 3] {
 #[test]
 fn answers(rt: HostRuntime) -> Result<(), Fail> {
     for case in plain() {
-        assert!(rt; is_answered(rt.alloc(), &case)?, "{} of {:?}", case.args, case.input);
+        assert!(rt;
+            is_answered(rt.alloc(), &case)?,
+            "{} of {:?}",
+            case.args,
+            case.input
+        );
     }
     Ok(())
 }
@@ -56,7 +68,12 @@ fn answers(rt: HostRuntime) -> Result<(), Fail> {
 #[test]
 fn answers_with_comments(rt: HostRuntime) -> Result<(), Fail> {
     for case in with_comments() {
-        assert!(rt; is_answered(rt.alloc(), &case)?, "{} of {:?}", case.args, case.input);
+        assert!(rt;
+            is_answered(rt.alloc(), &case)?,
+            "{} of {:?}",
+            case.args,
+            case.input
+        );
     }
     Ok(())
 }
@@ -64,8 +81,18 @@ fn answers_with_comments(rt: HostRuntime) -> Result<(), Fail> {
 #[test]
 fn tells_of_each_failure(rt: HostRuntime) -> Result<(), Fail> {
     for case in plain() {
-        assert!(rt; tells_of_each_read(rt.alloc(), &case)?, "{} of {:?}", case.args, case.input);
-        assert!(rt; tells_of_each_write(rt.alloc(), &case)?, "{} of {:?}", case.args, case.input);
+        assert!(rt;
+            tells_of_each_read(rt.alloc(), &case)?,
+            "{} of {:?}",
+            case.args,
+            case.input
+        );
+        assert!(rt;
+            tells_of_each_write(rt.alloc(), &case)?,
+            "{} of {:?}",
+            case.args,
+            case.input
+        );
     }
     Ok(())
 }
@@ -73,8 +100,18 @@ fn tells_of_each_failure(rt: HostRuntime) -> Result<(), Fail> {
 #[test]
 fn tells_of_each_failure_with_comments(rt: HostRuntime) -> Result<(), Fail> {
     for case in with_comments() {
-        assert!(rt; tells_of_each_read(rt.alloc(), &case)?, "{} of {:?}", case.args, case.input);
-        assert!(rt; tells_of_each_write(rt.alloc(), &case)?, "{} of {:?}", case.args, case.input);
+        assert!(rt;
+            tells_of_each_read(rt.alloc(), &case)?,
+            "{} of {:?}",
+            case.args,
+            case.input
+        );
+        assert!(rt;
+            tells_of_each_write(rt.alloc(), &case)?,
+            "{} of {:?}",
+            case.args,
+            case.input
+        );
     }
     Ok(())
 }

@@ -1,4 +1,4 @@
-use Rattle.std.proofs.Common.{◌≡◌, ◌⊎◌, refl, inl, inr}
+use Rattle.std.proofs.Common.{refl, inl, inr}
 use Rattle.facet_json_tool.proofs.Operands.{bare_asks_nothing, operand_asks_nothing}
 use Rattle.facet_json_tool.proofs.arguments.named.Goals as goal
 
@@ -10,8 +10,8 @@ pub returns-in-Err : goal.returns-in-Err
 returns-in-Err c rest words =
     let read = rw c.in-Some.is at words in
     elim c.in-Err.ensures.refused [
-      inl memory ↦ inl memory
-    | inr wrong ↦ inr (wrong.0, operand_asks_nothing _ c.in-Some.script.now rest _ read (λ name. wrong.1))
+      | inl memory ↦ inl memory
+      | inr wrong ↦ inr (wrong.0, operand_asks_nothing _ c.in-Some.script.now rest _ read (λ name. wrong.1))
     ]
 
 pub returns-in_default-name : goal.returns-in_default-name

@@ -1,4 +1,4 @@
-use Rattle.std.proofs.Common.{◌≡◌, ℕ, suc, List, ◌∷◌, ◌++◌, take, drop, sym, ap, subst, ◌∙◌}
+use Rattle.std.proofs.Common.{suc, ◌∷◌, ◌++◌, take, drop, sym, ap, subst, ◌∙◌}
 use Rattle.facet_json_tool.specs.Arguments.{AreWords, no_words}
 use Rattle.facet_json_tool.specs.Views.{words_of}
 use Rattle.facet_json_tool.proofs.Operands.{words_split}
@@ -15,4 +15,4 @@ returns-in_default c mode operands few all =
     let split = words_split c.args.words.now i c.word-item.result c.loop-word-test.true c.word-item.is in
     let none = rw c.in_default.is at (c.with.ensures front c.loop-word.invariant) in
     none mode operands rest few
-      (subst (AreWords mode operands) (split ∙ ap (λ w. front ++ (w ∷ rest)) (sym c.as_str.ensures.value)) all)
+    (subst (AreWords mode operands) (split ∙ ap (λ w. front ++ (w ∷ rest)) (sym c.as_str.ensures.value)) all)

@@ -1,4 +1,4 @@
-use Rattle.std.proofs.Common.{◌≡◌, map, ap}
+use Rattle.std.proofs.Common.{map, ap}
 use Rattle.std.specs.List.{flat_map}
 use Rattle.std.proofs.lemmas.Result.{err_from_is_err_and}
 use Rattle.facet_format.specs.Views.{event_of}
@@ -9,7 +9,7 @@ use Rattle.facet_json_tool.proofs.lines.write_events.Goals as goal
 pub loop-event-preserved : goal.loop-event-preserved
 loop-event-preserved g c =
     up_to_more _ _ _ _ _ _ _ (ap (λ es. flat_map event_line (map event_of es)) c.in-Some.ensures.items)
-      c.loop-event.invariant c.in_ok-write_event.ensures
+    c.loop-event.invariant c.in_ok-write_event.ensures
 
 pub returns-in_err-write_event : goal.returns-in_err-write_event
 returns-in_err-write_event g c =

@@ -1,4 +1,4 @@
-use Rattle.std.proofs.Common.{◌≡◌, ap, ◌∙◌}
+use Rattle.std.proofs.Common.{ap, ◌∙◌}
 use Rattle.facet_format.specs.Complaint.{code_of}
 use Rattle.facet_json_tool.proofs.run.reformatted.Goals as goal
 

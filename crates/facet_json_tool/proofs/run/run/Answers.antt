@@ -1,7 +1,6 @@
-use Rattle.std.proofs.Common.{◌≡◌, ◌⊎◌, List, Option, IfSome, refl, inl, inr}
+use Rattle.std.proofs.Common.{refl, inl, inr}
 use Rattle.facet_json_tool.specs.Arguments.{fmt, drive}
 use Rattle.facet_json_tool.specs.Views.{words_of, command_view}
-use Rattle.facet_json_tool.specs.Run.{Answers, ForFmt, ForDrive}
 use Rattle.facet_json_tool.proofs.OneCommand.{one_command}
 use Rattle.facet_json_tool.proofs.Unasked.{no_memory_answers, no_memory_only}
 use Rattle.facet_json_tool.proofs.run.run.Goals as goal
@@ -34,20 +33,20 @@ returns-in-Ok-clause-driven g c mode calls asks =
 pub returns-in-Err-clause-answer : goal.returns-in-Err-clause-answer
 returns-in-Err-clause-answer g c command asks =
     elim c.in-Err.ensures.refused [
-      inl memory ↦ no_memory_answers command _ _ _ memory
-    | inr wrong ↦ absurd (wrong.1 command asks)
+      | inl memory ↦ no_memory_answers command _ _ _ memory
+      | inr wrong ↦ absurd (wrong.1 command asks)
     ]
 
 pub returns-in-Err-clause-only : goal.returns-in-Err-clause-only
 returns-in-Err-clause-only g c mode asks =
     elim c.in-Err.ensures.refused [
-      inl memory ↦ no_memory_only mode _ _ memory
-    | inr wrong ↦ absurd (wrong.1 (fmt mode) asks)
+      | inl memory ↦ no_memory_only mode _ _ memory
+      | inr wrong ↦ absurd (wrong.1 (fmt mode) asks)
     ]
 
 pub returns-in-Err-clause-driven : goal.returns-in-Err-clause-driven
 returns-in-Err-clause-driven g c mode calls asks =
     elim c.in-Err.ensures.refused [
-      inl memory ↦ inr (rw memory refl)
-    | inr wrong ↦ absurd (wrong.1 (drive mode calls) asks)
+      | inl memory ↦ inr (rw memory refl)
+      | inr wrong ↦ absurd (wrong.1 (drive mode calls) asks)
     ]

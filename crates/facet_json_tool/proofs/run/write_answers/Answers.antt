@@ -1,4 +1,4 @@
-use Rattle.std.proofs.Common.{◌≡◌, map, ap}
+use Rattle.std.proofs.Common.{map, ap}
 use Rattle.std.specs.List.{flat_map}
 use Rattle.std.proofs.lemmas.Result.{err_from_is_err_and}
 use Rattle.facet_json_core.specs.ScriptViews.{answer_of}
@@ -10,7 +10,7 @@ pub loop-answer-preserved : goal.loop-answer-preserved
 loop-answer-preserved g c =
     let items = rw c.in-Some.is at c.next.ensures.steps in
     up_to_more _ _ _ _ _ _ _ (ap (λ l. flat_map answer_lines (map answer_of l)) items.0)
-      c.loop-answer.invariant c.in_ok-write_answer.ensures
+    c.loop-answer.invariant c.in_ok-write_answer.ensures
 
 pub returns-in_err-write_answer : goal.returns-in_err-write_answer
 returns-in_err-write_answer g c =

@@ -1,4 +1,3 @@
-use Rattle.std.proofs.Common.{◌≡◌, Option, Some, None, MatchOption}
 use Rattle.facet_json_tool.proofs.Calls.{call_or_none}
 use Rattle.facet_json_tool.proofs.script.parse_call.Goals as goal
 

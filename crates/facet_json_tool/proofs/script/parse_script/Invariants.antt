@@ -1,4 +1,4 @@
-use Rattle.std.proofs.Common.{◌≡◌, List, ◌++◌, map, length, IsUtf8}
+use Rattle.std.proofs.Common.{List, ◌++◌, map, length, IsUtf8}
 use Rattle.facet_format.specs.Cursor.{Call}
 use Rattle.facet_json_core.specs.ScriptViews.{call_of}
 use Rattle.facet_json_tool.specs.Script.{IsScript}

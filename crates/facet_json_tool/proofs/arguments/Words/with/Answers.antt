@@ -1,4 +1,4 @@
-use Rattle.std.proofs.Common.{◌≡◌, ◌≢◌, Bool, true, false, sym, ◌∙◌, List, ℕ}
+use Rattle.std.proofs.Common.{◌≢◌, sym, ◌∙◌}
 use Rattle.std.proofs.lemmas.Bool.Decides.{Decides-eqb}
 use Rattle.std.proofs.lemmas.Bool.{true≢false}
 use Rattle.std.proofs.lemmas.Slice.Eq.{slice_eq-Decides}
@@ -19,11 +19,11 @@ returns-in-Jsonc c front words mode operands rest few all =
 pub returns-in-None : goal.returns-in-None
 returns-in-None c front words =
     let other : c.args.word.now ≢ comments = λ same.
-        true≢false (sym ((slice_eq-Decides Decides-eqb c.args.word.now _ c.eq.result c.eq.ensures).1 same) ∙ c.if-eq.false) in
+    true≢false (sym ((slice_eq-Decides Decides-eqb c.args.word.now _ c.eq.result c.eq.ensures).1 same) ∙ c.if-eq.false) in
     one_more_operand _ _ front _ other (rw c.in-None.is at words)
 
 pub returns-in-Some : goal.returns-in-Some
 returns-in-Some c front words mode operands rest few all =
     let other : c.args.word.now ≢ comments = λ same.
-        true≢false (sym ((slice_eq-Decides Decides-eqb c.args.word.now _ c.eq.result c.eq.ensures).1 same) ∙ c.if-eq.false) in
+    true≢false (sym ((slice_eq-Decides Decides-eqb c.args.word.now _ c.eq.result c.eq.ensures).1 same) ∙ c.if-eq.false) in
     no_second_operand mode _ c.in-Some.field-0.now front rest operands _ other few (rw c.in-Some.is at words) all
