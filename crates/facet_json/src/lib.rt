@@ -1,7 +1,6 @@
 //! JSON text (RFC 8259, with lenient readings) to values and back, proved.
 #![tactic(auto)]
 
-mod entry;
 pub mod laws;
 mod materialized;
 mod place;
@@ -12,7 +11,7 @@ mod tree;
 mod writer;
 
 pub use facet_format::{Decimal, DeserializeError, DeserializeErrorKind, ParseError, Span};
-pub use entry::{from_slice, from_slice_jsonc};
+pub use reader::from_slice;
 pub use ser_error::JsonSerializeError;
 pub use tree::Tree;
 pub use writer::to_vec;
