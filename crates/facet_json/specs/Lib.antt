@@ -4,3 +4,5 @@ pub mod Quoted
 pub mod Text
 pub mod Views
 pub mod Laws
+pub mod Told
+pub mod Reading

@@ -2,16 +2,18 @@
 #![tactic(auto)]
 
 pub mod laws;
-mod materialized;
-mod place;
 mod reader;
 pub mod scanner;
 mod ser_error;
 mod tree;
 mod writer;
 
-pub use facet_format::{Decimal, DeserializeError, DeserializeErrorKind, ParseError, Span};
-pub use reader::from_slice;
+pub use facet_format::{
+    ContainerKind, Decimal, DeserializeError, DeserializeErrorKind, FieldKey, FieldLocationHint,
+    FormatParser, ParseError, ParseEvent, ParseEventKind, SavePoint, ScalarValue, Span,
+};
+pub use facet_json_core::JsonParser;
+pub use reader::{from_slice, from_slice_jsonc};
 pub use ser_error::JsonSerializeError;
 pub use tree::Tree;
 pub use writer::to_vec;

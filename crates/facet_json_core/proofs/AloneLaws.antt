@@ -17,10 +17,10 @@ use Rattle.facet_json_core.specs.Future.{gives, stuck, events_before}
 use Rattle.facet_json_core.specs.Now.{Now, fresh, future_of}
 use Rattle.facet_json_core.specs.Move.{Moves, repeats, passes, passes_without_memory, passes_the_end, passes_nothing, MovesAll, no_calls, one_call}
 use Rattle.facet_json_core.specs.Begun.{RefusesBehind}
-use Rattle.facet_json_core.specs.ParserLaws.{GivenAlone}
+use Rattle.facet_json_core.specs.ParserLaws.{GivenAlone, RootComes, document_comes, front_comes}
 use Rattle.facet_json_core.specs.Alone.{AllNext, no_call, one_next, AllRefused, no_answer, one_refused, AnswersAlone, not_asked, one_event, refused, wants_memory}
 use Rattle.facet_json_core.proofs.MoveLaws.{moves-repeats}
-use Rattle.facet_json_core.proofs.BegunLaws.{RootComes, document_comes, front_comes, input-comes}
+use Rattle.facet_json_core.proofs.BegunLaws.{input-comes}
 
 module _ (complains : Token → Refusal → Type 0) where
   -- A refused parser answers its refusal again and again.

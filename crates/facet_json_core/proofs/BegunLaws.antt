@@ -14,14 +14,14 @@ use Rattle.facet_json_core.specs.Document.{IsDocument}
 use Rattle.facet_json_core.specs.Spelled.{count}
 use Rattle.facet_json_core.specs.Place.{Place, root, before_key, after_key, after_colon, before_item, is_colon}
 use Rattle.facet_json_core.specs.Refusal.{needs_meaning}
-use Rattle.facet_json_core.specs.Reading.{TakesValue, at_root, behind_colon, of_list}
 use Rattle.facet_format.specs.Event.{ContainerKind, object, array, Passed}
 use Rattle.facet_format.specs.Event as event
 use Rattle.facet_json_core.specs.Walk.{event_at, key_event, walk}
 use Rattle.facet_json_core.specs.Future.{Future, gives, finished, stuck, events_before, Stage, within, over, after_value, Turn, stops, passes, says, says_scalar, names, turn, reads, reads_colon}
 use Rattle.facet_json_core.specs.Begun.{Begun, nothing, whole, in_list, in_object, ListBegun, begins_item, behind_item, ObjectBegun, no_key, key_alone, begins_member, behind_member, BegunDocument, LongestFront}
 use Rattle.facet_json_core.specs.EventLaws.{IsReadFrom, from_stage, from_key, IsGiven}
-use Rattle.facet_json_core.proofs.Futures.{events_before-append, follows, reads-turn, reads-array, reads-object, reads-item_comma, reads-member_comma, reads-key, reads-names, walk-comes}
+use Rattle.facet_json_core.specs.ParserLaws.{RootComes, document_comes, front_comes, InputComes}
+use Rattle.facet_json_core.proofs.Futures.{TakesValue, at_root, behind_colon, of_list, events_before-append, follows, reads-turn, reads-array, reads-object, reads-item_comma, reads-member_comma, reads-key, reads-names, walk-comes}
 use Rattle.facet_json_core.proofs.Stands.{document-comes}
 use Rattle.facet_json_core.proofs.Outcomes.{IsMeaning, ValueComes, value_stands, value_stops, root-comes}
 
@@ -242,13 +242,6 @@ longest-once m ts events others here there rest left begun e front =
     let shortest = front.longest events (within here) rest begun in
     no_more (count rest) events others more.0 more.2 (omega arith)
 
--- What comes from the root of an input on: the walk of its document, or what the longest front gives.
-pub data RootComes (buffer : List ℕ) (mode : Mode) : Type 0 where
-  document_comes : (node : Node) (value : Tree) → IsDocument buffer mode node value → RootComes buffer mode
-  front_comes : (events : List Passed) (here : Place) (rest : Tokens) →
-      LongestFront (meaning buffer) (tokens buffer mode) events here rest →
-      reads (meaning buffer) [] (within root) (tokens buffer mode) ≡ events_before events (stuck here rest) → RootComes buffer mode
-
 outcome : (buffer : List ℕ) (mode : Mode) → ValueComes (meaning buffer) [] root (tokens buffer mode) → RootComes buffer mode
 outcome buffer mode (value_stands rest node value s t) =
     document_comes node value (record { rest = rest; reads = record { spells = s; has_tree = t } })
@@ -256,7 +249,7 @@ outcome buffer mode (value_stops events here rest b e) =
     front_comes events here rest (stuck-longest (meaning buffer) (tokens buffer mode) events here rest b e) e
 
 -- Each input has a document, or a longest front behind which nothing comes.
-pub input-comes : (buffer : List ℕ) (mode : Mode) → RootComes buffer mode
+pub input-comes : InputComes
 input-comes buffer mode = outcome buffer mode (root-comes (meaning buffer) (is_meaning buffer) (tokens buffer mode))
 
 -- An input at whose root something is stuck has no document.

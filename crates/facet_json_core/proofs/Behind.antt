@@ -11,7 +11,18 @@ use Rattle.facet_json_core.specs.Document.{Reads}
 use Rattle.facet_json_core.specs.Refusal.{PassesItems, PassesMembers}
 use Rattle.facet_json_core.specs.Refusal as fronts
 use Rattle.facet_json_core.proofs.Spelling.{Spells-starts, not_first, one_spelling}
-use Rattle.facet_json_core.specs.Reading.{ReadsItems, ReadsMembers}
+
+-- Items with these trees stand up to the closing bracket.
+pub record ReadsItems (m : Meaning) (ts : Tokens) (values : Trees) (last : Token) (rest : Tokens) : Type 0 where
+  pub nodes : Nodes
+  pub spells : SpellsItems ts nodes last rest
+  pub has_trees : trees_of m nodes ≡ Some values
+
+-- Members with these keys and trees stand up to the closing brace.
+pub record ReadsMembers (m : Meaning) (ts : Tokens) (values : Pairs) (last : Token) (rest : Tokens) : Type 0 where
+  pub members : Members
+  pub spells : SpellsMembers ts members last rest
+  pub has_pairs : pairs_of m members ≡ Some values
 
 -- the first item's tree and the others'
 put_item-some : (a : Option Tree) (b : Option Trees) (all : Trees) → put_item a b ≡ Some all →

@@ -11,11 +11,16 @@ use Rattle.facet_json_core.specs.Tree as tree
 use Rattle.facet_json_core.specs.Meaning.{Meaning, tree_of, trees_of, pairs_of, text_of, put_item, put_pair}
 use Rattle.facet_json_core.specs.Place.{Place, root, before_key, after_key, after_colon, after_member, before_item, after_item, is_colon, goes_on, begins_value}
 use Rattle.facet_json_core.specs.Refusal.{needs_meaning}
-use Rattle.facet_json_core.specs.Reading.{TakesValue, at_root, behind_colon, of_list}
 use Rattle.facet_format.specs.Event.{ContainerKind, object, array, Passed}
 use Rattle.facet_format.specs.Event as event
 use Rattle.facet_json_core.specs.Walk.{event_at, scalar_event, key_event, walk, walk_items, walk_members}
 use Rattle.facet_json_core.specs.Future.{Future, gives, stuck, events_before, within, after_value, Turn, stops, passes, says, says_scalar, names, value_turn, place_turn, is_meaningless, turn, reads, reads_colon}
+
+-- the places where a value may stand
+pub data TakesValue : Place → Type 0 where
+  at_root : TakesValue root
+  behind_colon : TakesValue after_colon
+  of_list : TakesValue before_item
 
 -- Events behind events.
 pub events_before-append : (a b : List Passed) (f : Future) →

@@ -17,7 +17,8 @@ use Rattle.facet_format.specs.Event.{ContainerKind, object, array, Passed}
 use Rattle.facet_json_core.specs.Walk.{key_event}
 use Rattle.facet_json_core.specs.Future.{gives, stuck, events_before, Stage, within, over, after_value, around, Turn, stops, passes, says, says_scalar, names, value_turn, place_turn, unless_meaningless, is_meaningless, turn, reads, reads_colon}
 use Rattle.facet_json_core.proofs.Futures.{follows, reads-turn}
-use Rattle.facet_json_core.proofs.BegunLaws.{RootComes, document_comes, front_comes, input-comes}
+use Rattle.facet_json_core.specs.ParserLaws.{RootComes, document_comes, front_comes}
+use Rattle.facet_json_core.proofs.BegunLaws.{input-comes}
 
 -- The stage is not behind a key.
 abbrev IsNoKey : Stage → Type 0

@@ -57,6 +57,23 @@ pub new-ready : (made : Now) (kept : List (ℕ × Standing)) (n : ℕ) → IsRea
     n ≡ suc made.counter → kept ≡ with_point n made.standing made.kept → IsReady (record made { kept = kept; counter = n })
 new-ready made kept n r less same list = rw (list, same) (kept-ready made r less)
 
+-- ---- the next number
+
+-- No point has a number above the counter.
+above-missing : (bytes counter number : ℕ) (points : List (ℕ × Standing)) → ArePoints bytes counter points → counter < number →
+    found number points ≡ None
+above-missing bytes counter number [] a h = refl
+above-missing bytes counter number (point ∷ points) a h =
+    let less : point.0 ≤ counter = a.1 in
+    let other : point.0 ≢ number = λ e. absurd (omega (arith, less, e, h)) in
+    rw (ne_eqb point.0 number other) (above-missing bytes counter number points a.3 h)
+
+-- No point of a parser has the next number.
+pub number-new : (made now : Now) (n : ℕ) → made ≡ now → IsReady made → n ≡ suc made.counter → found n now.kept ≡ None
+number-new made now n e r next =
+    subst (λ x. found n x.kept ≡ None) e
+    (above-missing (length made.buffer) made.counter n made.kept r.points (omega (arith, next)))
+
 -- ---- one taken out
 
 used_by : (same : Bool) (bytes counter number : ℕ) (point : ℕ × Standing) (points : List (ℕ × Standing)) →

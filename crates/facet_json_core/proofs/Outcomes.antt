@@ -12,14 +12,13 @@ use Rattle.facet_json_core.specs.Meaning.{Meaning, tree_of, trees_of, pairs_of, 
 use Rattle.facet_json_core.specs.Spelled.{count}
 use Rattle.facet_json_core.specs.Place.{Place, root, before_key, after_key, after_colon, after_member, before_item, after_item, is_colon}
 use Rattle.facet_json_core.specs.Refusal.{needs_meaning}
-use Rattle.facet_json_core.specs.Reading.{TakesValue, at_root, behind_colon, of_list}
 use Rattle.facet_format.specs.Event.{ContainerKind, object, array, Passed}
 use Rattle.facet_format.specs.Event as event
 use Rattle.facet_json_core.specs.Walk.{event_at, key_event, walk}
 use Rattle.facet_json_core.specs.Future.{Future, gives, stuck, events_before, within, after_value, stops, names, value_turn, place_turn, is_meaningless, reads, reads_colon}
 use Rattle.facet_json_core.specs.Begun.{Begun, nothing, whole, in_list, in_object, ListBegun, begins_item, behind_item, ObjectBegun, no_key, key_alone, begins_member, behind_member}
 use Rattle.facet_json_core.proofs.Suffixes.{IsSuffix, all, later, Spells-suffix}
-use Rattle.facet_json_core.proofs.Futures.{events_before-append, reads-turn, reads-array, reads-object, reads-item_comma, reads-member_comma, reads-key, walk-comes, turn-sensible, reads-meaningless, reads-stops, reads-ended, reads-refused, colon-ended, colon-refused, colon-missing}
+use Rattle.facet_json_core.proofs.Futures.{TakesValue, at_root, behind_colon, of_list, events_before-append, reads-turn, reads-array, reads-object, reads-item_comma, reads-member_comma, reads-key, walk-comes, turn-sensible, reads-meaningless, reads-stops, reads-ended, reads-refused, colon-ended, colon-refused, colon-missing}
 
 -- ---- meanings
 

@@ -6,13 +6,13 @@ use Rattle.facet_format.specs.declared.event.ParseEvent.{ParseEvent}
 use Rattle.facet_format.specs.Views.{event_of}
 use Rattle.facet_format.specs.Complaint.{Refusal}
 use Rattle.facet_format.specs.Event.{Event}
-use Rattle.facet_format.specs.Cursor.{Call, next, events, restore, Answer, event, batch, spans, no_memory_at}
+use Rattle.facet_format.specs.Cursor.{Call, next, events, save, restore, Answer, event, batch, spans}
 use Rattle.facet_format.specs.Kept.{without}
 use Rattle.facet_format.specs.Span.{Span}
 use Rattle.facet_json_scan.specs.Gap.{Mode}
 use Rattle.facet_json_core.specs.Refusal.{Complains, of_number, of_plain_string, of_escaped_string}
 use Rattle.facet_json_core.specs.Now.{Standing, Now, first_standing, is_peeked, future_of, span_of, ahead, SameInput, GoesOn}
-use Rattle.facet_json_core.specs.Move.{Moves, with_refusal}
+use Rattle.facet_json_core.specs.Move.{Moves}
 use Rattle.facet_json_core.specs.Move as moves
 use Rattle.facet_json_core.specs.Fill.{FillsParser, repeats, fills, refuses}
 use Rattle.facet_json_core.specs.Sound.{NowSound, AnswerWithin}
@@ -32,11 +32,11 @@ complains-within t r (of_escaped_string start finish complaint bytes k c between
 -- ---- what a parser shows and keeps
 
 -- A move leaves it sound.
-pub moved-sound : (old new : Now) {call : Call} {answer : Answer} → NowSound old → Moves Complains old call answer new → NowSound new
+moved-sound : (old new : Now) {call : Call} {answer : Answer} → NowSound old → Moves Complains old call answer new → NowSound new
 moved-sound old new good move = (moves-sound Complains complains-within old good move).parser
 
 -- So does the reading of the next event.
-pub filled-sound : (old new : Now) {refusal : Option Refusal} → NowSound old → FillsParser old refusal new → NowSound new
+filled-sound : (old new : Now) {refusal : Option Refusal} → NowSound old → FillsParser old refusal new → NowSound new
 filled-sound old new good (repeats r e) = good
 filled-sound old _ good (fills t none f) =
     let same = fills-same old.buffer old.mode old.standing t f in
@@ -46,14 +46,6 @@ filled-sound old _ good (fills t none f) =
       refusal = good.refusal;
     }
 filled-sound old _ good (refuses r t none f) = moved-sound old _ good (next-refused old _ r (refuses r t none f))
-
--- So does the want of memory.
-pub grown-sound : (old : Now) → NowSound old → NowSound (with_refusal old old.standing (no_memory_at (span_of old.standing)))
-grown-sound old good = record {
-  standing = good.standing;
-  kept = good.kept;
-  refusal = span-within old.buffer old.mode old.standing good.standing;
-}
 
 -- ---- what holds of every parser
 
@@ -93,23 +85,31 @@ pub same-input : (old new : Now) {call : Call} {answer : Answer} → Moves Compl
 same-input old new move =
     let same = moves-input Complains old new move in record { buffer = same.0; mode = same.1 }
 
+-- No call but a restore goes back.
+onward : (old new : Now) {call : Call} {answer : Answer} → NowSound old → ((point : ℕ) → call ≡ restore point → ⊥) →
+    Moves Complains old call answer new → ahead new ≤ ahead old
+onward old new good other move =
+    omega (arith, ap length (moves-input Complains old new move).0, moves-onward Complains complains-within old good move other)
+
+-- A save doesn't.
+pub save-onward : (old new : Now) {answer : Answer} → NowSound old → Moves Complains old save answer new → ahead new ≤ ahead old
+save-onward old new good move = onward old new good (λ point e. cc) move
+
 restores-none : (call : Call) (point : ℕ) → leaves_points call ≡ true → call ≡ restore point → ⊥
 restores-none call point e f = cc
 
--- A call that leaves the points goes on.
+-- A call that leaves the points leaves the input and doesn't go back.
 pub goes-on : (old new : Now) {call : Call} {answer : Answer} → NowSound old → leaves_points call ≡ true →
     Moves Complains old call answer new → GoesOn old new
 goes-on old new {call = call} good leaves move =
-    let same = same-input old new move in
     let points = moves-points Complains old new move leaves in
-    let onward = moves-onward Complains complains-within old good move (λ point e. restores-none call point leaves e) in
     record {
-      input = same;
+      input = same-input old new move;
       points = record { kept = points.0; counter = points.1 };
-      onward = omega (arith, ap length same.buffer, onward);
+      onward = onward old new good (λ point e. restores-none call point leaves e) move;
     }
 
--- So does the current span.
+-- The current span lies within the input.
 pub told-within : (made now : Now) (s : Span) → made ≡ now → NowSound made → s ≡ span_of made.standing →
     AnswerWithin now.buffer (spans (Some s))
 told-within made now s e good same = rw (sym e, same) (span-within made.buffer made.mode made.standing good.standing)

@@ -1,5 +1,5 @@
 -- Points on every input: a point that was saved stays what it is until it is restored, and its restore brings back where the parser stood.
-use Rattle.std.proofs.Common.{◌≡◌, ◌≢◌, ℕ, suc, ◌≤◌, List, Some, None, refl, sym, ap, ◌∙◌, arith}
+use Rattle.std.proofs.Common.{◌≡◌, ◌≢◌, ℕ, suc, ◌≤◌, List, Some, None, refl, sym, ap, subst, ◌∙◌, arith}
 use Rattle.std.specs.Prelude.{Result, Ok, Err, MatchResult}
 use Rattle.facet_json_scan.specs.Gap.{Mode}
 use Rattle.facet_json_scan.specs.Token.{Token}
@@ -51,14 +51,15 @@ module _ (complains : Token → Refusal → Type 0) where
       all-keep point s others more (moves-keep now point s other move kept)
 
   -- A point that a save answered keeps where the parser stood.
-  pub saved-kept : (now new : Now) (point : ℕ) (answer : Answer) → AreUpTo now.counter now.kept → answer ≡ saved (Ok point) →
+  saved-kept : (now new : Now) (point : ℕ) (answer : Answer) → found point now.kept ≡ None → answer ≡ saved (Ok point) →
       Moves complains now save answer new → IsKept new point now.standing
-  saved-kept now new point answer up a move =
+  saved-kept now new point answer none a move =
       let known = moves-saved complains now new point answer a move in
       let new_is = known.2 in
       let number_is = known.1 in
+      let free : found (suc now.counter) now.kept ≡ None = subst (λ n. found n now.kept ≡ None) number_is none in
       let fits : found (suc now.counter) (with_point (suc now.counter) now.standing now.kept) ≡ Some now.standing =
-      found-new (suc now.counter) now.standing now.kept (up (suc now.counter) (omega arith)) in
+      found-new (suc now.counter) now.standing now.kept free in
       rw (new_is, number_is) (record { there = fits; numbered = omega arith })
 
   -- So they are by all calls.
@@ -92,14 +93,14 @@ module _ (complains : Token → Refusal → Type 0) where
 
   -- Behind a save that answered a point and calls that don't restore it, its restore goes back to where the parser stood.
   pub saved-back : (at_save behind before new : Now) (point : ℕ) (told answer : Answer) {calls : List Call} {answers : List Answer} →
-      AreUpTo at_save.counter at_save.kept → told ≡ saved (Ok point) → Moves complains at_save save told behind →
+      found point at_save.kept ≡ None → told ≡ saved (Ok point) → Moves complains at_save save told behind →
       NeverRestored point calls → MovesAll complains behind calls answers before → Moves complains before (restore point) answer new →
       IsBack at_save before new point
-  saved-back at_save behind before new point told answer up t saving never between restoring =
+  saved-back at_save behind before new point told answer none t saving never between restoring =
       let first = moves-input complains at_save behind saving in
       let others = all-input between in
       restored-back at_save before new point answer (record { buffer = others.buffer ∙ first.0; mode = others.mode ∙ first.1 })
-      (all-keep point at_save.standing never between (saved-kept at_save behind point told up t saving)) restoring
+      (all-keep point at_save.standing never between (saved-kept at_save behind point told none t saving)) restoring
 
   -- A save of a parser that is not refused is numbered, or there is a reason.
   pub moves-numbered : (now new : Now) (result : Result ℕ Refusal) (answer : Answer) → answer ≡ saved result → now.refusal ≡ None →
@@ -115,12 +116,7 @@ module _ (complains : Token → Refusal → Type 0) where
   moves-numbered now new (Err r) answer a free (saves_without_memory none h) =
       let same : r ≡ no_memory_at (span_of now.standing) = cc in rw same (no_memory h, refl)
 
--- So it is of a new parser, behind whatever calls.
-pub restore-brings_back : (complains : Token → Refusal → Type 0) (buffer : List ℕ) (mode : Mode) (at_save behind before new : Now)
-    (point : ℕ) (answer : Answer) {first calls : List Call} {these those : List Answer} →
-    MovesAll complains (fresh buffer mode) first these at_save → Moves complains at_save save (saved (Ok point)) behind →
-    NeverRestored point calls → MovesAll complains behind calls those before → Moves complains before (restore point) answer new →
-    IsBack at_save before new point
-restore-brings_back complains buffer mode at_save behind before new point answer start saving never between restoring =
-    saved-back complains at_save behind before new point _ answer (all-up_to complains start (fresh-up_to buffer mode)) refl saving never between
-    restoring
+-- Behind whatever calls of a new parser no point has the next number.
+pub numbers-new : (complains : Token → Refusal → Type 0) (buffer : List ℕ) (mode : Mode) (now : Now) {calls : List Call}
+    {answers : List Answer} → MovesAll complains (fresh buffer mode) calls answers now → found (suc now.counter) now.kept ≡ None
+numbers-new complains buffer mode now all = all-up_to complains all (fresh-up_to buffer mode) (suc now.counter) (omega arith)

@@ -13,9 +13,8 @@ use Rattle.facet_json_core.specs.Refusal.{Begins, nothing, in_item, behind_item,
 use Rattle.facet_json_core.specs.Refusal as fronts
 use Rattle.facet_json_core.specs.Laws.{RefusedHasNone}
 use Rattle.facet_json_core.proofs.Spelling.{scalar_begins}
-use Rattle.facet_json_core.specs.Reading.{ReadsItems, ReadsMembers}
 use Rattle.facet_json_core.proofs.Behind as behind
-use Rattle.facet_json_core.proofs.Behind.{BehindItem, at_comma, at_bracket, BehindMember, at_brace, ItemsStand, no_more, first_item, items_stand, MembersStand, first_member, members_stand}
+use Rattle.facet_json_core.proofs.Behind.{ReadsItems, ReadsMembers, BehindItem, at_comma, at_bracket, BehindMember, at_brace, ItemsStand, no_more, first_item, items_stand, MembersStand, first_member, members_stand}
 
 -- At the place the tokens go on with a token that may stand there and that has a meaning where it needs one.
 pub record GoesOn (m : Meaning) (place : Place) (ts : Tokens) : Type 0 where

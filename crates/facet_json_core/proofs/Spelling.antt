@@ -112,7 +112,7 @@ pub one_spelling : OneSpelling
 one_spelling ts r s a b p q = node_once p q refl
 
 -- Tokens are read as one tree at most.
-pub one_reading : (m : Meaning) (ts r s : Tokens) (a b : Node) (v w : Tree) → Reads m ts a v r → Reads m ts b w s →
+one_reading : (m : Meaning) (ts r s : Tokens) (a b : Node) (v w : Tree) → Reads m ts a v r → Reads m ts b w s →
     (a ≡ b) × (v ≡ w)
 one_reading m ts r s a b v w p q =
     let nodes = (one_spelling ts r s a b p.spells q.spells).0 in

@@ -10,7 +10,6 @@ use Rattle.facet_json_core.specs.Meaning.{meaning}
 use Rattle.facet_json_core.specs.Document.{IsDocument}
 use Rattle.facet_json_core.specs.Place.{Place}
 use Rattle.facet_json_core.specs.Place as place
-use Rattle.facet_json_core.specs.Reading.{at_root}
 use Rattle.facet_format.specs.Event.{Event, Passed}
 use Rattle.facet_json_core.specs.Walk.{walk}
 use Rattle.facet_format.specs.Kept.{found, without, with_point}
@@ -18,7 +17,7 @@ use Rattle.facet_format.specs.Cursor.{Spot, start, last_of, seen, current_span}
 use Rattle.facet_json_core.specs.Future.{Future, gives, finished, stuck, events_before, within, reads}
 use Rattle.facet_json_core.specs.Now.{Standing, Now, fresh, held_before, is_shown, last_shown, span_of, StandsOn, KeptAlike, none_kept, one_kept, StandsAt}
 use Rattle.facet_json_core.specs.Move.{Shows, IsAlike, Passes, no_events, one_event}
-use Rattle.facet_json_core.proofs.Futures.{walk-comes}
+use Rattle.facet_json_core.proofs.Futures.{at_root, walk-comes}
 
 -- ---- at the front
 

@@ -1,15 +1,11 @@
--- What stands behind a value or a front is a suffix of the tokens, and every token and fault of a buffer's tokens is within it.
-use Rattle.std.proofs.Common.{ℕ, zero, suc, ◌+◌, ◌-◌, ◌≤◌, List, [], ◌∷◌, length, drop, IfSome, arith, length-drop}
+-- What stands behind a value is a suffix of the tokens, and every token and fault of a buffer's tokens is within it.
+use Rattle.std.proofs.Common.{ℕ, zero, suc, ◌+◌, ◌-◌, ◌≤◌, List, [], ◌∷◌, length, arith}
 use Rattle.facet_json_scan.specs.Gap.{Mode}
 use Rattle.facet_format.specs.Span.{Span, stop}
 use Rattle.facet_json_scan.specs.Token.{Token, Fault}
 use Rattle.facet_json_scan.specs.Cut.{Cut, nothing_left, token, fault, cut}
-use Rattle.facet_json_scan.specs.Tokens.{Tokens, ended, refused, next, tokens_past, tokens}
+use Rattle.facet_json_scan.specs.Tokens.{Tokens, ended, refused, next, tokens_past}
 use Rattle.facet_json_core.specs.Node.{Node, Nodes, Members, Spells, one_token, brackets, braces, SpellsItems, closed, item_and_comma, last_item, SpellsMembers, ended_members, member_and_comma, last_member}
-use Rattle.facet_json_core.specs.Meaning.{Meaning}
-use Rattle.facet_json_core.specs.Place.{Place}
-use Rattle.facet_format.specs.Complaint.{Refusal}
-use Rattle.facet_json_core.specs.Refusal.{PassesItems, no_items, one_item, PassesMembers, no_members, one_member, Begins, nothing, in_item, behind_item, behind_members, behind_key, in_member, behind_member, IsStuck, at_end, at_fault, meaningless, misplaced, Complains, of_number, of_plain_string, of_escaped_string, Refuses}
 use Rattle.facet_json_scan.proofs.CutBounds.{CutFits, cut-fits}
 
 -- ---- suffixes
@@ -44,28 +40,6 @@ mutual
       later key _ rest (later mark ts rest (IsSuffix-trans ts others rest (behind separator ts others (Spells-suffix ts node _ s)) (members-suffix others members last rest more)))
   members-suffix _ _ _ _ (last_member ts rest key mark node last n c s k) = later key _ rest (later mark ts rest (behind last ts rest (Spells-suffix ts node _ s)))
 
-module _ (m : Meaning) where
-  PassesItems-suffix : (ts rest : Tokens) → PassesItems m ts rest → IsSuffix ts rest
-  PassesItems-suffix _ _ (no_items ts) = all ts
-  PassesItems-suffix _ _ (one_item ts others rest node value separator s t e p) = IsSuffix-trans ts others rest (behind separator ts others (Spells-suffix ts node _ s)) (PassesItems-suffix others rest p)
-
-  PassesMembers-suffix : (ts rest : Tokens) → PassesMembers m ts rest → IsSuffix ts rest
-  PassesMembers-suffix _ _ (no_members ts) = all ts
-  PassesMembers-suffix _ _ (one_member ts others rest key mark name node value separator k n c s t e p) =
-      later key _ rest (later mark ts rest (IsSuffix-trans ts others rest (behind separator ts others (Spells-suffix ts node _ s)) (PassesMembers-suffix others rest p)))
-
-  -- What a front leads to is a suffix.
-  pub Begins-suffix : (p : Place) (ts : Tokens) (here : Place) (rest : Tokens) → Begins m p ts here rest → IsSuffix ts rest
-  Begins-suffix _ _ _ _ (nothing p ts) = all ts
-  Begins-suffix _ _ _ _ (in_item p here first inner ts rest k h b) = later first inner rest (IsSuffix-trans inner ts rest (PassesItems-suffix inner ts h) (Begins-suffix _ ts here rest b))
-  Begins-suffix _ _ _ _ (behind_item p first inner ts rest node value k h s t) = later first inner rest (IsSuffix-trans inner ts rest (PassesItems-suffix inner ts h) (Spells-suffix ts node rest s))
-  Begins-suffix _ _ _ _ (behind_members p first inner rest k h) = later first inner rest (PassesMembers-suffix inner rest h)
-  Begins-suffix _ _ _ _ (behind_key p first key name inner rest k h n v) = later first inner rest (behind key inner rest (PassesMembers-suffix inner _ h))
-  Begins-suffix _ _ _ _ (in_member p here first key mark name inner ts rest k h n v c b) =
-      later first inner rest (IsSuffix-trans inner ts rest (behind mark inner ts (behind key inner _ (PassesMembers-suffix inner _ h))) (Begins-suffix _ ts here rest b))
-  Begins-suffix _ _ _ _ (behind_member p first key mark name inner ts rest node value k h n v c s t) =
-      later first inner rest (IsSuffix-trans inner ts rest (behind mark inner ts (behind key inner _ (PassesMembers-suffix inner _ h))) (Spells-suffix ts node rest s))
-
 -- ---- spans
 
 -- The span is within the buffer.
@@ -77,10 +51,6 @@ pub data AreWithin (buffer : List ℕ) : Tokens → Type 0 where
   at_the_end : AreWithin buffer ended
   at_a_fault : (f : Fault) → IsWithin buffer f.span → AreWithin buffer (refused f)
   at_a_token : (t : Token) (ts : Tokens) → IsWithin buffer t.span → AreWithin buffer ts → AreWithin buffer (next t ts)
-
-pub AreWithin-suffix : (buffer : List ℕ) (ts rest : Tokens) → IsSuffix ts rest → AreWithin buffer ts → AreWithin buffer rest
-AreWithin-suffix buffer ts rest (all _) w = w
-AreWithin-suffix buffer _ rest (later t ts _ p) (at_a_token _ _ s w) = AreWithin-suffix buffer ts rest p w
 
 -- What is cut at a place of the buffer, with the tokens behind it.
 cut_within : (buffer : List ℕ) (position : ℕ) (c : Cut) (others : Token → Tokens) → CutFits buffer position c → ((t : Token) → AreWithin buffer (others t))
@@ -96,27 +66,3 @@ past_within buffer mode inside at [] h = at_the_end
 past_within buffer mode (suc inside) at (b ∷ left) h = past_within buffer mode inside (suc at) left (omega arith)
 past_within buffer mode zero at (b ∷ left) h =
     cut_within buffer at (cut buffer at mode) (λ t. tokens_past buffer mode (stop t.span - suc at) (suc at) left) (cut-fits buffer at mode (omega arith)) (λ t. past_within buffer mode (stop t.span - suc at) (suc at) left (omega arith))
-
--- All tokens of a buffer are within it.
-pub tokens_within : (buffer : List ℕ) (mode : Mode) → AreWithin buffer (tokens buffer mode)
-tokens_within buffer mode = past_within buffer mode 0 0 (drop 0 buffer) (omega (arith, length-drop 0 buffer))
-
--- ---- refusals
-
--- What is complained of is within the token.
-complains_within : (buffer : List ℕ) (t : Token) (r : Refusal) → Complains t r → IsWithin buffer t.span → IfSome r.span (λ s. stop s ≤ length buffer)
-complains_within buffer t r (of_number k e) w = rw e w.within
-complains_within buffer t r (of_plain_string start finish k e) w = rw e w.within
-complains_within buffer t r (of_escaped_string start finish complaint bytes k is between e) w = rw e (omega (arith, between.1, w.within))
-
--- Where the reader is stuck, the span that it complains of is within the buffer.
-stuck_within : (buffer : List ℕ) (m : Meaning) (p : Place) (ts : Tokens) (r : Refusal) → IsStuck buffer m Complains p ts r → AreWithin buffer ts → IfSome r.span (λ s. stop s ≤ length buffer)
-stuck_within buffer m p _ _ (at_end _) w = omega arith
-stuck_within buffer m p _ _ (at_fault _ f) (at_a_fault _ s) = s.within
-stuck_within buffer m p _ r (meaningless _ t rest _ k n c) (at_a_token _ _ s w) = complains_within buffer t r c s
-stuck_within buffer m p _ _ (misplaced _ t rest k n) (at_a_token _ _ s w) = s.within
-
--- The span of a refusal is within the input.
-pub refused_within : (buffer : List ℕ) (mode : Mode) (r : Refusal) → Refuses buffer mode r → IfSome r.span (λ s. stop s ≤ length buffer)
-refused_within buffer mode r h =
-    stuck_within buffer _ h.here h.rest r h.stuck (AreWithin-suffix buffer _ h.rest (Begins-suffix _ _ _ h.here h.rest h.begins) (tokens_within buffer mode))

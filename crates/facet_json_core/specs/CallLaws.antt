@@ -75,14 +75,18 @@ pub record IsBack (at_save before new : Now) (point : ℕ) : Type 0 where
   pub used_up : found point new.kept ≡ None
   pub others : (other : ℕ) → other ≢ point → found other new.kept ≡ found other before.kept
 
--- Whatever calls a new parser answered: behind a save that answers a point, and any calls that don't restore the point, its restore
--- brings the parser back.
+-- Behind a save that answers a point under a number that no other has, and any calls that don't restore the point, its restore brings
+-- the parser back.
 abbrev pub RestoreBringsBack : Type 0
-RestoreBringsBack = (buffer : List ℕ) (mode : Mode) (first calls : List Call) (these those : List Answer)
-    (at_save behind before new : Now) (point : ℕ) (answer : Answer) →
-    MovesAll Complains (fresh buffer mode) first these at_save → Moves Complains at_save save (saved (Ok point)) behind →
-    NeverRestored point calls → MovesAll Complains behind calls those before → Moves Complains before (restore point) answer new →
+RestoreBringsBack = (at_save behind before new : Now) (point : ℕ) (calls : List Call) (answers : List Answer) (answer : Answer) →
+    found point at_save.kept ≡ None → Moves Complains at_save save (saved (Ok point)) behind → NeverRestored point calls →
+    MovesAll Complains behind calls answers before → Moves Complains before (restore point) answer new →
     IsBack at_save before new point
+
+-- Whatever calls a new parser answered, no point has the next number.
+abbrev pub NumbersAreNew : Type 0
+NumbersAreNew = (buffer : List ℕ) (mode : Mode) (now : Now) (calls : List Call) (answers : List Answer) →
+    MovesAll Complains (fresh buffer mode) calls answers now → found (suc now.counter) now.kept ≡ None
 
 -- A restore of a point that is not kept changes nothing.
 abbrev pub UnknownChangesNothing : Type 0

@@ -5,7 +5,6 @@ pub mod Document
 pub mod Spelled
 pub mod Place
 pub mod Refusal
-pub mod Reading
 pub mod Laws
 pub mod Walk
 pub mod Future

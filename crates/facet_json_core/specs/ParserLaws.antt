@@ -1,5 +1,5 @@
--- Laws of parsers: where a new one stands, and what reading by the next event alone answers where there is no document.
-use Rattle.std.specs.Prelude.{ℕ, List}
+-- Laws of parsers: where a new one stands, what comes from there, and what reading by the next event alone answers where there is no document.
+use Rattle.std.specs.Prelude.{◌≡◌, ℕ, List, []}
 use Rattle.facet_json_scan.specs.Gap.{Mode}
 use Rattle.facet_json_scan.specs.Token.{Token}
 use Rattle.facet_json_scan.specs.Tokens.{Tokens, tokens}
@@ -10,9 +10,10 @@ use Rattle.facet_json_core.specs.Node.{Node}
 use Rattle.facet_json_core.specs.Tree.{Tree}
 use Rattle.facet_json_core.specs.Meaning.{meaning}
 use Rattle.facet_json_core.specs.Document.{IsDocument}
-use Rattle.facet_json_core.specs.Place.{Place}
-use Rattle.facet_json_core.specs.Refusal.{Complains}
+use Rattle.facet_json_core.specs.Place.{Place, root}
+use Rattle.facet_json_core.specs.Refusal.{Complains, Refuses}
 use Rattle.facet_json_core.specs.Walk.{walk}
+use Rattle.facet_json_core.specs.Future.{stuck, events_before, within, reads}
 use Rattle.facet_json_core.specs.Now.{Now, fresh, StandsAt}
 use Rattle.facet_json_core.specs.Move.{MovesAll}
 use Rattle.facet_json_core.specs.Begun.{LongestFront, RefusesBehind}
@@ -20,8 +21,24 @@ use Rattle.facet_json_core.specs.Alone.{AllNext, AnswersAlone}
 
 -- A new parser of an input with a document stands where the cursor starts on the document's walk.
 abbrev pub NewStands : Type 0
-NewStands = (buffer : List ℕ) (mode : Mode) (root : Node) (value : Tree) → IsDocument buffer mode root value →
-    StandsAt (fresh buffer mode) (walk (meaning buffer) root) start
+NewStands = (buffer : List ℕ) (mode : Mode) (node : Node) (value : Tree) → IsDocument buffer mode node value →
+    StandsAt (fresh buffer mode) (walk (meaning buffer) node) start
+
+-- What comes from the root of an input on: the walk of its document, or what the longest front gives, behind which nothing goes on.
+pub data RootComes (buffer : List ℕ) (mode : Mode) : Type 0 where
+  document_comes : (node : Node) (value : Tree) → IsDocument buffer mode node value → RootComes buffer mode
+  front_comes : (events : List Passed) (here : Place) (rest : Tokens) →
+      LongestFront (meaning buffer) (tokens buffer mode) events here rest →
+      reads (meaning buffer) [] (within root) (tokens buffer mode) ≡ events_before events (stuck here rest) → RootComes buffer mode
+
+-- Each input has a document, or a longest front behind which nothing comes.
+abbrev pub InputComes : Type 0
+InputComes = (buffer : List ℕ) (mode : Mode) → RootComes buffer mode
+
+-- What is refused behind the longest front of an input is a refusal of that input.
+abbrev pub BehindIsRefused : Type 0
+BehindIsRefused = (buffer : List ℕ) (mode : Mode) (events : List Passed) (refusal : Refusal) →
+    RefusesBehind buffer mode Complains events refusal → Refuses buffer mode refusal
 
 -- What a new parser answers by the next event alone, where there is no document.
 pub record GivenAlone (buffer : List ℕ) (mode : Mode) (complains : Token → Refusal → Type 0) (answers : List Answer) : Type 0 where

@@ -8,7 +8,7 @@ ghost use Rattle.facet_format.specs.Cursor.{next, peek, events, save, restore, r
 ghost use Rattle.facet_format.specs.Standing.{IsStep};
 ghost use Rattle.facet_format.specs.Views.{event_of, parse_refusal, answer_of_event, answer_of_events, answer_of_save, answer_of_span};
 ghost use Rattle.facet_json_core.specs.Refusal.{Complains};
-ghost use Rattle.facet_format.specs.Kept.{without};
+ghost use Rattle.facet_format.specs.Kept.{found, without};
 ghost use Rattle.facet_json_core.specs.Now.{fresh, span_of, ahead, SameInput, GoesOn, StandsAt};
 ghost use Rattle.facet_json_core.specs.Move.{Moves, with_standing, with_refusal, with_kept};
 ghost use Rattle.facet_json_core.specs.Sound.{NowSound, AnswerWithin};
@@ -73,7 +73,7 @@ impl<'de> JsonParser<'de> {
         requires utf8 { IsUtf8 input.now }
         ensures { result ≡ fresh input.now plain }
     {
-        JsonParser::in_mode(alloc, input, Mode::Plain)
+        JsonParser::new(alloc, input)
     }
 
     /// A parser of a document with comments, over an input that is UTF-8. It answers as the one that checks its strings.
@@ -81,7 +81,7 @@ impl<'de> JsonParser<'de> {
         requires utf8 { IsUtf8 input.now }
         ensures { result ≡ fresh input.now jsonc }
     {
-        JsonParser::in_mode(alloc, input, Mode::Jsonc)
+        JsonParser::new_jsonc(alloc, input)
     }
 
     /// A parser in front of the input.
@@ -200,7 +200,10 @@ impl<'de> JsonParser<'de> {
     pub fn save(&mut self) -> Result<SavePoint, ParseError>
         ensures moves { Moves Complains self.old save (answer_of_save result) self.new }
         ensures within { AnswerWithin self.new.buffer (answer_of_save result) }
+        ensures input { SameInput self.old self.new }
+        ensures onward { ahead self.new ≤ ahead self.old }
         ensures point { IfOk result (λ p. (p.0 ≡ suc self.old.counter) × (self.new ≡ with_kept self.old)) }
+        ensures own_number { IfOk result (λ p. found p.0 self.old.kept ≡ None) }
         ensures unchanged { IfErr result (λ _. self.new ≡ self.old) }
     {
         if let Some(refused) = self.refusal {

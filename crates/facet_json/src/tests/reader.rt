@@ -1,6 +1,8 @@
-//! Trees and refusals of small inputs.
+//! Trees and refusals of small inputs, in both modes.
 
-use crate::{Decimal, DeserializeError, DeserializeErrorKind, Span, Tree, from_slice};
+use crate::{
+    Decimal, DeserializeError, DeserializeErrorKind, Span, Tree, from_slice, from_slice_jsonc,
+};
 use std::alloc::{AllocError, Global};
 use std::process::Abort;
 use std::test::Fail;
@@ -70,11 +72,42 @@ fn not_utf8(offset: usize, len: usize) -> DeserializeError<'static> {
     refused(DeserializeErrorKind::InvalidUtf8, offset, len)
 }
 
-fn expect_refusal(rt: &impl Abort, alloc: Global, input: &[u8], want: DeserializeError<'_>) {
-    match from_slice(alloc, input) {
+/// The input is refused so.
+fn expect_error(
+    rt: &impl Abort,
+    input: &[u8],
+    got: Result<Tree, DeserializeError<'_>>,
+    want: DeserializeError<'_>,
+) {
+    match got {
         Ok(tree) => assert!(rt; false, "{input:?} is read as {tree:?}"),
         Err(error) => assert_eq!(rt; error, want, "{input:?}"),
     }
+}
+
+/// The input is refused so in both modes.
+fn expect_refusal(rt: &impl Abort, alloc: Global, input: &[u8], want: DeserializeError<'_>) {
+    expect_error(rt, input, from_slice(alloc, input), want);
+    expect_error(rt, input, from_slice_jsonc(alloc, input), want);
+}
+
+/// The input is read so.
+fn expect_tree(
+    rt: &impl Abort,
+    input: &[u8],
+    got: Result<Tree, DeserializeError<'_>>,
+    want: &Tree,
+) {
+    match got {
+        Ok(tree) => assert!(rt; tree == *want, "{input:?} is read as {tree:?}"),
+        Err(error) => assert!(rt; false, "{input:?} is refused: {error:?}"),
+    }
+}
+
+/// The input is read so in both modes.
+fn expect_value(rt: &impl Abort, alloc: Global, input: &[u8], want: &Tree) {
+    expect_tree(rt, input, from_slice(alloc, input), want);
+    expect_tree(rt, input, from_slice_jsonc(alloc, input), want);
 }
 
 #[test]
@@ -99,14 +132,9 @@ fn scalars_are_read(rt: HostRuntime) -> Result<(), Fail> {
         ("[]", Tree::List(Vec::new(alloc))),
         (" { } ", Tree::Pairs(Vec::new(alloc))),
     ] {
-        assert_eq!(rt; from_slice(alloc, input.as_bytes()), Ok(want), "{input}");
+        expect_value(&rt, alloc, input.as_bytes(), &want);
     }
     Ok(())
-}
-
-/// A number is read as the text of its digits.
-fn is_text(alloc: Global, input: &str, digits: &str) -> Result<bool, AllocError> {
-    Ok(from_slice(alloc, input.as_bytes()) == Ok(text(alloc, digits)?))
 }
 
 #[test]
@@ -118,13 +146,13 @@ fn numbers_past_64_bits_are_texts(rt: HostRuntime) -> Result<(), Fail> {
         "-9223372036854775809",
         "-170141183460469231731687303715884105728",
     ] {
-        assert!(rt; is_text(alloc, digits, digits)?, "{digits}");
+        expect_value(&rt, alloc, digits.as_bytes(), &text(alloc, digits)?);
     }
     for (input, digits) in [
         ("00018446744073709551616", "18446744073709551616"),
         ("-009223372036854775809", "-9223372036854775809"),
     ] {
-        assert!(rt; is_text(alloc, input, digits)?, "{input}");
+        expect_value(&rt, alloc, input.as_bytes(), &text(alloc, digits)?);
     }
     Ok(())
 }
@@ -133,9 +161,12 @@ fn numbers_past_64_bits_are_texts(rt: HostRuntime) -> Result<(), Fail> {
 fn decimals_are_read(rt: HostRuntime) -> Result<(), Fail> {
     let alloc = rt.alloc();
     for number in ["1.", "-.5", "1.e5", "5e-05", "-0.0", "007.50", "1E+3"] {
-        let want = Decimal::new(number).map(Tree::Decimal);
-        assert!(rt; want.is_some(), "{number}");
-        assert_eq!(rt; from_slice(alloc, number.as_bytes()).ok(), want, "{number}");
+        match Decimal::new(number) {
+            Some(decimal) => {
+                expect_value(&rt, alloc, number.as_bytes(), &Tree::Decimal(decimal));
+            }
+            None => assert!(rt; false, "{number}"),
+        }
     }
     Ok(())
 }
@@ -153,8 +184,7 @@ fn texts_are_read(rt: HostRuntime) -> Result<(), Fail> {
         ("\"\\uD83D\\uDE00\"", "😀"),
         ("\"é\\u00e9é\"", "ééé"),
     ] {
-        let got = from_slice(alloc, input.as_bytes());
-        assert_eq!(rt; got, Ok(text(alloc, want)?), "{input}");
+        expect_value(&rt, alloc, input.as_bytes(), &text(alloc, want)?);
     }
     Ok(())
 }
@@ -166,8 +196,8 @@ fn keys_are_decoded(rt: HostRuntime) -> Result<(), Fail> {
         member(alloc, "aq", Tree::I64(-1))?,
         member(alloc, "aq", Tree::Null)?,
     ]?;
-    let got = from_slice(alloc, b"{\"\\u0061\\q\":-1,\"aq\":null}");
-    assert_eq!(rt; got, Ok(Tree::Pairs(members)));
+    let input = b"{\"\\u0061\\q\":-1,\"aq\":null}".as_slice();
+    expect_value(&rt, alloc, input, &Tree::Pairs(members));
     Ok(())
 }
 
@@ -188,7 +218,7 @@ fn containers_are_read(rt: HostRuntime) -> Result<(), Fail> {
         (" [\"é\", 007 , true ] x", Tree::List(mixed)),
         ("{\"a\":1,\"a\":2}", Tree::Pairs(same_keys)),
     ] {
-        assert_eq!(rt; from_slice(alloc, input.as_bytes()), Ok(want), "{input}");
+        expect_value(&rt, alloc, input.as_bytes(), &want);
     }
     Ok(())
 }
@@ -319,7 +349,6 @@ fn no_token_stands(rt: HostRuntime) {
     for (input, want) in [
         (".5", unexpected('.', 0)),
         ("[1, x", unexpected('x', 4)),
-        ("/**/1", unexpected('/', 0)),
         ("\u{feff}1", unexpected('\u{ef}', 0)),
         ("\"", ended_inside("in string", 0, 1)),
         ("tru", ended_inside("in literal", 0, 3)),
@@ -329,6 +358,39 @@ fn no_token_stands(rt: HostRuntime) {
         ("trux", unexpected('x', 3)),
     ] {
         expect_refusal(&rt, alloc, input.as_bytes(), want);
+    }
+}
+
+#[test]
+fn comments_are_read_in_jsonc_alone(rt: HostRuntime) -> Result<(), Fail> {
+    let alloc = rt.alloc();
+    for input in ["/*a*/[1,//b\n2]//c", "//\n[1/**/,2 , /*]*/ ]", "[1,2] /"] {
+        let numbers = Tree::List(vec![in alloc; Tree::U64(1), Tree::U64(2)]?);
+        let bytes = input.as_bytes();
+        expect_tree(&rt, bytes, from_slice_jsonc(alloc, bytes), &numbers);
+    }
+    for (input, offset) in [("/*a*/[1,//b\n2]//c", 0), ("/**/1", 0), ("[1,//\n2]", 3)] {
+        let bytes = input.as_bytes();
+        expect_error(
+            &rt,
+            bytes,
+            from_slice(alloc, bytes),
+            unexpected('/', offset),
+        );
+    }
+    Ok(())
+}
+
+#[test]
+fn comments_are_cut(rt: HostRuntime) {
+    let alloc = rt.alloc();
+    for (input, want) in [
+        ("/*1", ended_inside("in block comment", 0, 3)),
+        ("//1", ended("value", 3)),
+        ("[/**/ /", unexpected('/', 6)),
+    ] {
+        let bytes = input.as_bytes();
+        expect_error(&rt, bytes, from_slice_jsonc(alloc, bytes), want);
     }
 }
 

@@ -1,11 +1,21 @@
 //! Laws about parsers: what the calls' contracts say of a new one, and of calls behind one another.
 
-ghost use Rattle.facet_json_core.specs.ParserLaws.{NewStands, AloneIsGiven};
-ghost use Rattle.facet_json_core.specs.CallLaws.{PeekIsNext, RefusalRepeats, SaveIsNumbered, RestoreBringsBack, UnknownChangesNothing, EndsInTime};
+ghost use Rattle.facet_json_core.specs.ParserLaws.{NewStands, InputComes, BehindIsRefused, AloneIsGiven};
+ghost use Rattle.facet_json_core.specs.CallLaws.{PeekIsNext, RefusalRepeats, SaveIsNumbered, RestoreBringsBack, NumbersAreNew, UnknownChangesNothing, EndsInTime};
 
 /// A new parser of an input with a document stands at the start of the document's walk.
 pub fn new_stands()
     ensures { NewStands }
+{}
+
+/// From the root of an input on comes the walk of its document, or what its longest front gives, behind which nothing goes on.
+pub fn input_comes()
+    ensures { InputComes }
+{}
+
+/// What is refused behind the longest front of an input is a refusal of that input.
+pub fn behind_is_refused()
+    ensures { BehindIsRefused }
 {}
 
 /// Where an input has no document, a new parser that is asked for the next event alone answers what the longest front
@@ -32,9 +42,14 @@ pub fn save_is_numbered()
 {}
 
 /// On every input the restore of a point brings back where the parser stood at its save, whatever other calls were
-/// between. The point is used up, and other points stay.
+/// between. The point is used up, and other points stay. (That no other point has its number the save's contract says.)
 pub fn restore_brings_back()
     ensures { RestoreBringsBack }
+{}
+
+/// Whatever calls a new parser answered, no point has the next number.
+pub fn numbers_are_new()
+    ensures { NumbersAreNew }
 {}
 
 /// The restore of a point that isn't kept changes nothing.

@@ -1,7 +1,8 @@
+use Rattle.std.proofs.Common.{refl}
 use Rattle.facet_json_core.specs.Refusal.{Complains}
-use Rattle.facet_json_core.proofs.PointLaws.{restore-brings_back}
+use Rattle.facet_json_core.proofs.PointLaws.{saved-back}
 use Rattle.facet_json_core.proofs.laws.parsers.restore_brings_back.Goals as goal
 
 pub returns : goal.returns
-returns c = λ buffer mode first calls these those at_save behind before new point answer start saving never between restoring.
-    restore-brings_back Complains buffer mode at_save behind before new point answer start saving never between restoring
+returns c = λ at_save behind before new point calls answers answer none saving never between restoring.
+    saved-back Complains at_save behind before new point _ answer none refl saving never between restoring
