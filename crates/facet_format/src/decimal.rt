@@ -1,6 +1,6 @@
 //! Numbers that are kept as their text: those with a fraction or an exponent.
 
-ghost use Rattle.std.specs.Prelude.{◌≡◌, ◌≤◌, true, Some, None, length, MatchOption, MatchResult, nat_eq};
+ghost use Rattle.std.specs.Prelude.{◌≡◌, ◌≤◌, true, false, Some, None, length, MatchOption, MatchResult, nat_eq};
 ghost use Rattle.std.specs.List.{list_any};
 ghost use Rattle.std.specs.Cmp.{partial_equiv_from_equiv, on_per, on_equiv};
 ghost use Rattle.std.specs.Cmp.Lexicographic.{pointwise, nat_list_eq_equiv};
@@ -100,9 +100,10 @@ impl<'a> Decimal<'a> {
         }
     }
 
-    /// The same text in memory of its own, or the value back where there is no memory for it.
+    /// The same text in memory of its own, or the value back where there is no memory for it: only a borrowed one takes any.
     pub fn into_owned(self, alloc: Global) -> Result<Decimal<'static>, Decimal<'a>>
-        ensures { MatchResult result (λ d. d ≡ owned (bytes_of self.entry)) (λ d. d ≡ self.entry) }
+        ensures { MatchResult result (λ d. d ≡ owned (bytes_of self.entry))
+            (λ d. (d ≡ self.entry) × (is_owned self.entry ≡ false)) }
     {
         match self.0 {
             CowStr::Owned(text) => Ok(Decimal(CowStr::Owned(text))),

@@ -34,7 +34,7 @@ impl Parts {
         requires { parts_len (parts_of self) < 2 ^ 64 }
         ensures { result ≡ parts_len (parts_of self) }
     {
-        self.sign + self.digits + self.fraction + self.exponent
+        self.exponent_start() + self.exponent
     }
 
     /// Where the exponent starts, or would start.

@@ -10,21 +10,28 @@ use Rattle.facet_json_scan.specs.declared.token.SpannedToken.{SpannedToken}
 use Rattle.facet_json_scan.specs.declared.token.ScanErrorKind.{ScanErrorKind}
 use Rattle.facet_json_scan.specs.declared.token.ScanErrorKind.TheVariants as scan
 use Rattle.facet_json_scan.specs.declared.token.ScanError.{ScanError}
-use Rattle.facet_format.specs.Span.{stop, span_at}
+use Rattle.facet_format.specs.Span.{Span, stop, span_at}
 use Rattle.facet_json_scan.specs.Gap.{Mode}
 use Rattle.facet_json_scan.specs.Cut.{Cut, nothing_left, token, fault, cut_here}
 use Rattle.facet_json_scan.specs.Open.{IsBeginning}
+use Rattle.facet_json_scan.specs.Token.{Kind, string, number, Token}
 use Rattle.facet_json_scan.specs.Scanner.{ended, answer_for}
-use Rattle.facet_json_scan.specs.Views.{scanned, token_answer as token_scanned, fault_answer as fault_scanned, answered, token_answered, fault_answered, span_answered, FoundHere}
+use Rattle.facet_json_scan.specs.Views.{scanned, token_answer as token_scanned, fault_answer as fault_scanned, answered, token_answered, fault_answered, span_answered, NamesWithin, IndicesWithin, FoundHere}
 use Rattle.facet_format.specs.Views.{span_of}
 use Rattle.facet_json_scan.specs.declared.scanner.token.Found.TheVariants as found
-use Rattle.facet_json_scan.proofs.CutBounds.{CutFits, here_fits}
+use Rattle.facet_json_scan.proofs.CutBounds.{KindFits, TokenFits, CutFits, here_fits}
 use Rattle.facet_json_scan.proofs.FirstBytes.{cut_here-something}
 
--- A token or a fault is cut, which ends within the first `last` bytes.
+-- The indices of a kind stand in order within the first `last` bytes.
+abbrev pub KindWithin : ℕ → Kind → Type 0
+KindWithin last (string start finish has_escapes) = (start ≤ finish) × (finish ≤ last)
+KindWithin last (number start finish hint) = (start ≤ finish) × (finish ≤ last)
+KindWithin last _ = Unit {0}
+
+-- A token or a fault is cut, which ends within the first `last` bytes, and so do the token's indices.
 abbrev pub EndsWithin : ℕ → Cut → Type 0
 EndsWithin last nothing_left = ⊥
-EndsWithin last (token t) = stop t.span ≤ last
+EndsWithin last (token t) = (stop t.span ≤ last) × KindWithin last t.kind
 EndsWithin last (fault f) = stop f.span ≤ last
 
 -- A token that is cut is answered.
@@ -52,7 +59,8 @@ abbrev Ends : ℕ → Option Cut → Type 0
 Ends last None = ⊥
 Ends last (Some c) = EndsWithin last c
 
-token-ends : (s : RustSpan) (t : RustToken) (last : ℕ) → Ends last (token_scanned s t) → stop (span_of s) ≤ last
+token-ends : (s : RustSpan) (t : RustToken) (last : ℕ) → Ends last (token_scanned s t) →
+    (stop (span_of s) ≤ last) × NamesWithin last t
 token-ends s code.Eof last h = absurd h
 token-ends s (code.NeedMore consumed) last h = absurd h
 token-ends s t last h = h
@@ -62,27 +70,39 @@ fault-ends s (scan.UnexpectedChar ch) last h = h
 fault-ends s (scan.UnexpectedEof text) last h = h
 fault-ends s scan.InvalidUtf8 last h = absurd h
 
-answer-ends : (r : Result SpannedToken ScanError) (last : ℕ) → Ends last (scanned r) → stop (span_answered r) ≤ last
+answer-ends : (r : Result SpannedToken ScanError) (last : ℕ) → Ends last (scanned r) →
+    (stop (span_answered r) ≤ last) × IndicesWithin last r
 answer-ends (Ok t) last h = token-ends t.span t.token last h
-answer-ends (Err f) last h = fault-ends f.span f.kind last h
+answer-ends (Err f) last h = (fault-ends f.span f.kind last h, tt)
 
--- Its span ends where what is cut ends.
+-- Its span ends where what is cut ends, and its indices stand within.
 pub answered-ends : (r : Result SpannedToken ScanError) (c : Cut) (last : ℕ) → scanned r ≡ Some c → EndsWithin last c →
-    stop (span_answered r) ≤ last
+    (stop (span_answered r) ≤ last) × IndicesWithin last r
 answered-ends r c last e h = answer-ends r last (subst (Ends last) (sym e) h)
+
+-- The indices of a kind that says the truth of the buffer stand in it.
+kind-within : (buffer : List ℕ) (s : Span) (k : Kind) → KindFits buffer s k → s.offset ≤ stop s →
+    stop s ≤ length buffer → KindWithin (length buffer) k
+kind-within buffer s (string start finish has_escapes) h order room = (h.ordered, omega (arith, h.within))
+kind-within buffer s (number start finish hint) h order room =
+    (omega (arith, h.starts, h.finishes), omega (arith, h.finishes))
+kind-within buffer s _ h order room = tt
+
+-- What fits ends within.
+pub fits-within : (buffer : List ℕ) (p : ℕ) (c : Cut) → CutFits buffer p c → c ≢ nothing_left →
+    EndsWithin (length buffer) c
+fits-within buffer p nothing_left h some = absurd (some refl)
+fits-within buffer p (token t) h some =
+    (h.within, kind-within buffer t.span t.kind h.kind_fits (omega (arith, h.some)) h.within)
+fits-within buffer p (fault f) h some = h.within
 
 -- What is cut where a byte stands ends within the buffer.
 pub cut_here-ends : (mode : Mode) (buffer : List ℕ) (at b : ℕ) → slice_get buffer at ≡ Some b →
     EndsWithin (length buffer) (cut_here mode at (drop at buffer))
 cut_here-ends mode buffer at b here =
     let room = slice_get_within buffer at b here in
-    ends _ (here_fits mode buffer (drop at buffer) at refl (omega (arith, length-drop at buffer)))
+    fits-within buffer at _ (here_fits mode buffer (drop at buffer) at refl (omega (arith, length-drop at buffer)))
     (cut_here-something mode buffer at b here)
-  where
-    ends : (c : Cut) → CutFits buffer at c → c ≢ nothing_left → EndsWithin (length buffer) c
-    ends nothing_left h some = absurd (some refl)
-    ends (token t) h some = h.within
-    ends (fault f) h some = h.within
 
 -- What is found where no gap is in front: what is cut there, and nothing longer begins.
 pub found-here : (mode : Mode) (buffer : List ℕ) (start : ℕ) (r : Result SpannedToken ScanError) (c : Cut) →
@@ -104,16 +124,17 @@ answered-cut_or_end (Ok t) c last e end = token-or_end t.span t.token c last e e
 answered-cut_or_end (Err f) c last e end = fault-answered f.span f.kind c last e
 
 token-end_within : (s : RustSpan) (t : RustToken) (c : Cut) (last : ℕ) → token_scanned s t ≡ Some c →
-    (t ≡ code.Eof → span_of s ≡ span_at last 0) → (c ≢ nothing_left → EndsWithin last c) → stop (span_of s) ≤ last
-token-end_within s code.Eof c last e end h = omega (arith, ap stop (end refl))
+    (t ≡ code.Eof → span_of s ≡ span_at last 0) → (c ≢ nothing_left → EndsWithin last c) →
+    (stop (span_of s) ≤ last) × NamesWithin last t
+token-end_within s code.Eof c last e end h = (omega (arith, ap stop (end refl)), tt)
 token-end_within s (code.NeedMore consumed) c last e end h = cc
 token-end_within s t c last e end h =
     token-ends s t last (subst (Ends last) (sym e) (h (λ n. let same = e ∙ ap Some n in cc)))
 
--- Its span ends where what is cut ends, or at the end.
+-- Its span ends where what is cut ends, or at the end, and its indices stand within.
 pub answered-end_within : (r : Result SpannedToken ScanError) (c : Cut) (last : ℕ) → scanned r ≡ Some c →
     IfOk r (λ t. t.token ≡ code.Eof → span_of t.span ≡ span_at last 0) → (c ≢ nothing_left → EndsWithin last c) →
-    stop (span_answered r) ≤ last
+    (stop (span_answered r) ≤ last) × IndicesWithin last r
 answered-end_within (Ok t) c last e end h = token-end_within t.span t.token c last e end h
 answered-end_within (Err f) c last e end h =
     answer-ends (Err f) last (subst (Ends last) (sym e) (h (λ n. fault-some f.span f.kind (e ∙ ap Some n))))
@@ -122,10 +143,3 @@ answered-end_within (Err f) c last e end h =
     fault-some s (scan.UnexpectedChar ch) e = cc
     fault-some s (scan.UnexpectedEof text) e = cc
     fault-some s scan.InvalidUtf8 e = cc
-
--- What fits ends within.
-pub fits-within : (buffer : List ℕ) (p : ℕ) (c : Cut) → CutFits buffer p c → c ≢ nothing_left →
-    EndsWithin (length buffer) c
-fits-within buffer p nothing_left h some = absurd (some refl)
-fits-within buffer p (token t) h some = h.within
-fits-within buffer p (fault f) h some = h.within

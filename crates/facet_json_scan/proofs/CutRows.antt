@@ -1,7 +1,7 @@
 -- Single inputs with what is cut of them, their tokens, and whether more bytes may change what is cut, by computation.
 -- In the texts of this file a backslash or a quote stands behind a backslash of its own.
 use Rattle.std.proofs.Common.{◌≡◌, ◌≢◌, ℕ, true, false, List, [], ◌∷◌, ◌++◌, refl, codes}
-use Rattle.facet_format.specs.Bytes.{slash, dot, line_feed}
+use Rattle.facet_format.specs.Bytes.{slash, star, left_bracket, right_bracket, dot, line_feed}
 use Rattle.facet_json_scan.specs.Gap.{Mode, plain, jsonc, gap_len_from, OpensBlock, OpensLine}
 use Rattle.facet_format.specs.Number.{unsigned, signed, float, parts}
 use Rattle.facet_json_scan.specs.Token.{Kind, Token, object_start, object_end, array_start, array_end, colon, comma, null, true_literal, string, number, unexpected_char, unexpected_eof, in_string, in_number, in_literal, in_block_comment}
@@ -209,6 +209,12 @@ comment_tokens_row : tokens (codes "[1, /*c*/ 2]") jsonc ≡
     next (token_of (number 10 11 unsigned) 10 1) (next (token_of array_end 11 1) ended))))
 unfolding cut cut_here start_of parts gap_len_from tokens_past
 comment_tokens_row = refl
+
+-- A comment may hold a byte that is no UTF-8.
+comment_byte_tokens_row : tokens (left_bracket ∷ slash ∷ star ∷ 0xff ∷ star ∷ slash ∷ 0x31 ∷ right_bracket ∷ []) jsonc ≡
+    next (token_of array_start 0 1) (next (token_of (number 6 7 unsigned) 6 1) (next (token_of array_end 7 1) ended))
+unfolding cut cut_here start_of parts gap_len_from tokens_past
+comment_byte_tokens_row = refl
 
 -- ---- where more bytes may change what is cut
 

@@ -128,6 +128,10 @@ row_accent : decoded (encode_utf8_all (codes "é")) ≡ Some (encode_utf8_all (c
 unfolding decoded_past piece_at escape_at unit_at code_unit short_escape utf8_at encode_utf8
 row_accent = refl
 
+row_emoji : decoded (encode_utf8_all (codes "😀🎉")) ≡ Some (encode_utf8_all (codes "😀🎉"))
+unfolding decoded_past piece_at escape_at unit_at code_unit short_escape utf8_at encode_utf8
+row_emoji = refl
+
 row_chinese_bytes : decoded (encode_utf8_all (codes "中文")) ≡ Some (0xe4 ∷ 0xb8 ∷ 0xad ∷ 0xe6 ∷ 0x96 ∷ 0x87 ∷ [])
 unfolding decoded_past piece_at escape_at unit_at code_unit short_escape utf8_at encode_utf8
 row_chinese_bytes = refl

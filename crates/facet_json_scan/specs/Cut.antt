@@ -1,7 +1,7 @@
 -- What is cut off at a position: the gap there, and then a token or a fault (RFC 8259, section 2).
 use Rattle.std.specs.Prelude.{◌≡◌, ℕ, suc, ◌+◌, Bool, true, false, cond, ◌==◌, List, [], ◌∷◌, ◌++◌, length, take, drop, Option, Some, None, codes, slice_get}
 use Rattle.std.specs.List.{list_any}
-use Rattle.facet_format.specs.Bytes.{quote, backslash, slash, star, left_brace, right_brace, left_bracket, right_bracket, is_digit, minus}
+use Rattle.facet_format.specs.Bytes.{quote, backslash, slash, star, left_brace, right_brace, left_bracket, right_bracket, lower_f, lower_n, lower_t, is_digit, minus}
 use Rattle.facet_format.specs.Bytes as bytes
 use Rattle.facet_json_scan.specs.Gap.{Mode, plain, jsonc, whole, gap_len, one_more}
 use Rattle.facet_format.specs.Number.{Hint, IsNumber, parts, parts_len, parts_hint, is_bare, starts_number}
@@ -68,8 +68,8 @@ start_of b =
     cond (b == left_brace) (punctuation object_start) (cond (b == right_brace) (punctuation object_end)
     (cond (b == left_bracket) (punctuation array_start) (cond (b == right_bracket) (punctuation array_end)
     (cond (b == bytes.colon) (punctuation colon) (cond (b == bytes.comma) (punctuation comma)
-    (cond (b == quote) opens_text (cond (b == 0x6e) (letter (codes "null") null)
-    (cond (b == 0x74) (letter (codes "true") true_literal) (cond (b == 0x66) (letter (codes "false") false_literal)
+    (cond (b == quote) opens_text (cond (b == lower_n) (letter (codes "null") null)
+    (cond (b == lower_t) (letter (codes "true") true_literal) (cond (b == lower_f) (letter (codes "false") false_literal)
     (cond (starts_number b) opens_number (cond (b == slash) opens_comment opens_nothing)))))))))))
 
 abbrev pub token_at : Kind → ℕ → ℕ → Cut

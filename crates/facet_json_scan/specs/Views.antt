@@ -187,6 +187,18 @@ abbrev pub span_answered : Result SpannedToken ScanError → Span
 span_answered (Ok t) = span_of t.span
 span_answered (Err e) = span_of e.span
 
+-- The indices that a token names stand in order within the first `last` bytes.
+abbrev pub NamesWithin : ℕ → RustToken → Type 0
+NamesWithin last (code.String start finish has_escapes) = (start ≤ finish) × (finish ≤ last)
+NamesWithin last (code.Number start finish h) = (start ≤ finish) × (finish ≤ last)
+NamesWithin last (code.NeedMore consumed) = consumed ≤ last
+NamesWithin last _ = Unit {0}
+
+-- So do those of an answer.
+abbrev pub IndicesWithin : ℕ → Result SpannedToken ScanError → Type 0
+IndicesWithin last (Ok t) = NamesWithin last t.token
+IndicesWithin last (Err e) = Unit {0}
+
 -- where a scanner stands after this answer about what starts at `start`
 abbrev pub stands_behind : ℕ → Result SpannedToken ScanError → ℕ
 stands_behind start (Ok t) = t.span.offset + t.span.len
@@ -229,5 +241,5 @@ FoundFrom mode buffer p (found.Open at s) = (at ≡ past_growing_gap buffer p mo
 
 -- What is found stands within the first `last` bytes.
 abbrev pub FoundWithin : ℕ → Found → Type 0
-FoundWithin last (found.Answer at result) = (at ≤ last) × (stop (span_answered result) ≤ last)
+FoundWithin last (found.Answer at result) = (at ≤ last) × (stop (span_answered result) ≤ last) × IndicesWithin last result
 FoundWithin last (found.Open at s) = at < last

@@ -8,6 +8,7 @@ ghost use Rattle.facet_format.specs.Number.{parts, parts_len, parts_hint, is_bar
 ghost use Rattle.facet_json_scan.specs.Token.{Kind};
 ghost use Rattle.facet_json_scan.specs.Token as spec_token;
 ghost use Rattle.facet_json_scan.specs.Cut.{past_gap, cut_here, fault_at, content_len};
+ghost use Rattle.facet_format.specs.Bytes.{slash};
 ghost use Rattle.facet_format.specs.Span.{span_at};
 ghost use Rattle.facet_json_scan.specs.Cut as spec_cut;
 ghost use Rattle.facet_json_scan.specs.Views.{mode_of, kind_of, scanned};
@@ -77,7 +78,7 @@ fn piece_len(buffer: &[u8], at: usize, mode: Mode) -> usize
 
 /// The length of the closed comment at `at`, 0 where there is none. The end of the input closes a line comment too.
 fn comment_len(buffer: &[u8], at: usize) -> usize
-    requires { slice_get buffer.now at ≡ Some 0x2f }
+    requires { slice_get buffer.now at ≡ Some slash }
     ensures len { result ≡ spec_gap.comment_len whole (drop at buffer.now) }
     ensures within { at + result ≤ length buffer.now }
 {
@@ -272,7 +273,7 @@ pub(crate) fn cut_bare_minus(buffer: &[u8], at: usize) -> ScanResult
 
 /// The fault of a slash at `at` that opens no closed comment.
 fn cut_slash(buffer: &[u8], at: usize, mode: Mode) -> ScanResult
-    requires { slice_get buffer.now at ≡ Some 0x2f }
+    requires { slice_get buffer.now at ≡ Some slash }
     ensures { scanned result ≡ Some (spec_cut.cut_slash (mode_of mode) at (drop (at + 1) buffer.now)) }
 {
     match (mode, buffer.get(at + 1)) {

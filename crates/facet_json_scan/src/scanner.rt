@@ -1,13 +1,13 @@
 //! The scanner over a buffer that grows: a string, number or comment that the buffer's end cuts is gone on with, and not
 //! read again.
 
-ghost use Rattle.std.specs.Prelude.{◌≡◌, ℕ, ◌-◌, ◌<◌, ◌≤◌, length, take, drop, Some, IfSome};
+ghost use Rattle.std.specs.Prelude.{◌≡◌, ℕ, ◌-◌, ◌<◌, ◌≤◌, length, take, drop, Some, IfSome, IfErr};
 ghost use Rattle.facet_json_scan.specs.Gap.{plain, jsonc};
 ghost use Rattle.facet_format.specs.Span.{stop, span_at};
 ghost use Rattle.facet_json_scan.specs.Cut as spec_cut;
-ghost use Rattle.facet_json_scan.specs.Scanner.{answer_for, idle, scanner_at, first_of, first_byte_of, stands_at_end, Describes, GoesOnFrom, Gives};
+ghost use Rattle.facet_json_scan.specs.Scanner.{answer_for, idle, nothing_pending, scanner_at, first_of, first_byte_of, stands_at_end, Describes, GoesOnFrom, Gives};
 ghost use Rattle.facet_json_scan.specs.Scanner as spec_scanner;
-ghost use Rattle.facet_json_scan.specs.Views.{mode_of, state_of, pending_of, answered, span_answered, stands_behind, stands_last, FoundFrom, FoundWithin, PieceHere, PieceWithin};
+ghost use Rattle.facet_json_scan.specs.Views.{mode_of, state_of, pending_of, answered, span_answered, IndicesWithin, stands_behind, stands_last, FoundFrom, FoundWithin, PieceHere, PieceWithin};
 
 mod gap;
 mod pending;
@@ -58,31 +58,30 @@ impl Scanner {
     pub fn new() -> Scanner
         ensures { result ≡ idle 0 plain }
     {
-        Scanner {
-            position: 0,
-            mode: Mode::Plain,
-            pending: None,
-        }
+        Scanner::idle_at(0, Mode::Plain)
     }
 
     /// A scanner of JSON with comments, at the first byte.
     pub fn new_with_comments() -> Scanner
         ensures { result ≡ idle 0 jsonc }
     {
-        Scanner {
-            position: 0,
-            mode: Mode::Jsonc,
-            pending: None,
-        }
+        Scanner::idle_at(0, Mode::Jsonc)
     }
 
     /// A scanner of JSON without comments, at the byte with this offset.
     pub fn at_position(pos: usize) -> Scanner
         ensures { result ≡ idle pos plain }
     {
+        Scanner::idle_at(pos, Mode::Plain)
+    }
+
+    /// A scanner at this offset, with nothing pending.
+    fn idle_at(pos: usize, mode: Mode) -> Scanner
+        ensures { result ≡ idle pos (mode_of mode) }
+    {
         Scanner {
             position: pos,
-            mode: Mode::Plain,
+            mode,
             pending: None,
         }
     }
@@ -109,15 +108,20 @@ impl Scanner {
     /// goes on with it, if the buffer's bytes up to the position are still the same. Where nothing is left the answer
     /// is `Eof`, an empty span at the end of the buffer. Offsets are in bytes.
     ///
+    /// On every buffer, also one whose bytes are no longer the same, the position, the span and the indices of the
+    /// answer lie within it.
+    ///
     /// # Errors
     ///
-    /// No token stands there. The position is then the first byte of what is refused.
+    /// No token stands there. The position is then the first byte of what is refused, and nothing is pending.
     pub fn next_token(&mut self, buf: &[u8]) -> ScanResult
         requires { self.old.position ≤ length buf.now }
         ensures token { (p : ℕ) → GoesOnFrom self.old buf.now p
             → Gives buf.now p self.old.mode (answered result) self.new }
         ensures position { self.new.position ≤ length buf.now }
         ensures span { stop (span_answered result) ≤ length buf.now }
+        ensures indices { IndicesWithin (length buf.now) result }
+        ensures idle { IfErr result (λ _. self.new.pending ≡ nothing_pending) }
         ensures mode { self.new.mode ≡ self.old.mode }
     {
         match find(buf, self.position, self.pending, self.mode) {
@@ -149,6 +153,7 @@ impl Scanner {
         ensures scanner { self.new ≡ idle (stands_at_end self.old
             (spec_cut.cut (take self.old.position buf.now) (first_of self.old) self.old.mode)) self.old.mode }
         ensures span { stop (span_answered result) ≤ self.old.position }
+        ensures indices { IndicesWithin self.old.position result }
     {
         let first = first_byte(self.position, self.pending);
         let result = cut_front(buf, self.position, first, self.mode);
@@ -233,6 +238,7 @@ fn cut_front(buffer: &[u8], end: usize, first: usize, mode: Mode) -> ScanResult
     ensures token { answered result
         ≡ Some (answer_for end (spec_cut.cut (take end buffer.now) first (mode_of mode))) }
     ensures span { stop (span_answered result) ≤ end }
+    ensures indices { IndicesWithin end result }
 {
     cut(&buffer[..end], first, mode)
 }
@@ -250,7 +256,9 @@ fn stands_at_end(position: usize, first: usize, answer: &ScanResult) -> usize
 /// That more bytes are needed from `start` on.
 fn needs_more(buffer: &[u8], start: usize) -> ScanResult
     requires { start ≤ length buffer.now }
-    ensures { answered result ≡ Some (spec_scanner.needs_more start (span_at start (length buffer.now - start))) }
+    ensures token { answered result
+        ≡ Some (spec_scanner.needs_more start (span_at start (length buffer.now - start))) }
+    ensures indices { IndicesWithin (length buffer.now) result }
 {
     Ok(SpannedToken {
         token: Token::NeedMore { consumed: start },

@@ -1,14 +1,16 @@
 //! Worked rows: what a content stands for, and how it is refused first, from outside of the definitions.
 
 use super::{
-    DecodeError, decode_string, decode_string_borrowed, decode_string_borrowed_unchecked,
-    decode_string_owned, decode_string_owned_unchecked, decode_string_unchecked,
+    DecodeError, check_string, decode_string, decode_string_borrowed,
+    decode_string_borrowed_unchecked, decode_string_owned, decode_string_owned_unchecked,
+    decode_string_unchecked,
 };
 use crate::token::{ScanError, ScanErrorKind};
 use facet_format::Span;
 use std::alloc::{AllocError, Global};
 use std::borrow::CowStr;
 use std::process::Abort;
+use std::str;
 use std::test::Fail;
 
 fn refused(kind: ScanErrorKind, offset: usize, len: usize) -> DecodeError {
@@ -29,7 +31,40 @@ fn expect(
         Err(error) => Err(error),
     };
     assert_eq!(rt; decode_string_owned(alloc, content, 0, content.len()), want);
+    expect_checked(rt, content, &want);
+    if let Ok(text) = str::from_utf8(content) {
+        expect_same_unchecked(rt, alloc, text, &want);
+    }
     Ok(())
+}
+
+fn expect_checked(rt: &impl Abort, content: &[u8], want: &Result<String, DecodeError>) {
+    match (check_string(content, 0, content.len()), want) {
+        (Ok(()), Ok(_)) => {}
+        (Err(error), Err(want)) => assert!(rt; DecodeError::Scan(error) == *want),
+        _ => assert!(rt; false),
+    }
+}
+
+fn expect_same_unchecked(
+    rt: &impl Abort,
+    alloc: Global,
+    content: &str,
+    want: &Result<String, DecodeError>,
+) {
+    let bytes = content.as_bytes();
+    let owned = decode_string_owned_unchecked(alloc, bytes, 0, bytes.len());
+    assert!(rt; owned == *want);
+    let plain = decode_string_borrowed_unchecked(bytes, 0, bytes.len());
+    assert!(rt; plain == decode_string_borrowed(bytes, 0, bytes.len()));
+    match (
+        decode_string_unchecked(alloc, bytes, 0, bytes.len(), true),
+        want,
+    ) {
+        (Ok(text), Ok(want)) => assert!(rt; text.as_str() == want.as_str()),
+        (Err(error), Err(want)) => assert!(rt; error == *want),
+        _ => assert!(rt; false),
+    }
 }
 
 #[test]

@@ -7,6 +7,7 @@ use crate::token::{ScanError, ScanErrorKind, ScanResult, SpannedToken, Token};
 use facet_format::Span;
 use facet_format::numeral::NumberHint;
 use std::process::Abort;
+use std::test::Fail;
 
 fn token(token: Token, offset: usize, len: usize) -> ScanResult {
     Ok(SpannedToken {
@@ -397,4 +398,14 @@ fn numbers_go_on_in_their_part(rt: HostRuntime) {
             len,
         );
     }
+}
+
+#[test]
+fn a_scanner_is_shown(rt: HostRuntime) -> Result<(), Fail> {
+    let shown = format!(in rt.alloc(); "{:?}", Scanner::at_position(7))?;
+    assert_eq!(rt;
+        shown.as_str(),
+        "Scanner { position: 7, mode: Plain, pending: None }"
+    );
+    Ok(())
 }

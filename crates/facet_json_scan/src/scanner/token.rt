@@ -10,7 +10,7 @@ ghost use Rattle.facet_json_scan.specs.Cut as spec_cut;
 ghost use Rattle.facet_json_scan.specs.Open.{IsBeginning};
 ghost use Rattle.facet_json_scan.specs.Scanner.{in_text, ended, EndsIn, Describes};
 ghost use Rattle.facet_format.specs.Number.{parts, parts_len, parts_hint, is_bare};
-ghost use Rattle.facet_json_scan.specs.Views.{mode_of, kind_of, scanned, part_of, answered, span_answered, FoundHere, FoundFrom, FoundWithin};
+ghost use Rattle.facet_json_scan.specs.Views.{mode_of, kind_of, scanned, part_of, answered, span_answered, IndicesWithin, FoundHere, FoundFrom, FoundWithin};
 
 use crate::mode::Mode;
 use crate::plain_cut::{common_len, cut_bare_minus, cut_token, cut_word, token_at};
@@ -82,7 +82,8 @@ fn token_from(buffer: &[u8], at: usize, mode: Mode) -> Found
 
 /// The end, at this offset.
 fn eof_at(offset: usize) -> ScanResult
-    ensures { answered result ≡ Some (ended (span_at offset 0)) }
+    ensures token { answered result ≡ Some (ended (span_at offset 0)) }
+    ensures indices { IndicesWithin offset result }
 {
     Ok(SpannedToken {
         token: Token::Eof,
@@ -182,6 +183,7 @@ fn number_token(buffer: &[u8], start: usize, end: usize, part: Part) -> ScanResu
         → scanned result ≡ Some (spec_cut.cut_number start (drop (start + 1) buffer.now)
         (parts_len (parts text)) (parts_hint (parts text)) (is_bare (parts text))) }
     ensures span { stop (span_answered result) ≤ length buffer.now }
+    ensures indices { IndicesWithin (length buffer.now) result }
 {
     let is_negative = buffer[start] == b'-';
     if is_negative && end == start + 1 {

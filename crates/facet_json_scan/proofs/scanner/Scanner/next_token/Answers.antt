@@ -15,5 +15,5 @@ returns-in-Open-clause-token c = λ p g.
     let found =
     subst (λ m. (start ≡ past_growing_gap buffer p m) × Describes m state (drop (past_growing_gap buffer p m) buffer))
     mode (c.in-Open.ensures.here p from) in
-    gives-open buffer p start c.args.self.now.mode state _ _ found c.needs_more.ensures
+    gives-open buffer p start c.args.self.now.mode state _ _ found c.needs_more.ensures.token
     (ap (λ m. waiting (length buffer) m start state) mode)

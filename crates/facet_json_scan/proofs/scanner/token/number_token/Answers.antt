@@ -47,4 +47,13 @@ returns-clause-span c =
     let start = c.args.start in
     let end = c.args.end in
     let kind = number start end (hint_of c.hint.result) in
-    answered-ends c.token_at.result (token_at kind start (end - start)) _ (c.token_at.ensures kind refl) (omega arith)
+    (answered-ends c.token_at.result (token_at kind start (end - start)) _ (c.token_at.ensures kind refl)
+    (omega arith, (omega arith, omega arith))).0
+
+pub returns-clause-indices : goal.returns-clause-indices
+returns-clause-indices c =
+    let start = c.args.start in
+    let end = c.args.end in
+    let kind = number start end (hint_of c.hint.result) in
+    (answered-ends c.token_at.result (token_at kind start (end - start)) _ (c.token_at.ensures kind refl)
+    (omega arith, (omega arith, omega arith))).1

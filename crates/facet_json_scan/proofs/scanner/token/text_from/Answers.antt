@@ -29,11 +29,12 @@ pub returns-then-not-escaped-clause-within : goal.returns-then-not-escaped-claus
 returns-then-not-escaped-clause-within c =
     let start = c.args.start in
     let end = c.loop-byte.end in
-    let e = c.loop-byte.has_escapes in (
-      omega arith,
-      answered-ends c.token_at.result (token_at (string (start + 1) end e) start ((end + 1) - start)) _
-          (c.token_at.ensures (string (start + 1) end e) refl) (omega (arith, c.in-Some.ensures.lookup.3.0)),
-    )
+    let e = c.loop-byte.has_escapes in
+    let ends =
+    answered-ends c.token_at.result (token_at (string (start + 1) end e) start ((end + 1) - start)) _
+    (c.token_at.ensures (string (start + 1) end e) refl)
+    (omega (arith, c.in-Some.ensures.lookup.3.0), (omega arith, omega (arith, c.in-Some.ensures.lookup.3.0))) in
+    (omega arith, ends.0, ends.1)
 
 pub loop-byte-preserved : goal.loop-byte-preserved
 loop-byte-preserved c =

@@ -25,7 +25,7 @@ returns-in_default-clause-here c = λ shut.
     let mode = mode_of c.args.mode in
     let nothing : drop at buffer ≡ [] = drop_all at buffer c.in_default.ensures.lookup.3 in (
       refl,
-      c.eof_at.ensures ∙ ap (λ l. Some (answer_for (length buffer) (cut_here mode at l))) (sym nothing),
+      c.eof_at.ensures.token ∙ ap (λ l. Some (answer_for (length buffer) (cut_here mode at l))) (sym nothing),
       λ i. nothing_shut mode (subst (IsBeginning mode) nothing i),
     )
 
@@ -111,11 +111,11 @@ returns-in_default-first-clause-within c =
     let at = c.args.at in
     let b = c.in-Some.first.now in
     let mode = mode_of c.args.mode in
-    let here = slice_get-from_read buffer at b b c.in-Some.ensures.lookup.3 refl in (
-      omega arith,
-      answered-ends c.cut_token.result (cut_here mode at (drop at buffer)) _ c.cut_token.ensures
-          (cut_here-ends mode buffer at b here),
-    )
+    let here = slice_get-from_read buffer at b b c.in-Some.ensures.lookup.3 refl in
+    let ends =
+    answered-ends c.cut_token.result (cut_here mode at (drop at buffer)) _ c.cut_token.ensures
+    (cut_here-ends mode buffer at b here) in
+    (omega arith, ends.0, ends.1)
 
 pub returns-in-45-clause-here : goal.returns-in-45-clause-here
 returns-in-45-clause-here c = λ shut.

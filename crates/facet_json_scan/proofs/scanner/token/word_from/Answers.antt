@@ -55,8 +55,8 @@ returns-clause-within c = λ b kind here begins is.
     let at = c.args.at in
     let word = c.args.word.now in
     let bytes = drop at buffer in
-    let cuts = cut_here-word plain buffer at b word kind here begins in (
-      omega (arith, slice_get_within buffer at b here),
-      answered-ends c.cut_word.result (cut_word at bytes word kind (common_len word bytes)) _ (c.cut_word.ensures kind is)
-          (subst (EndsWithin (length buffer)) (sym cuts) (cut_here-ends plain buffer at b here)),
-    )
+    let cuts = cut_here-word plain buffer at b word kind here begins in
+    let ends =
+    answered-ends c.cut_word.result (cut_word at bytes word kind (common_len word bytes)) _ (c.cut_word.ensures kind is)
+    (subst (EndsWithin (length buffer)) (sym cuts) (cut_here-ends plain buffer at b here)) in
+    (omega (arith, slice_get_within buffer at b here), ends.0, ends.1)
