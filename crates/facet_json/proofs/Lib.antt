@@ -8,5 +8,7 @@ pub mod WalkTells
 pub mod BegunBreaks
 pub mod Told
 pub mod Reading
+pub mod ItemsRead
+pub mod MembersRead
 pub mod Documents
 pub mod NextMoves

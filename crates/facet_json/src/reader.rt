@@ -22,7 +22,18 @@ use facet_format::{
 use facet_json_core::JsonParser;
 use std::alloc::Global;
 
-/// Reads the plain document that the bytes begin with. What follows it is not looked at.
+/// Reads the plain document that the bytes begin with (RFC 8259, sections 2 to 7, with a trailing comma allowed). What follows it is
+/// not looked at.
+///
+/// ```text
+/// from_slice(alloc, b"[1,]")     Ok: Tree::List of Tree::U64(1)
+/// from_slice(alloc, b"[1 2]")    Err: kind 3, UnexpectedToken { got: "U64", expected: "',' or ']'" }, span 3+1
+/// ```
+///
+/// # Errors
+///
+/// The bytes begin with no document: a refusal of the kinds 1 to 4, its span the offset and length in bytes of what it is about. Or want of
+/// memory, kind 9: its span is known where an event lacked it, and not where the tree did.
 pub fn from_slice<'t>(alloc: Global, input: &[u8]) -> Result<Tree, DeserializeError<'t>>
     ensures document { IfOk result (λ t. (root : Node) × IsDocument input.now plain root (tree_view t)) }
     ensures refused { IfErr result (λ e. ((refusal_of e).complaint ≡ out_of_memory) ⊎ Refuses input.now plain (refusal_of e)) }
@@ -33,7 +44,16 @@ pub fn from_slice<'t>(alloc: Global, input: &[u8]) -> Result<Tree, DeserializeEr
     root(alloc, &mut JsonParser::new(alloc, input))
 }
 
-/// Reads the document that the bytes begin with, which may have comments. What follows it is not looked at.
+/// Reads the document that the bytes begin with, which may have comments (`//` up to the line's end, `/*` up to `*/`) wherever white
+/// space may stand. What follows it is not looked at.
+///
+/// ```text
+/// from_slice_jsonc(alloc, b"[1, /* one */]")    Ok: Tree::List of Tree::U64(1)
+/// ```
+///
+/// # Errors
+///
+/// As [`from_slice`], and a block comment without its end is an unexpected end, kind 2.
 pub fn from_slice_jsonc<'t>(alloc: Global, input: &[u8]) -> Result<Tree, DeserializeError<'t>>
     ensures document { IfOk result (λ t. (root : Node) × IsDocument input.now jsonc root (tree_view t)) }
     ensures refused { IfErr result (λ e. ((refusal_of e).complaint ≡ out_of_memory) ⊎ Refuses input.now jsonc (refusal_of e)) }

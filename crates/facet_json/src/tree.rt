@@ -64,7 +64,7 @@ impl Tree {
     }
 }
 
-// Whether both have the same items in the same order.
+/// Whether both have the same items in the same order.
 #[cycle(same)]
 fn are_same(items: &[Tree], others: &[Tree]) -> bool
     ensures { IsTrue result ↔ (trees_view items.now ≡ trees_view others.now) }
@@ -80,7 +80,7 @@ fn are_same(items: &[Tree], others: &[Tree]) -> bool
     true
 }
 
-// Whether both have the same keys and values in the same order.
+/// Whether both have the same keys and values in the same order.
 #[cycle(same)]
 fn have_same(members: &[(String, Tree)], others: &[(String, Tree)]) -> bool
     ensures { IsTrue result ↔ (pairs_view members.now ≡ pairs_view others.now) }

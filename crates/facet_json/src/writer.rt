@@ -1,4 +1,5 @@
 //! Writing a tree as compact text (RFC 8259, sections 2 to 7).
+
 ghost use Rattle.std.specs.Prelude.{◌≡◌, ◌<◌, ◌||◌, ◌==◌, ◌++◌, ◌∷◌, [], true, nat_lt, codes, IfOk, OnOk};
 ghost use Rattle.facet_format.specs.Bytes.{quote, backslash, space, delete, left_bracket, left_brace};
 ghost use Rattle.facet_json.specs.Quoted.{escaped, quoted, hex_byte};
@@ -10,8 +11,16 @@ use crate::ser_error::JsonSerializeError;
 use crate::tree::Tree;
 use std::alloc::Global;
 
-/// The compact text of a tree (RFC 8259): members in their order, no white space, and each character that has no
-/// escape as its UTF-8. The only refusal is `OutOfMemory`.
+/// The compact text of a tree (RFC 8259, sections 2 to 7): members in their order, no white space, and each character that has no
+/// escape as its UTF-8.
+///
+/// ```text
+/// to_vec(alloc, &Tree::List(vec![in alloc; Tree::Null, Tree::U64(7)]?))?   b"[null,7]"
+/// ```
+///
+/// # Errors
+///
+/// `OutOfMemory` alone, where a growth of the text is refused.
 pub fn to_vec(alloc: Global, tree: &Tree) -> Result<Vec<u8>, JsonSerializeError>
     ensures { IfOk result (λ v. v.items ≡ text default_options 0 (tree_view tree.now)) }
 {
@@ -20,6 +29,7 @@ pub fn to_vec(alloc: Global, tree: &Tree) -> Result<Vec<u8>, JsonSerializeError>
     Ok(out)
 }
 
+/// Appends the text of a value.
 #[cycle(write)]
 fn push_tree(out: &mut Vec<u8>, tree: &Tree) -> Result<(), JsonSerializeError>
     ensures { OnOk result (out.new.items ≡ out.old.items ++ text default_options 0 (tree_view tree.now)) }
@@ -37,6 +47,7 @@ fn push_tree(out: &mut Vec<u8>, tree: &Tree) -> Result<(), JsonSerializeError>
     }
 }
 
+/// Appends a list: its items in order, a comma between them.
 #[cycle(write)]
 fn push_list(out: &mut Vec<u8>, items: &[Tree]) -> Result<(), JsonSerializeError>
     ensures { OnOk result (out.new.items
@@ -53,6 +64,7 @@ fn push_list(out: &mut Vec<u8>, items: &[Tree]) -> Result<(), JsonSerializeError
     Ok(())
 }
 
+/// Appends an object: its members in order, a comma between them.
 #[cycle(write)]
 fn push_pairs(out: &mut Vec<u8>, members: &[(String, Tree)]) -> Result<(), JsonSerializeError>
     ensures { OnOk result (out.new.items
@@ -71,6 +83,7 @@ fn push_pairs(out: &mut Vec<u8>, members: &[(String, Tree)]) -> Result<(), JsonS
     Ok(())
 }
 
+/// Appends bytes as they stand.
 fn push_bytes(out: &mut Vec<u8>, bytes: &[u8]) -> Result<(), JsonSerializeError>
     ensures { OnOk result (out.new.items ≡ out.old.items ++ bytes.now) }
 {
@@ -78,7 +91,7 @@ fn push_bytes(out: &mut Vec<u8>, bytes: &[u8]) -> Result<(), JsonSerializeError>
     Ok(())
 }
 
-// Nothing in front of the first, a comma in front of each other.
+/// Nothing in front of the first, a comma in front of each other.
 fn push_separator(out: &mut Vec<u8>, first: bool) -> Result<(), JsonSerializeError>
     ensures { OnOk result (out.new.items ≡ out.old.items ++ separator first) }
 {
@@ -88,6 +101,7 @@ fn push_separator(out: &mut Vec<u8>, first: bool) -> Result<(), JsonSerializeErr
     Ok(())
 }
 
+/// Appends a whole number's decimal digits, behind a minus where it is negative.
 fn push_number<N: itoa::Integer>(out: &mut Vec<u8>, n: N) -> Result<(), JsonSerializeError>
     ensures { OnOk result (out.new.items ≡ out.old.items ++ N.text n) }
 {
@@ -96,7 +110,7 @@ fn push_number<N: itoa::Integer>(out: &mut Vec<u8>, n: N) -> Result<(), JsonSeri
     Ok(())
 }
 
-// The text between quotes: runs of bytes that stand for themselves, and the escapes between them.
+/// The text between quotes: runs of bytes that stand for themselves, and the escapes between them.
 fn push_quoted(out: &mut Vec<u8>, text: &str) -> Result<(), JsonSerializeError>
     ensures { OnOk result (out.new.items ≡ out.old.items ++ quoted text.now) }
 {
@@ -114,14 +128,14 @@ fn push_quoted(out: &mut Vec<u8>, text: &str) -> Result<(), JsonSerializeError>
     push_bytes(out, b"\"")
 }
 
-// Whether a byte cannot stand for itself between the quotes.
+/// Whether a byte cannot stand for itself between the quotes.
 fn needs_escape(byte: u8) -> bool
     ensures { result ≡ (nat_lt byte space || (byte == quote) || (byte == backslash) || (byte == delete)) }
 {
     byte < b' ' || byte == b'"' || byte == b'\\' || byte == 0x7f
 }
 
-// What stands between the quotes for one byte of a text.
+/// What stands between the quotes for one byte of a text.
 #[tactic(auto, using(crate::proofs::Escapes::long_escape), unfolding(crate::specs::Quoted::escaped))]
 fn push_escaped(out: &mut Vec<u8>, byte: u8) -> Result<(), JsonSerializeError>
     ensures { OnOk result (out.new.items ≡ out.old.items ++ escaped byte) }
@@ -139,7 +153,7 @@ fn push_escaped(out: &mut Vec<u8>, byte: u8) -> Result<(), JsonSerializeError>
     }
 }
 
-// The escape of six characters of a byte below 0x80.
+/// The escape of six characters of a byte below 0x80.
 fn hex_escape(byte: u8) -> [u8; 6]
     ensures { result ≡ codes "\\u00" ++ hex_byte byte }
 {
@@ -153,7 +167,7 @@ fn hex_escape(byte: u8) -> [u8; 6]
     ]
 }
 
-// A lower-case hexadecimal digit.
+/// A lower-case hexadecimal digit.
 fn hex_digit(n: u8) -> u8
     requires { n < 16 }
     ensures { result ≡ spelled.hex_digit n }

@@ -2,8 +2,8 @@
 use Rattle.std.specs.Prelude.{ℕ, List, [], ◌++◌, Some, None, codes}
 use Rattle.std.specs.Fmt.{decimal}
 use Rattle.facet_format.specs.declared.span.Span.{Span}
-use Rattle.facet_json_tool.specs.declared.run.Outcome.{Outcome}
-use Rattle.facet_json_tool.specs.declared.run.Outcome.TheVariants.{Done, Refused, Io, Usage}
+use Rattle.facet_json_tool.specs.declared.outcome.Outcome.{Outcome}
+use Rattle.facet_json_tool.specs.declared.outcome.Outcome.TheVariants.{Done, Refused, Io, Usage}
 
 abbrev pub usage : List ℕ
 usage = codes "usage: facet_json_tool fmt [--pretty] [--jsonc] | events [--jsonc] | tokens [--jsonc] | drive [--jsonc] SCRIPT"

@@ -1,24 +1,30 @@
-//! Reads a JSON document from the standard input, and writes it anew to the standard output.
+//! Reads a JSON document from the standard input, and writes it anew, its events, or the answers of a parser's calls to the
+//! standard output.
 #![tactic(auto)]
 
 ghost use Rattle.std.specs.Prelude.{◌≡◌, ◌⊎◌, None, IfErr};
 ghost use Rattle.std.specs.IoError.{error_kind};
-ghost use Rattle.facet_json_tool.specs.declared.run.Outcome.TheVariants as outcome;
+ghost use Rattle.facet_json_tool.specs.declared.outcome.Outcome.TheVariants as outcome;
 ghost use Rattle.facet_json_tool.specs.Run.{IsFailure};
 
+mod arguments;
+mod lines;
+mod outcome;
 mod report;
 mod run;
+mod script;
 #[cfg(test)]
 mod tests;
 
+use outcome::{OUT_OF_MEMORY, Outcome, failure};
 use report::{status, write_line};
-use run::{OUT_OF_MEMORY, Outcome, failure, run};
-use std::io::ErrorKind;
+use run::run;
+use std::io::{BufWriter, ErrorKind};
 use std::process::ExitCode;
 use std::{env, io};
 
 /// The arguments behind the program's name.
-fn arguments(rt: &HostRuntime) -> Result<Vec<String>, Outcome>
+fn given_words(rt: &HostRuntime) -> Result<Vec<String>, Outcome>
     ensures { IfErr result (λ o. (o ≡ outcome.Usage) ⊎ IsFailure o) }
 {
     match env::args(rt) {
@@ -39,14 +45,17 @@ fn without_arguments(error: &io::Error) -> Outcome
     }
 }
 
+/// Does what the arguments ask for, over the standard input and output.
+fn answer(rt: &HostRuntime, args: &[String]) -> Outcome {
+    match BufWriter::new(rt.alloc(), rt.stdout()) {
+        Ok(mut writer) => run(rt.alloc(), args, &mut rt.stdin(), &mut writer),
+        Err(error) => failure(&error),
+    }
+}
+
 fn main(rt: HostRuntime) -> ExitCode {
-    let outcome = match arguments(&rt) {
-        Ok(args) => run(
-            rt.alloc(),
-            args.as_slice(),
-            &mut rt.stdin(),
-            &mut rt.stdout(),
-        ),
+    let outcome = match given_words(&rt) {
+        Ok(args) => answer(&rt, args.as_slice()),
         Err(outcome) => outcome,
     };
     // Where the line can't be written, the status still tells.

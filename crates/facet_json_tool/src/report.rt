@@ -4,7 +4,7 @@ ghost use Rattle.std.specs.Prelude.{◌≡◌, OnOk};
 ghost use Rattle.std.specs.Io.KnownBytes.{Appends};
 ghost use Rattle.facet_json_tool.specs.Report.{line_of, status_of};
 
-use crate::run::Outcome;
+use crate::outcome::Outcome;
 use std::io;
 use std::io::Write;
 

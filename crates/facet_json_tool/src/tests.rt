@@ -1,61 +1,54 @@
 //! Runs over readers and writers in memory, some of which fail.
 
+use crate::outcome::Outcome;
 use crate::report::{status, write_line};
-use crate::run::{Outcome, run};
+use crate::run::run;
 use facet_json::Span;
 use std::alloc::{AllocError, Global};
 use std::io;
 use std::io::{ErrorKind, Read, Write};
 use std::test::Fail;
 
-/// An input, and what a run of `fmt` answers and writes.
+mod arguments;
+mod drive;
+mod events;
+mod fmt;
+
+/// The arguments parted by spaces, an input, and what a run answers and writes.
 #[derive(Clone, Copy)]
 struct Case {
-    input: &'static str,
+    args: &'static str,
+    input: &'static [u8],
     outcome: Outcome,
     written: &'static str,
 }
 
-const fn written(input: &'static str, written: &'static str) -> Case {
+const fn done(args: &'static str, input: &'static [u8], written: &'static str) -> Case {
     Case {
+        args,
         input,
         outcome: Outcome::Done,
         written,
     }
 }
 
-const fn refused(input: &'static str, code: u8, offset: usize, len: usize) -> Case {
+const fn refused(
+    args: &'static str,
+    input: &'static [u8],
+    written: &'static str,
+    code: u8,
+    span: Span,
+) -> Case {
     Case {
+        args,
         input,
-        outcome: Outcome::Refused(code, Some(Span { offset, len })),
-        written: "",
+        outcome: Outcome::Refused(code, Some(span)),
+        written,
     }
 }
 
-fn cases() -> [Case; 12] {
-    [
-        written("{\"a\":[1,2,],}", "{\"a\":[1,2]}"),
-        written(" [\"é\", 007 , true ] x", "[\"é\",7,true]"),
-        written(
-            " [\"\\u00e9\\q\", 18446744073709551616 , -0 ] x",
-            "[\"éq\",\"18446744073709551616\",0]",
-        ),
-        written("[1.,-.5,007]", "[1.,-.5,7]"),
-        written(
-            "{\n  \"x\": [\n    0.0\n  ],\n  \"y\": [\n    5e-05\n  ]\n}",
-            "{\"x\":[0.0],\"y\":[5e-05]}",
-        ),
-        written(
-            "{\r\n  \"x\": [\r\n    0.0\r\n  ],\r\n  \"y\": [\r\n    5e-05\r\n  ]\r\n}",
-            "{\"x\":[0.0],\"y\":[5e-05]}",
-        ),
-        written("{\r\n\"y\": [\r\n5e-05\r\n]\r\n}", "{\"y\":[5e-05]}"),
-        refused("[\"\\ud800\"]", 4, 2, 6),
-        refused("[1e]", 1, 1, 2),
-        refused("", 2, 0, 0),
-        refused("[,]", 3, 1, 1),
-        refused(".5", 1, 0, 1),
-    ]
+const fn span(offset: usize, len: usize) -> Span {
+    Span { offset, len }
 }
 
 /// Counts calls, of which one fails.
@@ -127,17 +120,18 @@ impl Write for FaultyWriter {
 }
 
 /// More calls than any run here makes.
-const MANY_CALLS: usize = 100;
+const MANY_CALLS: usize = 1000;
 
-fn words(alloc: Global, texts: &[&str]) -> Result<Vec<String>, AllocError> {
+/// The words, which single spaces part.
+fn words(alloc: Global, text: &str) -> Result<Vec<String>, AllocError> {
     let mut words = Vec::new(alloc);
-    for text in texts {
-        words.push(String::from_str(alloc, text)?)?;
+    for word in text.split(' ') {
+        words.push(String::from_str(alloc, word)?)?;
     }
     Ok(words)
 }
 
-/// How a run of `fmt` ended.
+/// How a run ended.
 #[derive(Drop)]
 struct Ended {
     outcome: Outcome,
@@ -145,9 +139,9 @@ struct Ended {
     met_fault: bool,
 }
 
-fn format(alloc: Global, input: &str) -> Result<Ended, AllocError> {
-    let args = words(alloc, &["fmt"])?;
-    let mut reader = input.as_bytes();
+fn run_of(alloc: Global, case: &Case) -> Result<Ended, AllocError> {
+    let args = words(alloc, case.args)?;
+    let mut reader = case.input;
     let mut writer = Vec::new(alloc);
     let outcome = run(alloc, args.as_slice(), &mut reader, &mut writer);
     Ok(Ended {
@@ -157,10 +151,10 @@ fn format(alloc: Global, input: &str) -> Result<Ended, AllocError> {
     })
 }
 
-fn format_with_failed_read(alloc: Global, input: &str, at: usize) -> Result<Ended, AllocError> {
-    let args = words(alloc, &["fmt"])?;
+fn run_with_failed_read(alloc: Global, case: &Case, at: usize) -> Result<Ended, AllocError> {
+    let args = words(alloc, case.args)?;
     let mut reader = FaultyReader {
-        left: input.as_bytes(),
+        left: case.input,
         fault: Fault::at(at),
     };
     let mut writer = Vec::new(alloc);
@@ -172,9 +166,9 @@ fn format_with_failed_read(alloc: Global, input: &str, at: usize) -> Result<Ende
     })
 }
 
-fn format_with_failed_write(alloc: Global, input: &str, at: usize) -> Result<Ended, AllocError> {
-    let args = words(alloc, &["fmt"])?;
-    let mut reader = input.as_bytes();
+fn run_with_failed_write(alloc: Global, case: &Case, at: usize) -> Result<Ended, AllocError> {
+    let args = words(alloc, case.args)?;
+    let mut reader = case.input;
     let mut writer = FaultyWriter {
         held: Vec::new(alloc),
         fault: Fault::at(at),
@@ -202,55 +196,42 @@ fn is_cut_off(ended: &Ended, case: &Case) -> bool {
             .starts_with(ended.written.as_slice())
 }
 
-#[test]
-fn answers(rt: HostRuntime) -> Result<(), Fail> {
-    for case in cases() {
-        let ended = format(rt.alloc(), case.input)?;
-        assert!(rt; is_answer(&ended, &case), "at {}", case.input);
-    }
-    Ok(())
+/// Whether the run answers as the case says.
+fn is_answered(alloc: Global, case: &Case) -> Result<bool, AllocError> {
+    Ok(is_answer(&run_of(alloc, case)?, case))
 }
 
-#[test]
-fn tells_of_each_failed_read(rt: HostRuntime) -> Result<(), Fail> {
-    for case in cases() {
-        let mut is_whole = false;
-        for at in 0..MANY_CALLS {
-            let ended = format_with_failed_read(rt.alloc(), case.input, at)?;
-            if !ended.met_fault {
-                assert!(rt; is_answer(&ended, &case), "at {}", case.input);
-                is_whole = true;
-                break;
-            }
-            assert!(rt; is_cut_off(&ended, &case), "read {at} of {}", case.input);
-            assert!(rt; ended.written.is_empty());
+/// Whether the run tells of each read that fails, and then writes nothing.
+fn tells_of_each_read(alloc: Global, case: &Case) -> Result<bool, AllocError> {
+    for at in 0..MANY_CALLS {
+        let ended = run_with_failed_read(alloc, case, at)?;
+        if !ended.met_fault {
+            return Ok(is_answer(&ended, case));
         }
-        assert!(rt; is_whole, "at {}", case.input);
-    }
-    Ok(())
-}
-
-#[test]
-fn tells_of_each_failed_write(rt: HostRuntime) -> Result<(), Fail> {
-    for case in cases() {
-        let mut is_whole = false;
-        for at in 0..MANY_CALLS {
-            let ended = format_with_failed_write(rt.alloc(), case.input, at)?;
-            if !ended.met_fault {
-                assert!(rt; is_answer(&ended, &case), "at {}", case.input);
-                is_whole = true;
-                break;
-            }
-            assert!(rt; is_cut_off(&ended, &case), "write {at} of {}", case.input);
+        if !is_cut_off(&ended, case) || !ended.written.is_empty() {
+            return Ok(false);
         }
-        assert!(rt; is_whole, "at {}", case.input);
     }
-    Ok(())
+    Ok(false)
 }
 
-#[test]
-fn tells_of_a_reader_without_memory(rt: HostRuntime) -> Result<(), Fail> {
-    let args = words(rt.alloc(), &["fmt"])?;
+/// Whether the run tells of each write that fails, and has written a front of its text.
+fn tells_of_each_write(alloc: Global, case: &Case) -> Result<bool, AllocError> {
+    for at in 0..MANY_CALLS {
+        let ended = run_with_failed_write(alloc, case, at)?;
+        if !ended.met_fault {
+            return Ok(is_answer(&ended, case));
+        }
+        if !is_cut_off(&ended, case) {
+            return Ok(false);
+        }
+    }
+    Ok(false)
+}
+
+/// Whether want of memory while it reads is answered as such, and nothing is written.
+fn tells_of_no_memory(alloc: Global, args: &str) -> Result<bool, AllocError> {
+    let args = words(alloc, args)?;
     let mut reader = FaultyReader {
         left: b"[]",
         fault: Fault {
@@ -259,40 +240,9 @@ fn tells_of_a_reader_without_memory(rt: HostRuntime) -> Result<(), Fail> {
             kind: ErrorKind::OutOfMemory,
         },
     };
-    let mut writer = Vec::new(rt.alloc());
-    let outcome = run(rt.alloc(), args.as_slice(), &mut reader, &mut writer);
-    assert_eq!(rt; outcome, Outcome::Refused(9, None));
-    assert!(rt; writer.is_empty());
-    Ok(())
-}
-
-#[test]
-fn takes_no_other_arguments(rt: HostRuntime) -> Result<(), Fail> {
-    let wrong: [&[&str]; 8] = [
-        &[],
-        &["fmt", "x"],
-        &["x"],
-        &["fmt", "fmt"],
-        &["events"],
-        &["fmt", "--pretty"],
-        &["Fmt"],
-        &[""],
-    ];
-    for texts in wrong {
-        let args = words(rt.alloc(), texts)?;
-        let mut reader = FaultyReader {
-            left: b"[]",
-            fault: Fault::at(0),
-        };
-        let mut writer = FaultyWriter {
-            held: Vec::new(rt.alloc()),
-            fault: Fault::at(0),
-        };
-        let outcome = run(rt.alloc(), args.as_slice(), &mut reader, &mut writer);
-        assert_eq!(rt; outcome, Outcome::Usage);
-        assert!(rt; !reader.fault.is_met() && !writer.fault.is_met());
-    }
-    Ok(())
+    let mut writer = Vec::new(alloc);
+    let outcome = run(alloc, args.as_slice(), &mut reader, &mut writer);
+    Ok(outcome == Outcome::Refused(9, None) && writer.is_empty())
 }
 
 #[test]

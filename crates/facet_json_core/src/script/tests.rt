@@ -3,6 +3,7 @@
 mod comments;
 mod cuts;
 mod depth;
+mod derives;
 mod documents;
 mod points;
 mod refusals;

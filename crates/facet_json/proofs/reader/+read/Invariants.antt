@@ -2,7 +2,8 @@ use Rattle.std.proofs.Common.{◌≡◌, ◌+◌, ◌*◌, map, string_bytes}
 use Rattle.facet_json_core.specs.Now.{ahead, future_of}
 use Rattle.facet_json.specs.Reading.{WentOn}
 use Rattle.facet_json.specs.Views.{tree_view}
-use Rattle.facet_json.proofs.Reading.{ItemsPassed, MembersPassed}
+use Rattle.facet_json.proofs.ItemsRead.{ItemsPassed}
+use Rattle.facet_json.proofs.MembersRead.{MembersPassed}
 use Rattle.facet_json.proofs.reader.+read.Given as goal
 
 -- how many bytes are ahead, twice; one more where an event was taken in front

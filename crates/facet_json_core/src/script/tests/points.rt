@@ -23,7 +23,7 @@ fn expect_with_spans(
 }
 
 #[test]
-fn points_and_peeks(rt: HostRuntime) -> Result<(), Fail> {
+fn a_point_behind_a_peek(rt: HostRuntime) -> Result<(), Fail> {
     let alloc = rt.alloc();
     answers(
         &rt,
@@ -43,7 +43,12 @@ fn points_and_peeks(rt: HostRuntime) -> Result<(), Fail> {
             Call::Span,
         ],
         "span 0+0; { 0+1; span 0+1; point 1; { 0+1; key(a) 1+3; span 4+1; restored; { 0+1; key(a) 1+3; U64(1) 5+1; } 7+1; events 4; span 7+1",
-    )?;
+    )
+}
+
+#[test]
+fn points_between_peeks(rt: HostRuntime) -> Result<(), Fail> {
+    let alloc = rt.alloc();
     expect_with_spans(
         &rt,
         alloc,
@@ -66,7 +71,12 @@ fn points_and_peeks(rt: HostRuntime) -> Result<(), Fail> {
             Call::Save,
         ],
         "point 1; span 0+0; { 0+1; span 0+1; key(a) 1+3; span 5+1; point 2; span 5+1; key(a) 1+3; span 5+1; U64(1) 6+1; span 6+1; restored; span 5+1; events 0; span 5+1; key(a) 1+3; span 5+1; restored; span 5+1; key(a) 1+3; span 5+1; U64(1) 6+1; span 6+1; restored; span 0+0; { 0+1; span 0+1; point 3; span 0+1",
-    )?;
+    )
+}
+
+#[test]
+fn a_point_with_an_escape(rt: HostRuntime) -> Result<(), Fail> {
+    let alloc = rt.alloc();
     expect_with_spans(
         &rt,
         alloc,
@@ -92,7 +102,7 @@ fn points_and_peeks(rt: HostRuntime) -> Result<(), Fail> {
 }
 
 #[test]
-fn points_and_refusals(rt: HostRuntime) -> Result<(), Fail> {
+fn a_refusal_repeats(rt: HostRuntime) -> Result<(), Fail> {
     let alloc = rt.alloc();
     expect_with_spans(
         &rt,
@@ -100,7 +110,12 @@ fn points_and_refusals(rt: HostRuntime) -> Result<(), Fail> {
         "[1",
         &[Call::Next, Call::Next, Call::Next, Call::Peek, Call::Save],
         "[ 0+1; span 0+1; U64(1) 1+1; span 1+1; refused 2(',' or ']') 2+0; span 1+1; refused 2(',' or ']') 2+0; span 1+1; refused 2(',' or ']') 2+0; span 1+1",
-    )?;
+    )
+}
+
+#[test]
+fn points_clear_refusals(rt: HostRuntime) -> Result<(), Fail> {
+    let alloc = rt.alloc();
     expect_with_spans(
         &rt,
         alloc,
@@ -129,7 +144,7 @@ fn points_and_refusals(rt: HostRuntime) -> Result<(), Fail> {
 }
 
 #[test]
-fn lists_of_events(rt: HostRuntime) -> Result<(), Fail> {
+fn lists_and_peeks(rt: HostRuntime) -> Result<(), Fail> {
     let alloc = rt.alloc();
     expect_with_spans(
         &rt,
@@ -150,7 +165,12 @@ fn lists_of_events(rt: HostRuntime) -> Result<(), Fail> {
             Call::Next,
         ],
         "events 0; span 0+0; [ 0+1; events 1; span 0+1; U64(1) 1+1; span 1+1; events 0; span 1+1; U64(1) 1+1; events 1; span 1+1; U64(2) 3+1; span 3+1; U64(2) 3+1; U64(3) 5+1; events 2; span 5+1; ] 6+1; events 1; span 6+1; events 0; span 6+1; events 0; span 6+1; None; span 6+1; None; span 6+1",
-    )?;
+    )
+}
+
+#[test]
+fn lists_and_refusals(rt: HostRuntime) -> Result<(), Fail> {
+    let alloc = rt.alloc();
     expect_with_spans(
         &rt,
         alloc,

@@ -70,137 +70,141 @@ fn place(rt: &impl Abort, alloc: Global, front: &Front) -> Result<(), Fail> {
     row(rt, alloc, &BOTH, front.text, want.as_str())
 }
 
+const FRONTS: [Front; 10] = [
+    Front {
+        text: "",
+        events: "",
+        span: "0+0",
+        stops: "} ] : ,",
+        expected: "value",
+        end: "2(value)",
+    },
+    Front {
+        text: "{",
+        events: "{ 0+1; ",
+        span: "0+1",
+        stops: "{ [ ] : , null true false 7 -7 18446744073709551616 -9223372036854775809 7.5",
+        expected: "field name or '}'",
+        end: "2(field name or '}')",
+    },
+    Front {
+        text: "{\"a\":1,",
+        events: "{ 0+1; key(a) 1+3; U64(1) 5+1; ",
+        span: "5+1",
+        stops: "{ [ ] : , null true false 7 -7 18446744073709551616 -9223372036854775809 7.5",
+        expected: "field name or '}'",
+        end: "2(field name or '}')",
+    },
+    Front {
+        text: "{\"a\" ",
+        events: "{ 0+1; ",
+        span: "0+1",
+        stops: "{ } [ ] , null true false \"b\" \"\\n\" 7 -7 18446744073709551616 -9223372036854775809 7.5",
+        expected: "':'",
+        end: "3(Eof, ':')",
+    },
+    Front {
+        text: "{\"a\":",
+        events: "{ 0+1; key(a) 1+3; ",
+        span: "4+1",
+        stops: "} ] : ,",
+        expected: "value",
+        end: "2(value)",
+    },
+    Front {
+        text: "{\"a\":1 ",
+        events: "{ 0+1; key(a) 1+3; U64(1) 5+1; ",
+        span: "5+1",
+        stops: "{ [ ] : null true false \"b\" \"\\n\" 7 -7 18446744073709551616 -9223372036854775809 7.5",
+        expected: "',' or '}'",
+        end: "2(',' or '}')",
+    },
+    Front {
+        text: "[",
+        events: "[ 0+1; ",
+        span: "0+1",
+        stops: ", :",
+        expected: "value or ']'",
+        end: "2(value or ']')",
+    },
+    Front {
+        text: "[1,",
+        events: "[ 0+1; U64(1) 1+1; ",
+        span: "1+1",
+        stops: ", :",
+        expected: "value or ']'",
+        end: "2(value or ']')",
+    },
+    Front {
+        text: "[1,",
+        events: "[ 0+1; U64(1) 1+1; ",
+        span: "1+1",
+        stops: "}",
+        expected: "value",
+        end: "2(value or ']')",
+    },
+    Front {
+        text: "[1 ",
+        events: "[ 0+1; U64(1) 1+1; ",
+        span: "1+1",
+        stops: "{ } [ : null true false \"b\" \"\\n\" 7 -7 18446744073709551616 -9223372036854775809 7.5",
+        expected: "',' or ']'",
+        end: "2(',' or ']')",
+    },
+];
+
 #[test]
 fn places(rt: HostRuntime) -> Result<(), Fail> {
     let alloc = rt.alloc();
-    for front in [
-        Front {
-            text: "",
-            events: "",
-            span: "0+0",
-            stops: "} ] : ,",
-            expected: "value",
-            end: "2(value)",
-        },
-        Front {
-            text: "{",
-            events: "{ 0+1; ",
-            span: "0+1",
-            stops: "{ [ ] : , null true false 7 -7 18446744073709551616 -9223372036854775809 7.5",
-            expected: "field name or '}'",
-            end: "2(field name or '}')",
-        },
-        Front {
-            text: "{\"a\":1,",
-            events: "{ 0+1; key(a) 1+3; U64(1) 5+1; ",
-            span: "5+1",
-            stops: "{ [ ] : , null true false 7 -7 18446744073709551616 -9223372036854775809 7.5",
-            expected: "field name or '}'",
-            end: "2(field name or '}')",
-        },
-        Front {
-            text: "{\"a\" ",
-            events: "{ 0+1; ",
-            span: "0+1",
-            stops: "{ } [ ] , null true false \"b\" \"\\n\" 7 -7 18446744073709551616 -9223372036854775809 7.5",
-            expected: "':'",
-            end: "3(Eof, ':')",
-        },
-        Front {
-            text: "{\"a\":",
-            events: "{ 0+1; key(a) 1+3; ",
-            span: "4+1",
-            stops: "} ] : ,",
-            expected: "value",
-            end: "2(value)",
-        },
-        Front {
-            text: "{\"a\":1 ",
-            events: "{ 0+1; key(a) 1+3; U64(1) 5+1; ",
-            span: "5+1",
-            stops: "{ [ ] : null true false \"b\" \"\\n\" 7 -7 18446744073709551616 -9223372036854775809 7.5",
-            expected: "',' or '}'",
-            end: "2(',' or '}')",
-        },
-        Front {
-            text: "[",
-            events: "[ 0+1; ",
-            span: "0+1",
-            stops: ", :",
-            expected: "value or ']'",
-            end: "2(value or ']')",
-        },
-        Front {
-            text: "[1,",
-            events: "[ 0+1; U64(1) 1+1; ",
-            span: "1+1",
-            stops: ", :",
-            expected: "value or ']'",
-            end: "2(value or ']')",
-        },
-        Front {
-            text: "[1,",
-            events: "[ 0+1; U64(1) 1+1; ",
-            span: "1+1",
-            stops: "}",
-            expected: "value",
-            end: "2(value or ']')",
-        },
-        Front {
-            text: "[1 ",
-            events: "[ 0+1; U64(1) 1+1; ",
-            span: "1+1",
-            stops: "{ } [ : null true false \"b\" \"\\n\" 7 -7 18446744073709551616 -9223372036854775809 7.5",
-            expected: "',' or ']'",
-            end: "2(',' or ']')",
-        },
-    ] {
+    for front in FRONTS {
         place(&rt, alloc, &front)?;
     }
     Ok(())
 }
 
+const TOKENS: [(&str, &str); 18] = [
+    ("[,]", "[ 0+1; refused 3(Comma, value or ']') 1+1; span 0+1"),
+    ("[}", "[ 0+1; refused 3(ObjectEnd, value) 1+1; span 0+1"),
+    ("{\"a\"", "{ 0+1; refused 3(Eof, ':') 4+0; span 0+1"),
+    (
+        "[1",
+        "[ 0+1; U64(1) 1+1; refused 2(',' or ']') 2+0; span 1+1",
+    ),
+    (".5", "refused 1(., valid JSON token) 0+1; span 0+0"),
+    ("1e", "refused 1(?, valid JSON token) 0+2; span 0+0"),
+    ("-", "refused 2(in number) 0+1; span 0+0"),
+    ("-x", "refused 1(x, valid JSON token) 0+1; span 0+0"),
+    ("trux", "refused 1(x, valid JSON token) 3+1; span 0+0"),
+    ("tru", "refused 2(in literal) 0+3; span 0+0"),
+    (
+        "[truex]",
+        "[ 0+1; Bool(true) 1+4; refused 1(x, valid JSON token) 5+1; span 1+4",
+    ),
+    ("[\"a\\\"", "[ 0+1; refused 2(in string) 1+4; span 0+1"),
+    (
+        "340282366920938463463374607431768211456",
+        "refused 1(?, valid JSON token) 0+39; span 0+0",
+    ),
+    (
+        "-170141183460469231731687303715884105729",
+        "refused 1(?, valid JSON token) 0+40; span 0+0",
+    ),
+    ("{1e", "{ 0+1; refused 1(?, valid JSON token) 1+2; span 0+1"),
+    (
+        "{\"a\"x",
+        "{ 0+1; refused 1(x, valid JSON token) 4+1; span 0+1",
+    ),
+    ("{\"a\"\"\\udc00\"", "{ 0+1; refused 4 7+4; span 0+1"),
+    (
+        "{\"k\":{\"x\":\"\\ud800\"},\"z\":2}",
+        "{ 0+1; key(k) 1+3; { 5+1; key(x) 6+3; refused 4 11+6; span 9+1",
+    ),
+];
+
 #[test]
 fn tokens(rt: HostRuntime) -> Result<(), Fail> {
     let alloc = rt.alloc();
-    for (input, want) in [
-        ("[,]", "[ 0+1; refused 3(Comma, value or ']') 1+1; span 0+1"),
-        ("[}", "[ 0+1; refused 3(ObjectEnd, value) 1+1; span 0+1"),
-        ("{\"a\"", "{ 0+1; refused 3(Eof, ':') 4+0; span 0+1"),
-        (
-            "[1",
-            "[ 0+1; U64(1) 1+1; refused 2(',' or ']') 2+0; span 1+1",
-        ),
-        (".5", "refused 1(., valid JSON token) 0+1; span 0+0"),
-        ("1e", "refused 1(?, valid JSON token) 0+2; span 0+0"),
-        ("-", "refused 2(in number) 0+1; span 0+0"),
-        ("-x", "refused 1(x, valid JSON token) 0+1; span 0+0"),
-        ("trux", "refused 1(x, valid JSON token) 3+1; span 0+0"),
-        ("tru", "refused 2(in literal) 0+3; span 0+0"),
-        (
-            "[truex]",
-            "[ 0+1; Bool(true) 1+4; refused 1(x, valid JSON token) 5+1; span 1+4",
-        ),
-        ("[\"a\\\"", "[ 0+1; refused 2(in string) 1+4; span 0+1"),
-        (
-            "340282366920938463463374607431768211456",
-            "refused 1(?, valid JSON token) 0+39; span 0+0",
-        ),
-        (
-            "-170141183460469231731687303715884105729",
-            "refused 1(?, valid JSON token) 0+40; span 0+0",
-        ),
-        ("{1e", "{ 0+1; refused 1(?, valid JSON token) 1+2; span 0+1"),
-        (
-            "{\"a\"x",
-            "{ 0+1; refused 1(x, valid JSON token) 4+1; span 0+1",
-        ),
-        ("{\"a\"\"\\udc00\"", "{ 0+1; refused 4 7+4; span 0+1"),
-        (
-            "{\"k\":{\"x\":\"\\ud800\"},\"z\":2}",
-            "{ 0+1; key(k) 1+3; { 5+1; key(x) 6+3; refused 4 11+6; span 9+1",
-        ),
-    ] {
+    for (input, want) in TOKENS {
         row(&rt, alloc, &BOTH, input, want)?;
     }
     row(
