@@ -6,3 +6,4 @@ pub mod CursorLaws
 pub mod KeptLaws
 pub mod CursorSteps
 pub mod CursorRows
+pub mod CursorAgrees

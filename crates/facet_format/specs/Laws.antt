@@ -1,7 +1,8 @@
 -- What the definitions of numbers and cursors mean, in the subject's own words. Each law is the contract of a function of the module `laws`.
 use Rattle.std.specs.Prelude.{◌≡◌, ℕ, ◌≤◌, ◌↔◌, true, false, List, length, take}
 use Rattle.facet_format.specs.Event.{Passed}
-use Rattle.facet_format.specs.Cursor.{Cursor, Step, Answer, next, peek}
+use Rattle.facet_format.specs.Cursor.{Cursor, Call, Step, Run, Answer, next, peek}
+use Rattle.facet_format.specs.Agree.{Agree, AgreeToLack}
 use Rattle.facet_format.specs.Number.{Hint, IsNumber, parts, parts_len, parts_hint, is_bare, begins_number, is_number}
 
 -- Where more than a minus stands, the number at the front is a number, and no longer front of the bytes is one.
@@ -19,3 +20,12 @@ NumberIsTested = (text : List ℕ) (hint : Hint) → (is_number text hint ≡ tr
 abbrev pub PeekIsNext : Type 0
 PeekIsNext = (w : List Passed) (c between last : Cursor) (shown answer : Answer) → Step w c peek shown between →
     Step w between next answer last → shown ≡ answer
+
+-- A cursor answers a call in one way, and is then in one state, want of memory aside.
+abbrev pub StepsAgree : Type 0
+StepsAgree = (w : List Passed) (c d e : Cursor) (call : Call) (a b : Answer) → Step w c call a d → Step w c call b e → Agree a b d e
+
+-- Two runs of one cursor with the same calls give the same answers, up to the first want of memory in either.
+abbrev pub RunsAgree : Type 0
+RunsAgree = (w : List Passed) (c d e : Cursor) (calls : List Call) (these those : List Answer) → Run w c calls these d →
+    Run w c calls those e → AgreeToLack these those

@@ -9,3 +9,4 @@ pub mod HeldText
 pub mod Cursor
 pub mod Kept
 pub mod Standing
+pub mod Agree

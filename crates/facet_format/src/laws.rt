@@ -1,7 +1,7 @@
 //! What the definitions of numbers and cursors mean, in the subject's own words: each law is the contract of a function
 //! without effect.
 
-ghost use Rattle.facet_format.specs.Laws.{NumberIsLongest, NumberIsTested, PeekIsNext};
+ghost use Rattle.facet_format.specs.Laws.{NumberIsLongest, NumberIsTested, PeekIsNext, StepsAgree, RunsAgree};
 
 /// Where more than a minus stands, the number at the front of the bytes is a number, and no longer front of them is one
 /// (RFC 8259, section 6).
@@ -18,4 +18,14 @@ pub fn number_is_tested()
 /// them nowhere.
 pub fn peek_is_next()
     ensures { PeekIsNext }
+{}
+
+/// A cursor answers a call in one way, and is then in one state, unless one of two answers is want of memory.
+pub fn steps_agree()
+    ensures { StepsAgree }
+{}
+
+/// Two runs of one cursor with the same calls give the same answers, up to the first want of memory in either.
+pub fn runs_agree()
+    ensures { RunsAgree }
 {}

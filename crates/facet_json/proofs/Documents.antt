@@ -38,7 +38,7 @@ module _ (buffer : List ℕ) (mode : Mode) where
 
   read_by : (t : Tree) (rest : Future) → IsValueRead (future_of (fresh buffer mode)) t rest → RootComes buffer mode →
       (root : Node) × IsDocument buffer mode root t
-  read_by t rest read (document_comes node value d) =
+  read_by t rest read (document_comes node value d comes) =
       (node, subst (λ v. IsDocument buffer mode node v) (sym (read-only t rest read node value d)) d)
   read_by t rest read (front_comes events here left front e) =
       absurd (read.whole here left (subst (λ f. Breaks here left f) (sym e) (begun-breaks buffer front.begun)))
@@ -50,7 +50,7 @@ module _ (buffer : List ℕ) (mode : Mode) where
 
   unread_by : (r : Refusal) → IsValueUnread buffer (future_of (fresh buffer mode)) r → RootComes buffer mode →
       LacksMemory r ⊎ Refuses buffer mode r
-  unread_by r unread (document_comes node value d) = inl (unread-only r unread node value d)
+  unread_by r unread (document_comes node value d comes) = inl (unread-only r unread node value d)
   unread_by r unread (front_comes events here left front e) =
       elim (unread.broken here left (subst (λ f. Breaks here left f) (sym e) (begun-breaks buffer front.begun))) [
         | inl h ↦ inl h

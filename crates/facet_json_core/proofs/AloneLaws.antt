@@ -78,7 +78,7 @@ module _ (complains : Token → Refusal → Type 0) where
 given_by : (buffer : List ℕ) (mode : Mode) (complains : Token → Refusal → Type 0) {new : Now} {calls : List Call} {answers : List Answer} →
     RootComes buffer mode → ((node : Node) (value : Tree) → IsDocument buffer mode node value → ⊥) → AllNext calls →
     MovesAll complains (fresh buffer mode) calls answers new → GivenAlone buffer mode complains answers
-given_by buffer mode complains (document_comes node value d) none only moves = absurd (none node value d)
+given_by buffer mode complains (document_comes node value d e) none only moves = absurd (none node value d)
 given_by buffer mode complains (front_comes events here rest front e) none only moves = record {
   events = events;
   here = here;

@@ -244,7 +244,8 @@ longest-once m ts events others here there rest left begun e front =
 
 outcome : (buffer : List ℕ) (mode : Mode) → ValueComes (meaning buffer) [] root (tokens buffer mode) → RootComes buffer mode
 outcome buffer mode (value_stands rest node value s t) =
-    document_comes node value (record { rest = rest; reads = record { spells = s; has_tree = t } })
+    let d : IsDocument buffer mode node value = record { rest = rest; reads = record { spells = s; has_tree = t } } in
+    document_comes node value d (document-comes buffer mode node value d)
 outcome buffer mode (value_stops events here rest b e) =
     front_comes events here rest (stuck-longest (meaning buffer) (tokens buffer mode) events here rest b e) e
 
@@ -291,6 +292,6 @@ front-walk m ts mid rest node value events here b s t =
 pub given_once : (buffer : List ℕ) (mode : Mode) → ((node : Node) (value : Tree) → IsDocument buffer mode node value → ⊥) →
     RootComes buffer mode → (events : List Passed) × IsGiven buffer mode events
     × ((others : List Passed) → IsGiven buffer mode others → others ≡ events)
-given_once buffer mode none (document_comes node value d) = absurd (none node value d)
+given_once buffer mode none (document_comes node value d e) = absurd (none node value d)
 given_once buffer mode none (front_comes events here rest front e) =
     (events, (here, rest, front), λ others given. longest-once (meaning buffer) (tokens buffer mode) events others here given.0 rest given.1 front.begun e given.2)

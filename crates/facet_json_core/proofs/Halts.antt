@@ -224,7 +224,7 @@ module _ (buffer : List ℕ) (m : Meaning) (complains : Token → Refusal → Ty
 pub refuses_some : (buffer : List ℕ) (mode : Mode) (complains : Token → Refusal → Type 0) →
     ComplainsAlways (meaning buffer) complains → ((node : Node) (value : Tree) → IsDocument buffer mode node value → ⊥) →
     RootComes buffer mode → (events : List Passed) × (r : Refusal) × RefusesBehind buffer mode complains events r
-refuses_some buffer mode complains always none (document_comes node value d) = absurd (none node value d)
+refuses_some buffer mode complains always none (document_comes node value d e) = absurd (none node value d)
 refuses_some buffer mode complains always none (front_comes events here rest front e) =
     let found = stuck-halts buffer (meaning buffer) complains always (tokens buffer mode) [] (within root) events here rest tt e in
     (events, found.0, record { here = here; rest = rest; front = front; stuck = found.1 })

@@ -37,3 +37,4 @@ pub mod Colons
 pub mod Advancing
 pub mod Ranges
 pub mod Scripts
+pub mod ParsersAgree

@@ -1,5 +1,5 @@
 -- Laws of a parser's moves, on every input: what is kept, what is repeated, a peek is the next event, save and restore.
-use Rattle.std.proofs.Common.{◌≡◌, ℕ, zero, suc, Bool, true, false, List, [], ◌∷◌, ◌++◌, length, Option, Some, None, refl, ap}
+use Rattle.std.proofs.Common.{◌≡◌, ℕ, zero, suc, Bool, true, false, List, [], ◌∷◌, ◌++◌, length, Option, Some, None, refl, ap, ◌∙◌}
 use Rattle.std.specs.Prelude.{Ok, Err}
 use Rattle.facet_json_scan.specs.Gap.{Mode}
 use Rattle.facet_format.specs.Span.{Span}
@@ -15,7 +15,7 @@ use Rattle.facet_format.specs.Kept.{found}
 use Rattle.facet_format.specs.Cursor.{Call, next, peek, events, save, restore, span, Answer, event, saved, restored, Cursor, Run, repeated, start}
 use Rattle.facet_format.specs.Cursor as cursor
 use Rattle.facet_json_core.specs.Future.{Future, gives}
-use Rattle.facet_json_core.specs.Now.{Standing, Now, StandsAt, fresh, IsStep, IsRun}
+use Rattle.facet_json_core.specs.Now.{Standing, Now, StandsAt, fresh, SameInput}
 use Rattle.facet_json_core.specs.Move.{Passes, no_events, one_event, with_kept, back_at, Moves, repeats, passes, passes_without_memory, passes_the_end, passes_nothing, peeks, peeks_without_memory, peeks_at_the_end, peeks_at_nothing, gives_none, gives_all, gives_to_the_end, gives_up, gives_without_memory, saves, saves_at_the_limit, saves_without_memory, restores, restores_nothing, tells, MovesAll, no_calls, one_call}
 use Rattle.facet_json_core.proofs.Stands.{fresh-stands}
 use Rattle.facet_json_core.proofs.CursorMoves.{moves-step}
@@ -164,6 +164,15 @@ module _ (complains : Token → Refusal → Type 0) where
   moves-length (no_calls now) = refl
   moves-length (one_call now between new call answer calls answers move more) = ap suc (moves-length more)
 
+  -- All calls in order leave the input and the mode.
+  pub all-input : {now new : Now} {calls : List Call} {answers : List Answer} → MovesAll complains now calls answers new →
+      SameInput now new
+  all-input (no_calls now) = record { buffer = refl; mode = refl }
+  all-input (one_call now between new call answer calls answers move more) =
+      let first = moves-input now between move in
+      let others = all-input more in
+      record { buffer = others.buffer ∙ first.0; mode = others.mode ∙ first.1 }
+
   -- On a document every list of calls is a run of the cursor.
   pub moves-run : (w : List Passed) {now new : Now} (c : Cursor) {calls : List Call} {answers : List Answer} → StandsAt now w c →
       MovesAll complains now calls answers new → (d : Cursor) × Run w c calls answers d × StandsAt new w d
@@ -172,16 +181,6 @@ module _ (complains : Token → Refusal → Type 0) where
       let step = moves-step complains now w c stands move in
       let rest = moves-run w step.0 step.2 more in
       (rest.0, cursor.one_call c step.0 rest.0 call answer calls answers step.1 rest.1, rest.2)
-
-  -- The same of one move, wherever the parser stands on a walk.
-  pub moves-is_step : {now new : Now} {call : Call} {answer : Answer} → Moves complains now call answer new →
-      IsStep now call answer new
-  moves-is_step {now = now} move w c stands = moves-step complains now w c stands move
-
-  -- The same of a list of calls.
-  pub moves-is_run : {now new : Now} {calls : List Call} {answers : List Answer} → MovesAll complains now calls answers new →
-      IsRun now calls answers new
-  moves-is_run moves w c stands = moves-run w c stands moves
 
 -- On a document a new parser answers every list of calls as the cursor does from its start.
 pub document-run : (complains : Token → Refusal → Type 0) (buffer : List ℕ) (mode : Mode) (node : Node) (value : Tree)

@@ -1,15 +1,19 @@
 -- Lists of calls: the calls made so far, and one more.
-use Rattle.std.proofs.Common.{◌≡◌, ℕ, zero, suc, ◌+◌, ◌<◌, ◌≤◌, List, [], ◌∷◌, ◌++◌, map, length, take, get_or, refl, ap, subst, add-one, arith}
+use Rattle.std.proofs.Common.{◌≡◌, ℕ, zero, suc, ◌+◌, ◌<◌, ◌≤◌, List, [], ◌∷◌, ◌++◌, map, length, take, get_or, refl, sym, ap, subst, add-one, arith}
 use Rattle.std.proofs.lemmas.List.{map-append, take_all}
+use Rattle.std.specs.List.{All}
+use Rattle.std.proofs.lemmas.List.Elements.{All-nil, All-push, All-same}
 use Rattle.facet_json_core.specs.declared.script.Call.{Call}
 use Rattle.facet_json_core.specs.declared.script.Answer.{Answer}
 use Rattle.facet_format.specs.Event.{Passed}
+use Rattle.facet_format.specs.Cursor as cursor
 use Rattle.facet_format.specs.Cursor.{Cursor, Run}
 use Rattle.facet_json_core.specs.Refusal.{Complains}
-use Rattle.facet_json_core.specs.Now.{Now, StandsAt}
+use Rattle.facet_json_core.specs.Now.{Now, StandsAt, SameInput}
 use Rattle.facet_json_core.specs.Move.{Moves, MovesAll}
+use Rattle.facet_json_core.specs.Sound.{AnswerWithin}
 use Rattle.facet_json_core.specs.ScriptViews.{call_of, answer_of}
-use Rattle.facet_json_core.proofs.MoveLaws.{moves-one_more, moves-run}
+use Rattle.facet_json_core.proofs.MoveLaws.{moves-input, moves-one_more, moves-run, all-input}
 
 take-next : (calls : List Call) (i : ℕ) (d : Call) → i < length calls → take (suc i) calls ≡ take i calls ++ get_or calls i d ∷ []
 take-next [] i d h = absurd (omega (arith, h))
@@ -39,3 +43,21 @@ pub made-run : (old new : Now) (calls : List Call) (answers : List Answer) →
     (w : List Passed) (c : Cursor) → StandsAt old w c →
     (d : Cursor) × Run w c (map call_of calls) (map answer_of answers) d × StandsAt new w d
 made-run old new calls answers all w c stands = moves-run Complains w c stands all
+
+-- Of no answers all lie within.
+pub made-none : (buffer : List ℕ) (answers : List Answer) → answers ≡ [] → All (AnswerWithin buffer) (map answer_of answers)
+made-none buffer answers e = rw e (All-nil (AnswerWithin buffer))
+
+-- With one more that lies within, all answers do.
+pub made-within : (mid new : Now) (call : cursor.Call) (answers more : List Answer) (a : Answer) → more ≡ answers ++ a ∷ [] →
+    All (AnswerWithin mid.buffer) (map answer_of answers) → Moves Complains mid call (answer_of a) new →
+    AnswerWithin new.buffer (answer_of a) → All (AnswerWithin new.buffer) (map answer_of more)
+made-within mid new call answers more a e all move last =
+    let same = (moves-input Complains mid new move).0 in
+    let before = subst (λ b. All (AnswerWithin b) (map answer_of answers)) (sym same) all in
+    let both : map answer_of more ≡ map answer_of answers ++ answer_of a ∷ [] = rw (e, map-append) refl in
+    All-same (AnswerWithin new.buffer) _ _ both (All-push (AnswerWithin new.buffer) (map answer_of answers) (answer_of a) before last)
+
+-- The calls leave the input.
+pub made-input : (old new : Now) (calls : List cursor.Call) (answers : List cursor.Answer) → MovesAll Complains old calls answers new → SameInput old new
+made-input old new calls answers all = all-input Complains all

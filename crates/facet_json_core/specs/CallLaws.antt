@@ -6,9 +6,17 @@ use Rattle.facet_format.specs.Event.{Event}
 use Rattle.facet_format.specs.Kept.{found}
 use Rattle.facet_format.specs.Cursor.{Call, next, peek, save, restore, Answer, event, batch, saved, greatest, no_memory_at, repeated}
 use Rattle.facet_json_core.specs.Refusal.{Complains}
-use Rattle.facet_json_core.specs.Now.{Standing, Now, fresh, span_of, SameInput}
+use Rattle.facet_format.specs.Standing.{IsStep}
+use Rattle.facet_json_core.specs.Now.{Standing, Now, fresh, span_of, SameInput, StandsAt}
 use Rattle.facet_json_core.specs.Move.{Moves, MovesAll, with_kept}
 use Rattle.facet_json_core.specs.Alone.{AllNext}
+
+-- ---- a document
+
+-- Each call is one step of the cursor, wherever the parser stands on a walk.
+abbrev pub MoveIsStep : Type 0
+MoveIsStep = (old new : Now) (call : Call) (answer : Answer) → Moves Complains old call answer new →
+    IsStep StandsAt old call answer new
 
 -- ---- a look ahead
 

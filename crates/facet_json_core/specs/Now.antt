@@ -7,7 +7,7 @@ use Rattle.facet_json_core.specs.Meaning.{meaning}
 use Rattle.facet_json_core.specs.Place.{root}
 use Rattle.facet_format.specs.Complaint.{Refusal}
 use Rattle.facet_format.specs.Event.{ContainerKind, Passed}
-use Rattle.facet_format.specs.Cursor.{Call, Answer, Spot, Cursor, Step, Run, last_of}
+use Rattle.facet_format.specs.Cursor.{Spot, Cursor, last_of}
 use Rattle.facet_json_core.specs.Future.{Future, gives, finished, events_before, Stage, within, reads}
 
 -- what a point keeps
@@ -130,13 +130,3 @@ pub record StandsAt (now : Now) (w : List Passed) (c : Cursor) : Type 0 where
   pub refusal : now.refusal ≡ c.refusal
   pub kept : KeptAlike now.buffer now.mode w now.kept c.kept
   pub counter : now.counter ≡ c.counter
-
--- Wherever the old parser stands on a walk, the call is a step of the cursor there, and the new parser stands behind it.
-abbrev pub IsStep : Now → Call → Answer → Now → Type 0
-IsStep old call answer new = (w : List Passed) (c : Cursor) → StandsAt old w c →
-    (d : Cursor) × Step w c call answer d × StandsAt new w d
-
--- The same of calls in order.
-abbrev pub IsRun : Now → List Call → List Answer → Now → Type 0
-IsRun old calls answers new = (w : List Passed) (c : Cursor) → StandsAt old w c →
-    (d : Cursor) × Run w c calls answers d × StandsAt new w d

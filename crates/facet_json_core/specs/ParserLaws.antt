@@ -6,6 +6,7 @@ use Rattle.facet_json_scan.specs.Tokens.{Tokens, tokens}
 use Rattle.facet_format.specs.Complaint.{Refusal}
 use Rattle.facet_format.specs.Event.{Passed}
 use Rattle.facet_format.specs.Cursor.{Call, Answer, start}
+use Rattle.facet_format.specs.Agree.{AgreeToLack}
 use Rattle.facet_json_core.specs.Node.{Node}
 use Rattle.facet_json_core.specs.Tree.{Tree}
 use Rattle.facet_json_core.specs.Meaning.{meaning}
@@ -13,7 +14,7 @@ use Rattle.facet_json_core.specs.Document.{IsDocument}
 use Rattle.facet_json_core.specs.Place.{Place, root}
 use Rattle.facet_json_core.specs.Refusal.{Complains, Refuses}
 use Rattle.facet_json_core.specs.Walk.{walk}
-use Rattle.facet_json_core.specs.Future.{stuck, events_before, within, reads}
+use Rattle.facet_json_core.specs.Future.{finished, stuck, events_before, within, reads}
 use Rattle.facet_json_core.specs.Now.{Now, fresh, StandsAt}
 use Rattle.facet_json_core.specs.Move.{MovesAll}
 use Rattle.facet_json_core.specs.Begun.{LongestFront, RefusesBehind}
@@ -26,12 +27,14 @@ NewStands = (buffer : List ℕ) (mode : Mode) (node : Node) (value : Tree) → I
 
 -- What comes from the root of an input on: the walk of its document, or what the longest front gives, behind which nothing goes on.
 pub data RootComes (buffer : List ℕ) (mode : Mode) : Type 0 where
-  document_comes : (node : Node) (value : Tree) → IsDocument buffer mode node value → RootComes buffer mode
+  document_comes : (node : Node) (value : Tree) → IsDocument buffer mode node value →
+      reads (meaning buffer) [] (within root) (tokens buffer mode) ≡ events_before (walk (meaning buffer) node) finished →
+      RootComes buffer mode
   front_comes : (events : List Passed) (here : Place) (rest : Tokens) →
       LongestFront (meaning buffer) (tokens buffer mode) events here rest →
       reads (meaning buffer) [] (within root) (tokens buffer mode) ≡ events_before events (stuck here rest) → RootComes buffer mode
 
--- Each input has a document, or a longest front behind which nothing comes.
+-- Each input has a document, whose walk comes, or a longest front behind which nothing comes.
 abbrev pub InputComes : Type 0
 InputComes = (buffer : List ℕ) (mode : Mode) → RootComes buffer mode
 
@@ -54,3 +57,10 @@ abbrev pub AloneIsGiven : Type 0
 AloneIsGiven = (buffer : List ℕ) (mode : Mode) (new : Now) (calls : List Call) (answers : List Answer) →
     ((node : Node) (value : Tree) → IsDocument buffer mode node value → ⊥) → AllNext calls →
     MovesAll Complains (fresh buffer mode) calls answers new → GivenAlone buffer mode Complains answers
+
+-- Two new parsers of an input with a document answer the same calls alike, up to the first want of memory in either. A trusted parser and
+-- one that checks are both new ones.
+abbrev pub TrustedAgrees : Type 0
+TrustedAgrees = (buffer : List ℕ) (mode : Mode) (node : Node) (value : Tree) (calls : List Call) (these those : List Answer)
+    (trusted checking : Now) → IsDocument buffer mode node value → MovesAll Complains (fresh buffer mode) calls these trusted →
+    MovesAll Complains (fresh buffer mode) calls those checking → AgreeToLack these those

@@ -11,6 +11,7 @@ pub use documents::{
 };
 pub use fronts::{begun_is_front, front_gives_walk, front_is_begun, one_given};
 pub use parsers::{
-    alone_is_given, behind_is_refused, ends_in_time, input_comes, new_stands, numbers_are_new,
-    peek_is_next, refusal_repeats, restore_brings_back, save_is_numbered, unknown_changes_nothing,
+    alone_is_given, behind_is_refused, ends_in_time, input_comes, move_is_step, new_stands,
+    numbers_are_new, peek_is_next, refusal_repeats, restore_brings_back, save_is_numbered,
+    trusted_agrees, unknown_changes_nothing,
 };

@@ -25,7 +25,28 @@ use std::alloc::Global;
 use std::collections::VecDeque;
 use std::marker::Model;
 
-/// A parser of an input that lives for `'de`.
+/// A parser of a JSON document (RFC 8259, sections 2 to 7), event by event, over an input that lives for `'de`.
+///
+/// The document is the value at the front of the input; what stands behind it is not looked at. Offsets and lengths of
+/// spans are in bytes.
+///
+/// ```text
+/// let mut parser = JsonParser::new(alloc, b"{\"a\":[1]}");
+/// parser.next_event()              Ok: StructStart(Object), span 0+1
+/// parser.peek_event()              Ok: FieldKey of a, span 1+3
+/// parser.current_span()            Some: span 4+1, the colon behind the key
+/// parser.next_event()              Ok: FieldKey of a, span 1+3
+/// parser.save()                    Ok: SavePoint(1)
+/// parser.next_event()              Ok: SequenceStart(Array), span 5+1
+/// parser.restore(SavePoint(1))
+/// parser.next_events(&mut q, 9)    Ok: 4, and q has SequenceStart, Scalar of U64(1), SequenceEnd, StructEnd
+/// parser.next_event()              Ok: None
+/// ```
+///
+/// # Errors
+///
+/// A refusal of a call for events sticks: calls for events and saves repeat it, until a point that is kept is restored.
+/// A refused save changes nothing, and does not stick.
 #[derive(Debug, Drop)]
 pub struct JsonParser<'de> {
     alloc: Global,
@@ -54,21 +75,23 @@ impl<'de> Model for JsonParser<'de> {
 }
 
 impl<'de> JsonParser<'de> {
-    /// A parser of a plain document.
+    /// A parser of a document without comments, in front of the input. It takes no memory.
     pub fn new(alloc: Global, input: &'de [u8]) -> JsonParser<'de>
         ensures { result ≡ fresh input.now plain }
     {
         JsonParser::in_mode(alloc, input, Mode::Plain)
     }
 
-    /// A parser of a document with comments.
+    /// A parser of a document in which comments may stand wherever white space may: `//` to the line's end, and `/*` to
+    /// `*/`. It takes no memory.
     pub fn new_jsonc(alloc: Global, input: &'de [u8]) -> JsonParser<'de>
         ensures { result ≡ fresh input.now jsonc }
     {
         JsonParser::in_mode(alloc, input, Mode::Jsonc)
     }
 
-    /// A parser of a plain document, over an input that is UTF-8. It answers as the one that checks its strings.
+    /// The parser that `new` makes, for a caller that knows the input to be UTF-8, as the bytes of a `str` are. It
+    /// answers as the one that checks its strings.
     pub fn new_trusted(alloc: Global, input: &'de [u8]) -> JsonParser<'de>
         requires utf8 { IsUtf8 input.now }
         ensures { result ≡ fresh input.now plain }
@@ -76,7 +99,8 @@ impl<'de> JsonParser<'de> {
         JsonParser::new(alloc, input)
     }
 
-    /// A parser of a document with comments, over an input that is UTF-8. It answers as the one that checks its strings.
+    /// The parser that `new_jsonc` makes, for a caller that knows the input to be UTF-8, as the bytes of a `str` are. It
+    /// answers as the one that checks its strings.
     pub fn new_jsonc_trusted(alloc: Global, input: &'de [u8]) -> JsonParser<'de>
         requires utf8 { IsUtf8 input.now }
         ensures { result ≡ fresh input.now jsonc }
@@ -128,7 +152,21 @@ impl<'de> JsonParser<'de> {
         ParseError::from(refused)
     }
 
-    /// The next event, or `None` at the document's end.
+    /// Passes the next event and answers it, or `None` behind the document's last one, again and again.
+    ///
+    /// # Errors
+    ///
+    /// The input does not go on with a document; the span is that of the bytes that are wrong.
+    ///
+    /// - `UnexpectedChar`: no token begins or goes on so, or a character is wrong in an escape (RFC 8259, sections 2, 6
+    ///   and 7). A number without a value is refused as the character `?`, with the number's span.
+    /// - `UnexpectedEof`: the input ends. The span is empty at its end, or goes from the start of the piece that is cut.
+    /// - `UnexpectedToken`: no document goes on with this token, or the input ends behind a key.
+    /// - `InvalidUtf8`: a string's bytes are not UTF-8 (section 8.1).
+    /// - `OutOfMemory`: no memory for an open container or for an owned text, with the current span. An event that a peek
+    ///   answered takes none.
+    ///
+    /// A refusal sticks, until a point that is kept is restored.
     pub fn next_event(&mut self) -> Result<Option<ParseEvent<'de>>, ParseError>
         ensures moves { Moves Complains self.old next (answer_of_event result) self.new }
         ensures within { AnswerWithin self.new.buffer (answer_of_event result) }
@@ -139,7 +177,12 @@ impl<'de> JsonParser<'de> {
         Ok(self.standing.take())
     }
 
-    /// The next event, which stays the next one.
+    /// Answers the next event and lets it stay the next one, or `None` behind the document's last one.
+    ///
+    /// # Errors
+    ///
+    /// As `next_event`, and `OutOfMemory`, with the current span, where the event's owned text can't be copied. A refusal
+    /// sticks, until a point that is kept is restored.
     pub fn peek_event(&mut self) -> Result<Option<ParseEvent<'de>>, ParseError>
         ensures moves { Moves Complains self.old peek (answer_of_event result) self.new }
         ensures within { AnswerWithin self.new.buffer (answer_of_event result) }
@@ -174,8 +217,14 @@ impl<'de> JsonParser<'de> {
         }
     }
 
-    /// Appends the next events to the queue, up to so many, and answers how many they are. Where a refusal comes, the
-    /// events before it are appended.
+    /// Passes the next events, up to so many, appends them to the queue and answers how many they are. They are fewer
+    /// only where the document ends.
+    ///
+    /// # Errors
+    ///
+    /// As `next_event`, and `OutOfMemory`, with the current span, where the queue can't grow. The events before the
+    /// refusal are passed and appended. A refusal sticks, until a point that is kept is restored; a call for no events
+    /// answers 0 even then.
     pub fn next_events(
         &mut self,
         buf: &mut VecDeque<ParseEvent<'de>>,
@@ -196,7 +245,15 @@ impl<'de> JsonParser<'de> {
         Ok(limit)
     }
 
-    /// Keeps where it stands, under a number of its own.
+    /// Keeps where it stands, an event that was peeked at included, under the next number: the first point has 1. Numbers
+    /// are not used again.
+    ///
+    /// # Errors
+    ///
+    /// - `OutOfMemory`: no memory to keep the point, with the current span.
+    /// - `SaveLimit`: the last point has the greatest number, 2^64 - 1; with the current span.
+    ///
+    /// Both change nothing and don't stick. A refusal that sticks already is repeated.
     pub fn save(&mut self) -> Result<SavePoint, ParseError>
         ensures moves { Moves Complains self.old save (answer_of_save result) self.new }
         ensures within { AnswerWithin self.new.buffer (answer_of_save result) }
@@ -221,7 +278,8 @@ impl<'de> JsonParser<'de> {
         }
     }
 
-    /// Goes back to a point that is kept, and drops the point. Another point changes nothing.
+    /// Goes back to where it stood at the save of a point that is kept, with no refusal, and drops the point; other points
+    /// stay. A point that is not kept changes nothing. It takes no memory.
     pub fn restore(&mut self, point: SavePoint)
         ensures moves { Moves Complains self.old (restore point.0) restored self.new }
         ensures input { SameInput self.old self.new }
@@ -234,7 +292,8 @@ impl<'de> JsonParser<'de> {
         }
     }
 
-    /// The bytes of the token that was read last, also by a peek.
+    /// The bytes of the last token that an event took, also of an event that was peeked at: of a key the colon's, of
+    /// another event its own. Before the first event the span is 0+0. It is always there.
     pub fn current_span(&self) -> Option<Span>
         ensures told { answer_of_span result ≡ spans (Some (span_of self.now.standing)) }
         ensures within { AnswerWithin self.now.buffer (answer_of_span result) }
@@ -242,7 +301,7 @@ impl<'de> JsonParser<'de> {
         Some(self.standing.span())
     }
 
-    /// The input.
+    /// The whole input, whatever was read of it. It is always there.
     pub fn input(&self) -> Option<&'de [u8]>
         ensures bytes { IfSome result (λ bytes. bytes.now ≡ self.now.buffer) }
         ensures given { IsSome result }
@@ -250,7 +309,7 @@ impl<'de> JsonParser<'de> {
         Some(self.input)
     }
 
-    /// The name of the format.
+    /// The name of the format, `json`, in both modes. It is always there.
     pub fn format_namespace(&self) -> Option<&'static str>
         ensures name { IfSome result (λ name. name.now ≡ codes "json") }
         ensures given { IsSome result }

@@ -1,11 +1,13 @@
 //! Calls of a parser as values, made in order: by lists of them a parser is tried and compared.
 
 ghost use Rattle.std.specs.Prelude.{◌≡◌, ◌+◌, ◌≤◌, List, length, map, IfOk, IfErr};
+ghost use Rattle.std.specs.List.{All};
 ghost use Rattle.facet_format.specs.Event.{Passed};
 ghost use Rattle.facet_format.specs.Cursor.{Cursor, Run};
-ghost use Rattle.facet_json_core.specs.Now.{StandsAt};
+ghost use Rattle.facet_json_core.specs.Now.{StandsAt, SameInput};
 ghost use Rattle.facet_json_core.specs.Refusal.{Complains};
 ghost use Rattle.facet_json_core.specs.Move.{Moves, MovesAll};
+ghost use Rattle.facet_json_core.specs.Sound.{AnswerWithin};
 ghost use Rattle.facet_json_core.specs.ScriptViews.{call_of, answer_of};
 
 use crate::parser::JsonParser;
@@ -13,7 +15,7 @@ use facet_format::{ParseError, ParseEvent, SavePoint, Span};
 use std::alloc::{AllocError, Global};
 use std::collections::VecDeque;
 
-/// A call of a parser.
+/// A call of a parser, as a value.
 #[derive(Debug, Clone, Copy, PartialEq, Eq)]
 pub enum Call {
     /// `next_event`
@@ -30,7 +32,7 @@ pub enum Call {
     Span,
 }
 
-/// What a call answers.
+/// What a call answers: the result of the parser's method.
 #[derive(Debug, Drop)]
 pub enum Answer<'de> {
     /// Of `next_event` and `peek_event`.
@@ -48,7 +50,8 @@ pub enum Answer<'de> {
 impl Call {
     /// Makes the call.
     fn make<'de>(self, alloc: Global, parser: &mut JsonParser<'de>) -> Answer<'de>
-        ensures { Moves Complains parser.old (call_of self) (answer_of result) parser.new }
+        ensures moves { Moves Complains parser.old (call_of self) (answer_of result) parser.new }
+        ensures within { AnswerWithin parser.new.buffer (answer_of result) }
     {
         match self {
             Call::Next => Answer::Event(parser.next_event()),
@@ -68,8 +71,18 @@ impl Call {
     }
 }
 
-/// Makes all calls in order, also behind a refusal. Room for the answers is reserved first; where there is none, no call is
-/// made.
+/// Makes all calls in order, also behind a refusal, and answers what each of them answers.
+///
+/// ```text
+/// let mut parser = JsonParser::new(alloc, b"[1]");
+/// drive(alloc, &mut parser, &[Call::Next, Call::Save, Call::Events(9)])
+///     Ok: Event of SequenceStart, Saved of SavePoint(1), Events of Scalar and SequenceEnd with their number, 2
+/// ```
+///
+/// # Errors
+///
+/// There is no room for the answers, which is reserved first: then no call is made. A call that is refused, also for want of
+/// memory, has its refusal as its answer.
 pub fn drive<'de>(
     alloc: Global,
     parser: &mut JsonParser<'de>,
@@ -78,6 +91,8 @@ pub fn drive<'de>(
     ensures moves { IfOk result (λ answers. MovesAll Complains parser.old (map call_of calls.now) (map answer_of answers.items) parser.new) }
     ensures run { IfOk result (λ answers. (w : List Passed) (c : Cursor) → StandsAt parser.old w c
         → (d : Cursor) × Run w c (map call_of calls.now) (map answer_of answers.items) d × StandsAt parser.new w d) }
+    ensures within { IfOk result (λ answers. All (AnswerWithin parser.new.buffer) (map answer_of answers.items)) }
+    ensures input { SameInput parser.old parser.new }
     ensures unmoved { IfErr result (λ _. parser.new ≡ parser.old) }
 {
     let mut answers = Vec::with_capacity(alloc, calls.len())?;

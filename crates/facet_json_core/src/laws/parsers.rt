@@ -1,7 +1,7 @@
 //! Laws about parsers: what the calls' contracts say of a new one, and of calls behind one another.
 
-ghost use Rattle.facet_json_core.specs.ParserLaws.{NewStands, InputComes, BehindIsRefused, AloneIsGiven};
-ghost use Rattle.facet_json_core.specs.CallLaws.{PeekIsNext, RefusalRepeats, SaveIsNumbered, RestoreBringsBack, NumbersAreNew, UnknownChangesNothing, EndsInTime};
+ghost use Rattle.facet_json_core.specs.ParserLaws.{NewStands, InputComes, BehindIsRefused, AloneIsGiven, TrustedAgrees};
+ghost use Rattle.facet_json_core.specs.CallLaws.{MoveIsStep, PeekIsNext, RefusalRepeats, SaveIsNumbered, RestoreBringsBack, NumbersAreNew, UnknownChangesNothing, EndsInTime};
 
 /// A new parser of an input with a document stands at the start of the document's walk.
 pub fn new_stands()
@@ -22,6 +22,18 @@ pub fn behind_is_refused()
 /// that begins a document gives, and then one refusal, never the end.
 pub fn alone_is_given()
     ensures { AloneIsGiven }
+{}
+
+/// Two new parsers of an input with a document, one that is trusted and one that checks its strings, answer every list of
+/// calls alike, up to the first want of memory in either.
+pub fn trusted_agrees()
+    ensures { TrustedAgrees }
+{}
+
+/// Wherever a parser stands on a document's walk, each of its calls is one step of the cursor there, and behind the call
+/// it stands where that step leads.
+pub fn move_is_step()
+    ensures { MoveIsStep }
 {}
 
 /// On every input the next event, right behind a peek that answered one, is the one that the peek answered.

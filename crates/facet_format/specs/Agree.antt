@@ -1,0 +1,24 @@
+-- Answers of one cursor that two runs give to the same calls. A call may be answered in two ways only where memory is lacking in one.
+use Rattle.std.specs.Prelude.{◌≡◌, List, [], ◌∷◌, Err}
+use Rattle.facet_format.specs.Complaint.{Refusal, out_of_memory}
+use Rattle.facet_format.specs.Event.{Event}
+use Rattle.facet_format.specs.Cursor.{Answer, event, batch, saved, Cursor}
+
+-- The answer is a refusal for want of memory.
+pub data LacksMemory : Answer → Type 0 where
+  no_event : (r : Refusal) → r.complaint ≡ out_of_memory → LacksMemory (event (Err r))
+  no_more : (given : List Event) (r : Refusal) → r.complaint ≡ out_of_memory → LacksMemory (batch given (Err r))
+  no_point : (r : Refusal) → r.complaint ≡ out_of_memory → LacksMemory (saved (Err r))
+
+-- One of two answers to a call is want of memory, or both are one answer, behind which both cursors are one.
+pub data Agree (a b : Answer) (d e : Cursor) : Type 0 where
+  lacks : LacksMemory a → Agree a b d e
+  other_lacks : LacksMemory b → Agree a b d e
+  is_one : a ≡ b → d ≡ e → Agree a b d e
+
+-- The answers are the same one by one, up to the first that is want of memory in either list.
+pub data AgreeToLack : List Answer → List Answer → Type 0 where
+  no_answers : AgreeToLack [] []
+  first_lacks : (a b : Answer) (these those : List Answer) → LacksMemory a → AgreeToLack (a ∷ these) (b ∷ those)
+  second_lacks : (a b : Answer) (these those : List Answer) → LacksMemory b → AgreeToLack (a ∷ these) (b ∷ those)
+  same_answer : (a : Answer) (these those : List Answer) → AgreeToLack these those → AgreeToLack (a ∷ these) (a ∷ those)
