@@ -9,26 +9,26 @@ use crate::span::Span;
 
 /// Why a parser refused, and where: what is wrong always stands at some bytes of the input.
 #[derive(Debug, Clone, Copy, PartialEq, Eq)]
-pub struct ParseError {
+pub struct ParseError<'t> {
     /// The bytes of the input that the refusal is about.
     pub span: Span,
     /// Why.
-    pub kind: DeserializeErrorKind<'static>,
+    pub kind: DeserializeErrorKind<'t>,
 }
 
-impl ParseError {
+impl<'t> ParseError<'t> {
     /// The refusal of these bytes for this reason.
-    pub fn new(span: Span, kind: DeserializeErrorKind<'static>) -> ParseError
+    pub fn new(span: Span, kind: DeserializeErrorKind<'t>) -> ParseError<'t>
         ensures { parse_refusal result ≡ refusal_at (complaint_of kind.entry) (span_of span) }
     {
         ParseError { span, kind }
     }
 }
 
-impl From<ParseError> for DeserializeError<'_> {
+impl<'t> From<ParseError<'t>> for DeserializeError<'t> {
     ghost from_gives = { λ error e. refusal_of e ≡ parse_refusal error };
 
-    fn from(error: ParseError) -> Self {
+    fn from(error: ParseError<'t>) -> Self {
         DeserializeError {
             kind: error.kind,
             span: Some(error.span),

@@ -1,6 +1,6 @@
 //! What every parser of a format offers: a document's events one by one, with a look ahead and points to go back to.
 
-ghost use Rattle.std.specs.Prelude.{◌≡◌, List, ◌++◌};
+ghost use Rattle.std.specs.Prelude.{◌≡◌, ◌+◌, ◌<◌, ◌≤◌, List, ◌++◌, IfOk, OnSome};
 ghost use Rattle.facet_format.specs.declared.event.ParseEvent.{ParseEvent};
 ghost use Rattle.facet_format.specs.Cursor.{next, peek, events, save, restore, restored, span};
 ghost use Rattle.facet_format.specs.Standing.{IsStep};
@@ -16,46 +16,55 @@ use std::collections::VecDeque;
 /// On an input with a document it stands at a cursor on that document's walk, its list of events, and each call is one
 /// step of that cursor.
 pub trait FormatParser<'de> {
-    ghost use Rattle.std.specs.Prelude.{List};
+    ghost use Rattle.std.specs.Prelude.{ℕ, List};
     ghost use Rattle.facet_format.specs.Event.{Passed};
     ghost use Rattle.facet_format.specs.Cursor.{Cursor};
 
     /// It stands at this cursor on this walk.
     ghost at: { Self → List Passed → Cursor → Type 0 };
 
+    /// So much is ahead of it: each event that is passed lowers it.
+    ghost ahead: { Self → ℕ };
+
     /// The next event, or `None` at the document's end.
-    fn next_event(&mut self) -> Result<Option<ParseEvent<'de>>, ParseError>
-        ensures { IsStep at self.old next (answer_of_event result) self.new };
+    fn next_event<'t>(&mut self) -> Result<Option<ParseEvent<'de>>, ParseError<'t>>
+        ensures steps { IsStep at self.old next (answer_of_event result) self.new }
+        ensures lowers { ahead self.new ≤ ahead self.old }
+        ensures shorter { IfOk result (λ o. OnSome o (ahead self.new < ahead self.old)) };
 
     /// The next event, which stays the next one.
-    fn peek_event(&mut self) -> Result<Option<ParseEvent<'de>>, ParseError>
-        ensures { IsStep at self.old peek (answer_of_event result) self.new };
+    fn peek_event<'t>(&mut self) -> Result<Option<ParseEvent<'de>>, ParseError<'t>>
+        ensures steps { IsStep at self.old peek (answer_of_event result) self.new }
+        ensures lowers { ahead self.new ≤ ahead self.old };
 
     /// Appends the next events to the queue, up to so many, and answers how many they are. Where a refusal comes, the
     /// events before it are appended.
-    fn next_events(
+    fn next_events<'t>(
         &mut self,
         buf: &mut VecDeque<ParseEvent<'de>>,
         limit: usize,
-    ) -> Result<usize, ParseError>
-        ensures { (given : List ParseEvent) × (buf.new.items ≡ buf.old.items ++ given)
-            × IsStep at self.old (events limit) (answer_of_events given result) self.new };
+    ) -> Result<usize, ParseError<'t>>
+        ensures steps { (given : List ParseEvent) × (buf.new.items ≡ buf.old.items ++ given)
+            × IsStep at self.old (events limit) (answer_of_events given result) self.new }
+        ensures lowers { ahead self.new ≤ ahead self.old }
+        ensures shorter { IfOk result (λ n. ahead self.new + n ≤ ahead self.old) };
 
     /// Keeps where it stands, under a number of its own.
-    fn save(&mut self) -> Result<SavePoint, ParseError>
-        ensures { IsStep at self.old save (answer_of_save result) self.new };
+    fn save<'t>(&mut self) -> Result<SavePoint, ParseError<'t>>
+        ensures steps { IsStep at self.old save (answer_of_save result) self.new }
+        ensures lowers { ahead self.new ≤ ahead self.old };
 
     /// Goes back to a point that is kept, and drops the point. Another point changes nothing.
     fn restore(&mut self, point: SavePoint)
-        ensures { IsStep at self.old (restore point.0) restored self.new };
+        ensures steps { IsStep at self.old (restore point.0) restored self.new };
 
     /// The bytes of the token that was read last.
     fn current_span(&self) -> Option<Span>
-        ensures { IsStep at self.now span (answer_of_span result) self.now };
+        ensures steps { IsStep at self.now span (answer_of_span result) self.now };
 
     /// The input, where the parser has all of it.
     fn input(&self) -> Option<&'de [u8]>;
 
     /// The name of the format, where it has one by which fields are told apart.
-    fn format_namespace(&self) -> Option<&'static str>;
+    fn format_namespace<'t>(&self) -> Option<&'t str>;
 }

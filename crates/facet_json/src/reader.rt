@@ -16,7 +16,7 @@ ghost use Rattle.facet_json.specs.Reading.{first_then, GaveNext, GivesNone, Lack
 ghost use Rattle.facet_json.specs.Views.{tree_view, trees_view, pairs_view};
 
 use crate::tree::Tree;
-use facet_format::{
+use facet_format::{FormatParser, 
     Decimal, DeserializeError, DeserializeErrorKind, ParseEvent, ParseEventKind, ScalarValue, Span,
 };
 use facet_json_core::JsonParser;

@@ -1,6 +1,6 @@
 //! Reads a document event by event, with a look ahead and points to go back to.
 
-ghost use Rattle.std.specs.Prelude.{◌≡◌, ◌≤◌, ◌+◌, suc, List, Some, None, Ok, Err, ◌<◌, length, ◌++◌, OnSome, IfOk, IfErr, IfSome, IsSome, IsUtf8, codes, MatchOption, MatchResult};
+ghost use Rattle.std.specs.Prelude.{◌≡◌, ◌≤◌, ◌+◌, ◌^◌, suc, List, Some, None, Ok, Err, ◌<◌, length, ◌++◌, OnSome, IfOk, IfErr, IfSome, IsSome, IsUtf8, codes, MatchOption, MatchResult};
 ghost use Rattle.facet_format.specs.declared.event.ParseEvent.{ParseEvent as RustEvent};
 ghost use Rattle.facet_json_scan.specs.Gap.{plain, jsonc};
 ghost use Rattle.facet_json_scan.specs.Views.{mode_of};
@@ -124,7 +124,7 @@ impl<'de> JsonParser<'de> {
     }
 
     /// Reads the next event, where none is held.
-    fn fill(&mut self) -> Result<(), ParseError>
+    fn fill<'t>(&mut self) -> Result<(), ParseError<'t>>
         ensures filled { MatchResult result
             (λ _. FillsParser self.old None self.new)
             (λ e. FillsParser self.old (Some (parse_refusal e)) self.new) }
@@ -142,8 +142,15 @@ impl<'de> JsonParser<'de> {
         }
     }
 
+    /// The input is no longer than a slice may be.
+    fn see_length(&self)
+        ensures { ahead self.now < 2 ^ 64 }
+    {
+        let _len = self.input.len();
+    }
+
     /// Refuses for want of memory from now on.
-    fn refuse_growth(&mut self) -> ParseError
+    fn refuse_growth<'t>(&mut self) -> ParseError<'t>
         ensures error { parse_refusal result ≡ no_memory_at (span_of self.old.standing) }
         ensures kept { self.new ≡ with_refusal self.old self.old.standing (no_memory_at (span_of self.old.standing)) }
     {
@@ -152,54 +159,11 @@ impl<'de> JsonParser<'de> {
         ParseError::from(refused)
     }
 
-    /// Passes the next event and answers it, or `None` behind the document's last one, again and again.
-    ///
-    /// # Errors
-    ///
-    /// The input does not go on with a document; the span is that of the bytes that are wrong.
-    ///
-    /// - `UnexpectedChar`: no token begins or goes on so, or a character is wrong in an escape (RFC 8259, sections 2, 6
-    ///   and 7). A number without a value is refused as the character `?`, with the number's span.
-    /// - `UnexpectedEof`: the input ends. The span is empty at its end, or goes from the start of the piece that is cut.
-    /// - `UnexpectedToken`: no document goes on with this token, or the input ends behind a key.
-    /// - `InvalidUtf8`: a string's bytes are not UTF-8 (section 8.1).
-    /// - `OutOfMemory`: no memory for an open container or for an owned text, with the current span. An event that a peek
-    ///   answered takes none.
-    ///
-    /// A refusal sticks, until a point that is kept is restored.
-    pub fn next_event(&mut self) -> Result<Option<ParseEvent<'de>>, ParseError>
-        ensures moves { Moves Complains self.old next (answer_of_event result) self.new }
-        ensures within { AnswerWithin self.new.buffer (answer_of_event result) }
-        ensures onward { GoesOn self.old self.new }
-        ensures shorter { IfOk result (λ o. OnSome o (ahead self.new < ahead self.old)) }
-    {
-        self.fill()?;
-        Ok(self.standing.take())
-    }
-
-    /// Answers the next event and lets it stay the next one, or `None` behind the document's last one.
-    ///
-    /// # Errors
-    ///
-    /// As `next_event`, and `OutOfMemory`, with the current span, where the event's owned text can't be copied. A refusal
-    /// sticks, until a point that is kept is restored.
-    pub fn peek_event(&mut self) -> Result<Option<ParseEvent<'de>>, ParseError>
-        ensures moves { Moves Complains self.old peek (answer_of_event result) self.new }
-        ensures within { AnswerWithin self.new.buffer (answer_of_event result) }
-        ensures onward { GoesOn self.old self.new }
-    {
-        self.fill()?;
-        match self.standing.peek(self.alloc) {
-            Ok(event) => Ok(event),
-            Err(_) => Err(self.refuse_growth()),
-        }
-    }
-
     /// The next event, once the queue has room for it.
-    fn next_with_room(
+    fn next_with_room<'t>(
         &mut self,
         queue: &mut VecDeque<ParseEvent<'de>>,
-    ) -> Result<Option<ParseEvent<'de>>, ParseError>
+    ) -> Result<Option<ParseEvent<'de>>, ParseError<'t>>
         ensures items { queue.new.items ≡ queue.old.items }
         ensures room { IfOk result (λ o. OnSome o (deque_len queue.new < deque_capacity queue.new)) }
         ensures event { MatchResult result
@@ -216,6 +180,59 @@ impl<'de> JsonParser<'de> {
             Err(_) => Err(self.refuse_growth()),
         }
     }
+}
+
+impl<'de> FormatParser<'de> for JsonParser<'de> {
+    ghost at = { StandsAt };
+
+    ghost ahead = { ahead };
+
+    /// Passes the next event and answers it, or `None` behind the document's last one, again and again.
+    ///
+    /// # Errors
+    ///
+    /// The input does not go on with a document; the span is that of the bytes that are wrong.
+    ///
+    /// - `UnexpectedChar`: no token begins or goes on so, or a character is wrong in an escape (RFC 8259, sections 2, 6
+    ///   and 7). A number without a value is refused as the character `?`, with the number's span.
+    /// - `UnexpectedEof`: the input ends. The span is empty at its end, or goes from the start of the piece that is cut.
+    /// - `UnexpectedToken`: no document goes on with this token, or the input ends behind a key.
+    /// - `InvalidUtf8`: a string's bytes are not UTF-8 (section 8.1).
+    /// - `OutOfMemory`: no memory for an open container or for an owned text, with the current span. An event that a peek
+    ///   answered takes none.
+    ///
+    /// A refusal sticks, until a point that is kept is restored.
+    fn next_event<'t>(&mut self) -> Result<Option<ParseEvent<'de>>, ParseError<'t>>
+        ensures steps { IsStep StandsAt self.old next (answer_of_event result) self.new }
+        ensures moves { Moves Complains self.old next (answer_of_event result) self.new }
+        ensures within { AnswerWithin self.new.buffer (answer_of_event result) }
+        ensures lowers { ahead self.new ≤ ahead self.old }
+        ensures onward { GoesOn self.old self.new }
+        ensures shorter { IfOk result (λ o. OnSome o (ahead self.new < ahead self.old)) }
+    {
+        self.fill()?;
+        Ok(self.standing.take())
+    }
+
+    /// Answers the next event and lets it stay the next one, or `None` behind the document's last one.
+    ///
+    /// # Errors
+    ///
+    /// As `next_event`, and `OutOfMemory`, with the current span, where the event's owned text can't be copied. A refusal
+    /// sticks, until a point that is kept is restored.
+    fn peek_event<'t>(&mut self) -> Result<Option<ParseEvent<'de>>, ParseError<'t>>
+        ensures steps { IsStep StandsAt self.old peek (answer_of_event result) self.new }
+        ensures moves { Moves Complains self.old peek (answer_of_event result) self.new }
+        ensures within { AnswerWithin self.new.buffer (answer_of_event result) }
+        ensures lowers { ahead self.new ≤ ahead self.old }
+        ensures onward { GoesOn self.old self.new }
+    {
+        self.fill()?;
+        match self.standing.peek(self.alloc) {
+            Ok(event) => Ok(event),
+            Err(_) => Err(self.refuse_growth()),
+        }
+    }
 
     /// Passes the next events, up to so many, appends them to the queue and answers how many they are. They are fewer
     /// only where the document ends.
@@ -225,14 +242,17 @@ impl<'de> JsonParser<'de> {
     /// As `next_event`, and `OutOfMemory`, with the current span, where the queue can't grow. The events before the
     /// refusal are passed and appended. A refusal sticks, until a point that is kept is restored; a call for no events
     /// answers 0 even then.
-    pub fn next_events(
+    fn next_events<'t>(
         &mut self,
         buf: &mut VecDeque<ParseEvent<'de>>,
         limit: usize,
-    ) -> Result<usize, ParseError>
+    ) -> Result<usize, ParseError<'t>>
+        ensures steps { (given : List RustEvent) × (buf.new.items ≡ buf.old.items ++ given)
+            × IsStep StandsAt self.old (events limit) (answer_of_events given result) self.new }
         ensures moves { (given : List RustEvent) × (buf.new.items ≡ buf.old.items ++ given)
             × Moves Complains self.old (events limit) (answer_of_events given result) self.new
             × AnswerWithin self.new.buffer (answer_of_events given result) }
+        ensures lowers { ahead self.new ≤ ahead self.old }
         ensures onward { GoesOn self.old self.new }
         ensures shorter { IfOk result (λ n. ahead self.new + n ≤ ahead self.old) }
     {
@@ -254,11 +274,12 @@ impl<'de> JsonParser<'de> {
     /// - `SaveLimit`: the last point has the greatest number, 2^64 - 1; with the current span.
     ///
     /// Both change nothing and don't stick. A refusal that sticks already is repeated.
-    pub fn save(&mut self) -> Result<SavePoint, ParseError>
+    fn save<'t>(&mut self) -> Result<SavePoint, ParseError<'t>>
+        ensures steps { IsStep StandsAt self.old save (answer_of_save result) self.new }
         ensures moves { Moves Complains self.old save (answer_of_save result) self.new }
         ensures within { AnswerWithin self.new.buffer (answer_of_save result) }
         ensures input { SameInput self.old self.new }
-        ensures onward { ahead self.new ≤ ahead self.old }
+        ensures lowers { ahead self.new ≤ ahead self.old }
         ensures point { IfOk result (λ p. (p.0 ≡ suc self.old.counter) × (self.new ≡ with_kept self.old)) }
         ensures own_number { IfOk result (λ p. found p.0 self.old.kept ≡ None) }
         ensures unchanged { IfErr result (λ _. self.new ≡ self.old) }
@@ -280,7 +301,8 @@ impl<'de> JsonParser<'de> {
 
     /// Goes back to where it stood at the save of a point that is kept, with no refusal, and drops the point; other points
     /// stay. A point that is not kept changes nothing. It takes no memory.
-    pub fn restore(&mut self, point: SavePoint)
+    fn restore(&mut self, point: SavePoint)
+        ensures steps { IsStep StandsAt self.old (restore point.0) restored self.new }
         ensures moves { Moves Complains self.old (restore point.0) restored self.new }
         ensures input { SameInput self.old self.new }
         ensures points { self.new.kept ≡ without point.0 self.old.kept }
@@ -294,7 +316,8 @@ impl<'de> JsonParser<'de> {
 
     /// The bytes of the last token that an event took, also of an event that was peeked at: of a key the colon's, of
     /// another event its own. Before the first event the span is 0+0. It is always there.
-    pub fn current_span(&self) -> Option<Span>
+    fn current_span(&self) -> Option<Span>
+        ensures steps { IsStep StandsAt self.now span (answer_of_span result) self.now }
         ensures told { answer_of_span result ≡ spans (Some (span_of self.now.standing)) }
         ensures within { AnswerWithin self.now.buffer (answer_of_span result) }
     {
@@ -302,7 +325,7 @@ impl<'de> JsonParser<'de> {
     }
 
     /// The whole input, whatever was read of it. It is always there.
-    pub fn input(&self) -> Option<&'de [u8]>
+    fn input(&self) -> Option<&'de [u8]>
         ensures bytes { IfSome result (λ bytes. bytes.now ≡ self.now.buffer) }
         ensures given { IsSome result }
     {
@@ -310,50 +333,10 @@ impl<'de> JsonParser<'de> {
     }
 
     /// The name of the format, `json`, in both modes. It is always there.
-    pub fn format_namespace(&self) -> Option<&'static str>
+    fn format_namespace<'t>(&self) -> Option<&'t str>
         ensures name { IfSome result (λ name. name.now ≡ codes "json") }
         ensures given { IsSome result }
     {
         Some("json")
-    }
-}
-
-impl<'de> FormatParser<'de> for JsonParser<'de> {
-    ghost at = { StandsAt };
-
-    fn next_event(&mut self) -> Result<Option<ParseEvent<'de>>, ParseError> {
-        JsonParser::next_event(self)
-    }
-
-    fn peek_event(&mut self) -> Result<Option<ParseEvent<'de>>, ParseError> {
-        JsonParser::peek_event(self)
-    }
-
-    fn next_events(
-        &mut self,
-        buf: &mut VecDeque<ParseEvent<'de>>,
-        limit: usize,
-    ) -> Result<usize, ParseError> {
-        JsonParser::next_events(self, buf, limit)
-    }
-
-    fn save(&mut self) -> Result<SavePoint, ParseError> {
-        JsonParser::save(self)
-    }
-
-    fn restore(&mut self, point: SavePoint) {
-        JsonParser::restore(self, point);
-    }
-
-    fn current_span(&self) -> Option<Span> {
-        JsonParser::current_span(self)
-    }
-
-    fn input(&self) -> Option<&'de [u8]> {
-        JsonParser::input(self)
-    }
-
-    fn format_namespace(&self) -> Option<&'static str> {
-        JsonParser::format_namespace(self)
     }
 }

@@ -161,7 +161,7 @@ pub enum Why {
 
 impl Why {
     /// The same, with its texts.
-    fn kind(self) -> DeserializeErrorKind<'static>
+    fn kind<'t>(self) -> DeserializeErrorKind<'t>
         ensures { complaint_of result ≡ why_of self }
     {
         match self {
@@ -214,7 +214,7 @@ impl Refused {
     }
 }
 
-impl From<Refused> for ParseError {
+impl From<Refused> for ParseError<'_> {
     ghost from_gives = { λ refused e. parse_refusal e ≡ refused_of refused };
 
     fn from(refused: Refused) -> Self {

@@ -11,7 +11,7 @@ ghost use Rattle.facet_json_core.specs.Sound.{AnswerWithin};
 ghost use Rattle.facet_json_core.specs.ScriptViews.{call_of, answer_of};
 
 use crate::parser::JsonParser;
-use facet_format::{ParseError, ParseEvent, SavePoint, Span};
+use facet_format::{FormatParser, ParseError, ParseEvent, SavePoint, Span};
 use std::alloc::{AllocError, Global};
 use std::collections::VecDeque;
 
@@ -36,11 +36,11 @@ pub enum Call {
 #[derive(Debug, Drop)]
 pub enum Answer<'de> {
     /// Of `next_event` and `peek_event`.
-    Event(Result<Option<ParseEvent<'de>>, ParseError>),
+    Event(Result<Option<ParseEvent<'de>>, ParseError<'static>>),
     /// Of `next_events`, with the events that were appended.
-    Events(VecDeque<ParseEvent<'de>>, Result<usize, ParseError>),
+    Events(VecDeque<ParseEvent<'de>>, Result<usize, ParseError<'static>>),
     /// Of `save`.
-    Saved(Result<SavePoint, ParseError>),
+    Saved(Result<SavePoint, ParseError<'static>>),
     /// Of `restore`, which answers nothing.
     Restored,
     /// Of `current_span`.

@@ -106,19 +106,19 @@ fn write_next<W: Write>(
 fn write_batch<W: Write>(
     alloc: Global,
     events: VecDeque<ParseEvent<'_>>,
-    count: Result<usize, ParseError>,
+    count: Result<usize, ParseError<'_>>,
     writer: &mut W,
 ) -> Result<(), Outcome>
     ensures { Prints (W.contents writer.old) (W.contents writer.new)
-        (flat_map event_line (map event_of events.entry.items) ++ count_line (count_of count)) result }
+        (flat_map event_line (map event_of events.entry.items) ++ count_line (count_of count.entry)) result }
 {
     write_events(alloc, events, writer)?;
     write_count(writer, count)
 }
 
 /// Writes the line of how many events were given out, or of the refusal behind them.
-fn write_count<W: Write>(writer: &mut W, count: Result<usize, ParseError>) -> Result<(), Outcome>
-    ensures { Prints (W.contents writer.old) (W.contents writer.new) (count_line (count_of count)) result }
+fn write_count<W: Write>(writer: &mut W, count: Result<usize, ParseError<'_>>) -> Result<(), Outcome>
+    ensures { Prints (W.contents writer.old) (W.contents writer.new) (count_line (count_of count.entry)) result }
 {
     match count {
         Ok(count) => told(writeln!(writer, "events {count}")),
@@ -142,8 +142,8 @@ fn write_events<W: Write>(
 }
 
 /// Writes the line of a refused call.
-fn write_refusal<W: Write>(writer: &mut W, error: ParseError) -> Result<(), Outcome>
-    ensures { Prints (W.contents writer.old) (W.contents writer.new) (refusal_line (parse_refusal error)) result }
+fn write_refusal<W: Write>(writer: &mut W, error: ParseError<'_>) -> Result<(), Outcome>
+    ensures { Prints (W.contents writer.old) (W.contents writer.new) (refusal_line (parse_refusal error.entry)) result }
 {
     let code = error.kind.code();
     let offset = error.span.offset;

@@ -25,7 +25,7 @@ ghost use Rattle.facet_json_tool.specs.Run.{HasDocument, IsReformatted, IsFailur
 use crate::arguments::{Command, command_of};
 use crate::lines::{write_answer, write_event};
 use crate::outcome::{OUT_OF_MEMORY, Outcome, failure};
-use facet_format::DeserializeError;
+use facet_format::{DeserializeError, FormatParser};
 use facet_json::scanner::Mode;
 use facet_json::{Tree, from_slice, from_slice_jsonc, to_vec};
 use facet_json_core::{Answer, Call, JsonParser, drive};

@@ -1,6 +1,6 @@
 //! Generic code over parsers is proved from the trait alone.
 
-ghost use Rattle.std.specs.Prelude.{◌≡◌, List, IfSome};
+ghost use Rattle.std.specs.Prelude.{◌≡◌, ◌+◌, ◌^◌, ◌<◌, ◌≤◌, List, IfSome, IfOk};
 ghost use Rattle.facet_format.specs.Event.{Passed};
 ghost use Rattle.facet_format.specs.Cursor.{Cursor};
 ghost use Rattle.facet_format.specs.Views.{event_of};
@@ -26,31 +26,51 @@ fn peek_and_next<'de, P: FormatParser<'de>>(
     }
 }
 
+/// How many events come.
+fn count<'de, 't, P: FormatParser<'de>>(parser: &mut P) -> Result<usize, ParseError<'t>>
+    requires fits { P.ahead parser.old < 2 ^ 64 }
+    ensures { IfOk result (λ n. n + P.ahead parser.new ≤ P.ahead parser.old) }
+{
+    let mut count = 0;
+    while let Some(_event) = parser.next_event()? {
+        count += 1;
+    }
+    Ok(count)
+}
+
 /// Stands on no walk, and gives `null` again and again.
 #[derive(Drop)]
-struct Nulls;
+struct Nulls {
+    left: usize,
+}
 
 impl<'de> FormatParser<'de> for Nulls {
     ghost at = { λ _ _ _. ⊥ };
 
-    fn next_event(&mut self) -> Result<Option<ParseEvent<'de>>, ParseError> {
+    ghost ahead = { λ s. s.left };
+
+    fn next_event<'t>(&mut self) -> Result<Option<ParseEvent<'de>>, ParseError<'t>> {
+        if self.left == 0 {
+            return Ok(None);
+        }
+        self.left -= 1;
         let kind = ParseEventKind::Scalar(ScalarValue::Null);
         Ok(Some(ParseEvent::new(kind, Span::new(0, 4))))
     }
 
-    fn peek_event(&mut self) -> Result<Option<ParseEvent<'de>>, ParseError> {
+    fn peek_event<'t>(&mut self) -> Result<Option<ParseEvent<'de>>, ParseError<'t>> {
         self.next_event()
     }
 
-    fn next_events(
+    fn next_events<'t>(
         &mut self,
         _buf: &mut VecDeque<ParseEvent<'de>>,
         _limit: usize,
-    ) -> Result<usize, ParseError> {
+    ) -> Result<usize, ParseError<'t>> {
         Ok(0)
     }
 
-    fn save(&mut self) -> Result<SavePoint, ParseError> {
+    fn save<'t>(&mut self) -> Result<SavePoint, ParseError<'t>> {
         Ok(SavePoint(1))
     }
 
@@ -64,14 +84,19 @@ impl<'de> FormatParser<'de> for Nulls {
         None
     }
 
-    fn format_namespace(&self) -> Option<&'static str> {
+    fn format_namespace<'t>(&self) -> Option<&'t str> {
         None
     }
 }
 
 #[test]
+fn three_events_come(rt: HostRuntime) {
+    assert!(rt; count(&mut Nulls { left: 3 }) == Ok(3));
+}
+
+#[test]
 fn a_peek_shows_the_next_event(rt: HostRuntime) -> Result<(), Fail> {
-    let (shown, event) = peek_and_next(&mut Nulls).ok_or("two events")?;
+    let (shown, event) = peek_and_next(&mut Nulls { left: 3 }).ok_or("two events")?;
     assert!(rt; shown == event);
     Ok(())
 }

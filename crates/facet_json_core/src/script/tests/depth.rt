@@ -2,6 +2,7 @@
 
 use super::{answer_shown, parser_of};
 use crate::parser::JsonParser;
+use facet_format::FormatParser;
 use crate::script::{Answer, Call, drive};
 use facet_json_scan::Mode;
 use std::alloc::Global;

@@ -16,6 +16,6 @@ event_in (spans s) = None
 
 pub returns-in-Ok-Some-next_event-clause-alike : goal.returns-in-Ok-Some-next_event-clause-alike
 returns-in-Ok-Some-next_event-clause-alike g c w from stands =
-    let peeked = rw c.in-Ok-Some.field-0-is at c.in-Ok-Some.ensures w from stands in
-    let passed = rw c.in-Ok-Some-next_event.field-0-is at c.in-Ok-Some-next_event.ensures w peeked.0 peeked.2 in
+    let peeked = rw c.in-Ok-Some.field-0-is at c.in-Ok-Some.ensures.steps w from stands in
+    let passed = rw c.in-Ok-Some-next_event.field-0-is at c.in-Ok-Some-next_event.ensures.steps w peeked.0 peeked.2 in
     same_Some _ _ (ap event_in (peek-next w from peeked.0 passed.0 _ _ peeked.1 passed.1))

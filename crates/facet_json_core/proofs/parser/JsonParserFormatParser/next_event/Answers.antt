@@ -1,5 +1,23 @@
-use Rattle.facet_json_core.proofs.Calls.{move-steps}
+use Rattle.std.proofs.Common.{refl}
+use Rattle.std.proofs.lemmas.Result.{err_from_is_err_and}
+use Rattle.facet_json_core.specs.StandingViews.{standing_of}
+use Rattle.facet_json_core.proofs.Calls.{move-steps, next-refused, next-answers}
+use Rattle.facet_json_core.proofs.ParserSound.{answer-within, goes-on, event-lowers}
 use Rattle.facet_json_core.proofs.parser.JsonParserFormatParser.next_event.Goals as goal
 
+pub returns-in_err-fill : goal.returns-in_err-fill
+returns-in_err-fill c =
+    let p = err_from_is_err_and c.from_residual.result c.from_residual.ensures.1 in
+    let known = c.in_err-fill.ensures.sound in
+    let move = next-refused _ _ _ c.in_err-fill.ensures.filled in
+    rw (p.1, p.2) (let gone = goes-on _ _ known refl move in record { steps = move-steps _ _ _ _ move; lowers = gone.onward; moves = move; within = answer-within _ _ known move; onward = gone; shorter = tt })
+
 pub returns : goal.returns
-returns c = move-steps _ _ _ _ c.next_event.ensures.moves
+returns c =
+    let known = c.in_ok-fill.ensures.sound in
+    let move = next-answers _ _ _ c.take.result (standing_of c.take.new.self) c.in_ok-fill.ensures.filled c.self.view_is c.take.ensures.taken in
+    let gone = goes-on _ _ known refl move in record { steps = move-steps _ _ _ _ move; lowers = gone.onward; moves = move;
+      within = answer-within _ _ known move;
+      onward = gone;
+      shorter = event-lowers _ _ c.take.result known move;
+    }

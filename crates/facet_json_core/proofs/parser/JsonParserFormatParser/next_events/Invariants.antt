@@ -3,7 +3,7 @@ use Rattle.facet_format.specs.declared.event.ParseEvent.{ParseEvent}
 use Rattle.facet_format.specs.Views.{event_of}
 use Rattle.facet_json_core.specs.Sound.{NowSound}
 use Rattle.facet_json_core.proofs.Batches.{Batch}
-use Rattle.facet_json_core.proofs.parser.JsonParser.next_events.Given as goal
+use Rattle.facet_json_core.proofs.parser.JsonParserFormatParser.next_events.Given as goal
 
 abbrev pub invariant-loop-count : goal.invariant-loop-count
 invariant-loop-count l = record {
