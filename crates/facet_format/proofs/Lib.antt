@@ -1,9 +1,9 @@
-pub mod NumberFronts
-pub mod NumberLaws
-pub mod NumberText
-pub mod NumberSteps
-pub mod CursorLaws
-pub mod KeptLaws
-pub mod CursorSteps
-pub mod CursorRows
 pub mod CursorAgrees
+pub mod CursorLaws
+pub mod CursorRows
+pub mod CursorSteps
+pub mod KeptLaws
+pub mod NumberPrefixes
+pub mod NumberLaws
+pub mod NumberSteps
+pub mod NumberText

@@ -1,9 +1,9 @@
 -- The compact text of a tree, piece by piece, as the writer's loops put it out.
 use Rattle.std.proofs.Common.{◌≡◌, ℕ, suc, Bool, true, false, List, [], ◌∷◌, ◌++◌, refl, ap, append_assoc, append-nil}
 use Rattle.facet_format.specs.Bytes.{left_bracket, right_bracket, left_brace, right_brace, colon}
-use Rattle.facet_json.specs.Quoted.{quoted}
-use Rattle.facet_json.specs.Text.{default_options, text, items_text, members_text, separator}
-use Rattle.facet_json_core.specs.Tree.{Tree, null, unit, bool, char, i64, u64, i128, u128, decimal, text as text_value, bytes, raw, list, pairs, Trees, no_trees, tree, Pairs, no_pairs, pair}
+use Rattle.facet_json_document.specs.Quoted.{quoted}
+use Rattle.facet_json_document.specs.Text.{default_options, text, items_text, members_text, separator}
+use Rattle.facet_json_document.specs.Tree.{Tree, null, unit, bool, char, i64, u64, i128, u128, decimal, text as text_value, bytes, raw, list, pairs, Trees, no_trees, tree, Pairs, no_pairs, pair}
 
 abbrev pub compact : Tree → List ℕ
 compact t = text default_options 0 t

@@ -6,7 +6,7 @@ use Rattle.std.proofs.lemmas.List.{take_more, flat_map_more}
 use Rattle.std.proofs.lemmas.List.Edits.{between_more, between_none}
 use Rattle.std.specs.List.{flat_map, slice_range}
 use Rattle.facet_format.specs.Bytes.{quote, backslash, backspace, form_feed, line_feed, carriage_return, tab, space, delete}
-use Rattle.facet_json.specs.Quoted.{escaped, hex_byte}
+use Rattle.facet_json_document.specs.Quoted.{escaped, hex_byte}
 
 -- where no escape of two characters stands for the byte
 pub long_escape : (b : ℕ) → b ≢ quote → b ≢ backslash → b ≢ line_feed → b ≢ carriage_return → b ≢ tab → b ≢ backspace

@@ -4,15 +4,15 @@ use Rattle.facet_format.specs.declared.event.ParseEventKind.{ParseEventKind}
 use Rattle.facet_format.specs.declared.event.ParseEventKind.TheVariants as kinds
 use Rattle.facet_format.specs.Complaint.{Refusal}
 use Rattle.facet_format.specs.Event.{sequence_end, Passed}
-use Rattle.facet_json_scan.specs.Tokens.{Tokens}
-use Rattle.facet_json_core.specs.Tree.{Tree, Trees, no_trees, tree}
-use Rattle.facet_json_core.specs.Place.{Place}
-use Rattle.facet_json_core.specs.Future.{Future, gives}
+use Rattle.facet_json_token.specs.Tokens.{Tokens}
+use Rattle.facet_json_document.specs.Tree.{Tree, Trees, no_trees, tree}
+use Rattle.facet_json_document.specs.Place.{Place}
+use Rattle.facet_json_document.specs.Future.{Future, gives}
 use Rattle.facet_format.specs.Views.{event_kind_of}
 use Rattle.facet_json.specs.Views.{trees_of}
-use Rattle.facet_json.specs.Told.{TellsItems, BreaksItems}
-use Rattle.facet_json.specs.Reading.{IsValueRead, AreItemsRead, IsValueUnread, AreItemsUnread}
-use Rattle.facet_json.proofs.Told.{items-ended, items-first, items_end-whole, items-broken}
+use Rattle.facet_json.specs.Inner.Told.{TellsItems, BreaksItems}
+use Rattle.facet_json.specs.Inner.Reading.{IsValueRead, AreItemsRead, IsValueUnread, AreItemsUnread}
+use Rattle.facet_json.proofs.FirstEventTells.{items-ended, items-first, items_end-whole, items-broken}
 
 -- trees in front of others
 abbrev pub trees_before : List Tree → Trees → Trees

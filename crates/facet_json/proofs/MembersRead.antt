@@ -12,15 +12,15 @@ use Rattle.facet_format.specs.declared.event.ParseEventKind.TheVariants as kinds
 use Rattle.facet_json.specs.declared.tree.Tree.{Tree as RustTree}
 use Rattle.facet_format.specs.Complaint.{Refusal}
 use Rattle.facet_format.specs.Event.{struct_end, field_key, Text, bytes_of, Passed}
-use Rattle.facet_json_scan.specs.Tokens.{Tokens}
-use Rattle.facet_json_core.specs.Tree.{Tree, Pairs, no_pairs, pair}
-use Rattle.facet_json_core.specs.Place.{Place}
-use Rattle.facet_json_core.specs.Future.{Future, gives}
+use Rattle.facet_json_token.specs.Tokens.{Tokens}
+use Rattle.facet_json_document.specs.Tree.{Tree, Pairs, no_pairs, pair}
+use Rattle.facet_json_document.specs.Place.{Place}
+use Rattle.facet_json_document.specs.Future.{Future, gives}
 use Rattle.facet_format.specs.Views.{event_kind_of}
 use Rattle.facet_json.specs.Views.{pairs_view, tree_view}
-use Rattle.facet_json.specs.Told.{TellsMembers, BreaksMembers}
-use Rattle.facet_json.specs.Reading.{IsValueRead, AreMembersRead, IsValueUnread, AreMembersUnread}
-use Rattle.facet_json.proofs.Told.{is_member, members-ended, members-first, members-begin, members_broken-begin, members-broken}
+use Rattle.facet_json.specs.Inner.Told.{TellsMembers, BreaksMembers}
+use Rattle.facet_json.specs.Inner.Reading.{IsValueRead, AreMembersRead, IsValueUnread, AreMembersUnread}
+use Rattle.facet_json.proofs.FirstEventTells.{is_member, members-ended, members-first, members-begin, members_broken-begin, members-broken}
 
 -- members in front of others
 abbrev pub pairs_before : List (List ℕ × Tree) → Pairs → Pairs

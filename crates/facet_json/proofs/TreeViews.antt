@@ -3,7 +3,7 @@ use Rattle.std.proofs.Common.{◌≡◌, ℕ, suc, ◌+◌, ◌<◌, Bool, List,
 use Rattle.std.specs.Prelude.{ℤ}
 use Rattle.std.proofs.lemmas.List.{drop_more}
 use Rattle.facet_format.specs.Event.{Text, bytes_of}
-use Rattle.facet_json_core.specs.Tree as tree
+use Rattle.facet_json_document.specs.Tree as tree
 use Rattle.facet_json.specs.Views.{tree_view, trees_view, pairs_view}
 use Rattle.facet_json.specs.declared.tree.Tree.{Tree, the_lemmas}
 use Rattle.facet_json.specs.declared.tree.Tree.TheVariants as code

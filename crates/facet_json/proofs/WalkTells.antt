@@ -5,17 +5,17 @@ use Rattle.std.specs.Fmt.{decimal, signed_decimal}
 use Rattle.facet_format.specs.Event.{Passed, array, object, bytes_of, sequence_end, struct_end, sequence_start, struct_start}
 use Rattle.facet_format.specs.Number.{Number}
 use Rattle.facet_format.specs.Number as numbers
-use Rattle.facet_json_scan.specs.Token.{Kind, Token}
-use Rattle.facet_json_scan.specs.Token as token
-use Rattle.facet_json_core.specs.Node.{Node, scalar, Nodes, no_nodes, item, Members, no_members, member}
-use Rattle.facet_json_core.specs.Node as node
-use Rattle.facet_json_core.specs.Tree.{Tree, Trees, no_trees, tree, Pairs, no_pairs, pair}
-use Rattle.facet_json_core.specs.Tree as trees
-use Rattle.facet_json_core.specs.Meaning.{tree_of_number, meaning_of, meaning, tree_of, trees_of, pairs_of, text_of, put_item, put_pair}
-use Rattle.facet_json_core.specs.Walk.{text_by, scalar_by, scalar_of, name_of, event_at, scalar_event, key_event, walk, walk_items, walk_members}
-use Rattle.facet_json_core.specs.Future.{Future, gives, events_before}
-use Rattle.facet_json_core.proofs.Futures.{events_before-append, list_meant, object_meant, item_meant, member_meant}
-use Rattle.facet_json.specs.Told.{tree_of_scalar, Tells, a_scalar, a_list, an_object, TellsItems, no_item, one_item, TellsMembers, no_member, one_member}
+use Rattle.facet_json_token.specs.Token.{Kind, Token}
+use Rattle.facet_json_token.specs.Token as token
+use Rattle.facet_json_document.specs.Node.{Node, scalar, Nodes, no_nodes, item, Members, no_members, member}
+use Rattle.facet_json_document.specs.Node as node
+use Rattle.facet_json_document.specs.Tree.{Tree, Trees, no_trees, tree, Pairs, no_pairs, pair}
+use Rattle.facet_json_document.specs.Tree as trees
+use Rattle.facet_json_document.specs.Meaning.{tree_of_number, meaning_of, meaning, tree_of, trees_of, pairs_of, text_of, put_item, put_pair}
+use Rattle.facet_json_document.specs.Walk.{text_by, scalar_by, scalar_of, name_of, event_at, scalar_event, key_event, walk, walk_items, walk_members}
+use Rattle.facet_json_document.specs.Future.{Future, gives, events_before}
+use Rattle.facet_json_document.proofs.WalkComes.{events_before-append, list_meant, object_meant, item_meant, member_meant}
+use Rattle.facet_json.specs.Inner.Told.{tree_of_scalar, Tells, a_scalar, a_list, an_object, TellsItems, no_item, one_item, TellsMembers, no_member, one_member}
 
 -- ---- what the tokens of a buffer mean
 

@@ -1,8 +1,4 @@
+pub mod Inner
 pub mod Same
 pub mod SameLaws
-pub mod Quoted
-pub mod Text
 pub mod Views
-pub mod Laws
-pub mod Told
-pub mod Reading

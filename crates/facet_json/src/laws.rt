@@ -1,6 +1,3 @@
-//! What the definitions of `specs/` mean, in the subject's own words: each law is the contract of a
-//! function without effect.
+//! What the definitions mean, in the subject's own words: each law is the contract of a function without effect.
 
-mod decoding;
-
-pub use decoding::quoted_by_characters;
+pub use facet_json_document::laws::quoted_by_characters;

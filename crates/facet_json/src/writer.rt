@@ -2,9 +2,9 @@
 
 ghost use Rattle.std.specs.Prelude.{◌≡◌, ◌<◌, ◌||◌, ◌==◌, ◌++◌, ◌∷◌, [], true, nat_lt, codes, IfOk, OnOk};
 ghost use Rattle.facet_format.specs.Bytes.{quote, backslash, space, delete, left_bracket, left_brace};
-ghost use Rattle.facet_json.specs.Quoted.{escaped, quoted, hex_byte};
-ghost use Rattle.facet_json.specs.Quoted as spelled;
-ghost use Rattle.facet_json.specs.Text.{default_options, text, separator, items_text, members_text};
+ghost use Rattle.facet_json_document.specs.Quoted.{escaped, quoted, hex_byte};
+ghost use Rattle.facet_json_document.specs.Quoted as spelled;
+ghost use Rattle.facet_json_document.specs.Text.{default_options, text, separator, items_text, members_text};
 ghost use Rattle.facet_json.specs.Views.{tree_view, trees_view, pairs_view};
 
 use crate::ser_error::JsonSerializeError;

@@ -1,17 +1,10 @@
 //! JSON documents (RFC 8259, with lenient readings, and JSONC comments), proved: what they are, and how they are read.
+//! `JsonParser` reads a document event by event, and `drive` makes lists of its calls.
 #![tactic(auto)]
 
-mod contexts;
 pub mod laws;
-mod materialized;
-mod parser;
-mod place;
-mod points;
-mod reader;
-mod refusal;
 mod script;
-mod standing;
 
-pub use materialized::{MaterializedToken, TokenKind};
-pub use parser::JsonParser;
+pub use facet_json_parser::JsonParser;
+pub use facet_json_reader::{MaterializedToken, TokenKind};
 pub use script::{Answer, Call, drive};

@@ -4,13 +4,13 @@ ghost use Rattle.std.specs.Prelude.{◌≡◌, ◌+◌, ◌≤◌, List, length,
 ghost use Rattle.std.specs.List.{All};
 ghost use Rattle.facet_format.specs.Event.{Passed};
 ghost use Rattle.facet_format.specs.Cursor.{Cursor, Run};
-ghost use Rattle.facet_json_core.specs.Now.{StandsAt, SameInput};
-ghost use Rattle.facet_json_core.specs.Refusal.{Complains};
-ghost use Rattle.facet_json_core.specs.Move.{Moves, MovesAll};
-ghost use Rattle.facet_json_core.specs.Sound.{AnswerWithin};
+ghost use Rattle.facet_json_protocol.specs.Now.{StandsAt, SameInput};
+ghost use Rattle.facet_json_document.specs.Refusal.{Complains};
+ghost use Rattle.facet_json_protocol.specs.Move.{Moves, MovesAll};
+ghost use Rattle.facet_json_protocol.specs.Sound.{AnswerWithin};
 ghost use Rattle.facet_json_core.specs.ScriptViews.{call_of, answer_of};
 
-use crate::parser::JsonParser;
+use facet_json_parser::JsonParser;
 use facet_format::{FormatParser, ParseError, ParseEvent, SavePoint, Span};
 use std::alloc::{AllocError, Global};
 use std::collections::VecDeque;

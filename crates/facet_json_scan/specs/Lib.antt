@@ -1,9 +1,9 @@
-pub mod Gap
-pub mod Token
-pub mod Cut
-pub mod Open
-pub mod Tokens
-pub mod Decode
-pub mod Scanner
+pub use Rattle.facet_json_token.specs.Gap
+pub use Rattle.facet_json_token.specs.Token
+pub use Rattle.facet_json_token.specs.Cut
+pub use Rattle.facet_json_token.specs.Open
+pub use Rattle.facet_json_token.specs.Tokens
+pub use Rattle.facet_json_decode.specs.Decode
+pub use Rattle.facet_json_scanner.specs.Scanner
 pub mod Views
 pub mod Laws

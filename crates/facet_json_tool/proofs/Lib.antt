@@ -1,8 +1,8 @@
-pub mod Cuts
 pub mod Calls
-pub mod Operands
-pub mod Printing
+pub mod Cuts
+pub mod Endings
 pub mod Listing
 pub mod OneCommand
-pub mod Endings
+pub mod Operands
+pub mod Printing
 pub mod Unasked

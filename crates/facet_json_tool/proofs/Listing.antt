@@ -6,10 +6,10 @@ use Rattle.std.proofs.lemmas.List.{append-nil}
 use Rattle.std.proofs.lemmas.Grind.{flat_map-append}
 use Rattle.facet_format.specs.Event.{Event}
 use Rattle.facet_format.specs.Cursor.{Call, next, Answer, event}
-use Rattle.facet_json_scan.specs.Gap.{Mode}
-use Rattle.facet_json_core.specs.Refusal.{Complains}
-use Rattle.facet_json_core.specs.Now.{Now, fresh}
-use Rattle.facet_json_core.specs.Move.{Moves, MovesAll, no_calls, one_call}
+use Rattle.facet_json_token.specs.Gap.{Mode}
+use Rattle.facet_json_document.specs.Refusal.{Complains}
+use Rattle.facet_json_protocol.specs.Now.{Now, fresh}
+use Rattle.facet_json_protocol.specs.Move.{Moves, MovesAll, no_calls, one_call}
 use Rattle.facet_json_tool.specs.Lines.{event_line}
 use Rattle.facet_json_tool.specs.declared.outcome.Outcome.{Outcome}
 use Rattle.facet_json_tool.specs.declared.outcome.Outcome.TheVariants.{Done, Refused, Io, Usage}

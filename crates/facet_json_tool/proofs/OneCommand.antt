@@ -2,7 +2,7 @@
 use Rattle.std.proofs.Common.{◌≡◌, ◌≢◌, ℕ, ◌+◌, ◌*◌, ◌==◌, cond, List, [], ◌∷◌, get_or, drop, codes, refl, sym, ap, subst, ◌∙◌, arith}
 use Rattle.std.specs.Str.Parse.{digits_value}
 use Rattle.facet_format.specs.Cursor.{Call, next, peek, events, save, restore, span}
-use Rattle.facet_json_scan.specs.Gap.{Mode}
+use Rattle.facet_json_token.specs.Gap.{Mode}
 use Rattle.facet_json_tool.specs.Script.{comma, IsWordOf, IsScript, one_word, word_first}
 use Rattle.facet_json_tool.specs.Arguments.{Command, fmt, events as list, drive, AreWords, AreArguments, AskFor}
 use Rattle.facet_json_tool.proofs.Cuts.{same_tail, one_cut, has_byte}

@@ -1,6 +1,6 @@
 -- The words behind a command: the option once at most, and other words, read from the front.
 use Rattle.std.proofs.Common.{◌≡◌, ◌≢◌, ℕ, zero, suc, ◌<◌, ◌≤◌, List, [], ◌∷◌, ◌++◌, length, get_or, take, drop, codes, String, Global, string_bytes, subst, refl, sym, ap, arith}
-use Rattle.facet_json_scan.specs.Gap.{Mode, plain, jsonc}
+use Rattle.facet_json_token.specs.Gap.{Mode, plain, jsonc}
 use Rattle.facet_format.specs.Cursor.{Call}
 use Rattle.facet_json_tool.specs.Script.{IsScript}
 use Rattle.facet_json_tool.specs.Arguments.{fmt, events, drive, comments, AreWords, no_words, operand, option, AreArguments, AskForNothing}

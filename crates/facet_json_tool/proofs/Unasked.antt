@@ -3,7 +3,7 @@ use Rattle.std.proofs.Common.{◌≡◌, ℕ, List, [], Option, Some, None, IfSo
 use Rattle.facet_json_tool.specs.Arguments.{Command, fmt, events, drive}
 use Rattle.facet_json_tool.specs.declared.outcome.Outcome.{Outcome}
 use Rattle.facet_json_tool.specs.declared.outcome.Outcome.TheVariants.{Done, Refused}
-use Rattle.facet_json_scan.specs.Gap.{Mode}
+use Rattle.facet_json_token.specs.Gap.{Mode}
 use Rattle.facet_json_tool.specs.Run.{Answers, HasDocument, IsFailure}
 use Rattle.facet_json_tool.proofs.Printing.{appends_nothing}
 

@@ -1,7 +1,7 @@
 -- What the arguments behind the program's name ask for.
 use Rattle.std.specs.Prelude.{◌≡◌, ◌≢◌, ℕ, List, [], ◌∷◌, codes}
 use Rattle.facet_format.specs.Cursor.{Call}
-use Rattle.facet_json_scan.specs.Gap.{Mode, plain, jsonc}
+use Rattle.facet_json_token.specs.Gap.{Mode, plain, jsonc}
 use Rattle.facet_json_tool.specs.Script.{IsScript}
 
 -- what the program can be asked to do

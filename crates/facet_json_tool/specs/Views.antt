@@ -3,7 +3,7 @@ use Rattle.std.specs.Prelude.{ℕ, List, [], ◌∷◌, map, Option, Some, None,
 use Rattle.std.specs.Borrow.{Bor}
 use Rattle.std.specs.declared.string.String.{String}
 use Rattle.std.specs.declared.alloc.Global.{Global}
-use Rattle.facet_json_scan.specs.Views.{mode_of}
+use Rattle.facet_json_token.specs.Views.{mode_of}
 use Rattle.facet_json_core.specs.ScriptViews.{call_of}
 use Rattle.facet_json_tool.specs.declared.arguments.Command.{Command as RustCommand}
 use Rattle.facet_json_tool.specs.declared.arguments.Command.TheVariants as commands

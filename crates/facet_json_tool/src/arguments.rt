@@ -1,8 +1,8 @@
 //! What the arguments behind the program's name ask for.
 
 ghost use Rattle.std.specs.Prelude.{◌≡◌, ◌≤◌, ◌⊎◌, ℕ, List, [], ◌∷◌, ◌++◌, length, None, IfOk, IfErr, MatchOption, MatchResult};
-ghost use Rattle.facet_json_scan.specs.Gap.{Mode as SpecMode};
-ghost use Rattle.facet_json_scan.specs.Views.{mode_of};
+ghost use Rattle.facet_json_token.specs.Gap.{Mode as SpecMode};
+ghost use Rattle.facet_json_token.specs.Views.{mode_of};
 ghost use Rattle.facet_json_tool.specs.declared.outcome.Outcome.TheVariants as outcome;
 ghost use Rattle.facet_json_tool.specs.Arguments.{AreWords, AskFor, AskForNothing};
 ghost use Rattle.facet_json_tool.specs.Views.{words_of, command_view, operands_of};

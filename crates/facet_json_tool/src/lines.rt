@@ -8,7 +8,7 @@ ghost use Rattle.facet_format.specs.Event.{bytes_of};
 ghost use Rattle.facet_format.specs.HeldText.{text_of};
 ghost use Rattle.facet_format.specs.Views.{span_of, event_of, scalar_value_of, parse_refusal};
 ghost use Rattle.facet_json_core.specs.ScriptViews.{answer_of};
-ghost use Rattle.facet_json.specs.Quoted.{quoted as quoted_text};
+ghost use Rattle.facet_json_document.specs.Quoted.{quoted as quoted_text};
 ghost use Rattle.facet_json_tool.specs.declared.outcome.Outcome.TheVariants as outcome;
 ghost use Rattle.facet_json_tool.specs.Lines.{head_text, place_line, value_line, scalar_line, event_line, refusal_line, count_line, next_line, answer_lines};
 ghost use Rattle.facet_json_tool.specs.Views.{count_of};

@@ -1,6 +1,6 @@
 //! What more bytes leave of what was cut.
 
-ghost use Rattle.facet_json_scan.specs.Laws.{CutStays, OpenIsTested};
+ghost use Rattle.facet_json_token.specs.Laws.{CutStays, OpenIsTested};
 
 /// What is cut where the buffer isn't open, a token or a fault, is cut alike from every longer buffer with that front:
 /// bytes that come later don't change it.

@@ -2,7 +2,7 @@ use Rattle.std.proofs.Common.{◌∙◌, ap}
 use Rattle.std.proofs.lemmas.List.{map-append}
 use Rattle.std.proofs.lemmas.Result.{err_from_is_err_and, IfOk-weaker, IfErr-weaker}
 use Rattle.facet_format.specs.Views.{event_kind_of}
-use Rattle.facet_json.proofs.Reading.{unread-same, unread-at, read-at, went-none, went-behind, none-value, none-items, none-members, scalar-read, scalar-unread, list-unread, object-unread}
+use Rattle.facet_json.proofs.ReadingValues.{unread-same, unread-at, read-at, went-none, went-behind, none-value, none-items, none-members, scalar-read, scalar-unread, list-unread, object-unread}
 use Rattle.facet_json.proofs.ItemsRead.{not_list_end, items-unread, items-closed, item-unread, item-passed}
 use Rattle.facet_json.proofs.MembersRead.{held-bytes, not_member, pairs_before-none, members-unread, members-closed, no_key-unread, member-unread, member-passed}
 use Rattle.facet_json.proofs.reader.+read.Goals as goal

@@ -4,7 +4,7 @@ use Rattle.std.specs.Option.{option_map}
 use Rattle.std.proofs.lemmas.Result.{err_from_is_err_and}
 use Rattle.facet_format.specs.Cursor.{event}
 use Rattle.facet_format.specs.Views.{event_of}
-use Rattle.facet_json.proofs.NextMoves.{next-gave, next-refused}
+use Rattle.facet_json.proofs.NextEventComes.{next-gave, next-refused}
 use Rattle.facet_json.proofs.reader.next.Goals as goal
 
 pub returns-in_err-event-clause-refused : goal.returns-in_err-event-clause-refused

@@ -1,5 +1,5 @@
 use Rattle.std.proofs.lemmas.Result.{err_from_is_err_and}
-use Rattle.facet_json.proofs.Reading.{none-value}
+use Rattle.facet_json.proofs.ReadingValues.{none-value}
 use Rattle.facet_json.proofs.reader.root.Goals as goal
 
 pub returns-in_err-first-clause-refused : goal.returns-in_err-first-clause-refused

@@ -3,9 +3,9 @@ use Rattle.std.proofs.lemmas.Int.{to_z-of_z}
 use Rattle.std.proofs.lemmas.List.{append_assoc, drop_all}
 use Rattle.std.specs.Result.{OnOk}
 use Rattle.facet_format.specs.Bytes.{colon, left_bracket, right_bracket, left_brace, right_brace}
-use Rattle.facet_json.specs.Quoted.{quoted}
-use Rattle.facet_json.specs.Text.{separator, text}
-use Rattle.facet_json_core.specs.Tree.{bool, list, pairs}
+use Rattle.facet_json_document.specs.Quoted.{quoted}
+use Rattle.facet_json_document.specs.Text.{separator, text}
+use Rattle.facet_json_document.specs.Tree.{bool, list, pairs}
 use Rattle.facet_json.specs.Views.{tree_view, trees_view, pairs_view}
 use Rattle.facet_json.proofs.CompactText.{compact, compact_items, compact_members, items_text-step, items_text-end, members_text-step, members_text-end}
 use Rattle.facet_json.proofs.TreeViews.{tree_view-Null, tree_view-Bool, tree_view-I64, tree_view-U64, tree_view-Decimal, tree_view-Text, tree_view-List, tree_view-Pairs, trees_view-drop, pairs_view-drop}

@@ -1,5 +1,5 @@
-use Rattle.facet_json_core.specs.Move.{no_calls}
-use Rattle.facet_json_core.proofs.Scripts.{made-none, made-one_more, made-within, made-all, made-run, made-input}
+use Rattle.facet_json_protocol.specs.Move.{no_calls}
+use Rattle.facet_json_core.proofs.CallsInOrder.{made-none, made-one_more, made-within, made-all, made-run, made-input}
 use Rattle.facet_json_core.proofs.script.drive.Goals as goal
 
 pub loop-call-init : goal.loop-call-init

@@ -1,9 +1,9 @@
 use Rattle.std.proofs.Common.{◌≡◌, ◌≤◌, map, length, take}
 use Rattle.std.specs.List.{All}
 use Rattle.std.specs.Vec.{vec_len, vec_capacity}
-use Rattle.facet_json_core.specs.Refusal.{Complains}
-use Rattle.facet_json_core.specs.Move.{MovesAll}
-use Rattle.facet_json_core.specs.Sound.{AnswerWithin}
+use Rattle.facet_json_document.specs.Refusal.{Complains}
+use Rattle.facet_json_protocol.specs.Move.{MovesAll}
+use Rattle.facet_json_protocol.specs.Sound.{AnswerWithin}
 use Rattle.facet_json_core.specs.ScriptViews.{call_of, answer_of}
 use Rattle.facet_json_core.proofs.script.drive.Given as goal
 

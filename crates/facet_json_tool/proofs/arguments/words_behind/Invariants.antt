@@ -1,5 +1,5 @@
 use Rattle.std.proofs.Common.{take}
-use Rattle.facet_json_scan.specs.Views.{mode_of}
+use Rattle.facet_json_token.specs.Views.{mode_of}
 use Rattle.facet_json_tool.specs.Arguments.{AreWords}
 use Rattle.facet_json_tool.specs.Views.{words_of, operands_of}
 use Rattle.facet_json_tool.proofs.arguments.words_behind.Given as goal

@@ -1,5 +1,5 @@
-use Rattle.facet_json_scan.specs.Views.{mode_of}
-use Rattle.facet_json_core.specs.Now.{ahead}
+use Rattle.facet_json_token.specs.Views.{mode_of}
+use Rattle.facet_json_protocol.specs.Now.{ahead}
 use Rattle.facet_json_tool.proofs.Listing.{AreSoFar}
 use Rattle.facet_json_tool.proofs.run.list_events.Given as goal
 

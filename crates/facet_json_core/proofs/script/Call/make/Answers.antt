@@ -1,4 +1,4 @@
-use Rattle.facet_json_core.proofs.Calls.{told-moves}
+use Rattle.facet_json_parser.proofs.AnswersAreMoves.{told-moves}
 use Rattle.facet_json_core.proofs.script.Call.make.Goals as goal
 
 pub returns-in-Span : goal.returns-in-Span

@@ -1,0 +1,18 @@
+-- The text so far stands in front of the text of what is left, which is UTF-8.
+use Rattle.std.proofs.Common.{◌≡◌, ◌-◌, ◌≤◌, string_bytes}
+use Rattle.std.specs.Prelude.{slice_range, IsUtf8}
+use Rattle.facet_json_decode.specs.Decode.{decoded}
+use Rattle.facet_json_decode.proofs.DecodeSteps.{behind}
+use Rattle.facet_json_decode.proofs.decode.unchecked.decode_string_owned_unchecked.Given as goal
+
+abbrev pub invariant-loop-text : goal.invariant-loop-text
+invariant-loop-text l = record {
+  ahead : l.start ≤ l.at;
+  within : l.at ≤ l.end;
+  utf8 : IsUtf8 (slice_range l.buf l.at l.end);
+  so_far : decoded (slice_range l.buf l.start l.end)
+      ≡ behind (string_bytes l.text) (decoded (slice_range l.buf l.at l.end));
+}
+
+abbrev pub decreases-loop-text : goal.decreases-loop-text
+decreases-loop-text l = l.end - l.at

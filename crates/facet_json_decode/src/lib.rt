@@ -1,0 +1,11 @@
+//! The contents of JSON strings (RFC 8259, section 7) to their texts.
+#![tactic(auto)]
+
+mod decode;
+mod refusal;
+
+pub use decode::{
+    DecodeError, check_string, decode_string, decode_string_borrowed,
+    decode_string_borrowed_unchecked, decode_string_owned, decode_string_owned_unchecked,
+    decode_string_unchecked,
+};

@@ -1,0 +1,3 @@
+pub mod DocumentRows
+pub mod QuotedRows
+pub mod TextRows

@@ -1,0 +1,13 @@
+pub mod Document
+pub mod Future
+pub mod Laws
+pub mod Meaning
+pub mod Node
+pub mod Place
+pub mod Quoted
+pub mod Refusal
+pub mod Spelled
+pub mod Text
+pub mod TextLaws
+pub mod Tree
+pub mod Walk

@@ -1,0 +1,177 @@
+//! The values of numbers.
+
+ghost use Rattle.std.specs.Prelude.{◌≡◌, ◌≤◌, ◌<◌, ◌^◌, pos, neg_ℤ, true, false, None, Some, length, slice_range, IsUtf8, IfErr, IfOk, MatchOption, MatchResult};
+ghost use Rattle.std.specs.Option.{option_map, IfSome};
+ghost use Rattle.facet_format.specs.Number.{AreDigits, digits_value, number as spec_number, is_number, float, unsigned_number, negative_number};
+ghost use Rattle.facet_format.specs.Views.{hint_of};
+ghost use Rattle.facet_json_number.specs.Views.{number_of, is_made_number, number_refusal};
+
+use facet_json_token::{ScanError, ScanErrorKind};
+use facet_format::numeral::{NumberHint, number_parts};
+use facet_format::{Decimal, Span};
+use std::str;
+
+/// A number that has been read: in 64 bits where it fits them, else in 128, or as its text.
+#[derive(Debug, PartialEq, Drop)]
+pub enum ParsedNumber<'a> {
+    /// Digits alone, below 2^64.
+    U64(u64),
+    /// A minus and digits, from -2^63 on.
+    I64(i64),
+    /// Digits alone, from 2^64 on.
+    U128(u128),
+    /// A minus and digits, below -2^63.
+    I128(i128),
+    /// A number with a fraction or an exponent.
+    Decimal(Decimal<'a>),
+}
+
+/// The number at `start..end` of the buffer, which is a number's text with that hint (RFC 8259, section 6, leniently).
+/// Text that isn't one, or is a whole number of more than 128 bits, is refused over the slice.
+///
+/// ```text
+/// parse_number(b"[-42]", 1, 4, NumberHint::Signed)    Ok: ParsedNumber::I64(-42)
+/// parse_number(b"[-42]", 1, 4, NumberHint::Float)     Err: ScanErrorKind::UnexpectedChar('?'), span 1+3
+/// ```
+pub fn parse_number<'a>(
+    buf: &'a [u8],
+    start: usize,
+    end: usize,
+    hint: NumberHint,
+) -> Result<ParsedNumber<'a>, ScanError>
+    requires in_order { start ≤ end }
+    requires within { end ≤ length buf.now }
+    ensures number { let text = slice_range buf.now start end in MatchResult result
+        (λ v. spec_number text (hint_of hint) ≡ Some (number_of v))
+        (λ e. spec_number text (hint_of hint) ≡ None) }
+    ensures refusal { IfErr result (λ e. e ≡ number_refusal start end) }
+    ensures borrowed { IfOk result (λ v. is_made_number v ≡ false) }
+{
+    match number(&buf[start..end], hint) {
+        Some(number) => Ok(number),
+        None => Err(ScanError {
+            kind: ScanErrorKind::UnexpectedChar('?'),
+            span: Span::new(start, end - start),
+        }),
+    }
+}
+
+/// The same as `parse_number`, for a slice that is known to be UTF-8.
+pub fn parse_number_unchecked<'a>(
+    buf: &'a [u8],
+    start: usize,
+    end: usize,
+    hint: NumberHint,
+) -> Result<ParsedNumber<'a>, ScanError>
+    requires in_order { start ≤ end }
+    requires within { end ≤ length buf.now }
+    requires utf8 { IsUtf8 (slice_range buf.now start end) }
+    ensures number { let text = slice_range buf.now start end in MatchResult result
+        (λ v. spec_number text (hint_of hint) ≡ Some (number_of v))
+        (λ e. spec_number text (hint_of hint) ≡ None) }
+    ensures refusal { IfErr result (λ e. e ≡ number_refusal start end) }
+    ensures borrowed { IfOk result (λ v. is_made_number v ≡ false) }
+{
+    parse_number(buf, start, end, hint)
+}
+
+/// The value of a number's text with that hint, or `None`.
+fn number<'a>(text: &'a [u8], hint: NumberHint) -> Option<ParsedNumber<'a>>
+    ensures number { option_map number_of result ≡ spec_number text.now (hint_of hint) }
+    ensures borrowed { IfSome result (λ v. is_made_number v ≡ false) }
+{
+    let parts = number_parts(text, hint)?;
+    match hint {
+        NumberHint::Unsigned => unsigned_number(text),
+        NumberHint::Signed => negative_number(&text[parts.sign..]),
+        NumberHint::Float => decimal_number(text),
+    }
+}
+
+/// The value of decimal digits, in 64 bits where it fits, else in 128.
+fn unsigned_number<'a>(digits: &[u8]) -> Option<ParsedNumber<'a>>
+    requires { AreDigits digits.now }
+    ensures number { option_map number_of result ≡ unsigned_number (digits_value 0 digits.now) }
+    ensures borrowed { IfSome result (λ v. is_made_number v ≡ false) }
+{
+    match parse_unsigned(digits) {
+        Some(n) => Some(ParsedNumber::U64(n)),
+        None => Some(ParsedNumber::U128(parse_wide(digits)?)),
+    }
+}
+
+/// The value of decimal digits behind a minus, in 64 bits where it fits, else in 128.
+fn negative_number<'a>(digits: &[u8]) -> Option<ParsedNumber<'a>>
+    requires { AreDigits digits.now }
+    ensures number { option_map number_of result ≡ negative_number (digits_value 0 digits.now) }
+    ensures borrowed { IfSome result (λ v. is_made_number v ≡ false) }
+{
+    match negative(digits) {
+        Some(n) => Some(ParsedNumber::I64(n)),
+        None => Some(ParsedNumber::I128(negative_wide(digits)?)),
+    }
+}
+
+/// The text of a number with a fraction or an exponent, or `None` where it lacks a digit.
+fn decimal_number<'a>(text: &'a [u8]) -> Option<ParsedNumber<'a>>
+    requires is_number { is_number text.now float ≡ true }
+    ensures number { option_map number_of result ≡ spec_number text.now float }
+    ensures borrowed { IfSome result (λ v. is_made_number v ≡ false) }
+{
+    // All bytes of a number are ASCII.
+    let text = unsafe { str::from_utf8_unchecked(text) };
+    match Decimal::new(text) {
+        Some(decimal) => Some(ParsedNumber::Decimal(decimal)),
+        None => None,
+    }
+}
+
+/// The value of decimal digits behind a minus, or `None` where it is below -2^63.
+fn negative(digits: &[u8]) -> Option<i64>
+    requires { AreDigits digits.now }
+    ensures { MatchOption result
+        (2 ^ 63 < digits_value 0 digits.now)
+        (λ n. (n ≡ neg_ℤ (pos (digits_value 0 digits.now))) × (digits_value 0 digits.now ≤ 2 ^ 63)) }
+{
+    0_i64.checked_sub_unsigned(parse_unsigned(digits)?)
+}
+
+/// The value of decimal digits behind a minus, or `None` where it is below -2^127.
+fn negative_wide(digits: &[u8]) -> Option<i128>
+    requires { AreDigits digits.now }
+    ensures { MatchOption result
+        (2 ^ 127 < digits_value 0 digits.now)
+        (λ n. (n ≡ neg_ℤ (pos (digits_value 0 digits.now))) × (digits_value 0 digits.now ≤ 2 ^ 127)) }
+{
+    0_i128.checked_sub_unsigned(parse_wide(digits)?)
+}
+
+/// The value of decimal digits, or `None` where it is 2^64 or more.
+pub(crate) fn parse_unsigned(digits: &[u8]) -> Option<u64>
+    requires { AreDigits digits.now }
+    ensures { MatchOption result
+        (2 ^ 64 ≤ digits_value 0 digits.now)
+        (λ n. (n ≡ digits_value 0 digits.now) × (n < 2 ^ 64)) }
+{
+    let mut value: u64 = 0;
+    for digit in digits {
+        let tens = value.checked_mul(10)?;
+        value = tens.checked_add(u64::from(*digit - b'0'))?;
+    }
+    Some(value)
+}
+
+/// The value of decimal digits, or `None` where it is 2^128 or more.
+fn parse_wide(digits: &[u8]) -> Option<u128>
+    requires { AreDigits digits.now }
+    ensures { MatchOption result
+        (2 ^ 128 ≤ digits_value 0 digits.now)
+        (λ n. (n ≡ digits_value 0 digits.now) × (n < 2 ^ 128)) }
+{
+    let mut value: u128 = 0;
+    for digit in digits {
+        let tenfold = value.checked_mul(10)?;
+        value = tenfold.checked_add(u128::from(*digit - b'0'))?;
+    }
+    Some(value)
+}

@@ -1,0 +1,3 @@
+pub mod AnswersAreMoves
+pub mod EventsInBatch
+pub mod ParserWithin

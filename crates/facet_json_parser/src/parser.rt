@@ -1,0 +1,341 @@
+//! Reads a document event by event, with a look ahead and points to go back to.
+
+ghost use Rattle.std.specs.Prelude.{◌≡◌, ◌≤◌, ◌+◌, ◌^◌, suc, List, Some, None, Ok, Err, ◌<◌, length, ◌++◌, OnSome, IfOk, IfErr, IfSome, IsSome, IsUtf8, codes, MatchOption, MatchResult};
+ghost use Rattle.facet_format.specs.declared.event.ParseEvent.{ParseEvent as RustEvent};
+ghost use Rattle.facet_json_token.specs.Gap.{plain, jsonc};
+ghost use Rattle.facet_json_token.specs.Views.{mode_of};
+ghost use Rattle.facet_format.specs.Cursor.{next, peek, events, save, restore, restored, span, spans, no_memory_at};
+ghost use Rattle.facet_format.specs.Standing.{IsStep};
+ghost use Rattle.facet_format.specs.Views.{event_of, parse_refusal, answer_of_event, answer_of_events, answer_of_save, answer_of_span};
+ghost use Rattle.facet_json_document.specs.Refusal.{Complains};
+ghost use Rattle.facet_format.specs.Kept.{found, without};
+ghost use Rattle.facet_json_protocol.specs.Now.{fresh, span_of, ahead, SameInput, GoesOn, StandsAt};
+ghost use Rattle.facet_json_protocol.specs.Move.{Moves, with_standing, with_refusal, with_kept};
+ghost use Rattle.facet_json_protocol.specs.Sound.{NowSound, AnswerWithin};
+ghost use Rattle.facet_json_standing.specs.Fill.{FillsParser, GivesOne};
+ghost use Rattle.std.specs.Option.{option_map};
+ghost use Rattle.std.specs.VecDeque.{deque_len, deque_capacity};
+
+use facet_json_place::Refused;
+use facet_json_standing::{Point, Standing, bring_back, keep};
+use facet_format::{FormatParser, ParseError, ParseEvent, SavePoint, Span};
+use facet_json_token::Mode;
+use std::alloc::Global;
+use std::collections::VecDeque;
+use std::marker::Model;
+
+/// A parser of a JSON document (RFC 8259, sections 2 to 7), event by event, over an input that lives for `'de`.
+///
+/// The document is the value at the front of the input; what stands behind it is not looked at. Offsets and lengths of
+/// spans are in bytes.
+///
+/// ```text
+/// let mut parser = JsonParser::new(alloc, b"{\"a\":[1]}");
+/// parser.next_event()              Ok: StructStart(Object), span 0+1
+/// parser.peek_event()              Ok: FieldKey of a, span 1+3
+/// parser.current_span()            Some: span 4+1, the colon behind the key
+/// parser.next_event()              Ok: FieldKey of a, span 1+3
+/// parser.save()                    Ok: SavePoint(1)
+/// parser.next_event()              Ok: SequenceStart(Array), span 5+1
+/// parser.restore(SavePoint(1))
+/// parser.next_events(&mut q, 9)    Ok: 4, and q has SequenceStart, Scalar of U64(1), SequenceEnd, StructEnd
+/// parser.next_event()              Ok: None
+/// ```
+///
+/// # Errors
+///
+/// A refusal of a call for events sticks: calls for events and saves repeat it, until a point that is kept is restored.
+/// A refused save changes nothing, and does not stick.
+#[derive(Debug, Drop)]
+pub struct JsonParser<'de> {
+    alloc: Global,
+    input: &'de [u8],
+    mode: Mode,
+    standing: Standing<'de>,
+    refusal: Option<Refused>,
+    points: Vec<Point<'de>>,
+    counter: u64,
+}
+
+impl<'de> Model for JsonParser<'de> {
+    ghost use Rattle.std.specs.Prelude.{map};
+    ghost use Rattle.std.specs.Option.{option_map};
+    ghost use Rattle.facet_json_token.specs.Views.{mode_of};
+    ghost use Rattle.facet_json_protocol.specs.Now.{Now};
+    ghost use Rattle.facet_json_standing.specs.Ready.{IsReady};
+    ghost use Rattle.facet_json_place.specs.Views.{refused_of};
+    ghost use Rattle.facet_json_standing.specs.Views.{now_of};
+
+    ghost Value = { Now };
+
+    ghost view = { λ p. now_of p.input.now p.mode p.standing p.refusal p.points.items p.counter };
+
+    ghost invariant = { λ p. IsReady (now_of p.input.now p.mode p.standing p.refusal p.points.items p.counter) };
+}
+
+impl<'de> JsonParser<'de> {
+    /// A parser of a document without comments, in front of the input. It takes no memory.
+    pub fn new(alloc: Global, input: &'de [u8]) -> JsonParser<'de>
+        ensures { result ≡ fresh input.now plain }
+    {
+        JsonParser::in_mode(alloc, input, Mode::Plain)
+    }
+
+    /// A parser of a document in which comments may stand wherever white space may: `//` to the line's end, and `/*` to
+    /// `*/`. It takes no memory.
+    pub fn new_jsonc(alloc: Global, input: &'de [u8]) -> JsonParser<'de>
+        ensures { result ≡ fresh input.now jsonc }
+    {
+        JsonParser::in_mode(alloc, input, Mode::Jsonc)
+    }
+
+    /// The parser that `new` makes, for a caller that knows the input to be UTF-8, as the bytes of a `str` are. It
+    /// answers as the one that checks its strings.
+    pub fn new_trusted(alloc: Global, input: &'de [u8]) -> JsonParser<'de>
+        requires utf8 { IsUtf8 input.now }
+        ensures { result ≡ fresh input.now plain }
+    {
+        JsonParser::new(alloc, input)
+    }
+
+    /// The parser that `new_jsonc` makes, for a caller that knows the input to be UTF-8, as the bytes of a `str` are. It
+    /// answers as the one that checks its strings.
+    pub fn new_jsonc_trusted(alloc: Global, input: &'de [u8]) -> JsonParser<'de>
+        requires utf8 { IsUtf8 input.now }
+        ensures { result ≡ fresh input.now jsonc }
+    {
+        JsonParser::new_jsonc(alloc, input)
+    }
+
+    /// A parser in front of the input.
+    fn in_mode(alloc: Global, input: &'de [u8], mode: Mode) -> JsonParser<'de>
+        ensures { result ≡ fresh input.now (mode_of mode) }
+    {
+        JsonParser {
+            alloc,
+            input,
+            mode,
+            standing: Standing::new(alloc),
+            refusal: None,
+            points: Vec::new(alloc),
+            counter: 0,
+        }
+    }
+
+    /// Reads the next event, where none is held.
+    fn fill<'t>(&mut self) -> Result<(), ParseError<'t>>
+        ensures filled { MatchResult result
+            (λ _. FillsParser self.old None self.new)
+            (λ e. FillsParser self.old (Some (parse_refusal e)) self.new) }
+        ensures sound { NowSound self.old }
+    {
+        if let Some(refused) = self.refusal {
+            return Err(ParseError::from(refused));
+        }
+        match self.standing.fill(self.alloc, self.input, self.mode) {
+            Ok(()) => Ok(()),
+            Err(refused) => {
+                self.refusal = Some(refused);
+                Err(ParseError::from(refused))
+            }
+        }
+    }
+
+    /// The input is no longer than a slice may be.
+    fn see_length(&self)
+        ensures { ahead self.now < 2 ^ 64 }
+    {
+        let _len = self.input.len();
+    }
+
+    /// Refuses for want of memory from now on.
+    fn refuse_growth<'t>(&mut self) -> ParseError<'t>
+        ensures error { parse_refusal result ≡ no_memory_at (span_of self.old.standing) }
+        ensures kept { self.new ≡ with_refusal self.old self.old.standing (no_memory_at (span_of self.old.standing)) }
+    {
+        let refused = Refused::out_of_memory(self.standing.span());
+        self.refusal = Some(refused);
+        ParseError::from(refused)
+    }
+
+    /// The next event, once the queue has room for it.
+    fn next_with_room<'t>(
+        &mut self,
+        queue: &mut VecDeque<ParseEvent<'de>>,
+    ) -> Result<Option<ParseEvent<'de>>, ParseError<'t>>
+        ensures items { queue.new.items ≡ queue.old.items }
+        ensures room { IfOk result (λ o. OnSome o (deque_len queue.new < deque_capacity queue.new)) }
+        ensures event { MatchResult result
+            (λ o. GivesOne self.old (Ok (option_map event_of o)) self.new)
+            (λ e. GivesOne self.old (Err (parse_refusal e)) self.new) }
+        ensures sound { NowSound self.old }
+    {
+        self.fill()?;
+        if self.standing.held.is_none() {
+            return Ok(None);
+        }
+        match queue.reserve(1) {
+            Ok(()) => Ok(self.standing.take()),
+            Err(_) => Err(self.refuse_growth()),
+        }
+    }
+}
+
+impl<'de> FormatParser<'de> for JsonParser<'de> {
+    ghost at = { StandsAt };
+
+    ghost ahead = { ahead };
+
+    /// Passes the next event and answers it, or `None` behind the document's last one, again and again.
+    ///
+    /// # Errors
+    ///
+    /// The input does not go on with a document; the span is that of the bytes that are wrong.
+    ///
+    /// - `UnexpectedChar`: no token begins or goes on so, or a character is wrong in an escape (RFC 8259, sections 2, 6
+    ///   and 7). A number without a value is refused as the character `?`, with the number's span.
+    /// - `UnexpectedEof`: the input ends. The span is empty at its end, or goes from the start of the piece that is cut.
+    /// - `UnexpectedToken`: no document goes on with this token, or the input ends behind a key.
+    /// - `InvalidUtf8`: a string's bytes are not UTF-8 (section 8.1).
+    /// - `OutOfMemory`: no memory for an open container or for an owned text, with the current span. An event that a peek
+    ///   answered takes none.
+    ///
+    /// A refusal sticks, until a point that is kept is restored.
+    fn next_event<'t>(&mut self) -> Result<Option<ParseEvent<'de>>, ParseError<'t>>
+        ensures steps { IsStep StandsAt self.old next (answer_of_event result) self.new }
+        ensures moves { Moves Complains self.old next (answer_of_event result) self.new }
+        ensures within { AnswerWithin self.new.buffer (answer_of_event result) }
+        ensures lowers { ahead self.new ≤ ahead self.old }
+        ensures onward { GoesOn self.old self.new }
+        ensures shorter { IfOk result (λ o. OnSome o (ahead self.new < ahead self.old)) }
+    {
+        self.fill()?;
+        Ok(self.standing.take())
+    }
+
+    /// Answers the next event and lets it stay the next one, or `None` behind the document's last one.
+    ///
+    /// # Errors
+    ///
+    /// As `next_event`, and `OutOfMemory`, with the current span, where the event's owned text can't be copied. A refusal
+    /// sticks, until a point that is kept is restored.
+    fn peek_event<'t>(&mut self) -> Result<Option<ParseEvent<'de>>, ParseError<'t>>
+        ensures steps { IsStep StandsAt self.old peek (answer_of_event result) self.new }
+        ensures moves { Moves Complains self.old peek (answer_of_event result) self.new }
+        ensures within { AnswerWithin self.new.buffer (answer_of_event result) }
+        ensures lowers { ahead self.new ≤ ahead self.old }
+        ensures onward { GoesOn self.old self.new }
+    {
+        self.fill()?;
+        match self.standing.peek(self.alloc) {
+            Ok(event) => Ok(event),
+            Err(_) => Err(self.refuse_growth()),
+        }
+    }
+
+    /// Passes the next events, up to so many, appends them to the queue and answers how many they are. They are fewer
+    /// only where the document ends.
+    ///
+    /// # Errors
+    ///
+    /// As `next_event`, and `OutOfMemory`, with the current span, where the queue can't grow. The events before the
+    /// refusal are passed and appended. A refusal sticks, until a point that is kept is restored; a call for no events
+    /// answers 0 even then.
+    fn next_events<'t>(
+        &mut self,
+        buf: &mut VecDeque<ParseEvent<'de>>,
+        limit: usize,
+    ) -> Result<usize, ParseError<'t>>
+        ensures steps { (given : List RustEvent) × (buf.new.items ≡ buf.old.items ++ given)
+            × IsStep StandsAt self.old (events limit) (answer_of_events given result) self.new }
+        ensures moves { (given : List RustEvent) × (buf.new.items ≡ buf.old.items ++ given)
+            × Moves Complains self.old (events limit) (answer_of_events given result) self.new
+            × AnswerWithin self.new.buffer (answer_of_events given result) }
+        ensures lowers { ahead self.new ≤ ahead self.old }
+        ensures onward { GoesOn self.old self.new }
+        ensures shorter { IfOk result (λ n. ahead self.new + n ≤ ahead self.old) }
+    {
+        for count in 0..limit {
+            let Some(event) = self.next_with_room(buf)? else {
+                return Ok(count);
+            };
+            buf.push_back_reserved(event);
+        }
+        Ok(limit)
+    }
+
+    /// Keeps where it stands, an event that was peeked at included, under the next number: the first point has 1. Numbers
+    /// are not used again.
+    ///
+    /// # Errors
+    ///
+    /// - `OutOfMemory`: no memory to keep the point, with the current span.
+    /// - `SaveLimit`: the last point has the greatest number, 2^64 - 1; with the current span.
+    ///
+    /// Both change nothing and don't stick. A refusal that sticks already is repeated.
+    fn save<'t>(&mut self) -> Result<SavePoint, ParseError<'t>>
+        ensures steps { IsStep StandsAt self.old save (answer_of_save result) self.new }
+        ensures moves { Moves Complains self.old save (answer_of_save result) self.new }
+        ensures within { AnswerWithin self.new.buffer (answer_of_save result) }
+        ensures input { SameInput self.old self.new }
+        ensures lowers { ahead self.new ≤ ahead self.old }
+        ensures point { IfOk result (λ p. (p.0 ≡ suc self.old.counter) × (self.new ≡ with_kept self.old)) }
+        ensures own_number { IfOk result (λ p. found p.0 self.old.kept ≡ None) }
+        ensures unchanged { IfErr result (λ _. self.new ≡ self.old) }
+    {
+        if let Some(refused) = self.refusal {
+            return Err(ParseError::from(refused));
+        }
+        let Some(number) = self.counter.checked_add(1) else {
+            return Err(ParseError::from(Refused::save_limit(self.standing.span())));
+        };
+        match keep(&mut self.points, self.alloc, number, &self.standing) {
+            Ok(()) => {
+                self.counter = number;
+                Ok(SavePoint(number))
+            }
+            Err(_) => Err(ParseError::from(Refused::out_of_memory(self.standing.span()))),
+        }
+    }
+
+    /// Goes back to where it stood at the save of a point that is kept, with no refusal, and drops the point; other points
+    /// stay. A point that is not kept changes nothing. It takes no memory.
+    fn restore(&mut self, point: SavePoint)
+        ensures steps { IsStep StandsAt self.old (restore point.0) restored self.new }
+        ensures moves { Moves Complains self.old (restore point.0) restored self.new }
+        ensures input { SameInput self.old self.new }
+        ensures points { self.new.kept ≡ without point.0 self.old.kept }
+        ensures counter { self.new.counter ≡ self.old.counter }
+    {
+        if let Some(standing) = bring_back(&mut self.points, point.0) {
+            self.standing = standing;
+            self.refusal = None;
+        }
+    }
+
+    /// The bytes of the last token that an event took, also of an event that was peeked at: of a key the colon's, of
+    /// another event its own. Before the first event the span is 0+0. It is always there.
+    fn current_span(&self) -> Option<Span>
+        ensures steps { IsStep StandsAt self.now span (answer_of_span result) self.now }
+        ensures told { answer_of_span result ≡ spans (Some (span_of self.now.standing)) }
+        ensures within { AnswerWithin self.now.buffer (answer_of_span result) }
+    {
+        Some(self.standing.span())
+    }
+
+    /// The whole input, whatever was read of it. It is always there.
+    fn input(&self) -> Option<&'de [u8]>
+        ensures bytes { IfSome result (λ bytes. bytes.now ≡ self.now.buffer) }
+        ensures given { IsSome result }
+    {
+        Some(self.input)
+    }
+
+    /// The name of the format, `json`, in both modes. It is always there.
+    fn format_namespace<'t>(&self) -> Option<&'t str>
+        ensures name { IfSome result (λ name. name.now ≡ codes "json") }
+        ensures given { IsSome result }
+    {
+        Some("json")
+    }
+}

@@ -1,0 +1,2 @@
+pub mod FaultTexts
+pub mod TurnsAtPlaces

@@ -1,0 +1,11 @@
+//! Where a parser stands: the open containers, the place within the innermost one, what follows from a token there, and how
+//! it is refused.
+#![tactic(auto)]
+
+mod contexts;
+mod place;
+mod refusal;
+
+pub use contexts::Contexts;
+pub use place::{Place, Turn};
+pub use refusal::{Expected, Name, Refused, Why};

@@ -1,0 +1,165 @@
+//! Where a parser stands in a document, and what follows from a token there.
+
+ghost use Rattle.std.specs.Prelude.{◌≡◌, true, List, Some};
+ghost use Rattle.facet_format.specs.Event.{ContainerKind as SpecContainer};
+ghost use Rattle.facet_json_token.specs.Token.{Kind};
+ghost use Rattle.facet_json_token.specs.Views.{kind_of};
+ghost use Rattle.facet_json_document.specs.Place.{root, after_colon, before_key, after_member, before_item, after_item, complaint_at_end, expected_at};
+ghost use Rattle.facet_json_place.specs.Views.{place_of, turn_of, turn_by, expected_text, why_of, is_text};
+
+use crate::refusal::{Expected, Why};
+use facet_format::ContainerKind;
+use facet_json_token::Token;
+
+/// Where no value has begun yet, or what stands in front within the innermost open container. Behind a key's string
+/// is no place of its own: its colon is taken with it.
+#[derive(Debug, Clone, Copy, PartialEq, Eq)]
+pub enum Place {
+    /// In front of the root.
+    Root,
+    /// Behind `{`, or behind a comma in an object.
+    BeforeKey,
+    /// Behind a key's colon.
+    AfterColon,
+    /// Behind a member's value.
+    AfterMember,
+    /// Behind `[`, or behind a comma in an array.
+    BeforeItem,
+    /// Behind an item.
+    AfterItem,
+}
+
+/// What follows from a token at a place.
+#[derive(Debug, Clone, Copy, PartialEq, Eq)]
+pub enum Turn {
+    /// No document goes on with it.
+    Stops,
+    /// It is a separator, behind which this place is.
+    Passes(Place),
+    /// It opens a container.
+    Opens(ContainerKind),
+    /// It closes the innermost container, one of this kind.
+    Closes(ContainerKind),
+    /// It is a scalar.
+    Scalar,
+    /// It is a key, whose colon has to follow.
+    Names,
+}
+
+impl Place {
+    /// What is wrong where the input ends at this place.
+    pub fn why_at_end(self) -> Why
+        ensures { why_of result ≡ complaint_at_end (place_of self) }
+    {
+        Why::End(match self {
+            Place::Root | Place::AfterColon => Expected::Value,
+            Place::BeforeKey => Expected::FieldNameOrEnd,
+            Place::AfterMember => Expected::CommaOrObjectEnd,
+            Place::BeforeItem => Expected::ValueOrArrayEnd,
+            Place::AfterItem => Expected::CommaOrArrayEnd,
+        })
+    }
+
+    /// What is expected at this place, where a token stands with which the document doesn't go on.
+    pub fn expected(self, token: &Token) -> Expected
+        ensures { (kind : Kind) → kind_of token.now ≡ Some kind → expected_text result ≡ expected_at (place_of self) kind }
+    {
+        match self {
+            Place::Root | Place::AfterColon => Expected::Value,
+            Place::BeforeKey => Expected::FieldNameOrEnd,
+            Place::AfterMember => Expected::CommaOrObjectEnd,
+            Place::BeforeItem => expected_item(token),
+            Place::AfterItem => Expected::CommaOrArrayEnd,
+        }
+    }
+
+    /// What follows from a token at this place.
+    pub fn turn(self, token: &Token) -> Turn
+        ensures turn { (stack : List SpecContainer) → turn_of stack result ≡ turn_by stack (place_of self) (kind_of token.now) }
+        ensures names { result ≡ Turn.Names → is_text token.now ≡ true }
+    {
+        match self {
+            Place::Root | Place::AfterColon => value_turn(token),
+            Place::BeforeKey => key_turn(token),
+            Place::AfterMember => member_turn(token),
+            Place::BeforeItem => first_item_turn(token),
+            Place::AfterItem => item_turn(token),
+        }
+    }
+}
+
+/// What is expected in front of an item, where this token stands.
+fn expected_item(token: &Token) -> Expected
+    ensures { (kind : Kind) → kind_of token.now ≡ Some kind → expected_text result ≡ expected_at before_item kind }
+{
+    match token {
+        Token::Comma => Expected::ValueOrArrayEnd,
+        Token::Colon => Expected::ValueOrArrayEnd,
+        _ => Expected::Value,
+    }
+}
+
+/// The turn of a token where a value may stand.
+fn value_turn(token: &Token) -> Turn
+    ensures root { (stack : List SpecContainer) → turn_of stack result ≡ turn_by stack root (kind_of token.now) }
+    ensures colon { (stack : List SpecContainer) → turn_of stack result ≡ turn_by stack after_colon (kind_of token.now) }
+    ensures names { result ≡ Turn.Names → is_text token.now ≡ true }
+{
+    match token {
+        Token::ObjectStart => Turn::Opens(ContainerKind::Object),
+        Token::ArrayStart => Turn::Opens(ContainerKind::Array),
+        Token::Null => Turn::Scalar,
+        Token::True => Turn::Scalar,
+        Token::False => Turn::Scalar,
+        Token::String { .. } => Turn::Scalar,
+        Token::Number { .. } => Turn::Scalar,
+        _ => Turn::Stops,
+    }
+}
+
+/// The turn of a token behind `{`, or behind a comma in an object.
+fn key_turn(token: &Token) -> Turn
+    ensures turn { (stack : List SpecContainer) → turn_of stack result ≡ turn_by stack before_key (kind_of token.now) }
+    ensures names { result ≡ Turn.Names → is_text token.now ≡ true }
+{
+    match token {
+        Token::ObjectEnd => Turn::Closes(ContainerKind::Object),
+        Token::String { .. } => Turn::Names,
+        _ => Turn::Stops,
+    }
+}
+
+/// The turn of a token behind a member.
+fn member_turn(token: &Token) -> Turn
+    ensures turn { (stack : List SpecContainer) → turn_of stack result ≡ turn_by stack after_member (kind_of token.now) }
+    ensures names { result ≡ Turn.Names → is_text token.now ≡ true }
+{
+    match token {
+        Token::Comma => Turn::Passes(Place::BeforeKey),
+        Token::ObjectEnd => Turn::Closes(ContainerKind::Object),
+        _ => Turn::Stops,
+    }
+}
+
+/// The turn of a token behind `[`, or behind a comma in an array.
+fn first_item_turn(token: &Token) -> Turn
+    ensures turn { (stack : List SpecContainer) → turn_of stack result ≡ turn_by stack before_item (kind_of token.now) }
+    ensures names { result ≡ Turn.Names → is_text token.now ≡ true }
+{
+    match token {
+        Token::ArrayEnd => Turn::Closes(ContainerKind::Array),
+        token => value_turn(token),
+    }
+}
+
+/// The turn of a token behind an item.
+fn item_turn(token: &Token) -> Turn
+    ensures turn { (stack : List SpecContainer) → turn_of stack result ≡ turn_by stack after_item (kind_of token.now) }
+    ensures names { result ≡ Turn.Names → is_text token.now ≡ true }
+{
+    match token {
+        Token::Comma => Turn::Passes(Place::BeforeItem),
+        Token::ArrayEnd => Turn::Closes(ContainerKind::Array),
+        _ => Turn::Stops,
+    }
+}

@@ -1,0 +1,249 @@
+//! Refusals as a parser keeps them: values of their own, that become texts when they are answered.
+
+ghost use Rattle.std.specs.Prelude.{◌≡◌};
+ghost use Rattle.facet_format.specs.Complaint.{refusal_at, save_limit};
+ghost use Rattle.facet_format.specs.Cursor.{no_memory_at};
+ghost use Rattle.facet_format.specs.Views.{complaint_of, span_of, parse_refusal};
+ghost use Rattle.facet_json_place.specs.Views.{expected_text, name_text, why_of, refused_of, IsCutText, IsWhy, IsPassedOn};
+
+use facet_format::{DeserializeErrorKind, ParseError, Span};
+use facet_json_token::{ScanError, ScanErrorKind};
+
+/// What is expected where a document doesn't go on, or what the input ends inside of.
+#[derive(Debug, Clone, Copy, PartialEq, Eq)]
+pub enum Expected {
+    /// A value.
+    Value,
+    /// A key, or the end of an object.
+    FieldNameOrEnd,
+    /// The colon behind a key.
+    Colon,
+    /// A comma, or the end of an object.
+    CommaOrObjectEnd,
+    /// A value, or the end of an array.
+    ValueOrArrayEnd,
+    /// A comma, or the end of an array.
+    CommaOrArrayEnd,
+    /// The end of a string.
+    InString,
+    /// The digits of a number.
+    InNumber,
+    /// The letters of a literal.
+    InLiteral,
+    /// The end of a comment.
+    InBlockComment,
+    /// What a backslash escapes.
+    InEscapeSequence,
+    /// The digits of an escape.
+    InUnicodeEscape,
+}
+
+impl Expected {
+    /// The text that a refusal says.
+    fn text(self) -> &'static str
+        ensures { result.now ≡ expected_text self }
+    {
+        match self {
+            Expected::Value => "value",
+            Expected::FieldNameOrEnd => "field name or '}'",
+            Expected::Colon => "':'",
+            Expected::CommaOrObjectEnd => "',' or '}'",
+            Expected::ValueOrArrayEnd => "value or ']'",
+            Expected::CommaOrArrayEnd => "',' or ']'",
+            Expected::InString => "in string",
+            Expected::InNumber => "in number",
+            Expected::InLiteral => "in literal",
+            Expected::InBlockComment => "in block comment",
+            Expected::InEscapeSequence => "in escape sequence",
+            Expected::InUnicodeEscape => "in unicode escape",
+        }
+    }
+
+    /// What the input ends inside of, by the text in which a scan or a decoder says so. They have no others.
+    fn inside(text: &str) -> Expected
+        ensures { IsCutText text.now → expected_text result ≡ text.now }
+    {
+        match text {
+            "in string" => Expected::InString,
+            "in number" => Expected::InNumber,
+            "in literal" => Expected::InLiteral,
+            "in block comment" => Expected::InBlockComment,
+            "in escape sequence" => Expected::InEscapeSequence,
+            _ => Expected::InUnicodeEscape,
+        }
+    }
+}
+
+/// How a token, or the end of the input, is called in a refusal.
+#[derive(Debug, Clone, Copy, PartialEq, Eq)]
+pub enum Name {
+    /// `{`
+    ObjectStart,
+    /// `}`
+    ObjectEnd,
+    /// `[`
+    ArrayStart,
+    /// `]`
+    ArrayEnd,
+    /// `:`
+    Colon,
+    /// `,`
+    Comma,
+    /// `null`
+    Null,
+    /// `true`
+    True,
+    /// `false`
+    False,
+    /// A string.
+    String,
+    /// A whole number below 2^64.
+    U64,
+    /// A whole number with a minus, from -2^63 on.
+    I64,
+    /// A whole number from 2^64 on.
+    U128,
+    /// A whole number below -2^63.
+    I128,
+    /// A number with a fraction or an exponent.
+    Decimal,
+    /// The end of the input.
+    Eof,
+}
+
+impl Name {
+    /// The text that a refusal says.
+    fn text(self) -> &'static str
+        ensures { result.now ≡ name_text self }
+    {
+        match self {
+            Name::ObjectStart => "ObjectStart",
+            Name::ObjectEnd => "ObjectEnd",
+            Name::ArrayStart => "ArrayStart",
+            Name::ArrayEnd => "ArrayEnd",
+            Name::Colon => "Colon",
+            Name::Comma => "Comma",
+            Name::Null => "Null",
+            Name::True => "True",
+            Name::False => "False",
+            Name::String => "String",
+            Name::U64 => "U64",
+            Name::I64 => "I64",
+            Name::U128 => "U128",
+            Name::I128 => "I128",
+            Name::Decimal => "Decimal",
+            Name::Eof => "Eof",
+        }
+    }
+}
+
+/// Why a parser refused.
+#[derive(Debug, Clone, Copy, PartialEq, Eq)]
+pub enum Why {
+    /// No token goes on with this character.
+    Char(char),
+    /// The input ends, where this is expected.
+    End(Expected),
+    /// A token with which no document goes on.
+    Token {
+        /// How it is called.
+        got: Name,
+        /// What is expected.
+        expected: Expected,
+    },
+    /// Text that is not UTF-8.
+    InvalidUtf8,
+    /// A growth was refused.
+    OutOfMemory,
+    /// The counter of save points is at its end.
+    SaveLimit,
+}
+
+impl Why {
+    /// The same, with its texts.
+    fn kind<'t>(self) -> DeserializeErrorKind<'t>
+        ensures { complaint_of result ≡ why_of self }
+    {
+        match self {
+            Why::Char(ch) => DeserializeErrorKind::UnexpectedChar {
+                ch,
+                expected: "valid JSON token",
+            },
+            Why::End(expected) => DeserializeErrorKind::UnexpectedEof {
+                expected: expected.text(),
+            },
+            Why::Token { got, expected } => DeserializeErrorKind::UnexpectedToken {
+                got: got.text(),
+                expected: expected.text(),
+            },
+            Why::InvalidUtf8 => DeserializeErrorKind::InvalidUtf8,
+            Why::OutOfMemory => DeserializeErrorKind::OutOfMemory,
+            Why::SaveLimit => DeserializeErrorKind::SaveLimit,
+        }
+    }
+}
+
+/// Why a parser refused, and which bytes it is about.
+#[derive(Debug, Clone, Copy, PartialEq, Eq)]
+pub struct Refused {
+    /// Why.
+    pub why: Why,
+    /// The bytes.
+    pub span: Span,
+}
+
+impl Refused {
+    /// A growth was refused while this was the last token.
+    pub fn out_of_memory(last: Span) -> Refused
+        ensures { refused_of result ≡ no_memory_at (span_of last) }
+    {
+        Refused {
+            why: Why::OutOfMemory,
+            span: last,
+        }
+    }
+
+    /// The counter of save points was at its end while this was the last token.
+    pub fn save_limit(last: Span) -> Refused
+        ensures { refused_of result ≡ refusal_at save_limit (span_of last) }
+    {
+        Refused {
+            why: Why::SaveLimit,
+            span: last,
+        }
+    }
+}
+
+impl From<Refused> for ParseError<'_> {
+    ghost from_gives = { λ refused e. parse_refusal e ≡ refused_of refused };
+
+    fn from(refused: Refused) -> Self {
+        ParseError {
+            kind: refused.why.kind(),
+            span: refused.span,
+        }
+    }
+}
+
+impl From<ScanErrorKind> for Why {
+    ghost from_gives = { λ scan why. IsWhy scan (why_of why) };
+
+    fn from(kind: ScanErrorKind) -> Self {
+        match kind {
+            ScanErrorKind::UnexpectedChar(ch) => Why::Char(ch),
+            ScanErrorKind::UnexpectedEof(text) => Why::End(Expected::inside(text)),
+            ScanErrorKind::InvalidUtf8 => Why::InvalidUtf8,
+        }
+    }
+}
+
+impl From<ScanError> for Refused {
+    ghost from_gives = { λ scan refused. IsPassedOn scan (refused_of refused) };
+
+    fn from(error: ScanError) -> Self {
+        Refused {
+            why: Why::from(error.kind),
+            span: error.span,
+        }
+    }
+}

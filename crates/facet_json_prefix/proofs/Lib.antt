@@ -1,0 +1,5 @@
+pub mod BegunIsPrefix
+pub mod LongestPrefix
+pub mod PrefixIsRefused
+pub mod SomeRefusal
+pub mod ValueOrPrefix

@@ -1,0 +1,235 @@
+-- Where nothing comes any more, no document goes on, so some refusal stands there.
+use Rattle.std.proofs.Common.{◌≡◌, ℕ, Bool, true, false, ◌&&◌, List, [], ◌∷◌, Option, Some, None, refl, sym, ◌∙◌}
+use Rattle.std.specs.Prelude.{⊤, is_none, IsSome}
+use Rattle.facet_json_token.specs.Token.{Kind, Token, Fault}
+use Rattle.facet_json_token.specs.Token as token
+use Rattle.facet_json_token.specs.Gap.{Mode}
+use Rattle.facet_json_document.specs.Node.{Node}
+use Rattle.facet_json_document.specs.Document.{IsDocument}
+use Rattle.facet_json_prefix.specs.Begun.{RefusesAfter}
+use Rattle.facet_json_token.specs.Tokens.{Tokens, ended, refused, next, tokens}
+use Rattle.facet_json_document.specs.Tree.{Tree}
+use Rattle.facet_json_document.specs.Meaning.{Meaning, meaning}
+use Rattle.facet_json_document.specs.Place.{Place, root, before_key, after_key, after_colon, after_member, before_item, after_item, is_colon, begins_value, goes_on}
+use Rattle.facet_format.specs.Complaint.{Refusal}
+use Rattle.facet_json_document.specs.Refusal.{needs_meaning, IsStuck, at_end, at_fault, meaningless, misplaced}
+use Rattle.facet_format.specs.Event.{ContainerKind, object, array, Passed}
+use Rattle.facet_json_document.specs.Walk.{key_event}
+use Rattle.facet_json_document.specs.Future.{gives, stuck, events_before, Stage, within, over, after_value, around, Turn, stops, passes, says, says_scalar, names, value_turn, place_turn, unless_meaningless, is_meaningless, turn, reads, reads_colon}
+use Rattle.facet_json_document.proofs.WalkComes.{follows, reads-turn}
+use Rattle.facet_json_prefix.specs.EventLaws.{RootComes, document_comes, prefix_comes}
+use Rattle.facet_json_prefix.proofs.LongestPrefix.{input-comes}
+
+-- The stage is not behind a key.
+abbrev IsNoKey : Stage → Type 0
+IsNoKey over = ⊤
+IsNoKey (within root) = ⊤
+IsNoKey (within before_key) = ⊤
+IsNoKey (within after_key) = ⊥
+IsNoKey (within after_colon) = ⊤
+IsNoKey (within after_member) = ⊤
+IsNoKey (within before_item) = ⊤
+IsNoKey (within after_item) = ⊤
+
+-- Nor does the turn lead there.
+abbrev LeadsOn : Turn → Type 0
+LeadsOn stops = ⊤
+LeadsOn (passes others stage) = IsNoKey stage
+LeadsOn (says kind others stage) = IsNoKey stage
+LeadsOn (says_scalar others stage) = IsNoKey stage
+LeadsOn names = ⊤
+
+behind_value : (stack : List ContainerKind) → IsNoKey (after_value stack)
+behind_value [] = tt
+behind_value (object ∷ stack) = tt
+behind_value (array ∷ stack) = tt
+
+value-leads : (stack : List ContainerKind) (kind : Kind) → LeadsOn (value_turn stack kind)
+value-leads stack token.object_start = tt
+value-leads stack token.array_start = tt
+value-leads stack token.null = behind_value stack
+value-leads stack token.true_literal = behind_value stack
+value-leads stack token.false_literal = behind_value stack
+value-leads stack (token.string start finish has_escapes) = behind_value stack
+value-leads stack (token.number start finish hint) = behind_value stack
+value-leads stack _ = tt
+
+-- No turn leads behind a key.
+place-leads : (stack : List ContainerKind) (place : Place) (kind : Kind) → LeadsOn (place_turn stack place kind)
+place-leads stack root kind = value-leads stack kind
+place-leads stack before_key token.object_end = behind_value (around stack)
+place-leads stack before_key _ = tt
+place-leads stack after_key kind = tt
+place-leads stack after_colon kind = value-leads stack kind
+place-leads stack after_member token.object_end = behind_value (around stack)
+place-leads stack after_member _ = tt
+place-leads stack before_item token.array_end = behind_value (around stack)
+place-leads stack before_item token.object_start = tt
+place-leads stack before_item token.array_start = tt
+place-leads stack before_item token.null = behind_value stack
+place-leads stack before_item token.true_literal = behind_value stack
+place-leads stack before_item token.false_literal = behind_value stack
+place-leads stack before_item (token.string start finish has_escapes) = behind_value stack
+place-leads stack before_item (token.number start finish hint) = behind_value stack
+place-leads stack before_item _ = tt
+place-leads stack after_item token.array_end = behind_value (around stack)
+place-leads stack after_item _ = tt
+
+unless-leads : (b : Bool) (way : Turn) → LeadsOn way → LeadsOn (unless_meaningless b way)
+unless-leads true way h = tt
+unless-leads false way h = h
+
+value-stops : (stack : List ContainerKind) (kind : Kind) → value_turn stack kind ≡ stops → begins_value kind ≡ false
+value-stops stack token.object_end e = refl
+value-stops stack token.array_end e = refl
+value-stops stack token.colon e = refl
+value-stops stack token.comma e = refl
+value-stops stack _ e = cc
+
+-- Where the turn is to stop, no document goes on with the token.
+place-stops : (stack : List ContainerKind) (place : Place) (kind : Kind) → IsNoKey (within place) →
+    place_turn stack place kind ≡ stops → goes_on place kind ≡ false
+place-stops stack root kind h e = value-stops stack kind e
+place-stops stack before_key token.object_end h e = cc
+place-stops stack before_key (token.string start finish has_escapes) h e = cc
+place-stops stack before_key _ h e = refl
+place-stops stack after_key kind h e = absurd h
+place-stops stack after_colon kind h e = value-stops stack kind e
+place-stops stack after_member token.comma h e = cc
+place-stops stack after_member token.object_end h e = cc
+place-stops stack after_member _ h e = refl
+place-stops stack before_item token.object_end h e = refl
+place-stops stack before_item token.colon h e = refl
+place-stops stack before_item token.comma h e = refl
+place-stops stack before_item _ h e = cc
+place-stops stack after_item token.comma h e = cc
+place-stops stack after_item token.array_end h e = cc
+place-stops stack after_item _ h e = refl
+
+-- Some refusal is allowed there.
+abbrev pub IsRefusable : List ℕ → Meaning → (Token → Refusal → Type 0) → Place → Tokens → Type 0
+IsRefusable buffer m complains place ts = (r : Refusal) × IsStuck buffer m complains place ts r
+
+-- Each string or number without a meaning is refused in some way.
+abbrev pub ComplainsAlways : Meaning → (Token → Refusal → Type 0) → Type 0
+ComplainsAlways m complains = (t : Token) → needs_meaning t.kind ≡ true → m t ≡ None → (r : Refusal) × complains t r
+
+module _ (buffer : List ℕ) (m : Meaning) (complains : Token → Refusal → Type 0) (always : ComplainsAlways m complains) where
+  without_by : (t : Token) (rest : Tokens) (place : Place) (needs : Bool) (o : Option Tree) → needs_meaning t.kind ≡ needs →
+      m t ≡ o → (needs && is_none o) ≡ true → IsRefusable buffer m complains place (next t rest)
+  without_by t rest place true None n e h =
+      let r = always t n e in
+      (r.0, meaningless place t rest r.0 n e r.1)
+  without_by t rest place true (Some value) n e h = cc
+  without_by t rest place false o n e h = cc
+
+  sensible_by : (t : Token) (needs : Bool) (o : Option Tree) → needs_meaning t.kind ≡ needs → m t ≡ o →
+      (needs && is_none o) ≡ false → needs_meaning t.kind ≡ true → IsSome (m t)
+  sensible_by t true None n e h k = cc
+  sensible_by t true (Some value) n e h k = rw e refl
+  sensible_by t false o n e h k = cc
+
+  -- A token where the turn is to stop.
+  stops_by : (stack : List ContainerKind) (place : Place) (t : Token) (rest : Tokens) (b : Bool) → is_meaningless m t ≡ b →
+      IsNoKey (within place) → unless_meaningless b (place_turn stack place t.kind) ≡ stops →
+      IsRefusable buffer m complains place (next t rest)
+  stops_by stack place t rest true e h s = without_by t rest place (needs_meaning t.kind) (m t) refl refl e
+  stops_by stack place t rest false e h s =
+      (_, misplaced place t rest (sensible_by t (needs_meaning t.kind) (m t) refl refl e) (place-stops stack place t.kind h s))
+
+  -- A token behind a key that is no colon.
+  no_colon_by : (t : Token) (rest : Tokens) (b : Bool) → is_meaningless m t ≡ b → is_colon t.kind ≡ false →
+      IsRefusable buffer m complains after_key (next t rest)
+  no_colon_by t rest true e c = without_by t rest after_key (needs_meaning t.kind) (m t) refl refl e
+  no_colon_by t rest false e c =
+      (_, misplaced after_key t rest (sensible_by t (needs_meaning t.kind) (m t) refl refl e) c)
+
+  -- Wherever these tokens are stuck at the end, some refusal is allowed.
+  abbrev Halts : Tokens → Type 0
+  Halts ts = (stack : List ContainerKind) (stage : Stage) (events : List Passed) (here : Place) (rest : Tokens) → IsNoKey stage →
+      reads m stack stage ts ≡ events_before events (stuck here rest) → IsRefusable buffer m complains here rest
+
+  -- the same behind a key
+  abbrev HaltsBehindKey : Tokens → Type 0
+  HaltsBehindKey ts = (stack : List ContainerKind) (key : Token) (events : List Passed) (here : Place) (rest : Tokens) →
+      reads_colon m stack key ts ≡ events_before events (stuck here rest) → IsRefusable buffer m complains here rest
+
+  -- What is stuck at one place is stuck at no other.
+  there : (place here : Place) (ts rest : Tokens) → stuck place ts ≡ stuck here rest → IsRefusable buffer m complains place ts →
+      IsRefusable buffer m complains here rest
+  there place here ts rest e r =
+      let places : place ≡ here = cc in
+      let fronts : ts ≡ rest = cc in
+      rw (places, fronts) at r
+
+  turn-halts : (stack : List ContainerKind) (place : Place) (t : Token) (ts : Tokens) (way : Turn) → Halts ts → HaltsBehindKey ts →
+      LeadsOn way → (way ≡ stops → IsRefusable buffer m complains place (next t ts)) → (events : List Passed) (here : Place)
+      (rest : Tokens) → follows m place t stack ts way ≡ events_before events (stuck here rest) →
+      IsRefusable buffer m complains here rest
+  turn-halts stack place t ts stops h g on r [] here rest e = there place here (next t ts) rest e (r refl)
+  turn-halts stack place t ts stops h g on r (p ∷ events) here rest e = cc
+  turn-halts stack place t ts (passes others stage) h g on r events here rest e = h others stage events here rest on e
+  turn-halts stack place t ts (says kind others stage) h g on r [] here rest e = cc
+  turn-halts stack place t ts (says kind others stage) h g on r (p ∷ events) here rest e =
+      let same : reads m others stage ts ≡ events_before events (stuck here rest) = cc in
+      h others stage events here rest on same
+  turn-halts stack place t ts (says_scalar others stage) h g on r [] here rest e = cc
+  turn-halts stack place t ts (says_scalar others stage) h g on r (p ∷ events) here rest e =
+      let same : reads m others stage ts ≡ events_before events (stuck here rest) = cc in
+      h others stage events here rest on same
+  turn-halts stack place t ts names h g on r events here rest e = g stack t events here rest e
+
+  mark-halts : (stack : List ContainerKind) (key mark : Token) (ts : Tokens) (b : Bool) → Halts ts → is_colon mark.kind ≡ b →
+      (events : List Passed) (here : Place) (rest : Tokens) →
+      reads_colon m stack key (next mark ts) ≡ events_before events (stuck here rest) → IsRefusable buffer m complains here rest
+  unfolding reads_colon
+  mark-halts stack key mark ts false h c [] here rest e =
+      let same : stuck after_key (next mark ts) ≡ stuck here rest = rw (c, reads_colon) at e in
+      there after_key here (next mark ts) rest same (no_colon_by mark ts (is_meaningless m mark) refl c)
+  mark-halts stack key mark ts false h c (p ∷ events) here rest e =
+      let same : stuck after_key (next mark ts) ≡ gives p (events_before events (stuck here rest)) = rw (c, reads_colon) at e in cc
+  mark-halts stack key mark ts true h c [] here rest e =
+      let same : gives (key_event m key mark) (reads m stack (within after_colon) ts) ≡ stuck here rest = rw (c, reads_colon) at e in cc
+  mark-halts stack key mark ts true h c (p ∷ events) here rest e =
+      let same : gives (key_event m key mark) (reads m stack (within after_colon) ts) ≡ gives p (events_before events (stuck here rest)) = rw (c, reads_colon) at e in
+      let behind : reads m stack (within after_colon) ts ≡ events_before events (stuck here rest) = cc in
+      h stack (within after_colon) events here rest tt behind
+
+  mutual
+    unfolding reads
+
+    -- Where nothing comes any more, some refusal is allowed.
+    pub stuck-halts : (ts : Tokens) → Halts ts
+    stuck-halts ts stack over [] here rest k e = cc
+    stuck-halts ts stack over (p ∷ events) here rest k e = cc
+    stuck-halts ended stack (within place) [] here rest k e = there place here ended rest e (_, at_end place)
+    stuck-halts ended stack (within place) (p ∷ events) here rest k e = cc
+    stuck-halts (refused f) stack (within place) [] here rest k e = there place here (refused f) rest e (_, at_fault place f)
+    stuck-halts (refused f) stack (within place) (p ∷ events) here rest k e = cc
+    stuck-halts (next t ts) stack (within place) events here rest k e =
+        turn-halts stack place t ts (turn m stack place t) (stuck-halts ts) (colon-halts ts)
+        (unless-leads (is_meaningless m t) (place_turn stack place t.kind) (place-leads stack place t.kind))
+        (stops_by stack place t ts (is_meaningless m t) refl k) events here rest
+        (sym (reads-turn m stack place t ts (turn m stack place t) refl) ∙ e)
+
+    colon-halts : (ts : Tokens) → HaltsBehindKey ts
+    colon-halts ended stack key [] here rest e = there after_key here ended rest e (_, at_end after_key)
+    colon-halts ended stack key (p ∷ events) here rest e = cc
+    colon-halts (refused f) stack key [] here rest e = there after_key here (refused f) rest e (_, at_fault after_key f)
+    colon-halts (refused f) stack key (p ∷ events) here rest e = cc
+    colon-halts (next mark ts) stack key events here rest e =
+        mark-halts stack key mark ts (is_colon mark.kind) (stuck-halts ts) refl events here rest e
+
+-- Where there is no document, some refusal is allowed behind the longest front.
+pub refuses_some : (buffer : List ℕ) (mode : Mode) (complains : Token → Refusal → Type 0) →
+    ComplainsAlways (meaning buffer) complains → ((node : Node) (value : Tree) → IsDocument buffer mode node value → ⊥) →
+    RootComes buffer mode → (events : List Passed) × (r : Refusal) × RefusesAfter buffer mode complains events r
+refuses_some buffer mode complains always none (document_comes node value d e) = absurd (none node value d)
+refuses_some buffer mode complains always none (prefix_comes events here rest front e) =
+    let found = stuck-halts buffer (meaning buffer) complains always (tokens buffer mode) [] (within root) events here rest tt e in
+    (events, found.0, record { here = here; rest = rest; front = front; stuck = found.1 })
+
+pub input-refuses : (buffer : List ℕ) (mode : Mode) (complains : Token → Refusal → Type 0) →
+    ComplainsAlways (meaning buffer) complains → ((node : Node) (value : Tree) → IsDocument buffer mode node value → ⊥) →
+    (events : List Passed) × (r : Refusal) × RefusesAfter buffer mode complains events r
+input-refuses buffer mode complains always none = refuses_some buffer mode complains always none (input-comes buffer mode)

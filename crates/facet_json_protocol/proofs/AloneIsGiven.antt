@@ -1,0 +1,96 @@
+-- Reading by the next event alone, on an input without a document: what the longest front gives, and then one refusal.
+use Rattle.std.proofs.Common.{◌≡◌, ℕ, List, [], ◌∷◌, Some, None, refl, sym, ap, ◌∙◌}
+use Rattle.std.specs.Prelude.{Err}
+use Rattle.facet_json_token.specs.Gap.{Mode}
+use Rattle.facet_json_token.specs.Token.{Token}
+use Rattle.facet_json_token.specs.Tokens.{Tokens}
+use Rattle.facet_json_document.specs.Node.{Node}
+use Rattle.facet_json_document.specs.Tree.{Tree}
+use Rattle.facet_json_document.specs.Meaning.{meaning}
+use Rattle.facet_json_document.specs.Document.{IsDocument}
+use Rattle.facet_json_document.specs.Place.{Place}
+use Rattle.facet_format.specs.Complaint.{Refusal}
+use Rattle.facet_json_document.specs.Refusal.{IsStuck}
+use Rattle.facet_format.specs.Event.{Passed}
+use Rattle.facet_format.specs.Cursor.{Call, next, Answer, event}
+use Rattle.facet_json_document.specs.Future.{gives, stuck, events_before}
+use Rattle.facet_json_protocol.specs.Now.{Now, fresh, future_of}
+use Rattle.facet_json_protocol.specs.Move.{Moves, repeats, passes, passes_without_memory, passes_the_end, passes_nothing, MovesAll, no_calls, one_call}
+use Rattle.facet_json_prefix.specs.Begun.{RefusesAfter}
+use Rattle.facet_json_protocol.specs.ParserLaws.{GivenAlone}
+use Rattle.facet_json_prefix.specs.EventLaws.{RootComes, document_comes, prefix_comes}
+use Rattle.facet_json_protocol.specs.Alone.{AllNext, no_call, one_next, AllRefused, no_answer, one_refused, AnswersAlone, not_asked, one_event, refused, wants_memory}
+use Rattle.facet_json_protocol.proofs.MoveLaws.{moves-repeats}
+use Rattle.facet_json_prefix.proofs.LongestPrefix.{input-comes}
+
+module _ (complains : Token → Refusal → Type 0) where
+  -- A refused parser answers its refusal again and again.
+  all-refused : {now new : Now} {calls : List Call} {answers : List Answer} (r : Refusal) → now.refusal ≡ Some r →
+      AllNext calls → MovesAll complains now calls answers new → AllRefused r answers
+  all-refused r f no_call (no_calls now) = no_answer
+  all-refused r f (one_next calls only) (one_call now between new call answer _ answers move more) =
+      let both = moves-repeats complains now between r next answer (event (Err r)) move f refl in
+      let same = both.0 in
+      let still : between.refusal ≡ Some r = ap (λ n. n.refusal) both.1 ∙ f in
+      rw same (one_refused answers (all-refused r still only more))
+
+  module _ (refuses : Refusal → Type 0) (here : Place) (rest : Tokens) where
+    -- How the parser is refused in front of these tokens.
+    abbrev RefusesHere : Now → Type 0
+    RefusesHere now = (r : Refusal) → IsStuck now.buffer (meaning now.buffer) complains here rest r → refuses r
+
+    -- The first answer, and the others.
+    step_alone : (now : Now) (events : List Passed) {between new : Now} {answer : Answer} {calls : List Call} {answers : List Answer} →
+        now.refusal ≡ None → future_of now ≡ events_before events (stuck here rest) → RefusesHere now → AllNext calls →
+        Moves complains now next answer between → MovesAll complains between calls answers new →
+        ((p : Passed) (others : List Passed) → events ≡ p ∷ others → between.refusal ≡ None →
+        future_of between ≡ events_before others (stuck here rest) → RefusesHere between → AnswersAlone refuses others answers) →
+        AnswersAlone refuses events (answer ∷ answers)
+    step_alone now events free comes h only (repeats r call answer e a) more go = cc
+    step_alone now [] free comes h only (passes p future s none goes shows) more go = cc
+    step_alone now (q ∷ events) free comes h only (passes p future s none goes shows) more go =
+        let both : gives q (events_before events (stuck here rest)) ≡ gives p future = sym comes ∙ goes in
+        let first : q ≡ p = cc in
+        let behind : future ≡ events_before events (stuck here rest) = cc in
+        rw first (one_event p events _ (go q events refl none (shows.comes ∙ behind) h))
+    step_alone now [] free comes h only (passes_without_memory p future s none goes takes off like) more go = cc
+    step_alone now (q ∷ events) free comes h only (passes_without_memory p future s none goes takes off like) more go =
+        let both : gives q (events_before events (stuck here rest)) ≡ gives p future = sym comes ∙ goes in
+        let first : q ≡ p = cc in
+        wants_memory _ q events _ (rw first takes) refl (all-refused _ refl only more)
+    step_alone now [] free comes h only (passes_the_end s none e like) more go = cc
+    step_alone now (q ∷ events) free comes h only (passes_the_end s none e like) more go = cc
+    step_alone now [] free comes h only (passes_nothing place left r s none e stops like) more go =
+        let both : stuck here rest ≡ stuck place left = sym comes ∙ e in
+        let at : place ≡ here = cc in
+        let in_front : left ≡ rest = cc in
+        refused r _ (h r (rw (at, in_front) at stops)) (all-refused r refl only more)
+    step_alone now (q ∷ events) free comes h only (passes_nothing place left r s none e stops like) more go = cc
+
+    -- What comes is answered event by event, and then the refusal.
+    pub answers-alone : (events : List Passed) {now new : Now} {calls : List Call} {answers : List Answer} → AllNext calls →
+        now.refusal ≡ None → future_of now ≡ events_before events (stuck here rest) → RefusesHere now →
+        MovesAll complains now calls answers new → AnswersAlone refuses events answers
+    answers-alone events no_call free comes h (no_calls now) = not_asked events
+    answers-alone events (one_next calls only) free comes h (one_call now between new call answer _ answers move more) =
+        step_alone now events free comes h only move more
+        (λ p others same none behind there. answers-alone others only none behind there more)
+
+given_by : (buffer : List ℕ) (mode : Mode) (complains : Token → Refusal → Type 0) {new : Now} {calls : List Call} {answers : List Answer} →
+    RootComes buffer mode → ((node : Node) (value : Tree) → IsDocument buffer mode node value → ⊥) → AllNext calls →
+    MovesAll complains (fresh buffer mode) calls answers new → GivenAlone buffer mode complains answers
+given_by buffer mode complains (document_comes node value d e) none only moves = absurd (none node value d)
+given_by buffer mode complains (prefix_comes events here rest front e) none only moves = record {
+  events = events;
+  here = here;
+  rest = rest;
+  front = front;
+  alone = answers-alone complains (RefusesAfter buffer mode complains events) here rest events only refl e
+      (λ r stops. record { here = here; rest = rest; front = front; stuck = stops }) moves;
+}
+
+-- Where there is no document, what the longest front gives is answered, and then one refusal.
+pub given-alone : (buffer : List ℕ) (mode : Mode) (complains : Token → Refusal → Type 0) {new : Now} {calls : List Call} {answers : List Answer} →
+    ((node : Node) (value : Tree) → IsDocument buffer mode node value → ⊥) → AllNext calls →
+    MovesAll complains (fresh buffer mode) calls answers new → GivenAlone buffer mode complains answers
+given-alone buffer mode complains none only moves = given_by buffer mode complains (input-comes buffer mode) none only moves

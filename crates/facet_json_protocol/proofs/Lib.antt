@@ -1,0 +1,10 @@
+pub mod AloneIsGiven
+pub mod EndsInTime
+pub mod MoveIsStep
+pub mod MoveLaws
+pub mod RefusalRepeats
+pub mod RestoreBringsBack
+pub mod Rows
+pub mod Spans
+pub mod StandsOnWalk
+pub mod TrustedAgrees

@@ -1,0 +1,2 @@
+pub mod AnswersWithin
+pub mod EventsWithin

@@ -1,0 +1,66 @@
+//! Laws about parsers: what the calls' contracts say of a new one, and of calls behind one another.
+
+ghost use Rattle.facet_json_protocol.specs.ParserLaws.{NewStands, AloneIsGiven, TrustedAgrees};
+ghost use Rattle.facet_json_protocol.specs.CallLaws.{MoveIsStep, PeekIsNext, RefusalRepeats, SaveIsNumbered, RestoreBringsBack, NumbersAreNew, UnknownChangesNothing, EndsInTime};
+
+/// A new parser of an input with a document stands at the start of the document's walk.
+pub fn new_stands()
+    ensures { NewStands }
+{}
+
+/// Where an input has no document, a new parser that is asked for the next event alone answers what the longest front
+/// that begins a document gives, and then one refusal, never the end.
+pub fn alone_is_given()
+    ensures { AloneIsGiven }
+{}
+
+/// Two new parsers of an input with a document, one that is trusted and one that checks its strings, answer every list of
+/// calls alike, up to the first want of memory in either.
+pub fn trusted_agrees()
+    ensures { TrustedAgrees }
+{}
+
+/// Wherever a parser stands on a document's walk, each of its calls is one step of the cursor there, and behind the call
+/// it stands where that step leads.
+pub fn move_is_step()
+    ensures { MoveIsStep }
+{}
+
+/// On every input the next event, right behind a peek that answered one, is the one that the peek answered.
+pub fn peek_is_next()
+    ensures { PeekIsNext }
+{}
+
+/// On every input a call for events that is refused is refused from then on, and so is each save; nothing changes, until
+/// a point that is kept is restored.
+pub fn refusal_repeats()
+    ensures { RefusalRepeats }
+{}
+
+/// On every input a save of a parser that isn't refused answers the next number. It answers none only for want of memory,
+/// or where there are no more numbers; then nothing changes, and the refusal doesn't stick.
+pub fn save_is_numbered()
+    ensures { SaveIsNumbered }
+{}
+
+/// On every input the restore of a point brings back where the parser stood at its save, whatever other calls were
+/// between. The point is used up, and other points stay. (That no other point has its number the save's contract says.)
+pub fn restore_brings_back()
+    ensures { RestoreBringsBack }
+{}
+
+/// Whatever calls a new parser answered, no point has the next number.
+pub fn numbers_are_new()
+    ensures { NumbersAreNew }
+{}
+
+/// The restore of a point that isn't kept changes nothing.
+pub fn unknown_changes_nothing()
+    ensures { UnknownChangesNothing }
+{}
+
+/// On every input reading ends: where the next event is asked for once more than the input has bytes, the end or a refusal
+/// is answered.
+pub fn ends_in_time()
+    ensures { EndsInTime }
+{}

@@ -1,0 +1,8 @@
+pub mod BorrowedText
+pub mod ColonAfterKey
+pub mod EventsAtTurns
+pub mod MeaninglessTokens
+pub mod PastSeparators
+pub mod RefusalsWithin
+pub mod ScannedTokens
+pub mod TokenMeanings

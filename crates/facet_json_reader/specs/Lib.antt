@@ -1,0 +1,2 @@
+pub mod TokenViews
+pub mod Views

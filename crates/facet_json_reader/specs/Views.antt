@@ -1,0 +1,131 @@
+-- What the reader of events and its answers stand for in the definitions.
+use Rattle.std.specs.Prelude.{◌≡◌, ◌≤◌, ◌<◌, ◌⊎◌, ℕ, true, List, Option, Some, None, Result, Ok, Err, IsSome, length}
+use Rattle.std.specs.declared.alloc.Global.{Global}
+use Rattle.std.specs.declared.borrow.CowStr.{CowStr}
+use Rattle.facet_format.specs.declared.span.Span.{Span as RustSpan}
+use Rattle.facet_format.specs.declared.event.ScalarValue.{ScalarValue}
+use Rattle.facet_json_token.specs.declared.token.SpannedToken.{SpannedToken}
+use Rattle.facet_json_place.specs.declared.place.Turn.{Turn as RustTurn}
+use Rattle.facet_json_place.specs.declared.refusal.Name.{Name}
+use Rattle.facet_json_place.specs.declared.refusal.Refused.{Refused}
+use Rattle.facet_json_reader.specs.declared.reader.Stage.{Stage as RustStage}
+use Rattle.facet_json_reader.specs.declared.reader.Stage.TheVariants as stages
+use Rattle.facet_json_reader.specs.declared.reader.Held.{Held}
+use Rattle.facet_json_reader.specs.declared.reader.Reader.{Reader}
+use Rattle.facet_format.specs.Complaint.{Refusal}
+use Rattle.facet_format.specs.Cursor.{no_memory_at}
+use Rattle.facet_format.specs.Event.{Passed, takes_memory, is_made}
+use Rattle.facet_format.specs.HeldText.{text_of}
+use Rattle.facet_format.specs.Span.{Span, stop}
+use Rattle.facet_format.specs.Views.{span_of, event_of, scalar_value_of}
+use Rattle.facet_json_token.specs.Gap.{Mode}
+use Rattle.facet_json_token.specs.Token.{Kind, colon}
+use Rattle.facet_json_token.specs.Tokens.{Tokens, next, tokens_from}
+use Rattle.facet_json_token.specs.Views.{kind_of}
+use Rattle.facet_json_document.specs.Future.{Future, gives, finished, stuck, Stage, within, over, place_turn, reads}
+use Rattle.facet_json_document.specs.Meaning.{meaning, meaning_of}
+use Rattle.facet_json_document.specs.Place.{Place, after_key, kind_name}
+use Rattle.facet_json_document.specs.Refusal.{needs_meaning, IsStuck, Complains}
+use Rattle.facet_json_document.specs.Walk.{scalar_of}
+use Rattle.facet_json_place.specs.Views.{place_of, turn_of, name_text, refused_of}
+use Rattle.facet_json_reader.specs.TokenViews.{IsTextOf, IsUnmade, IsMeaningless}
+
+-- ---- values
+
+abbrev pub stage_of : RustStage → Stage
+stage_of (stages.Within p) = within (place_of p)
+stage_of stages.Over = over
+
+abbrev pub passed_of : Held → Passed
+passed_of h = record { event = event_of h.event; last = span_of h.last }
+
+-- what is given out from where the reader stands on
+abbrev pub coming : List ℕ → Mode → Reader → Future
+coming buffer mode r = reads (meaning buffer) r.contexts (stage_of r.stage) (tokens_from buffer mode r.position)
+
+-- ---- tokens
+
+-- This token of the buffer is next, and this is its turn where the reader stands.
+pub record IsTurn (buffer : List ℕ) (mode : Mode) (r : Reader) (t : SpannedToken) (turn : RustTurn) : Type 0 where
+  pub place : Place
+  pub is_place : stage_of r.stage ≡ within place
+  pub kind : Kind
+  pub is_kind : kind_of t.token ≡ Some kind
+  pub past : r.position < stop (span_of t.span)
+  pub ends : stop (span_of t.span) ≤ length buffer
+  pub tokens : tokens_from buffer mode r.position
+      ≡ next (record { kind = kind; span = span_of t.span }) (tokens_from buffer mode (stop (span_of t.span)))
+  pub turns : place_turn r.contexts place kind ≡ turn_of r.contexts turn
+
+-- The tokens don't go on with a document at the place, and are refused so.
+abbrev pub StopsAt : List ℕ → Place → Tokens → Refusal → Type 0
+StopsAt buffer place ts refusal = IsStuck buffer (meaning buffer) Complains place ts refusal
+
+-- A token of this kind has this name in a refusal, and a meaning where it needs one.
+pub record IsNamed (buffer : List ℕ) (kind : Kind) (name : Name) : Type 0 where
+  pub name_is : name_text name ≡ kind_name buffer kind
+  pub has_meaning : needs_meaning kind ≡ true → IsSome (meaning_of buffer kind)
+
+-- There was no memory for the text that is made of a token of this kind.
+pub record IsUnmadeScalar (buffer : List ℕ) (kind : Kind) (last : Span) (refusal : Refusal) : Type 0 where
+  pub made : is_made (scalar_of kind (meaning_of buffer kind)) ≡ true
+  pub refused : refusal ≡ no_memory_at last
+
+-- a scalar's token of this kind is read so
+abbrev pub IsValueOf : List ℕ → Kind → Span → Span → Result ScalarValue Refused → Type 0
+IsValueOf buffer kind s last (Ok v) =
+    (scalar_value_of v ≡ scalar_of kind (meaning_of buffer kind)) × (needs_meaning kind ≡ true → IsSome (meaning_of buffer kind))
+IsValueOf buffer kind s last (Err r) =
+    IsUnmadeScalar buffer kind last (refused_of r) ⊎ IsMeaningless buffer kind s (refused_of r)
+
+-- a key's token of this kind is read so
+abbrev pub IsNameOf : List ℕ → Kind → Span → Result (Option (CowStr Global)) Refused → Type 0
+IsNameOf buffer kind s (Ok None) = IsUnmade buffer kind
+IsNameOf buffer kind s (Ok (Some name)) = IsTextOf buffer kind (text_of name)
+IsNameOf buffer kind s (Err r) = IsMeaningless buffer kind s (refused_of r)
+
+-- A colon is next, which takes these bytes.
+pub record IsColon (buffer : List ℕ) (mode : Mode) (position : ℕ) (s : Span) : Type 0 where
+  pub past : position < stop s
+  pub ends : stop s ≤ length buffer
+  pub tokens : tokens_from buffer mode position
+      ≡ next (record { kind = colon; span = s }) (tokens_from buffer mode (stop s))
+
+abbrev pub IsColonAt : List ℕ → Mode → ℕ → Result RustSpan Refused → Type 0
+IsColonAt buffer mode position (Ok s) = IsColon buffer mode position (span_of s)
+IsColonAt buffer mode position (Err r) = StopsAt buffer after_key (tokens_from buffer mode position) (refused_of r)
+
+-- ---- answers
+
+-- Where this comes, the reader is refused so: memory ran out for an event that takes some, or no document goes on.
+pub data IsRefusedBefore (buffer : List ℕ) (last : Span) : Future → Refusal → Type 0 where
+  without_memory : (p : Passed) (future : Future) → takes_memory p.event.kind ≡ true →
+      IsRefusedBefore buffer last (gives p future) (no_memory_at last)
+  at_a_stop : (place : Place) (rest : Tokens) (refusal : Refusal) → StopsAt buffer place rest refusal →
+      IsRefusedBefore buffer last (stuck place rest) refusal
+
+-- The next event is given, and stands within what is passed.
+pub record GivesHeld (buffer : List ℕ) (mode : Mode) (old new : Reader) (h : Held) : Type 0 where
+  pub comes : coming buffer mode old ≡ gives (passed_of h) (coming buffer mode new)
+  pub past : old.position < new.position
+  pub ends : new.position ≡ stop (span_of h.last)
+  pub event_ends : stop (span_of h.event.span) ≤ new.position
+  pub within_input : new.position ≤ length buffer
+
+-- The reader is refused so, and what comes is as it was.
+pub record RefusesNext (buffer : List ℕ) (mode : Mode) (old new : Reader) (last : Span) (refusal : Refusal) : Type 0 where
+  pub unchanged : coming buffer mode new ≡ coming buffer mode old
+  pub refused : IsRefusedBefore buffer last (coming buffer mode old) refusal
+
+-- the next event is given, or refused where the reader stands
+abbrev pub Answers : List ℕ → Mode → Reader → Reader → Span → Result Held Refused → Type 0
+Answers buffer mode old new last (Ok h) = GivesHeld buffer mode old new h
+Answers buffer mode old new last (Err r) =
+    RefusesNext buffer mode old new last (refused_of r) × (new.position ≡ old.position)
+
+-- the same, or the document has ended
+abbrev pub Advances : List ℕ → Mode → Reader → Reader → Span → Result (Option Held) Refused → Type 0
+Advances buffer mode old new last (Ok None) =
+    (coming buffer mode old ≡ finished) × (coming buffer mode new ≡ finished)
+Advances buffer mode old new last (Ok (Some h)) = GivesHeld buffer mode old new h
+Advances buffer mode old new last (Err r) = RefusesNext buffer mode old new last (refused_of r)

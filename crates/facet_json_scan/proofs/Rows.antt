@@ -1,0 +1,2 @@
+pub mod CutRows
+pub mod DecodeRows

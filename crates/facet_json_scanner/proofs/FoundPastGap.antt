@@ -1,0 +1,74 @@
+-- What is found behind a gap, from what is found where it ends.
+use Rattle.std.proofs.Common.{◌≡◌, ℕ, zero, suc, ◌+◌, ◌≤◌, ◌<◌, List, [], length, drop, Some, refl, sym, ap, ◌∙◌, subst, arith}
+use Rattle.std.proofs.lemmas.List.{append-nil, drop-drop, length-drop}
+use Rattle.facet_json_scanner.specs.declared.scanner.token.Found.{Found}
+use Rattle.facet_json_scanner.specs.declared.scanner.token.Found.TheVariants as found
+use Rattle.facet_json_token.specs.Gap.{Mode, whole, growing, piece_len, gap_len}
+use Rattle.facet_json_token.specs.Cut.{cut, cut_here, past_gap}
+use Rattle.facet_json_token.specs.Open.{IsBeginning, IsOpen}
+use Rattle.facet_json_scanner.specs.Scanner.{Describes, answer_for, past_growing_gap}
+use Rattle.facet_json_scanner.specs.Views.{FoundHere, FoundFrom, state_of}
+use Rattle.facet_json_token.proofs.GapSteps.{past_gap-piece}
+use Rattle.facet_json_token.proofs.Gaps.{gap_len-none, gap_len-piece}
+use Rattle.facet_json_scanner.proofs.GrowthOfGap.{piece_len-keeps}
+use Rattle.facet_json_scanner.proofs.GrowthOfCut.{past_gap-stays}
+
+-- Where no piece stands, the growing gap ends.
+growing_gap-none : (mode : Mode) (buffer : List ℕ) (p : ℕ) → piece_len mode growing (drop p buffer) ≡ 0 →
+    past_growing_gap buffer p mode ≡ p
+growing_gap-none mode buffer p e = omega (arith, gap_len-none mode growing (drop p buffer) e)
+
+-- Where the buffer isn't open, the gap of the whole input ends where that of the growing one does.
+same_gap : (mode : Mode) (buffer : List ℕ) (p : ℕ) → p ≤ length buffer → (IsOpen buffer p mode → ⊥) →
+    past_gap buffer p mode ≡ past_growing_gap buffer p mode
+same_gap mode buffer p room shut = rw append-nil at (past_gap-stays buffer [] p mode room shut (λ e. refl))
+
+-- Where no piece stands, it is found there.
+pub found-no_gap : (mode : Mode) (buffer : List ℕ) (p : ℕ) (f : Found) → p ≤ length buffer →
+    piece_len mode growing (drop p buffer) ≡ 0 → FoundHere mode buffer p f → FoundFrom mode buffer p f
+unfolding cut
+found-no_gap mode buffer p (found.Answer at result) room none h =
+    let q = growing_gap-none mode buffer p none in
+    let shut : IsOpen buffer p mode → ⊥ = λ i. h.2 (subst (λ n. IsBeginning mode (drop n buffer)) q i) in
+    let past : past_gap buffer p mode ≡ p = same_gap mode buffer p room shut ∙ q in (
+      h.0 ∙ sym past,
+      h.1 ∙ ap (λ n. Some (answer_for (length buffer) (cut_here mode n (drop n buffer)))) (sym past),
+      shut,
+    )
+found-no_gap mode buffer p (found.Open at s) room none h =
+    let q = growing_gap-none mode buffer p none in
+    (h.0 ∙ sym q, subst (λ n. Describes mode (state_of s) (drop n buffer)) (sym q) h.1)
+
+-- Behind a piece it is found from where the piece begins.
+pub found-piece : (mode : Mode) (buffer : List ℕ) (p end : ℕ) (f : Found) → p < end → end ≤ length buffer →
+    end ≡ p + piece_len mode growing (drop p buffer) → FoundFrom mode buffer end f → FoundFrom mode buffer p f
+unfolding cut
+found-piece mode buffer p end f some room e h = by_piece (piece_len mode growing (drop p buffer)) refl f h
+  where
+    growing_same : (n : ℕ) → piece_len mode growing (drop p buffer) ≡ n →
+        past_growing_gap buffer end mode ≡ past_growing_gap buffer p mode
+    growing_same n is =
+        let there : end ≡ p + n = omega arith in
+        let behind : gap_len mode growing (drop n (drop p buffer)) ≡ gap_len mode growing (drop end buffer) =
+        ap (gap_len mode growing) (drop-drop n p buffer ∙ ap (λ k. drop k buffer) (sym there)) in
+        let step = gap_len-piece mode growing n (drop p buffer) is (omega (arith, length-drop p buffer)) in
+        omega arith
+
+    whole_same : (n : ℕ) → piece_len mode growing (drop p buffer) ≡ suc n →
+        past_gap buffer end mode ≡ past_gap buffer p mode
+    whole_same n is =
+        let there : end ≡ p + suc n = omega arith in
+        let keeps : piece_len mode whole (drop p buffer) ≡ suc n =
+        rw append-nil at (piece_len-keeps mode (drop p buffer) [] n is) in
+        ap (λ k. past_gap buffer k mode) there ∙ past_gap-piece mode buffer p (suc n) (sym keeps) (omega arith)
+
+    by_piece : (n : ℕ) → piece_len mode growing (drop p buffer) ≡ n → (f : Found) → FoundFrom mode buffer end f →
+        FoundFrom mode buffer p f
+    by_piece zero is g h = absurd (omega arith)
+    by_piece (suc n) is (found.Answer at result) h =
+        let grows = growing_same (suc n) is in
+        let wholes = whole_same n is in
+        (h.0 ∙ wholes, h.1 ∙ ap (λ n. Some (answer_for (length buffer) (cut_here mode n (drop n buffer)))) wholes, λ i. h.2 (subst (λ k. IsBeginning mode (drop k buffer)) (sym grows) i))
+    by_piece (suc n) is (found.Open at s) h =
+        let grows = growing_same (suc n) is in
+        (h.0 ∙ grows, subst (λ k. Describes mode (state_of s) (drop k buffer)) grows h.1)

@@ -1,0 +1,15 @@
+pub mod AnswersOfCuts
+pub mod Beginnings
+pub mod FoundPastGap
+pub mod GrowthOfCut
+pub mod GrowthOfGap
+pub mod GrowthOfNumber
+pub mod GrowthOfText
+pub mod NoPiece
+pub mod NumberParts
+pub mod OpenNeedsMore
+pub mod PendingComment
+pub mod PendingNumber
+pub mod PendingText
+pub mod PendingWord
+pub mod Segments

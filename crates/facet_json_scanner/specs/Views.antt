@@ -1,0 +1,127 @@
+-- What the types of the scanner stand for in the definitions.
+use Rattle.std.specs.Prelude.{Option, Some, None, Result, Ok, Err, ◌≡◌, ◌≤◌, List, length, ◌+◌, ◌<◌, drop, slice_get}
+use Rattle.facet_json_token.specs.declared.mode.Mode.TheVariants as mode
+use Rattle.facet_json_token.specs.declared.token.Token.{Token as RustToken}
+use Rattle.facet_json_token.specs.declared.token.Token.TheVariants as code
+use Rattle.facet_json_token.specs.declared.token.SpannedToken.{SpannedToken}
+use Rattle.facet_json_token.specs.declared.token.ScanErrorKind.{ScanErrorKind}
+use Rattle.facet_json_token.specs.declared.token.ScanErrorKind.TheVariants as scan
+use Rattle.facet_json_token.specs.declared.token.ScanError.{ScanError}
+use Rattle.facet_format.specs.Span.{Span, stop}
+use Rattle.facet_format.specs.Views.{span_of}
+use Rattle.facet_json_token.specs.Gap.{Mode, growing, piece_len}
+use Rattle.facet_json_token.specs.Token.{Kind}
+use Rattle.facet_json_token.specs.Token as token
+use Rattle.facet_json_token.specs.Cut.{cut_here, cut, past_gap}
+use Rattle.facet_format.specs.Number.{Number}
+use Rattle.facet_json_token.specs.declared.token.ScanErrorKind.TheVariants.{InvalidUtf8}
+use Rattle.facet_format.specs.Bytes.{slash}
+use Rattle.facet_json_scanner.specs.declared.scanner.pending.Part.{Part as RustPart}
+use Rattle.facet_json_scanner.specs.declared.scanner.pending.Part.TheVariants as part
+use Rattle.facet_json_scanner.specs.declared.scanner.pending.State.{State as RustState}
+use Rattle.facet_json_scanner.specs.declared.scanner.pending.State.TheVariants as state
+use Rattle.facet_json_scanner.specs.declared.scanner.pending.Pending.{Pending as RustPending}
+use Rattle.facet_json_scanner.specs.declared.scanner.token.Found.{Found}
+use Rattle.facet_json_scanner.specs.declared.scanner.token.Found.TheVariants as found
+use Rattle.facet_json_scanner.specs.declared.scanner.gap.Piece.{Piece}
+use Rattle.facet_json_scanner.specs.declared.scanner.gap.Piece.TheVariants as piece
+use Rattle.facet_json_token.specs.Open.{IsBeginning, IsOpen}
+use Rattle.facet_json_scanner.specs.Scanner.{Part, in_digits, in_fraction, at_mark, in_exponent, State, in_text, in_word, in_number, after_slash, in_line, in_block, Pending, nothing_pending, pending_at, Answer, needs_more, ended, cuts, refuses, answer_for, Describes, past_growing_gap}
+
+abbrev pub part_of : RustPart → Part
+part_of part.Digits = in_digits
+part_of part.Fraction = in_fraction
+part_of part.Mark = at_mark
+part_of part.Exponent = in_exponent
+
+abbrev pub state_of : RustState → State
+state_of (state.Text escaped has_escapes) = in_text escaped has_escapes
+state_of state.Word = in_word
+state_of (state.Number p) = in_number (part_of p)
+state_of state.Slash = after_slash
+state_of state.Line = in_line
+state_of (state.Block after_star) = in_block after_star
+
+abbrev pub pending_of : Option RustPending → Pending
+pending_of None = nothing_pending
+pending_of (Some p) = pending_at p.start (state_of p.state)
+
+-- a token of this kind, or no answer
+abbrev pub cut_answer : Span → Option Kind → Option Answer
+cut_answer s None = None
+cut_answer s (Some kind) = Some (cuts (record { kind = kind; span = s }))
+
+abbrev pub token_answered : Span → RustToken → Option Answer
+token_answered s code.Eof = Some (ended s)
+token_answered s (code.NeedMore consumed) = Some (needs_more consumed s)
+token_answered s t = cut_answer s (kind_of t)
+
+abbrev pub fault_answered : Span → ScanErrorKind → Option Answer
+fault_answered s (scan.UnexpectedChar c) = Some (refuses (record { kind = token.unexpected_char c; span = s }))
+fault_answered s (scan.UnexpectedEof text) = Some (refuses (record { kind = token.unexpected_eof text.now; span = s }))
+fault_answered s scan.InvalidUtf8 = None
+
+-- what a scan answers; a text that isn't UTF-8 is no answer of the definitions
+abbrev pub answered : Result SpannedToken ScanError → Option Answer
+answered (Ok t) = token_answered (span_of t.span) t.token
+answered (Err e) = fault_answered (span_of e.span) e.kind
+
+-- the bytes that an answer is about
+abbrev pub span_answered : Result SpannedToken ScanError → Span
+span_answered (Ok t) = span_of t.span
+span_answered (Err e) = span_of e.span
+
+-- The indices that a token names stand in order within the first `last` bytes.
+abbrev pub NamesWithin : ℕ → RustToken → Type 0
+NamesWithin last (code.String start finish has_escapes) = (start ≤ finish) × (finish ≤ last)
+NamesWithin last (code.Number start finish h) = (start ≤ finish) × (finish ≤ last)
+NamesWithin last (code.NeedMore consumed) = consumed ≤ last
+NamesWithin last _ = Unit {0}
+
+-- So do those of an answer.
+abbrev pub IndicesWithin : ℕ → Result SpannedToken ScanError → Type 0
+IndicesWithin last (Ok t) = NamesWithin last t.token
+IndicesWithin last (Err e) = Unit {0}
+
+-- where a scanner stands after this answer about what starts at `start`
+abbrev pub position_after : ℕ → Result SpannedToken ScanError → ℕ
+position_after start (Ok t) = t.span.offset + t.span.len
+position_after start (Err e) = start
+
+-- where a scanner stands after the last answer: where it stood, or at `first` after a refusal
+abbrev pub stands_last : ℕ → ℕ → Result SpannedToken ScanError → ℕ
+stands_last position first (Ok t) = position
+stands_last position first (Err e) = first
+
+-- At `at` stands this piece of a gap.
+abbrev pub PieceHere : Mode → List ℕ → ℕ → Piece → Type 0
+PieceHere mode buffer at (piece.Closed end) = end ≡ at + piece_len mode growing (drop at buffer)
+PieceHere mode buffer at (piece.Open s) = Describes mode (state_of s) (drop at buffer)
+PieceHere mode buffer at piece.Absent = (piece_len mode growing (drop at buffer) ≡ 0)
+    × (slice_get buffer at ≡ Some slash → IsBeginning mode (drop at buffer) → ⊥)
+
+-- A piece has bytes, and ends within the first `last`.
+abbrev pub PieceWithin : ℕ → ℕ → Piece → Type 0
+PieceWithin at last (piece.Closed end) = (at < end) × (end ≤ last)
+PieceWithin at last (piece.Open s) = at < last
+PieceWithin at last piece.Absent = Unit {0}
+
+-- At `start`, where no gap is in front, this is found.
+abbrev pub FoundHere : Mode → List ℕ → ℕ → Found → Type 0
+FoundHere mode buffer start (found.Answer at result) = (at ≡ start)
+    × (answered result ≡ Some (answer_for (length buffer) (cut_here mode start (drop start buffer))))
+    × (IsBeginning mode (drop start buffer) → ⊥)
+FoundHere mode buffer start (found.Open at s) = (at ≡ start) × Describes mode (state_of s) (drop start buffer)
+
+-- From p on, a gap in front, this is found.
+abbrev pub FoundFrom : Mode → List ℕ → ℕ → Found → Type 0
+FoundFrom mode buffer p (found.Answer at result) = (at ≡ past_gap buffer p mode)
+    × (answered result ≡ Some (answer_for (length buffer) (cut buffer p mode)))
+    × (IsOpen buffer p mode → ⊥)
+FoundFrom mode buffer p (found.Open at s) = (at ≡ past_growing_gap buffer p mode)
+    × Describes mode (state_of s) (drop (past_growing_gap buffer p mode) buffer)
+
+-- What is found stands within the first `last` bytes.
+abbrev pub FoundWithin : ℕ → Found → Type 0
+FoundWithin last (found.Answer at result) = (at ≤ last) × (stop (span_answered result) ≤ last) × IndicesWithin last result
+FoundWithin last (found.Open at s) = at < last

@@ -1,0 +1,2 @@
+pub mod PointsByPlace
+pub mod StandingFills

@@ -1,0 +1,9 @@
+//! Where a parser stands: in front of the bytes that are not read, with an event that is read and not passed; and the
+//! standings that are kept under numbers.
+#![tactic(auto)]
+
+mod points;
+mod standing;
+
+pub use points::{Point, bring_back, keep};
+pub use standing::Standing;

@@ -1,0 +1,10 @@
+pub mod CutBounds
+pub mod FirstBytes
+pub mod GapSteps
+pub mod Gaps
+pub mod NumberCuts
+pub mod Offsets
+pub mod Starts
+pub mod TextShapes
+pub mod TextSteps
+pub mod TokensSteps

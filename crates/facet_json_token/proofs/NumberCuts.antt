@@ -1,0 +1,18 @@
+-- The token that is cut of a number, from its parts.
+use Rattle.std.proofs.Common.{◌≡◌, ℕ, ◌+◌, false, List, ap, ap₂, sym, ◌∙◌}
+use Rattle.facet_format.specs.Number.{Hint, Parts, parts_len, parts_hint, is_bare}
+use Rattle.facet_json_token.specs.Token.{number}
+use Rattle.facet_json_token.specs.Cut.{Cut, token_at, cut_number}
+
+-- what is cut of a number with these parts
+abbrev pub number_at : ℕ → List ℕ → Parts → Cut
+number_at at bytes p = cut_number at bytes (parts_len p) (parts_hint p) (is_bare p)
+
+-- The token of a number with these parts is cut where they stand.
+pub cut_number-parts : (q p : Parts) (rest : List ℕ) (hint : Hint) (at len : ℕ) → q ≡ p → len ≡ parts_len q →
+    hint ≡ parts_hint q → is_bare q ≡ false →
+    token_at (number at (at + len) hint) at len ≡ cut_number at rest (parts_len p) (parts_hint p) (is_bare p)
+cut_number-parts q p rest hint at len same long what more =
+    ap₂ (λ n h. token_at (number at (at + n) h) at n) long what
+    ∙ ap (cut_number at rest (parts_len q) (parts_hint q)) (sym more)
+    ∙ ap (λ r. cut_number at rest (parts_len r) (parts_hint r) (is_bare r)) same

@@ -1,0 +1,32 @@
+-- Laws of gaps, tokens and growing buffers. Each is the contract of a function of the module `laws`.
+use Rattle.std.specs.Prelude.{◌≡◌, ◌≢◌, ◌≤◌, ◌↔◌, true, List, ◌++◌, length, take, drop}
+use Rattle.facet_json_token.specs.Gap.{Mode, Input, IsGap, gap_len}
+use Rattle.facet_json_token.specs.Token.{Kind}
+use Rattle.facet_json_token.specs.Cut.{IsShape, nothing_left, token_at, cut_here, cut}
+use Rattle.facet_json_token.specs.Open.{IsOpen, is_open}
+
+-- The gap at the front is a gap, and no longer front of the bytes is one.
+abbrev pub GapIsLongest : Type 0
+GapIsLongest = (mode : Mode) (input : Input) (bytes : List ℕ) →
+    let n = gap_len mode input bytes in
+    (n ≤ length bytes) × IsGap mode input (take n bytes) (drop n bytes)
+    × ((k : ℕ) → k ≤ length bytes → IsGap mode input (take k bytes) (drop k bytes) → k ≤ n)
+
+-- A token is cut exactly where its shape stands.
+abbrev pub ShapeIsCut : Type 0
+ShapeIsCut = (mode : Mode) (at : ℕ) (bytes rest : List ℕ) (kind : Kind) →
+    IsShape at bytes rest kind ↔ (cut_here mode at (bytes ++ rest) ≡ token_at kind at (length bytes))
+
+-- At one place stands the shape of at most one token.
+abbrev pub ShapeIsUnique : Type 0
+ShapeIsUnique = (at : ℕ) (a b r s : List ℕ) (kind other : Kind) → IsShape at a r kind → IsShape at b s other → a
+    ++ r ≡ b ++ s → (a ≡ b) × (kind ≡ other)
+
+-- What is cut where the buffer isn't open is cut alike from every longer buffer with that front.
+abbrev pub CutStays : Type 0
+CutStays = (buffer more : List ℕ) (position : ℕ) (mode : Mode) → position ≤ length buffer → (IsOpen buffer position mode → ⊥) → cut buffer position mode ≢ nothing_left →
+    cut (buffer ++ more) position mode ≡ cut buffer position mode
+
+-- A buffer is tested to be open at a position exactly where it is.
+abbrev pub OpenIsTested : Type 0
+OpenIsTested = (buffer : List ℕ) (position : ℕ) (mode : Mode) → (is_open buffer position mode ≡ true) ↔ IsOpen buffer position mode

@@ -1,0 +1,7 @@
+pub mod Cut
+pub mod Gap
+pub mod Laws
+pub mod Open
+pub mod Token
+pub mod Tokens
+pub mod Views
