@@ -14,7 +14,8 @@ use Rattle.facet_json_document.specs.Tree as trees
 use Rattle.facet_json_document.specs.Meaning.{tree_of_number, meaning_of, meaning, tree_of, trees_of, pairs_of, text_of, put_item, put_pair}
 use Rattle.facet_json_document.specs.Walk.{text_by, scalar_by, scalar_of, name_of, event_at, scalar_event, key_event, walk, walk_items, walk_members}
 use Rattle.facet_json_document.specs.Future.{Future, gives, events_before}
-use Rattle.facet_json_document.proofs.WalkComes.{events_before-append, list_meant, object_meant, item_meant, member_meant}
+use Rattle.facet_json_document.proofs.WalkComes.{events_before-append}
+use Rattle.facet_json_document.proofs.TreesOfParts.{list_meant, object_meant, item_meant, member_meant}
 use Rattle.facet_json.specs.Inner.Told.{tree_of_scalar, Tells, a_scalar, a_list, an_object, TellsItems, no_item, one_item, TellsMembers, no_member, one_member}
 
 -- ---- what the tokens of a buffer mean

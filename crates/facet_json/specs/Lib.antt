@@ -1,3 +1,47 @@
+-- What clauses of this crate speak of, so that a crate that uses it need not list those below it.
+pub use Rattle.facet_format.specs.Span
+pub use Rattle.facet_format.specs.Complaint
+pub use Rattle.facet_format.specs.Bytes
+pub use Rattle.facet_format.specs.Number
+pub use Rattle.facet_format.specs.Event
+pub use Rattle.facet_format.specs.HeldText
+pub use Rattle.facet_format.specs.Cursor
+pub use Rattle.facet_format.specs.Kept
+pub use Rattle.facet_format.specs.Standing
+pub use Rattle.facet_format.specs.Agree
+pub use Rattle.facet_json_token.specs.Gap
+pub use Rattle.facet_json_token.specs.Token
+pub use Rattle.facet_json_token.specs.Cut
+pub use Rattle.facet_json_token.specs.Open
+pub use Rattle.facet_json_token.specs.Tokens
+pub use Rattle.facet_json_decode.specs.Decode
+pub use Rattle.facet_json_scanner.specs.Scanner
+pub use Rattle.facet_json_document.specs.Node
+pub use Rattle.facet_json_document.specs.Tree
+pub use Rattle.facet_json_document.specs.Meaning
+pub use Rattle.facet_json_document.specs.Document
+pub use Rattle.facet_json_document.specs.Spelled
+pub use Rattle.facet_json_document.specs.Walk
+pub use Rattle.facet_json_document.specs.Place
+pub use Rattle.facet_json_document.specs.Refusal
+pub use Rattle.facet_json_document.specs.Future
+pub use Rattle.facet_json_document.specs.Quoted
+pub use Rattle.facet_json_document.specs.Text
+pub use Rattle.facet_json_document.specs.TextLaws
+pub use Rattle.facet_json_prefix.specs.Begun
+pub use Rattle.facet_json_prefix.specs.EventLaws
+pub use Rattle.facet_json_protocol.specs.Now
+pub use Rattle.facet_json_protocol.specs.Move
+pub use Rattle.facet_json_protocol.specs.Sound
+pub use Rattle.facet_json_protocol.specs.Alone
+pub use Rattle.facet_json_protocol.specs.ParserLaws
+pub use Rattle.facet_json_protocol.specs.CallLaws
+pub use Rattle.facet_json_core.specs.ScriptViews
+pub use Rattle.facet_format.specs.Views as FormatViews
+pub use Rattle.facet_format.specs.Laws as FormatLaws
+pub use Rattle.facet_json_scan.specs.Views as ScanViews
+pub use Rattle.facet_json_scan.specs.Laws as ScanLaws
+pub use Rattle.facet_json_document.specs.Laws as DocumentLaws
 pub mod Inner
 pub mod Same
 pub mod SameLaws

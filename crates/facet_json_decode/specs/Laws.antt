@@ -1,5 +1,5 @@
 -- The law of strings' contents. It is the contract of a function of the module `laws`.
-use Rattle.std.specs.Prelude.{◌≡◌, ◌↔◌, List, Some}
+use Rattle.std.specs.Prelude.{ℕ, ◌≡◌, ◌↔◌, List, Some}
 use Rattle.facet_json_decode.specs.Decode.{Decodes, decoded}
 
 -- The text that is computed is the one text that the content stands for.

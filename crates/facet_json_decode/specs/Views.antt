@@ -1,5 +1,5 @@
 -- What a decoder of strings returns (RFC 8259, section 7).
-use Rattle.std.specs.Prelude.{None, ◌≡◌, ◌-◌, ◌≤◌, List, ◌==◌, ◌+◌, Bool, false, slice_range, IsUtf8}
+use Rattle.std.specs.Prelude.{ℕ, None, ◌≡◌, ◌-◌, ◌≤◌, List, ◌==◌, ◌+◌, Bool, false, slice_range, IsUtf8}
 use Rattle.facet_format.specs.declared.span.Span.{Span as RustSpan}
 use Rattle.facet_json_decode.specs.declared.decode.DecodeError.{DecodeError}
 use Rattle.facet_json_decode.specs.declared.decode.DecodeError.TheVariants as decode
@@ -10,6 +10,7 @@ use Rattle.facet_json_token.specs.declared.token.ScanErrorKind.TheVariants.{Inva
 use Rattle.facet_json_decode.specs.declared.decode.DecodeError.TheVariants.{Scan, OutOfMemory}
 use Rattle.facet_format.specs.Bytes.{backslash}
 use Rattle.facet_json_decode.specs.Decode.{decoded}
+use Rattle.facet_json_token.specs.Views.{scan_refusal}
 
 -- how a refused decode is passed on
 abbrev pub decode_refusal : DecodeError → Refusal

@@ -1,4 +1,6 @@
 pub mod Rows
 pub mod Spelling
+pub mod TreesOfParts
+pub mod TurnsStop
 pub mod WalkComes
 pub mod Writing

@@ -18,6 +18,7 @@ use Rattle.facet_json_document.specs.Future.{Future, gives, stuck, events_before
 use Rattle.facet_json_token.specs.Gap.{Mode}
 use Rattle.facet_json_document.specs.Document.{IsDocument}
 use Rattle.facet_json_document.specs.Place as place
+use Rattle.facet_json_document.proofs.TreesOfParts.{list_meant, object_meant, item_meant, member_meant}
 
 -- the places where a value may stand
 pub data TakesValue : Place → Type 0 where
@@ -265,42 +266,6 @@ module _ (m : Meaning) where
 
 -- ---- whole values
 
-put_item_meant : (a : Option Tree) (b : Option Trees) (all : Trees) → put_item a b ≡ Some all →
-    (value : Tree) × (values : Trees) × (a ≡ Some value) × (b ≡ Some values)
-put_item_meant None b all e = cc
-put_item_meant (Some t) None all e = cc
-put_item_meant (Some t) (Some others) all e = (t, others, refl, refl)
-
-put_pair_meant : (k : Option (List ℕ)) (a : Option Tree) (b : Option Pairs) (all : Pairs) → put_pair k a b ≡ Some all →
-    (name : List ℕ) × (value : Tree) × (values : Pairs) × (k ≡ Some name) × (a ≡ Some value) × (b ≡ Some values)
-put_pair_meant None a b all e = cc
-put_pair_meant (Some name) None b all e = cc
-put_pair_meant (Some name) (Some t) None all e = cc
-put_pair_meant (Some name) (Some t) (Some others) all e = (name, t, others, refl, refl, refl)
-
--- Items of a list with a meaning.
-pub list_meant : (o : Option Trees) (value : Tree) → option_map tree.list o ≡ Some value → (values : Trees) × (o ≡ Some values)
-list_meant None value e = cc
-list_meant (Some values) value e = (values, refl)
-
--- Members of an object with a meaning.
-pub object_meant : (o : Option Pairs) (value : Tree) → option_map tree.pairs o ≡ Some value → (values : Pairs) × (o ≡ Some values)
-object_meant None value e = cc
-object_meant (Some values) value e = (values, refl)
-
--- Items with a meaning: the first, and the others.
-pub item_meant : (m : Meaning) (node : Node) (nodes : Nodes) (all : Trees) → trees_of m (item node nodes) ≡ Some all →
-    (value : Tree) × (values : Trees) × (tree_of m node ≡ Some value) × (trees_of m nodes ≡ Some values)
-unfolding trees_of
-item_meant m node nodes all e = put_item_meant (tree_of m node) (trees_of m nodes) all e
-
--- Members with a meaning: the key's name, the value, and the others.
-pub member_meant : (m : Meaning) (key mark : Token) (node : Node) (members : Members) (all : Pairs) →
-    pairs_of m (member key mark node members) ≡ Some all →
-    (name : List ℕ) × (value : Tree) × (values : Pairs) × (text_of (m key) ≡ Some name) × (tree_of m node ≡ Some value) × (pairs_of m members ≡ Some values)
-unfolding pairs_of
-member_meant m key mark node members all e = put_pair_meant (text_of (m key)) (tree_of m node) (pairs_of m members) all e
-
 module _ (m : Meaning) where
   mutual
     unfolding tree_of walk
@@ -362,8 +327,8 @@ module _ (m : Meaning) where
         ∙ sym (events_before-append (walk m node) [] _))
 
 -- At the root of a document its walk comes, then the end.
-pub document-comes : (buffer : List ℕ) (mode : Mode) (root : Node) (value : Tree) → IsDocument buffer mode root value →
-    reads (meaning buffer) [] (within place.root) (tokens buffer mode) ≡ events_before (walk (meaning buffer) root) finished
+pub document-comes : (buffer : List ℕ) (mode : Mode) (node : Node) (value : Tree) → IsDocument buffer mode node value →
+    reads (meaning buffer) [] (within place.root) (tokens buffer mode) ≡ events_before (walk (meaning buffer) node) finished
 unfolding reads
-document-comes buffer mode root value d =
+document-comes buffer mode node value d =
     walk-comes (meaning buffer) value d.reads.spells d.reads.has_tree [] place.root at_root

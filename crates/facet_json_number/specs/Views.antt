@@ -1,5 +1,5 @@
 -- What the numbers of the code stand for in the definitions.
-use Rattle.std.specs.Prelude.{◌-◌, Bool, false}
+use Rattle.std.specs.Prelude.{ℕ, ◌-◌, Bool, false}
 use Rattle.facet_json_token.specs.declared.token.ScanErrorKind.TheVariants as scan
 use Rattle.facet_json_token.specs.declared.token.ScanError.{ScanError}
 use Rattle.facet_json_number.specs.declared.number.ParsedNumber.{ParsedNumber}

@@ -18,7 +18,7 @@ use Rattle.facet_json_protocol.specs.Move.{Moves, repeats, gives_none, gives_all
 use Rattle.facet_json_protocol.specs.Sound.{NowSound}
 use Rattle.facet_json_standing.specs.Fill.{Fills, holds, is_over, lacks_memory, stops, FillsParser, fills, refuses, Takes, GivesOne, gives_event, gives_end, gives_refusal, lacks_room, behind}
 use Rattle.facet_json_standing.specs.Fill as fill
-use Rattle.facet_json_protocol.proofs.MoveLaws.{Passes-one_more}
+use Rattle.facet_json_protocol.proofs.MoveLaws.{Passes-one_more, not_both}
 use Rattle.facet_json_parser.proofs.AnswersAreMoves.{behind_held, fills-holds, fills-over, fills-same}
 
 -- These events are passed, and it stands there.
@@ -124,9 +124,6 @@ room-of old given s _ p k on (fills t none f) held le =
     gives_without_memory k given s.last p (behind_held old.buffer old.mode t) t none
     (subst (λ x. Passes old.standing.last (future_of old) given s.last x) comes there.passes) le
     (record { comes = same.comes ∙ comes; last_is = same.last_is; peeked_is = same.peeked_is ∙ there.peeked })
-
-not_both : {o : Option Refusal} {r : Refusal} → o ≡ None → o ≡ Some r → ⊥
-not_both e f = cc
 
 pub batch-refused : (old cur new : Now) (given : List Event) (r : Refusal) (k : ℕ) → Batch old given cur → GivesOne cur (Err r) new →
     length given ≤ k → Moves Complains old (events (suc k)) (batch given (Err r)) new

@@ -12,7 +12,8 @@ use Rattle.facet_json_document.specs.Meaning.{Meaning}
 use Rattle.facet_json_document.specs.Place.{Place, root, before_key, after_key, after_colon, after_member, before_item, after_item, begins_value, begins_key, goes_on_member, begins_item, goes_on_item, goes_on, is_colon}
 use Rattle.facet_json_document.specs.Refusal.{needs_meaning, IsStuck, at_end, at_fault, meaningless, misplaced}
 use Rattle.facet_json_place.specs.Views.{place_of}
-use Rattle.facet_json_document.proofs.WalkComes.{reads-turn}
+use Rattle.facet_json_document.proofs.WalkComes.{reads-turn, turn-misplaced}
+use Rattle.facet_json_document.proofs.TurnsStop.{value_stops}
 
 -- ---- turns without a meaning
 
@@ -57,13 +58,6 @@ passes-plain stack place _ others stage e = refl
 
 -- ---- turns at which no document goes on
 
-value_stops : (stack : List ContainerKind) (k : Kind) → value_turn stack k ≡ stops → begins_value k ≡ false
-value_stops stack token.object_end e = refl
-value_stops stack token.array_end e = refl
-value_stops stack token.colon e = refl
-value_stops stack token.comma e = refl
-value_stops stack _ e = cc
-
 key_stops : (stack : List ContainerKind) (k : Kind) → key_turn stack k ≡ stops → begins_key k ≡ false
 key_stops stack token.object_end e = cc
 key_stops stack (token.string a b h) e = cc
@@ -96,45 +90,6 @@ stops-stays stack places.AfterMember k e = member_stops stack k e
 stops-stays stack places.BeforeItem k e = first_item_stops stack k e
 stops-stays stack places.AfterItem k e = item_stops stack k e
 
--- A token with which no document goes on has no turn.
-stays-value : (stack : List ContainerKind) (k : Kind) → begins_value k ≡ false → value_turn stack k ≡ stops
-stays-value stack token.object_end e = refl
-stays-value stack token.array_end e = refl
-stays-value stack token.colon e = refl
-stays-value stack token.comma e = refl
-stays-value stack _ e = cc
-
-stays-key : (stack : List ContainerKind) (k : Kind) → begins_key k ≡ false → key_turn stack k ≡ stops
-stays-key stack token.object_end e = cc
-stays-key stack (token.string a b h) e = cc
-stays-key stack _ e = refl
-
-stays-member : (stack : List ContainerKind) (k : Kind) → goes_on_member k ≡ false → member_turn stack k ≡ stops
-stays-member stack token.object_end e = cc
-stays-member stack token.comma e = cc
-stays-member stack _ e = refl
-
-stays-first_item : (stack : List ContainerKind) (k : Kind) → begins_item k ≡ false → first_item_turn stack k ≡ stops
-stays-first_item stack token.object_end e = refl
-stays-first_item stack token.colon e = refl
-stays-first_item stack token.comma e = refl
-stays-first_item stack _ e = cc
-
-stays-item : (stack : List ContainerKind) (k : Kind) → goes_on_item k ≡ false → item_turn stack k ≡ stops
-stays-item stack token.array_end e = cc
-stays-item stack token.comma e = cc
-stays-item stack _ e = refl
-
-stays-stops : (stack : List ContainerKind) (place : Place) (k : Kind) → goes_on place k ≡ false →
-    place_turn stack place k ≡ stops
-stays-stops stack root k e = stays-value stack k e
-stays-stops stack before_key k e = stays-key stack k e
-stays-stops stack after_key k e = refl
-stays-stops stack after_colon k e = stays-value stack k e
-stays-stops stack after_member k e = stays-member stack k e
-stays-stops stack before_item k e = stays-first_item stack k e
-stays-stops stack after_item k e = stays-item stack k e
-
 -- ---- where no document goes on
 
 -- No turn is no turn, with a meaning or without one.
@@ -152,7 +107,7 @@ module _ (buffer : List ℕ) (m : Meaning) (complains : Token → Refusal → Ty
   stuck-reads stack place _ r (meaningless _ t rest _ needs none because) =
       let way : turn m stack place t ≡ stops = rw (needs, none) refl in reads-turn m stack place t rest stops way
   stuck-reads stack place _ _ (misplaced _ t rest means never) =
-      reads-turn m stack place t rest stops (still_stops (is_meaningless m t) _ (stays-stops stack place t.kind never))
+      reads-turn m stack place t rest stops (still_stops (is_meaningless m t) _ (turn-misplaced m stack place t.kind never))
 
   -- Nor does it behind a key, where its colon is missing.
   pub stuck-reads_colon : (stack : List ContainerKind) (key : Token) (ts : Tokens) (r : Refusal) →

@@ -16,7 +16,7 @@ use Rattle.facet_json_document.specs.Walk.{event_at, key_event, walk}
 use Rattle.facet_json_document.specs.Future.{Stage, within, over}
 use Rattle.facet_json_prefix.specs.Begun.{Begun, nothing, whole, in_list, in_object, ListBegun, begins_item, past_item, ObjectBegun, no_key, key_alone, begins_member, past_member, tokens_before}
 use Rattle.facet_json_document.proofs.Spelling.TokenSuffixes.{IsSuffix, all, later, Spells-suffix}
-use Rattle.facet_json_document.proofs.WalkComes.{list_meant, object_meant, item_meant, member_meant}
+use Rattle.facet_json_document.proofs.TreesOfParts.{list_meant, object_meant, item_meant, member_meant}
 use Rattle.facet_json_prefix.specs.EventLaws.{BegunIsPrefix, PrefixIsBegun, PrefixGivesWalk, OneGiven}
 use Rattle.facet_json_prefix.proofs.ValueOrPrefix.{IsMeaning, suffix-count}
 use Rattle.facet_json_prefix.proofs.LongestPrefix.{is_meaning, front-walk, given_once, input-comes}

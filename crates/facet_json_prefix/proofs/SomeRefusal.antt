@@ -19,6 +19,7 @@ use Rattle.facet_json_document.specs.Future.{gives, stuck, events_before, Stage,
 use Rattle.facet_json_document.proofs.WalkComes.{follows, reads-turn}
 use Rattle.facet_json_prefix.specs.EventLaws.{RootComes, document_comes, prefix_comes}
 use Rattle.facet_json_prefix.proofs.LongestPrefix.{input-comes}
+use Rattle.facet_json_document.proofs.TurnsStop.{value_stops}
 
 -- The stage is not behind a key.
 abbrev IsNoKey : Stage → Type 0
@@ -79,22 +80,15 @@ unless-leads : (b : Bool) (way : Turn) → LeadsOn way → LeadsOn (unless_meani
 unless-leads true way h = tt
 unless-leads false way h = h
 
-value-stops : (stack : List ContainerKind) (kind : Kind) → value_turn stack kind ≡ stops → begins_value kind ≡ false
-value-stops stack token.object_end e = refl
-value-stops stack token.array_end e = refl
-value-stops stack token.colon e = refl
-value-stops stack token.comma e = refl
-value-stops stack _ e = cc
-
 -- Where the turn is to stop, no document goes on with the token.
 place-stops : (stack : List ContainerKind) (place : Place) (kind : Kind) → IsNoKey (within place) →
     place_turn stack place kind ≡ stops → goes_on place kind ≡ false
-place-stops stack root kind h e = value-stops stack kind e
+place-stops stack root kind h e = value_stops stack kind e
 place-stops stack before_key token.object_end h e = cc
 place-stops stack before_key (token.string start finish has_escapes) h e = cc
 place-stops stack before_key _ h e = refl
 place-stops stack after_key kind h e = absurd h
-place-stops stack after_colon kind h e = value-stops stack kind e
+place-stops stack after_colon kind h e = value_stops stack kind e
 place-stops stack after_member token.comma h e = cc
 place-stops stack after_member token.object_end h e = cc
 place-stops stack after_member _ h e = refl

@@ -1,5 +1,5 @@
 -- Laws of begun documents and of what they give.
-use Rattle.std.specs.Prelude.{◌≡◌, List, ◌++◌, Some, []}
+use Rattle.std.specs.Prelude.{ℕ, ◌≡◌, List, ◌++◌, Some, []}
 use Rattle.facet_json_token.specs.Gap.{Mode}
 use Rattle.facet_json_token.specs.Token.{Token}
 use Rattle.facet_json_token.specs.Tokens.{Tokens, tokens}

@@ -38,8 +38,8 @@ abbrev pub leaves_refusal : Call → Bool
 leaves_refusal (restore point) = false
 leaves_refusal _ = true
 
-free : {o : Option Refusal} {r : Refusal} → o ≡ None → o ≡ Some r → ⊥
-free e f = cc
+pub not_both : {o : Option Refusal} {r : Refusal} → o ≡ None → o ≡ Some r → ⊥
+not_both e f = cc
 
 module _ (complains : Token → Refusal → Type 0) where
   -- Every call leaves the input and the mode.
@@ -61,22 +61,22 @@ module _ (complains : Token → Refusal → Type 0) where
   moves-repeats now new r call answer told (repeats q _ _ e a) f t =
       let same : q ≡ r = cc in
       (cc, refl)
-  moves-repeats now new r call answer told (passes p future s none comes shows) f t = absurd (free none f)
-  moves-repeats now new r call answer told (passes_without_memory p future s none comes takes off like) f t = absurd (free none f)
-  moves-repeats now new r call answer told (passes_the_end s none e like) f t = absurd (free none f)
-  moves-repeats now new r call answer told (passes_nothing place rest q s none e stops like) f t = absurd (free none f)
-  moves-repeats now new r call answer told (peeks p future s none comes shows) f t = absurd (free none f)
-  moves-repeats now new r call answer told (peeks_without_memory p future s none comes takes like) f t = absurd (free none f)
-  moves-repeats now new r call answer told (peeks_at_the_end s none e like) f t = absurd (free none f)
-  moves-repeats now new r call answer told (peeks_at_nothing place rest q s none e stops like) f t = absurd (free none f)
+  moves-repeats now new r call answer told (passes p future s none comes shows) f t = absurd (not_both none f)
+  moves-repeats now new r call answer told (passes_without_memory p future s none comes takes off like) f t = absurd (not_both none f)
+  moves-repeats now new r call answer told (passes_the_end s none e like) f t = absurd (not_both none f)
+  moves-repeats now new r call answer told (passes_nothing place rest q s none e stops like) f t = absurd (not_both none f)
+  moves-repeats now new r call answer told (peeks p future s none comes shows) f t = absurd (not_both none f)
+  moves-repeats now new r call answer told (peeks_without_memory p future s none comes takes like) f t = absurd (not_both none f)
+  moves-repeats now new r call answer told (peeks_at_the_end s none e like) f t = absurd (not_both none f)
+  moves-repeats now new r call answer told (peeks_at_nothing place rest q s none e stops like) f t = absurd (not_both none f)
   moves-repeats now new r call answer told (gives_none) f t = cc
-  moves-repeats now new r call answer told (gives_all k given last future s none all n shows) f t = absurd (free none f)
-  moves-repeats now new r call answer told (gives_to_the_end k n given last s none all count le shows) f t = absurd (free none f)
-  moves-repeats now new r call answer told (gives_up k given last place rest q s none all le stops shows) f t = absurd (free none f)
-  moves-repeats now new r call answer told (gives_without_memory k given last p future s none all le shows) f t = absurd (free none f)
-  moves-repeats now new r call answer told (saves none h) f t = absurd (free none f)
-  moves-repeats now new r call answer told (saves_at_the_limit none e) f t = absurd (free none f)
-  moves-repeats now new r call answer told (saves_without_memory none h) f t = absurd (free none f)
+  moves-repeats now new r call answer told (gives_all k given last future s none all n shows) f t = absurd (not_both none f)
+  moves-repeats now new r call answer told (gives_to_the_end k n given last s none all count le shows) f t = absurd (not_both none f)
+  moves-repeats now new r call answer told (gives_up k given last place rest q s none all le stops shows) f t = absurd (not_both none f)
+  moves-repeats now new r call answer told (gives_without_memory k given last p future s none all le shows) f t = absurd (not_both none f)
+  moves-repeats now new r call answer told (saves none h) f t = absurd (not_both none f)
+  moves-repeats now new r call answer told (saves_at_the_limit none e) f t = absurd (not_both none f)
+  moves-repeats now new r call answer told (saves_without_memory none h) f t = absurd (not_both none f)
   moves-repeats now new r call answer told (restores point s e) f t = cc
   moves-repeats now new r call answer told (restores_nothing point e) f t = cc
   moves-repeats now new r call answer told (tells) f t = cc

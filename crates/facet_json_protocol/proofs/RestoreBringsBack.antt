@@ -10,7 +10,7 @@ use Rattle.facet_json_protocol.specs.Now.{Standing, Now, fresh, span_of, SameInp
 use Rattle.facet_json_protocol.specs.Move.{with_kept, Moves, repeats, saves, saves_at_the_limit, saves_without_memory, restores, MovesAll, no_calls, one_call}
 use Rattle.facet_json_protocol.specs.CallLaws.{NoPoint, no_number, no_memory, NeverRestored, no_call, another, IsBack}
 use Rattle.facet_format.proofs.KeptLaws.{AreUpTo, found-new, found-other, found-kept, found-used, up_to-new, up_to-used}
-use Rattle.facet_json_protocol.proofs.MoveLaws.{moves-input, moves-saved, moves-restored}
+use Rattle.facet_json_protocol.proofs.MoveLaws.{moves-input, moves-saved, moves-restored, all-input}
 
 -- A point with this standing is kept, and its number is not greater than the counter.
 pub record IsKept (now : Now) (point : ℕ) (s : Standing) : Type 0 where
@@ -68,15 +68,6 @@ module _ (complains : Token → Refusal → Type 0) where
   all-up_to (no_calls now) up = up
   all-up_to (one_call now between new call answer calls answers move more) up = all-up_to more (moves-up_to now between move up)
 
-  -- The input is the same behind all calls.
-  pub all-input : {now new : Now} {calls : List Call} {answers : List Answer} → MovesAll complains now calls answers new →
-      SameInput now new
-  all-input (no_calls now) = record { buffer = refl; mode = refl }
-  all-input (one_call now between new call answer calls answers move more) =
-      let first = moves-input complains now between move in
-      let others = all-input more in
-      record { buffer = others.buffer ∙ first.0; mode = others.mode ∙ first.1 }
-
   -- The restore of a kept point brings back where the parser stood, with no refusal, and uses the point up.
   pub restored-back : (at_save before new : Now) (point : ℕ) (answer : Answer) → SameInput at_save before →
       IsKept before point at_save.standing → Moves complains before (restore point) answer new → IsBack at_save before new point
@@ -98,7 +89,7 @@ module _ (complains : Token → Refusal → Type 0) where
       IsBack at_save before new point
   saved-back at_save behind before new point told answer none t saving never between restoring =
       let first = moves-input complains at_save behind saving in
-      let others = all-input between in
+      let others = all-input complains between in
       restored-back at_save before new point answer (record { buffer = others.buffer ∙ first.0; mode = others.mode ∙ first.1 })
       (all-keep point at_save.standing never between (saved-kept at_save behind point told none t saving)) restoring
 

@@ -17,7 +17,7 @@ use Rattle.facet_format.specs.Cursor.{Spot, start, last_of, seen, current_span}
 use Rattle.facet_json_document.specs.Future.{Future, gives, finished, stuck, events_before, within, reads}
 use Rattle.facet_json_protocol.specs.Now.{Standing, Now, fresh, held_before, is_shown, last_shown, span_of, StandsOn, KeptAlike, none_kept, one_kept, StandsAt}
 use Rattle.facet_json_protocol.specs.Move.{Shows, IsAlike, Passes, no_events, one_event}
-use Rattle.facet_json_document.proofs.WalkComes.{at_root, walk-comes}
+use Rattle.facet_json_document.proofs.WalkComes.{document-comes}
 
 -- ---- at the front
 

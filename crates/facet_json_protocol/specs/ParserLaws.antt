@@ -1,5 +1,5 @@
 -- Laws of parsers: where a new one stands, what comes from there, and what reading by the next event alone answers where there is no document.
-use Rattle.std.specs.Prelude.{List}
+use Rattle.std.specs.Prelude.{ℕ, List}
 use Rattle.facet_json_token.specs.Gap.{Mode}
 use Rattle.facet_json_token.specs.Token.{Token}
 use Rattle.facet_json_token.specs.Tokens.{Tokens, tokens}

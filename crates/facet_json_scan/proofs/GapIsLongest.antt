@@ -6,6 +6,7 @@ use Rattle.facet_format.specs.Bytes.{is_space, slash, star, line_feed}
 use Rattle.facet_json_token.specs.Gap.{Mode, plain, jsonc, Input, whole, growing, ClosesBlock, OpensLine, ClosesLine, IsPiece, blank, block, line, last_line, IsGap, empty, piece, one_more, through_block_end, through_line_end, with_mark, with_line_mark, comment_len, piece_len, gap_len}
 use Rattle.facet_json_token.specs.Laws.{GapIsLongest}
 use Rattle.facet_json_token.proofs.Gaps.{piece_len-blank, gap_len-none, gap_len-piece, gap_len-bound}
+use Rattle.facet_json_scanner.proofs.NoPiece.{opens_line-none}
 
 -- ---- what is measured is a piece
 
@@ -167,11 +168,6 @@ closes_line-len : (body rest : List ℕ) → ClosesLine body → through_line_en
 closes_line-len _ rest ClosesLine.last = refl
 closes_line-len _ rest (ClosesLine.more b bytes e h) = rw e (ap one_more (closes_line-len bytes rest h))
 
--- A line with no end has no length.
-pub opens_line-len : (body : List ℕ) → OpensLine body → through_line_end body ≡ None
-opens_line-len _ OpensLine.nothing = refl
-opens_line-len _ (OpensLine.more b bytes e h) = rw e (ap one_more (opens_line-len bytes h))
-
 -- A line comment is its mark and its line.
 line_mark : (input : Input) (bytes : List ℕ) (n : ℕ) → with_line_mark input bytes (Some n) ≡ suc (suc n)
 line_mark whole bytes n = refl
@@ -187,7 +183,7 @@ piece_len-is _ _ _ _ (line input body rest h) =
     ∙ line_mark input (body ++ rest) (length body)
 piece_len-is _ _ _ _ (last_line body h) =
     ap (λ l. piece_len jsonc whole (slash ∷ slash ∷ l)) (append-nil body)
-    ∙ ap (with_line_mark whole body) (opens_line-len body h)
+    ∙ ap (with_line_mark whole body) (opens_line-none body h)
 
 -- A gap is measured as long as it is, and the gap behind it.
 gap_len-is : (mode : Mode) (input : Input) (bytes rest : List ℕ) → IsGap mode input bytes rest →

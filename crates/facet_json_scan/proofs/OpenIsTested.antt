@@ -9,12 +9,13 @@ use Rattle.facet_json_token.specs.Token.{Kind}
 use Rattle.facet_json_token.specs.Cut.{ArePieces, IsLiteral, null_stands, true_stands, false_stands, Start, letter, start_of, common_len, content_len}
 use Rattle.facet_json_token.specs.Open.{IsBeginning, is_prefix_by, is_open_comment, is_beginning_by, is_beginning, is_open}
 use Rattle.facet_json_token.specs.Laws.{OpenIsTested}
-use Rattle.facet_json_scan.proofs.GapIsLongest.{opens_line-len}
 use Rattle.facet_format.proofs.NumberLaws.{parts_len-is, begins_number-is}
 use Rattle.facet_json_token.proofs.Starts.{Begins, a_mark, a_word, a_text, a_number, a_comment, no_token, start_of-begins, start_of-number}
 use Rattle.facet_json_scanner.proofs.GrowthOfGap.{opens_block, opens_line}
 use Rattle.facet_json_scanner.proofs.GrowthOfNumber.{number_begins}
 use Rattle.facet_json_scanner.proofs.GrowthOfText.{text_begins}
+use Rattle.facet_json_scanner.proofs.NoPiece.{opens_block-none, opens_line-none}
+use Rattle.facet_json_scanner.proofs.PendingWord.{common_len-prefix, prefix_of_word}
 
 -- ---- what is tested to be a beginning is one
 
@@ -22,20 +23,6 @@ use Rattle.facet_json_scanner.proofs.GrowthOfText.{text_begins}
 is_none-is : (o : Option ℕ) → is_none o ≡ true → o ≡ None
 is_none-is None e = refl
 is_none-is (Some n) e = cc
-
--- A letter that the word and the bytes share, and what they share behind it.
-front_step : (t : Bool) (b w n m : ℕ) (word bytes : List ℕ) → (b == w) ≡ t → cond t (suc n) 0 ≡ suc m →
-    (n ≡ m → word ≡ bytes ++ drop m word) → w ∷ word ≡ b ∷ (bytes ++ drop m word)
-front_step true b w n m word bytes e h further =
-    ap (λ x. x ∷ word) (sym (eqb-true b w e)) ∙ ap (λ l. b ∷ l) (further (omega arith))
-front_step false b w n m word bytes e h further = absurd (omega arith)
-
--- Bytes that are all shared with the word are a front of it.
-front_is : (word bytes : List ℕ) → common_len word bytes ≡ length bytes → word ≡ bytes ++ drop (length bytes) word
-front_is word [] e = refl
-front_is [] (b ∷ bytes) e = absurd (omega arith)
-front_is (w ∷ word) (b ∷ bytes) e =
-    front_step (b == w) b w _ _ word bytes refl e (front_is word bytes)
 
 -- A front of a literal that is tested to be proper is a beginning.
 word_begins : (mode : Mode) (b : ℕ) (bytes word : List ℕ) (kind : Kind) → IsLiteral word kind →
@@ -46,7 +33,7 @@ word_begins mode b bytes word kind h e =
     let all : common_len word front ≡ length front = eqb-true _ _ both.0 in
     let short : common_len word front < length word = ltb-true _ _ both.1 in
     let others = drop (length front) word in
-    let whole : word ≡ front ++ others = front_is word front all in
+    let whole : word ≡ front ++ others = prefix_of_word word front all in
     let more : others ≢ [] = λ nil. omega (arith, ap length whole, length-append front others, ap length nil) in
     IsBeginning.literal mode front others kind (subst (λ w. IsLiteral w kind) whole h) (λ nil. cc) more
 
@@ -92,18 +79,6 @@ content_len-pieces _ rest _ (ArePieces.byte b others has_escapes no_quote no_bac
 content_len-pieces _ rest _ (ArePieces.escape b others has_escapes h) e =
     ap (λ o. one_more (one_more o)) (content_len-pieces others rest has_escapes h e)
 
--- A block comment without an end has no length.
-opens_block-len : (body : List ℕ) → OpensBlock body → through_block_end body ≡ None
-opens_block-len _ OpensBlock.nothing = refl
-opens_block-len _ (OpensBlock.one b) = refl
-opens_block-len _ (OpensBlock.more b c bytes e h) = rw e (ap one_more (opens_block-len (c ∷ bytes) h))
-
--- A front of a word is all shared with it.
-common_len-front : (front others : List ℕ) → common_len (front ++ others) front ≡ length front
-common_len-front [] [] = refl
-common_len-front [] (b ∷ others) = refl
-common_len-front (b ∷ front) others = rw (eq-eqb b b refl) (ap suc (common_len-front front others))
-
 -- A literal's first letter begins it.
 start_of-word : (b : ℕ) (letters : List ℕ) (kind : Kind) → IsLiteral (b ∷ letters) kind →
     start_of b ≡ letter (b ∷ letters) kind
@@ -120,7 +95,7 @@ literal_tested mode [] others kind h some more = absurd (some refl)
 literal_tested mode (b ∷ front) [] kind h some more = absurd (more refl)
 literal_tested mode (b ∷ front) (c ∷ others) kind h some more =
     let word = (b ∷ front) ++ c ∷ others in
-    let all : common_len word (b ∷ front) ≡ length (b ∷ front) = common_len-front (b ∷ front) (c ∷ others) in
+    let all : common_len word (b ∷ front) ≡ length (b ∷ front) = common_len-prefix (b ∷ front) (c ∷ others) in
     let short : common_len word (b ∷ front) < length word =
     omega (arith, all, length-append (b ∷ front) (c ∷ others)) in
     rw (start_of-word b _ kind h) (and_from _ _ (eq-eqb _ _ all) (lt-ltb _ _ short))
@@ -142,8 +117,8 @@ is_beginning-complete _ _ (IsBeginning.escape mode content has_escapes h) =
 is_beginning-complete _ _ (IsBeginning.literal mode front others kind h some more) =
     literal_tested mode front others kind h some more
 is_beginning-complete _ _ IsBeginning.slash_alone = refl
-is_beginning-complete _ _ (IsBeginning.block body h) = ap is_none (opens_block-len body h)
-is_beginning-complete _ _ (IsBeginning.line body h) = ap is_none (opens_line-len body h)
+is_beginning-complete _ _ (IsBeginning.block body h) = ap is_none (opens_block-none body h)
+is_beginning-complete _ _ (IsBeginning.line body h) = ap is_none (opens_line-none body h)
 is_beginning-complete _ _ (IsBeginning.number mode text hint h) =
     number_tested mode text (begins_number-is text hint h.numeral) (parts_len-is text hint h.numeral)
 is_beginning-complete _ _ (IsBeginning.minus_alone mode) = refl

@@ -8,7 +8,7 @@ use Rattle.facet_json_token.specs.Token.{Kind}
 use Rattle.facet_json_token.specs.Cut.{ArePieces, IsLiteral, Start, punctuation, letter, opens_text, opens_number, opens_comment, opens_nothing, start_of, content_len}
 use Rattle.facet_json_token.specs.Open.{IsBeginning}
 use Rattle.facet_json_scanner.specs.Scanner.{State, Describes}
-use Rattle.facet_json_token.proofs.Starts.{Begins, a_mark, a_word, a_text, a_number, a_comment, no_token, start_of-begins}
+use Rattle.facet_json_token.proofs.Starts.{Begins, a_mark, a_word, a_text, a_number, a_comment, no_token, start_of-begins, start_of-number}
 use Rattle.facet_json_token.proofs.FirstBytes.{start_of-number_range}
 use Rattle.facet_json_scanner.proofs.GrowthOfNumber.{number_begins}
 use Rattle.facet_format.proofs.NumberLaws.{parts_len-is, begins_number-is}
@@ -47,19 +47,6 @@ literal_starts b _ letters _ IsLiteral.null_stands e = let is : b ≡ 0x6e = cc 
 literal_starts b _ letters _ IsLiteral.true_stands e = let is : b ≡ 0x74 = cc in rw is refl
 literal_starts b _ letters _ IsLiteral.false_stands e = let is : b ≡ 0x66 = cc in rw is refl
 
--- A minus or a digit begins a number.
-pub number_starts : (b : ℕ) → starts_number b ≡ true → start_of b ≡ opens_number
-unfolding start_of
-number_starts b e =
-    elim (or_cases (b == minus) (is_digit b) e) [
-      | inl h ↦ subst (λ n. start_of n ≡ opens_number) (sym (eqb-true b minus h)) refl
-      | inr h ↦
-          let both = and_parts _ _ h in
-          let low = leb-true 0x30 b both.0 in
-          let high = leb-true b 0x39 both.1 in
-          start_of-number_range b (omega arith) (omega arith) (omega arith) (omega arith)
-    ]
-
 -- A beginning is one by its first byte.
 pub begins_by : (mode : Mode) (b : ℕ) (bytes : List ℕ) → IsBeginning mode (b ∷ bytes) → BeginsBy (start_of b) b bytes
 unfolding start_of parts
@@ -71,7 +58,7 @@ begins_by _ _ _ IsBeginning.slash_alone = tt
 begins_by _ _ _ (IsBeginning.block body h) = tt
 begins_by _ _ _ (IsBeginning.line body h) = tt
 begins_by mode b bytes (IsBeginning.number _ _ hint is) =
-    subst (λ s. BeginsBy s b bytes) (sym (number_starts b (begins_number-is (b ∷ bytes) hint is.numeral)))
+    subst (λ s. BeginsBy s b bytes) (sym (start_of-number b (begins_number-is (b ∷ bytes) hint is.numeral)))
     (parts_len-is (b ∷ bytes) hint is.numeral)
 begins_by _ _ _ (IsBeginning.minus_alone _) = refl
 

@@ -19,12 +19,6 @@ no_piece plain input b bytes s e = rw s refl
 no_piece jsonc input b [] s e = rw s refl
 no_piece jsonc input b (c ∷ bytes) s e = rw (s, e) refl
 
--- A blank is a piece of one byte.
-pub blank_piece : (mode : Mode) (input : Input) (b : ℕ) (bytes : List ℕ) → is_space b ≡ true →
-    piece_len mode input (b ∷ bytes) ≡ 1
-blank_piece plain input b bytes s = rw s refl
-blank_piece jsonc input b bytes s = rw s refl
-
 -- A slash begins no literal.
 no_literal : (word bytes : List ℕ) (kind : Kind) → IsLiteral word kind → word ≡ slash ∷ bytes → ⊥
 unfolding start_of
@@ -77,13 +71,13 @@ number_byte b e =
     ]
 
 -- An open block has no end.
-opens_block-none : (body : List ℕ) → OpensBlock body → through_block_end body ≡ None
+pub opens_block-none : (body : List ℕ) → OpensBlock body → through_block_end body ≡ None
 opens_block-none _ OpensBlock.nothing = refl
 opens_block-none _ (OpensBlock.one b) = refl
 opens_block-none _ (OpensBlock.more b c bytes shut h) = rw shut (ap one_more (opens_block-none (c ∷ bytes) h))
 
 -- An open line has no end.
-opens_line-none : (body : List ℕ) → OpensLine body → through_line_end body ≡ None
+pub opens_line-none : (body : List ℕ) → OpensLine body → through_line_end body ≡ None
 opens_line-none _ OpensLine.nothing = refl
 opens_line-none _ (OpensLine.more b bytes shut h) = rw shut (ap one_more (opens_line-none bytes h))
 

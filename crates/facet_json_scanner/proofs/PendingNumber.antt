@@ -13,8 +13,9 @@ use Rattle.facet_json_scanner.proofs.Segments.{between, between-length, between-
 use Rattle.facet_json_scanner.proofs.NumberParts.{last-digits}
 use Rattle.facet_json_token.proofs.NumberCuts.{number_at}
 use Rattle.facet_format.proofs.NumberLaws.{parts-is, parts_len-is, parts_hint-is, begins_number-is, is_bare-number, bare_minus-is, minus-some}
-use Rattle.facet_json_scanner.proofs.Beginnings.{BeginsBy, begins_by, number_starts}
+use Rattle.facet_json_scanner.proofs.Beginnings.{BeginsBy, begins_by}
 use Rattle.facet_json_token.proofs.FirstBytes.{cut_here-number}
+use Rattle.facet_json_token.proofs.Starts.{start_of-number}
 
 -- What a pending number's state says of it.
 pub number-ends : (mode : Mode) (part : Part) (text : List ℕ) → Describes mode (in_number part) text → EndsIn part text
@@ -85,7 +86,7 @@ number-found mode buffer start end b part order room here i same =
     let starts : starts_number b ≡ true =
     sym (ap begins_number (between-starts buffer start end b order (omega arith) here))
     ∙ begins_number-is text i.hint i.numeral in
-    let begins : start_of b ≡ opens_number = number_starts b starts in
+    let begins : start_of b ≡ opens_number = start_of-number b starts in
     let ends : parts_len (parts (b ∷ rest)) ≡ length (b ∷ rest) → ⊥ =
     λ e. omega (
       arith,

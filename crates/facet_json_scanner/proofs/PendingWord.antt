@@ -11,23 +11,23 @@ use Rattle.facet_json_token.proofs.Starts.{Begins, a_word, start_of-begins}
 use Rattle.facet_json_scanner.proofs.Beginnings.{BeginsBy, begins_by}
 
 -- The bytes are a front of the word, if all of them are letters of it.
-front_of_word : (word bytes : List ℕ) → common_len word bytes ≡ length bytes → word ≡ bytes ++ drop (length bytes) word
-front_of_word word [] e = refl
-front_of_word [] (b ∷ bytes) e = cc
-front_of_word (w ∷ word) (b ∷ bytes) e =
+pub prefix_of_word : (word bytes : List ℕ) → common_len word bytes ≡ length bytes → word ≡ bytes ++ drop (length bytes) word
+prefix_of_word word [] e = refl
+prefix_of_word [] (b ∷ bytes) e = cc
+prefix_of_word (w ∷ word) (b ∷ bytes) e =
     cond_both (b == w) (suc (common_len word bytes)) 0
     (λ n. n ≡ suc (length bytes) → w ∷ word ≡ (b ∷ bytes) ++ drop (length bytes) word)
     (λ t h. let is : b ≡ w = eqb-true b w t in
-    let further : word ≡ bytes ++ drop (length bytes) word = front_of_word word bytes (omega arith) in cc)
+    let further : word ≡ bytes ++ drop (length bytes) word = prefix_of_word word bytes (omega arith) in cc)
     (λ t h. cc) e
 
--- All letters of a front of the word are letters of it.
-front_is_common : (bytes others : List ℕ) → common_len (bytes ++ others) bytes ≡ length bytes
-front_is_common [] [] = refl
-front_is_common [] (w ∷ others) = refl
-front_is_common (b ∷ bytes) others =
+-- All letters of a prefix of the word are letters of it.
+pub common_len-prefix : (bytes others : List ℕ) → common_len (bytes ++ others) bytes ≡ length bytes
+common_len-prefix [] [] = refl
+common_len-prefix [] (w ∷ others) = refl
+common_len-prefix (b ∷ bytes) others =
     ap (λ t. cond t (suc (common_len (bytes ++ others) bytes)) 0) (eq-eqb b b refl)
-    ∙ ap suc (front_is_common bytes others)
+    ∙ ap suc (common_len-prefix bytes others)
 
 -- The first letter of a literal is of that literal.
 literal_of : (b : ℕ) (start : Start) (word : List ℕ) (kind : Kind) → Begins b start → start ≡ letter word kind →
@@ -44,7 +44,7 @@ pub word-open : (mode : Mode) (b : ℕ) (bytes word : List ℕ) (kind : Kind) �
     Describes mode in_word (b ∷ bytes)
 word-open mode b bytes word kind begins all short =
     let others = drop (length (b ∷ bytes)) word in
-    let is : word ≡ (b ∷ bytes) ++ others = front_of_word word (b ∷ bytes) all in
+    let is : word ≡ (b ∷ bytes) ++ others = prefix_of_word word (b ∷ bytes) all in
     let literal = literal_of b (start_of b) word kind (start_of-begins b) begins in
     Describes.literal mode (b ∷ bytes) others kind (subst (λ w. IsLiteral w kind) is literal) (λ e. cc)
     (λ e. omega (arith, length-drop (length (b ∷ bytes)) word, ap length e))
@@ -57,7 +57,7 @@ word-shut mode b bytes word kind begins shut i =
     let open_still = subst (λ s. BeginsBy s b bytes) begins (begins_by mode b bytes i) in
     let others = open_still.0 in
     let all : common_len word (b ∷ bytes) ≡ length (b ∷ bytes) =
-    ap (λ w. common_len w (b ∷ bytes)) open_still.1 ∙ front_is_common (b ∷ bytes) others in
+    ap (λ w. common_len w (b ∷ bytes)) open_still.1 ∙ common_len-prefix (b ∷ bytes) others in
     shut (longer others open_still.1 open_still.2 all) all
   where
     longer : (others : List ℕ) → word ≡ (b ∷ bytes) ++ others → others ≢ [] →

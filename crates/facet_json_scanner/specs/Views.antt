@@ -1,5 +1,5 @@
 -- What the types of the scanner stand for in the definitions.
-use Rattle.std.specs.Prelude.{Option, Some, None, Result, Ok, Err, ◌≡◌, ◌≤◌, List, length, ◌+◌, ◌<◌, drop, slice_get}
+use Rattle.std.specs.Prelude.{ℕ, Option, Some, None, Result, Ok, Err, ◌≡◌, ◌≤◌, List, length, ◌+◌, ◌<◌, drop, slice_get}
 use Rattle.facet_json_token.specs.declared.mode.Mode.TheVariants as mode
 use Rattle.facet_json_token.specs.declared.token.Token.{Token as RustToken}
 use Rattle.facet_json_token.specs.declared.token.Token.TheVariants as code
@@ -27,6 +27,7 @@ use Rattle.facet_json_scanner.specs.declared.scanner.gap.Piece.{Piece}
 use Rattle.facet_json_scanner.specs.declared.scanner.gap.Piece.TheVariants as piece
 use Rattle.facet_json_token.specs.Open.{IsBeginning, IsOpen}
 use Rattle.facet_json_scanner.specs.Scanner.{Part, in_digits, in_fraction, at_mark, in_exponent, State, in_text, in_word, in_number, after_slash, in_line, in_block, Pending, nothing_pending, pending_at, Answer, needs_more, ended, cuts, refuses, answer_for, Describes, past_growing_gap}
+use Rattle.facet_json_token.specs.Views.{kind_of}
 
 abbrev pub part_of : RustPart → Part
 part_of part.Digits = in_digits

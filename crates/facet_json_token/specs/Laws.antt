@@ -1,5 +1,5 @@
 -- Laws of gaps, tokens and growing buffers. Each is the contract of a function of the module `laws`.
-use Rattle.std.specs.Prelude.{◌≡◌, ◌≢◌, ◌≤◌, ◌↔◌, true, List, ◌++◌, length, take, drop}
+use Rattle.std.specs.Prelude.{ℕ, ◌≡◌, ◌≢◌, ◌≤◌, ◌↔◌, true, List, ◌++◌, length, take, drop}
 use Rattle.facet_json_token.specs.Gap.{Mode, Input, IsGap, gap_len}
 use Rattle.facet_json_token.specs.Token.{Kind}
 use Rattle.facet_json_token.specs.Cut.{IsShape, nothing_left, token_at, cut_here, cut}

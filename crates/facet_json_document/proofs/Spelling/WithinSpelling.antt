@@ -10,6 +10,7 @@ use Rattle.facet_json_document.specs.Meaning.{Meaning, tree_of, trees_of, pairs_
 use Rattle.facet_json_document.specs.Document.{Reads}
 use Rattle.facet_json_document.specs.Refusal.{PassesItems, PassesMembers}
 use Rattle.facet_json_document.specs.Refusal as fronts
+use Rattle.facet_json_document.proofs.TreesOfParts.{put_item_meant, put_pair_meant, list_meant, object_meant}
 use Rattle.facet_json_document.proofs.Spelling.OneSpelling.{Spells-starts, not_first, one_spelling}
 
 -- Items with these trees stand up to the closing bracket.
@@ -23,29 +24,6 @@ pub record ReadsMembers (m : Meaning) (ts : Tokens) (values : Pairs) (last : Tok
   pub members : Members
   pub spells : SpellsMembers ts members last rest
   pub has_pairs : pairs_of m members ≡ Some values
-
--- the first item's tree and the others'
-put_item-some : (a : Option Tree) (b : Option Trees) (all : Trees) → put_item a b ≡ Some all →
-    (t : Tree) × (others : Trees) × (a ≡ Some t) × (b ≡ Some others)
-put_item-some None b all e = cc
-put_item-some (Some t) None all e = cc
-put_item-some (Some t) (Some others) all e = (t, others, refl, refl)
-
--- the first member's key and tree and the others'
-put_pair-some : (k : Option (List ℕ)) (a : Option Tree) (b : Option Pairs) (all : Pairs) → put_pair k a b ≡ Some all →
-    (name : List ℕ) × (t : Tree) × (others : Pairs) × (k ≡ Some name) × (a ≡ Some t) × (b ≡ Some others)
-put_pair-some None a b all e = cc
-put_pair-some (Some name) None b all e = cc
-put_pair-some (Some name) (Some t) None all e = cc
-put_pair-some (Some name) (Some t) (Some others) all e = (name, t, others, refl, refl, refl)
-
-some_list : (o : Option Trees) (value : Tree) → option_map list o ≡ Some value → (values : Trees) × (o ≡ Some values)
-some_list None value e = cc
-some_list (Some values) value e = (values, refl)
-
-some_pairs : (o : Option Pairs) (value : Tree) → option_map pairs o ≡ Some value → (values : Pairs) × (o ≡ Some values)
-some_pairs None value e = cc
-some_pairs (Some values) value e = (values, refl)
 
 -- What follows an item: a comma and the other items, or the closing bracket.
 pub data BehindItem (m : Meaning) (last : Token) (rest : Tokens) : Tokens → Type 0 where
@@ -100,7 +78,7 @@ module _ (m : Meaning) where
   unfolding trees_of
   items_stand values (closed last rest e) has = no_more refl e
   items_stand values (item_and_comma ts others rest node nodes separator last s e r) has =
-      let both = put_item-some (tree_of m node) (trees_of m nodes) values has in
+      let both = put_item_meant (tree_of m node) (trees_of m nodes) values has in
       first_item (record {
         node = node;
         value = both.0;
@@ -109,7 +87,7 @@ module _ (m : Meaning) where
         behind = at_comma separator others both.1 e (record { nodes = nodes; spells = r; has_trees = both.3 });
       })
   items_stand values (last_item ts rest node last s e) has =
-      let both = put_item-some (tree_of m node) (Some no_trees) values has in
+      let both = put_item_meant (tree_of m node) (Some no_trees) values has in
       first_item (record {
         node = node;
         value = both.0;
@@ -124,7 +102,7 @@ module _ (m : Meaning) where
   unfolding pairs_of
   members_stand values (ended_members last rest e) has = no_more refl e
   members_stand values (member_and_comma ts others rest key mark node ms separator last k c s e r) has =
-      let all = put_pair-some (text_of (m key)) (tree_of m node) (pairs_of m ms) values has in
+      let all = put_pair_meant (text_of (m key)) (tree_of m node) (pairs_of m ms) values has in
       first_member (record {
         key = key;
         mark = mark;
@@ -141,7 +119,7 @@ module _ (m : Meaning) where
         behind = at_comma separator others all.2 e (record { members = ms; spells = r; has_pairs = all.5 });
       })
   members_stand values (last_member ts rest key mark node last k c s e) has =
-      let all = put_pair-some (text_of (m key)) (tree_of m node) (Some no_pairs) values has in
+      let all = put_pair_meant (text_of (m key)) (tree_of m node) (Some no_pairs) values has in
       first_member (record {
         key = key;
         mark = mark;
@@ -235,7 +213,7 @@ module _ (m : Meaning) where
   unfolding tree_of
   list_within first inner value e (one_token t rest h) has same = cc
   list_within first inner value e (brackets opens last within rest nodes h k) has same =
-      let all = some_list (trees_of m nodes) value has in
+      let all = list_meant (trees_of m nodes) value has in
       let here : within ≡ inner = cc in
       let items : ReadsItems m within all.0 last rest = record { nodes = nodes; spells = k; has_trees = all.1 } in
       (last, all.0, subst (λ us. ReadsItems m us all.0 last rest) here items)
@@ -254,7 +232,7 @@ module _ (m : Meaning) where
   object_within first inner value e (one_token t rest h) has same = cc
   object_within first inner value e (brackets opens last within rest nodes h k) has same = cc
   object_within first inner value e (braces opens last within rest ms h k) has same =
-      let all = some_pairs (pairs_of m ms) value has in
+      let all = object_meant (pairs_of m ms) value has in
       let here : within ≡ inner = cc in
       let inside : ReadsMembers m within all.0 last rest = record { members = ms; spells = k; has_pairs = all.1 } in
       (last, all.0, subst (λ us. ReadsMembers m us all.0 last rest) here inside)

@@ -8,8 +8,9 @@ use Rattle.facet_json_token.specs.Gap.{plain, growing, piece_len}
 use Rattle.facet_json_token.specs.Open.{IsBeginning}
 use Rattle.facet_json_token.specs.Views.{mode_of}
 use Rattle.facet_json_token.proofs.Offsets.{drop-at_byte, slice_get-from_read}
-use Rattle.facet_json_scanner.proofs.NoPiece.{no_piece, blank_piece, slash_shut-plain}
+use Rattle.facet_json_scanner.proofs.NoPiece.{no_piece, slash_shut-plain}
 use Rattle.facet_json_scanner.proofs.scanner.gap.piece_from.Goals as goal
+use Rattle.facet_json_token.proofs.Gaps.{piece_len-blank}
 
 pub returns-in_default-clause-here : goal.returns-in_default-clause-here
 returns-in_default-clause-here c =
@@ -29,7 +30,7 @@ returns-then-is_space-clause-here c =
     let mode = mode_of c.args.mode in
     let one : piece_len mode growing (drop at buffer) ≡ 1 =
     ap (piece_len mode growing) (drop-at_byte buffer at b here)
-    ∙ blank_piece mode growing b _ (sym c.is_space.ensures ∙ c.if-is_space.true) in
+    ∙ piece_len-blank mode growing b _ (sym c.is_space.ensures ∙ c.if-is_space.true) in
     omega arith
 
 pub returns-then-first-ne47-clause-here : goal.returns-then-first-ne47-clause-here
