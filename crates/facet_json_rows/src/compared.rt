@@ -92,11 +92,25 @@ fn parser_of<'de>(
     is_trusted: bool,
     input: &'de [u8],
 ) -> JsonParser<'de> {
-    match (mode, is_trusted, str::from_utf8(input)) {
-        (Mode::Plain, true, Ok(text)) => JsonParser::new_trusted(alloc, text.as_bytes()),
-        (Mode::Jsonc, true, Ok(text)) => JsonParser::new_jsonc_trusted(alloc, text.as_bytes()),
-        (Mode::Plain, _, _) => JsonParser::new(alloc, input),
-        (Mode::Jsonc, _, _) => JsonParser::new_jsonc(alloc, input),
+    match str::from_utf8(input) {
+        Ok(text) if is_trusted => trusting(alloc, mode, text),
+        _ => checking(alloc, mode, input),
+    }
+}
+
+/// A parser that need not check its strings.
+fn trusting<'de>(alloc: Global, mode: Mode, text: &'de str) -> JsonParser<'de> {
+    match mode {
+        Mode::Plain => JsonParser::new_trusted(alloc, text.as_bytes()),
+        Mode::Jsonc => JsonParser::new_jsonc_trusted(alloc, text.as_bytes()),
+    }
+}
+
+/// A parser that checks its strings.
+fn checking<'de>(alloc: Global, mode: Mode, input: &'de [u8]) -> JsonParser<'de> {
+    match mode {
+        Mode::Plain => JsonParser::new(alloc, input),
+        Mode::Jsonc => JsonParser::new_jsonc(alloc, input),
     }
 }
 

@@ -2,6 +2,7 @@
 #![tactic(auto)]
 
 mod compared;
+mod faults;
 mod printf;
 mod row;
 mod shown;

@@ -1,6 +1,7 @@
 //! Rows, and the commands in them.
 
 use crate::compared::{Way, compare};
+use crate::faults::{Case, FaultyReader, write_untold};
 use crate::printf::printed;
 use facet_json::scanner::Mode;
 use facet_json_command::outcome::Outcome;
@@ -9,7 +10,7 @@ use facet_json_command::run::run;
 use facet_json_command::script::parse_script;
 use std::alloc::{AllocError, Global};
 use std::io;
-use std::io::Write;
+use std::io::{ErrorKind, Write};
 
 /// Writes what the row's command prints of the text between the quotes: `printf 'TEXT' | COMMAND`.
 pub fn answer<W: Write>(alloc: Global, row: &str, writer: &mut W) -> io::Result<()> {
@@ -37,13 +38,15 @@ fn answer_command<W: Write>(
     let (name, rest) = command.split_once(' ').unwrap_or((command, ""));
     match name {
         "facet_json_tool" => answer_program(alloc, rest, input, writer),
+        "broken_pipe" => answer_failed(alloc, ErrorKind::BrokenPipe, rest, input, writer),
+        "out_of_memory" => answer_failed(alloc, ErrorKind::OutOfMemory, rest, input, writer),
         "parser" => answer_parser(alloc, rest, input, writer),
         "tree" => compare(alloc, modes(rest), &[Way::Tree], input, writer),
         _ => writeln!(writer, "NO COMMAND"),
     }
 }
 
-/// Writes what the program writes to its standard output, then its line for the standard error, and its status where that isn't 0.
+/// Writes what the program writes, and which failures of a reader or writer it does not tell of.
 fn answer_program<W: Write>(
     alloc: Global,
     words: &str,
@@ -54,11 +57,38 @@ fn answer_program<W: Write>(
     let mut reader = input;
     let mut written = Vec::new(alloc);
     let outcome = run(alloc, args.as_slice(), &mut reader, &mut written);
-    write_lines(written.as_slice(), writer)?;
+    write_end(outcome, written.as_slice(), writer)?;
+    let case = Case {
+        args: args.as_slice(),
+        input,
+        outcome,
+        written: written.as_slice(),
+    };
+    write_untold(alloc, &case, writer)
+}
+
+/// Writes what the program writes where a read fails once the first bytes are read.
+fn answer_failed<W: Write>(
+    alloc: Global,
+    kind: ErrorKind,
+    command: &str,
+    input: &[u8],
+    writer: &mut W,
+) -> io::Result<()> {
+    let Some(words) = command.strip_prefix("facet_json_tool ") else {
+        return writeln!(writer, "NO COMMAND");
+    };
+    let args = arguments(alloc, words)?;
+    let mut reader = FaultyReader::new(input, 1, kind);
+    let mut written = Vec::new(alloc);
+    let outcome = run(alloc, args.as_slice(), &mut reader, &mut written);
+    write_end(outcome, written.as_slice(), writer)
+}
+
+/// Writes what the program wrote to its standard output, then its line for the standard error, and its status where that isn't 0.
+fn write_end<W: Write>(outcome: Outcome, written: &[u8], writer: &mut W) -> io::Result<()> {
+    write_lines(written, writer)?;
     write_line(outcome, writer)?;
-    if outcome == Outcome::Usage && reader.len() != input.len() {
-        writeln!(writer, "DIFFERS: the input was read")?;
-    }
     match status(outcome) {
         0 => Ok(()),
         status => writeln!(writer, "status {status}"),
