@@ -4,21 +4,12 @@
 
 ghost use Rattle.std.specs.Prelude.{◌≡◌, ◌⊎◌, None, IfErr};
 ghost use Rattle.std.specs.IoError.{error_kind};
-ghost use Rattle.facet_json_tool.specs.declared.outcome.Outcome.TheVariants as outcome;
-ghost use Rattle.facet_json_tool.specs.Run.{IsFailure};
+ghost use Rattle.facet_json_command.specs.declared.outcome.Outcome.TheVariants as outcome;
+ghost use Rattle.facet_json_command.specs.Run.{IsFailure};
 
-mod arguments;
-mod lines;
-mod outcome;
-mod report;
-mod run;
-mod script;
-#[cfg(test)]
-mod tests;
-
-use outcome::{OUT_OF_MEMORY, Outcome, failure};
-use report::{status, write_line};
-use run::run;
+use facet_json_command::outcome::{OUT_OF_MEMORY, Outcome, failure};
+use facet_json_command::report::{status, write_line};
+use facet_json_command::run::run;
 use std::io::{BufWriter, ErrorKind};
 use std::process::ExitCode;
 use std::{env, io};

@@ -1,0 +1,50 @@
+-- How `events` ends behind what it printed, once that is on its way.
+use Rattle.std.proofs.Common.{◌≡◌, ◌≢◌, ◌⊎◌, ℕ, List, [], Option, Some, None, IfSome, sym, subst, ◌∙◌, inl, inr}
+use Rattle.std.specs.Io.KnownBytes.{Keeps}
+use Rattle.facet_json_token.specs.Gap.{Mode}
+use Rattle.facet_json_command.specs.declared.outcome.Outcome.{Outcome}
+use Rattle.facet_json_command.specs.declared.outcome.Outcome.TheVariants.{Done, Refused, Io, Usage}
+use Rattle.facet_json_command.specs.Run.{IsFailure, Grows, Lists}
+use Rattle.facet_json_command.proofs.Printing.{appends_nothing}
+use Rattle.facet_json_command.proofs.Listing.{grows_keeps, lists_keeps, lists_grow}
+
+-- A run ended as its printing did, or a last write failed.
+abbrev pub Ends : Option (List ℕ) → Option (List ℕ) → Outcome → Outcome → Type 0
+Ends before after printed final = (final ≡ Io) ⊎ ((final ≡ printed) × Keeps before after)
+
+-- ---- where nothing could be read
+
+pub no_growth : (held : Option (List ℕ)) → Grows held held
+no_growth held = ([], appends_nothing held)
+
+pub unread_lists : (mode : Mode) (remaining held : Option (List ℕ)) (outcome : Outcome) → IsFailure outcome →
+    IfSome remaining (λ input. Lists mode input held held outcome)
+unread_lists mode None held outcome failed = tt
+unread_lists mode (Some input) held Done failed = absurd failed
+unread_lists mode (Some input) held (Refused code span) failed = inl (failed, no_growth held)
+unread_lists mode (Some input) held Io failed = tt
+unread_lists mode (Some input) held Usage failed = failed
+
+-- ---- `events`
+
+io_is_not_usage : Io ≡ Usage → ⊥
+io_is_not_usage same = subst IsFailure same tt
+
+pub events_end : (mode : Mode) (remaining : Option (List ℕ)) (items : List ℕ) (a b c : Option (List ℕ)) (printed final : Outcome) →
+    IfSome remaining (λ input. items ≡ input) → Lists mode items a b printed → Ends b c printed final →
+    IfSome remaining (λ input. Lists mode input a c final)
+events_end mode None items a b c printed final read lists ends = tt
+events_end mode (Some input) items a b c printed final read lists (inl io) = rw io tt
+events_end mode (Some input) items a b c printed final read lists (inr same) =
+    rw same.0 (lists_keeps mode input a b c printed (subst (λ i. Lists mode i a b printed) read lists) same.1)
+
+pub events_grow : (mode : Mode) (items : List ℕ) (a b c : Option (List ℕ)) (printed final : Outcome) →
+    Lists mode items a b printed → Ends b c printed final → final ≢ Io → Grows a c
+events_grow mode items a b c printed final lists (inl io) other = absurd (other io)
+events_grow mode items a b c printed final lists (inr same) other =
+    grows_keeps a b c (lists_grow mode items a b printed lists (λ io. other (same.0 ∙ io))) same.1
+
+pub events_not_usage : (mode : Mode) (items : List ℕ) (a b c : Option (List ℕ)) (printed final : Outcome) →
+    Lists mode items a b printed → Ends b c printed final → final ≢ Usage
+events_not_usage mode items a b c printed final lists (inl io) usage = io_is_not_usage (sym io ∙ usage)
+events_not_usage mode items a b c printed final lists (inr same) usage = rw (sym same.0 ∙ usage) at lists

@@ -1,0 +1,117 @@
+-- Printing events one by one, as a parser gives them.
+use Rattle.std.proofs.Common.{◌≡◌, ◌≢◌, ℕ, List, [], ◌∷◌, ◌++◌, map, Option, Some, None, Ok, Err, refl, ap, inl, inr}
+use Rattle.std.specs.List.{flat_map}
+use Rattle.std.specs.Io.KnownBytes.{Appends, Keeps}
+use Rattle.std.proofs.lemmas.List.{append-nil}
+use Rattle.std.proofs.lemmas.Grind.{flat_map-append}
+use Rattle.facet_format.specs.Event.{Event}
+use Rattle.facet_format.specs.Cursor.{Call, next, Answer, event}
+use Rattle.facet_json_token.specs.Gap.{Mode}
+use Rattle.facet_json_document.specs.Refusal.{Complains}
+use Rattle.facet_json_protocol.specs.Now.{Now, fresh}
+use Rattle.facet_json_protocol.specs.Move.{Moves, MovesAll, no_calls, one_call}
+use Rattle.facet_json_command.specs.Lines.{event_line}
+use Rattle.facet_json_command.specs.declared.outcome.Outcome.{Outcome}
+use Rattle.facet_json_command.specs.declared.outcome.Outcome.TheVariants.{Done, Refused, Io, Usage}
+use Rattle.facet_json_command.specs.Run.{Grows, Stops, AreListed, Lists}
+use Rattle.facet_json_command.proofs.Printing.{appends_nothing, appends_both, appends_keeps, grows_both}
+
+one_more_move : (old mid new : Now) (calls : List Call) (answers : List Answer) (call : Call) (answer : Answer) →
+    MovesAll Complains old calls answers mid → Moves Complains mid call answer new →
+    MovesAll Complains old (calls ++ (call ∷ [])) (answers ++ (answer ∷ [])) new
+one_more_move _ _ new _ _ call answer (no_calls now) move = one_call now new new call answer [] [] move (no_calls new)
+one_more_move _ _ new _ _ call answer (one_call now between mid first firsts calls answers head rest) move =
+    one_call now between new first firsts (calls ++ (call ∷ [])) (answers ++ (answer ∷ [])) head
+    (one_more_move between mid new calls answers call answer rest move)
+
+-- the answers that give these events
+abbrev pub given_out : List Event → List Answer
+given_out given = map (λ e. event (Ok (Some e))) given
+
+-- The parser gave these events so far, and their lines are printed.
+pub record AreSoFar (mode : Mode) (input : List ℕ) (before after : Option (List ℕ)) (parser : Now) : Type 0 where
+  pub given : List Event
+  pub moves : MovesAll Complains (fresh input mode) (map (λ e. next) given) (given_out given) parser
+  pub printed : Appends before after (flat_map event_line given)
+
+pub none_so_far : (mode : Mode) (input : List ℕ) (held : Option (List ℕ)) (parser : Now) → parser ≡ fresh input mode →
+    AreSoFar mode input held held parser
+none_so_far mode input held parser is = record {
+  given = [];
+  moves = rw is (no_calls (fresh input mode));
+  printed = appends_nothing held;
+}
+
+nexts_more : (given : List Event) (e : Event) → map (λ d. next) (given ++ (e ∷ [])) ≡ map (λ d. next) given ++ (next ∷ [])
+nexts_more [] e = refl
+nexts_more (d ∷ given) e = ap (λ l. next ∷ l) (nexts_more given e)
+
+given_more : (given : List Event) (e : Event) → given_out (given ++ (e ∷ [])) ≡ given_out given ++ (event (Ok (Some e)) ∷ [])
+given_more [] e = refl
+given_more (d ∷ given) e = ap (λ l. event (Ok (Some d)) ∷ l) (given_more given e)
+
+-- One more event was given, and its line is printed.
+pub one_more_event : (mode : Mode) (input : List ℕ) (a b c : Option (List ℕ)) (old new : Now) (e : Event) →
+    AreSoFar mode input a b old → Moves Complains old next (event (Ok (Some e))) new → Appends b c (event_line e) →
+    AreSoFar mode input a c new
+one_more_event mode input a b c old new e so_far move line = record {
+  given = so_far.given ++ (e ∷ []);
+  moves = rw (nexts_more so_far.given e, given_more so_far.given e)
+      (one_more_move (fresh input mode) old new _ _ next (event (Ok (Some e))) so_far.moves move);
+  printed = rw (flat_map-append event_line so_far.given (e ∷ []), append-nil (event_line e))
+      (appends_both a b c (flat_map event_line so_far.given) (event_line e) so_far.printed line);
+}
+
+-- The parser answered something else.
+pub last_answer : (mode : Mode) (input : List ℕ) (a b : Option (List ℕ)) (old new : Now) (answer : Answer) →
+    AreSoFar mode input a b old → Moves Complains old next answer new → AreListed mode input a b answer
+last_answer mode input a b old new answer so_far move = record {
+  given = so_far.given;
+  parser = new;
+  moves = one_more_move (fresh input mode) old new _ _ next answer so_far.moves move;
+  printed = so_far.printed;
+}
+
+-- A line could not be printed.
+pub line_stopped : (mode : Mode) (input : List ℕ) (a b c : Option (List ℕ)) (parser : Now) (outcome : Outcome) →
+    AreSoFar mode input a b parser → Stops b c outcome → Lists mode input a c outcome
+line_stopped mode input a b c parser Done so_far stops = absurd stops
+line_stopped mode input a b c parser (Refused code span) so_far stops =
+    inl (stops.0, grows_both a b c (flat_map event_line so_far.given) so_far.printed stops.1)
+line_stopped mode input a b c parser Io so_far stops = tt
+line_stopped mode input a b c parser Usage so_far stops = absurd stops
+
+-- ---- behind the last line
+
+pub grows_keeps : (a b c : Option (List ℕ)) → Grows a b → Keeps b c → Grows a c
+grows_keeps a b c grows keeps = (grows.0, appends_keeps a b c grows.0 grows.1 keeps)
+
+listed_keeps : (mode : Mode) (input : List ℕ) (a b c : Option (List ℕ)) (last : Answer) → AreListed mode input a b last →
+    Keeps b c → AreListed mode input a c last
+listed_keeps mode input a b c last listed keeps = record {
+  given = listed.given;
+  parser = listed.parser;
+  moves = listed.moves;
+  printed = appends_keeps a b c (flat_map event_line listed.given) listed.printed keeps;
+}
+
+pub lists_keeps : (mode : Mode) (input : List ℕ) (a b c : Option (List ℕ)) (outcome : Outcome) → Lists mode input a b outcome →
+    Keeps b c → Lists mode input a c outcome
+lists_keeps mode input a b c Done lists keeps = listed_keeps mode input a b c (event (Ok None)) lists keeps
+lists_keeps mode input a b c (Refused code span) (inl no_memory) keeps = inl (no_memory.0, grows_keeps a b c no_memory.1 keeps)
+lists_keeps mode input a b c (Refused code span) (inr refused) keeps = inr (record {
+  refusal = refused.refusal;
+  listed = listed_keeps mode input a b c (event (Err refused.refusal)) refused.listed keeps;
+  has_code = refused.has_code;
+  has_span = refused.has_span;
+})
+lists_keeps mode input a b c Io lists keeps = tt
+lists_keeps mode input a b c Usage lists keeps = lists
+
+pub lists_grow : (mode : Mode) (input : List ℕ) (a b : Option (List ℕ)) (outcome : Outcome) → Lists mode input a b outcome →
+    outcome ≢ Io → Grows a b
+lists_grow mode input a b Done lists other = (flat_map event_line lists.given, lists.printed)
+lists_grow mode input a b (Refused code span) (inl no_memory) other = no_memory.1
+lists_grow mode input a b (Refused code span) (inr refused) other = (flat_map event_line refused.listed.given, refused.listed.printed)
+lists_grow mode input a b Io lists other = absurd (other refl)
+lists_grow mode input a b Usage lists other = absurd lists

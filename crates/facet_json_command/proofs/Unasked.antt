@@ -1,0 +1,22 @@
+-- What is answered where memory is wanted before anything is read.
+use Rattle.std.proofs.Common.{◌≡◌, ℕ, List, [], Option, Some, None, IfSome, ◌⊎◌, refl, inl, inr}
+use Rattle.facet_json_command.specs.Arguments.{Command, fmt, events, drive}
+use Rattle.facet_json_command.specs.declared.outcome.Outcome.{Outcome}
+use Rattle.facet_json_command.specs.declared.outcome.Outcome.TheVariants.{Done, Refused}
+use Rattle.facet_json_token.specs.Gap.{Mode}
+use Rattle.facet_json_command.specs.Run.{Answers, HasDocument, IsFailure}
+use Rattle.facet_json_command.proofs.Printing.{appends_nothing}
+
+pub no_memory_answers : (command : Command) (remaining held : Option (List ℕ)) (outcome : Outcome) → outcome ≡ Refused 9 None →
+    IfSome remaining (λ input. Answers command input held held outcome)
+no_memory_answers command None held outcome is = tt
+no_memory_answers (fmt mode) (Some input) None outcome is = tt
+no_memory_answers (fmt mode) (Some input) (Some before) outcome is = rw is (inl refl, refl)
+no_memory_answers (events mode) (Some input) held outcome is = rw is (inl (refl, ([], appends_nothing held)))
+no_memory_answers (drive mode calls) (Some input) None outcome is = tt
+no_memory_answers (drive mode calls) (Some input) (Some before) outcome is = rw is refl
+
+pub no_memory_only : (mode : Mode) (remaining : Option (List ℕ)) (outcome : Outcome) → outcome ≡ Refused 9 None →
+    IfSome remaining (λ input. HasDocument mode input → (outcome ≡ Done) ⊎ IsFailure outcome)
+no_memory_only mode None outcome is = tt
+no_memory_only mode (Some input) outcome is = λ has. inr (rw is refl)

@@ -1,0 +1,134 @@
+-- What a run of the program owes.
+use Rattle.std.specs.Prelude.{◌≡◌, ℕ, ◌⊎◌, List, [], ◌∷◌, ◌++◌, map, Option, Some, None, Result, Ok, Err, IfSome}
+use Rattle.std.specs.Option.{option_map}
+use Rattle.std.specs.List.{flat_map}
+use Rattle.std.specs.Io.KnownBytes.{Appends}
+use Rattle.facet_format.specs.declared.span.Span.{Span}
+use Rattle.facet_json_token.specs.Gap.{Mode}
+use Rattle.facet_json_document.specs.Node.{Node}
+use Rattle.facet_json_document.specs.Tree.{Tree}
+use Rattle.facet_json_document.specs.Document.{IsDocument}
+use Rattle.facet_format.specs.Complaint.{Refusal, code_of}
+use Rattle.facet_json_document.specs.Refusal.{Refuses, Complains}
+use Rattle.facet_json_protocol.specs.Now.{Now, fresh}
+use Rattle.facet_json_protocol.specs.Move.{MovesAll}
+use Rattle.facet_format.specs.Event.{Event}
+use Rattle.facet_format.specs.Cursor.{Call, next, Answer, event}
+use Rattle.facet_json_document.specs.Text.{default_options, text}
+use Rattle.facet_format.specs.Views.{span_of}
+use Rattle.facet_json_command.specs.Arguments.{Command, fmt, events, drive}
+use Rattle.facet_json_command.specs.Lines.{event_line, answer_lines}
+use Rattle.facet_json_command.specs.declared.outcome.Outcome.{Outcome}
+use Rattle.facet_json_command.specs.declared.outcome.Outcome.TheVariants.{Done, Refused, Io, Usage}
+
+abbrev pub HasDocument : Mode → List ℕ → Type 0
+HasDocument mode input = (root : Node) × (value : Tree) × IsDocument input mode root value
+
+-- This is the compact text of the tree of the document that the input has.
+pub record IsReformatted (mode : Mode) (input output : List ℕ) : Type 0 where
+  pub root : Node
+  pub value : Tree
+  pub document : IsDocument input mode root value
+  pub written : output ≡ text default_options 0 value
+
+-- The input is refused so, and with this code and these bytes.
+pub record IsRefusedSo (mode : Mode) (input : List ℕ) (code : ℕ) (span : Option Span) : Type 0 where
+  pub refusal : Refusal
+  pub refuses : Refuses input mode refusal
+  pub has_code : code ≡ code_of refusal.complaint
+  pub has_span : option_map span_of span ≡ refusal.span
+
+-- An answer that says nothing of the input: want of memory, which is code 9, or a read or a write that failed.
+abbrev pub IsFailure : Outcome → Type 0
+IsFailure Done = ⊥
+IsFailure (Refused code span) = code ≡ 9
+IsFailure Io = Unit {0}
+IsFailure Usage = ⊥
+
+-- An answer in place of the text.
+abbrev pub IsRefusal : Mode → List ℕ → Outcome → Type 0
+IsRefusal mode input Done = ⊥
+IsRefusal mode input (Refused code span) = (code ≡ 9) ⊎ IsRefusedSo mode input code span
+IsRefusal mode input Io = Unit {0}
+IsRefusal mode input Usage = ⊥
+
+-- What `fmt` answers to an input, where the writer held the bytes before and then holds those after.
+abbrev pub Formats : Mode → List ℕ → List ℕ → Option (List ℕ) → Outcome → Type 0
+Formats mode input before after Done = (output : List ℕ) × IsReformatted mode input output × (after ≡ Some (before ++ output))
+Formats mode input before after (Refused code span) = IsRefusal mode input (Refused code span) × (after ≡ Some before)
+Formats mode input before after Io = Unit {0}
+Formats mode input before after Usage = ⊥
+
+-- The bytes that a writer is known to hold are still at the front of what it holds.
+abbrev pub Grows : Option (List ℕ) → Option (List ℕ) → Type 0
+Grows before after = (written : List ℕ) × Appends before after written
+
+-- How printing stops in front of its end: memory was wanted, and a front is written; or a write failed.
+abbrev pub Stops : Option (List ℕ) → Option (List ℕ) → Outcome → Type 0
+Stops before after Done = ⊥
+Stops before after (Refused code span) = (code ≡ 9) × Grows before after
+Stops before after Io = Unit {0}
+Stops before after Usage = ⊥
+
+-- How the printing of a text ends: it is written, or printing stopped.
+abbrev pub Prints : {T : Type 0} → Option (List ℕ) → Option (List ℕ) → List ℕ → Result T Outcome → Type 0
+Prints before after text (Ok done) = Appends before after text
+Prints before after text (Err outcome) = Stops before after outcome
+
+-- `next` for each of these events, and once more
+abbrev pub nexts : List Event → List Call
+nexts given = map (λ e. next) given ++ (next ∷ [])
+
+-- A parser that has read nothing gave these events, whose lines are printed, and then answered so.
+pub record AreListed (mode : Mode) (input : List ℕ) (before after : Option (List ℕ)) (last : Answer) : Type 0 where
+  pub given : List Event
+  pub parser : Now
+  pub moves : MovesAll Complains (fresh input mode) (nexts given) (map (λ e. event (Ok (Some e))) given ++ (last ∷ [])) parser
+  pub printed : Appends before after (flat_map event_line given)
+
+-- A parser that has read nothing was refused so behind the events whose lines are printed.
+pub record AreListedUpTo (mode : Mode) (input : List ℕ) (before after : Option (List ℕ)) (code : ℕ) (span : Option Span) : Type 0 where
+  pub refusal : Refusal
+  pub listed : AreListed mode input before after (event (Err refusal))
+  pub has_code : code ≡ code_of refusal.complaint
+  pub has_span : option_map span_of span ≡ refusal.span
+
+-- What `events` answers to an input, where the writer held the known bytes before and then holds those after.
+abbrev pub Lists : Mode → List ℕ → Option (List ℕ) → Option (List ℕ) → Outcome → Type 0
+Lists mode input before after Done = AreListed mode input before after (event (Ok None))
+Lists mode input before after (Refused code span) =
+    ((code ≡ 9) × Grows before after) ⊎ AreListedUpTo mode input before after code span
+Lists mode input before after Io = Unit {0}
+Lists mode input before after Usage = ⊥
+
+-- how a run ends that printed so
+abbrev pub outcome_of : {T : Type 0} → Result T Outcome → Outcome
+outcome_of (Ok done) = Done
+outcome_of (Err outcome) = outcome
+
+-- What `drive` answers: the lines of the answers of a parser that has read nothing, where the writer held the bytes before and
+-- then holds those after.
+abbrev pub Drives : Mode → List Call → List ℕ → List ℕ → Option (List ℕ) → Outcome → Type 0
+Drives mode calls input before after Done = (answers : List Answer) × (parser : Now) ×
+    MovesAll Complains (fresh input mode) calls answers parser × (after ≡ Some (before ++ flat_map answer_lines answers))
+Drives mode calls input before after (Refused code span) = code ≡ 9
+Drives mode calls input before after Io = Unit {0}
+Drives mode calls input before after Usage = ⊥
+
+-- What a command answers to an input, where the writer held the known bytes before and then holds those after.
+abbrev pub Answers : Command → List ℕ → Option (List ℕ) → Option (List ℕ) → Outcome → Type 0
+Answers (fmt mode) input before after outcome = IfSome before (λ held. Formats mode input held after outcome)
+Answers (events mode) input before after outcome = Lists mode input before after outcome
+Answers (drive mode calls) input before after outcome = IfSome before (λ held. Drives mode calls input held after outcome)
+
+-- where the command is `fmt`
+abbrev pub ForFmt : Command → (Mode → Type 0) → Type 0
+ForFmt (fmt mode) P = P mode
+ForFmt (events mode) P = Unit {0}
+ForFmt (drive mode calls) P = Unit {0}
+
+-- where the command is `drive`
+abbrev pub ForDrive : Command → Type 0 → Type 0
+ForDrive (fmt mode) P = Unit {0}
+ForDrive (events mode) P = Unit {0}
+ForDrive (drive mode calls) P = P

@@ -1,0 +1,233 @@
+//! The lines that `events` and `drive` print.
+
+ghost use Rattle.std.specs.Prelude.{◌≡◌, ◌++◌, None, Ok, map, IfOk, IfErr, IfSome, OnOk, MatchResult};
+ghost use Rattle.std.specs.Io.KnownBytes.{Appends};
+ghost use Rattle.std.specs.List.{flat_map};
+ghost use Rattle.std.specs.Option.{option_map};
+ghost use Rattle.facet_format.specs.Event.{bytes_of};
+ghost use Rattle.facet_format.specs.HeldText.{text_of};
+ghost use Rattle.facet_format.specs.Views.{span_of, event_of, scalar_value_of, parse_refusal};
+ghost use Rattle.facet_json_core.specs.ScriptViews.{answer_of};
+ghost use Rattle.facet_json_document.specs.Quoted.{quoted as quoted_text};
+ghost use Rattle.facet_json_command.specs.declared.outcome.Outcome.TheVariants as outcome;
+ghost use Rattle.facet_json_command.specs.Lines.{head_text, place_line, value_line, scalar_line, event_line, refusal_line, count_line, next_line, answer_lines};
+ghost use Rattle.facet_json_command.specs.Views.{count_of};
+ghost use Rattle.facet_json_command.specs.Run.{Prints};
+
+use crate::outcome::{OUT_OF_MEMORY, Outcome};
+use facet_format::{ParseError, ParseEvent, ParseEventKind, SavePoint, ScalarValue, Span};
+use facet_json::{Tree, to_vec};
+use facet_json_core::Answer;
+use std::alloc::Global;
+use std::borrow::CowStr;
+use std::collections::VecDeque;
+use std::fmt::Display;
+use std::io;
+use std::io::Write;
+
+/// Writes the line of an event.
+pub fn write_event<W: Write>(
+    alloc: Global,
+    event: ParseEvent<'_>,
+    writer: &mut W,
+) -> Result<(), Outcome>
+    ensures { Prints (W.contents writer.old) (W.contents writer.new) (event_line (event_of event.entry)) result }
+{
+    let span = event.span;
+    match event.kind {
+        ParseEventKind::StructStart(_) => write_place(writer, "StructStart", span),
+        ParseEventKind::StructEnd => write_place(writer, "StructEnd", span),
+        ParseEventKind::SequenceStart(_) => write_place(writer, "SequenceStart", span),
+        ParseEventKind::SequenceEnd => write_place(writer, "SequenceEnd", span),
+        ParseEventKind::FieldKey(key) => write_text(alloc, writer, "FieldKey", span, key.name),
+        ParseEventKind::Scalar(value) => write_scalar(alloc, value, span, writer),
+    }
+}
+
+/// Writes the line of a scalar.
+fn write_scalar<W: Write>(
+    alloc: Global,
+    value: ScalarValue<'_>,
+    span: Span,
+    writer: &mut W,
+) -> Result<(), Outcome>
+    ensures { Prints (W.contents writer.old) (W.contents writer.new) (scalar_line (scalar_value_of value.entry) (span_of span)) result }
+{
+    match value {
+        ScalarValue::Null => write_place(writer, "Null", span),
+        ScalarValue::Unit => write_place(writer, "Unit", span),
+        ScalarValue::Bool(b) => write_value(writer, "Bool", span, b),
+        ScalarValue::Char(c) => write_value(writer, "Char", span, c),
+        ScalarValue::I64(n) => write_value(writer, "I64", span, n),
+        ScalarValue::U64(n) => write_value(writer, "U64", span, n),
+        ScalarValue::I128(n) => write_value(writer, "I128", span, n),
+        ScalarValue::U128(n) => write_value(writer, "U128", span, n),
+        ScalarValue::Decimal(decimal) => write_value(writer, "Decimal", span, decimal.as_str()),
+        ScalarValue::Str(text) => write_text(alloc, writer, "Str", span, text),
+        ScalarValue::Bytes(_) => write_place(writer, "Bytes", span),
+    }
+}
+
+/// Writes the lines of an answer; of several events, one of each and then one of their number.
+pub fn write_answer<W: Write>(
+    alloc: Global,
+    answer: Answer<'_>,
+    writer: &mut W,
+) -> Result<(), Outcome>
+    ensures { Prints (W.contents writer.old) (W.contents writer.new) (answer_lines (answer_of answer.entry)) result }
+{
+    match answer {
+        Answer::Event(Ok(event)) => write_next(alloc, event, writer),
+        Answer::Event(Err(error)) => write_refusal(writer, error),
+        Answer::Events(events, count) => write_batch(alloc, events, count, writer),
+        Answer::Saved(Ok(SavePoint(point))) => told(writeln!(writer, "point {point}")),
+        Answer::Saved(Err(error)) => write_refusal(writer, error),
+        Answer::Restored => told(writeln!(writer, "ok")),
+        Answer::Span(Some(span)) => write_place(writer, "span", span),
+        Answer::Span(None) => told(writeln!(writer, "None")),
+    }
+}
+
+/// Writes the line of the next event, or of the end.
+fn write_next<W: Write>(
+    alloc: Global,
+    event: Option<ParseEvent<'_>>,
+    writer: &mut W,
+) -> Result<(), Outcome>
+    ensures { Prints (W.contents writer.old) (W.contents writer.new) (next_line (option_map event_of event.entry)) result }
+{
+    match event {
+        Some(event) => write_event(alloc, event, writer),
+        None => told(writeln!(writer, "None")),
+    }
+}
+
+/// Writes the lines of several events, and then of their number or of the refusal behind them.
+fn write_batch<W: Write>(
+    alloc: Global,
+    events: VecDeque<ParseEvent<'_>>,
+    count: Result<usize, ParseError<'_>>,
+    writer: &mut W,
+) -> Result<(), Outcome>
+    ensures { Prints (W.contents writer.old) (W.contents writer.new)
+        (flat_map event_line (map event_of events.entry.items) ++ count_line (count_of count.entry)) result }
+{
+    write_events(alloc, events, writer)?;
+    write_count(writer, count)
+}
+
+/// Writes the line of how many events were given out, or of the refusal behind them.
+fn write_count<W: Write>(writer: &mut W, count: Result<usize, ParseError<'_>>) -> Result<(), Outcome>
+    ensures { Prints (W.contents writer.old) (W.contents writer.new) (count_line (count_of count.entry)) result }
+{
+    match count {
+        Ok(count) => told(writeln!(writer, "events {count}")),
+        Err(error) => write_refusal(writer, error),
+    }
+}
+
+/// Writes the lines of several events.
+fn write_events<W: Write>(
+    alloc: Global,
+    events: VecDeque<ParseEvent<'_>>,
+    writer: &mut W,
+) -> Result<(), Outcome>
+    ensures { Prints (W.contents writer.old) (W.contents writer.new) (flat_map event_line (map event_of events.entry.items)) result }
+{
+    let mut events = events;
+    while let Some(event) = events.pop_front() {
+        write_event(alloc, event, writer)?;
+    }
+    Ok(())
+}
+
+/// Writes the line of a refused call.
+fn write_refusal<W: Write>(writer: &mut W, error: ParseError<'_>) -> Result<(), Outcome>
+    ensures { Prints (W.contents writer.old) (W.contents writer.new) (refusal_line (parse_refusal error.entry)) result }
+{
+    let code = error.kind.code();
+    let offset = error.span.offset;
+    let len = error.span.len;
+    told(writeln!(writer, "error {code} {offset}+{len}"))
+}
+
+/// Writes a line of a name and where it stands.
+fn write_place<W: Write>(writer: &mut W, name: &str, span: Span) -> Result<(), Outcome>
+    ensures { Prints (W.contents writer.old) (W.contents writer.new) (place_line name.now (span_of span)) result }
+{
+    let offset = span.offset;
+    let len = span.len;
+    told(writeln!(writer, "{name} {offset}+{len}"))
+}
+
+/// Writes a line of a name, where it stands, and a value.
+fn write_value<W: Write, D: Display + Drop>(
+    writer: &mut W,
+    name: &str,
+    span: Span,
+    value: D,
+) -> Result<(), Outcome>
+    ensures { IfSome (D.output value) (λ text. Prints (W.contents writer.old) (W.contents writer.new) (value_line name.now (span_of span) text) result) }
+{
+    let offset = span.offset;
+    let len = span.len;
+    told(writeln!(writer, "{name} {offset}+{len} {value}"))
+}
+
+/// Writes a line of a name, where it stands, and a text between quotes.
+fn write_text<W: Write>(
+    alloc: Global,
+    writer: &mut W,
+    name: &str,
+    span: Span,
+    text: CowStr<'_>,
+) -> Result<(), Outcome>
+    ensures { Prints (W.contents writer.old) (W.contents writer.new) (value_line name.now (span_of span) (quoted_text (bytes_of (text_of text.entry)))) result }
+{
+    match quoted(alloc, text) {
+        Ok(quoted) => told(write_pieces(writer, name, span, quoted.as_slice())),
+        Err(outcome) => Err(outcome),
+    }
+}
+
+/// Writes a line of a name, where it stands, and some bytes.
+fn write_pieces<W: Write>(writer: &mut W, name: &str, span: Span, bytes: &[u8]) -> io::Result<()>
+    ensures { OnOk result (Appends (W.contents writer.old) (W.contents writer.new) (value_line name.now (span_of span) bytes.now)) }
+{
+    write_head(writer, name, span)?;
+    writer.write_all(bytes)?;
+    writer.write_all(b"\n")
+}
+
+/// Writes the front of a line, a name and where it stands.
+fn write_head<W: Write>(writer: &mut W, name: &str, span: Span) -> io::Result<()>
+    ensures { OnOk result (Appends (W.contents writer.old) (W.contents writer.new) (head_text name.now (span_of span))) }
+{
+    let offset = span.offset;
+    let len = span.len;
+    write!(writer, "{name} {offset}+{len} ")
+}
+
+/// The text as it is written in a document.
+fn quoted(alloc: Global, text: CowStr<'_>) -> Result<Vec<u8>, Outcome>
+    ensures text { IfOk result (λ v. v.items ≡ quoted_text (bytes_of (text_of text.entry))) }
+    ensures refused { IfErr result (λ o. o ≡ outcome.Refused 9 None) }
+{
+    let Ok(text) = text.into_owned(alloc) else {
+        return Err(OUT_OF_MEMORY);
+    };
+    match to_vec(alloc, &Tree::Text(text)) {
+        Ok(quoted) => Ok(quoted),
+        Err(_) => Err(OUT_OF_MEMORY),
+    }
+}
+
+/// How a write went.
+fn told(write: io::Result<()>) -> Result<(), Outcome>
+    ensures { MatchResult result (λ u. write ≡ Ok u) (λ o. o ≡ outcome.Io) }
+{
+    match write {
+        Ok(()) => Ok(()),
+        Err(_) => Err(Outcome::Io),
+    }
+}

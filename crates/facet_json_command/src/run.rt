@@ -1,0 +1,279 @@
+//! What the program does, over any reader and writer.
+
+ghost use Rattle.std.specs.Prelude.{◌≡◌, ◌≢◌, ◌⊎◌, ℕ, List, Option, None, map, IfOk, IfErr, IfSome, MatchResult};
+ghost use Rattle.std.specs.List.{flat_map};
+ghost use Rattle.std.specs.Io.KnownBytes.{Appends, Keeps};
+ghost use Rattle.facet_format.specs.declared.span.Span.{Span as TheSpan};
+ghost use Rattle.facet_format.specs.Complaint.{out_of_memory};
+ghost use Rattle.facet_format.specs.Cursor.{Call as SpecCall};
+ghost use Rattle.facet_format.specs.Views.{refusal_of};
+ghost use Rattle.facet_json_token.specs.Gap.{Mode as SpecMode};
+ghost use Rattle.facet_json_token.specs.Views.{mode_of};
+ghost use Rattle.facet_json_document.specs.Node.{Node};
+ghost use Rattle.facet_json_document.specs.Tree.{Tree as SpecTree};
+ghost use Rattle.facet_json_document.specs.Document.{IsDocument};
+ghost use Rattle.facet_json_document.specs.Refusal.{Refuses};
+ghost use Rattle.facet_json_protocol.specs.Now.{fresh};
+ghost use Rattle.facet_json_core.specs.ScriptViews.{call_of, answer_of};
+ghost use Rattle.facet_json.specs.Views.{tree_view};
+ghost use Rattle.facet_json_command.specs.declared.outcome.Outcome.TheVariants as outcome;
+ghost use Rattle.facet_json_command.specs.Arguments.{Command as SpecCommand, AskFor, AskForNothing, fmt, drive as drives};
+ghost use Rattle.facet_json_command.specs.Views.{words_of, command_view};
+ghost use Rattle.facet_json_command.specs.Lines.{answer_lines};
+ghost use Rattle.facet_json_command.specs.Run.{HasDocument, IsReformatted, IsFailure, IsRefusal, Formats, Grows, Prints, Lists, Drives, Answers, ForFmt, ForDrive, outcome_of};
+
+use crate::arguments::{Command, command_of};
+use crate::lines::{write_answer, write_event};
+use crate::outcome::{OUT_OF_MEMORY, Outcome, failure};
+use facet_format::{DeserializeError, FormatParser};
+use facet_json::scanner::Mode;
+use facet_json::{Tree, from_slice, from_slice_jsonc, to_vec};
+use facet_json_core::{Answer, Call, JsonParser, drive};
+use std::alloc::Global;
+use std::io::{Read, Write};
+
+/// Does what the arguments behind the program's name ask for. It writes in small pieces.
+pub fn run<R: Read, W: Write>(
+    alloc: Global,
+    args: &[String],
+    reader: &mut R,
+    writer: &mut W,
+) -> Outcome
+    ensures usage { result ≡ outcome.Usage → AskForNothing (words_of args.now) }
+    ensures told { AskForNothing (words_of args.now) → (result ≡ outcome.Usage) ⊎ (result ≡ outcome.Refused 9 None) }
+    ensures untouched { AskForNothing (words_of args.now) → (reader.new ≡ reader.old) × (writer.new ≡ writer.old) }
+    ensures answer { (command : SpecCommand) → AskFor command (words_of args.now) → IfSome (R.remaining reader.old) (λ input.
+        Answers command input (W.contents writer.old) (W.contents writer.new) result) }
+    ensures refused { (mode : SpecMode) (code : ℕ) (span : Option TheSpan) → AskFor (fmt mode) (words_of args.now)
+        → result ≡ outcome.Refused code span → writer.new ≡ writer.old }
+    ensures only { (mode : SpecMode) → AskFor (fmt mode) (words_of args.now) → IfSome (R.remaining reader.old) (λ input.
+        HasDocument mode input → (result ≡ outcome.Done) ⊎ IsFailure result) }
+    ensures driven { (mode : SpecMode) (calls : List SpecCall) → AskFor (drives mode calls) (words_of args.now)
+        → (result ≡ outcome.Done) ⊎ IsFailure result }
+    ensures grows { result ≢ outcome.Io → Grows (W.contents writer.old) (W.contents writer.new) }
+{
+    match command_of(alloc, args) {
+        Ok(command) => obey(alloc, command, reader, writer),
+        Err(unasked) => unasked,
+    }
+}
+
+/// Does what it is asked to do.
+fn obey<R: Read, W: Write>(
+    alloc: Global,
+    command: Command,
+    reader: &mut R,
+    writer: &mut W,
+) -> Outcome
+    ensures ends { result ≢ outcome.Usage }
+    ensures answer { IfSome (R.remaining reader.old) (λ input.
+        Answers (command_view command) input (W.contents writer.old) (W.contents writer.new) result) }
+    ensures refused { ForFmt (command_view command) (λ mode. (code : ℕ) (span : Option TheSpan)
+        → result ≡ outcome.Refused code span → writer.new ≡ writer.old) }
+    ensures only { ForFmt (command_view command) (λ mode. IfSome (R.remaining reader.old) (λ input.
+        HasDocument mode input → (result ≡ outcome.Done) ⊎ IsFailure result)) }
+    ensures driven { ForDrive (command_view command) ((result ≡ outcome.Done) ⊎ IsFailure result) }
+    ensures grows { result ≢ outcome.Io → Grows (W.contents writer.old) (W.contents writer.new) }
+{
+    match command {
+        Command::Fmt { mode } => format(alloc, mode, reader, writer),
+        Command::Events { mode } => print_events(alloc, mode, reader, writer),
+        Command::Drive { mode, calls } => {
+            print_answers(alloc, mode, calls.as_slice(), reader, writer)
+        }
+    }
+}
+
+/// Reads all there is, and writes the document in it anew and nothing else.
+fn format<R: Read, W: Write>(alloc: Global, mode: Mode, reader: &mut R, writer: &mut W) -> Outcome
+    ensures ends { result ≢ outcome.Usage }
+    ensures refused { (code : ℕ) (span : Option TheSpan) → result ≡ outcome.Refused code span
+        → writer.new ≡ writer.old }
+    ensures answer { IfSome (R.remaining reader.old) (λ input. IfSome (W.contents writer.old)
+        (λ before. Formats (mode_of mode) input before (W.contents writer.new) result)) }
+    ensures only { IfSome (R.remaining reader.old) (λ input. HasDocument (mode_of mode) input
+        → (result ≡ outcome.Done) ⊎ IsFailure result) }
+    ensures grows { result ≢ outcome.Io → Grows (W.contents writer.old) (W.contents writer.new) }
+{
+    match formatted(alloc, mode, reader) {
+        Ok(text) => write_text(writer, text.as_slice()),
+        Err(refusal) => refusal,
+    }
+}
+
+/// The document in all that the reader has, written anew.
+fn formatted<R: Read>(alloc: Global, mode: Mode, reader: &mut R) -> Result<Vec<u8>, Outcome>
+    ensures ends { IfErr result (λ o. o ≢ outcome.Usage) }
+    ensures text { IfSome (R.remaining reader.old) (λ input. IfOk result (λ v. IsReformatted (mode_of mode) input v.items)) }
+    ensures refused { IfSome (R.remaining reader.old) (λ input. IfErr result (λ o. IsRefusal (mode_of mode) input o)) }
+    ensures only { IfSome (R.remaining reader.old) (λ input. HasDocument (mode_of mode) input → IfErr result IsFailure) }
+{
+    let input = read_all(alloc, reader)?;
+    reformatted(alloc, mode, input.as_slice())
+}
+
+/// All that the reader has.
+fn read_all<R: Read>(alloc: Global, reader: &mut R) -> Result<Vec<u8>, Outcome>
+    ensures bytes { IfSome (R.remaining reader.old) (λ input. IfOk result (λ v. v.items ≡ input)) }
+    ensures failed { IfErr result IsFailure }
+{
+    let mut input = Vec::new(alloc);
+    match reader.read_to_end(&mut input) {
+        Ok(_) => Ok(input),
+        Err(error) => Err(failure(&error)),
+    }
+}
+
+/// The document that the input begins with, written anew.
+fn reformatted(alloc: Global, mode: Mode, input: &[u8]) -> Result<Vec<u8>, Outcome>
+    ensures text { IfOk result (λ v. IsReformatted (mode_of mode) input.now v.items) }
+    ensures refused { IfErr result (λ o. IsRefusal (mode_of mode) input.now o) }
+    ensures only { HasDocument (mode_of mode) input.now → IfErr result IsFailure }
+{
+    let tree = match read_tree(alloc, mode, input) {
+        Ok(tree) => tree,
+        Err(error) => return Err(Outcome::Refused(error.kind.code(), error.span)),
+    };
+    match to_vec(alloc, &tree) {
+        Ok(text) => Ok(text),
+        Err(_) => Err(OUT_OF_MEMORY),
+    }
+}
+
+/// The tree of the document that the input begins with.
+fn read_tree<'t>(alloc: Global, mode: Mode, input: &[u8]) -> Result<Tree, DeserializeError<'t>>
+    ensures document { IfOk result (λ t. (root : Node) × IsDocument input.now (mode_of mode) root (tree_view t)) }
+    ensures refused { IfErr result (λ e. ((refusal_of e).complaint ≡ out_of_memory) ⊎ Refuses input.now (mode_of mode) (refusal_of e)) }
+    ensures only { (root : Node) (value : SpecTree) → IsDocument input.now (mode_of mode) root value
+        → MatchResult result (λ t. tree_view t ≡ value) (λ e. (refusal_of e).complaint ≡ out_of_memory) }
+{
+    match mode {
+        Mode::Plain => from_slice(alloc, input),
+        Mode::Jsonc => from_slice_jsonc(alloc, input),
+    }
+}
+
+/// Writes the text in one piece.
+fn write_text<W: Write>(writer: &mut W, text: &[u8]) -> Outcome
+    ensures ends { (result ≡ outcome.Done) ⊎ (result ≡ outcome.Io) }
+    ensures written { result ≡ outcome.Done → Appends (W.contents writer.old) (W.contents writer.new) text.now }
+{
+    if writer.write_all(text).is_err() || writer.flush().is_err() {
+        return Outcome::Io;
+    }
+    Outcome::Done
+}
+
+/// Reads all there is, and prints the events of the document in it.
+fn print_events<R: Read, W: Write>(
+    alloc: Global,
+    mode: Mode,
+    reader: &mut R,
+    writer: &mut W,
+) -> Outcome
+    ensures ends { result ≢ outcome.Usage }
+    ensures listed { IfSome (R.remaining reader.old) (λ input.
+        Lists (mode_of mode) input (W.contents writer.old) (W.contents writer.new) result) }
+    ensures grows { result ≢ outcome.Io → Grows (W.contents writer.old) (W.contents writer.new) }
+{
+    match read_all(alloc, reader) {
+        Ok(input) => {
+            let written = list_events(alloc, mode, input.as_slice(), writer);
+            finish(written, writer)
+        }
+        Err(outcome) => outcome,
+    }
+}
+
+/// Writes a line for each event of the input.
+fn list_events<W: Write>(
+    alloc: Global,
+    mode: Mode,
+    input: &[u8],
+    writer: &mut W,
+) -> Result<(), Outcome>
+    ensures { Lists (mode_of mode) input.now (W.contents writer.old) (W.contents writer.new) (outcome_of result) }
+{
+    let mut parser = parser_of(alloc, mode, input);
+    loop {
+        match parser.next_event() {
+            Ok(Some(event)) => write_event(alloc, event, writer)?,
+            Ok(None) => return Ok(()),
+            Err(error) => return Err(Outcome::Refused(error.kind.code(), Some(error.span))),
+        }
+    }
+}
+
+/// Reads all there is, makes the calls of a parser of it, and prints their answers.
+fn print_answers<R: Read, W: Write>(
+    alloc: Global,
+    mode: Mode,
+    calls: &[Call],
+    reader: &mut R,
+    writer: &mut W,
+) -> Outcome
+    ensures ends { (result ≡ outcome.Done) ⊎ IsFailure result }
+    ensures answers { IfSome (R.remaining reader.old) (λ input. IfSome (W.contents writer.old) (λ before.
+        Drives (mode_of mode) (map call_of calls.now) input before (W.contents writer.new) result)) }
+    ensures grows { result ≢ outcome.Io → Grows (W.contents writer.old) (W.contents writer.new) }
+{
+    match read_all(alloc, reader) {
+        Ok(input) => {
+            let mut parser = parser_of(alloc, mode, input.as_slice());
+            match drive(alloc, &mut parser, calls) {
+                Ok(answers) => {
+                    let written = write_answers(alloc, answers, writer);
+                    finish(written, writer)
+                }
+                Err(_) => OUT_OF_MEMORY,
+            }
+        }
+        Err(outcome) => outcome,
+    }
+}
+
+/// Writes the lines of the answers, in order.
+fn write_answers<W: Write>(
+    alloc: Global,
+    answers: Vec<Answer<'_>>,
+    writer: &mut W,
+) -> Result<(), Outcome>
+    ensures { Prints (W.contents writer.old) (W.contents writer.new) (flat_map answer_lines (map answer_of answers.entry.items)) result }
+{
+    for answer in answers {
+        write_answer(alloc, answer, writer)?;
+    }
+    Ok(())
+}
+
+/// A parser of the input, in front of it.
+fn parser_of<'de>(alloc: Global, mode: Mode, input: &'de [u8]) -> JsonParser<'de>
+    ensures { result ≡ fresh input.now (mode_of mode) }
+{
+    match mode {
+        Mode::Plain => JsonParser::new(alloc, input),
+        Mode::Jsonc => JsonParser::new_jsonc(alloc, input),
+    }
+}
+
+/// Sends what is written on its way, where no write failed: also the lines before a refusal.
+fn finish<W: Write>(written: Result<(), Outcome>, writer: &mut W) -> Outcome
+    ensures { (result ≡ outcome.Io) ⊎ ((result ≡ outcome_of written) × Keeps (W.contents writer.old) (W.contents writer.new)) }
+{
+    match written {
+        Err(Outcome::Io) => Outcome::Io,
+        Ok(()) => flushed(writer, Outcome::Done),
+        Err(outcome) => flushed(writer, outcome),
+    }
+}
+
+/// The outcome, once what is written is on its way.
+fn flushed<W: Write>(writer: &mut W, ended: Outcome) -> Outcome
+    ensures { (result ≡ outcome.Io) ⊎ ((result ≡ ended) × Keeps (W.contents writer.old) (W.contents writer.new)) }
+{
+    if writer.flush().is_err() {
+        Outcome::Io
+    } else {
+        ended
+    }
+}

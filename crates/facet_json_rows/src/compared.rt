@@ -1,0 +1,192 @@
+//! What parsers tell of an input: each mode, trusted and checking parsers, and each way to ask tell the same.
+
+use crate::shown::{push_answer, tell, tell_answer};
+use facet_json::scanner::Mode;
+use facet_json::{from_slice, from_slice_jsonc};
+use facet_json_core::{Call, JsonParser, drive};
+use std::alloc::{AllocError, Global};
+use std::io;
+use std::io::Write;
+
+/// How an input is asked for what is in it.
+#[derive(Debug, Clone, Copy)]
+pub enum Way<'a> {
+    /// All events and the end, one at a time.
+    ByNext,
+    /// The same, each after a look at it.
+    ByPeekAndNext,
+    /// The same, all at once.
+    ByEvents,
+    /// The answers to these calls.
+    ByCalls(&'a [Call]),
+    /// The tree.
+    Tree,
+}
+
+/// Writes what is told of the input, and each other telling of it.
+pub fn compare<W: Write>(
+    alloc: Global,
+    modes: &[Mode],
+    ways: &[Way<'_>],
+    input: &[u8],
+    writer: &mut W,
+) -> io::Result<()> {
+    let ([mode, ..], [way, ..]) = (modes, ways) else {
+        return writeln!(writer, "NO MODE");
+    };
+    let told = told(alloc, *mode, false, *way, input)?;
+    writeln!(writer, "{told}")?;
+    for mode in modes {
+        for way in ways {
+            write_difference(alloc, *mode, false, *way, input, told.as_str(), writer)?;
+            write_difference(alloc, *mode, true, *way, input, told.as_str(), writer)?;
+        }
+    }
+    Ok(())
+}
+
+/// Writes what is told of the input where it isn't this.
+fn write_difference<W: Write>(
+    alloc: Global,
+    mode: Mode,
+    is_trusted: bool,
+    way: Way<'_>,
+    input: &[u8],
+    expected: &str,
+    writer: &mut W,
+) -> io::Result<()> {
+    let told = told(alloc, mode, is_trusted, way, input)?;
+    if told.as_str() == expected {
+        return Ok(());
+    }
+    writeln!(
+        writer,
+        "DIFFERS: {mode:?}, trusted {is_trusted}, {way:?}: {told}"
+    )
+}
+
+/// What is told of the input.
+fn told(
+    alloc: Global,
+    mode: Mode,
+    is_trusted: bool,
+    way: Way<'_>,
+    input: &[u8],
+) -> Result<String, AllocError> {
+    let mut parser = parser_of(alloc, mode, is_trusted, input);
+    let mut told = String::new(alloc);
+    match way {
+        Way::ByNext => tell_by_next(alloc, &mut parser, input.len(), &mut told)?,
+        Way::ByPeekAndNext => tell_by_peek_and_next(alloc, &mut parser, input.len(), &mut told)?,
+        Way::ByEvents => tell_by_events(alloc, &mut parser, input.len(), &mut told)?,
+        Way::ByCalls(calls) => push_answers(alloc, &mut parser, calls, &mut told)?,
+        Way::Tree => push_tree(alloc, mode, input, &mut told)?,
+    }
+    Ok(told)
+}
+
+/// A parser of the input; one that need not check it only where it is a text.
+fn parser_of<'de>(
+    alloc: Global,
+    mode: Mode,
+    is_trusted: bool,
+    input: &'de [u8],
+) -> JsonParser<'de> {
+    match str::from_utf8(input) {
+        Ok(text) if is_trusted => trusting(alloc, mode, text),
+        _ => checking(alloc, mode, input),
+    }
+}
+
+/// A parser that need not check its strings.
+fn trusting<'de>(alloc: Global, mode: Mode, text: &'de str) -> JsonParser<'de> {
+    match mode {
+        Mode::Plain => JsonParser::new_trusted(alloc, text.as_bytes()),
+        Mode::Jsonc => JsonParser::new_jsonc_trusted(alloc, text.as_bytes()),
+    }
+}
+
+/// A parser that checks its strings.
+fn checking<'de>(alloc: Global, mode: Mode, input: &'de [u8]) -> JsonParser<'de> {
+    match mode {
+        Mode::Plain => JsonParser::new(alloc, input),
+        Mode::Jsonc => JsonParser::new_jsonc(alloc, input),
+    }
+}
+
+/// Appends the answers to the calls.
+fn push_answers(
+    alloc: Global,
+    parser: &mut JsonParser<'_>,
+    calls: &[Call],
+    told: &mut String,
+) -> Result<(), AllocError> {
+    for answer in &drive(alloc, parser, calls)? {
+        push_answer(alloc, answer, told)?;
+    }
+    Ok(())
+}
+
+/// Appends the answers to the calls that aren't told yet.
+fn tell_answers(
+    alloc: Global,
+    parser: &mut JsonParser<'_>,
+    calls: &[Call],
+    told: &mut String,
+) -> Result<(), AllocError> {
+    for answer in &drive(alloc, parser, calls)? {
+        tell_answer(alloc, answer, told)?;
+    }
+    Ok(())
+}
+
+/// All events of an input of so many bytes and what comes behind them, twice, and then the span.
+fn tell_by_next(
+    alloc: Global,
+    parser: &mut JsonParser<'_>,
+    len: usize,
+    told: &mut String,
+) -> Result<(), AllocError> {
+    for _ in 0..=len {
+        tell_answers(alloc, parser, &[Call::Next], told)?;
+    }
+    tell_answers(alloc, parser, &[Call::Next, Call::Span], told)
+}
+
+/// The same, each after a look at it, which shows the same.
+fn tell_by_peek_and_next(
+    alloc: Global,
+    parser: &mut JsonParser<'_>,
+    len: usize,
+    told: &mut String,
+) -> Result<(), AllocError> {
+    for _ in 0..=len {
+        tell_answers(alloc, parser, &[Call::Peek], told)?;
+        let looked = told.len();
+        tell_answers(alloc, parser, &[Call::Next], told)?;
+        if told.len() != looked {
+            tell(told, "not the event that was seen")?;
+        }
+    }
+    tell_answers(alloc, parser, &[Call::Span], told)
+}
+
+/// The same, all at once.
+fn tell_by_events(
+    alloc: Global,
+    parser: &mut JsonParser<'_>,
+    len: usize,
+    told: &mut String,
+) -> Result<(), AllocError> {
+    let calls = [Call::Events(len), Call::Events(0), Call::Next, Call::Span];
+    tell_answers(alloc, parser, &calls, told)
+}
+
+/// Appends the tree or the refusal.
+fn push_tree(alloc: Global, mode: Mode, input: &[u8], told: &mut String) -> Result<(), AllocError> {
+    let read = match mode {
+        Mode::Plain => from_slice(alloc, input),
+        Mode::Jsonc => from_slice_jsonc(alloc, input),
+    };
+    write!(told, "{read:?}")
+}

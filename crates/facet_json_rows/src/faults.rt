@@ -1,0 +1,194 @@
+//! Runs of the program over readers and writers that fail at one of their calls.
+
+use facet_json_command::outcome::{OUT_OF_MEMORY, Outcome};
+use facet_json_command::run::run;
+use std::alloc::Global;
+use std::io;
+use std::io::{ErrorKind, Read, Write};
+
+/// What a run answers and writes.
+#[derive(Clone, Copy)]
+pub struct Case<'a> {
+    pub args: &'a [String],
+    pub input: &'a [u8],
+    pub outcome: Outcome,
+    pub written: &'a [u8],
+}
+
+/// Counts calls, of which one fails.
+#[derive(Drop)]
+struct Fault {
+    calls: usize,
+    fails_at: usize,
+    kind: ErrorKind,
+}
+
+impl Fault {
+    fn at(fails_at: usize, kind: ErrorKind) -> Fault {
+        Fault {
+            calls: 0,
+            fails_at,
+            kind,
+        }
+    }
+
+    fn call(&mut self) -> io::Result<()> {
+        let at = self.calls;
+        self.calls = at.saturating_add(1);
+        if at == self.fails_at {
+            return Err(io::Error::from(self.kind));
+        }
+        Ok(())
+    }
+
+    fn is_met(&self) -> bool {
+        self.calls > self.fails_at
+    }
+}
+
+/// Gives three bytes at a time.
+#[derive(Drop)]
+pub struct FaultyReader<'a> {
+    left: &'a [u8],
+    fault: Fault,
+}
+
+impl<'a> FaultyReader<'a> {
+    /// A reader of the input whose call fails so, the first one being 0.
+    pub fn new(input: &'a [u8], fails_at: usize, kind: ErrorKind) -> FaultyReader<'a> {
+        FaultyReader {
+            left: input,
+            fault: Fault::at(fails_at, kind),
+        }
+    }
+}
+
+impl Read for FaultyReader<'_> {
+    fn read(&mut self, buf: &mut [u8]) -> io::Result<usize> {
+        self.fault.call()?;
+        let n = self.left.len().min(buf.len()).min(3);
+        buf[..n].copy_from_slice(&self.left[..n]);
+        self.left = &self.left[n..];
+        Ok(n)
+    }
+}
+
+/// Takes three bytes at a time, and passes them on at a flush alone.
+#[derive(Drop)]
+struct FaultyWriter {
+    taken: Vec<u8>,
+    passed_on: usize,
+    fault: Fault,
+}
+
+impl Write for FaultyWriter {
+    fn write(&mut self, buf: &[u8]) -> io::Result<usize> {
+        self.fault.call()?;
+        let n = buf.len().min(3);
+        self.taken.extend_from_slice(&buf[..n])?;
+        Ok(n)
+    }
+
+    fn flush(&mut self) -> io::Result<()> {
+        self.fault.call()?;
+        self.passed_on = self.taken.len();
+        Ok(())
+    }
+}
+
+/// How a run over a reader or writer ended of which one call fails.
+#[derive(Clone, Copy)]
+enum Ended {
+    /// It told of the failure.
+    Told,
+    /// It ended before that call, and answered as without one.
+    Answered,
+    /// Neither.
+    Wrong,
+}
+
+impl Ended {
+    fn of(is_met: bool, is_told: bool, is_answered: bool) -> Ended {
+        match (is_met, is_told, is_answered) {
+            (true, true, _) => Ended::Told,
+            (false, _, true) => Ended::Answered,
+            _ => Ended::Wrong,
+        }
+    }
+}
+
+/// A run of which one read fails. It tells of that, and writes nothing.
+fn with_failed_read(
+    alloc: Global,
+    case: &Case<'_>,
+    at: usize,
+    kind: ErrorKind,
+    told: Outcome,
+) -> Ended {
+    let mut reader = FaultyReader::new(case.input, at, kind);
+    let mut written = Vec::new(alloc);
+    let outcome = run(alloc, case.args, &mut reader, &mut written);
+    Ended::of(
+        reader.fault.is_met(),
+        outcome == told && written.is_empty(),
+        outcome == case.outcome && written.as_slice() == case.written,
+    )
+}
+
+/// A run of which one write or flush fails. It tells of that, and has written a part of its text, from the first byte on.
+fn with_failed_write(alloc: Global, case: &Case<'_>, at: usize) -> Ended {
+    let mut reader = case.input;
+    let mut writer = FaultyWriter {
+        taken: Vec::new(alloc),
+        passed_on: 0,
+        fault: Fault::at(at, ErrorKind::BrokenPipe),
+    };
+    let outcome = run(alloc, case.args, &mut reader, &mut writer);
+    let taken = writer.taken.as_slice();
+    Ended::of(
+        writer.fault.is_met(),
+        outcome == Outcome::Io && case.written.starts_with(taken),
+        outcome == case.outcome && taken == case.written && writer.passed_on == taken.len(),
+    )
+}
+
+/// More calls than any run makes.
+const MANY_CALLS: usize = 100_000;
+
+/// Whether a run tells of each read that fails.
+fn tells_of_reads(alloc: Global, case: &Case<'_>, kind: ErrorKind, told: Outcome) -> bool {
+    for at in 0..MANY_CALLS {
+        match with_failed_read(alloc, case, at, kind, told) {
+            Ended::Told => {}
+            Ended::Answered => return true,
+            Ended::Wrong => return false,
+        }
+    }
+    false
+}
+
+/// Whether a run tells of each write and flush that fails.
+fn tells_of_writes(alloc: Global, case: &Case<'_>) -> bool {
+    for at in 0..MANY_CALLS {
+        match with_failed_write(alloc, case, at) {
+            Ended::Told => {}
+            Ended::Answered => return true,
+            Ended::Wrong => return false,
+        }
+    }
+    false
+}
+
+/// Writes which failures a run does not tell of.
+pub fn write_untold<W: Write>(alloc: Global, case: &Case<'_>, writer: &mut W) -> io::Result<()> {
+    if !tells_of_reads(alloc, case, ErrorKind::BrokenPipe, Outcome::Io) {
+        writeln!(writer, "DIFFERS: where a read fails")?;
+    }
+    if !tells_of_reads(alloc, case, ErrorKind::OutOfMemory, OUT_OF_MEMORY) {
+        writeln!(writer, "DIFFERS: where a read is out of memory")?;
+    }
+    if !tells_of_writes(alloc, case) {
+        writeln!(writer, "DIFFERS: where a write fails or waits for a flush")?;
+    }
+    Ok(())
+}

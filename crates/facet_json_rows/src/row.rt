@@ -1,0 +1,156 @@
+//! Rows, and the commands in them.
+
+use crate::compared::{Way, compare};
+use crate::faults::{Case, FaultyReader, write_untold};
+use crate::printf::printed;
+use facet_json::scanner::Mode;
+use facet_json_command::outcome::Outcome;
+use facet_json_command::report::{status, write_line};
+use facet_json_command::run::run;
+use facet_json_command::script::parse_script;
+use std::alloc::{AllocError, Global};
+use std::io;
+use std::io::{ErrorKind, Write};
+
+/// Writes what the row's command prints of the text between the quotes: `printf 'TEXT' | COMMAND`.
+pub fn answer<W: Write>(alloc: Global, row: &str, writer: &mut W) -> io::Result<()> {
+    let Some((text, command)) = parts(row) else {
+        return writeln!(writer, "NO ROW");
+    };
+    match printed(alloc, text)? {
+        Some(input) => answer_command(alloc, command, input.as_slice(), writer),
+        None => writeln!(writer, "NO TEXT"),
+    }
+}
+
+/// The text that the row prints, and the command that reads it.
+fn parts(row: &str) -> Option<(&str, &str)> {
+    row.strip_prefix("printf '")?.split_once("' | ")
+}
+
+/// Writes what the command prints.
+fn answer_command<W: Write>(
+    alloc: Global,
+    command: &str,
+    input: &[u8],
+    writer: &mut W,
+) -> io::Result<()> {
+    let (name, rest) = command.split_once(' ').unwrap_or((command, ""));
+    match name {
+        "facet_json_tool" => answer_program(alloc, rest, input, writer),
+        "broken_pipe" => answer_failed(alloc, ErrorKind::BrokenPipe, rest, input, writer),
+        "out_of_memory" => answer_failed(alloc, ErrorKind::OutOfMemory, rest, input, writer),
+        "parser" => answer_parser(alloc, rest, input, writer),
+        "tree" => compare(alloc, modes(rest), &[Way::Tree], input, writer),
+        _ => writeln!(writer, "NO COMMAND"),
+    }
+}
+
+/// Writes what the program writes, and which failures of a reader or writer it does not tell of.
+fn answer_program<W: Write>(
+    alloc: Global,
+    words: &str,
+    input: &[u8],
+    writer: &mut W,
+) -> io::Result<()> {
+    let args = arguments(alloc, words)?;
+    let mut reader = input;
+    let mut written = Vec::new(alloc);
+    let outcome = run(alloc, args.as_slice(), &mut reader, &mut written);
+    write_end(outcome, written.as_slice(), writer)?;
+    let case = Case {
+        args: args.as_slice(),
+        input,
+        outcome,
+        written: written.as_slice(),
+    };
+    write_untold(alloc, &case, writer)
+}
+
+/// Writes what the program writes where a read fails once the first bytes are read.
+fn answer_failed<W: Write>(
+    alloc: Global,
+    kind: ErrorKind,
+    command: &str,
+    input: &[u8],
+    writer: &mut W,
+) -> io::Result<()> {
+    let Some(words) = command.strip_prefix("facet_json_tool ") else {
+        return writeln!(writer, "NO COMMAND");
+    };
+    let args = arguments(alloc, words)?;
+    let mut reader = FaultyReader::new(input, 1, kind);
+    let mut written = Vec::new(alloc);
+    let outcome = run(alloc, args.as_slice(), &mut reader, &mut written);
+    write_end(outcome, written.as_slice(), writer)
+}
+
+/// Writes what the program wrote to its standard output, then its line for the standard error, and its status where that isn't 0.
+fn write_end<W: Write>(outcome: Outcome, written: &[u8], writer: &mut W) -> io::Result<()> {
+    write_lines(written, writer)?;
+    write_line(outcome, writer)?;
+    match status(outcome) {
+        0 => Ok(()),
+        status => writeln!(writer, "status {status}"),
+    }
+}
+
+/// The words, which blanks part. Single quotes around one are no part of it.
+fn arguments(alloc: Global, words: &str) -> Result<Vec<String>, AllocError> {
+    let mut arguments = Vec::new(alloc);
+    for word in words.split(' ') {
+        if !word.is_empty() {
+            arguments.push(String::from_str(alloc, word.trim_matches('\''))?)?;
+        }
+    }
+    Ok(arguments)
+}
+
+/// Writes the text, and a line feed where its last line lacks one.
+fn write_lines<W: Write>(text: &[u8], writer: &mut W) -> io::Result<()> {
+    writer.write_all(text)?;
+    if text.is_empty() || text.ends_with(b"\n") {
+        return Ok(());
+    }
+    writeln!(writer)
+}
+
+/// Writes what parsers of the input tell: `MODES all` or `MODES SCRIPT`.
+fn answer_parser<W: Write>(
+    alloc: Global,
+    words: &str,
+    input: &[u8],
+    writer: &mut W,
+) -> io::Result<()> {
+    let (word, asked) = words.split_once(' ').unwrap_or((words, ""));
+    let modes = modes(word);
+    if asked == "all" {
+        return compare(
+            alloc,
+            modes,
+            &[Way::ByNext, Way::ByPeekAndNext, Way::ByEvents],
+            input,
+            writer,
+        );
+    }
+    match parse_script(alloc, asked) {
+        Ok(calls) => compare(
+            alloc,
+            modes,
+            &[Way::ByCalls(calls.as_slice())],
+            input,
+            writer,
+        ),
+        Err(_) => writeln!(writer, "NO SCRIPT"),
+    }
+}
+
+/// The modes of this name.
+fn modes(word: &str) -> &'static [Mode] {
+    match word {
+        "plain" => &[Mode::Plain],
+        "jsonc" => &[Mode::Jsonc],
+        "both" => &[Mode::Plain, Mode::Jsonc],
+        _ => &[],
+    }
+}
