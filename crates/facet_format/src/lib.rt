@@ -19,6 +19,3 @@ pub use event::{
 pub use parse_error::ParseError;
 pub use parser::FormatParser;
 pub use span::Span;
-
-#[cfg(test)]
-mod tests;

@@ -201,6 +201,3 @@ fn whole_refusal(start: usize, end: usize) -> DecodeError
         span: Span::new(start, end - start),
     })
 }
-
-#[cfg(test)]
-mod tests;

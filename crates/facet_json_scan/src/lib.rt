@@ -22,6 +22,3 @@ pub use number::{ParsedNumber, parse_number, parse_number_unchecked};
 pub use plain_cut::cut;
 pub use scanner::Scanner;
 pub use token::{ScanError, ScanErrorKind, ScanResult, SpannedToken, Token};
-
-#[cfg(test)]
-mod tests;

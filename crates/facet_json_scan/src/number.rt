@@ -175,6 +175,3 @@ fn parse_wide(digits: &[u8]) -> Option<u128>
     }
     Some(value)
 }
-
-#[cfg(test)]
-mod tests;

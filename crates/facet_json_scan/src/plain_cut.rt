@@ -281,6 +281,3 @@ fn cut_slash(buffer: &[u8], at: usize, mode: Mode) -> ScanResult
         _ => unexpected_char(b'/', at),
     }
 }
-
-#[cfg(test)]
-mod tests;

@@ -285,6 +285,3 @@ impl Default for Scanner {
         Scanner::new()
     }
 }
-
-#[cfg(test)]
-mod tests;
