@@ -84,37 +84,37 @@ fn texts_and_keys(rt: HostRuntime) -> Result<(), AllocError> {
     Ok(())
 }
 
-/// The decimal of this text, in memory of its own where that is asked for.
-fn decimal(alloc: Global, text: &str, is_owned: bool) -> Option<Decimal<'_>> {
-    let decimal = Decimal::new(text)?;
-    if is_owned {
-        decimal.into_owned(alloc).ok()
-    } else {
-        Some(decimal)
+/// A copy of the decimal of this text, in memory of its own.
+fn owned_decimal(alloc: Global, text: &str) -> Option<Decimal<'static>> {
+    match Decimal::new(text)?.clone(alloc) {
+        Ok(copy) => copy.into_owned(alloc).ok(),
+        Err(_) => None,
     }
 }
 
-/// Whether a decimal is copied as an event's value, and shown as it is alone.
-fn decimal_holds(alloc: Global, decimal: Decimal<'_>) -> bool {
-    match format!(in alloc; "Scalar(Decimal({decimal:?}))") {
-        Ok(shown) => holds(
+fn decimal_holds(alloc: Global, decimal: Option<Decimal<'_>>, shown: &str) -> bool {
+    match decimal {
+        Some(decimal) => holds(
             alloc,
             ParseEventKind::Scalar(ScalarValue::Decimal(decimal)),
-            shown.as_str(),
+            shown,
         ),
-        Err(_) => false,
+        None => false,
     }
 }
 
 #[test]
 fn decimals(rt: HostRuntime) {
-    for is_owned in [false, true] {
-        let holds = match decimal(rt.alloc(), "1.50", is_owned) {
-            Some(decimal) => decimal_holds(rt.alloc(), decimal),
-            None => false,
-        };
-        assert!(rt; holds, "1.50 {is_owned}");
-    }
+    let alloc = rt.alloc();
+    let shown = "Scalar(Decimal(Decimal(\"1.50\")))";
+    assert!(rt;
+        decimal_holds(alloc, Decimal::new("1.50"), shown),
+        "borrowed"
+    );
+    assert!(rt;
+        decimal_holds(alloc, owned_decimal(alloc, "1.50"), shown),
+        "owned"
+    );
 }
 
 /// Whether a copy of a borrowed text is borrowed.

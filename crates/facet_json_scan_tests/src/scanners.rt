@@ -333,11 +333,15 @@ fn call_holds(alloc: Global, scanner: &mut Scanner, call: Call, want: &str) -> b
     }
 }
 
+fn step_holds(alloc: Global, scanner: &mut Scanner, step: &Step) -> bool {
+    let (call, want, position) = *step;
+    call_holds(alloc, scanner, call, want) && scanner.pos() == position
+}
+
 /// The number of the first step, from 0 on, that is not as it says.
 fn wrong_step(alloc: Global, scanner: &mut Scanner, steps: &[Step]) -> Option<usize> {
-    for (number, step) in steps.iter().enumerate() {
-        let (call, want, position) = *step;
-        if !(call_holds(alloc, scanner, call, want) && scanner.pos() == position) {
+    for number in 0..steps.len() {
+        if !step_holds(alloc, scanner, &steps[number]) {
             return Some(number);
         }
     }
