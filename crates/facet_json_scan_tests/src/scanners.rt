@@ -334,8 +334,7 @@ fn call_holds(alloc: Global, scanner: &mut Scanner, call: Call, want: &str) -> b
 }
 
 fn step_holds(alloc: Global, scanner: &mut Scanner, step: &Step) -> bool {
-    let (call, want, position) = *step;
-    call_holds(alloc, scanner, call, want) && scanner.pos() == position
+    call_holds(alloc, scanner, step.0, step.1) && scanner.pos() == step.2
 }
 
 /// The number of the first step, from 0 on, that is not as it says.
