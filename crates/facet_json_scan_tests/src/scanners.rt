@@ -3,6 +3,7 @@
 use crate::shown::{answers, shows};
 use facet_json_scan::Scanner;
 use std::alloc::Global;
+use std::process::Abort;
 
 /// How a scanner is made.
 #[derive(Clone, Copy)]
@@ -27,7 +28,8 @@ type Step = (Call, &'static str, usize);
 /// What the steps are about, a new scanner, and its steps.
 type Run = (&'static str, Start, &'static [Step]);
 
-static RUNS: [Run; 18] = [
+/// Strings, literals, white space and punctuation.
+static TOKENS: [Run; 6] = [
     (
         "a string",
         Start::New,
@@ -74,6 +76,43 @@ static RUNS: [Run; 18] = [
             (Call::Next("null}"), "Null 0+4", 4),
         ],
     ),
+    (
+        "white space around a member",
+        Start::New,
+        &[
+            (Call::Next(MEMBER), "ObjectStart 2+1", 3),
+            (
+                Call::Next(MEMBER),
+                "String { start: 6, end: 9, has_escapes: false } 5+5",
+                10,
+            ),
+            (Call::Next(MEMBER), "Colon 12+1", 13),
+            (
+                Call::Next(MEMBER),
+                "Number { start: 15, end: 17, hint: Unsigned } 15+2",
+                17,
+            ),
+            (Call::Next(MEMBER), "ObjectEnd 19+1", 20),
+            (Call::Next(MEMBER), "Eof 22+0", 22),
+        ],
+    ),
+    (
+        "punctuation",
+        Start::New,
+        &[
+            (Call::Next("{}[],:"), "ObjectStart 0+1", 1),
+            (Call::Next("{}[],:"), "ObjectEnd 1+1", 2),
+            (Call::Next("{}[],:"), "ArrayStart 2+1", 3),
+            (Call::Next("{}[],:"), "ArrayEnd 3+1", 4),
+            (Call::Next("{}[],:"), "Comma 4+1", 5),
+            (Call::Next("{}[],:"), "Colon 5+1", 6),
+            (Call::Next("{}[],:"), "Eof 6+0", 6),
+        ],
+    ),
+];
+
+/// Numbers that go on, and where they end.
+static NUMBERS: [Run; 3] = [
     (
         "numbers",
         Start::AtPosition(0),
@@ -147,75 +186,10 @@ static RUNS: [Run; 18] = [
             (Call::Next("42,"), "Eof 3+0", 3),
         ],
     ),
-    (
-        "line comments",
-        Start::WithComments,
-        &[
-            (
-                Call::Next("1/"),
-                "Number { start: 0, end: 1, hint: Unsigned } 0+1",
-                1,
-            ),
-            (Call::Next("1/"), "NeedMore { consumed: 1 } 1+1", 2),
-            (Call::Last("1/"), "UnexpectedChar('/') 1+1", 1),
-            (Call::Next("1/"), "NeedMore { consumed: 1 } 1+1", 2),
-            (Call::Next("1//x"), "NeedMore { consumed: 1 } 1+3", 4),
-            (Call::Last("1//x"), "Eof 4+0", 4),
-            (Call::SetPosition(1), "", 1),
-            (Call::Next("1//x"), "NeedMore { consumed: 1 } 1+3", 4),
-            (Call::Next("1//xy\n2"), "NeedMore { consumed: 6 } 6+1", 7),
-            (
-                Call::Last("1//xy\n2"),
-                "Number { start: 6, end: 7, hint: Unsigned } 6+1",
-                7,
-            ),
-        ],
-    ),
-    (
-        "a block comment",
-        Start::WithComments,
-        &[
-            (Call::Next("/*/"), "NeedMore { consumed: 0 } 0+3", 3),
-            (
-                Call::Last("/*/"),
-                "UnexpectedEof(\"in block comment\") 0+3",
-                0,
-            ),
-        ],
-    ),
-    (
-        "white space around a member",
-        Start::New,
-        &[
-            (Call::Next(MEMBER), "ObjectStart 2+1", 3),
-            (
-                Call::Next(MEMBER),
-                "String { start: 6, end: 9, has_escapes: false } 5+5",
-                10,
-            ),
-            (Call::Next(MEMBER), "Colon 12+1", 13),
-            (
-                Call::Next(MEMBER),
-                "Number { start: 15, end: 17, hint: Unsigned } 15+2",
-                17,
-            ),
-            (Call::Next(MEMBER), "ObjectEnd 19+1", 20),
-            (Call::Next(MEMBER), "Eof 22+0", 22),
-        ],
-    ),
-    (
-        "punctuation",
-        Start::New,
-        &[
-            (Call::Next("{}[],:"), "ObjectStart 0+1", 1),
-            (Call::Next("{}[],:"), "ObjectEnd 1+1", 2),
-            (Call::Next("{}[],:"), "ArrayStart 2+1", 3),
-            (Call::Next("{}[],:"), "ArrayEnd 3+1", 4),
-            (Call::Next("{}[],:"), "Comma 4+1", 5),
-            (Call::Next("{}[],:"), "Colon 5+1", 6),
-            (Call::Next("{}[],:"), "Eof 6+0", 6),
-        ],
-    ),
+];
+
+/// Numbers that go on in each of their parts.
+static PARTS: [Run; 7] = [
     (
         "a number after its minus",
         Start::New,
@@ -302,6 +276,46 @@ static RUNS: [Run; 18] = [
     ),
 ];
 
+/// Comments that go on.
+static COMMENTS: [Run; 2] = [
+    (
+        "line comments",
+        Start::WithComments,
+        &[
+            (
+                Call::Next("1/"),
+                "Number { start: 0, end: 1, hint: Unsigned } 0+1",
+                1,
+            ),
+            (Call::Next("1/"), "NeedMore { consumed: 1 } 1+1", 2),
+            (Call::Last("1/"), "UnexpectedChar('/') 1+1", 1),
+            (Call::Next("1/"), "NeedMore { consumed: 1 } 1+1", 2),
+            (Call::Next("1//x"), "NeedMore { consumed: 1 } 1+3", 4),
+            (Call::Last("1//x"), "Eof 4+0", 4),
+            (Call::SetPosition(1), "", 1),
+            (Call::Next("1//x"), "NeedMore { consumed: 1 } 1+3", 4),
+            (Call::Next("1//xy\n2"), "NeedMore { consumed: 6 } 6+1", 7),
+            (
+                Call::Last("1//xy\n2"),
+                "Number { start: 6, end: 7, hint: Unsigned } 6+1",
+                7,
+            ),
+        ],
+    ),
+    (
+        "a block comment",
+        Start::WithComments,
+        &[
+            (Call::Next("/*/"), "NeedMore { consumed: 0 } 0+3", 3),
+            (
+                Call::Last("/*/"),
+                "UnexpectedEof(\"in block comment\") 0+3",
+                0,
+            ),
+        ],
+    ),
+];
+
 const MEMBER: &str = "  {\n\t\"key\"  :  42  }  ";
 
 fn made(start: Start) -> Scanner {
@@ -347,12 +361,28 @@ fn wrong_step(alloc: Global, scanner: &mut Scanner, steps: &[Step]) -> Option<us
     None
 }
 
-#[test]
-fn runs(rt: HostRuntime) {
-    for (name, start, steps) in &RUNS {
-        let wrong = wrong_step(rt.alloc(), &mut made(*start), *steps);
+/// Each step of the runs is as it says.
+fn expect(rt: &impl Abort, alloc: Global, runs: &[Run]) {
+    for (name, start, steps) in runs {
+        let wrong = wrong_step(alloc, &mut made(*start), *steps);
         assert_eq!(rt; wrong, None, "{name}");
     }
+}
+
+#[test]
+fn tokens_go_on(rt: HostRuntime) {
+    expect(&rt, rt.alloc(), &TOKENS);
+}
+
+#[test]
+fn numbers_go_on(rt: HostRuntime) {
+    expect(&rt, rt.alloc(), &NUMBERS);
+    expect(&rt, rt.alloc(), &PARTS);
+}
+
+#[test]
+fn comments_go_on(rt: HostRuntime) {
+    expect(&rt, rt.alloc(), &COMMENTS);
 }
 
 #[test]
