@@ -1,0 +1,85 @@
+//! Decimals: which texts they are, and that they keep them.
+
+use facet_format::Decimal;
+use std::alloc::Global;
+
+static TEXTS: [&str; 6] = ["1.", "-.5", "1.e5", "0.0", "5e-05", "-0.50"];
+
+static REFUSED: [&str; 13] = [
+    "", ".5", "1e", "1e+", "-.", "-e1", ".e1", "5", "-5", "1e5 ", " 1e5", "1.5x", "1.5.5",
+];
+
+/// A text, that of another decimal, and whether the two are equal.
+static PAIRS: [(&str, &str, bool); 2] = [("1.0", "1.0", true), ("1.0", "1.00", false)];
+
+/// Whether a decimal has this text in memory of its own too, also where that is asked for again.
+fn keeps(alloc: Global, decimal: Decimal<'_>, text: &str) -> bool {
+    match decimal.into_owned(alloc) {
+        Ok(owned) => owned.as_str() == text && still_keeps(alloc, owned, text),
+        Err(_) => false,
+    }
+}
+
+fn still_keeps(alloc: Global, owned: Decimal<'_>, text: &str) -> bool {
+    match owned.into_owned(alloc) {
+        Ok(again) => again.as_str() == text,
+        Err(_) => false,
+    }
+}
+
+/// Whether the text is a decimal that keeps it.
+fn is_decimal(alloc: Global, text: &str) -> bool {
+    match Decimal::new(text) {
+        Some(decimal) => decimal.as_str() == text && keeps(alloc, decimal, text),
+        None => false,
+    }
+}
+
+#[test]
+fn decimals(rt: HostRuntime) {
+    for text in &TEXTS {
+        assert!(rt; is_decimal(rt.alloc(), *text), "{text}");
+    }
+    for text in &REFUSED {
+        assert!(rt; Decimal::new(*text).is_none(), "{text}");
+    }
+}
+
+/// Whether a decimal and the one of this text are equal.
+fn equals(decimal: &Decimal<'_>, text: &str) -> Option<bool> {
+    match Decimal::new(text) {
+        Some(other) => Some(*decimal == other),
+        None => None,
+    }
+}
+
+/// Whether the decimals of two texts are equal.
+fn are_equal(text: &str, other: &str) -> Option<bool> {
+    match Decimal::new(text) {
+        Some(decimal) => equals(&decimal, other),
+        None => None,
+    }
+}
+
+/// The same, the first in memory of its own.
+fn owned_is_equal(alloc: Global, text: &str, other: &str) -> Option<bool> {
+    match Decimal::new(text) {
+        Some(decimal) => match decimal.into_owned(alloc) {
+            Ok(owned) => equals(&owned, other),
+            Err(_) => None,
+        },
+        None => None,
+    }
+}
+
+#[test]
+fn decimals_are_their_texts(rt: HostRuntime) {
+    for (text, other, equal) in &PAIRS {
+        assert!(rt; are_equal(*text, *other) == Some(*equal), "{other}");
+        assert!(rt;
+            owned_is_equal(rt.alloc(), *text, *other) == Some(*equal),
+            "{other}"
+        );
+    }
+    assert!(rt; is_decimal(rt.alloc(), "1.0"));
+}

@@ -1,0 +1,114 @@
+//! Generic code over parsers is proved from the trait alone.
+
+ghost use Rattle.std.specs.Prelude.{◌≡◌, ◌+◌, ◌^◌, ◌<◌, ◌≤◌, List, IfSome, IfOk};
+ghost use Rattle.facet_format.specs.Event.{Passed};
+ghost use Rattle.facet_format.specs.Cursor.{Cursor};
+ghost use Rattle.facet_format.specs.Views.{event_of};
+
+use facet_format::{
+    FormatParser, ParseError, ParseEvent, ParseEventKind, SavePoint, ScalarValue, Span,
+};
+use std::collections::VecDeque;
+
+/// The event that a peek shows, and the one that follows.
+fn peek_and_next<'de, P: FormatParser<'de>>(
+    parser: &mut P,
+) -> Option<(ParseEvent<'de>, ParseEvent<'de>)>
+    ensures alike { (w : List Passed) (c : Cursor) → P.at parser.old w c
+        → IfSome result (λ events. event_of events.0 ≡ event_of events.1) }
+    ensures stands { (w : List Passed) (c : Cursor) → P.at parser.old w c → (last : Cursor) × P.at parser.new w last }
+{
+    match parser.peek_event() {
+        Ok(Some(shown)) => match parser.next_event() {
+            Ok(Some(event)) => Some((shown, event)),
+            _ => None,
+        },
+        _ => None,
+    }
+}
+
+/// How many events come.
+fn count<'de, 't, P: FormatParser<'de>>(parser: &mut P) -> Result<usize, ParseError<'t>>
+    requires fits { P.ahead parser.old < 2 ^ 64 }
+    ensures { IfOk result (λ n. n + P.ahead parser.new ≤ P.ahead parser.old) }
+{
+    let mut count = 0;
+    while let Some(_event) = parser.next_event()? {
+        count += 1;
+    }
+    Ok(count)
+}
+
+/// Stands on no walk, and gives `null` again and again.
+#[derive(Drop)]
+struct Nulls {
+    left: usize,
+}
+
+impl<'de> FormatParser<'de> for Nulls {
+    ghost at = { λ _ _ _. ⊥ };
+
+    ghost ahead = { λ s. s.left };
+
+    fn next_event<'t>(&mut self) -> Result<Option<ParseEvent<'de>>, ParseError<'t>> {
+        if self.left == 0 {
+            return Ok(None);
+        }
+        self.left -= 1;
+        let kind = ParseEventKind::Scalar(ScalarValue::Null);
+        Ok(Some(ParseEvent::new(kind, Span::new(0, 4))))
+    }
+
+    fn peek_event<'t>(&mut self) -> Result<Option<ParseEvent<'de>>, ParseError<'t>> {
+        self.next_event()
+    }
+
+    fn next_events<'t>(
+        &mut self,
+        _buf: &mut VecDeque<ParseEvent<'de>>,
+        _limit: usize,
+    ) -> Result<usize, ParseError<'t>> {
+        Ok(0)
+    }
+
+    fn save<'t>(&mut self) -> Result<SavePoint, ParseError<'t>> {
+        Ok(SavePoint(1))
+    }
+
+    fn restore(&mut self, _point: SavePoint) {}
+
+    fn current_span(&self) -> Option<Span> {
+        None
+    }
+
+    fn input(&self) -> Option<&'de [u8]> {
+        None
+    }
+
+    fn format_namespace<'t>(&self) -> Option<&'t str> {
+        None
+    }
+}
+
+/// How many events come where this many are left.
+fn counted(left: usize) -> Result<usize, ParseError<'static>> {
+    count(&mut Nulls { left })
+}
+
+#[test]
+fn three_events_come(rt: HostRuntime) {
+    assert!(rt; counted(3) == Ok(3));
+}
+
+/// Whether a peek shows what the next call gives.
+fn peek_shows_next(left: usize) -> bool {
+    match peek_and_next(&mut Nulls { left }) {
+        Some((shown, event)) => shown == event,
+        None => false,
+    }
+}
+
+#[test]
+fn a_peek_shows_the_next_event(rt: HostRuntime) {
+    assert!(rt; peek_shows_next(3));
+}
