@@ -17,6 +17,3 @@ pub use reader::{from_slice, from_slice_jsonc};
 pub use ser_error::JsonSerializeError;
 pub use tree::Tree;
 pub use writer::to_vec;
-
-#[cfg(test)]
-mod tests;

@@ -101,6 +101,3 @@ pub fn drive<'de>(
     }
     Ok(answers)
 }
-
-#[cfg(test)]
-mod tests;

@@ -1,0 +1,6 @@
+//! Callers of `facet_json`, short and proved: the examples of the README, and more.
+#![tactic(auto)]
+
+pub mod events;
+pub mod tokens;
+pub mod trees;
