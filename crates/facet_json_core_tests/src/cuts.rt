@@ -1,11 +1,11 @@
 //! Inputs cut after each of their bytes.
 
-use facet_format::Span;
+use facet_format::{FormatParser, Span};
 use facet_json_core::{Answer, Call, JsonParser, drive};
 use std::alloc::Global;
 
 /// More calls than any of the inputs has bytes, by two.
-const CALLS: [Call; 80] = [Call::Next; 80];
+static CALLS: [Call; 80] = [Call::Next; 80];
 
 /// The bytes that an answer speaks of.
 fn span_of(answer: &Answer<'_>) -> Span {
@@ -32,9 +32,10 @@ fn is_same_ending(a: &Answer<'_>, b: &Answer<'_>) -> bool {
     }
 }
 
-/// The answers are events, and after them one end or refusal again and again; each speaks of bytes among the first so many.
+/// The answers are events, and after them one end or refusal twice or more; each speaks of bytes among the first so many.
 fn ends(answers: &[Answer<'_>], len: usize) -> bool {
     let mut ending: Option<&Answer<'_>> = None;
+    let mut repeats = false;
     for answer in answers {
         if !is_within(answer, len) {
             return false;
@@ -44,6 +45,7 @@ fn ends(answers: &[Answer<'_>], len: usize) -> bool {
                 if !is_same_ending(end, answer) {
                     return false;
                 }
+                repeats = true;
             }
             None => {
                 if !matches!(answer, Answer::Event(Ok(Some(_)))) {
@@ -52,26 +54,24 @@ fn ends(answers: &[Answer<'_>], len: usize) -> bool {
             }
         }
     }
-    ending.is_some()
+    repeats
 }
 
 /// The calls are answered by events and then one ending, and the last token stands among the first so many bytes.
 fn reads_to_its_end(alloc: Global, mut parser: JsonParser<'_>, calls: &[Call], len: usize) -> bool {
-    let ended = match drive(alloc, &mut parser, calls) {
-        Ok(answers) => ends(answers.as_slice(), len),
+    match drive(alloc, &mut parser, calls) {
+        Ok(answers) => {
+            let span = Answer::Span(parser.current_span());
+            ends(answers.as_slice(), len) && is_within(&span, len)
+        }
         Err(_) => false,
-    };
-    let within = match drive(alloc, &mut parser, &[Call::Next, Call::Span]) {
-        Ok(answers) => answers.iter().all(|answer| is_within(answer, len)),
-        Err(_) => false,
-    };
-    ended && within
+    }
 }
 
-/// In both modes, one call more than there are bytes meets the end or a refusal, which stays.
+/// In both modes, one call more than there are bytes meets the end or a refusal, and the call after it the same.
 fn is_read(alloc: Global, input: &[u8]) -> bool {
     let len = input.len();
-    match CALLS.get(..=len) {
+    match CALLS.get(..=len.saturating_add(1)) {
         Some(calls) => {
             reads_to_its_end(alloc, JsonParser::new(alloc, input), calls, len)
                 && reads_to_its_end(alloc, JsonParser::new_jsonc(alloc, input), calls, len)
@@ -90,7 +90,7 @@ fn unread(alloc: Global, input: &[u8]) -> Option<usize> {
     None
 }
 
-const TEXTS: [&str; 42] = [
+static TEXTS: [&str; 42] = [
     "[1,]",
     "[,]",
     "[}",
@@ -137,7 +137,7 @@ const TEXTS: [&str; 42] = [
 
 #[test]
 fn cut_texts(rt: HostRuntime) {
-    for input in TEXTS {
+    for input in &TEXTS {
         assert_eq!(rt; unread(rt.alloc(), input.as_bytes()), None, "{input}");
     }
 }

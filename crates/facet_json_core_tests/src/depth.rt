@@ -22,7 +22,7 @@ struct Row {
     last: usize,
 }
 
-const ROWS: [Row; 4] = [
+static ROWS: [Row; 4] = [
     Row {
         open: "[",
         opened: 100_000,
@@ -87,24 +87,43 @@ fn input_of(alloc: Global, row: &Row) -> Result<String, AllocError> {
     Ok(input)
 }
 
+/// The parser is refused so, or is at the document's end.
+fn is_refused(parser: &mut JsonParser<'_>, refusal: Option<ParseError<'static>>) -> bool {
+    match parser.next_event() {
+        Ok(Some(_)) => false,
+        Ok(None) => refusal.is_none(),
+        Err(error) => refusal == Some(error),
+    }
+}
+
+/// The last token is the byte at this offset.
+fn stands_at(parser: &JsonParser<'_>, offset: usize) -> bool {
+    parser.current_span() == Some(Span::new(offset, 1))
+}
+
 /// After its events the parser answers as the row says.
 fn ends(parser: &mut JsonParser<'_>, row: &Row) -> bool {
-    let ended = match parser.next_event() {
-        Ok(Some(_)) => false,
-        Ok(None) => row.refusal.is_none(),
-        Err(error) => row.refusal == Some(error),
-    };
-    ended && parser.current_span() == Some(Span::new(row.last, 1))
+    is_refused(parser, row.refusal) && stands_at(parser, row.last)
+}
+
+/// An event comes.
+fn comes(parser: &mut JsonParser<'_>) -> bool {
+    matches!(parser.next_event(), Ok(Some(_)))
+}
+
+/// So many events come.
+fn all_come(parser: &mut JsonParser<'_>, count: usize) -> bool {
+    for _ in 0..count {
+        if !comes(parser) {
+            return false;
+        }
+    }
+    true
 }
 
 /// The events come one at a time.
 fn comes_one_by_one(mut parser: JsonParser<'_>, row: &Row) -> bool {
-    for _ in 0..row.count {
-        if !matches!(parser.next_event(), Ok(Some(_))) {
-            return false;
-        }
-    }
-    ends(&mut parser, row)
+    all_come(&mut parser, row.count) && ends(&mut parser, row)
 }
 
 /// The events come all at once.
@@ -117,22 +136,27 @@ fn comes_at_once(alloc: Global, mut parser: JsonParser<'_>, row: &Row) -> bool {
     came && ends(&mut parser, row)
 }
 
-/// A plain parser reads the row one at a time, and a trusted one with comments all at once.
+/// A plain parser reads the input one event at a time, and a trusted one with comments all at once.
+fn is_text_read(alloc: Global, input: &str, row: &Row) -> bool {
+    comes_one_by_one(JsonParser::new(alloc, input.as_bytes()), row)
+        && comes_at_once(
+            alloc,
+            JsonParser::new_jsonc_trusted(alloc, input.as_bytes()),
+            row,
+        )
+}
+
+/// The row's input is read so.
 fn is_read(alloc: Global, row: &Row) -> bool {
     match input_of(alloc, row) {
-        Ok(input) => {
-            let bytes = input.as_bytes();
-            comes_one_by_one(JsonParser::new(alloc, bytes), row)
-                && comes_at_once(alloc, JsonParser::new_jsonc_trusted(alloc, bytes), row)
-        }
+        Ok(input) => is_text_read(alloc, input.as_str(), row),
         Err(_) => false,
     }
 }
 
 #[test]
 fn deep_inputs(rt: HostRuntime) {
-    for row in ROWS {
-        let read = is_read(rt.alloc(), &row);
-        assert!(rt; read, "{} of {}", row.opened, row.open);
+    for row in &ROWS {
+        assert!(rt; is_read(rt.alloc(), row), "{} of {}", row.opened, row.open);
     }
 }

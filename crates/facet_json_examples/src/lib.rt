@@ -2,5 +2,7 @@
 #![tactic(auto)]
 
 pub mod events;
+pub mod loops;
+pub mod reformat;
 pub mod tokens;
 pub mod trees;
