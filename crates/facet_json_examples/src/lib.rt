@@ -3,6 +3,8 @@
 
 pub mod events;
 pub mod loops;
+pub mod probing;
 pub mod reformat;
+pub mod scanning;
 pub mod tokens;
 pub mod trees;
