@@ -1,0 +1,10 @@
+//! Callers of `facet_json`, short and proved: the examples of the README, and more.
+#![tactic(auto)]
+
+pub mod events;
+pub mod loops;
+pub mod probing;
+pub mod reformat;
+pub mod scanning;
+pub mod tokens;
+pub mod trees;

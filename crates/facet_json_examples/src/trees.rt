@@ -1,0 +1,18 @@
+//! Trees of documents, and texts of trees.
+
+use facet_json::{DeserializeError, JsonSerializeError, Tree, from_slice, to_vec};
+use std::alloc::Global;
+
+/// How many items the list has that the input is. With `from_slice_jsonc` the input may have comments.
+fn count<'t>(alloc: Global, input: &[u8]) -> Result<usize, DeserializeError<'t>> {
+    match from_slice(alloc, input)? {
+        Tree::List(items) => Ok(items.len()),
+        _ => Ok(0),
+    }
+}
+
+/// The text of a list of two numbers: `[1,2]`.
+fn pair(alloc: Global) -> Result<Vec<u8>, JsonSerializeError> {
+    let items = vec![in alloc; Tree::U64(1), Tree::U64(2)]?;
+    to_vec(alloc, &Tree::List(items))
+}
