@@ -1,4 +1,4 @@
--- A cursor answers in one way where memory is ample, so two answers to a call are one, or one of them is want of memory.
+-- A cursor answers in one way where memory is ample, so two answers to a call are one, or one of them is out of memory.
 use Rattle.std.proofs.Common.{◌≡◌, ◌≢◌, ◌⊎◌, inl, inr, ℕ, zero, suc, ◌==◌, cond, List, [], ◌∷◌, length, Option, Some, None, refl, sym, ◌∙◌, subst, arith}
 use Rattle.std.specs.Prelude.{Ok, Err}
 use Rattle.std.proofs.lemmas.Bool.{eq-eqb, ne_eqb}
@@ -10,7 +10,7 @@ use Rattle.facet_format.specs.Agree.{LacksMemory, no_event, no_more, no_point, A
 
 -- ---- one answer where memory is ample
 
--- an answer, and the cursor behind it
+-- an answer, and the cursor after it
 abbrev Outcome : Type 0
 Outcome = Answer × Cursor
 
@@ -51,7 +51,7 @@ unless_told c (Some answer) other = (answer, c)
 abbrev ample : List Passed → Cursor → Call → Outcome
 ample w c call = unless_told c (told c.refusal call) (free w c call)
 
--- The answer and the cursor behind it are these.
+-- The answer and the cursor after it are these.
 abbrev Is : Answer → Cursor → Outcome → Type 0
 Is a d outcome = (a ≡ outcome.0) × (d ≡ outcome.1)
 
@@ -68,7 +68,7 @@ module _ (w : List Passed) (c : Cursor) where
   unrefused : (call : Call) (a : Answer) (d : Cursor) → c.refusal ≡ None → Is a d (free w c call) → Is a d (ample w c call)
   unrefused call a d none is = is_free call a d (rw none refl) is
 
-  -- Each answer is want of memory, or the one where memory is ample.
+  -- Each answer is out of memory, or the one where memory is ample.
   step-ample : {call : Call} {a : Answer} {d : Cursor} → Step w c call a d → LacksMemory a ⊎ Is a d (ample w c call)
   step-ample (repeats r call answer is repeats_it) =
       let same : told c.refusal call ≡ Some answer = rw is repeats_it in
@@ -101,7 +101,7 @@ agree_by (inl l) other = lacks l
 agree_by (inr is) (inl l) = other_lacks l
 agree_by (inr is) (inr other) = is_one (is.0 ∙ sym other.0) (is.1 ∙ sym other.1)
 
--- Two answers to a call are one, want of memory aside.
+-- Two answers to a call are one, out of memory aside.
 pub step-agrees : (w : List Passed) (c d e : Cursor) (call : Call) (a b : Answer) → Step w c call a d → Step w c call b e →
     Agree a b d e
 step-agrees w c d e call a b first second = agree_by (step-ample w c first) (step-ample w c second)
@@ -115,7 +115,7 @@ runs_on {a = a} {b = b} {these = these} {those = those} (other_lacks l) more = s
 runs_on {a = a} {b = b} {these = these} {those = those} (is_one same left) more =
     subst (λ x. AgreeToLack (a ∷ these) (x ∷ those)) same (same_answer a these those (more left))
 
--- Two runs with the same calls agree up to the first want of memory.
+-- Two runs with the same calls agree up to the first out of memory.
 pub runs-agree : (w : List Passed) (c d e : Cursor) (calls : List Call) (these those : List Answer) → Run w c calls these d →
     Run w c calls those e → AgreeToLack these those
 runs-agree w c d e _ _ _ (no_calls _) (no_calls _) = no_answers

@@ -29,7 +29,7 @@ w = passed opens ∷ passed one ∷ passed closes ∷ []
 abbrev spot : ℕ → Spot
 spot n = record { place = n; peeked = false }
 
--- a cursor behind all of them
+-- a cursor after all of them
 abbrev at_end : Cursor
 at_end = record start { spot = spot 3 }
 

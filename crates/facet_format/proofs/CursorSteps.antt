@@ -6,7 +6,7 @@ use Rattle.facet_format.specs.Complaint.{Refusal}
 use Rattle.facet_format.specs.Event.{Passed}
 use Rattle.facet_format.specs.Cursor.{Cursor, Step, Answer, event, next, peek}
 
--- The call behind a peek answers what the peek did.
+-- The call after a peek answers what the peek did.
 pub peek-next : (w : List Passed) (c between last : Cursor) (shown answer : Answer) → Step w c peek shown between →
     Step w between next answer last → shown ≡ answer
 peek-next w c _ _ shown answer (Step.repeats r _ _ is shows) (Step.repeats q _ _ still answers) =

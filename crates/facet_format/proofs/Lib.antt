@@ -1,5 +1,4 @@
 pub mod CursorAgrees
-pub mod CursorLaws
 pub mod CursorRows
 pub mod CursorSteps
 pub mod KeptLaws

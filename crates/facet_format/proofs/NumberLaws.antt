@@ -39,7 +39,7 @@ mark_no_digit b e = mark-is b e (λ n. is_digit n ≡ false) refl refl
 pub mark_no_dot : (b : ℕ) → is_exponent_mark b ≡ true → (b == dot) ≡ false
 mark_no_dot b e = mark-is b e (λ n. (n == dot) ≡ false) refl refl
 
--- Digits are measured, and the digits behind them.
+-- Digits are measured, and the digits after them.
 pub digits_len-append : (digits rest : List ℕ) → AreDigits digits →
     digits_len (digits ++ rest) ≡ length digits + digits_len rest
 digits_len-append _ rest AreDigits.none = omega arith
@@ -375,7 +375,7 @@ is_number-complete bytes hint n =
 pub number_is_tested : NumberIsTested
 number_is_tested text hint = (is_number-sound text hint, is_number-complete text hint)
 
--- A front that is a number is no longer than the number that is measured.
+-- A prefix that is a number is no longer than the number that is measured.
 parts_len-longest : (bytes : List ℕ) (k : ℕ) (hint : Hint) → k ≤ length bytes → IsNumber (take k bytes) hint →
     k ≤ parts_len (parts bytes)
 parts_len-longest bytes k hint h n =
@@ -385,7 +385,7 @@ parts_len-longest bytes k hint h n =
     elim (cases_lt m k)
     [ inl short ↦ omega (arith, long, ap parts_len (parts-take k bytes (omega arith))) | inr enough ↦ enough ]
 
--- Where more than a minus stands, the number at the front is a number, and no longer front of the bytes is one.
+-- Where more than a minus stands, the number at the start is a number, and no longer prefix of the bytes is one.
 pub number_is_longest : NumberIsLongest
 number_is_longest bytes begins more =
     (parts_len-bound bytes, is_number-sound _ _ (is_number-front bytes begins more), parts_len-longest bytes)

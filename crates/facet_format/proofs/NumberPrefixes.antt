@@ -1,4 +1,4 @@
--- A numeral is measured alike in the bytes and in each front of them that holds it.
+-- A numeral is measured alike in the bytes and in each prefix of them that holds it.
 use Rattle.std.proofs.Common.{◌≡◌, ℕ, zero, suc, ◌+◌, ◌-◌, ◌≤◌, ◌<◌, Bool, true, false, cond, ◌==◌, List, [], ◌∷◌, length, take, drop, refl, sym, ap, ◌∙◌, arith, length-drop}
 use Rattle.std.proofs.lemmas.List.{drop-take, length-take-le}
 use Rattle.facet_format.specs.Bytes.{is_digit, is_exponent_mark, is_sign, minus, dot}
@@ -65,14 +65,14 @@ parts_len-bound bytes =
       length-drop (sign + digits + fraction) bytes,
     )
 
--- ---- each part is measured alike in a front that holds it
+-- ---- each part is measured alike in a prefix that holds it
 
--- A measure of the front, and of the whole where that is within k more.
+-- A measure of the prefix, and of the whole where that is within k more.
 cond_front : (t : Bool) (x y k : ℕ) → cond t (suc y) 0 ≤ suc k → (y ≤ k → x ≡ y) → cond t (suc x) 0 ≡ cond t (suc y) 0
 cond_front true x y k h f = ap suc (f (omega arith))
 cond_front false x y k h f = refl
 
--- Digits are measured alike in a front that holds them, and so is each other part.
+-- Digits are measured alike in a prefix that holds them, and so is each other part.
 digits_len-take : (k : ℕ) (bytes : List ℕ) → digits_len bytes ≤ k → digits_len (take k bytes) ≡ digits_len bytes
 digits_len-take zero bytes h = omega arith
 digits_len-take (suc k) [] h = refl
@@ -89,18 +89,18 @@ fraction_len-take zero bytes h = omega arith
 fraction_len-take (suc k) [] h = refl
 fraction_len-take (suc k) (b ∷ bytes) h = cond_front (b == dot) _ _ k h (digits_len-take k bytes)
 
--- An exponent's sign is measured alike in a front that holds it.
+-- An exponent's sign is measured alike in a prefix that holds it.
 sign_len-take : (k : ℕ) (bytes : List ℕ) → sign_len bytes ≤ k → sign_len (take k bytes) ≡ sign_len bytes
 sign_len-take zero bytes h = omega arith
 sign_len-take (suc k) [] h = refl
 sign_len-take (suc k) (b ∷ bytes) h = refl
 
--- Behind n bytes, a front of m more is a front of what stands there.
+-- After n bytes, a prefix of m more is a prefix of what stands there.
 drop_front : (n k : ℕ) (bytes : List ℕ) → n ≤ k → drop n (take k bytes) ≡ take (k - n) (drop n bytes)
 drop_front n k bytes h =
     let e : k ≡ n + (k - n) = omega arith in ap (λ m. drop n (take m bytes)) e ∙ drop-take n (k - n) bytes
 
--- Digits behind n bytes are measured alike in a front that holds them.
+-- Digits after n bytes are measured alike in a prefix that holds them.
 digits_behind : (n k : ℕ) (bytes : List ℕ) → n + digits_len (drop n bytes) ≤ k →
     digits_len (drop n (take k bytes)) ≡ digits_len (drop n bytes)
 digits_behind n k bytes h =
@@ -112,7 +112,7 @@ fraction_behind : (n k : ℕ) (bytes : List ℕ) → n + fraction_len (drop n by
 fraction_behind n k bytes h =
     ap fraction_len (drop_front n k bytes (omega arith)) ∙ fraction_len-take (k - n) (drop n bytes) (omega arith)
 
--- A sign and digits are measured alike in a front that holds them.
+-- A sign and digits are measured alike in a prefix that holds them.
 power_len-take : (k : ℕ) (bytes : List ℕ) → power_len bytes ≤ k → power_len (take k bytes) ≡ power_len bytes
 power_len-take k bytes h =
     let e : sign_len (take k bytes) ≡ sign_len bytes = sign_len-take k bytes (omega arith) in
@@ -144,7 +144,7 @@ from_digits bytes s d = from_fraction bytes s d (fraction_len (drop (s + d) byte
 abbrev pub from_sign : List ℕ → ℕ → Parts
 from_sign bytes s = from_digits bytes s (digits_len (drop s bytes))
 
--- A numeral has the same parts in each front that holds it.
+-- A numeral has the same parts in each prefix that holds it.
 pub parts-take : (k : ℕ) (bytes : List ℕ) → parts_len (parts bytes) ≤ k → parts (take k bytes) ≡ parts bytes
 unfolding parts
 parts-take k bytes h =
@@ -157,14 +157,14 @@ parts-take k bytes h =
     ∙ ap (from_fraction front s d) (fraction_behind (s + d) k bytes (omega arith))
     ∙ ap (from_exponent s d f) (exponent_behind (s + d + f) k bytes (omega arith))
 
--- ---- the number at the front
+-- ---- the number at the start
 
 -- A hint is the same as itself.
 pub same_hint-refl : (hint : Hint) → same_hint hint hint ≡ true
 same_hint-refl unsigned = refl
 same_hint-refl _ = refl
 
--- A number's start is left in a front of it.
+-- A number's start is left in a prefix of it.
 begins_number-take : (k : ℕ) (bytes : List ℕ) → 0 < k → begins_number bytes ≡ true → begins_number (take k bytes) ≡ true
 begins_number-take zero bytes h e = absurd (omega arith)
 begins_number-take (suc k) [] h e = e

@@ -10,7 +10,7 @@ pub record PartsEnd (p : Parts) (at digits fraction exponent end : ℕ) : Type 0
   pub fraction_ends : exponent ≡ fraction + p.fraction
   pub exponent_ends : end ≡ exponent + p.exponent
 
--- a part behind a front of what stands at an offset
+-- a part after a prefix of what stands at an offset
 part-behind : (len : List ℕ → ℕ) (buffer : List ℕ) (at front from to : ℕ) → from ≡ at + front →
     to ≡ from + len (drop from buffer) → to ≡ from + len (drop front (drop at buffer))
 part-behind len buffer at front from to e h =

@@ -64,9 +64,9 @@ pub number-none : (text : List ℕ) (hint : Hint) → is_number text hint ≡ fa
 unfolding number
 number-none text hint isnt = ap (λ t. cond t (value_by hint (parts text) text) None) isnt
 
--- ---- behind a minus
+-- ---- after a minus
 
--- Parts that leave a signed number are digits behind a minus.
+-- Parts that leave a signed number are digits after a minus.
 digits-behind : (sign digits fraction exponent : List ℕ) (m f x : Bool) → IsMinus sign m → IsFraction fraction f →
     IsExponent exponent x → signed ≡ hint_of m f x → sign ++ digits ++ fraction ++ exponent ≡ minus ∷ digits
 digits-behind _ digits _ _ _ _ _ IsMinus.present IsFraction.absent IsExponent.absent e =
@@ -79,7 +79,7 @@ digits-behind _ digits _ _ _ _ _ sign IsFraction.absent (IsExponent.present _ _ 
 range_rest : (n : ℕ) (xs : List ℕ) → take (length xs - n) (drop n xs) ≡ drop n xs
 range_rest n xs = take_all (length xs - n) (drop n xs) (omega (arith, length-drop n xs))
 
--- The text of a signed number is digits behind its minus.
+-- The text of a signed number is digits after its minus.
 pub signed-digits : (text : List ℕ) (n : ℕ) → n ≡ (parts text).sign → is_number text signed ≡ true →
     AreDigits (take (length text - n) (drop n text))
 unfolding parts
@@ -132,7 +132,7 @@ some_len : (n : ℕ) → (n ≡ 0 → ⊥) → not (is_some_len n) ≡ false
 some_len zero some = absurd (some refl)
 some_len (suc n) some = refl
 
--- Where a digit stands before an exponent mark, the number has a value if one stands behind it.
+-- Where a digit stands before an exponent mark, the number has a value if one stands after it.
 pub has_value-behind : (p : Parts) (text before exponent : List ℕ) →
     before ≡ take (p.sign + p.digits + p.fraction) text → exponent ≡ drop (p.sign + p.digits + p.fraction) text →
     list_any is_digit before ≡ true → (p.exponent ≡ 0 → ⊥) → list_any is_digit exponent ≡ has_value p text

@@ -4,19 +4,19 @@ use Rattle.facet_format.specs.Complaint.{Refusal, out_of_memory}
 use Rattle.facet_format.specs.Event.{Event}
 use Rattle.facet_format.specs.Cursor.{Answer, event, batch, saved, Cursor}
 
--- The answer is a refusal for want of memory.
+-- The answer is a refusal for lack of memory.
 pub data LacksMemory : Answer → Type 0 where
   no_event : (r : Refusal) → r.complaint ≡ out_of_memory → LacksMemory (event (Err r))
   no_more : (given : List Event) (r : Refusal) → r.complaint ≡ out_of_memory → LacksMemory (batch given (Err r))
   no_point : (r : Refusal) → r.complaint ≡ out_of_memory → LacksMemory (saved (Err r))
 
--- One of two answers to a call is want of memory, or both are one answer, behind which both cursors are one.
+-- One of two answers to a call is out of memory, or both are one answer, after which both cursors are one.
 pub data Agree (a b : Answer) (d e : Cursor) : Type 0 where
   lacks : LacksMemory a → Agree a b d e
   other_lacks : LacksMemory b → Agree a b d e
   is_one : a ≡ b → d ≡ e → Agree a b d e
 
--- The answers are the same one by one, up to the first that is want of memory in either list.
+-- The answers are the same one by one, up to the first that is out of memory in either list.
 pub data AgreeToLack : List Answer → List Answer → Type 0 where
   no_answers : AgreeToLack [] []
   first_lacks : (a b : Answer) (these those : List Answer) → LacksMemory a → AgreeToLack (a ∷ these) (b ∷ those)

@@ -19,7 +19,7 @@ pub data Call : Type 0 where
 pub data Answer : Type 0 where
   -- the event, or none at the end
   event : Result (Option Event) Refusal → Answer
-  -- the events that were given out, with their number or the refusal behind them
+  -- the events that were given out, with their number or the refusal after them
   batch : List Event → Result ℕ Refusal → Answer
   saved : Result ℕ Refusal → Answer
   restored : Answer
@@ -70,7 +70,7 @@ upcoming w spot = slice_get w spot.place
 abbrev pub upcoming_events : List Passed → Spot → ℕ → List Event
 upcoming_events w spot n = map (λ p. p.event) (take n (drop spot.place w))
 
--- behind so many more events
+-- after so many more events
 abbrev pub moved : Spot → ℕ → Spot
 moved spot zero = spot
 moved spot (suc n) = record { place = spot.place + suc n; peeked = false }
@@ -120,7 +120,7 @@ pub data Step (w : List Passed) (c : Cursor) : Call → Answer → Cursor → Ty
       Step w c call answer c
   passes : (p : Passed) → c.refusal ≡ None → upcoming w c.spot ≡ Some p →
       Step w c next (event (Ok (Some p.event))) (at_spot c (moved c.spot 1))
-  -- an event that was peeked at takes no memory any more
+  -- an event that was peeked at does not allocate any more
   passes_without_memory : (p : Passed) → c.refusal ≡ None → upcoming w c.spot ≡ Some p →
       takes_memory p.event.kind ≡ true → c.spot.peeked ≡ false →
       Step w c next (event (Err (no_memory_at (current_span w c.spot)))) (refused_at c c.spot (no_memory_at (current_span w c.spot)))
@@ -135,7 +135,7 @@ pub data Step (w : List Passed) (c : Cursor) : Call → Answer → Cursor → Ty
   gives_none : Step w c (events 0) (batch [] (Ok 0)) c
   gives : (k n : ℕ) (given : List Event) → c.refusal ≡ None → given ≡ upcoming_events w c.spot (suc k) →
       n ≡ length given → Step w c (events (suc k)) (batch given (Ok n)) (at_spot c (moved c.spot n))
-  -- memory ran out behind n events, where more stand there
+  -- memory ran out after n events, where more stand there
   gives_without_memory : (k n : ℕ) (given : List Event) (spot : Spot) → c.refusal ≡ None →
       n < length (upcoming_events w c.spot (suc k)) → given ≡ upcoming_events w c.spot n → spot ≡ moved c.spot n →
       Step w c (events (suc k)) (batch given (Err (no_memory_at (current_span w spot)))) (refused_at c spot (no_memory_at (current_span w spot)))

@@ -75,7 +75,7 @@ holds_made sequence_end = false
 holds_made (field_key name) = is_owned name
 holds_made (scalar value) = is_made value
 
--- an event of this kind may take memory: a container to remember, or a text to make
+-- an event of this kind may allocate: a container to remember, or a text to make
 abbrev pub takes_memory : EventKind → Bool
 takes_memory (struct_start kind) = true
 takes_memory struct_end = false

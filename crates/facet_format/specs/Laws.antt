@@ -5,7 +5,7 @@ use Rattle.facet_format.specs.Cursor.{Cursor, Call, Step, Run, Answer, next, pee
 use Rattle.facet_format.specs.Agree.{Agree, AgreeToLack}
 use Rattle.facet_format.specs.Number.{Hint, IsNumber, parts, parts_len, parts_hint, is_bare, begins_number, is_number}
 
--- Where more than a minus stands, the number at the front is a number, and no longer front of the bytes is one.
+-- Where more than a minus stands, the number at the start is a number, and no longer prefix of the bytes is one.
 abbrev pub NumberIsLongest : Type 0
 NumberIsLongest = (bytes : List ℕ) → begins_number bytes ≡ true → is_bare (parts bytes) ≡ false →
     let n = parts_len (parts bytes) in
@@ -16,16 +16,16 @@ NumberIsLongest = (bytes : List ℕ) → begins_number bytes ≡ true → is_bar
 abbrev pub NumberIsTested : Type 0
 NumberIsTested = (text : List ℕ) (hint : Hint) → (is_number text hint ≡ true) ↔ IsNumber text hint
 
--- The call behind a peek answers what the peek did.
+-- The call after a peek answers what the peek did.
 abbrev pub PeekIsNext : Type 0
 PeekIsNext = (w : List Passed) (c between last : Cursor) (shown answer : Answer) → Step w c peek shown between →
     Step w between next answer last → shown ≡ answer
 
--- A cursor answers a call in one way, and is then in one state, want of memory aside.
+-- A cursor answers a call in one way, and is then in one state, out of memory aside.
 abbrev pub StepsAgree : Type 0
 StepsAgree = (w : List Passed) (c d e : Cursor) (call : Call) (a b : Answer) → Step w c call a d → Step w c call b e → Agree a b d e
 
--- Two runs of one cursor with the same calls give the same answers, up to the first want of memory in either.
+-- Two runs of one cursor with the same calls give the same answers, up to the first out of memory in either.
 abbrev pub RunsAgree : Type 0
 RunsAgree = (w : List Passed) (c d e : Cursor) (calls : List Call) (these those : List Answer) → Run w c calls these d →
     Run w c calls those e → AgreeToLack these those

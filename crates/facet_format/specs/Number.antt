@@ -87,7 +87,7 @@ abbrev pub exponent_len : List ℕ → ℕ
 exponent_len [] = 0
 exponent_len (b ∷ bytes) = cond (is_exponent_mark b) (suc (sign_len bytes + digits_len (drop (sign_len bytes) bytes))) 0
 
--- the lengths of the longest numeral at the front, part by part
+-- the lengths of the longest numeral at the start, part by part
 pub record Parts : Type 0 where
   pub sign : ℕ
   pub digits : ℕ

@@ -6,7 +6,7 @@ pub record Span : Type 0 where
   pub offset : ℕ
   pub len : ℕ
 
--- the offset behind it
+-- the offset after it
 abbrev pub stop : Span → ℕ
 stop s = s.offset + s.len
 

@@ -3,7 +3,7 @@ use Rattle.std.specs.Prelude.{List}
 use Rattle.facet_format.specs.Event.{Passed}
 use Rattle.facet_format.specs.Cursor.{Cursor, Call, Answer, Step}
 
--- From each cursor at which the parser stands on a walk, the call is one step, behind which it stands at the cursor's new place.
+-- From each cursor at which the parser stands on a walk, the call is one step, after which it stands at the cursor's new place.
 abbrev pub IsStep : {S : Type 0} → (S → List Passed → Cursor → Type 0) → S → Call → Answer → S → Type 0
 IsStep at old call answer new =
     (w : List Passed) (c : Cursor) → at old w c → (between : Cursor) × Step w c call answer between × at new w between

@@ -1,4 +1,4 @@
--- What the types of the code stand for in the definitions. The one file of the definitions that names types of the code.
+-- What the types of the code stand for in the definitions. This file and `HeldText` name types of the code.
 use Rattle.std.specs.Prelude.{◌≡◌, ◌≤◌, ℕ, List, map, length, Option, Result, Ok, Err}
 use Rattle.std.specs.Option.{option_map}
 use Rattle.facet_format.specs.declared.span.Span.{Span as RustSpan}

@@ -87,7 +87,7 @@ impl<'a> Decimal<'a> {
         self.0.as_str()
     }
 
-    /// The same text. A borrowed one stays borrowed, and an owned one is copied, which alone takes memory.
+    /// The same text. A borrowed one stays borrowed, and an owned one is copied, which alone allocates.
     pub fn clone(&self, alloc: Global) -> Result<Decimal<'a>, AllocError>
         ensures { MatchResult result (λ d. d ≡ self.now) (λ _. is_owned self.now ≡ true) }
     {

@@ -7,7 +7,7 @@ ghost use Rattle.facet_format.specs.Views.{refusal_of, complaint_of};
 use crate::span::Span;
 use std::alloc::{AllocError, AllocFailed};
 
-/// Why reading was refused. The texts are constants of the reader, so a refusal takes no memory.
+/// Why reading was refused. The texts are constants of the reader, so a refusal does not allocate.
 #[derive(Debug, Clone, Copy, PartialEq, Eq)]
 pub enum DeserializeErrorKind<'t> {
     /// No token goes on with this character.

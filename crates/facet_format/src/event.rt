@@ -163,7 +163,7 @@ impl<'a> ParseEvent<'a> {
         ParseEvent { kind, span }
     }
 
-    /// The same event. A borrowed text stays borrowed, and an owned one is copied, which alone takes memory.
+    /// The same event. A borrowed text stays borrowed, and an owned one is copied, which alone allocates.
     pub fn clone(&self, alloc: Global) -> Result<ParseEvent<'a>, AllocError>
         ensures { MatchResult result
             (λ copy. event_of copy ≡ event_of self.now)

@@ -3,7 +3,7 @@
 
 ghost use Rattle.facet_format.specs.Laws.{NumberIsLongest, NumberIsTested, PeekIsNext, StepsAgree, RunsAgree};
 
-/// Where more than a minus stands, the number at the front of the bytes is a number, and no longer front of them is one
+/// Where more than a minus stands, the number at the start of the bytes is a number, and no longer prefix of them is one
 /// (RFC 8259, section 6).
 pub fn number_is_longest()
     ensures { NumberIsLongest }
@@ -14,18 +14,18 @@ pub fn number_is_tested()
     ensures { NumberIsTested }
 {}
 
-/// A peek is the next event: the call behind it answers what it did, a refusal too, and want of memory comes between
+/// A peek is the next event: the call after it answers what it did, a refusal too, and out of memory comes between
 /// them nowhere.
 pub fn peek_is_next()
     ensures { PeekIsNext }
 {}
 
-/// A cursor answers a call in one way, and is then in one state, unless one of two answers is want of memory.
+/// A cursor answers a call in one way, and is then in one state, unless one of two answers is out of memory.
 pub fn steps_agree()
     ensures { StepsAgree }
 {}
 
-/// Two runs of one cursor with the same calls give the same answers, up to the first want of memory in either.
+/// Two runs of one cursor with the same calls give the same answers, up to the first out of memory in either.
 pub fn runs_agree()
     ensures { RunsAgree }
 {}

@@ -1,5 +1,5 @@
-//! What the formats of this library share: spans of the input, events, numbers that are kept as their text, and how
-//! reading is refused.
+//! What formats share: `Span`, events (`ParseEvent`), `Decimal`, how reading is refused (`DeserializeError`, `ParseError`), and
+//! `FormatParser`, the trait of parsers.
 #![tactic(auto)]
 
 mod decimal;

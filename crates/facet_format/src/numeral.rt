@@ -107,7 +107,7 @@ pub fn parts_at(buffer: &[u8], at: usize) -> Parts
     }
 }
 
-/// The offset behind the minus, if one stands at `at`.
+/// The offset after the minus, if one stands at `at`.
 fn minus_end(buffer: &[u8], at: usize) -> usize
     requires { at ≤ length buffer.now }
     ensures end { result ≡ at + minus_len (drop at buffer.now) }
@@ -119,7 +119,7 @@ fn minus_end(buffer: &[u8], at: usize) -> usize
     }
 }
 
-/// The offset behind the digits at `at`.
+/// The offset after the digits at `at`.
 fn digits_end(buffer: &[u8], at: usize) -> usize
     requires { at ≤ length buffer.now }
     ensures end { result ≡ at + digits_len (drop at buffer.now) }
@@ -132,7 +132,7 @@ fn digits_end(buffer: &[u8], at: usize) -> usize
     end
 }
 
-/// The offset behind the fraction, if one stands at `at`.
+/// The offset after the fraction, if one stands at `at`.
 fn fraction_end(buffer: &[u8], at: usize) -> usize
     requires { at ≤ length buffer.now }
     ensures end { result ≡ at + fraction_len (drop at buffer.now) }
@@ -144,7 +144,7 @@ fn fraction_end(buffer: &[u8], at: usize) -> usize
     }
 }
 
-/// The offset behind the exponent, if one stands at `at`.
+/// The offset after the exponent, if one stands at `at`.
 fn exponent_end(buffer: &[u8], at: usize) -> usize
     requires { at ≤ length buffer.now }
     ensures end { result ≡ at + exponent_len (drop at buffer.now) }
@@ -156,7 +156,7 @@ fn exponent_end(buffer: &[u8], at: usize) -> usize
     }
 }
 
-/// The offset behind the sign of an exponent, if one stands at `at`.
+/// The offset after the sign of an exponent, if one stands at `at`.
 fn sign_end(buffer: &[u8], at: usize) -> usize
     requires { at ≤ length buffer.now }
     ensures end { result ≡ at + sign_len (drop at buffer.now) }

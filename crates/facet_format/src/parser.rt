@@ -58,7 +58,7 @@ pub trait FormatParser<'de> {
     fn restore(&mut self, point: SavePoint)
         ensures steps { IsStep at self.old (restore point.0) restored self.new };
 
-    /// The bytes of the token that was read last.
+    /// The bytes of the last token that was consumed, a peek's included.
     fn current_span(&self) -> Option<Span>
         ensures steps { IsStep at self.now span (answer_of_span result) self.now };
 

@@ -50,13 +50,13 @@ mutual
       let more = members_text-depth m n false others in
       cc
 
--- behind the last item stands the closing bracket
+-- after the last item stands the closing bracket
 pub items_text-end : (first : Bool) → compact_items first no_trees ≡ right_bracket ∷ []
 unfolding items_text
 items_text-end true = refl
 items_text-end false = refl
 
--- and behind the last member the closing brace
+-- and after the last member the closing brace
 pub members_text-end : (first : Bool) → compact_members first no_pairs ≡ right_brace ∷ []
 unfolding members_text
 members_text-end true = refl

@@ -18,7 +18,7 @@ use Rattle.facet_json.proofs.WalkTells.{walk-tells}
 use Rattle.facet_json.proofs.PrefixBreaksOff.{begun-breaks}
 
 module _ (buffer : List ℕ) (mode : Mode) where
-  -- From the front of a document events tell its tree.
+  -- From the prefix of a document events tell its tree.
   document-told : (root : Node) (value : Tree) → IsDocument buffer mode root value →
       Tells (future_of (fresh buffer mode)) value finished
   document-told root value d =
@@ -30,7 +30,7 @@ module _ (buffer : List ℕ) (mode : Mode) where
       (root : Node) (value : Tree) → IsDocument buffer mode root value → t ≡ value
   read-only t rest read root value d = (read.told value finished (document-told root value d)).0
 
-  -- Where there is a document, only want of memory is refused.
+  -- Where there is a document, only out of memory is refused.
   pub unread-only : (r : Refusal) → IsValueUnread buffer (future_of (fresh buffer mode)) r →
       (root : Node) (value : Tree) → IsDocument buffer mode root value → LacksMemory r
   unread-only r unread root value d = unread.told value finished (document-told root value d)
@@ -56,6 +56,6 @@ module _ (buffer : List ℕ) (mode : Mode) where
         | inr s ↦ inr (refused-from buffer mode Complains events r (record { here = here; rest = left; front = front; stuck = s }))
       ]
 
-  -- What is refused for anything but want of memory is refused from the root.
+  -- What is refused for anything but out of memory is refused from the root.
   pub unread-refused : (r : Refusal) → IsValueUnread buffer (future_of (fresh buffer mode)) r → LacksMemory r ⊎ Refuses buffer mode r
   unread-refused r unread = unread_by r unread (input-comes buffer mode)

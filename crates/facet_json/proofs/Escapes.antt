@@ -51,7 +51,7 @@ IsWritten-plain text before out start i lt plain h =
           ∙ escaped-more text before i lt;
     }
 
--- the run and an escape, behind which the next run is empty
+-- the run and an escape, after which the next run is empty
 pub IsWritten-escape : (text before out : List ℕ) (start i : ℕ) → i < length text → IsWritten text before out start i
     → IsWritten text before (out ++ slice_range text start i ++ escaped (get_or text i 0)) (i + 1) (i + 1)
 IsWritten-escape text before out start i lt h =

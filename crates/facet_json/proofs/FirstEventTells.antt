@@ -24,7 +24,7 @@ told-begins p f rest t (a_scalar _ _ value _ k s) = ap begins k
 told-begins p f rest _ (a_list _ _ _ kind items k h) = ap begins k
 told-begins p f rest _ (an_object _ _ _ kind members k h) = ap begins k
 
--- A value within which events break off behind the first one is a container.
+-- A value within which events break off after the first one is a container.
 pub broken-opens : (place : Place) (rest : Tokens) (p : Passed) (f : Future) → Breaks place rest (gives p f) → opens p.event.kind ≡ true
 broken-opens place rest p f (in_list _ _ kind k h) = ap opens k
 broken-opens place rest p f (in_object _ _ kind k h) = ap opens k
@@ -63,7 +63,7 @@ object-broken place rest p f kind k (in_object _ _ other q h) = h
 
 -- ---- items
 
--- Behind the end of a list no more items are told.
+-- After the end of a list no more items are told.
 pub items-ended : (p : Passed) (f rest : Future) (items : Trees) → p.event.kind ≡ sequence_end → TellsItems (gives p f) items rest →
     (no_trees ≡ items) × (f ≡ rest)
 items-ended p f rest _ k (no_item _ _ q) = (refl, refl)
@@ -71,7 +71,7 @@ items-ended p f rest _ k (one_item _ others _ t items h more) =
     let begun = told-begins p f others t h in
     let ends : begins p.event.kind ≡ false = ap begins k in cc
 
--- In front of another event a first item is told, and others behind it.
+-- Before another event a first item is told, and others after it.
 pub items-first : (p : Passed) (f rest : Future) (items : Trees) → p.event.kind ≢ sequence_end → TellsItems (gives p f) items rest →
     (t : Tree) × (behind : Future) × (others : Trees) × Tells (gives p f) t behind × TellsItems behind others rest × (items ≡ tree t others)
 items-first p f rest _ k (no_item _ _ q) = absurd (k q)
@@ -87,7 +87,7 @@ items_end-whole place rest p f k (past_item _ others t h more) =
     let begun = told-begins p f others t h in
     let ends : begins p.event.kind ≡ false = ap begins k in cc
 
--- Items break off within the first, or behind it.
+-- Items break off within the first, or after it.
 pub items-broken : (place : Place) (rest : Tokens) (f : Future) → BreaksItems place rest f →
     Breaks place rest f ⊎ ((t : Tree) × (others : Future) × Tells f t others × BreaksItems place rest others)
 items-broken place rest f (in_item _ h) = inl h
@@ -95,13 +95,13 @@ items-broken place rest f (past_item _ others t h more) = inr (t, others, h, mor
 
 -- ---- members
 
--- Behind the end of an object no more members are told.
+-- After the end of an object no more members are told.
 pub members-ended : (p : Passed) (f rest : Future) (members : Pairs) → p.event.kind ≡ struct_end → TellsMembers (gives p f) members rest →
     (no_pairs ≡ members) × (f ≡ rest)
 members-ended p f rest _ k (no_member _ _ q) = (refl, refl)
 members-ended p f rest _ k (one_member _ _ others _ name t members q h more) = cc
 
--- Behind a key its value is told, and other members behind that.
+-- After a key its value is told, and other members after that.
 pub members-first : (p : Passed) (f rest : Future) (members : Pairs) (name : Text) → p.event.kind ≡ field_key name →
     TellsMembers (gives p f) members rest →
     (t : Tree) × (behind : Future) × (others : Pairs) × Tells f t behind × TellsMembers behind others rest × (members ≡ pair (bytes_of name) t others)
@@ -110,7 +110,7 @@ members-first p f rest _ name k (one_member _ _ behind _ other t others q h more
     let same : other ≡ name = cc in
     (t, behind, others, h, more, ap (λ n. pair (bytes_of n) t others) same)
 
--- an event that may stand in front of a member or behind the last one
+-- an event that may stand before a member or after the last one
 abbrev pub is_member : EventKind → Bool
 is_member (field_key name) = true
 is_member struct_end = true
@@ -120,13 +120,13 @@ pub members-begin : (p : Passed) (f rest : Future) (members : Pairs) → TellsMe
 members-begin p f rest _ (no_member _ _ q) = ap is_member q
 members-begin p f rest _ (one_member _ _ others _ name t members q h more) = ap is_member q
 
--- An object breaks off behind a key.
+-- An object breaks off after a key.
 pub members_broken-begin : (place : Place) (rest : Tokens) (p : Passed) (f : Future) → BreaksMembers place rest (gives p f) →
     (name : Text) × (p.event.kind ≡ field_key name)
 members_broken-begin place rest p f (in_member _ _ name k h) = (name, k)
 members_broken-begin place rest p f (past_member _ _ others name t k h more) = (name, k)
 
--- Members break off within the first's value, or behind it.
+-- Members break off within the first's value, or after it.
 pub members-broken : (place : Place) (rest : Tokens) (p : Passed) (f : Future) → BreaksMembers place rest (gives p f) →
     Breaks place rest f ⊎ ((t : Tree) × (others : Future) × Tells f t others × BreaksMembers place rest others)
 members-broken place rest p f (in_member _ _ name k h) = inl h

@@ -14,7 +14,7 @@ use Rattle.facet_json.specs.Inner.Told.{TellsItems, BreaksItems}
 use Rattle.facet_json.specs.Inner.Reading.{IsValueRead, AreItemsRead, IsValueUnread, AreItemsUnread}
 use Rattle.facet_json.proofs.FirstEventTells.{items-ended, items-first, items_end-whole, items-broken}
 
--- trees in front of others
+-- trees before others
 abbrev pub trees_before : List Tree → Trees → Trees
 trees_before [] others = others
 trees_before (t ∷ ts) others = tree t (trees_before ts others)

@@ -22,7 +22,7 @@ use Rattle.facet_json.specs.Inner.Told.{TellsMembers, BreaksMembers}
 use Rattle.facet_json.specs.Inner.Reading.{IsValueRead, AreMembersRead, IsValueUnread, AreMembersUnread}
 use Rattle.facet_json.proofs.FirstEventTells.{is_member, members-ended, members-first, members-begin, members_broken-begin, members-broken}
 
--- members in front of others
+-- members before others
 abbrev pub pairs_before : List (List ℕ × Tree) → Pairs → Pairs
 pairs_before [] others = others
 pairs_before (m ∷ ms) others = pair m.0 m.1 (pairs_before ms others)

@@ -24,7 +24,7 @@ next-gave e free is (passes_without_memory p future s none goes takes off like) 
 next-gave e free is (passes_the_end s none f like) = cc
 next-gave e free is (passes_nothing place rest r s none f stops like) = cc
 
--- A refusal is want of memory, or nothing goes on.
+-- A refusal is out of memory, or nothing goes on.
 pub next-refused : {old new : Now} {answer : Answer} (r : Refusal) → old.refusal ≡ None → answer ≡ event (Err r) → Moves Complains old next answer new → GivesNone old r
 next-refused r free is (repeats s call answer f a) = cc
 next-refused r free is (passes p future s none goes shows) = cc

@@ -14,7 +14,7 @@ use Rattle.facet_json.specs.Inner.Told.{Tells, Breaks, in_front, BreaksItems, Br
 use Rattle.facet_json.specs.Inner.Told as told
 use Rattle.facet_json.proofs.WalkTells.{walk-tells}
 
--- The events break off within a value, or tell it, and then the stage behind it is reached.
+-- The events break off within a value, or tell it, and then the stage after it is reached.
 data ValueBegun (here : Place) (rest : Tokens) (after stage : Stage) (events : List Passed) : Type 0 where
   is_broken : Breaks here rest (events_before events (stuck here rest)) → ValueBegun here rest after stage events
   is_whole : (value : Tree) → after ≡ stage → Tells (events_before events (stuck here rest)) value (stuck here rest) →

@@ -33,12 +33,12 @@ read-at {V = V} {tells = tells} {breaks = breaks} {rest = rest} {value = value} 
 pub went-none : (now : Now) → now.refusal ≡ None → WentOn now now
 went-none now free = record { free = free; onward = omega arith }
 
--- Behind an event and what goes on from it no more bytes are ahead.
+-- After an event and what goes on from it no more bytes are ahead.
 pub went-behind : (a b c d : Now) → WentOn a b → ahead c < ahead b → WentOn c d → WentOn a d
 went-behind a b c d before shorter behind =
     record { free = behind.free; onward = omega (arith, before.onward, shorter, behind.onward) }
 
--- Where an event comes, its refusal is want of memory.
+-- Where an event comes, its refusal is out of memory.
 none-memory : (now : Now) (r : Refusal) (f : Future) → future_of now ≡ f → GivesNone now r → HasFirst f → LacksMemory r
 none-memory now r f e (lacks_memory h) has = h
 none-memory now r _ e (at_the_end g) (has_first p f) = cc

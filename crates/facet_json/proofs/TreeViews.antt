@@ -47,7 +47,7 @@ pairs_view-length (p ∷ ps) [] e = cc
 pairs_view-length (p ∷ ps) (q ∷ qs) e =
     let rest : pairs_view ps ≡ pairs_view qs = cc in ap suc (pairs_view-length ps qs rest)
 
--- from an index on stand the item there and those behind it
+-- from an index on stand the item there and those after it
 pub trees_view-drop : (xs : List Tree) (i : ℕ) (x : Tree) → i < length xs → x ≡ get_or xs i x
     → trees_view (drop i xs) ≡ tree.tree (tree_view x) (trees_view (drop (i + 1) xs))
 trees_view-drop xs i x h is = ap trees_view (drop_more xs i x h ∙ ap (λ y. y ∷ drop (i + 1) xs) (sym is))

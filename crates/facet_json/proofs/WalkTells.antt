@@ -81,7 +81,7 @@ module _ (buffer : List ℕ) where
   mutual
     unfolding walk tree_of
 
-    -- The walk of a value tells its tree, whatever comes behind.
+    -- The walk of a value tells its tree, whatever comes after.
     pub walk-tells : (n : Node) (value : Tree) (rest : Future) → tree_of (meaning buffer) n ≡ Some value →
         Tells (events_before (walk (meaning buffer) n) rest) value rest
     walk-tells (scalar t) value rest e = a_scalar (scalar_event (meaning buffer) t) rest _ value refl (scalar-told t value e)

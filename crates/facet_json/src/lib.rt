@@ -1,4 +1,5 @@
-//! JSON text (RFC 8259, with lenient readings) to values and back, proved.
+//! JSON text (RFC 8259, with lenient readings) to values and back, proved: `from_slice` and `from_slice_jsonc` read a `Tree`,
+//! `to_vec` writes one, `JsonParser` reads by events, and `scanner` has tokens, strings' contents and numbers by themselves.
 #![tactic(auto)]
 
 pub mod laws;

@@ -22,7 +22,7 @@ use facet_format::{FormatParser,
 use facet_json_core::JsonParser;
 use std::alloc::Global;
 
-/// Reads the plain document that the bytes begin with (RFC 8259, sections 2 to 7, with a trailing comma allowed). What follows it is
+/// Reads the plain document that the bytes begin with (RFC 8259, sections 2 to 7, with lenient readings such as a trailing comma). What follows it is
 /// not looked at.
 ///
 /// ```text
@@ -32,7 +32,7 @@ use std::alloc::Global;
 ///
 /// # Errors
 ///
-/// The bytes begin with no document: a refusal of the kinds 1 to 4, its span the offset and length in bytes of what it is about. Or want of
+/// The bytes begin with no document: a refusal of the kinds 1 to 4, its span the offset and length in bytes of what it is about. Or out of
 /// memory, kind 9: its span is known where an event lacked it, and not where the tree did.
 pub fn from_slice<'t>(alloc: Global, input: &[u8]) -> Result<Tree, DeserializeError<'t>>
     ensures document { IfOk result (λ t. (root : Node) × IsDocument input.now plain root (tree_view t)) }
@@ -64,7 +64,7 @@ pub fn from_slice_jsonc<'t>(alloc: Global, input: &[u8]) -> Result<Tree, Deseria
     root(alloc, &mut JsonParser::new_jsonc(alloc, input))
 }
 
-/// The value in front of which the parser stands.
+/// The value before which the parser stands.
 fn root<'t>(alloc: Global, parser: &mut JsonParser<'_>) -> Result<Tree, DeserializeError<'t>>
     requires free { parser.old.refusal ≡ None }
     ensures same { parser.new.buffer ≡ parser.old.buffer }
@@ -106,7 +106,7 @@ fn ended<'t>(parser: &JsonParser<'_>) -> DeserializeError<'t>
     }
 }
 
-/// The value that begins with an event, behind which the parser stands.
+/// The value that begins with an event, after which the parser stands.
 #[cycle(read)]
 fn value<'t>(
     alloc: Global,
@@ -134,7 +134,7 @@ fn value<'t>(
     }
 }
 
-/// The items of a list, behind its opening bracket. Passes the closing one.
+/// The items of a list, after its opening bracket. Passes the closing one.
 #[cycle(read)]
 fn items<'t>(alloc: Global, parser: &mut JsonParser<'_>) -> Result<Vec<Tree>, DeserializeError<'t>>
     requires free { parser.old.refusal ≡ None }
@@ -154,7 +154,7 @@ fn items<'t>(alloc: Global, parser: &mut JsonParser<'_>) -> Result<Vec<Tree>, De
     }
 }
 
-/// The members of an object, behind its opening brace. Passes the closing one.
+/// The members of an object, after its opening brace. Passes the closing one.
 #[cycle(read)]
 fn members<'t>(
     alloc: Global,

@@ -15,7 +15,7 @@ pub enum Tree {
     Null,
     /// `true` or `false`
     Bool(bool),
-    /// A whole number behind a minus, within 64 bits.
+    /// A whole number after a minus, within 64 bits.
     I64(i64),
     /// A whole number without a sign, within 64 bits.
     U64(u64),

@@ -91,7 +91,7 @@ fn push_bytes(out: &mut Vec<u8>, bytes: &[u8]) -> Result<(), JsonSerializeError>
     Ok(())
 }
 
-/// Nothing in front of the first, a comma in front of each other.
+/// Nothing before the first, a comma before each other.
 fn push_separator(out: &mut Vec<u8>, first: bool) -> Result<(), JsonSerializeError>
     ensures { OnOk result (out.new.items ≡ out.old.items ++ separator first) }
 {
@@ -101,7 +101,7 @@ fn push_separator(out: &mut Vec<u8>, first: bool) -> Result<(), JsonSerializeErr
     Ok(())
 }
 
-/// Appends a whole number's decimal digits, behind a minus where it is negative.
+/// Appends a whole number's decimal digits, after a minus where it is negative.
 fn push_number<N: itoa::Integer>(out: &mut Vec<u8>, n: N) -> Result<(), JsonSerializeError>
     ensures { OnOk result (out.new.items ≡ out.old.items ++ N.text n) }
 {
@@ -136,7 +136,7 @@ fn needs_escape(byte: u8) -> bool
 }
 
 /// What stands between the quotes for one byte of a text.
-#[tactic(auto, using(crate::proofs::Escapes::long_escape), unfolding(crate::specs::Quoted::escaped))]
+#[tactic(auto, using(crate::proofs::Escapes::long_escape), unfolding(facet_json_document::specs::Quoted::escaped))]
 fn push_escaped(out: &mut Vec<u8>, byte: u8) -> Result<(), JsonSerializeError>
     ensures { OnOk result (out.new.items ≡ out.old.items ++ escaped byte) }
 {

@@ -1,4 +1,4 @@
--- The words of calls: none has a comma, and which call stands in front of a script.
+-- The words of calls: none has a comma, and which call stands before a script.
 use Rattle.std.proofs.Common.{◌≡◌, ◌≢◌, ℕ, ◌<◌, ◌⊎◌, List, [], ◌∷◌, ◌++◌, map, codes, sym, subst, ◌∙◌, arith, rules, inl, inr, Option, Some, None, MatchOption}
 use Rattle.std.proofs.lemmas.List.{map-append, append_assoc}
 use Rattle.std.specs.Char.{digit_value}
@@ -38,7 +38,7 @@ script_word _ _ lacks (one_word text call is) = (call, is)
 script_word _ _ lacks (word_first text word rest call calls cut is more) =
     absurd (has_byte comma word rest (rw cut at lacks))
 
--- Behind the first comma of a script stands a script, and before it the word of a call.
+-- After the first comma of a script stands a script, and before it the word of a call.
 pub script_behind : (text word behind : List ℕ) (calls : List Call) → text ≡ word ++ (comma ∷ behind) → Lacks comma word →
     IsScript text calls → (call : Call) × (more : List Call) × IsWordOf call word × IsScript behind more
 script_behind _ word behind _ cut lacks (one_word text call is) =
@@ -70,7 +70,7 @@ call_or_none word (Some c) n p sa sp is = is
 
 -- ---- the loop over the words: the calls so far, and what is left of the script
 
--- One more call was read, with a comma behind its word.
+-- One more call was read, with a comma after its word.
 pub one_more_call : (script rest word behind : List ℕ) (calls more : List RustCall) (call : RustCall) →
     rest ≡ word ++ (comma ∷ behind) → more ≡ calls ++ (call ∷ []) → IsWordOf (call_of call) word →
     ((others : List Call) → IsScript rest others → IsScript script (map call_of calls ++ others)) →

@@ -1,4 +1,4 @@
--- How `events` ends behind what it printed, once that is on its way.
+-- How `events` ends after what it printed, once that is on its way.
 use Rattle.std.proofs.Common.{◌≡◌, ◌≢◌, ◌⊎◌, ℕ, List, [], Option, Some, None, IfSome, sym, subst, ◌∙◌, inl, inr}
 use Rattle.std.specs.Io.KnownBytes.{Keeps}
 use Rattle.facet_json_token.specs.Gap.{Mode}

@@ -81,7 +81,7 @@ line_stopped mode input a b c parser (Refused code span) so_far stops =
 line_stopped mode input a b c parser Io so_far stops = tt
 line_stopped mode input a b c parser Usage so_far stops = absurd stops
 
--- ---- behind the last line
+-- ---- after the last line
 
 pub grows_keeps : (a b c : Option (List ℕ)) → Grows a b → Keeps b c → Grows a c
 grows_keeps a b c grows keeps = (grows.0, appends_keeps a b c grows.0 grows.1 keeps)

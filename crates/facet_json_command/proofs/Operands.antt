@@ -1,4 +1,4 @@
--- The words behind a command: the option once at most, and other words, read from the front.
+-- The words after a command: the option once at most, and other words, read from the prefix.
 use Rattle.std.proofs.Common.{◌≡◌, ◌≢◌, ℕ, zero, suc, ◌<◌, ◌≤◌, List, [], ◌∷◌, ◌++◌, length, get_or, take, drop, codes, String, Global, string_bytes, subst, refl, sym, ap, arith}
 use Rattle.facet_json_token.specs.Gap.{Mode, plain, jsonc}
 use Rattle.facet_format.specs.Cursor.{Call}

@@ -26,20 +26,20 @@ appends_keeps (Some held) (Some mid) (Some last) xs appends keeps = keeps ∙ ap
 pub grows_both : (a b c : Option (List ℕ)) (xs : List ℕ) → Appends a b xs → Grows b c → Grows a c
 grows_both a b c xs first second = (xs ++ second.0, appends_both a b c xs second.0 first second.1)
 
--- Printing that stopped behind what was written
+-- Printing that stopped after what was written
 pub stops_behind : (a b c : Option (List ℕ)) (xs : List ℕ) (outcome : Outcome) → Appends a b xs → Stops b c outcome → Stops a c outcome
 stops_behind a b c xs Done first second = second
 stops_behind a b c xs (Refused code span) first second = (second.0, grows_both a b c xs first second.1)
 stops_behind a b c xs Io first second = second
 stops_behind a b c xs Usage first second = second
 
--- what is printed behind what is written already
+-- what is printed after what is written already
 pub prints_behind : {T : Type 0} (a b c : Option (List ℕ)) (xs ys : List ℕ) (result : Result T Outcome) →
     Appends a b xs → Prints b c ys result → Prints a c (xs ++ ys) result
 prints_behind a b c xs ys (Ok done) first second = appends_both a b c xs ys first second
 prints_behind a b c xs ys (Err outcome) first second = stops_behind a b c xs outcome first second
 
--- A text of which a front is printed, and what is left of it
+-- A text of which a prefix is printed, and what is left of it
 pub record IsPrintedUpTo (before now : Option (List ℕ)) (whole left : List ℕ) : Type 0 where
   pub front : List ℕ
   pub appended : Appends before now front

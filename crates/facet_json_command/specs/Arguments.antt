@@ -1,4 +1,4 @@
--- What the arguments behind the program's name ask for.
+-- What the arguments after the program's name ask for.
 use Rattle.std.specs.Prelude.{◌≡◌, ◌≢◌, ℕ, List, [], ◌∷◌, codes}
 use Rattle.facet_format.specs.Cursor.{Call}
 use Rattle.facet_json_token.specs.Gap.{Mode, plain, jsonc}
@@ -17,7 +17,7 @@ pub data Command : Type 0 where
 abbrev pub comments : List ℕ
 comments = codes "--jsonc"
 
--- The words behind the command: these operands in order and, where the mode says so, the option once, anywhere among them.
+-- The words after the command: these operands in order and, where the mode says so, the option once, anywhere among them.
 pub data AreWords : Mode → List (List ℕ) → List (List ℕ) → Type 0 where
   no_words : AreWords plain [] []
   operand : (mode : Mode) (word : List ℕ) (operands words : List (List ℕ)) → word ≢ comments →

@@ -16,7 +16,7 @@ use Rattle.facet_json_document.specs.Quoted.{quoted}
 abbrev pub place_line : List ℕ → Span → List ℕ
 place_line name span = name ++ codes " " ++ decimal span.offset ++ codes "+" ++ decimal span.len ++ codes "\n"
 
--- a name and where it stands, in front of a value
+-- a name and where it stands, before a value
 abbrev pub head_text : List ℕ → Span → List ℕ
 head_text name span = name ++ codes " " ++ decimal span.offset ++ codes "+" ++ decimal span.len ++ codes " "
 
@@ -61,12 +61,12 @@ abbrev pub next_line : Option Event → List ℕ
 next_line None = codes "None\n"
 next_line (Some e) = event_line e
 
--- the line behind several events: of their number, or of the refusal
+-- the line after several events: of their number, or of the refusal
 abbrev pub count_line : Result ℕ Refusal → List ℕ
 count_line (Ok n) = codes "events " ++ decimal n ++ codes "\n"
 count_line (Err r) = refusal_line r
 
--- the lines of an answer; of several events, one of each and then one of their number, or of the refusal behind them
+-- the lines of an answer; of several events, one of each and then one of their number, or of the refusal after them
 abbrev pub answer_lines : Answer → List ℕ
 answer_lines (answer.event (Ok e)) = next_line e
 answer_lines (answer.event (Err r)) = refusal_line r

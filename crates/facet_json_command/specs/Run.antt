@@ -38,7 +38,7 @@ pub record IsRefusedSo (mode : Mode) (input : List ℕ) (code : ℕ) (span : Opt
   pub has_code : code ≡ code_of refusal.complaint
   pub has_span : option_map span_of span ≡ refusal.span
 
--- An answer that says nothing of the input: want of memory, which is code 9, or a read or a write that failed.
+-- An answer that says nothing of the input: out of memory, which is code 9, or a read or a write that failed.
 abbrev pub IsFailure : Outcome → Type 0
 IsFailure Done = ⊥
 IsFailure (Refused code span) = code ≡ 9
@@ -59,11 +59,11 @@ Formats mode input before after (Refused code span) = IsRefusal mode input (Refu
 Formats mode input before after Io = Unit {0}
 Formats mode input before after Usage = ⊥
 
--- The bytes that a writer is known to hold are still at the front of what it holds.
+-- The bytes that a writer is known to hold are still at the start of what it holds.
 abbrev pub Grows : Option (List ℕ) → Option (List ℕ) → Type 0
 Grows before after = (written : List ℕ) × Appends before after written
 
--- How printing stops in front of its end: memory was wanted, and a front is written; or a write failed.
+-- How printing stops before its end: memory was wanted, and a prefix is written; or a write failed.
 abbrev pub Stops : Option (List ℕ) → Option (List ℕ) → Outcome → Type 0
 Stops before after Done = ⊥
 Stops before after (Refused code span) = (code ≡ 9) × Grows before after
@@ -86,7 +86,7 @@ pub record AreListed (mode : Mode) (input : List ℕ) (before after : Option (Li
   pub moves : MovesAll Complains (fresh input mode) (nexts given) (map (λ e. event (Ok (Some e))) given ++ (last ∷ [])) parser
   pub printed : Appends before after (flat_map event_line given)
 
--- A parser that has read nothing was refused so behind the events whose lines are printed.
+-- A parser that has read nothing was refused so after the events whose lines are printed.
 pub record AreListedUpTo (mode : Mode) (input : List ℕ) (before after : Option (List ℕ)) (code : ℕ) (span : Option Span) : Type 0 where
   pub refusal : Refusal
   pub listed : AreListed mode input before after (event (Err refusal))

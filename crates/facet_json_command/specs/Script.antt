@@ -1,4 +1,4 @@
--- The script of `drive`: the words of calls, parted by single commas, as `next,events:2,restore:1`.
+-- The script of `drive`: the words of calls, separated by single commas, as `next,events:2,restore:1`.
 use Rattle.std.specs.Prelude.{◌≡◌, ◌<◌, ◌^◌, ℕ, List, [], ◌∷◌, ◌++◌, codes}
 use Rattle.std.specs.Str.Parse.{IsNumeral, digits_value}
 use Rattle.facet_format.specs.Cursor.{Call, next, peek, events, save, restore, span}
@@ -25,7 +25,7 @@ IsWordOf save word = word ≡ codes "save"
 IsWordOf (restore point) word = IsNumbered (codes "restore:") word point
 IsWordOf span word = word ≡ codes "span"
 
--- The text is the words of these calls, one or more, parted by single commas.
+-- The text is the words of these calls, one or more, separated by single commas.
 pub data IsScript : List ℕ → List Call → Type 0 where
   one_word : (text : List ℕ) (call : Call) → IsWordOf call text → IsScript text (call ∷ [])
   word_first : (text word rest : List ℕ) (call : Call) (calls : List Call) → text ≡ word ++ (comma ∷ rest) →

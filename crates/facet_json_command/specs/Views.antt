@@ -25,7 +25,7 @@ abbrev pub operands_of : Option (Bor (List ℕ)) → List (List ℕ)
 operands_of None = []
 operands_of (Some word) = word.now ∷ []
 
--- how many events were given out, or the refusal behind them
+-- how many events were given out, or the refusal after them
 abbrev pub count_of : Result ℕ ParseError → Result ℕ Refusal
 count_of (Ok n) = Ok n
 count_of (Err e) = Err (parse_refusal e)

@@ -1,4 +1,4 @@
-//! What the arguments behind the program's name ask for.
+//! What the arguments after the program's name ask for.
 
 ghost use Rattle.std.specs.Prelude.{◌≡◌, ◌≤◌, ◌⊎◌, ℕ, List, [], ◌∷◌, ◌++◌, length, None, IfOk, IfErr, MatchOption, MatchResult};
 ghost use Rattle.facet_json_token.specs.Gap.{Mode as SpecMode};
@@ -38,7 +38,7 @@ pub enum Command {
 /// The option by which the input may have comments.
 const COMMENTS: &str = "--jsonc";
 
-/// The words behind the command's name.
+/// The words after the command's name.
 #[derive(Clone, Copy)]
 struct Words<'a> {
     mode: Mode,
@@ -109,7 +109,7 @@ fn named(alloc: Global, name: &str, words: Words<'_>) -> Result<Command, Outcome
     }
 }
 
-/// The words behind the command's name, where they are the option, once at most, and one other word at most.
+/// The words after the command's name, where they are the option, once at most, and one other word at most.
 fn words_behind(words: &[String]) -> Option<Words<'_>>
     ensures { MatchOption result
         ((mode : SpecMode) (operands : List (List ℕ)) → length operands ≤ 1 → ¬ AreWords mode operands (words_of words.now))

@@ -102,7 +102,7 @@ fn write_next<W: Write>(
     }
 }
 
-/// Writes the lines of several events, and then of their number or of the refusal behind them.
+/// Writes the lines of several events, and then of their number or of the refusal after them.
 fn write_batch<W: Write>(
     alloc: Global,
     events: VecDeque<ParseEvent<'_>>,
@@ -116,7 +116,7 @@ fn write_batch<W: Write>(
     write_count(writer, count)
 }
 
-/// Writes the line of how many events were given out, or of the refusal behind them.
+/// Writes the line of how many events were given out, or of the refusal after them.
 fn write_count<W: Write>(writer: &mut W, count: Result<usize, ParseError<'_>>) -> Result<(), Outcome>
     ensures { Prints (W.contents writer.old) (W.contents writer.new) (count_line (count_of count.entry)) result }
 {
@@ -199,7 +199,7 @@ fn write_pieces<W: Write>(writer: &mut W, name: &str, span: Span, bytes: &[u8]) 
     writer.write_all(b"\n")
 }
 
-/// Writes the front of a line, a name and where it stands.
+/// Writes the prefix of a line, a name and where it stands.
 fn write_head<W: Write>(writer: &mut W, name: &str, span: Span) -> io::Result<()>
     ensures { OnOk result (Appends (W.contents writer.old) (W.contents writer.new) (head_text name.now (span_of span))) }
 {

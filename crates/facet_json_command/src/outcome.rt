@@ -26,7 +26,7 @@ pub enum Outcome {
 /// A growth was refused, which has no place in the input.
 pub const OUT_OF_MEMORY: Outcome = Outcome::Refused(9, None);
 
-/// How a call of the system that failed is answered. A growth that was refused in the midst of it is want of memory.
+/// How a call of the system that failed is answered. A growth that was refused in the midst of it is out of memory.
 pub fn failure(error: &io::Error) -> Outcome
     ensures memory { error_kind error.now ≡ ErrorKind.OutOfMemory → result ≡ outcome.Refused 9 None }
     ensures failed { IsFailure result }

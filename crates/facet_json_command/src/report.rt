@@ -13,7 +13,7 @@ const USAGE: &str =
     "usage: facet_json_tool fmt [--pretty] [--jsonc] | events [--jsonc] | tokens [--jsonc] \
     | drive [--jsonc] SCRIPT";
 
-/// Writes the line for the standard error, if there is one. This takes no memory.
+/// Writes the line for the standard error, if there is one. This does not allocate.
 pub fn write_line<W: Write>(outcome: Outcome, errors: &mut W) -> io::Result<()>
     ensures { OnOk result (Appends (W.contents errors.old) (W.contents errors.new) (line_of outcome)) }
 {

@@ -32,7 +32,7 @@ use facet_json_core::{Answer, Call, JsonParser, drive};
 use std::alloc::Global;
 use std::io::{Read, Write};
 
-/// Does what the arguments behind the program's name ask for. It writes in small pieces.
+/// Does what the arguments after the program's name ask for. It writes in small pieces.
 pub fn run<R: Read, W: Write>(
     alloc: Global,
     args: &[String],
@@ -246,7 +246,7 @@ fn write_answers<W: Write>(
     Ok(())
 }
 
-/// A parser of the input, in front of it.
+/// A parser of the input, before it.
 fn parser_of<'de>(alloc: Global, mode: Mode, input: &'de [u8]) -> JsonParser<'de>
     ensures { result ≡ fresh input.now (mode_of mode) }
 {

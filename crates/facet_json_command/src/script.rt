@@ -1,4 +1,4 @@
-//! The script of `drive`: words of calls, parted by single commas.
+//! The script of `drive`: words of calls, separated by single commas.
 
 ghost use Rattle.std.specs.Prelude.{◌≡◌, ◌≢◌, ◌⊎◌, ℕ, List, map, codes, None, IfOk, IfErr, MatchOption, slice_index};
 ghost use Rattle.facet_format.specs.Cursor.{Call as SpecCall};

@@ -1,5 +1,5 @@
-//! JSON documents (RFC 8259, with lenient readings, and JSONC comments), proved: what they are, and how they are read.
-//! `JsonParser` reads a document event by event, and `drive` makes lists of its calls.
+//! The parser of JSON documents by events, `JsonParser` (RFC 8259, with lenient readings, and JSONC comments), and `drive`,
+//! which makes a list of its calls. `laws` has what shows the definitions of documents and parsers right.
 #![tactic(auto)]
 
 pub mod laws;

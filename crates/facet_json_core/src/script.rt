@@ -71,7 +71,7 @@ impl Call {
     }
 }
 
-/// Makes all calls in order, also behind a refusal, and answers what each of them answers.
+/// Makes all calls in order, also after a refusal, and answers what each of them answers.
 ///
 /// ```text
 /// let mut parser = JsonParser::new(alloc, b"[1]");
@@ -81,7 +81,7 @@ impl Call {
 ///
 /// # Errors
 ///
-/// There is no room for the answers, which is reserved first: then no call is made. A call that is refused, also for want of
+/// There is no room for the answers, which is reserved first: then no call is made. A call that is refused, also for lack of
 /// memory, has its refusal as its answer.
 pub fn drive<'de>(
     alloc: Global,

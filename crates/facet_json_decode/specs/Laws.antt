@@ -1,4 +1,4 @@
--- The law of strings' contents. It is the contract of a function of the module `laws`.
+-- The law of strings' contents. It is the contract of a function of the module `laws` of `facet_json_scan`.
 use Rattle.std.specs.Prelude.{ℕ, ◌≡◌, ◌↔◌, List, Some}
 use Rattle.facet_json_decode.specs.Decode.{Decodes, decoded}
 

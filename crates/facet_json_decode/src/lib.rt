@@ -1,4 +1,5 @@
-//! The contents of JSON strings (RFC 8259, section 7) to their texts.
+//! The contents of JSON strings (RFC 8259, section 7) to their texts: `decode_string` and its kin, and
+//! `check_string`, which does not allocate.
 #![tactic(auto)]
 
 mod decode;

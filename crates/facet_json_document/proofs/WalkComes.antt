@@ -1,4 +1,4 @@
--- What comes, token by token; and that from the front of a value on its walk comes.
+-- What comes, token by token; and that from the prefix of a value on its walk comes.
 use Rattle.std.proofs.Common.{◌≡◌, ℕ, true, false, List, [], ◌∷◌, ◌++◌, Option, Some, None, refl, sym, ap, ◌∙◌}
 use Rattle.std.proofs.Math.Bool.{and-false}
 use Rattle.facet_json_token.specs.Token.{Kind, Token, Fault}
@@ -26,7 +26,7 @@ pub data TakesValue : Place → Type 0 where
   behind_colon : TakesValue after_colon
   of_list : TakesValue before_item
 
--- Events behind events.
+-- Events after events.
 pub events_before-append : (a b : List Passed) (f : Future) →
     events_before (a ++ b) f ≡ events_before a (events_before b f)
 events_before-append [] b f = refl
@@ -122,39 +122,39 @@ module _ (m : Meaning) where
   reads-object stack place t rest at k =
       reads-turn stack place t rest _ (turn-plain stack place t _ k refl ∙ object_here stack place at)
 
-  -- A comma behind an item gives nothing.
+  -- A comma after an item gives nothing.
   pub reads-item_comma : (stack : List ContainerKind) (t : Token) (rest : Tokens) → t.kind ≡ token.comma →
       reads m stack (within after_item) (next t rest) ≡ reads m stack (within before_item) rest
   reads-item_comma stack t rest k = reads-turn stack after_item t rest _ (turn-plain stack after_item t _ k refl)
 
-  -- Nor does one behind a member.
+  -- Nor does one after a member.
   pub reads-member_comma : (stack : List ContainerKind) (t : Token) (rest : Tokens) → t.kind ≡ token.comma →
       reads m stack (within after_member) (next t rest) ≡ reads m stack (within before_key) rest
   reads-member_comma stack t rest k =
       reads-turn stack after_member t rest _ (turn-plain stack after_member t _ k refl)
 
-  -- A bracket that closes a list, behind an item.
+  -- A bracket that closes a list, after an item.
   pub reads-item_end : (kind : ContainerKind) (stack : List ContainerKind) (t : Token) (rest : Tokens) →
       t.kind ≡ token.array_end →
       reads m (kind ∷ stack) (within after_item) (next t rest) ≡ gives (event_at event.sequence_end t) (reads m stack (after_value stack) rest)
   reads-item_end kind stack t rest k =
       reads-turn (kind ∷ stack) after_item t rest _ (turn-plain (kind ∷ stack) after_item t _ k refl)
 
-  -- The same in front of an item.
+  -- The same before an item.
   pub reads-list_end : (kind : ContainerKind) (stack : List ContainerKind) (t : Token) (rest : Tokens) →
       t.kind ≡ token.array_end →
       reads m (kind ∷ stack) (within before_item) (next t rest) ≡ gives (event_at event.sequence_end t) (reads m stack (after_value stack) rest)
   reads-list_end kind stack t rest k =
       reads-turn (kind ∷ stack) before_item t rest _ (turn-plain (kind ∷ stack) before_item t _ k refl)
 
-  -- A brace that closes an object, behind a member.
+  -- A brace that closes an object, after a member.
   pub reads-member_end : (kind : ContainerKind) (stack : List ContainerKind) (t : Token) (rest : Tokens) →
       t.kind ≡ token.object_end →
       reads m (kind ∷ stack) (within after_member) (next t rest) ≡ gives (event_at event.struct_end t) (reads m stack (after_value stack) rest)
   reads-member_end kind stack t rest k =
       reads-turn (kind ∷ stack) after_member t rest _ (turn-plain (kind ∷ stack) after_member t _ k refl)
 
-  -- The same in front of a key.
+  -- The same before a key.
   pub reads-object_end : (kind : ContainerKind) (stack : List ContainerKind) (t : Token) (rest : Tokens) →
       t.kind ≡ token.object_end →
       reads m (kind ∷ stack) (within before_key) (next t rest) ≡ gives (event_at event.struct_end t) (reads m stack (after_value stack) rest)
@@ -240,14 +240,9 @@ module _ (m : Meaning) where
   turn-misplaced stack after_item token.array_end e = cc
   turn-misplaced stack after_item _ e = refl
 
-  -- Such a token is stuck.
-  pub reads-misplaced : (stack : List ContainerKind) (place : Place) (t : Token) (rest : Tokens) → is_meaningless m t ≡ false →
-      goes_on place t.kind ≡ false → reads m stack (within place) (next t rest) ≡ stuck place (next t rest)
-  reads-misplaced stack place t rest e k = reads-stops stack place t rest e (turn-misplaced stack place t.kind k)
+  -- ---- after a key
 
-  -- ---- behind a key
-
-  -- Behind a key the end is stuck.
+  -- After a key the end is stuck.
   pub colon-ended : (stack : List ContainerKind) (key : Token) → reads_colon m stack key ended ≡ stuck after_key ended
   unfolding reads_colon
   colon-ended stack key = refl
@@ -270,7 +265,7 @@ module _ (m : Meaning) where
   mutual
     unfolding tree_of walk
 
-    -- From the front of a value on its walk comes, then what comes behind a value.
+    -- From the prefix of a value on its walk comes, then what comes after a value.
     pub walk-comes : {ts rest : Tokens} {node : Node} (value : Tree) → Spells ts node rest → tree_of m node ≡ Some value →
         (stack : List ContainerKind) (place : Place) → TakesValue place →
         reads m stack (within place) ts ≡ events_before (walk m node) (reads m stack (after_value stack) rest)
@@ -292,7 +287,7 @@ module _ (m : Meaning) where
         ∙ ap (gives start) (members-come values.0 s values.1 stack)
         ∙ ap (gives start) (sym (events_before-append (walk_members m members) (end ∷ []) behind))
 
-    -- From behind a bracket or a comma of a list on its items come, then its end.
+    -- From after a bracket or a comma of a list on its items come, then its end.
     pub items-come : {ts rest : Tokens} {nodes : Nodes} {last : Token} (values : Trees) → SpellsItems ts nodes last rest →
         trees_of m nodes ≡ Some values → (stack : List ContainerKind) →
         reads m (array ∷ stack) (within before_item) ts ≡ events_before (walk_items m nodes) (gives (event_at event.sequence_end last) (reads m stack (after_value stack) rest))
@@ -308,7 +303,7 @@ module _ (m : Meaning) where
         ∙ ap (events_before (walk m node)) (reads-item_end m array stack last rest k)
         ∙ sym (events_before-append (walk m node) [] _)
 
-    -- From behind a brace or a comma of an object on its members come, then its end.
+    -- From after a brace or a comma of an object on its members come, then its end.
     pub members-come : {ts rest : Tokens} {members : Members} {last : Token} (values : Pairs) →
         SpellsMembers ts members last rest → pairs_of m members ≡ Some values → (stack : List ContainerKind) →
         reads m (object ∷ stack) (within before_key) ts ≡ events_before (walk_members m members) (gives (event_at event.struct_end last) (reads m stack (after_value stack) rest))

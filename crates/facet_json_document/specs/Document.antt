@@ -1,4 +1,4 @@
--- Documents (RFC 8259, section 2): a front of the input's tokens that spells a value, all of whose strings and numbers have a meaning.
+-- Documents (RFC 8259, section 2): a prefix of the input's tokens that spells a value, all of whose strings and numbers have a meaning.
 use Rattle.std.specs.Prelude.{◌≡◌, List, ℕ, Some}
 use Rattle.facet_json_token.specs.Gap.{Mode, plain}
 use Rattle.facet_json_token.specs.Tokens.{Tokens, ended, tokens}
@@ -6,7 +6,7 @@ use Rattle.facet_json_document.specs.Node.{Node, Spells}
 use Rattle.facet_json_document.specs.Tree.{Tree}
 use Rattle.facet_json_document.specs.Meaning.{Meaning, meaning, tree_of}
 
--- A front of the tokens spells the node, whose tree this is. What follows is not looked at.
+-- A prefix of the tokens spells the node, whose tree this is. What follows is not looked at.
 pub record Reads (m : Meaning) (ts : Tokens) (root : Node) (value : Tree) (rest : Tokens) : Type 0 where
   pub spells : Spells ts root rest
   pub has_tree : tree_of m root ≡ Some value

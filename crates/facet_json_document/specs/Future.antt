@@ -14,15 +14,15 @@ use Rattle.facet_json_document.specs.Walk.{event_at, scalar_event, key_event}
 pub data Future : Type 0 where
   gives : Passed → Future → Future
   finished : Future
-  -- at this place, in front of these tokens
+  -- at this place, before these tokens
   stuck : Place → Tokens → Future
 
--- these events, and then what comes behind them
+-- these events, and then what comes after them
 abbrev pub events_before : List Passed → Future → Future
 events_before [] future = future
 events_before (p ∷ events) future = gives p (events_before events future)
 
--- a place within the root, or behind its end
+-- a place within the root, or after its end
 pub data Stage : Type 0 where
   within : Place → Stage
   over : Stage
@@ -87,7 +87,7 @@ item_turn stack token.comma = passes stack (within before_item)
 item_turn stack token.array_end = closing_turn event.sequence_end stack
 item_turn stack _ = stops
 
--- Behind a key stands no event: a key's event is given with its colon.
+-- After a key stands no event: a key's event is given with its colon.
 abbrev pub place_turn : List ContainerKind → Place → Kind → Turn
 place_turn stack root kind = value_turn stack kind
 place_turn stack before_key kind = key_turn stack kind
@@ -119,7 +119,7 @@ unfoldable mutual
   reads m stack (within place) (refused f) = stuck place (refused f)
   reads m stack (within place) (next t rest) = elim (turn m stack place t) [ stops ↦ stuck place (next t rest) | passes others stage ↦ reads m others stage rest | says kind others stage ↦ gives (event_at kind t) (reads m others stage rest) | says_scalar others stage ↦ gives (scalar_event m t) (reads m others stage rest) | names ↦ reads_colon m stack t rest ]
 
-  -- the same behind a key
+  -- the same after a key
   pub reads_colon : Meaning → List ContainerKind → Token → Tokens → Future
   reads_colon m stack key ended = stuck after_key ended
   reads_colon m stack key (refused f) = stuck after_key (refused f)

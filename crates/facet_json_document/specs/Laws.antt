@@ -9,7 +9,7 @@ use Rattle.facet_json_document.specs.Spelled.{spelled, document, whole_document}
 use Rattle.facet_format.specs.Complaint.{Refusal}
 use Rattle.facet_json_document.specs.Refusal.{Refuses}
 
--- No spelling of a value is a proper front of another's, and tokens spell one value at most.
+-- No spelling of a value is a proper prefix of another's, and tokens spell one value at most.
 abbrev pub OneSpelling : Type 0
 OneSpelling = (ts r s : Tokens) (a b : Node) → Spells ts a r → Spells ts b s → (a ≡ b) × (r ≡ s)
 

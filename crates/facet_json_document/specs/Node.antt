@@ -37,7 +37,7 @@ is_scalar array_end = false
 is_scalar colon = false
 is_scalar comma = false
 
--- The tokens begin with those of the node, and the last tokens follow them. Behind a bracket that opens a list and behind a comma
+-- The tokens begin with those of the node, and the last tokens follow them. After a bracket that opens a list and after a comma
 -- of that list the same may stand: an item or the closing bracket.
 mutual
   pub data Spells : Tokens → Node → Tokens → Type 0 where

@@ -7,15 +7,15 @@ use Rattle.facet_json_token.specs.Token.{Kind, Token, Fault, FaultKind}
 use Rattle.facet_json_token.specs.Token as token
 use Rattle.facet_json_document.specs.Node.{is_scalar, is_string}
 
--- where no value has begun yet, or what stands in front within the innermost open container
+-- where no value has begun yet, or what stands before, within the innermost open container
 pub data Place : Type 0 where
   root : Place
-  -- behind `{`, or behind a comma in an object
+  -- after `{`, or after a comma in an object
   before_key : Place
   after_key : Place
   after_colon : Place
   after_member : Place
-  -- behind `[`, or behind a comma in an array
+  -- after `[`, or after a comma in an array
   before_item : Place
   after_item : Place
 
@@ -82,7 +82,7 @@ kind_name buffer token.false_literal = codes "False"
 kind_name buffer (token.string start finish has_escapes) = codes "String"
 kind_name buffer (token.number start finish hint) = number_name (numbers.number (slice_range buffer start finish) hint)
 
--- what is expected in front of an item where this token stands
+-- what is expected before an item where this token stands
 abbrev pub expected_item : Kind → List ℕ
 expected_item token.comma = codes "value or ']'"
 expected_item token.colon = codes "value or ']'"

@@ -1,4 +1,4 @@
--- Fronts of documents, and how an input without a document is refused: at the first token with which the front can't go on.
+-- Prefixes of documents, and how an input without a document is refused: at the first token with which the prefix can't go on.
 use Rattle.std.specs.Prelude.{◌≡◌, ◌<◌, ℕ, Bool, true, false, List, length, Some, None, IsSome, codes}
 use Rattle.facet_format.specs.Span.{Span, stop, span_at}
 use Rattle.facet_json_token.specs.Token.{Kind, Token, Fault}
@@ -11,14 +11,14 @@ use Rattle.facet_json_document.specs.Meaning.{Meaning, meaning, tree_of, text_of
 use Rattle.facet_json_document.specs.Place.{Place, root, before_key, after_key, after_colon, after_member, before_item, after_item, goes_on, expected_at, complaint_at_end, complaint_of_fault, kind_name}
 use Rattle.facet_format.specs.Complaint.{Complaint, unexpected_char, unexpected_eof, unexpected_token, invalid_utf8, Refusal, refusal_at}
 
--- Items, each with its comma, stand in front of the last tokens.
+-- Items, each with its comma, stand before the last tokens.
 pub data PassesItems (m : Meaning) : Tokens → Tokens → Type 0 where
   no_items : (ts : Tokens) → PassesItems m ts ts
   one_item : (ts others rest : Tokens) (node : Node) (value : Tree) (separator : Token) →
       Spells ts node (next separator others) → tree_of m node ≡ Some value → separator.kind ≡ token.comma →
       PassesItems m others rest → PassesItems m ts rest
 
--- Members, each with its comma, stand in front of the last tokens.
+-- Members, each with its comma, stand before the last tokens.
 pub data PassesMembers (m : Meaning) : Tokens → Tokens → Type 0 where
   no_members : (ts : Tokens) → PassesMembers m ts ts
   one_member : (ts others rest : Tokens) (key mark : Token) (name : List ℕ) (node : Node) (value : Tree) (separator : Token) →
@@ -26,7 +26,7 @@ pub data PassesMembers (m : Meaning) : Tokens → Tokens → Type 0 where
       Spells ts node (next separator others) → tree_of m node ≡ Some value → separator.kind ≡ token.comma →
       PassesMembers m others rest → PassesMembers m (next key (next mark ts)) rest
 
--- The tokens in front of the last ones, which have a meaning, begin a value that may stand at the first place, and lead to the
+-- The tokens before the last ones, which have a meaning, begin a value that may stand at the first place, and lead to the
 -- second place.
 pub data Begins (m : Meaning) : Place → Tokens → Place → Tokens → Type 0 where
   nothing : (place : Place) (ts : Tokens) → Begins m place ts place ts

@@ -9,7 +9,7 @@ use Rattle.facet_json_document.specs.Node.{Node, scalar, array, object, Nodes, n
 use Rattle.facet_json_document.specs.Tree.{Tree}
 use Rattle.facet_json_document.specs.Meaning.{Meaning, meaning, tree_of}
 
--- a value at the front of the tokens, and what follows it
+-- a value at the start of the tokens, and what follows it
 abbrev pub ValueReader : Type 0
 ValueReader = Tokens → Option (Node × Tokens)
 
@@ -118,11 +118,11 @@ count ended = 0
 count (refused f) = 0
 count (next t rest) = suc (count rest)
 
--- the value that a front of the tokens spells, and what follows it
+-- the value that a prefix of the tokens spells, and what follows it
 unfoldable pub spelled : Tokens → Option (Node × Tokens)
 spelled ts = node_within (count ts) ts
 
--- the value that a front of the tokens spells, with its tree by the meaning of its tokens
+-- the value that a prefix of the tokens spells, with its tree by the meaning of its tokens
 unfoldable pub read_by : Meaning → Tokens → Option (Node × Tree)
 read_by m ts = option_and_then (λ r. option_map (λ value. (r.0, value)) (tree_of m r.0)) (spelled ts)
 

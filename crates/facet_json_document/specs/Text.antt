@@ -28,7 +28,7 @@ abbrev pub more_numbers : List ℕ → List ℕ
 more_numbers [] = []
 more_numbers (b ∷ others) = comma ∷ decimal b ++ more_numbers others
 
--- the numbers, parted by commas
+-- the numbers, separated by commas
 abbrev pub numbers : List ℕ → List ℕ
 numbers [] = []
 numbers (b ∷ others) = decimal b ++ more_numbers others
@@ -61,11 +61,11 @@ indents (suc n) indent = indent ++ indents n indent
 abbrev pub new_line : Options → ℕ → List ℕ
 new_line o depth = cond o.pretty (line_feed ∷ indents depth o.indent) []
 
--- nothing in front of the first, a comma in front of each other
+-- nothing before the first, a comma before each other
 abbrev pub separator : Bool → List ℕ
 separator first = cond first [] (comma ∷ [])
 
--- what stands in front of a closing bracket: nothing where the container is empty
+-- what stands before a closing bracket: nothing where the container is empty
 abbrev pub line_at_end : Options → ℕ → Bool → List ℕ
 line_at_end o depth first = cond first [] (new_line o depth)
 

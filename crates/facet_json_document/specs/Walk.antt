@@ -11,7 +11,7 @@ use Rattle.facet_format.specs.Event as event
 
 -- ---- the event of a token
 
--- The text is borrowed where the token is a string that holds no backslash. Every other text is made: one behind escapes, and the
+-- The text is borrowed where the token is a string that holds no backslash. Every other text is made: one after escapes, and the
 -- decimal digits of a whole number past 64 bits.
 abbrev pub text_by : Kind → List ℕ → Text
 text_by (token.string start finish false) bytes = event.borrowed bytes

@@ -2,7 +2,7 @@
 
 use facet_json::scanner::{Mode, ScanError, Scanner, Token, cut};
 
-/// The offset behind the first token of the input.
+/// The offset after the first token of the input.
 fn first_end(input: &[u8]) -> Result<usize, ScanError> {
     let token = cut(input, 0, Mode::Jsonc)?;
     Ok(token.span.offset.saturating_add(token.span.len))

@@ -1,4 +1,4 @@
-//! The texts of JSON numbers (RFC 8259, section 6) to their values.
+//! The texts of JSON numbers (RFC 8259, section 6) to their values: `parse_number`.
 #![tactic(auto)]
 
 mod number;

@@ -100,7 +100,7 @@ fn unsigned_number<'a>(digits: &[u8]) -> Option<ParsedNumber<'a>>
     }
 }
 
-/// The value of decimal digits behind a minus, in 64 bits where it fits, else in 128.
+/// The value of decimal digits after a minus, in 64 bits where it fits, else in 128.
 fn negative_number<'a>(digits: &[u8]) -> Option<ParsedNumber<'a>>
     requires { AreDigits digits.now }
     ensures number { option_map number_of result ≡ negative_number (digits_value 0 digits.now) }
@@ -126,7 +126,7 @@ fn decimal_number<'a>(text: &'a [u8]) -> Option<ParsedNumber<'a>>
     }
 }
 
-/// The value of decimal digits behind a minus, or `None` where it is below -2^63.
+/// The value of decimal digits after a minus, or `None` where it is below -2^63.
 fn negative(digits: &[u8]) -> Option<i64>
     requires { AreDigits digits.now }
     ensures { MatchOption result
@@ -136,7 +136,7 @@ fn negative(digits: &[u8]) -> Option<i64>
     0_i64.checked_sub_unsigned(parse_unsigned(digits)?)
 }
 
-/// The value of decimal digits behind a minus, or `None` where it is below -2^127.
+/// The value of decimal digits after a minus, or `None` where it is below -2^127.
 fn negative_wide(digits: &[u8]) -> Option<i128>
     requires { AreDigits digits.now }
     ensures { MatchOption result

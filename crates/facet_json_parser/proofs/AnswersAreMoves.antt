@@ -1,4 +1,4 @@
--- What a call of a parser answers, behind the reading of the next event, is a move.
+-- What a call of a parser answers, after the reading of the next event, is a move.
 use Rattle.std.proofs.Common.{◌≡◌, ℕ, suc, ◌<◌, true, false, List, Option, Some, None, refl, sym, subst, ◌∙◌}
 use Rattle.std.specs.Prelude.{Ok, Err, is_some, MatchOption}
 use Rattle.std.specs.Option.{option_map}
@@ -24,7 +24,7 @@ use Rattle.facet_json_protocol.specs.Move.{Moves, repeats, passes, passes_withou
 use Rattle.facet_json_standing.specs.Fill.{ShowsSame, Fills, holds, is_over, lacks_memory, stops, FillsParser, fills, refuses, Takes, Lends, Withholds, GivesOne, gives_event, gives_end, lacks_room, behind}
 use Rattle.facet_json_standing.specs.Fill as fill
 
--- what comes behind what is held
+-- what comes after what is held
 abbrev pub behind_held : List ℕ → Mode → Standing → Future
 behind_held buffer mode s = reads (meaning buffer) s.stack s.stage (tokens_from buffer mode s.position)
 

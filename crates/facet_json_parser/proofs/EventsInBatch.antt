@@ -177,7 +177,7 @@ given-more start now next old cur new e count (given, items, n, b) more one = (
   subst (λ x. Batch old x new) (sym (map-append event_of given (e ∷ []))) (batch-more old cur new (map event_of given) (event_of e) b one),
 )
 
--- The end came behind what is given.
+-- The end came after what is given.
 pub given-end : (start now next : List ParseEvent) (old cur new : Now) (count limit : ℕ) →
     (given : List ParseEvent) × (now ≡ start ++ given) × (length given ≡ count) × Batch old (map event_of given) cur →
     next ≡ now → count < limit → GivesOne cur (Ok None) new →
@@ -191,7 +191,7 @@ given-end start now next old cur new count (suc k) (given, items, n, b) same les
           (batch-end old cur new (map event_of given) k b one (omega (arith, len, less))),
     )
 
--- A refusal came behind what is given.
+-- A refusal came after what is given.
 pub given-refused : (start now next : List ParseEvent) (old cur new : Now) (e : ParseError) (count limit : ℕ) →
     (given : List ParseEvent) × (now ≡ start ++ given) × (length given ≡ count) × Batch old (map event_of given) cur →
     next ≡ now → count < limit → GivesOne cur (Err (parse_refusal e)) new →

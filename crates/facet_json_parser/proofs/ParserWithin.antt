@@ -49,7 +49,7 @@ pub first-ready : (buffer : List ℕ) (mode : Mode) (s : Standing) (kept : List 
 first-ready buffer mode s kept e f =
     rw (e, f) (record { position_within = omega arith; counter_fits = omega arith; points = tt; sound = fresh-sound buffer mode })
 
--- It holds behind the reading of the next event.
+-- It holds after the reading of the next event.
 pub filled-ready : (old new : Now) {refusal : Option Refusal} → IsReady old → FillsParser old refusal new →
     new.standing.position ≤ length old.buffer → IsReady new
 filled-ready old new ready (repeats r e) h = ready

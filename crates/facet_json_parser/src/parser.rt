@@ -26,14 +26,14 @@ use std::marker::Model;
 
 /// A parser of a JSON document (RFC 8259, sections 2 to 7), event by event, over an input that lives for `'de`.
 ///
-/// The document is the value at the front of the input; what stands behind it is not looked at. Offsets and lengths of
+/// The document is the value at the start of the input; what stands after it is not looked at. Offsets and lengths of
 /// spans are in bytes.
 ///
 /// ```text
 /// let mut parser = JsonParser::new(alloc, b"{\"a\":[1]}");
 /// parser.next_event()              Ok: StructStart(Object), span 0+1
 /// parser.peek_event()              Ok: FieldKey of a, span 1+3
-/// parser.current_span()            Some: span 4+1, the colon behind the key
+/// parser.current_span()            Some: span 4+1, the colon after the key
 /// parser.next_event()              Ok: FieldKey of a, span 1+3
 /// parser.save()                    Ok: SavePoint(1)
 /// parser.next_event()              Ok: SequenceStart(Array), span 5+1
@@ -74,7 +74,7 @@ impl<'de> Model for JsonParser<'de> {
 }
 
 impl<'de> JsonParser<'de> {
-    /// A parser of a document without comments, in front of the input. It takes no memory.
+    /// A parser of a document without comments, before the input. It does not allocate.
     pub fn new(alloc: Global, input: &'de [u8]) -> JsonParser<'de>
         ensures { result ≡ fresh input.now plain }
     {
@@ -82,7 +82,7 @@ impl<'de> JsonParser<'de> {
     }
 
     /// A parser of a document in which comments may stand wherever white space may: `//` to the line's end, and `/*` to
-    /// `*/`. It takes no memory.
+    /// `*/`. It does not allocate.
     pub fn new_jsonc(alloc: Global, input: &'de [u8]) -> JsonParser<'de>
         ensures { result ≡ fresh input.now jsonc }
     {
@@ -107,7 +107,7 @@ impl<'de> JsonParser<'de> {
         JsonParser::new_jsonc(alloc, input)
     }
 
-    /// A parser in front of the input.
+    /// A parser before the input.
     fn in_mode(alloc: Global, input: &'de [u8], mode: Mode) -> JsonParser<'de>
         ensures { result ≡ fresh input.now (mode_of mode) }
     {
@@ -148,7 +148,7 @@ impl<'de> JsonParser<'de> {
         let _len = self.input.len();
     }
 
-    /// Refuses for want of memory from now on.
+    /// Refuses for lack of memory from now on.
     fn refuse_growth<'t>(&mut self) -> ParseError<'t>
         ensures error { parse_refusal result ≡ no_memory_at (span_of self.old.standing) }
         ensures kept { self.new ≡ with_refusal self.old self.old.standing (no_memory_at (span_of self.old.standing)) }
@@ -186,7 +186,7 @@ impl<'de> FormatParser<'de> for JsonParser<'de> {
 
     ghost ahead = { ahead };
 
-    /// Passes the next event and answers it, or `None` behind the document's last one, again and again.
+    /// Passes the next event and answers it, or `None` after the document's last one, again and again.
     ///
     /// # Errors
     ///
@@ -195,7 +195,7 @@ impl<'de> FormatParser<'de> for JsonParser<'de> {
     /// - `UnexpectedChar`: no token begins or goes on so, or a character is wrong in an escape (RFC 8259, sections 2, 6
     ///   and 7). A number without a value is refused as the character `?`, with the number's span.
     /// - `UnexpectedEof`: the input ends. The span is empty at its end, or goes from the start of the piece that is cut.
-    /// - `UnexpectedToken`: no document goes on with this token, or the input ends behind a key.
+    /// - `UnexpectedToken`: no document goes on with this token, or the input ends after a key.
     /// - `InvalidUtf8`: a string's bytes are not UTF-8 (section 8.1).
     /// - `OutOfMemory`: no memory for an open container or for an owned text, with the current span. An event that a peek
     ///   answered takes none.
@@ -213,7 +213,7 @@ impl<'de> FormatParser<'de> for JsonParser<'de> {
         Ok(self.standing.take())
     }
 
-    /// Answers the next event and lets it stay the next one, or `None` behind the document's last one.
+    /// Answers the next event and lets it stay the next one, or `None` after the document's last one.
     ///
     /// # Errors
     ///
@@ -299,7 +299,7 @@ impl<'de> FormatParser<'de> for JsonParser<'de> {
     }
 
     /// Goes back to where it stood at the save of a point that is kept, with no refusal, and drops the point; other points
-    /// stay. A point that is not kept changes nothing. It takes no memory.
+    /// stay. A point that is not kept changes nothing. It does not allocate.
     fn restore(&mut self, point: SavePoint)
         ensures steps { IsStep StandsAt self.old (restore point.0) restored self.new }
         ensures moves { Moves Complains self.old (restore point.0) restored self.new }

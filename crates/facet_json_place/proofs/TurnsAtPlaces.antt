@@ -109,7 +109,7 @@ module _ (buffer : List ℕ) (m : Meaning) (complains : Token → Refusal → Ty
   stuck-reads stack place _ _ (misplaced _ t rest means never) =
       reads-turn m stack place t rest stops (still_stops (is_meaningless m t) _ (turn-misplaced m stack place t.kind never))
 
-  -- Nor does it behind a key, where its colon is missing.
+  -- Nor does it after a key, where its colon is missing.
   pub stuck-reads_colon : (stack : List ContainerKind) (key : Token) (ts : Tokens) (r : Refusal) →
       IsStuck buffer m complains after_key ts r → reads_colon m stack key ts ≡ stuck after_key ts
   unfolding reads_colon

@@ -115,7 +115,7 @@ abbrev pub opening : RustContainerKind → EventKind
 opening containers.Object = event.struct_start object
 opening containers.Array = event.sequence_start array
 
--- behind that bracket
+-- after that bracket
 abbrev pub opened : RustContainerKind → Stage
 opened containers.Object = within place.before_key
 opened containers.Array = within place.before_item

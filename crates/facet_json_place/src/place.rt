@@ -11,21 +11,21 @@ use crate::refusal::{Expected, Why};
 use facet_format::ContainerKind;
 use facet_json_token::Token;
 
-/// Where no value has begun yet, or what stands in front within the innermost open container. Behind a key's string
+/// Where no value has begun yet, or what stands before, within the innermost open container. After a key's string
 /// is no place of its own: its colon is taken with it.
 #[derive(Debug, Clone, Copy, PartialEq, Eq)]
 pub enum Place {
-    /// In front of the root.
+    /// Before the root.
     Root,
-    /// Behind `{`, or behind a comma in an object.
+    /// After `{`, or after a comma in an object.
     BeforeKey,
-    /// Behind a key's colon.
+    /// After a key's colon.
     AfterColon,
-    /// Behind a member's value.
+    /// After a member's value.
     AfterMember,
-    /// Behind `[`, or behind a comma in an array.
+    /// After `[`, or after a comma in an array.
     BeforeItem,
-    /// Behind an item.
+    /// After an item.
     AfterItem,
 }
 
@@ -34,7 +34,7 @@ pub enum Place {
 pub enum Turn {
     /// No document goes on with it.
     Stops,
-    /// It is a separator, behind which this place is.
+    /// It is a separator, after which this place is.
     Passes(Place),
     /// It opens a container.
     Opens(ContainerKind),
@@ -88,7 +88,7 @@ impl Place {
     }
 }
 
-/// What is expected in front of an item, where this token stands.
+/// What is expected before an item, where this token stands.
 fn expected_item(token: &Token) -> Expected
     ensures { (kind : Kind) → kind_of token.now ≡ Some kind → expected_text result ≡ expected_at before_item kind }
 {
@@ -117,7 +117,7 @@ fn value_turn(token: &Token) -> Turn
     }
 }
 
-/// The turn of a token behind `{`, or behind a comma in an object.
+/// The turn of a token after `{`, or after a comma in an object.
 fn key_turn(token: &Token) -> Turn
     ensures turn { (stack : List SpecContainer) → turn_of stack result ≡ turn_by stack before_key (kind_of token.now) }
     ensures names { result ≡ Turn.Names → is_text token.now ≡ true }
@@ -129,7 +129,7 @@ fn key_turn(token: &Token) -> Turn
     }
 }
 
-/// The turn of a token behind a member.
+/// The turn of a token after a member.
 fn member_turn(token: &Token) -> Turn
     ensures turn { (stack : List SpecContainer) → turn_of stack result ≡ turn_by stack after_member (kind_of token.now) }
     ensures names { result ≡ Turn.Names → is_text token.now ≡ true }
@@ -141,7 +141,7 @@ fn member_turn(token: &Token) -> Turn
     }
 }
 
-/// The turn of a token behind `[`, or behind a comma in an array.
+/// The turn of a token after `[`, or after a comma in an array.
 fn first_item_turn(token: &Token) -> Turn
     ensures turn { (stack : List SpecContainer) → turn_of stack result ≡ turn_by stack before_item (kind_of token.now) }
     ensures names { result ≡ Turn.Names → is_text token.now ≡ true }
@@ -152,7 +152,7 @@ fn first_item_turn(token: &Token) -> Turn
     }
 }
 
-/// The turn of a token behind an item.
+/// The turn of a token after an item.
 fn item_turn(token: &Token) -> Turn
     ensures turn { (stack : List SpecContainer) → turn_of stack result ≡ turn_by stack after_item (kind_of token.now) }
     ensures names { result ≡ Turn.Names → is_text token.now ≡ true }

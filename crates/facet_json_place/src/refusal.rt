@@ -16,7 +16,7 @@ pub enum Expected {
     Value,
     /// A key, or the end of an object.
     FieldNameOrEnd,
-    /// The colon behind a key.
+    /// The colon after a key.
     Colon,
     /// A comma, or the end of an object.
     CommaOrObjectEnd,

@@ -1,4 +1,4 @@
--- A front of tokens begins a document exactly where it is a front of the spelling of some value.
+-- A prefix of tokens begins a document exactly where it is a prefix of the spelling of some value.
 use Rattle.std.proofs.Common.{◌≡◌, ℕ, ◌⊎◌, inl, inr, true, List, [], ◌∷◌, ◌++◌, Some, refl, sym, ap, ◌∙◌, subst, arith}
 use Rattle.facet_format.specs.Span.{span_at}
 use Rattle.facet_json_token.specs.Token.{Kind, Token}
@@ -21,7 +21,7 @@ use Rattle.facet_json_prefix.specs.EventLaws.{BegunIsPrefix, PrefixIsBegun, Pref
 use Rattle.facet_json_prefix.proofs.ValueOrPrefix.{IsMeaning, suffix-count}
 use Rattle.facet_json_prefix.proofs.LongestPrefix.{is_meaning, front-walk, given_once, input-comes}
 
--- ---- lists of tokens in front of others
+-- ---- lists of tokens before others
 
 pub before-append : (a b : List Token) (rest : Tokens) → tokens_before (a ++ b) rest ≡ tokens_before a (tokens_before b rest)
 before-append [] b rest = refl
@@ -29,7 +29,7 @@ before-append (t ∷ a) b rest = ap (next t) (before-append a b rest)
 
 -- ---- a spelling's own tokens
 
--- The tokens in front of the rest are these, and whatever else follows them, they spell the same.
+-- The tokens before the rest are these, and whatever else follows them, they spell the same.
 record SpelledBy (ts : Tokens) (node : Node) (rest : Tokens) : Type 0 where
   own : List Token
   here : ts ≡ tokens_before own rest
@@ -100,14 +100,14 @@ mutual
         anywhere = λ other. rw (before-append by.own (last ∷ []) other) (last_member (tokens_before by.own (next last other)) other key mark node last i c (by.anywhere (next last other)) k);
       }
 
--- ---- what completes a front
+-- ---- what completes a prefix
 
 -- a token of this kind, somewhere
 abbrev any_token : Kind → Token
 any_token kind = record { kind = kind; span = span_at 0 0 }
 
 module _ (m : Meaning) (sane : IsMeaning m) where
-  -- The front's tokens are these, and with some behind them they spell a value with a meaning.
+  -- The prefix's tokens are these, and with some after them they spell a value with a meaning.
   pub record Completed (ts rest : Tokens) : Type 0 where
     pub front : List Token
     pub back : List Token
@@ -297,13 +297,13 @@ join_split : (t : Token) (ts mid : Tokens) → IsSuffix mid (next t ts) ⊎ IsSu
 join_split t ts mid (inl p) = inl p
 join_split t ts mid (inr p) = suffix-split t ts mid p
 
--- A suffix stands before what follows a value, or behind the token that follows it.
+-- A suffix stands before what follows a value, or after the token that follows it.
 where_in : (ts mid : Tokens) (t : Token) (others : Tokens) → IsSuffix ts mid → IsSuffix ts (next t others) →
     IsSuffix mid (next t others) ⊎ IsSuffix others mid
 where_in ts mid t others a p = join_split t others mid (suffix-either ts mid (next t others) a p)
 
 module _ (m : Meaning) where
-  -- A front of these tokens up to those begins a value.
+  -- A prefix of these tokens up to those begins a value.
   abbrev pub HasBegun : Place → Stage → Tokens → Tokens → Type 0
   HasBegun place after ts mid = (events : List Passed) × (here : Stage) × Begun m place after ts events here mid
 
@@ -360,7 +360,7 @@ module _ (m : Meaning) where
   mutual
     unfolding tree_of
 
-    -- Each front of a spelling begins it.
+    -- Each prefix of a spelling begins it.
     pub spelled-begins : {ts rest : Tokens} {node : Node} (value : Tree) (mid : Tokens) (place : Place) (after : Stage) →
         Spells ts node rest → tree_of m node ≡ Some value → IsSuffix ts mid → IsSuffix mid rest → HasBegun place after ts mid
     spelled-begins value _ place after (one_token t rest k) e (all _) b = ([], within place, nothing place after (next t rest))
@@ -427,26 +427,26 @@ module _ (m : Meaning) where
 
 -- ---- the laws
 
--- What begins a document is a front of the spelling of some value.
+-- What begins a document is a prefix of the spelling of some value.
 pub begun_is_prefix : BegunIsPrefix
 begun_is_prefix buffer ts rest events here b =
     let c = begun-completes (meaning buffer) (is_meaning buffer) b in
     (c.front, c.back, c.node, c.value, c.here, c.anywhere, c.has_tree)
 
--- Tokens stand in front of their rest.
+-- Tokens stand before their rest.
 before-suffix : (front : List Token) (rest : Tokens) → IsSuffix (tokens_before front rest) rest
 before-suffix [] rest = all rest
 before-suffix (t ∷ front) rest = later t (tokens_before front rest) rest (before-suffix front rest)
 
--- A front of the spelling of a value begins a document.
+-- A prefix of the spelling of a value begins a document.
 pub prefix_is_begun : PrefixIsBegun
 prefix_is_begun buffer front back other node value s t =
     spelled-begins (meaning buffer) value (tokens_before back other) root over s t (before-suffix front (tokens_before back other)) (before-suffix back other)
 
--- It gives the first events of the walk, and the others come from behind it.
+-- It gives the first events of the walk, and the others come from after it.
 pub prefix_gives_walk : PrefixGivesWalk
 prefix_gives_walk buffer ts mid rest node value events here b s t = front-walk (meaning buffer) ts mid rest node value events here b s t
 
--- An input without a document has a longest front, and all longest fronts give the same events.
+-- An input without a document has a longest prefix, and all longest prefixes give the same events.
 pub one_given : OneGiven
 one_given buffer mode none = given_once buffer mode none (input-comes buffer mode)

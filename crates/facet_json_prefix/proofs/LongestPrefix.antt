@@ -1,4 +1,4 @@
--- Of begun documents: what comes behind a front of tokens, the longest front, and an input that has no document.
+-- Of begun documents: what comes after a prefix of tokens, the longest prefix, and an input that has no document.
 use Rattle.std.proofs.Common.{◌≡◌, ℕ, suc, ◌+◌, ◌≤◌, Bool, true, false, List, [], ◌∷◌, ◌++◌, length, Option, Some, None, refl, sym, ap, ◌∙◌, subst, arith}
 use Rattle.std.specs.Option.{option_map}
 use Rattle.std.proofs.lemmas.List.{append-nil}
@@ -49,7 +49,7 @@ is_meaning buffer = record {
   texts = λ t value k e. string_meant buffer t.kind value k e;
 }
 
--- ---- what comes behind a front
+-- ---- what comes after a prefix
 
 -- These events come, and then what is read from the last tokens on.
 record Leads (m : Meaning) (start : Future) (events : List Passed) (rest : Tokens) : Type 0 where
@@ -57,7 +57,7 @@ record Leads (m : Meaning) (start : Future) (events : List Passed) (rest : Token
   comes : start ≡ events_before events behind
   from : IsReadFrom m behind rest
 
--- The same behind further events.
+-- The same after further events.
 leads_behind : (m : Meaning) (before : List Passed) (first start : Future) (events total : List Passed) (rest : Tokens) →
     first ≡ events_before before start → total ≡ before ++ events → Leads m start events rest → Leads m first total rest
 leads_behind m before first start events total rest e a l = record {
@@ -68,7 +68,7 @@ leads_behind m before first start events total rest e a l = record {
 
 module _ (m : Meaning) where
   mutual
-    -- From the front of a begun value on its events come.
+    -- From the prefix of a begun value on its events come.
     begun-leads : (stack : List ContainerKind) {place : Place} {after here : Stage} {ts rest : Tokens} {events : List Passed} →
         Begun m place after ts events here rest → TakesValue place → after ≡ after_value stack →
         Leads m (reads m stack (within place) ts) events rest
@@ -117,7 +117,7 @@ module _ (m : Meaning) where
   EndsIn ts = (stack : List ContainerKind) (stage : Stage) (events : List Passed) (here : Place) (rest : Tokens) →
       reads m stack stage ts ≡ events_before events (stuck here rest) → count rest + length events ≤ count ts
 
-  -- the same behind a key
+  -- the same after a key
   abbrev pub EndsBehindKey : Tokens → Type 0
   EndsBehindKey ts = (stack : List ContainerKind) (key : Token) (events : List Passed) (here : Place) (rest : Tokens) →
       reads_colon m stack key ts ≡ events_before events (stuck here rest) → count rest + length events ≤ count ts
@@ -188,9 +188,9 @@ module _ (m : Meaning) where
   from-count future ts (from_stage stack stage f) events here rest e = stuck-count ts stack stage events here rest (sym f ∙ e)
   from-count future ts (from_key stack key f) events here rest e = colon-count ts stack key events here rest (sym f ∙ e)
 
--- ---- the longest front
+-- ---- the longest prefix
 
--- What comes behind fewer events ends in the same way.
+-- What comes after fewer events ends in the same way.
 tail-stuck : (first events : List Passed) (future : Future) (here : Place) (rest : Tokens) →
     events_before first future ≡ events_before events (stuck here rest) →
     (more : List Passed) × (future ≡ events_before more (stuck here rest)) × (events ≡ first ++ more)
@@ -202,22 +202,12 @@ tail-stuck (p ∷ first) (q ∷ events) future here rest e =
     let other = found.2 in
     (found.0, found.1, cc)
 
--- Of a longest front there are no more events than of another that begins there and leaves no more tokens.
+-- Of a longest prefix there are no more events than of another that begins there and leaves no more tokens.
 no_more : (n : ℕ) (events first more : List Passed) → events ≡ first ++ more → n + length more ≤ n → first ≡ events
 no_more n events first [] e h = sym (append-nil first) ∙ sym e
 no_more n events first (p ∷ more) e h = absurd (omega arith)
 
--- A walk and its end aren't stuck behind any events.
-walk-never_stuck : (w events : List Passed) (here : Place) (rest : Tokens) →
-    events_before w finished ≡ events_before events (stuck here rest) → ⊥
-walk-never_stuck [] [] here rest e = cc
-walk-never_stuck [] (q ∷ events) here rest e = cc
-walk-never_stuck (p ∷ w) [] here rest e = cc
-walk-never_stuck (p ∷ w) (q ∷ events) here rest e =
-    let same : events_before w finished ≡ events_before events (stuck here rest) = cc in
-    walk-never_stuck w events here rest same
-
--- The front in front of which nothing comes any more is the longest.
+-- The prefix before which nothing comes any more is the longest.
 pub stuck-longest : (m : Meaning) (ts : Tokens) (events : List Passed) (here : Place) (rest : Tokens) →
     BegunDocument m ts events (within here) rest → reads m [] (within root) ts ≡ events_before events (stuck here rest) →
     LongestPrefix m ts events here rest
@@ -229,7 +219,7 @@ stuck-longest m ts events here rest begun e =
     omega (arith, from-count m leads.behind left leads.from more.0 here rest more.1)) in
     record { begun = begun; longest = no_longer }
 
--- All longest fronts give the same events.
+-- All longest prefixes give the same events.
 pub longest-once : (m : Meaning) (ts : Tokens) (events others : List Passed) (here there : Place) (rest left : Tokens) →
     BegunDocument m ts events (within here) rest → reads m [] (within root) ts ≡ events_before events (stuck here rest) →
     LongestPrefix m ts others there left → others ≡ events
@@ -247,20 +237,13 @@ outcome buffer mode (value_stands rest node value s t) =
 outcome buffer mode (value_stops events here rest b e) =
     prefix_comes events here rest (stuck-longest (meaning buffer) (tokens buffer mode) events here rest b e) e
 
--- Each input has a document, or a longest front behind which nothing comes.
+-- Each input has a document, or a longest prefix after which nothing comes.
 pub input-comes : InputComes
 input-comes buffer mode = outcome buffer mode (root-comes (meaning buffer) (is_meaning buffer) (tokens buffer mode))
 
--- An input at whose root something is stuck has no document.
-pub stuck-none : (buffer : List ℕ) (mode : Mode) (events : List Passed) (here : Place) (rest : Tokens) (node : Node) (value : Tree) →
-    reads (meaning buffer) [] (within root) (tokens buffer mode) ≡ events_before events (stuck here rest) →
-    IsDocument buffer mode node value → ⊥
-stuck-none buffer mode events here rest node value e d =
-    walk-never_stuck (walk (meaning buffer) node) events here rest (sym (document-comes buffer mode node value d) ∙ e)
+-- ---- events of a prefix
 
--- ---- events of a front
-
--- What comes behind fewer events of a walk are its others.
+-- What comes after fewer events of a walk are its others.
 tail-finished : (first w : List Passed) (future : Future) → events_before first future ≡ events_before w finished →
     (more : List Passed) × (w ≡ first ++ more) × (future ≡ events_before more finished)
 tail-finished [] w future e = (w, refl, e)
@@ -271,12 +254,12 @@ tail-finished (p ∷ first) (q ∷ w) future e =
     let other = found.1 in
     (found.0, cc, found.2)
 
--- Behind the end of the root nothing comes.
+-- After the end of the root nothing comes.
 over-finished : (m : Meaning) (ts : Tokens) → reads m [] over ts ≡ finished
 unfolding reads
 over-finished m ts = refl
 
--- A front gives the first events of the walk of each value that goes on from it.
+-- A prefix gives the first events of the walk of each value that goes on from it.
 pub front-walk : (m : Meaning) (ts mid rest : Tokens) (node : Node) (value : Tree) (events : List Passed) (here : Stage) →
     BegunDocument m ts events here mid → Spells ts node rest → tree_of m node ≡ Some value →
     (more : List Passed) × (walk m node ≡ events ++ more) × IsReadFrom m (events_before more finished) mid
@@ -286,7 +269,7 @@ front-walk m ts mid rest node value events here b s t =
     let found = tail-finished events (walk m node) leads.behind (sym leads.comes ∙ whole_walk) in
     (found.0, found.1, subst (λ f. IsReadFrom m f mid) found.2 leads.from)
 
--- An input without a document has a longest front, and all longest fronts give the same events.
+-- An input without a document has a longest prefix, and all longest prefixes give the same events.
 pub given_once : (buffer : List ℕ) (mode : Mode) → ((node : Node) (value : Tree) → IsDocument buffer mode node value → ⊥) →
     RootComes buffer mode → (events : List Passed) × IsGiven buffer mode events
     × ((others : List Passed) → IsGiven buffer mode others → others ≡ events)

@@ -1,4 +1,4 @@
--- A begun document with its events is a front as refusals speak of it, so what is refused behind one is refused from the root.
+-- A begun document with its events is a prefix as refusals speak of it, so what is refused after one is refused from the root.
 use Rattle.std.proofs.Common.{◌≡◌, ℕ, true, List, Some, refl, subst}
 use Rattle.facet_json_token.specs.Gap.{Mode}
 use Rattle.facet_json_token.specs.Token.{Token}
@@ -15,21 +15,21 @@ use Rattle.facet_format.specs.Event.{Passed}
 use Rattle.facet_json_document.specs.Future.{Stage, within, over}
 use Rattle.facet_json_prefix.specs.Begun.{Begun, nothing, whole, in_list, in_object, ListBegun, begins_item, past_item, ObjectBegun, no_key, key_alone, begins_member, past_member, RefusesAfter}
 
--- ---- what stands behind whole items or members
+-- ---- what stands after whole items or members
 
--- A value is begun, or it is whole and the place is the one behind it.
+-- A value is begun, or it is whole and the place is the one after it.
 data ValueBegun (m : Meaning) (place behind : Place) (ts : Tokens) (here : Place) (rest : Tokens) : Type 0 where
   is_begun : Begins m place ts here rest → ValueBegun m place behind ts here rest
   is_whole : (node : Node) (value : Tree) → Spells ts node rest → tree_of m node ≡ Some value → here ≡ behind →
       ValueBegun m place behind ts here rest
 
--- Behind whole items a value is begun.
+-- After whole items a value is begun.
 record ItemBegun (m : Meaning) (ts : Tokens) (here : Place) (rest : Tokens) : Type 0 where
   mid : Tokens
   passes : PassesItems m ts mid
   item : ValueBegun m before_item after_item mid here rest
 
--- Behind whole members stands nothing, a key, or a key, its colon and a value that is begun.
+-- After whole members stands nothing, a key, or a key, its colon and a value that is begun.
 data MemberBegun (m : Meaning) (ts : Tokens) (here : Place) (rest : Tokens) : Type 0 where
   at_key : PassesMembers m ts rest → here ≡ before_key → MemberBegun m ts here rest
   at_colon : (key : Token) (name : List ℕ) → PassesMembers m ts (next key rest) → is_string key.kind ≡ true →
@@ -39,14 +39,14 @@ data MemberBegun (m : Meaning) (ts : Tokens) (here : Place) (rest : Tokens) : Ty
       ValueBegun m after_colon after_member mid here rest → MemberBegun m ts here rest
 
 module _ (m : Meaning) where
-  -- One more item in front.
+  -- One more item in prefix.
   more_items : (ts others rest : Tokens) (node : Node) (value : Tree) (separator : Token) (here : Place) →
       Spells ts node (next separator others) → tree_of m node ≡ Some value → separator.kind ≡ token.comma →
       ItemBegun m others here rest → ItemBegun m ts here rest
   more_items ts others rest node value separator here s t k b =
       record { mid = b.mid; passes = fronts.one_item ts others b.mid node value separator s t k b.passes; item = b.item }
 
-  -- One more member in front.
+  -- One more member in prefix.
   more_members : (key mark : Token) (ts others rest : Tokens) (name : List ℕ) (node : Node) (value : Tree) (separator : Token)
       (here : Place) → is_string key.kind ≡ true → text_of (m key) ≡ Some name → mark.kind ≡ token.colon →
       Spells ts node (next separator others) → tree_of m node ≡ Some value → separator.kind ≡ token.comma →
@@ -108,7 +108,7 @@ module _ (m : Meaning) where
     begun-members (past_member key mark ts others rest name node value separator events total stage k n c s t q b a) e =
         more_members key mark ts others rest name node value separator _ k n c s t q (begun-members b e)
 
-  -- A begun document that is not whole is a front.
+  -- A begun document that is not whole is a prefix.
   pub begun-begins : {here : Place} {stage : Stage} {ts rest : Tokens} {events : List Passed} →
       Begun m root over ts events stage rest → stage ≡ within here → Begins m root ts here rest
   begun-begins {here = here} (nothing place after ts) e =
@@ -120,7 +120,7 @@ module _ (m : Meaning) where
   begun-begins (in_object place after stage first inner rest events k b) e =
       object_begins root _ first inner rest k (begun-members b e)
 
--- What is refused behind the longest front is refused from the root.
+-- What is refused after the longest prefix is refused from the root.
 pub refused-from : (buffer : List ℕ) (mode : Mode) (complains : Token → Refusal → Type 0) (events : List Passed) (refusal : Refusal) →
     RefusesAfter buffer mode complains events refusal →
     RefusesFrom buffer (meaning buffer) complains root (tokens buffer mode) refusal

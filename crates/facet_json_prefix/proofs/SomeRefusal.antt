@@ -21,7 +21,7 @@ use Rattle.facet_json_prefix.specs.EventLaws.{RootComes, document_comes, prefix_
 use Rattle.facet_json_prefix.proofs.LongestPrefix.{input-comes}
 use Rattle.facet_json_document.proofs.TurnsStop.{value_stops}
 
--- The stage is not behind a key.
+-- The stage is not after a key.
 abbrev IsNoKey : Stage → Type 0
 IsNoKey over = ⊤
 IsNoKey (within root) = ⊤
@@ -55,7 +55,7 @@ value-leads stack (token.string start finish has_escapes) = behind_value stack
 value-leads stack (token.number start finish hint) = behind_value stack
 value-leads stack _ = tt
 
--- No turn leads behind a key.
+-- No turn leads after a key.
 place-leads : (stack : List ContainerKind) (place : Place) (kind : Kind) → LeadsOn (place_turn stack place kind)
 place-leads stack root kind = value-leads stack kind
 place-leads stack before_key token.object_end = behind_value (around stack)
@@ -131,7 +131,7 @@ module _ (buffer : List ℕ) (m : Meaning) (complains : Token → Refusal → Ty
   stops_by stack place t rest false e h s =
       (_, misplaced place t rest (sensible_by t (needs_meaning t.kind) (m t) refl refl e) (place-stops stack place t.kind h s))
 
-  -- A token behind a key that is no colon.
+  -- A token after a key that is no colon.
   no_colon_by : (t : Token) (rest : Tokens) (b : Bool) → is_meaningless m t ≡ b → is_colon t.kind ≡ false →
       IsRefusable buffer m complains after_key (next t rest)
   no_colon_by t rest true e c = without_by t rest after_key (needs_meaning t.kind) (m t) refl refl e
@@ -143,7 +143,7 @@ module _ (buffer : List ℕ) (m : Meaning) (complains : Token → Refusal → Ty
   Halts ts = (stack : List ContainerKind) (stage : Stage) (events : List Passed) (here : Place) (rest : Tokens) → IsNoKey stage →
       reads m stack stage ts ≡ events_before events (stuck here rest) → IsRefusable buffer m complains here rest
 
-  -- the same behind a key
+  -- the same after a key
   abbrev HaltsBehindKey : Tokens → Type 0
   HaltsBehindKey ts = (stack : List ContainerKind) (key : Token) (events : List Passed) (here : Place) (rest : Tokens) →
       reads_colon m stack key ts ≡ events_before events (stuck here rest) → IsRefusable buffer m complains here rest
@@ -214,7 +214,7 @@ module _ (buffer : List ℕ) (m : Meaning) (complains : Token → Refusal → Ty
     colon-halts (next mark ts) stack key events here rest e =
         mark-halts stack key mark ts (is_colon mark.kind) (stuck-halts ts) refl events here rest e
 
--- Where there is no document, some refusal is allowed behind the longest front.
+-- Where there is no document, some refusal is allowed after the longest prefix.
 pub refuses_some : (buffer : List ℕ) (mode : Mode) (complains : Token → Refusal → Type 0) →
     ComplainsAlways (meaning buffer) complains → ((node : Node) (value : Tree) → IsDocument buffer mode node value → ⊥) →
     RootComes buffer mode → (events : List Passed) × (r : Refusal) × RefusesAfter buffer mode complains events r

@@ -1,4 +1,4 @@
--- From a place on where a value may stand either a whole value stands, or the longest front of one, and then no event comes any more.
+-- From a place on where a value may stand either a whole value stands, or the longest prefix of one, and then no event comes any more.
 use Rattle.std.proofs.Common.{◌≡◌, ℕ, zero, suc, ◌+◌, ◌*◌, ◌≤◌, Bool, true, false, ◌&&◌, List, [], ◌∷◌, ◌++◌, Option, Some, None, refl, sym, ap, ◌∙◌, arith}
 use Rattle.std.specs.Prelude.{is_none}
 use Rattle.facet_json_token.specs.Token.{Kind, Token, Fault}
@@ -64,7 +64,7 @@ as_value stack (token.string start finish has_escapes) = is_one refl
 as_value stack (token.number start finish hint) = is_one refl
 as_value stack _ = no_value refl
 
--- the same in front of an item
+-- the same before an item
 data AsItem (stack : List ContainerKind) (kind : Kind) : Type 0 where
   closes_list : kind ≡ token.array_end → AsItem stack kind
   as_any : place_turn stack before_item kind ≡ value_turn stack kind → AsItem stack kind
@@ -73,7 +73,7 @@ as_item : (stack : List ContainerKind) (kind : Kind) → AsItem stack kind
 as_item stack token.array_end = closes_list refl
 as_item stack _ = as_any refl
 
--- the same behind an item
+-- the same after an item
 data BehindItem (stack : List ContainerKind) (kind : Kind) : Type 0 where
   comma_item : kind ≡ token.comma → BehindItem stack kind
   ends_list : kind ≡ token.array_end → BehindItem stack kind
@@ -84,7 +84,7 @@ behind_an_item stack token.comma = comma_item refl
 behind_an_item stack token.array_end = ends_list refl
 behind_an_item stack _ = no_comma refl
 
--- the same in front of a key
+-- the same before a key
 data AsKey (stack : List ContainerKind) (kind : Kind) : Type 0 where
   closes_object : kind ≡ token.object_end → AsKey stack kind
   is_key : is_string kind ≡ true → place_turn stack before_key kind ≡ names → AsKey stack kind
@@ -95,7 +95,7 @@ as_key stack token.object_end = closes_object refl
 as_key stack (token.string start finish has_escapes) = is_key refl refl
 as_key stack _ = no_key_here refl
 
--- the same behind a member
+-- the same after a member
 data BehindMember (stack : List ContainerKind) (kind : Kind) : Type 0 where
   comma_member : kind ≡ token.comma → BehindMember stack kind
   ends_object : kind ≡ token.object_end → BehindMember stack kind
@@ -106,7 +106,7 @@ behind_a_member stack token.comma = comma_member refl
 behind_a_member stack token.object_end = ends_object refl
 behind_a_member stack _ = no_comma_here refl
 
--- the same behind a key
+-- the same after a key
 data AsColon (kind : Kind) : Type 0 where
   is_mark : kind ≡ token.colon → AsColon kind
   no_mark : is_colon kind ≡ false → AsColon kind
@@ -117,7 +117,7 @@ as_colon _ = no_mark refl
 
 -- ---- outcomes
 
--- What stands at the front of the tokens where a value may stand: a whole value, or a front of one that gives these events.
+-- What stands at the start of the tokens where a value may stand: a whole value, or a prefix of one that gives these events.
 pub data ValueComes (m : Meaning) (stack : List ContainerKind) (place : Place) (ts : Tokens) : Type 0 where
   value_stands : (rest : Tokens) (node : Node) (value : Tree) → Spells ts node rest → tree_of m node ≡ Some value →
       ValueComes m stack place ts
@@ -125,14 +125,14 @@ pub data ValueComes (m : Meaning) (stack : List ContainerKind) (place : Place) (
       Begun m place (after_value stack) ts events (within here) rest →
       reads m stack (within place) ts ≡ events_before events (stuck here rest) → ValueComes m stack place ts
 
--- the same behind a bracket or a comma of a list
+-- the same after a bracket or a comma of a list
 pub data ItemsCome (m : Meaning) (stack : List ContainerKind) (ts : Tokens) : Type 0 where
   items_stand : (rest : Tokens) (nodes : Nodes) (last : Token) (values : Trees) → SpellsItems ts nodes last rest →
       trees_of m nodes ≡ Some values → ItemsCome m stack ts
   items_stop : (events : List Passed) (here : Place) (rest : Tokens) → ListBegun m ts events (within here) rest →
       reads m (array ∷ stack) (within before_item) ts ≡ events_before events (stuck here rest) → ItemsCome m stack ts
 
--- the same behind a brace or a comma of an object
+-- the same after a brace or a comma of an object
 pub data MembersCome (m : Meaning) (stack : List ContainerKind) (ts : Tokens) : Type 0 where
   members_stand : (rest : Tokens) (members : Members) (last : Token) (values : Pairs) →
       SpellsMembers ts members last rest → pairs_of m members ≡ Some values → MembersCome m stack ts
@@ -163,7 +163,7 @@ module _ (m : Meaning) (sane : IsMeaning m) where
       let meant = scalar_meant t k e in
       value_stands rest (scalar t) meant.0 (one_token t rest k) meant.1
 
-  -- A list, by what stands behind its bracket.
+  -- A list, by what stands after its bracket.
   list_stands : (stack : List ContainerKind) (place : Place) (t : Token) (rest : Tokens) → TakesValue place →
       t.kind ≡ token.array_start → ItemsCome m stack rest → ValueComes m stack place (next t rest)
   unfolding tree_of
@@ -174,7 +174,7 @@ module _ (m : Meaning) (sane : IsMeaning m) where
       value_stops (start ∷ events) here left (in_list place (after_value stack) (within here) t rest left events k b)
       (reads-array m stack place t rest at k ∙ ap (gives start) e)
 
-  -- An object, by what stands behind its brace.
+  -- An object, by what stands after its brace.
   object_stands : (stack : List ContainerKind) (place : Place) (t : Token) (rest : Tokens) → TakesValue place →
       t.kind ≡ token.object_start → MembersCome m stack rest → ValueComes m stack place (next t rest)
   unfolding tree_of
@@ -192,7 +192,7 @@ module _ (m : Meaning) (sane : IsMeaning m) where
   list_stops stack ts e =
       items_stop [] before_item ts (begins_item ts ts [] (within before_item) (nothing before_item (within after_item) ts)) e
 
-  -- An item, and nothing goes on behind it.
+  -- An item, and nothing goes on after it.
   item_stops : (stack : List ContainerKind) (ts rest : Tokens) (node : Node) (value : Tree) → Spells ts node rest →
       tree_of m node ≡ Some value → reads m (array ∷ stack) (within after_item) rest ≡ stuck after_item rest → ItemsCome m stack ts
   item_stops stack ts rest node value s t e =
@@ -200,7 +200,7 @@ module _ (m : Meaning) (sane : IsMeaning m) where
       items_stop (walk m node) after_item rest (begins_item ts rest (walk m node) (within after_item) begun)
       (walk-comes m value s t (array ∷ stack) before_item of_list ∙ ap (events_before (walk m node)) e)
 
-  -- An item and its comma, and what stands behind that.
+  -- An item and its comma, and what stands after that.
   item_goes_on : (stack : List ContainerKind) (ts others : Tokens) (node : Node) (value : Tree) (separator : Token) →
       Spells ts node (next separator others) → tree_of m node ≡ Some value → separator.kind ≡ token.comma →
       ItemsCome m stack others → ItemsCome m stack ts
@@ -240,7 +240,7 @@ module _ (m : Meaning) (sane : IsMeaning m) where
   unfolding pairs_of
   object_ends stack last rest k = members_stand rest no_members last no_pairs (ended_members last rest k) refl
 
-  -- A key, and no colon behind it.
+  -- A key, and no colon after it.
   key_stops : (stack : List ContainerKind) (key : Token) (rest : Tokens) (name : List ℕ) → is_string key.kind ≡ true →
       text_of (m key) ≡ Some name → reads m (object ∷ stack) (within before_key) (next key rest) ≡ stuck after_key rest →
       MembersCome m stack (next key rest)
@@ -248,12 +248,12 @@ module _ (m : Meaning) (sane : IsMeaning m) where
 
   module _ (stack : List ContainerKind) (key mark : Token) (ts : Tokens) (name : List ℕ) (k : is_string key.kind ≡ true)
       (n : text_of (m key) ≡ Some name) (c : mark.kind ≡ token.colon) where
-    -- A key, its colon and what comes behind them.
+    -- A key, its colon and what comes after them.
     key-comes : (future : Future) → reads m (object ∷ stack) (within after_colon) ts ≡ future →
         reads m (object ∷ stack) (within before_key) (next key (next mark ts)) ≡ gives (key_event m key mark) future
     key-comes future e = reads-key m (object ∷ stack) key mark ts name k n c ∙ ap (gives (key_event m key mark)) e
 
-    -- A front of a member's value.
+    -- A prefix of a member's value.
     member_begins : (events : List Passed) (here : Place) (rest : Tokens) →
         Begun m after_colon (within after_member) ts events (within here) rest →
         reads m (object ∷ stack) (within after_colon) ts ≡ events_before events (stuck here rest) →
@@ -263,14 +263,14 @@ module _ (m : Meaning) (sane : IsMeaning m) where
         (begins_member key mark ts rest name events (within here) k n c b) (key-comes (events_before events (stuck here rest)) e)
 
     module _ (rest : Tokens) (node : Node) (value : Tree) (s : Spells ts node rest) (t : tree_of m node ≡ Some value) where
-      -- A member, and nothing goes on behind it.
+      -- A member, and nothing goes on after it.
       member_stops : reads m (object ∷ stack) (within after_member) rest ≡ stuck after_member rest →
           MembersCome m stack (next key (next mark ts))
       member_stops e =
           member_begins (walk m node) after_member rest (whole after_colon (within after_member) ts rest node value s t)
           (walk-comes m value s t (object ∷ stack) after_colon behind_colon ∙ ap (events_before (walk m node)) e)
 
-    -- A member and its comma, and what stands behind that.
+    -- A member and its comma, and what stands after that.
     member_goes_on : (others : Tokens) (node : Node) (value : Tree) (separator : Token) →
         Spells ts node (next separator others) → tree_of m node ≡ Some value → separator.kind ≡ token.comma →
         MembersCome m stack others → MembersCome m stack (next key (next mark ts))
@@ -309,7 +309,7 @@ module _ (m : Meaning) (sane : IsMeaning m) where
 
   -- ---- all tokens
 
-  -- What stands behind a value and the next token has fewer.
+  -- What stands after a value and the next token has fewer.
   spelled-fewer : (ts others : Tokens) (node : Node) (t : Token) → Spells ts node (next t others) → suc (count others) ≤ count ts
   spelled-fewer ts others node t s = suffix-count ts (next t others) (Spells-suffix ts node (next t others) s)
 
@@ -410,6 +410,6 @@ module _ (m : Meaning) (sane : IsMeaning m) where
       ]
     ]
 
-  -- At the root either a whole value stands, or a front of one, and then nothing comes any more.
+  -- At the root either a whole value stands, or a prefix of one, and then nothing comes any more.
   pub root-comes : (ts : Tokens) → ValueComes m [] root ts
   root-comes ts = value_at (2 * count ts + 1) [] root ts at_root (λ kind. refl) (omega arith)

@@ -1,4 +1,4 @@
--- Begun documents: fronts of tokens with which some document begins, and the events that they give (RFC 8259, sections 2 to 5).
+-- Begun documents: prefixes of tokens with which some document begins, and the events that they give (RFC 8259, sections 2 to 5).
 use Rattle.std.specs.Prelude.{◌≡◌, ◌≤◌, ℕ, true, List, [], ◌∷◌, ◌++◌, Some}
 use Rattle.facet_json_token.specs.Gap.{Mode}
 use Rattle.facet_json_token.specs.Token.{Token}
@@ -20,8 +20,8 @@ abbrev pub tokens_before : List Token → Tokens → Tokens
 tokens_before [] rest = rest
 tokens_before (t ∷ ts) rest = next t (tokens_before ts rest)
 
--- The tokens in front of the last ones, which have a meaning, begin a value, give these events, and lead to the stage `here`. The
--- value stands at the place, and behind all of it stands the stage `after`. An event is there once its last token is.
+-- The tokens before the last ones, which have a meaning, begin a value, give these events, and lead to the stage `here`. The
+-- value stands at the place, and after all of it stands the stage `after`. An event is there once its last token is.
 mutual
   pub data Begun (m : Meaning) : Place → Stage → Tokens → List Passed → Stage → Tokens → Type 0 where
     nothing : (place : Place) (after : Stage) (ts : Tokens) → Begun m place after ts [] (within place) ts
@@ -34,7 +34,7 @@ mutual
         first.kind ≡ token.object_start → ObjectBegun m inner events here rest →
         Begun m place after (next first inner) (event_at (struct_start object) first ∷ events) here rest
 
-  -- the same behind a bracket that opens a list, or behind a comma of that list: items each with its comma, then the beginning of one
+  -- the same after a bracket that opens a list, or after a comma of that list: items each with its comma, then the beginning of one
   pub data ListBegun (m : Meaning) : Tokens → List Passed → Stage → Tokens → Type 0 where
     begins_item : (ts rest : Tokens) (events : List Passed) (here : Stage) →
         Begun m before_item (within after_item) ts events here rest → ListBegun m ts events here rest
@@ -43,7 +43,7 @@ mutual
         separator.kind ≡ token.comma → ListBegun m others events here rest → all ≡ walk m node ++ events →
         ListBegun m ts all here rest
 
-  -- the same behind a brace that opens an object, or behind a comma of that object
+  -- the same after a brace that opens an object, or after a comma of that object
   pub data ObjectBegun (m : Meaning) : Tokens → List Passed → Stage → Tokens → Type 0 where
     no_key : (ts : Tokens) → ObjectBegun m ts [] (within before_key) ts
     -- its event is given with its colon
@@ -63,13 +63,13 @@ mutual
 abbrev pub BegunDocument : Meaning → Tokens → List Passed → Stage → Tokens → Type 0
 BegunDocument m ts events here rest = Begun m root over ts events here rest
 
--- The longest front that begins a document gives these events, and leads to this place, in front of these tokens.
+-- The longest prefix that begins a document gives these events, and leads to this place, before these tokens.
 pub record LongestPrefix (m : Meaning) (ts : Tokens) (events : List Passed) (here : Place) (rest : Tokens) : Type 0 where
   pub begun : BegunDocument m ts events (within here) rest
   pub longest : (others : List Passed) (there : Stage) (left : Tokens) → BegunDocument m ts others there left →
       count rest ≤ count left
 
--- Where the input has no document, these events are given, and then it is refused so, by what stands behind the longest front.
+-- Where the input has no document, these events are given, and then it is refused so, by what stands after the longest prefix.
 pub record RefusesAfter (buffer : List ℕ) (mode : Mode) (complains : Token → Refusal → Type 0) (events : List Passed)
     (refusal : Refusal) : Type 0 where
   pub here : Place

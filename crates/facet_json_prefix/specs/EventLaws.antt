@@ -15,7 +15,7 @@ use Rattle.facet_json_prefix.specs.Begun.{BegunDocument, LongestPrefix, tokens_b
 use Rattle.facet_format.specs.Complaint.{Refusal}
 use Rattle.facet_json_document.specs.Refusal.{Complains, Refuses}
 
--- Tokens that begin a document are a front of the spelling of some value with a meaning, whatever follows that.
+-- Tokens that begin a document are a prefix of the spelling of some value with a meaning, whatever follows that.
 abbrev pub BegunIsPrefix : Type 0
 BegunIsPrefix = (buffer : List ℕ) (ts rest : Tokens) (events : List Passed) (here : Stage) →
     BegunDocument (meaning buffer) ts events here rest →
@@ -23,36 +23,36 @@ BegunIsPrefix = (buffer : List ℕ) (ts rest : Tokens) (events : List Passed) (h
     × ((other : Tokens) → Spells (tokens_before front (tokens_before back other)) node other)
     × (tree_of (meaning buffer) node ≡ Some value)
 
--- A front of the spelling of a value with a meaning begins a document.
+-- A prefix of the spelling of a value with a meaning begins a document.
 abbrev pub PrefixIsBegun : Type 0
 PrefixIsBegun = (buffer : List ℕ) (front back : List Token) (other : Tokens) (node : Node) (value : Tree) →
     Spells (tokens_before front (tokens_before back other)) node other → tree_of (meaning buffer) node ≡ Some value →
     (events : List Passed) × (here : Stage)
     × BegunDocument (meaning buffer) (tokens_before front (tokens_before back other)) events here (tokens_before back other)
 
--- The future is what is read from these tokens on, from some stage, or behind some key.
+-- The future is what is read from these tokens on, from some stage, or after some key.
 pub data IsReadFrom (m : Meaning) (future : Future) (ts : Tokens) : Type 0 where
   from_stage : (stack : List ContainerKind) (stage : Stage) → future ≡ reads m stack stage ts → IsReadFrom m future ts
   from_key : (stack : List ContainerKind) (key : Token) → future ≡ reads_colon m stack key ts → IsReadFrom m future ts
 
--- Whatever value goes on from it, a front gives the first events of that value's walk, and the others are read from behind it.
+-- Whatever value goes on from it, a prefix gives the first events of that value's walk, and the others are read from after it.
 abbrev pub PrefixGivesWalk : Type 0
 PrefixGivesWalk = (buffer : List ℕ) (ts mid rest : Tokens) (node : Node) (value : Tree) (events : List Passed) (here : Stage) →
     BegunDocument (meaning buffer) ts events here mid → Spells ts node rest → tree_of (meaning buffer) node ≡ Some value →
     (more : List Passed) × (walk (meaning buffer) node ≡ events ++ more)
     × IsReadFrom (meaning buffer) (events_before more finished) mid
 
--- what the longest front of an input gives
+-- what the longest prefix of an input gives
 abbrev pub IsGiven : List ℕ → Mode → List Passed → Type 0
 IsGiven buffer mode events = (here : Place) × (rest : Tokens) × LongestPrefix (meaning buffer) (tokens buffer mode) events here rest
 
--- An input without a document has a longest front, and all longest fronts give the same events.
+-- An input without a document has a longest prefix, and all longest prefixes give the same events.
 abbrev pub OneGiven : Type 0
 OneGiven = (buffer : List ℕ) (mode : Mode) → ((node : Node) (value : Tree) → IsDocument buffer mode node value → ⊥) →
     (events : List Passed) × IsGiven buffer mode events
     × ((others : List Passed) → IsGiven buffer mode others → others ≡ events)
 
--- What comes from the root of an input on: the walk of its document, or what the longest front gives, behind which nothing goes on.
+-- What comes from the root of an input on: the walk of its document, or what the longest prefix gives, after which nothing goes on.
 pub data RootComes (buffer : List ℕ) (mode : Mode) : Type 0 where
   document_comes : (node : Node) (value : Tree) → IsDocument buffer mode node value →
       reads (meaning buffer) [] (within root) (tokens buffer mode) ≡ events_before (walk (meaning buffer) node) finished →
@@ -61,11 +61,11 @@ pub data RootComes (buffer : List ℕ) (mode : Mode) : Type 0 where
       LongestPrefix (meaning buffer) (tokens buffer mode) events here rest →
       reads (meaning buffer) [] (within root) (tokens buffer mode) ≡ events_before events (stuck here rest) → RootComes buffer mode
 
--- Each input has a document, whose walk comes, or a longest front behind which nothing comes.
+-- Each input has a document, whose walk comes, or a longest prefix after which nothing comes.
 abbrev pub InputComes : Type 0
 InputComes = (buffer : List ℕ) (mode : Mode) → RootComes buffer mode
 
--- What is refused behind the longest front of an input is a refusal of that input.
+-- What is refused after the longest prefix of an input is a refusal of that input.
 abbrev pub RefusedAfterPrefix : Type 0
 RefusedAfterPrefix = (buffer : List ℕ) (mode : Mode) (events : List Passed) (refusal : Refusal) →
     RefusesAfter buffer mode Complains events refusal → Refuses buffer mode refusal

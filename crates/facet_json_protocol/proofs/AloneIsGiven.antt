@@ -1,4 +1,4 @@
--- Reading by the next event alone, on an input without a document: what the longest front gives, and then one refusal.
+-- Reading by the next event alone, on an input without a document: what the longest prefix gives, and then one refusal.
 use Rattle.std.proofs.Common.{◌≡◌, ℕ, List, [], ◌∷◌, Some, None, refl, sym, ap, ◌∙◌}
 use Rattle.std.specs.Prelude.{Err}
 use Rattle.facet_json_token.specs.Gap.{Mode}
@@ -35,7 +35,7 @@ module _ (complains : Token → Refusal → Type 0) where
       rw same (one_refused answers (all-refused r still only more))
 
   module _ (refuses : Refusal → Type 0) (here : Place) (rest : Tokens) where
-    -- How the parser is refused in front of these tokens.
+    -- How the parser is refused before these tokens.
     abbrev RefusesHere : Now → Type 0
     RefusesHere now = (r : Refusal) → IsStuck now.buffer (meaning now.buffer) complains here rest r → refuses r
 
@@ -89,7 +89,7 @@ given_by buffer mode complains (prefix_comes events here rest front e) none only
       (λ r stops. record { here = here; rest = rest; front = front; stuck = stops }) moves;
 }
 
--- Where there is no document, what the longest front gives is answered, and then one refusal.
+-- Where there is no document, what the longest prefix gives is answered, and then one refusal.
 pub given-alone : (buffer : List ℕ) (mode : Mode) (complains : Token → Refusal → Type 0) {new : Now} {calls : List Call} {answers : List Answer} →
     ((node : Node) (value : Tree) → IsDocument buffer mode node value → ⊥) → AllNext calls →
     MovesAll complains (fresh buffer mode) calls answers new → GivenAlone buffer mode complains answers

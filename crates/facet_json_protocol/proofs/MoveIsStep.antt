@@ -21,9 +21,9 @@ use Rattle.facet_json_document.specs.Refusal.{Complains}
 abbrev pub StepsTo : List Passed → Cursor → Call → Answer → Now → Type 0
 StepsTo w c call answer new = (d : Cursor) × Step w c call answer d × StandsAt new w d
 
--- ---- spots behind events
+-- ---- spots after events
 
--- The place behind so many events.
+-- The place after so many events.
 moved-place : (spot : Spot) (n : ℕ) → (moved spot n).place ≡ spot.place + n
 moved-place spot zero = omega arith
 moved-place spot (suc n) = refl
@@ -38,7 +38,7 @@ end-not_shown : (held : Option Passed) (shown : Bool) (rest : Future) → held_b
 end-not_shown None shown rest e = refl
 end-not_shown (Some p) shown rest e = cc
 
--- Behind some events the mark is off, and where the end came it was off before.
+-- After some events the mark is off, and where the end came it was off before.
 off-at-end : (spot : Spot) {before after : Span} {future : Future} {given : List Event} →
     Passes before future given after finished → (future ≡ finished → spot.peeked ≡ false) →
     (moved spot (length given)).peeked ≡ false
@@ -55,7 +55,7 @@ end-length (q ∷ w) (suc i) e = omega (arith, end-length w i e)
 take-beyond : {X : Type 0} (xs : List X) (n k : ℕ) → length xs ≤ n → n ≤ k → take n xs ≡ take k xs
 take-beyond xs n k h le = take_all n xs h ∙ sym (take_all k xs (omega arith))
 
--- The next events up to so many, where the walk ends behind fewer.
+-- The next events up to so many, where the walk ends after fewer.
 all-upcoming : (w : List Passed) (spot : Spot) (n k : ℕ) → length w ≤ spot.place + n → n ≤ k →
     upcoming_events w spot n ≡ upcoming_events w spot k
 all-upcoming w spot n k h le =
@@ -90,7 +90,7 @@ module _ (complains : Token → Refusal → Type 0) (now : Now) (w : List Passed
   alike : (s : Standing) → IsAlike now s → StandsOn now.buffer now.mode w s c.spot
   alike s like = alike-on now w s c.spot stands.standing like
 
-  -- A refusal for want of memory that changes nothing, at the cursor's span.
+  -- A refusal for lack of memory that changes nothing, at the cursor's span.
   want : (s : Standing) (call : Call) (answer : Refusal → Answer) → IsAlike now s →
       Step w c call (answer (no_memory_at (current_span w c.spot))) (refused_at c c.spot (no_memory_at (current_span w c.spot))) →
       StepsTo w c call (answer (no_memory_at (span_of s))) (with_refusal now s (no_memory_at (span_of s)))
@@ -140,7 +140,7 @@ module _ (complains : Token → Refusal → Type 0) (now : Now) (w : List Passed
 
   -- ---- events at once
 
-  -- Behind events that are passed the standing is the spot behind them.
+  -- After events that are passed the standing is the spot after them.
   put_behind : (s : Standing) (given : List Event) (last : Span) (future : Future) (mark : Bool) →
       ArePassed w c.spot.place given last future → NowShows now s future last mark →
       (moved c.spot (length given)).peeked ≡ mark →

@@ -144,7 +144,7 @@ module _ (complains : Token → Refusal → Type 0) where
 
   -- ---- all calls
 
-  -- Calls behind calls.
+  -- Calls after calls.
   pub moves-append : {a b c : Now} {first second : List Call} {these those : List Answer} → MovesAll complains a first these b →
       MovesAll complains b second those c → MovesAll complains a (first ++ second) (these ++ those) c
   moves-append (no_calls a) more = more
@@ -157,12 +157,6 @@ module _ (complains : Token → Refusal → Type 0) where
       MovesAll complains a (calls ++ call ∷ []) (answers ++ answer ∷ []) c
   moves-one_more {b = b} {c = c} {call = call} {answer = answer} all move =
       moves-append all (one_call b c c call answer [] [] move (no_calls c))
-
-  -- There are as many answers as calls.
-  pub moves-length : {now new : Now} {calls : List Call} {answers : List Answer} → MovesAll complains now calls answers new →
-      length answers ≡ length calls
-  moves-length (no_calls now) = refl
-  moves-length (one_call now between new call answer calls answers move more) = ap suc (moves-length more)
 
   -- All calls in order leave the input and the mode.
   pub all-input : {now new : Now} {calls : List Call} {answers : List Answer} → MovesAll complains now calls answers new →

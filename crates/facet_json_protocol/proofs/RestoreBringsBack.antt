@@ -82,7 +82,7 @@ module _ (complains : Token → Refusal → Type 0) where
         others = λ other differs. found-kept other point before.kept differs;
       })
 
-  -- Behind a save that answered a point and calls that don't restore it, its restore goes back to where the parser stood.
+  -- After a save that answered a point and calls that don't restore it, its restore goes back to where the parser stood.
   pub saved-back : (at_save behind before new : Now) (point : ℕ) (told answer : Answer) {calls : List Call} {answers : List Answer} →
       found point at_save.kept ≡ None → told ≡ saved (Ok point) → Moves complains at_save save told behind →
       NeverRestored point calls → MovesAll complains behind calls answers before → Moves complains before (restore point) answer new →
@@ -107,7 +107,7 @@ module _ (complains : Token → Refusal → Type 0) where
   moves-numbered now new (Err r) answer a free (saves_without_memory none h) =
       let same : r ≡ no_memory_at (span_of now.standing) = cc in rw same (no_memory h, refl)
 
--- Behind whatever calls of a new parser no point has the next number.
+-- After whatever calls of a new parser no point has the next number.
 pub numbers-new : (complains : Token → Refusal → Type 0) (buffer : List ℕ) (mode : Mode) (now : Now) {calls : List Call}
     {answers : List Answer} → MovesAll complains (fresh buffer mode) calls answers now → found (suc now.counter) now.kept ≡ None
 numbers-new complains buffer mode now all = all-up_to complains all (fresh-up_to buffer mode) (suc now.counter) (omega arith)

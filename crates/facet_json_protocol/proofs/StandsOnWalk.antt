@@ -1,4 +1,4 @@
--- Where a parser stands on a document's walk: at its front when it is new, and one step on after each move.
+-- Where a parser stands on a document's walk: at its prefix when it is new, and one step on after each move.
 use Rattle.std.proofs.Common.{◌≡◌, ℕ, zero, suc, ◌+◌, ◌≤◌, Bool, true, false, cond, ◌==◌, List, [], ◌∷◌, map, length, take, drop, Option, Some, None, refl, sym, ap, ◌∙◌, subst, arith}
 use Rattle.std.specs.Prelude.{slice_get}
 use Rattle.facet_json_token.specs.Gap.{Mode}
@@ -19,7 +19,7 @@ use Rattle.facet_json_protocol.specs.Now.{Standing, Now, fresh, held_before, is_
 use Rattle.facet_json_protocol.specs.Move.{Shows, IsAlike, Passes, no_events, one_event}
 use Rattle.facet_json_document.proofs.WalkComes.{document-comes}
 
--- ---- at the front
+-- ---- at the start
 
 -- A new parser stands where the cursor starts.
 pub fresh-stands : (buffer : List ℕ) (mode : Mode) (root : Node) (value : Tree) → IsDocument buffer mode root value →
@@ -38,7 +38,7 @@ fresh-stands buffer mode root value d = record {
 
 -- ---- what comes, and the place on the walk
 
--- The event is the one at this place of the walk, and this comes behind it.
+-- The event is the one at this place of the walk, and this comes after it.
 pub record IsNext (w : List Passed) (place : ℕ) (p : Passed) (future : Future) : Type 0 where
   pub there : slice_get w place ≡ Some p
   pub left : drop place w ≡ p ∷ drop (suc place) w

@@ -14,8 +14,8 @@ pub data AllRefused (r : Refusal) : List Answer → Type 0 where
   no_answer : AllRefused r []
   one_refused : (answers : List Answer) → AllRefused r answers → AllRefused r (event (Err r) ∷ answers)
 
--- One event an answer, and behind all of them one such refusal again and again; or, in place of an event that takes memory, the want
--- of it, from then on.
+-- One event an answer, and after all of them one such refusal again and again; or, in place of an event that allocates, out
+-- of memory, from then on.
 pub data AnswersAlone (refuses : Refusal → Type 0) : List Passed → List Answer → Type 0 where
   not_asked : (events : List Passed) → AnswersAlone refuses events []
   one_event : (p : Passed) (events : List Passed) (answers : List Answer) → AnswersAlone refuses events answers →

@@ -20,7 +20,7 @@ MoveIsStep = (old new : Now) (call : Call) (answer : Answer) → Moves Complains
 
 -- ---- a look ahead
 
--- Behind a peek that answers an event, the next event is that one.
+-- After a peek that answers an event, the next event is that one.
 abbrev pub PeekIsNext : Type 0
 PeekIsNext = (old between new : Now) (e : Event) (answer : Answer) → Moves Complains old peek (event (Ok (Some e))) between →
     Moves Complains between next answer new → answer ≡ event (Ok (Some e))
@@ -59,7 +59,7 @@ pub data NoPoint (now : Now) : Refusal → Type 0 where
   no_number : now.counter ≡ greatest → NoPoint now (refusal_at save_limit (span_of now.standing))
   no_memory : now.counter < greatest → NoPoint now (no_memory_at (span_of now.standing))
 
--- A save of a parser that is not refused keeps where it stands under the next number; or it changes nothing, for want of a number or of
+-- A save of a parser that is not refused keeps where it stands under the next number; or it changes nothing, for lack of a number or of
 -- memory.
 abbrev pub SaveIsNumbered : Type 0
 SaveIsNumbered = (old new : Now) (answer : Result ℕ Refusal) → old.refusal ≡ None → Moves Complains old save (saved answer) new →
@@ -83,7 +83,7 @@ pub record IsBack (at_save before new : Now) (point : ℕ) : Type 0 where
   pub used_up : found point new.kept ≡ None
   pub others : (other : ℕ) → other ≢ point → found other new.kept ≡ found other before.kept
 
--- Behind a save that answers a point under a number that no other has, and any calls that don't restore the point, its restore brings
+-- After a save that answers a point under a number that no other has, and any calls that don't restore the point, its restore brings
 -- the parser back.
 abbrev pub RestoreBringsBack : Type 0
 RestoreBringsBack = (at_save behind before new : Now) (point : ℕ) (calls : List Call) (answers : List Answer) (answer : Answer) →
@@ -103,7 +103,7 @@ UnknownChangesNothing = (old new : Now) (point : ℕ) (answer : Answer) → foun
 
 -- ---- the end
 
--- Behind events one answer is the end or a refusal.
+-- After events one answer is the end or a refusal.
 pub data Ends : List Answer → Type 0 where
   at_the_end : (others : List Answer) → Ends (event (Ok None) ∷ others)
   at_a_refusal : (r : Refusal) (others : List Answer) → Ends (event (Err r) ∷ others)

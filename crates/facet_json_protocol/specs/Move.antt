@@ -31,7 +31,7 @@ NowShows now s future last peeked = Shows now.buffer now.mode s future last peek
 abbrev pub IsAlike : Now → Standing → Type 0
 IsAlike now s = NowShows now s (future_of now) now.standing.last (is_peeked now.standing)
 
--- These events are passed: what comes behind which last token, before them and after them.
+-- These events are passed: what comes after which last token, before them and after them.
 pub data Passes : Span → Future → List Event → Span → Future → Type 0 where
   no_events : (last : Span) (future : Future) → Passes last future [] last future
   one_event : (before after : Span) (p : Passed) (future rest : Future) (others : List Event) →

@@ -86,7 +86,7 @@ last_shown _ _ last = last
 abbrev pub span_of : Standing → Span
 span_of s = last_shown s.held s.shown s.last
 
--- how many bytes stand behind the last token that an event passed
+-- how many bytes stand after the last token that an event passed
 abbrev pub ahead : Now → ℕ
 ahead now = length now.buffer - stop now.standing.last
 

@@ -32,14 +32,14 @@ pub record GivenAlone (buffer : List ℕ) (mode : Mode) (complains : Token → R
   pub front : LongestPrefix (meaning buffer) (tokens buffer mode) events here rest
   pub alone : AnswersAlone (RefusesAfter buffer mode complains events) events answers
 
--- Where the input has no document, a new parser that is asked for the next event alone answers what the longest front gives, one
--- event a call, and from then on one refusal of what stands behind that front; or in place of some event the want of memory.
+-- Where the input has no document, a new parser that is asked for the next event alone answers what the longest prefix gives, one
+-- event a call, and from then on one refusal of what stands after that prefix; or in place of some event out of memory.
 abbrev pub AloneIsGiven : Type 0
 AloneIsGiven = (buffer : List ℕ) (mode : Mode) (new : Now) (calls : List Call) (answers : List Answer) →
     ((node : Node) (value : Tree) → IsDocument buffer mode node value → ⊥) → AllNext calls →
     MovesAll Complains (fresh buffer mode) calls answers new → GivenAlone buffer mode Complains answers
 
--- Two new parsers of an input with a document answer the same calls alike, up to the first want of memory in either. A trusted parser and
+-- Two new parsers of an input with a document answer the same calls alike, up to the first out of memory in either. A trusted parser and
 -- one that checks are both new ones.
 abbrev pub TrustedAgrees : Type 0
 TrustedAgrees = (buffer : List ℕ) (mode : Mode) (node : Node) (value : Tree) (calls : List Call) (these those : List Answer)

@@ -1,4 +1,4 @@
--- Where spans lie: each event that comes ends behind the one before, within the input.
+-- Where spans lie: each event that comes ends after the one before, within the input.
 use Rattle.std.specs.Prelude.{◌<◌, ◌≤◌, ℕ, List, [], ◌∷◌, length, Option, Some, None, Result, Ok, Err, IfSome, ⊤}
 use Rattle.facet_json_token.specs.Gap.{Mode}
 use Rattle.facet_json_token.specs.Token.{Token, Fault}
@@ -11,7 +11,7 @@ use Rattle.facet_format.specs.Cursor.{Answer, event, batch, saved, restored, spa
 use Rattle.facet_json_document.specs.Future.{Future, gives, finished, stuck}
 use Rattle.facet_json_protocol.specs.Now.{Standing, Now, future_at}
 
--- Each token ends behind the one before, the first behind this offset, and all with the fault behind them lie within the buffer.
+-- Each token ends after the one before, the first after this offset, and all with the fault after them lie within the buffer.
 pub data InOrder (buffer : List ℕ) : ℕ → Tokens → Type 0 where
   at_the_end : (from : ℕ) → InOrder buffer from ended
   at_a_fault : (from : ℕ) (f : Fault) → stop f.span ≤ length buffer → InOrder buffer from (refused f)
@@ -25,7 +25,7 @@ pub data IsSound (buffer : List ℕ) : ℕ → Future → Type 0 where
   sound_end : (from : ℕ) → IsSound buffer from finished
   sound_stuck : (from : ℕ) (place : Place) (rest : Tokens) → InOrder buffer from rest → IsSound buffer from (stuck place rest)
 
--- The last token that was passed lies within the buffer, and what comes is behind it.
+-- The last token that was passed lies within the buffer, and what comes is after it.
 pub record StandsSound (buffer : List ℕ) (mode : Mode) (s : Standing) : Type 0 where
   pub last_within : stop s.last ≤ length buffer
   pub sound : IsSound buffer (stop s.last) (future_at buffer mode s)

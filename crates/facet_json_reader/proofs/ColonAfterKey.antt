@@ -1,4 +1,4 @@
--- What stands behind a key: its colon, the end, or another token.
+-- What stands after a key: its colon, the end, or another token.
 use Rattle.std.proofs.Common.{◌≡◌, ◌≤◌, ◌∙◌, ℕ, false, List, length, Some, Ok, refl, sym, subst}
 use Rattle.std.proofs.lemmas.Option.{same_Some}
 use Rattle.facet_json_token.specs.declared.token.Token.{Token as RustToken}

@@ -58,19 +58,6 @@ unmade-owned buffer (token.string a b true) u =
 unmade-owned buffer (token.string a b false) u = let e = u.escaped in cc
 unmade-owned buffer _ u = let e = u.escaped in cc
 
-made_by : (a b : ℕ) (o : Option (List ℕ)) → IsSome (option_map tree.text o) →
-    is_made (scalar_of (token.string a b true) (option_map tree.text o)) ≡ true
-made_by a b None some = cc
-made_by a b (Some t) some = refl
-
--- So is the text of a scalar.
-pub unmade-made : (buffer : List ℕ) (kind : Kind) → IsUnmade buffer kind →
-    is_made (scalar_of kind (meaning_of buffer kind)) ≡ true
-unmade-made buffer (token.string a b true) u =
-    made_by a b (decoded (slice_range buffer a b)) u.means
-unmade-made buffer (token.string a b false) u = let e = u.escaped in cc
-unmade-made buffer _ u = let e = u.escaped in cc
-
 module _ (buffer : List ℕ) (mode : Mode) (r : Reader) where
   -- Where no document goes on.
   refused_stop : (new : Reader) (last : Span) (place : Place) (ts : Tokens) (refusal : Refusal) →
@@ -277,7 +264,7 @@ module _ (buffer : List ℕ) (mode : Mode) (r : Reader) (t : SpannedToken) where
   key-stopped last refusal is some stops =
       refused_stop buffer mode r r last after_key rest refusal refl (names_comes is some ∙ stuck-reads_colon buffer (meaning buffer) Complains r.contexts (whole is.kind) rest refusal stops) stops
 
--- A bracket that opens a container takes memory.
+-- A bracket that opens a container allocates.
 pub opening-takes : (k : RustContainerKind) → takes_memory (opening k) ≡ true
 opening-takes containers.Object = refl
 opening-takes containers.Array = refl

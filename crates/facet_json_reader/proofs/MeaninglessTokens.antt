@@ -57,21 +57,3 @@ module _ (buffer : List ℕ) (s : RustSpan) (start finish : ℕ) where
         meaningless = ap (option_map tree.text) (decoded-plain_none (slice_range buffer start finish) plain (λ u. none (plain, u)));
         refused = of_plain_string start finish refl refl;
       }
-
-  -- ---- numbers
-
-  -- A number without a value.
-  pub number_unread : (h : Hint) (e : ScanError) (r : Refusal) → IsNumberThere buffer s start finish →
-      e ≡ number_refusal start finish → numbers.number (slice_range buffer start finish) h ≡ None → IsPassedOn e r →
-      IsMeaningless buffer (token.number start finish h) (span_of s) r
-  number_unread h e r is same none p =
-      let q : IsPassedOn (number_refusal start finish) r = rw same at p in
-      let complaint : r.complaint ≡ number_complaint = q.why.cuts tt in
-      let len : finish - start ≡ s.len = omega (arith, is.starts, is.finishes) in
-      let start_is = is.starts in
-      let bytes : r.span ≡ Some (span_of s) = rw (len, start_is) at q.same_bytes in
-      record {
-        judged = refl;
-        meaningless = ap (option_map tree_of_number) none;
-        refused = of_number refl (rw (← complaint, ← bytes) refl);
-      }

@@ -1,4 +1,4 @@
--- The token that is next where a reader stands, and answers that are also those of a reader that stood in front of separators.
+-- The token that is next where a reader stands, and answers that are also those of a reader that stood before separators.
 use Rattle.std.proofs.Common.{◌≡◌, ◌≤◌, ◌∙◌, ℕ, false, List, Some, refl, sym, ap, subst, arith}
 use Rattle.facet_json_token.specs.declared.token.Token.{Token as RustToken}
 use Rattle.facet_json_token.specs.declared.token.Token.TheVariants as code
@@ -32,7 +32,7 @@ over_reads : (m : Meaning) (stack : List ContainerKind) (ts : Tokens) → reads 
 unfolding reads
 over_reads m stack ts = refl
 
--- Behind the root nothing comes.
+-- After the root nothing comes.
 pub over-finished : (buffer : List ℕ) (mode : Mode) (r : Reader) → r.stage ≡ stages.Over →
     coming buffer mode r ≡ finished
 over-finished buffer mode r e =
@@ -74,10 +74,10 @@ module _ (buffer : List ℕ) (mode : Mode) (r : Reader) (t : SpannedToken) (p : 
       let never = stops-stays r.contexts p s.kind turn_stops in
       stops-refused buffer mode r last (place_of p) _ refusal (ap stage_of at) s.tokens (at_token s.kind _ s.is_kind never)
 
--- ---- behind separators
+-- ---- after separators
 
 module _ (buffer : List ℕ) (mode : Mode) (old r new : Reader) where
-  -- What is given behind separators is given in front of them.
+  -- What is given after separators is given before them.
   pub earlier-given : (h : Held) → coming buffer mode r ≡ coming buffer mode old → old.position ≤ r.position →
       GivesHeld buffer mode r new h → GivesHeld buffer mode old new h
   earlier-given h same forward g = record {
@@ -88,7 +88,7 @@ module _ (buffer : List ℕ) (mode : Mode) (old r new : Reader) where
     within_input = g.within_input;
   }
 
-  -- What is refused behind them is refused in front of them.
+  -- What is refused after them is refused before them.
   pub earlier-refused : (last : Span) (refusal : Refusal) → coming buffer mode r ≡ coming buffer mode old →
       RefusesNext buffer mode r new last refusal → RefusesNext buffer mode old new last refusal
   earlier-refused last refusal same x = record {

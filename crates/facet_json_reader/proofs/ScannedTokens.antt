@@ -62,7 +62,7 @@ CanBeRead-fits buffer s (code.Number a b h) kind w k f =
 CanBeRead-fits buffer s (code.NeedMore n) kind w k f = cc
 CanBeRead-fits buffer s _ kind w k f = tt
 
--- What is known of a token that is cut, and of what is left behind it.
+-- What is known of a token that is cut, and of what is left after it.
 pub record Scans (buffer : List ℕ) (position : ℕ) (mode : Mode) (t : SpannedToken) : Type 0 where
   pub kind : Kind
   pub is_kind : kind_of t.token ≡ Some kind

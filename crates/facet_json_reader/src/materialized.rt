@@ -106,7 +106,7 @@ impl<'a> TokenKind<'a> {
         }
     }
 
-    /// The scalar. Whole numbers past 64 bits become the text of their digits, which alone takes memory; what is no scalar
+    /// The scalar. Whole numbers past 64 bits become the text of their digits, which alone allocates; what is no scalar
     /// becomes null.
     pub(crate) fn into_scalar(self, alloc: Global) -> Result<ScalarValue<'a>, AllocError>
         ensures { (buffer : List ℕ) (kind : Kind) → IsReadAs buffer kind self.entry → MatchResult result
@@ -127,7 +127,7 @@ impl<'a> TokenKind<'a> {
     }
 }
 
-/// The decimal digits of a whole number, behind a minus where it is negative.
+/// The decimal digits of a whole number, after a minus where it is negative.
 fn digits<N: itoa::Integer>(alloc: Global, n: N) -> Result<String, AllocError>
     ensures text { IfOk result (λ s. string_bytes s ≡ N.text n) }
 {
@@ -136,7 +136,7 @@ fn digits<N: itoa::Integer>(alloc: Global, n: N) -> Result<String, AllocError>
 }
 
 /// A token of the buffer with what it stands for, or `None` where it is a string with an escape for whose text there was
-/// no memory. Nothing else takes memory.
+/// no memory. Nothing else allocates.
 pub(crate) fn materialize<'a>(
     alloc: Global,
     buffer: &'a [u8],

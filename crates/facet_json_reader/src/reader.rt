@@ -22,17 +22,17 @@ use facet_json_token::{Mode, SpannedToken, Token, cut};
 use std::alloc::{AllocError, Global};
 use std::borrow::CowStr;
 
-/// A place within the root, or behind its end.
+/// A place within the root, or after its end.
 #[derive(Debug, Clone, Copy, PartialEq, Eq)]
 pub enum Stage {
-    /// Within the root, or in front of it.
+    /// Within the root, or before it.
     Within(Place),
-    /// Behind the root.
+    /// After the root.
     Over,
 }
 
 impl Stage {
-    /// Behind the bracket that opens a container.
+    /// After the bracket that opens a container.
     fn inside(kind: ContainerKind) -> Stage
         ensures { stage_of result ≡ opened kind }
     {
@@ -82,12 +82,12 @@ pub struct Reader {
     pub position: usize,
     /// The open containers.
     pub contexts: Contexts,
-    /// What stands in front within the innermost one.
+    /// What stands before, within the innermost one.
     pub stage: Stage,
 }
 
 impl Reader {
-    /// In front of the root.
+    /// Before the root.
     pub fn new(alloc: Global) -> Reader
         ensures position { result.position ≡ 0 }
         ensures contexts { result.contexts ≡ [] }
@@ -111,9 +111,9 @@ impl Reader {
         })
     }
 
-    /// Reads the next event, or answers that the document has ended. A refusal leaves what comes as it is; a separator in
-    /// front of it may be passed. Memory is taken for an opening bracket and for a text that is no slice of the input:
-    /// where it runs out, the refusal names `last`, the last token that an event passed.
+    /// Reads the next event, or answers that the document has ended. A refusal leaves what comes as it is; a separator
+    /// before it may be passed. It allocates for an opening bracket and for a text that is no slice of the input: where memory
+    /// runs out, the refusal names `last`, the last token that an event passed.
     pub fn advance<'de>(
         &mut self,
         alloc: Global,
@@ -226,7 +226,7 @@ impl Reader {
     }
 }
 
-/// The offset behind the bytes.
+/// The offset after the bytes.
 fn end(span: Span) -> usize
     requires { stop (span_of span) < 2 ^ 64 }
     ensures { result ≡ stop (span_of span) }

@@ -140,7 +140,7 @@ fn tell_answers(
     Ok(())
 }
 
-/// All events of an input of so many bytes and what comes behind them, twice, and then the span.
+/// All events of an input of so many bytes and what comes after them, twice, and then the span.
 fn tell_by_next(
     alloc: Global,
     parser: &mut JsonParser<'_>,

@@ -35,7 +35,7 @@ pub fn printed(alloc: Global, text: &str) -> Result<Option<Vec<u8>>, AllocError>
     }
 }
 
-/// How far an escape is read behind this byte, and the byte that is printed then.
+/// How far an escape is read after this byte, and the byte that is printed then.
 fn step(escape: Escape, byte: u8) -> Option<(Escape, Option<u8>)> {
     match (escape, byte) {
         (Escape::Outside, b'%') => None,

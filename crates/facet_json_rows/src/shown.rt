@@ -4,7 +4,7 @@ use facet_format::{DeserializeErrorKind, ParseError, ParseEvent, ParseEventKind,
 use facet_json_core::Answer;
 use std::alloc::{AllocError, Global};
 
-/// Appends a text behind those that are told.
+/// Appends a text after those that are told.
 fn push(told: &mut String, text: &str) -> Result<(), AllocError> {
     if !told.is_empty() {
         told.push_str("; ")?;
@@ -20,7 +20,7 @@ pub fn tell(told: &mut String, text: &str) -> Result<(), AllocError> {
     push(told, text)
 }
 
-/// Appends an answer; of several events one after the other, and then their number or the refusal behind them.
+/// Appends an answer; of several events one after the other, and then their number or the refusal after them.
 pub fn push_answer(
     alloc: Global,
     answer: &Answer<'_>,
@@ -51,7 +51,7 @@ pub fn tell_answer(
     tell(told, answer_shown(alloc, answer)?.as_str())
 }
 
-/// The answer; of several events their number, or the refusal behind them.
+/// The answer; of several events their number, or the refusal after them.
 fn answer_shown(alloc: Global, answer: &Answer<'_>) -> Result<String, AllocError> {
     match answer {
         Answer::Event(Ok(Some(event))) => event_shown(alloc, event),

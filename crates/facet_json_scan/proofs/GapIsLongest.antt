@@ -15,7 +15,7 @@ abbrev BlockAt : List ℕ → Option ℕ → Type 0
 BlockAt bytes None = Unit {0}
 BlockAt bytes (Some n) = (n ≤ length bytes) × ClosesBlock (take n bytes)
 
--- One byte more in front of a block that ends with its first `*/`.
+-- One byte more before a block that ends with its first `*/`.
 block_more : (b c n : ℕ) (bytes : List ℕ) → ((b == star) && (c == slash)) ≡ false → ClosesBlock (take n (c ∷ bytes)) →
     ClosesBlock (b ∷ take n (c ∷ bytes))
 block_more b c zero bytes e h = elim h [ ]
@@ -46,7 +46,7 @@ abbrev LineAt : List ℕ → Option ℕ → Type 0
 LineAt bytes None = OpensLine bytes
 LineAt bytes (Some n) = (n ≤ length bytes) × ClosesLine (take n bytes)
 
--- One byte more in front of a line.
+-- One byte more before a line.
 line_further : (b : ℕ) (bytes : List ℕ) (o : Option ℕ) → (b == line_feed) ≡ false → LineAt bytes o →
     LineAt (b ∷ bytes) (one_more o)
 line_further b bytes None e h = OpensLine.more b bytes e h
@@ -126,7 +126,7 @@ GapAt mode input bytes =
 gap_none : (mode : Mode) (input : Input) (bytes : List ℕ) → gap_len mode input bytes ≡ 0 → GapAt mode input bytes
 gap_none mode input bytes e = subst (λ n. IsGap mode input (take n bytes) (drop n bytes)) (sym e) (empty bytes)
 
--- A piece and a gap behind it are a gap.
+-- A piece and a gap after it are a gap.
 gap_more : (mode : Mode) (input : Input) (n : ℕ) (bytes : List ℕ) → piece_len mode input bytes ≡ n →
     n ≤ length bytes → IsPiece mode input (take n bytes) (drop n bytes) →
     GapAt mode input (drop n bytes) → GapAt mode input bytes
@@ -142,7 +142,7 @@ gap_more mode input n bytes e h first others =
     subst (λ m. IsGap mode input (take m bytes) (drop m bytes)) (sym all)
     (subst (IsGap mode input (take (n + k) bytes)) left whole_gap)
 
--- What is measured as a gap is one, also behind the next bytes.
+-- What is measured as a gap is one, also after the next bytes.
 gap_at : (mode : Mode) (input : Input) (inside : ℕ) (bytes : List ℕ) → GapAt mode input (drop inside bytes)
 gap_at mode input zero [] = gap_none mode input [] (gap_len-none mode input [] refl)
 gap_at mode input (suc inside) [] = gap_none mode input [] (gap_len-none mode input [] refl)
@@ -185,7 +185,7 @@ piece_len-is _ _ _ _ (last_line body h) =
     ap (λ l. piece_len jsonc whole (slash ∷ slash ∷ l)) (append-nil body)
     ∙ ap (with_line_mark whole body) (opens_line-none body h)
 
--- A gap is measured as long as it is, and the gap behind it.
+-- A gap is measured as long as it is, and the gap after it.
 gap_len-is : (mode : Mode) (input : Input) (bytes rest : List ℕ) → IsGap mode input bytes rest →
     gap_len mode input (bytes ++ rest) ≡ length bytes + gap_len mode input rest
 gap_len-is mode input _ _ (empty rest) = omega arith
@@ -201,7 +201,7 @@ gap_len-is mode input _ _ (piece first others bytes rest is_piece is_gap e) =
     let long : length bytes ≡ n + length others = ap length e ∙ length-append first others in
     ap (gap_len mode input) whole ∙ step ∙ ap (λ k. n + k) behind_it ∙ omega arith
 
--- A front that is a gap is no longer than the gap that is measured.
+-- A prefix that is a gap is no longer than the gap that is measured.
 gap_len-longest : (mode : Mode) (input : Input) (bytes : List ℕ) (k : ℕ) → k ≤ length bytes →
     IsGap mode input (take k bytes) (drop k bytes) → k ≤ gap_len mode input bytes
 gap_len-longest mode input bytes k h is_gap =
@@ -212,7 +212,7 @@ gap_len-longest mode input bytes k h is_gap =
     ap (gap_len mode input) (take-append-drop k bytes) in
     omega (arith, length-take-le k bytes h)
 
--- The gap at the front is a gap, and no longer front of the bytes is one.
+-- The gap at the start is a gap, and no longer prefix of the bytes is one.
 pub gap_is_longest : GapIsLongest
 gap_is_longest mode input bytes =
     (gap_len-bound mode input bytes, gap_at mode input 0 bytes, gap_len-longest mode input bytes)

@@ -24,7 +24,7 @@ is_none-is : (o : Option ℕ) → is_none o ≡ true → o ≡ None
 is_none-is None e = refl
 is_none-is (Some n) e = cc
 
--- A front of a literal that is tested to be proper is a beginning.
+-- A prefix of a literal that is tested to be proper is a beginning.
 word_begins : (mode : Mode) (b : ℕ) (bytes word : List ℕ) (kind : Kind) → IsLiteral word kind →
     is_prefix_by (common_len word (b ∷ bytes)) word (b ∷ bytes) ≡ true → IsBeginning mode (b ∷ bytes)
 word_begins mode b bytes word kind h e =
@@ -70,7 +70,7 @@ is_beginning-sound mode (b ∷ bytes) e = begins_by (start_of b) mode b bytes (s
 
 -- ---- a beginning is tested to be one
 
--- A content that doesn't end behind pieces doesn't end with them in front.
+-- A content that doesn't end after pieces doesn't end with them in prefix.
 content_len-pieces : (content rest : List ℕ) (has_escapes : Bool) → ArePieces content has_escapes →
     content_len false rest ≡ None → content_len false (content ++ rest) ≡ None
 content_len-pieces _ rest _ ArePieces.none e = e
@@ -87,7 +87,7 @@ start_of-word _ _ _ null_stands = refl
 start_of-word _ _ _ true_stands = refl
 start_of-word _ _ _ false_stands = refl
 
--- A proper front of a literal is tested to be a beginning.
+-- A proper prefix of a literal is tested to be a beginning.
 literal_tested : (mode : Mode) (front others : List ℕ) (kind : Kind) → IsLiteral (front ++ others) kind →
     front ≢ [] → others ≢ [] → is_beginning mode front ≡ true
 unfolding is_beginning

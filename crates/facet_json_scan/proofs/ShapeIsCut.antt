@@ -17,7 +17,7 @@ use Rattle.facet_json_token.proofs.CutBounds.{common_len-bound}
 
 -- ---- what is cut has the shape
 
--- The token's bytes are in front, and have its shape.
+-- The token's bytes are in prefix, and have its shape.
 record ShapeAt (at : ℕ) (bytes : List ℕ) (t : Token) : Type 0 where
   within : t.span.len ≤ length bytes
   shape : IsShape at (take t.span.len bytes) (drop t.span.len bytes) t.kind
@@ -34,7 +34,7 @@ common_step : (t : Bool) (b w n m : ℕ) (bytes word : List ℕ) → (b == w) �
 common_step true b w n m bytes word e h f = ap (λ x. x ∷ bytes) (eqb-true b w e) ∙ ap (λ l. w ∷ l) (f (omega arith))
 common_step false b w n m bytes word e h f = absurd (omega arith)
 
--- A word whose letters are all there is in front.
+-- A word whose letters are all there is in prefix.
 common_len-all : (word bytes : List ℕ) → common_len word bytes ≡ length word → take (length word) bytes ≡ word
 common_len-all [] bytes e = refl
 common_len-all (w ∷ word) [] e = absurd (omega arith)
@@ -47,7 +47,7 @@ broken_shape : (at n : ℕ) (bytes : List ℕ) (found : Option ℕ) →
 broken_shape at n bytes None = tt
 broken_shape at n bytes (Some b) = tt
 
--- A word that stands in front has the shape of its kind.
+-- A word that stands in prefix has the shape of its kind.
 literal_shape : (at n : ℕ) (bytes word : List ℕ) (kind : Kind) → IsLiteral word kind → n ≤ length bytes →
     n ≡ length word → take n bytes ≡ word →
     ShapeAt at bytes (record { kind = kind; span = record { offset = at; len = n } })
@@ -178,7 +178,7 @@ literal_is_cut mode at _ rest _ null_stands = refl
 literal_is_cut mode at _ rest _ true_stands = refl
 literal_is_cut mode at _ rest _ false_stands = refl
 
--- Behind a quote a string is cut.
+-- After a quote a string is cut.
 cut_here-text : (mode : Mode) (at : ℕ) (bytes : List ℕ) →
     cut_here mode at (quote ∷ bytes) ≡ cut_text at bytes (content_len false bytes)
 unfolding cut_here start_of
@@ -212,7 +212,7 @@ cut_here-number mode at (b ∷ bytes) begins more =
     ap (λ s. cut_by s mode at b bytes) (start_of-number b begins)
     ∙ ap (cut_number at bytes (parts_len p) (parts_hint p)) more
 
--- What is in front is in front of more.
+-- What is in prefix is before more.
 begins_number-append : (text rest : List ℕ) → begins_number text ≡ true → begins_number (text ++ rest) ≡ true
 begins_number-append [] rest e = cc
 begins_number-append (b ∷ text) rest e = e
@@ -223,7 +223,7 @@ unfolding parts
 sign-bound [] = omega arith
 sign-bound (b ∷ bytes) = cond_both (b == minus) 1 0 (λ n. n ≤ 1) (λ e. omega arith) (λ e. omega arith)
 
--- More than a minus stands where a number is in front.
+-- More than a minus stands where a number is in prefix.
 bare_behind : (text rest : List ℕ) (hint : Hint) → IsNumber text hint → is_bare (parts (text ++ rest)) ≡ false
 bare_behind text rest hint is =
     let all = text ++ rest in

@@ -1,4 +1,4 @@
-//! What the definitions of `specs/` mean, in the subject's own words: each law is the contract of a
+//! What the definitions of tokens, growing buffers and strings' contents mean, in the subject's own words: each law is the contract of a
 //! function without effect.
 
 mod cuts;

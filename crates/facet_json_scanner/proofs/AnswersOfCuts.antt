@@ -105,7 +105,7 @@ cut_here-ends mode buffer at b here =
     fits-within buffer at _ (here_fits mode buffer (drop at buffer) at refl (omega (arith, length-drop at buffer)))
     (cut_here-something mode buffer at b here)
 
--- What is found where no gap is in front: what is cut there, and nothing longer begins.
+-- What is found where no gap is before it: what is cut there, and nothing longer begins.
 pub found-here : (mode : Mode) (buffer : List ℕ) (start : ℕ) (r : Result SpannedToken ScanError) (c : Cut) →
     scanned r ≡ Some c → c ≢ nothing_left → c ≡ cut_here mode start (drop start buffer) →
     (IsBeginning mode (drop start buffer) → ⊥) → FoundHere mode buffer start (found.Answer start r)

@@ -1,4 +1,4 @@
--- What is found behind a gap, from what is found where it ends.
+-- What is found after a gap, from what is found where it ends.
 use Rattle.std.proofs.Common.{◌≡◌, ℕ, zero, suc, ◌+◌, ◌≤◌, ◌<◌, List, [], length, drop, Some, refl, sym, ap, ◌∙◌, subst, arith}
 use Rattle.std.proofs.lemmas.List.{append-nil, drop-drop, length-drop}
 use Rattle.facet_json_scanner.specs.declared.scanner.token.Found.{Found}
@@ -39,7 +39,7 @@ found-no_gap mode buffer p (found.Open at s) room none h =
     let q = growing_gap-none mode buffer p none in
     (h.0 ∙ sym q, subst (λ n. Describes mode (state_of s) (drop n buffer)) (sym q) h.1)
 
--- Behind a piece it is found from where the piece begins.
+-- After a piece it is found from where the piece begins.
 pub found-piece : (mode : Mode) (buffer : List ℕ) (p end : ℕ) (f : Found) → p < end → end ≤ length buffer →
     end ≡ p + piece_len mode growing (drop p buffer) → FoundFrom mode buffer end f → FoundFrom mode buffer p f
 unfolding cut

@@ -1,4 +1,4 @@
--- What is cut where a buffer isn't open is cut alike from every longer buffer with that front.
+-- What is cut where a buffer isn't open is cut alike from every longer buffer with that prefix.
 use Rattle.std.proofs.Common.{◌≡◌, ℕ, ◌+◌, ◌≤◌, Bool, true, false, cond, ◌==◌, List, [], ◌∷◌, ◌++◌, length, drop, refl, sym, ap, ◌∙◌, arith}
 use Rattle.std.proofs.lemmas.Bool.{eqb-true}
 use Rattle.std.proofs.lemmas.List.{drop-append-le, append-nil, drop-drop, length-drop}
@@ -45,7 +45,7 @@ cut_by-stays _ mode at b bytes more (a_number _ h) shut none = cut_number-stays 
 cut_by-stays _ mode at b bytes more a_comment shut none = cut_slash-stays mode at bytes more shut none
 cut_by-stays _ mode at b bytes more (no_token _ h) shut none = refl
 
--- What is cut where no gap is in front, and nothing longer begins, is cut alike from more bytes. If nothing is left,
+-- What is cut where no gap is before it, and nothing longer begins, is cut alike from more bytes. If nothing is left,
 -- no more follow.
 cut_here-stays : (mode : Mode) (at : ℕ) (bytes more : List ℕ) → (bytes ≡ [] → more ≡ []) →
     (IsBeginning mode bytes → ⊥) →
@@ -66,7 +66,7 @@ past_gap-stays buffer more position mode within shut last =
     rw (drop-append-le position buffer more within)
     (ap (λ n. position + n) (gap_len-stays mode 0 rest more (λ e. last (sym behind ∙ e)) (λ i. shut (rw (← behind) i))))
 
--- What is cut where the buffer isn't open is cut behind the gap of the growing buffer.
+-- What is cut where the buffer isn't open is cut after the gap of the growing buffer.
 cut_as_growing : (buffer more : List ℕ) (position : ℕ) (mode : Mode) → position ≤ length buffer →
     (IsOpen buffer position mode → ⊥) →
     (drop (past_growing_gap buffer position mode) buffer ≡ [] → more ≡ []) →
@@ -87,7 +87,7 @@ nothing_here : (mode : Mode) (at : ℕ) (bytes : List ℕ) → bytes ≡ [] → 
 unfolding cut_here
 nothing_here mode at bytes e = rw e
 
--- What is cut where the buffer isn't open is cut alike from every longer buffer with that front.
+-- What is cut where the buffer isn't open is cut alike from every longer buffer with that prefix.
 pub cut_stays : CutStays
 cut_stays buffer more position mode within shut some =
     let past = past_growing_gap buffer position mode in

@@ -1,4 +1,4 @@
--- What more bytes leave of the gap at the front of a buffer.
+-- What more bytes leave of the gap at the start of a buffer.
 use Rattle.std.proofs.Common.{◌≡◌, ℕ, zero, suc, Bool, true, false, cond, ◌==◌, ◌&&◌, List, [], ◌∷◌, ◌++◌, drop, Option, Some, None, refl, sym, ap, ◌∙◌}
 use Rattle.std.proofs.lemmas.Bool.{eqb-true, and_parts}
 use Rattle.facet_format.specs.Bytes.{is_space, slash, star}
@@ -141,7 +141,7 @@ piece_len-none : (mode : Mode) (b : ℕ) (bytes more : List ℕ) → (IsBeginnin
 piece_len-none plain b bytes more shut e = e
 piece_len-none jsonc b bytes more shut e = blank_or-none (is_space b) _ _ (comment_len-none b bytes more shut) e
 
--- The gap of a growing buffer stays under more bytes, where what is left behind it begins nothing longer. If nothing is
+-- The gap of a growing buffer stays under more bytes, where what is left after it begins nothing longer. If nothing is
 -- left, no more follow.
 abbrev GapStays : Mode → List ℕ → List ℕ → ℕ → Type 0
 GapStays mode bytes more inside =

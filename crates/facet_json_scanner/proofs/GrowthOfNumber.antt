@@ -1,4 +1,4 @@
--- What more bytes leave of a number at the front of a buffer.
+-- What more bytes leave of a number at the start of a buffer.
 use Rattle.std.proofs.Common.{◌≡◌, ◌≢◌, ℕ, suc, ◌+◌, ◌≤◌, ◌<◌, Bool, true, false, cond, ◌==◌, List, [], ◌∷◌, ◌++◌, length, drop, refl, ap, ◌∙◌, arith}
 use Rattle.std.proofs.lemmas.Bool.{both_ways}
 use Rattle.std.proofs.lemmas.List.{length-drop, drop-append-le}
@@ -17,7 +17,7 @@ use Rattle.facet_format.proofs.NumberLaws.{parts_len-some, bare-minus, bare_minu
 abbrev Stays : (List ℕ → ℕ) → Type 0
 Stays f = (bytes more : List ℕ) → f bytes < length bytes → f (bytes ++ more) ≡ f bytes
 
--- A byte, if it stands, and what stays behind it stay.
+-- A byte, if it stands, and what stays after it stay.
 cond_suc-stays : (t : Bool) (m n len : ℕ) → (m < len → n ≡ m) → cond t (suc m) 0 < suc len →
     cond t (suc n) 0 ≡ cond t (suc m) 0
 cond_suc-stays true m n len h lt = ap suc (h (omega arith))
@@ -40,7 +40,7 @@ sign_len-stays : Stays sign_len
 sign_len-stays [] more lt = absurd (omega arith)
 sign_len-stays (b ∷ bytes) more lt = refl
 
--- A part behind a front stays.
+-- A part after a prefix stays.
 behind-stays : (f : List ℕ → ℕ) → Stays f → (n : ℕ) (bytes more : List ℕ) → n + f (drop n bytes) < length bytes →
     f (drop n (bytes ++ more)) ≡ f (drop n bytes)
 behind-stays f stays n bytes more lt =

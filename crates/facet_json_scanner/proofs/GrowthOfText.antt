@@ -1,4 +1,4 @@
--- What more bytes leave of a string or a word at the front of a buffer.
+-- What more bytes leave of a string or a word at the start of a buffer.
 use Rattle.std.proofs.Common.{◌≡◌, ◌≢◌, ℕ, suc, ◌≤◌, Bool, true, false, cond, ◌==◌, List, [], ◌∷◌, ◌++◌, length, Option, Some, None, slice_get, refl, ap, ◌∙◌, arith}
 use Rattle.std.proofs.lemmas.Bool.{eqb-true, eqb-false}
 use Rattle.std.proofs.lemmas.List.{take-append-le}
@@ -26,25 +26,25 @@ data IsUnended : List ℕ → Type 0 where
   escaped : (content bytes : List ℕ) (has_escapes : Bool) → ArePieces content has_escapes →
       bytes ≡ content ++ backslash ∷ [] → IsUnended bytes
 
--- A byte in front is content too.
+-- A byte in prefix is content too.
 with_byte : (b : ℕ) (bytes : List ℕ) → (b == quote) ≡ false → (b == backslash) ≡ false → IsUnended bytes →
     IsUnended (b ∷ bytes)
 with_byte b bytes q s (whole _ e pieces) = whole _ e (ArePieces.byte b bytes e q s pieces)
 with_byte b bytes q s (escaped content _ e pieces is) =
     escaped (b ∷ content) _ e (ArePieces.byte b content e q s pieces) (ap (λ l. b ∷ l) is)
 
--- An escape in front is content too.
+-- An escape in prefix is content too.
 with_escape : (b : ℕ) (bytes : List ℕ) → IsUnended bytes → IsUnended (backslash ∷ b ∷ bytes)
 with_escape b bytes (whole _ e pieces) = whole _ true (ArePieces.escape b bytes e pieces)
 with_escape b bytes (escaped content _ e pieces is) =
     escaped (backslash ∷ b ∷ content) _ true (ArePieces.escape b content e pieces) (ap (λ l. backslash ∷ b ∷ l) is)
 
--- the same, where a backslash stands in front or not
+-- the same, where a backslash stands in prefix or not
 abbrev IsUnendedBehind : Bool → List ℕ → Type 0
 IsUnendedBehind true bytes = IsUnended (backslash ∷ bytes)
 IsUnendedBehind false bytes = IsUnended bytes
 
--- A byte in front, a backslash or not, is content too.
+-- A byte in prefix, a backslash or not, is content too.
 with_either : (t : Bool) (b : ℕ) (bytes : List ℕ) → (b == quote) ≡ false → (b == backslash) ≡ t →
     IsUnendedBehind t bytes → IsUnended (b ∷ bytes)
 with_either true b bytes q s h = rw (eqb-true b backslash s) h
@@ -59,7 +59,7 @@ content_len-none false (b ∷ bytes) e =
     let none = cond-none (b == quote) 0 (content_len (b == backslash) bytes) e in
     with_either (b == backslash) b bytes none.0 refl (content_len-none (b == backslash) bytes none.1)
 
--- Behind a quote it is the beginning of a string.
+-- After a quote it is the beginning of a string.
 unended_begins : (mode : Mode) (bytes : List ℕ) → IsUnended bytes → IsBeginning mode (quote ∷ bytes)
 unended_begins mode bytes (whole _ e pieces) = IsBeginning.text mode bytes e pieces
 unended_begins mode bytes (escaped content _ e pieces is) = rw is (IsBeginning.escape mode content e pieces)
@@ -86,11 +86,11 @@ cut_text-stays mode at bytes more shut =
 
 -- ---- a word
 
--- The bytes are no proper front of the word.
+-- The bytes are no proper prefix of the word.
 abbrev IsNoFront : List ℕ → List ℕ → Type 0
 IsNoFront bytes word = (others : List ℕ) → word ≡ bytes ++ others → others ≢ [] → ⊥
 
--- Behind a letter that both have the bytes are no proper front either.
+-- After a letter that both have the bytes are no proper prefix either.
 no_front_behind : (w b : ℕ) (word bytes : List ℕ) → (b == w) ≡ true → IsNoFront (b ∷ bytes) (w ∷ word) →
     IsNoFront bytes word
 no_front_behind w b word bytes t shut others e more =
@@ -102,7 +102,7 @@ cond_suc : (t : Bool) (m n : ℕ) → (t ≡ true → m ≡ n) → cond t (suc m
 cond_suc true m n h = ap suc (h refl)
 cond_suc false m n h = refl
 
--- Bytes that are no proper front of the word have as many of its letters under more.
+-- Bytes that are no proper prefix of the word have as many of its letters under more.
 common_len-stays : (word bytes more : List ℕ) → IsNoFront bytes word →
     common_len word (bytes ++ more) ≡ common_len word bytes
 common_len-stays [] bytes more shut = refl
@@ -110,7 +110,7 @@ common_len-stays (w ∷ word) [] more shut = absurd (shut (w ∷ word) refl (λ 
 common_len-stays (w ∷ word) (b ∷ bytes) more shut =
     cond_suc (b == w) _ _ (λ t. common_len-stays word bytes more (no_front_behind w b word bytes t shut))
 
--- At a front of n letters the longer bytes have what the bytes have.
+-- At a prefix of n letters the longer bytes have what the bytes have.
 abbrev SameAt : List ℕ → List ℕ → ℕ → Type 0
 SameAt longer bytes n = slice_get longer n ≡ slice_get bytes n
 

@@ -10,7 +10,7 @@ use Rattle.facet_format.proofs.NumberLaws.{parts-is, parts-by, mark_no_digit, ma
 
 -- ---- what stands in the last part
 
--- Behind digits stands neither a fraction nor an exponent.
+-- After digits stands neither a fraction nor an exponent.
 pub last-digits : (fraction exponent : List ℕ) → in_digits ≡ last_part fraction exponent →
     (fraction ≡ []) × (exponent ≡ [])
 last-digits [] [] e = (refl, refl)
@@ -20,7 +20,7 @@ last-digits (b ∷ fraction) (m ∷ []) e = cc
 last-digits [] (m ∷ b ∷ power) e = cc
 last-digits (a ∷ fraction) (m ∷ b ∷ power) e = cc
 
--- Behind a fraction stands no exponent.
+-- After a fraction stands no exponent.
 last-fraction : (fraction exponent : List ℕ) → in_fraction ≡ last_part fraction exponent →
     (fraction ≢ []) × (exponent ≡ [])
 last-fraction [] [] e = cc
@@ -58,7 +58,7 @@ mark-last : (fraction : List ℕ) (m : ℕ) → at_mark ≡ last_part fraction (
 mark-last [] m = refl
 mark-last (b ∷ fraction) m = refl
 
--- A byte behind the mark stands in the exponent.
+-- A byte after the mark stands in the exponent.
 exponent-last : (fraction exponent : List ℕ) (b : ℕ) → exponent ≢ [] →
     in_exponent ≡ last_part fraction (exponent ++ b ∷ [])
 exponent-last fraction [] b some = absurd (some refl)
@@ -204,7 +204,7 @@ dot-after_digits b e = λ text i.
     fraction-grows text b i.hint n none.1
     (subst (λ l. IsFraction (l ++ b ∷ []) true) (sym none.0) (fraction-dot b e))
 
--- A mark behind digits or a fraction.
+-- A mark after digits or a fraction.
 mark-grows : (text : List ℕ) (b : ℕ) (hint : Hint) (n : IsNumeral text hint) → n.exponent ≡ [] →
     is_exponent_mark b ≡ true → EndsIn at_mark (text ++ b ∷ [])
 mark-grows text b hint n none e =

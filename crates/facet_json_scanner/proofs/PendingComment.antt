@@ -11,12 +11,12 @@ use Rattle.facet_json_scanner.proofs.Segments.{between, between-length, between-
 
 -- ---- a line comment
 
--- A line goes on behind bytes that hold no line feed.
+-- A line goes on after bytes that hold no line feed.
 opens_line-append : (body rest : List ℕ) → OpensLine body → OpensLine rest → OpensLine (body ++ rest)
 opens_line-append _ rest OpensLine.nothing k = k
 opens_line-append _ rest (OpensLine.more b body e h) k = OpensLine.more b _ e (opens_line-append body rest h k)
 
--- Its end is found behind them.
+-- Its end is found after them.
 line_end-append : (body rest : List ℕ) (n : ℕ) → OpensLine body → through_line_end rest ≡ Some n →
     through_line_end (body ++ rest) ≡ Some (length body + n)
 line_end-append _ rest n OpensLine.nothing e = e ∙ ap Some (omega arith)
@@ -49,7 +49,7 @@ ends_in_star-more [] b = refl
 ends_in_star-more (x ∷ []) b = refl
 ends_in_star-more (x ∷ y ∷ body) b = ends_in_star-more (y ∷ body) b
 
--- A slash behind a star closes a block.
+-- A slash after a star closes a block.
 block_end-here : (body rest : List ℕ) → OpensBlock body → ends_in_star body ≡ true →
     through_block_end (body ++ slash ∷ rest) ≡ Some (suc (length body))
 block_end-here _ rest OpensBlock.nothing e = cc
@@ -99,7 +99,7 @@ line-goes_on buffer start at order room d e =
     subst (Describes jsonc in_line) (sym (between-rest buffer start at (omega arith) room))
     (line-open (between buffer start at) (drop at buffer) d (option_map-none at _ e))
 
--- A slash behind a star ends the block comment.
+-- A slash after a star ends the block comment.
 pub block-ends : (buffer : List ℕ) (start end : ℕ) → start < end →
     Describes jsonc (in_block true) (between buffer start end) → slice_get buffer end ≡ Some slash →
     end + 1 ≡ start + piece_len jsonc growing (drop start buffer)

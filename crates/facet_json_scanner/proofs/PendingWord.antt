@@ -10,7 +10,7 @@ use Rattle.facet_json_scanner.specs.Scanner.{in_word, Describes}
 use Rattle.facet_json_token.proofs.Starts.{Begins, a_word, start_of-begins}
 use Rattle.facet_json_scanner.proofs.Beginnings.{BeginsBy, begins_by}
 
--- The bytes are a front of the word, if all of them are letters of it.
+-- The bytes are a prefix of the word, if all of them are letters of it.
 pub prefix_of_word : (word bytes : List ℕ) → common_len word bytes ≡ length bytes → word ≡ bytes ++ drop (length bytes) word
 prefix_of_word word [] e = refl
 prefix_of_word [] (b ∷ bytes) e = cc

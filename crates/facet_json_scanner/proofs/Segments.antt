@@ -28,7 +28,7 @@ pub between-first : (buffer : List ℕ) (at b : ℕ) → slice_get buffer at ≡
 between-first buffer at b here =
     drop-take at 1 buffer ∙ ap (take 1) (drop-at_byte buffer at b here)
 
--- Bytes that stand in front of others have the first byte of them all.
+-- Bytes that stand before others have the first byte of them all.
 first-of_front : (bytes others rest : List ℕ) (b : ℕ) → b ∷ rest ≡ bytes ++ others → 0 < length bytes →
     bytes ≡ b ∷ drop 1 bytes
 first-of_front [] others rest b e some = absurd (omega (arith, some))

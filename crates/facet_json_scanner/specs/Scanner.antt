@@ -77,18 +77,18 @@ pub record EndsIn (part : Part) (text : List ℕ) : Type 0 where
   pub numeral : IsNumeral text hint
   pub last : part ≡ last_part numeral.fraction numeral.exponent
 
--- what stands in a number that ends in this part, behind a minus or not
+-- what stands in a number that ends in this part, after a minus or not
 abbrev pub part_hint : Part → Bool → Hint
 part_hint in_digits has_minus = hint_of has_minus false false
 part_hint in_fraction has_minus = float
 part_hint at_mark has_minus = float
 part_hint in_exponent has_minus = float
 
--- Behind each number that ends in the part this byte goes on with it, and stands in the next part.
+-- After each number that ends in the part this byte goes on with it, and stands in the next part.
 abbrev pub GoesOnWith : Part → ℕ → Part → Type 0
 GoesOnWith part b next = (text : List ℕ) → EndsIn part text → EndsIn next (text ++ b ∷ [])
 
--- Each number that ends in the part is the longest where this byte follows, whatever stands behind.
+-- Each number that ends in the part is the longest where this byte follows, whatever stands after.
 abbrev pub EndsBefore : Part → ℕ → Type 0
 EndsBefore part b = (text rest : List ℕ) → EndsIn part text → parts (text ++ b ∷ rest) ≡ parts text
 
@@ -128,7 +128,7 @@ answer_for last nothing_left = ended (span_at last 0)
 answer_for last (token t) = cuts t
 answer_for last (fault f) = refuses f
 
--- where the scanner stands after what is cut from p on: behind the token, or at the first byte of what is refused
+-- where the scanner stands after what is cut from p on: after the token, or at the first byte of what is refused
 abbrev pub stands_after : List ℕ → ℕ → Mode → Cut → ℕ
 stands_after buffer p mode nothing_left = length buffer
 stands_after buffer p mode (token t) = stop t.span

@@ -107,14 +107,14 @@ PieceWithin at last (piece.Closed end) = (at < end) × (end ≤ last)
 PieceWithin at last (piece.Open s) = at < last
 PieceWithin at last piece.Absent = Unit {0}
 
--- At `start`, where no gap is in front, this is found.
+-- At `start`, where no gap is before it, this is found.
 abbrev pub FoundHere : Mode → List ℕ → ℕ → Found → Type 0
 FoundHere mode buffer start (found.Answer at result) = (at ≡ start)
     × (answered result ≡ Some (answer_for (length buffer) (cut_here mode start (drop start buffer))))
     × (IsBeginning mode (drop start buffer) → ⊥)
 FoundHere mode buffer start (found.Open at s) = (at ≡ start) × Describes mode (state_of s) (drop start buffer)
 
--- From p on, a gap in front, this is found.
+-- From p on, a gap before it, this is found.
 abbrev pub FoundFrom : Mode → List ℕ → ℕ → Found → Type 0
 FoundFrom mode buffer p (found.Answer at result) = (at ≡ past_gap buffer p mode)
     × (answered result ≡ Some (answer_for (length buffer) (cut buffer p mode)))

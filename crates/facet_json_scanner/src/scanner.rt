@@ -103,7 +103,7 @@ impl Scanner {
         self.pending = None;
     }
 
-    /// Answers the token behind the gap at the position (RFC 8259, section 2), and stands behind it.
+    /// Answers the token after the gap at the position (RFC 8259, section 2), and stands after it.
     ///
     /// Where the buffer ends inside of what may be a longer token or comment, the answer is `NeedMore` with the
     /// first byte of it, the span goes from there to the end of the buffer, and the position is that end. The next call
@@ -140,7 +140,7 @@ impl Scanner {
         }
     }
 
-    /// Answers what is pending, where no more bytes follow those up to the position: a number, the end behind a line
+    /// Answers what is pending, where no more bytes follow those up to the position: a number, the end after a line
     /// comment, or a refusal. With nothing pending the answer is the end.
     ///
     /// Nothing is pending afterwards, and the position stays.
@@ -207,7 +207,7 @@ fn resume(buffer: &[u8], at: usize, pending: Pending, mode: Mode) -> Found
     }
 }
 
-/// What stands behind the comment at `start`, if it is closed.
+/// What stands after the comment at `start`, if it is closed.
 fn behind_comment(buffer: &[u8], start: usize, comment: Piece, mode: Mode) -> Found
     requires room { start ≤ length buffer.now }
     requires within { PieceWithin start (length buffer.now) comment }
@@ -268,7 +268,7 @@ fn needs_more(buffer: &[u8], start: usize) -> ScanResult
     })
 }
 
-/// Where the scanner stands after an answer: behind the token, or at the first byte of what is refused.
+/// Where the scanner stands after an answer: after the token, or at the first byte of what is refused.
 fn stands_after(start: usize, last: usize, answer: &ScanResult) -> usize
     requires { stop (span_answered answer.now) ≤ last }
     ensures { result ≡ position_after start answer.now }

@@ -1,4 +1,4 @@
--- What a parser does in front of a call that answers events: it reads the next one, where it holds none, and keeps it.
+-- What a parser does before a call that answers events: it reads the next one, where it holds none, and keeps it.
 use Rattle.std.specs.Prelude.{◌≡◌, ℕ, true, false, List, Option, Some, None, Result, Ok, Err}
 use Rattle.facet_format.specs.Complaint.{Refusal}
 use Rattle.facet_format.specs.Event.{Event, Passed, takes_memory}
@@ -36,7 +36,7 @@ pub data FillsParser (now : Now) : Option Refusal → Now → Type 0 where
   refuses : (refusal : Refusal) (t : Standing) → now.refusal ≡ None → Fills now.buffer now.mode now.standing (Some refusal) t →
       FillsParser now (Some refusal) (with_refusal now t refusal)
 
--- the standing behind the event that it holds
+-- the standing after the event that it holds
 abbrev pub behind : Standing → Passed → Standing
 behind s p = record s { held = None; shown = false; last = p.last }
 

@@ -1,4 +1,4 @@
-//! Where a parser stands: in front of the bytes that are not read, with an event that is read and not passed; and the
+//! Where a parser stands: before the bytes that are not read, with an event that is read and not passed; and the
 //! standings that are kept under numbers.
 #![tactic(auto)]
 

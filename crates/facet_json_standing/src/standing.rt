@@ -1,4 +1,4 @@
-//! Where a parser stands: in front of the bytes that are not read, with an event that is read but not passed.
+//! Where a parser stands: before the bytes that are not read, with an event that is read but not passed.
 
 ghost use Rattle.std.specs.Prelude.{◌≡◌, ◌≤◌, Some, None, length, IfOk, MatchOption, MatchResult};
 ghost use Rattle.facet_format.specs.Views.{event_of};
@@ -29,7 +29,7 @@ pub struct Standing<'de> {
 }
 
 impl<'de> Standing<'de> {
-    /// In front of the document.
+    /// Before the document.
     pub fn new(alloc: Global) -> Standing<'de>
         ensures { standing_of result ≡ first_standing }
     {

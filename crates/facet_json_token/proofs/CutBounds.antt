@@ -1,4 +1,4 @@
--- Where what is cut stands: behind the position, within the buffer. What a string and a number say of their bytes.
+-- Where what is cut stands: after the position, within the buffer. What a string and a number say of their bytes.
 use Rattle.std.proofs.Common.{◌≡◌, ℕ, suc, ◌+◌, ◌-◌, ◌≤◌, ◌<◌, Bool, true, false, ◌==◌, List, [], ◌∷◌, length, take, drop, Option, Some, None, refl, sym, ap, ◌∙◌, subst, arith, length-drop}
 use Rattle.std.specs.Prelude.{slice_get, slice_range}
 use Rattle.std.specs.List.{list_any}
@@ -38,14 +38,14 @@ KindFits buffer span (string start finish has_escapes) = StringFits buffer span 
 KindFits buffer span (number start finish hint) = NumberFits buffer span start finish hint
 KindFits buffer span _ = Unit {0}
 
--- A token stands at or behind the position, has bytes, ends within the buffer, and its kind says the truth.
+-- A token stands at or after the position, has bytes, ends within the buffer, and its kind says the truth.
 pub record TokenFits (buffer : List ℕ) (position : ℕ) (t : Token) : Type 0 where
   pub behind : position ≤ t.span.offset
   pub some : t.span.offset < stop t.span
   pub within : stop t.span ≤ length buffer
   pub kind_fits : KindFits buffer t.span t.kind
 
--- A fault stands at or behind the position, and ends within the buffer.
+-- A fault stands at or after the position, and ends within the buffer.
 pub record FaultFits (buffer : List ℕ) (position : ℕ) (f : Fault) : Type 0 where
   pub behind : position ≤ f.span.offset
   pub within : f.span.offset + f.span.len ≤ length buffer
@@ -58,7 +58,7 @@ CutFits buffer position (fault f) = FaultFits buffer position f
 
 -- ---- lengths
 
--- No longer front of the bytes than all of them is a front of a word.
+-- No longer prefix of the bytes than all of them is a prefix of a word.
 pub common_len-bound : (word bytes : List ℕ) → common_len word bytes ≤ length bytes
 common_len-bound [] bytes = omega arith
 common_len-bound (w ∷ word) [] = omega arith
@@ -72,7 +72,7 @@ pub slice_at : (buffer bytes : List ℕ) (at n : ℕ) → drop at buffer ≡ byt
 slice_at buffer bytes at n e =
     let m : at + n - at ≡ n = omega arith in ap (λ k. take k (drop at buffer)) m ∙ ap (take n) e
 
--- What stands behind one more byte.
+-- What stands after one more byte.
 pub drop_next : (buffer bytes : List ℕ) (at b : ℕ) → drop at buffer ≡ b ∷ bytes → drop (suc at) buffer ≡ bytes
 drop_next buffer bytes at b e =
     let m : suc at ≡ at + 1 = omega arith in
@@ -205,7 +205,7 @@ by_fits mode buffer bytes at b _ (a_number _ h) here room =
 by_fits mode buffer bytes at b _ a_comment here room = slash_fits mode buffer bytes at room
 by_fits mode buffer bytes at b _ (no_token _ h) here room = record { behind = omega arith; within = omega arith }
 
--- What is cut where no gap is in front fits.
+-- What is cut where no gap is before it fits.
 pub here_fits : (mode : Mode) (buffer bytes : List ℕ) (at : ℕ) → drop at buffer ≡ bytes →
     at + length bytes ≡ length buffer → CutFits buffer at (cut_here mode at bytes)
 unfolding cut_here
@@ -229,7 +229,7 @@ earlier buffer position at (token t) h fits =
     record { behind = omega arith; some = fits.some; within = fits.within; kind_fits = fits.kind_fits }
 earlier buffer position at (fault f) h fits = record { behind = omega arith; within = fits.within }
 
--- What is cut stands behind the position and within the buffer.
+-- What is cut stands after the position and within the buffer.
 pub cut-fits : (buffer : List ℕ) (position : ℕ) (mode : Mode) → position ≤ length buffer →
     CutFits buffer position (cut buffer position mode)
 unfolding cut
@@ -243,8 +243,3 @@ cut-fits buffer position mode h =
 pub cut-token_fits : (buffer : List ℕ) (position : ℕ) (mode : Mode) (t : Token) → position ≤ length buffer →
     cut buffer position mode ≡ token t → TokenFits buffer position t
 cut-token_fits buffer position mode t h e = subst (CutFits buffer position) e (cut-fits buffer position mode h)
-
--- Where the fault stands that is cut.
-pub cut-fault_fits : (buffer : List ℕ) (position : ℕ) (mode : Mode) (f : Fault) → position ≤ length buffer →
-    cut buffer position mode ≡ fault f → FaultFits buffer position f
-cut-fault_fits buffer position mode f h e = subst (CutFits buffer position) e (cut-fits buffer position mode h)

@@ -14,7 +14,7 @@ use Rattle.facet_json_token.proofs.Offsets.{drop-at_byte, option_map-one_more, o
 
 -- ---- pieces
 
--- behind a piece the gap ends at the same offset
+-- after a piece the gap ends at the same offset
 pub past_gap-piece : (mode : Mode) (buffer : List ℕ) (at n : ℕ) → n ≡ piece_len mode whole (drop at buffer) →
     at + n ≤ length buffer → past_gap buffer (at + n) mode ≡ past_gap buffer at mode
 past_gap-piece mode buffer at n e h =

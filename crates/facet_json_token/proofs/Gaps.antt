@@ -1,4 +1,4 @@
--- A gap piece by piece: how it goes on behind a piece, and that it is no longer than the bytes.
+-- A gap piece by piece: how it goes on after a piece, and that it is no longer than the bytes.
 use Rattle.std.proofs.Common.{◌≡◌, ℕ, zero, suc, ◌+◌, ◌≤◌, true, List, [], ◌∷◌, length, drop, refl, ap, ◌∙◌, arith}
 use Rattle.facet_format.specs.Bytes.{is_space}
 use Rattle.facet_json_token.specs.Gap.{Mode, plain, jsonc, Input, piece_len, gap_len_from, gap_len}
@@ -33,7 +33,7 @@ pub gap_len-some : (mode : Mode) (input : Input) (b : ℕ) (bytes : List ℕ) (n
     piece_len mode input (b ∷ bytes) ≡ suc n → gap_len mode input (b ∷ bytes) ≡ suc (gap_len_from mode input n bytes)
 gap_len-some mode input b bytes n e = gap_len-by_piece mode input b bytes ∙ ap (behind_piece mode input bytes) e
 
--- The gap behind so many bytes of a piece is theirs and the gap behind them.
+-- The gap after so many bytes of a piece is theirs and the gap after them.
 gap_len_from-skip : (mode : Mode) (input : Input) (inside : ℕ) (bytes : List ℕ) → inside ≤ length bytes →
     gap_len_from mode input inside bytes ≡ inside + gap_len mode input (drop inside bytes)
 unfolding gap_len_from
@@ -42,7 +42,7 @@ gap_len_from-skip mode input (suc inside) [] h = absurd (omega arith)
 gap_len_from-skip mode input (suc inside) (b ∷ bytes) h =
     omega (arith, gap_len_from-skip mode input inside bytes (omega arith))
 
--- A gap is its first piece and the gap behind it.
+-- A gap is its first piece and the gap after it.
 pub gap_len-piece : (mode : Mode) (input : Input) (n : ℕ) (bytes : List ℕ) → piece_len mode input bytes ≡ n →
     n ≤ length bytes → gap_len mode input bytes ≡ n + gap_len mode input (drop n bytes)
 gap_len-piece mode input zero bytes e h = omega arith
@@ -67,7 +67,7 @@ gap_len_from-bound mode input zero (b ∷ bytes) =
 pub gap_len-bound : (mode : Mode) (input : Input) (bytes : List ℕ) → gap_len mode input bytes ≤ length bytes
 gap_len-bound mode input bytes = gap_len_from-bound mode input 0 bytes
 
--- No piece of a gap stands behind the gap, also in the middle of a piece.
+-- No piece of a gap stands after the gap, also in the middle of a piece.
 gap_len_from-ends : (mode : Mode) (input : Input) (inside : ℕ) (bytes : List ℕ) →
     piece_len mode input (drop (gap_len_from mode input inside bytes) bytes) ≡ 0
 unfolding gap_len_from
@@ -82,7 +82,7 @@ gap_len_from-ends mode input zero (b ∷ bytes) =
     by_piece further zero e = rw (gap_len-none mode input (b ∷ bytes) e) e
     by_piece further (suc n) e = rw (gap_len-some mode input b bytes n e) (further n)
 
--- No piece of a gap stands behind the gap.
+-- No piece of a gap stands after the gap.
 pub gap_len-ends : (mode : Mode) (input : Input) (bytes : List ℕ) →
     piece_len mode input (drop (gap_len mode input bytes) bytes) ≡ 0
 gap_len-ends mode input bytes = gap_len_from-ends mode input 0 bytes

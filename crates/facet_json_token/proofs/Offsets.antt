@@ -11,13 +11,13 @@ drop-at_byte bytes at b e =
     drop_more bytes at b (slice_get_within bytes at b e)
     ∙ ap (λ x. x ∷ drop (at + 1) bytes) (get_or_from_slice_get bytes at b b e)
 
--- an offset behind one more byte
+-- an offset after one more byte
 pub option_map-one_more : (at : ℕ) (o : Option ℕ) →
     option_map (λ n. at + n) (one_more o) ≡ option_map (λ n. (at + 1) + n) o
 option_map-one_more at None = refl
 option_map-one_more at (Some n) = ap Some (omega arith)
 
--- nothing is found behind an offset
+-- nothing is found after an offset
 pub option_map-none : (at : ℕ) (o : Option ℕ) → None ≡ option_map (λ n. at + n) o → o ≡ None
 option_map-none at None e = refl
 option_map-none at (Some n) e = cc

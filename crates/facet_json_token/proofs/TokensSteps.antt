@@ -8,7 +8,7 @@ use Rattle.facet_json_token.specs.Cut.{Cut, nothing_left, token, fault, cut_here
 use Rattle.facet_json_token.specs.Tokens.{Tokens, ended, refused, next, tokens_past, tokens_from}
 use Rattle.facet_json_token.proofs.CutBounds.{TokenFits, cut-token_fits, drop_next}
 
--- The tokens behind k more bytes of the token before.
+-- The tokens after k more bytes of the token before.
 tokens_past-skip : (buffer : List ℕ) (mode : Mode) (k at to : ℕ) (left : List ℕ) → k ≤ length left → at + k ≡ to →
     tokens_past buffer mode k at left ≡ tokens_past buffer mode 0 to (drop k left)
 unfolding tokens_past

@@ -34,7 +34,7 @@ pub data ArePieces : List ℕ → Bool → Type 0 where
   escape : (b : ℕ) (others : List ℕ) (has_escapes : Bool) → ArePieces others has_escapes →
       ArePieces (backslash ∷ b ∷ others) true
 
--- No longer front of the bytes and what follows them is a number.
+-- No longer prefix of the bytes and what follows them is a number.
 abbrev pub IsLongest : List ℕ → List ℕ → Type 0
 IsLongest number_bytes rest = (n : ℕ) (hint : Hint) → IsNumber (number_bytes ++ take n rest) hint → take n rest ≡ []
 
@@ -78,13 +78,13 @@ token_at kind offset len = token (record { kind = kind; span = span_at offset le
 abbrev pub fault_at : FaultKind → ℕ → ℕ → Cut
 fault_at kind offset len = fault (record { kind = kind; span = span_at offset len })
 
--- the length of the longest front of the bytes that is a front of the word
+-- the length of the longest prefix of the bytes that is a prefix of the word
 abbrev pub common_len : List ℕ → List ℕ → ℕ
 common_len [] bytes = 0
 common_len (w ∷ word) [] = 0
 common_len (w ∷ word) (b ∷ bytes) = cond (b == w) (suc (common_len word bytes)) 0
 
--- a word of which the bytes have this many letters in front
+-- a word of which the bytes begin with this many of its letters
 abbrev pub cut_word : ℕ → List ℕ → List ℕ → Kind → ℕ → Cut
 cut_word at bytes word kind n =
     cond (n == length word) (token_at kind at n)
@@ -110,7 +110,7 @@ abbrev pub cut_number : ℕ → List ℕ → ℕ → Hint → Bool → Cut
 cut_number at bytes n hint true = cut_bare_minus at bytes
 cut_number at bytes n hint false = token_at (number at (at + n) hint) at n
 
--- a slash in front of these bytes, where no closed comment stands
+-- a slash before these bytes, where no closed comment stands
 abbrev pub cut_slash : Mode → ℕ → List ℕ → Cut
 cut_slash plain at bytes = fault_at (unexpected_char slash) at 1
 cut_slash jsonc at [] = fault_at (unexpected_char slash) at 1
@@ -126,7 +126,7 @@ cut_by opens_number mode at b bytes =
 cut_by opens_comment mode at b bytes = cut_slash mode at bytes
 cut_by opens_nothing mode at b bytes = fault_at (unexpected_char b) at 1
 
--- what is cut at offset `at`, where these bytes stand and no gap is in front
+-- what is cut at offset `at`, where these bytes stand and no gap is before it
 unfoldable pub cut_here : Mode → ℕ → List ℕ → Cut
 cut_here mode at [] = nothing_left
 cut_here mode at (b ∷ bytes) = cut_by (start_of b) mode at b bytes

@@ -78,7 +78,7 @@ with_line_mark input bytes (Some n) = suc (suc n)
 with_line_mark whole bytes None = suc (suc (length bytes))
 with_line_mark growing bytes None = 0
 
--- the length of the comment at the front, 0 where none is closed there
+-- the length of the comment at the start, 0 where none is closed there
 abbrev pub comment_len : Input → List ℕ → ℕ
 comment_len input [] = 0
 comment_len input (a ∷ []) = 0
@@ -86,19 +86,19 @@ comment_len input (a ∷ b ∷ bytes) =
     cond ((a == slash) && (b == star)) (with_mark (through_block_end bytes))
     (cond ((a == slash) && (b == slash)) (with_line_mark input bytes (through_line_end bytes)) 0)
 
--- the length of the piece of a gap at the front, 0 where there is none
+-- the length of the piece of a gap at the start, 0 where there is none
 abbrev pub piece_len : Mode → Input → List ℕ → ℕ
 piece_len mode input [] = 0
 piece_len plain input (b ∷ bytes) = cond (is_space b) 1 0
 piece_len jsonc input (b ∷ bytes) = cond (is_space b) 1 (comment_len input (b ∷ bytes))
 
--- the length of the gap behind the next `inside` bytes, which are still of the piece before it, and theirs
+-- the length of the gap after the next `inside` bytes, which are still of the piece before it, and theirs
 unfoldable pub gap_len_from : Mode → Input → ℕ → List ℕ → ℕ
 gap_len_from mode input inside [] = 0
 gap_len_from mode input (suc inside) (b ∷ bytes) = suc (gap_len_from mode input inside bytes)
 gap_len_from mode input zero (b ∷ bytes) =
     elim (piece_len mode input (b ∷ bytes)) [ zero ↦ 0 | suc inside ↦ suc (gap_len_from mode input inside bytes) ]
 
--- the length of the longest gap at the front
+-- the length of the longest gap at the start
 abbrev pub gap_len : Mode → Input → List ℕ → ℕ
 gap_len mode input bytes = gap_len_from mode input 0 bytes

@@ -1,11 +1,11 @@
--- Laws of gaps, tokens and growing buffers. Each is the contract of a function of the module `laws`.
+-- Laws of gaps, tokens and growing buffers. Each is the contract of a function of the module `laws` of `facet_json_scan`.
 use Rattle.std.specs.Prelude.{ℕ, ◌≡◌, ◌≢◌, ◌≤◌, ◌↔◌, true, List, ◌++◌, length, take, drop}
 use Rattle.facet_json_token.specs.Gap.{Mode, Input, IsGap, gap_len}
 use Rattle.facet_json_token.specs.Token.{Kind}
 use Rattle.facet_json_token.specs.Cut.{IsShape, nothing_left, token_at, cut_here, cut}
 use Rattle.facet_json_token.specs.Open.{IsOpen, is_open}
 
--- The gap at the front is a gap, and no longer front of the bytes is one.
+-- The gap at the start is a gap, and no longer prefix of the bytes is one.
 abbrev pub GapIsLongest : Type 0
 GapIsLongest = (mode : Mode) (input : Input) (bytes : List ℕ) →
     let n = gap_len mode input bytes in
@@ -22,7 +22,7 @@ abbrev pub ShapeIsUnique : Type 0
 ShapeIsUnique = (at : ℕ) (a b r s : List ℕ) (kind other : Kind) → IsShape at a r kind → IsShape at b s other → a
     ++ r ≡ b ++ s → (a ≡ b) × (kind ≡ other)
 
--- What is cut where the buffer isn't open is cut alike from every longer buffer with that front.
+-- What is cut where the buffer isn't open is cut alike from every longer buffer with that prefix.
 abbrev pub CutStays : Type 0
 CutStays = (buffer more : List ℕ) (position : ℕ) (mode : Mode) → position ≤ length buffer → (IsOpen buffer position mode → ⊥) → cut buffer position mode ≢ nothing_left →
     cut (buffer ++ more) position mode ≡ cut buffer position mode

@@ -8,7 +8,7 @@ use Rattle.facet_json_token.specs.Cut.{ArePieces, IsLiteral, Start, punctuation,
 
 -- ---- what open is
 
--- The bytes are a nonempty proper front of a string, of a literal or of a comment, or are a number or a minus, which may go on.
+-- The bytes are a nonempty proper prefix of a string, of a literal or of a comment, or are a number or a minus, which may go on.
 pub data IsBeginning : Mode → List ℕ → Type 0 where
   text : (mode : Mode) (content : List ℕ) (has_escapes : Bool) → ArePieces content has_escapes →
       IsBeginning mode (quote ∷ content)
@@ -28,7 +28,7 @@ IsOpen buffer position mode = IsBeginning mode (drop (position + gap_len mode gr
 
 -- ---- a test of it
 
--- all of the bytes are letters of the word, where the front that they share has this length, and the word has more
+-- all of the bytes are letters of the word, where the prefix that they share has this length, and the word has more
 abbrev pub is_prefix_by : ℕ → List ℕ → List ℕ → Bool
 is_prefix_by n word bytes = (n == length bytes) && nat_lt n (length word)
 

@@ -1,4 +1,4 @@
--- The list of all tokens of an input, with the end or the fault behind the last.
+-- The list of all tokens of an input, with the end or the fault after the last.
 use Rattle.std.specs.Prelude.{ℕ, zero, suc, ◌-◌, List, [], ◌∷◌, drop}
 use Rattle.facet_json_token.specs.Gap.{Mode}
 use Rattle.facet_json_token.specs.Token.{Token, Fault}
@@ -10,7 +10,7 @@ pub data Tokens : Type 0 where
   refused : Fault → Tokens
   next : Token → Tokens → Tokens
 
--- The tokens of the buffer, of which these bytes are left at offset `at`, behind the next `inside` of them, which belong to
+-- The tokens of the buffer, of which these bytes are left at offset `at`, after the next `inside` of them, which belong to
 -- the token before.
 unfoldable pub tokens_past : List ℕ → Mode → ℕ → ℕ → List ℕ → Tokens
 tokens_past buffer mode inside at [] = ended

@@ -44,7 +44,7 @@ pub fn cut(buffer: &[u8], position: usize, mode: Mode) -> ScanResult
 
 // ---- the gap
 
-/// The offset behind the gap at `position`.
+/// The offset after the gap at `position`.
 fn skip_gap(buffer: &[u8], position: usize, mode: Mode) -> usize
     requires { position ≤ length buffer.now }
     ensures end { result ≡ past_gap buffer.now position (mode_of mode) }
@@ -95,7 +95,7 @@ fn comment_len(buffer: &[u8], at: usize) -> usize
     }
 }
 
-/// The offset behind the first `*/` from `from` on.
+/// The offset after the first `*/` from `from` on.
 fn block_end(buffer: &[u8], from: usize) -> Option<usize>
     requires { from ≤ length buffer.now }
     ensures end { result ≡ option_map (λ n. from + n) (through_block_end (drop from buffer.now)) }
@@ -111,7 +111,7 @@ fn block_end(buffer: &[u8], from: usize) -> Option<usize>
     None
 }
 
-/// The offset behind the first line feed from `from` on.
+/// The offset after the first line feed from `from` on.
 pub fn line_end(buffer: &[u8], from: usize) -> Option<usize>
     requires { from ≤ length buffer.now }
     ensures end { result ≡ option_map (λ n. from + n) (through_line_end (drop from buffer.now)) }
@@ -260,7 +260,7 @@ fn cut_number(buffer: &[u8], at: usize) -> ScanResult
     token_at(token, at, len)
 }
 
-/// The fault of a minus at `at` with no number behind it.
+/// The fault of a minus at `at` with no number after it.
 pub fn cut_bare_minus(buffer: &[u8], at: usize) -> ScanResult
     requires { at < length buffer.now }
     ensures { scanned result ≡ Some (spec_cut.cut_bare_minus at (drop (at + 1) buffer.now)) }

@@ -26,7 +26,7 @@ pub enum Token {
     False,
     /// A string.
     String {
-        /// Where the content starts, behind the quote.
+        /// Where the content starts, after the quote.
         start: usize,
         /// Where the content ends, at the closing quote.
         end: usize,

@@ -14,7 +14,7 @@ use std::io::{BufWriter, ErrorKind};
 use std::process::ExitCode;
 use std::{env, io};
 
-/// The arguments behind the program's name.
+/// The arguments after the program's name.
 fn given_words(rt: &HostRuntime) -> Result<Vec<String>, Outcome>
     ensures { IfErr result (λ o. (o ≡ outcome.Usage) ⊎ IsFailure o) }
 {
@@ -24,7 +24,7 @@ fn given_words(rt: &HostRuntime) -> Result<Vec<String>, Outcome>
     }
 }
 
-/// How it is answered that the arguments can't be had. One that is not text is wrong usage, and want of memory is none.
+/// How it is answered that the arguments can't be had. One that is not text is wrong usage, and out of memory is none.
 fn without_arguments(error: &io::Error) -> Outcome
     ensures usage { error_kind error.now ≡ ErrorKind.InvalidData → result ≡ outcome.Usage }
     ensures memory { error_kind error.now ≡ ErrorKind.OutOfMemory → result ≡ outcome.Refused 9 None }

@@ -54,7 +54,7 @@ pub record IsRead (V : Type 0) (tells : Future → V → Future → Type 0) (bre
   pub told : (v : V) (rest : Future) → tells start v rest → (value ≡ v) × (behind ≡ rest)
   pub whole : (place : Place) (rest : Tokens) → breaks place rest start → ⊥
 
--- It was refused: where the events tell something, for want of memory, and where they break off within it, for that or because
+-- It was refused: where the events tell something, for lack of memory, and where they break off within it, for that or because
 -- nothing goes on there.
 pub record IsUnread (V : Type 0) (tells : Future → V → Future → Type 0) (breaks : Place → Tokens → Future → Type 0)
     (buffer : List ℕ) (start : Future) (refusal : Refusal) : Type 0 where

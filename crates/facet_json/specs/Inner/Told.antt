@@ -22,7 +22,7 @@ tree_of_scalar (event.i128 n) = None
 tree_of_scalar (event.u128 n) = None
 tree_of_scalar (event.bytes b) = None
 
--- The events that come first tell the value, and the last future comes behind them.
+-- The events that come first tell the value, and the last future comes after them.
 mutual
   pub data Tells : Future → Tree → Future → Type 0 where
     a_scalar : (p : Passed) (rest : Future) (value : Scalar) (t : Tree) → p.event.kind ≡ scalar value →
@@ -45,7 +45,7 @@ mutual
         key.event.kind ≡ field_key name → Tells inner t others → TellsMembers others members rest →
         TellsMembers (gives key inner) (pair (bytes_of name) t members) rest
 
--- The events that come begin a value, and before its end nothing goes on at the place, in front of the tokens.
+-- The events that come begin a value, and before its end nothing goes on at the place, before the tokens.
 mutual
   pub data Breaks (place : Place) (rest : Tokens) : Future → Type 0 where
     in_front : Breaks place rest (stuck place rest)

@@ -47,7 +47,7 @@ what_follows_row : read (codes "1 x") plain ≡ Some (u64 1)
 unfolding read_by spelled node_within tree_of tokens_past cut cut_here start_of gap_len_from parts number
 what_follows_row = refl
 
--- Not even behind its last letter.
+-- Not even after its last letter.
 letters_behind_row : read (codes "truex") plain ≡ Some (bool true)
 unfolding read_by spelled node_within tree_of tokens_past cut cut_here start_of gap_len_from parts number
 letters_behind_row = refl
@@ -62,7 +62,7 @@ empty_list_row : read (codes "[]") plain ≡ Some (list no_trees)
 unfolding read_by spelled node_within tree_of tokens_past cut cut_here start_of gap_len_from parts number
 empty_list_row = refl
 
--- Items are parted by commas.
+-- Items are separated by commas.
 two_items_row : read (codes "[1,2]") plain ≡ Some (list (tree (u64 1) (tree (u64 2) no_trees)))
 unfolding read_by spelled node_within tree_of tokens_past cut cut_here start_of gap_len_from parts number
 two_items_row = refl

@@ -1,5 +1,5 @@
 -- Single trees with their text, compact and indented, by computation.
--- In the texts of this file a quote or a backslash stands behind a backslash of its own.
+-- In the texts of this file a quote or a backslash stands after a backslash of its own.
 use Rattle.std.proofs.Common.{◌≡◌, ℕ, true, false, List, [], ◌∷◌, ◌++◌, Some, pos, neg_ℤ, refl, codes}
 use Rattle.std.specs.Char.{encode_utf8}
 use Rattle.std.specs.Fmt.{digits}
@@ -96,7 +96,7 @@ nested_row :
 unfolding text escaped encode_utf8 digits
 nested_row = refl
 
--- An escape behind a run of letters.
+-- An escape after a run of letters.
 escape_behind_run_row :
     text default_options 0 (text_value (codes "aaaaaaaaaaaaaaa" ++ delete ∷ [])) ≡ codes "\"aaaaaaaaaaaaaaa\\u007f\""
 unfolding text escaped

@@ -9,7 +9,7 @@ use Rattle.facet_json_document.specs.Document.{Reads}
 use Rattle.facet_json_document.specs.Place.{begins_value}
 use Rattle.facet_json_document.specs.Laws.{OneSpelling, OneDocument}
 
--- a token that begins a value, in front of others
+-- a token that begins a value, before others
 pub record Starts (ts : Tokens) : Type 0 where
   pub first : Token
   pub others : Tokens
@@ -107,7 +107,7 @@ mutual
       let here = node_once g h cc in
       (cc, cc, cc)
 
--- No spelling of a value is a proper front of another's, and tokens spell one value at most.
+-- No spelling of a value is a proper prefix of another's, and tokens spell one value at most.
 pub one_spelling : OneSpelling
 one_spelling ts r s a b p q = node_once p q refl
 

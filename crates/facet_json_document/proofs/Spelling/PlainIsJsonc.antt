@@ -15,7 +15,7 @@ use Rattle.facet_json_token.proofs.Gaps.{piece_len-blank, gap_len-none, gap_len-
 
 -- ---- the gaps
 
--- Two lengths of a gap in front of the bytes are one, or behind the first stands a slash.
+-- Two lengths of a gap before the bytes are one, or after the first stands a slash.
 data AlikeOrSlash (plain_len jsonc_len : ℕ) (bytes : List ℕ) : Type 0 where
   alike : plain_len ≡ jsonc_len → AlikeOrSlash plain_len jsonc_len bytes
   at_slash : (rest : List ℕ) → drop plain_len bytes ≡ slash ∷ rest → AlikeOrSlash plain_len jsonc_len bytes
@@ -25,7 +25,7 @@ no_comment : (input : Input) (b : ℕ) (bytes : List ℕ) → (b == slash) ≡ f
 no_comment input b [] e = refl
 no_comment input b (c ∷ bytes) e = rw e refl
 
--- A gap goes on behind white space.
+-- A gap goes on after white space.
 gap_at_blank : (mode : Mode) (input : Input) (b : ℕ) (bytes : List ℕ) → is_space b ≡ true →
     gap_len mode input (b ∷ bytes) ≡ suc (gap_len mode input bytes)
 gap_at_blank mode input b bytes e = gap_len-some mode input b bytes 0 (piece_len-blank mode input b bytes e)
@@ -39,7 +39,7 @@ jsonc_gap_ends : (input : Input) (b : ℕ) (bytes : List ℕ) → is_space b ≡
     gap_len jsonc input (b ∷ bytes) ≡ 0
 jsonc_gap_ends input b bytes e f = gap_len-none jsonc input (b ∷ bytes) (rw e (no_comment input b bytes f))
 
--- Two lengths that are alike, or end at a slash, are so with one more byte in front.
+-- Two lengths that are alike, or end at a slash, are so with one more byte in prefix.
 gaps_at : (input : Input) (b : ℕ) (bytes : List ℕ) (is_blank is_slash : Bool) → is_space b ≡ is_blank →
     (b == slash) ≡ is_slash → AlikeOrSlash (gap_len plain input bytes) (gap_len jsonc input bytes) bytes →
     AlikeOrSlash (gap_len plain input (b ∷ bytes)) (gap_len jsonc input (b ∷ bytes)) (b ∷ bytes)
@@ -51,7 +51,7 @@ gaps_at input b bytes false true e f h =
 gaps_at input b bytes false false e f h =
     alike (plain_gap_ends input b bytes e ∙ sym (jsonc_gap_ends input b bytes e f))
 
--- The plain gap is the JSONC gap, or behind it stands a slash.
+-- The plain gap is the JSONC gap, or after it stands a slash.
 gaps_alike : (input : Input) (bytes : List ℕ) → AlikeOrSlash (gap_len plain input bytes) (gap_len jsonc input bytes)
     bytes
 unfolding gap_len_from
@@ -92,7 +92,7 @@ cut-either buffer at t e = cut_at buffer at t (gaps_alike whole (drop at buffer)
 
 -- ---- the tokens
 
--- The second tokens have the first in front: they may go on where those end or are refused.
+-- The second tokens have the first in prefix: they may go on where those end or are refused.
 pub data Extends : Tokens → Tokens → Type 0 where
   one_more : (t : Token) (front all : Tokens) → Extends front all → Extends (next t front) (next t all)
   at_end : (all : Tokens) → Extends ended all
@@ -116,7 +116,7 @@ tokens_past-extends buffer zero at (b ∷ left) =
     follow_extends buffer at left (cut buffer at plain) (cut buffer at jsonc) (cut-either buffer at)
     (λ inside. tokens_past-extends buffer inside (suc at) left)
 
--- The JSONC tokens have the plain tokens in front.
+-- The JSONC tokens have the plain tokens in prefix.
 pub tokens-extends : (buffer : List ℕ) → Extends (tokens buffer plain) (tokens buffer jsonc)
 tokens-extends buffer = tokens_past-extends buffer 0 0 buffer
 
@@ -132,7 +132,7 @@ extends_next (at_end all) t others e = cc
 extends_next (at_fault f all) t others e = cc
 
 mutual
-  -- What the front spells, all spell.
+  -- What the prefix spells, all spell.
   node_extends : {ts rest us : Tokens} {node : Node} → Spells ts node rest → Extends ts us →
       (after : Tokens) × Spells us node after × Extends rest after
   node_extends (one_token t rest e) x =

@@ -1,4 +1,4 @@
--- Where the tokens spell a value, every front of it goes on: so what is refused has no document.
+-- Where the tokens spell a value, every prefix of it goes on: so what is refused has no document.
 use Rattle.std.proofs.Common.{◌≡◌, ℕ, true, List, Some, None, refl}
 use Rattle.facet_json_token.specs.Token.{Kind, Token}
 use Rattle.facet_json_token.specs.Token as token
@@ -125,7 +125,7 @@ module _ (m : Meaning) where
       let from : f.from ≡ ts = cc in
       rw (← from) (value_can_begin after_colon (λ kind e. e) f.reads)
 
-  -- the items, and the members, that stand behind a front within an opened container
+  -- the items, and the members, that stand after a prefix within an opened container
   items_left : (first : Token) (inner ts : Tokens) → first.kind ≡ token.array_start → fronts.PassesItems m inner ts →
       (node : Node) × (value : Tree) × (rest : Tokens) × Reads m (next first inner) node value rest →
       (last : Token) × (rest : Tokens) × (left : Trees) × ReadsItems m ts left last rest
@@ -151,7 +151,7 @@ module _ (m : Meaning) where
       MembersStand m ts last rest
   members_there {left = left} r = members_stand m left r.spells r.has_pairs
 
-  -- Each front of what can begin goes on.
+  -- Each prefix of what can begin goes on.
   front_goes_on : {place here : Place} {ts rest : Tokens} → Begins m place ts here rest → CanBegin m place ts →
       GoesOn m here rest
   front_goes_on (nothing place ts) c = c.goes

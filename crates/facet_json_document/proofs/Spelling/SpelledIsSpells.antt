@@ -17,7 +17,7 @@ use Rattle.facet_json_document.proofs.Spelling.OneSpelling.{Starts, Spells-start
 
 -- ---- what is computed is spelled
 
--- A value that is answered stands at the front of the tokens.
+-- A value that is answered stands at the start of the tokens.
 abbrev IsValue : Tokens → Option (Node × Tokens) → Type 0
 IsValue ts None = ⊤
 IsValue ts (Some r) = Spells ts r.0 r.1
@@ -196,7 +196,7 @@ item_found : (node : ValueReader) (nodes : ItemsReader) (t : Token) (rest : Toke
 item_found node nodes t rest token.array_end e = cc
 item_found node nodes t rest _ e = refl
 
--- An item at the front is read first.
+-- An item at the start is read first.
 item_first : (node : ValueReader) (nodes : ItemsReader) (ts : Tokens) → Starts ts →
     nodes_from node nodes ts ≡ option_and_then (λ r. after_item_from nodes r.0 r.1) (node ts)
 item_first node nodes ts s =

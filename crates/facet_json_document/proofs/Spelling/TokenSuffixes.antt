@@ -1,4 +1,4 @@
--- What stands behind a value is a suffix of the tokens, and every token and fault of a buffer's tokens is within it.
+-- What stands after a value is a suffix of the tokens, and every token and fault of a buffer's tokens is within it.
 use Rattle.std.proofs.Common.{ℕ, zero, suc, ◌+◌, ◌-◌, ◌≤◌, List, [], ◌∷◌, length, arith}
 use Rattle.facet_json_token.specs.Gap.{Mode}
 use Rattle.facet_format.specs.Span.{Span, stop}
@@ -19,7 +19,7 @@ IsSuffix-trans : (a b c : Tokens) → IsSuffix a b → IsSuffix b c → IsSuffix
 IsSuffix-trans a b c (all _) q = q
 IsSuffix-trans a b c (later t ts _ p) q = later t ts c (IsSuffix-trans ts b c p q)
 
--- What stands behind a first token.
+-- What stands after a first token.
 behind : (t : Token) (ts rest : Tokens) → IsSuffix ts (next t rest) → IsSuffix ts rest
 behind t ts rest p = IsSuffix-trans ts (next t rest) rest p (later t rest rest (all rest))
 
@@ -46,13 +46,13 @@ mutual
 pub record IsWithin (buffer : List ℕ) (s : Span) : Type 0 where
   pub within : stop s ≤ length buffer
 
--- Every token and the fault behind the last are within the buffer.
+-- Every token and the fault after the last are within the buffer.
 pub data AreWithin (buffer : List ℕ) : Tokens → Type 0 where
   at_the_end : AreWithin buffer ended
   at_a_fault : (f : Fault) → IsWithin buffer f.span → AreWithin buffer (refused f)
   at_a_token : (t : Token) (ts : Tokens) → IsWithin buffer t.span → AreWithin buffer ts → AreWithin buffer (next t ts)
 
--- What is cut at a place of the buffer, with the tokens behind it.
+-- What is cut at a place of the buffer, with the tokens after it.
 cut_within : (buffer : List ℕ) (position : ℕ) (c : Cut) (others : Token → Tokens) → CutFits buffer position c → ((t : Token) → AreWithin buffer (others t))
     → AreWithin buffer (elim c as (λ _. Tokens) [ nothing_left ↦ ended | fault f ↦ refused f | token t ↦ next t (others t) ])
 cut_within buffer position nothing_left others f w = at_the_end

@@ -1,4 +1,4 @@
--- What follows a front of a list or an object in a whole spelling.
+-- What follows a prefix of a list or an object in a whole spelling.
 use Rattle.std.proofs.Common.{◌≡◌, ℕ, true, List, Option, Some, None, refl, sym, subst}
 use Rattle.std.specs.Option.{option_map}
 use Rattle.facet_json_token.specs.Token.{Token}
@@ -136,7 +136,7 @@ module _ (m : Meaning) where
         behind = at_brace e;
       })
 
-  -- Behind an item's comma stand the other items.
+  -- After an item's comma stand the other items.
   past_comma : {after rest : Tokens} {last : Token} → BehindItem m last rest after →
       (separator : Token) (others : Tokens) → after ≡ next separator others → separator.kind ≡ token.comma →
       (left : Trees) × ReadsItems m others left last rest
@@ -145,7 +145,7 @@ module _ (m : Meaning) where
       (values, subst (λ ts. ReadsItems m ts values last rest) here r)
   past_comma (at_bracket e) separator after same c = cc
 
-  -- Behind a member's comma stand the other members.
+  -- After a member's comma stand the other members.
   past_member : {after rest : Tokens} {last : Token} → BehindMember m last rest after →
       (separator : Token) (others : Tokens) → after ≡ next separator others → separator.kind ≡ token.comma →
       (left : Pairs) × ReadsMembers m others left last rest
@@ -219,7 +219,7 @@ module _ (m : Meaning) where
       (last, all.0, subst (λ us. ReadsItems m us all.0 last rest) here items)
   list_within first inner value e (braces opens last within rest ms h k) has same = cc
 
-  -- Behind a bracket that opens a list stand the items of the list.
+  -- After a bracket that opens a list stand the items of the list.
   pub list_inside : (first : Token) (inner rest : Tokens) (root : Node) (value : Tree) →
       first.kind ≡ token.array_start → Reads m (next first inner) root value rest →
       (last : Token) × (values : Trees) × ReadsItems m inner values last rest
@@ -237,7 +237,7 @@ module _ (m : Meaning) where
       let inside : ReadsMembers m within all.0 last rest = record { members = ms; spells = k; has_pairs = all.1 } in
       (last, all.0, subst (λ us. ReadsMembers m us all.0 last rest) here inside)
 
-  -- Behind a brace that opens an object stand the members of the object.
+  -- After a brace that opens an object stand the members of the object.
   pub object_inside : (first : Token) (inner rest : Tokens) (root : Node) (value : Tree) →
       first.kind ≡ token.object_start → Reads m (next first inner) root value rest →
       (last : Token) × (values : Pairs) × ReadsMembers m inner values last rest

@@ -2,7 +2,7 @@
 
 ghost use Rattle.facet_json_document.specs.Laws.{DocumentIsFound, OneDocument, OneSpelling, PlainIsJsonc, RefusedHasNone, SpelledIsSpells, WholeDocumentIsFound};
 
-/// Tokens spell at most one value, and no spelling is a proper front of another's.
+/// Tokens spell at most one value, and no spelling is a proper prefix of another's.
 pub fn one_spelling()
     ensures { OneSpelling }
 {}

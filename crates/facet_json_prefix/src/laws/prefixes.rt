@@ -1,33 +1,33 @@
-//! Laws about begun documents: fronts of tokens with which some document begins, and what they give.
+//! Laws about begun documents: prefixes of tokens with which some document begins, and what they give.
 
 ghost use Rattle.facet_json_prefix.specs.EventLaws.{BegunIsPrefix, PrefixIsBegun, PrefixGivesWalk, OneGiven, InputComes, RefusedAfterPrefix};
 
-/// Tokens that begin a document are a front of the spelling of some value, all of whose texts and numbers can be read.
+/// Tokens that begin a document are a prefix of the spelling of some value, all of whose texts and numbers can be read.
 pub fn begun_is_prefix()
     ensures { BegunIsPrefix }
 {}
 
-/// A front of the spelling of a value, all of whose texts and numbers can be read, begins a document.
+/// A prefix of the spelling of a value, all of whose texts and numbers can be read, begins a document.
 pub fn prefix_is_begun()
     ensures { PrefixIsBegun }
 {}
 
-/// A front gives the first events of the walk of whatever value goes on from it.
+/// A prefix gives the first events of the walk of whatever value goes on from it.
 pub fn prefix_gives_walk()
     ensures { PrefixGivesWalk }
 {}
 
-/// An input without a document has a longest front that begins one, and what that gives is one list of events.
+/// An input without a document has a longest prefix that begins one, and what that gives is one list of events.
 pub fn one_given()
     ensures { OneGiven }
 {}
 
-/// From the root of an input on comes the walk of its document, or what its longest front gives, behind which nothing goes on.
+/// From the root of an input on comes the walk of its document, or what its longest prefix gives, after which nothing goes on.
 pub fn input_comes()
     ensures { InputComes }
 {}
 
-/// What is refused behind the longest front of an input is a refusal of that input.
+/// What is refused after the longest prefix of an input is a refusal of that input.
 pub fn refused_after_prefix()
     ensures { RefusedAfterPrefix }
 {}

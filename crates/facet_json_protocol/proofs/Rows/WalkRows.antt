@@ -1,4 +1,4 @@
--- Walks by computation: small inputs, and the events of each, with what is read behind them.
+-- Walks by computation: small inputs, and the events of each, with what is read after them.
 use Rattle.std.proofs.Common.{◌≡◌, ℕ, true, List, [], ◌∷◌, Option, Some, refl, codes}
 use Rattle.std.specs.Prelude.{pos, neg_ℤ}
 use Rattle.std.specs.Option.{option_map}
@@ -41,7 +41,7 @@ lone_number_row : walk_of (codes "1") plain ≡ Some (at (scalar (u64 1)) 0 1 �
 unfolding read_by spelled node_within tree_of tokens_past cut cut_here start_of gap_len_from parts number walk
 lone_number_row = refl
 
--- A comma gives no event, nor does one behind the last item.
+-- A comma gives no event, nor does one after the last item.
 trailing_comma_row : walk_of (codes "[1,]") plain ≡ Some (at (sequence_start array) 0 1 ∷ at (scalar (u64 1)) 1 1 ∷ at sequence_end 3 1 ∷ [])
 unfolding read_by spelled node_within tree_of tokens_past cut cut_here start_of gap_len_from parts number walk
 trailing_comma_row = refl

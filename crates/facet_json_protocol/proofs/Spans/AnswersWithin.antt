@@ -1,4 +1,4 @@
--- On every input: the spans that a move answers lie within the input, and each event that is passed leaves fewer bytes behind it.
+-- On every input: the spans that a move answers lie within the input, and each event that is passed leaves fewer bytes after it.
 use Rattle.std.proofs.Common.{◌≡◌, ℕ, zero, suc, ◌+◌, ◌-◌, ◌<◌, ◌≤◌, Bool, true, false, cond, ◌==◌, List, [], ◌∷◌, length, Option, Some, None, refl, sym, subst, ◌∙◌, arith}
 use Rattle.std.specs.Prelude.{Ok, Err, IfSome}
 use Rattle.facet_json_token.specs.Gap.{Mode}
@@ -57,7 +57,7 @@ shows-sound now s future last peeked shows w sound = record {
 record PassedSound (buffer : List ℕ) (before : Span) (given : List Event) (after : Span) (rest : Future) : Type 0 where
   within : EventsWithin buffer given
   last_within : stop after ≤ length buffer
-  -- each event ends behind the one before
+  -- each event ends after the one before
   further : length given + stop before ≤ stop after
   sound : IsSound buffer (stop after) rest
 
@@ -145,7 +145,7 @@ module _ (complains : Token → Refusal → Type 0) (c : ComplainsWithin complai
   alike : (s : Standing) → IsAlike now s → StandsSound now.buffer now.mode s
   alike s like = shows-sound now s (future_of now) now.standing.last (is_peeked now.standing) like good.standing.last_within good.standing.sound
 
-  -- what is sound before an event is sound behind it
+  -- what is sound before an event is sound after it
   first-sound : (p : Passed) (future : Future) → future_of now ≡ gives p future → IsSound now.buffer (stop now.standing.last) (gives p future)
   first-sound p future e = subst (IsSound now.buffer (stop now.standing.last)) e good.standing.sound
 

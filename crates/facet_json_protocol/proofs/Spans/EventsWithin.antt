@@ -1,4 +1,4 @@
--- What comes from a position on lies behind it, in order and within the buffer.
+-- What comes from a position on lies after it, in order and within the buffer.
 use Rattle.std.proofs.Common.{◌≡◌, ℕ, zero, suc, ◌+◌, ◌-◌, ◌<◌, ◌≤◌, Bool, true, false, List, [], ◌∷◌, length, drop, refl, arith, length-drop}
 use Rattle.facet_json_token.specs.Gap.{Mode}
 use Rattle.facet_json_token.specs.Token.{Token}
@@ -16,13 +16,13 @@ use Rattle.facet_json_document.proofs.WalkComes.{follows, reads-turn}
 
 -- ---- tokens
 
--- What lies behind an offset lies behind smaller ones.
+-- What lies after an offset lies after smaller ones.
 pub in_order-weaker : (buffer : List ℕ) (ts : Tokens) (from less : ℕ) → less ≤ from → InOrder buffer from ts → InOrder buffer less ts
 in_order-weaker buffer _ from less h (at_the_end _) = at_the_end less
 in_order-weaker buffer _ from less h (at_a_fault _ f w) = at_a_fault less f w
 in_order-weaker buffer _ from less h (at_a_token _ t ts b w more) = at_a_token less t ts (omega arith) w more
 
--- What is cut at a place of the buffer, with the tokens behind it.
+-- What is cut at a place of the buffer, with the tokens after it.
 cut_in_order : (buffer : List ℕ) (position : ℕ) (c : Cut) (others : Token → Tokens) → CutFits buffer position c →
     ((t : Token) → position < stop t.span → InOrder buffer (stop t.span) (others t)) →
     InOrder buffer position (elim c as (λ _. Tokens) [ nothing_left ↦ ended | fault f ↦ refused f | token t ↦ next t (others t) ])
@@ -48,7 +48,7 @@ past_in_order buffer mode zero at (b ∷ left) h =
     let here : at + 0 ≡ at = omega arith in
     rw here (cut_in_order buffer at (cut buffer at mode) (λ t. tokens_past buffer mode (stop t.span - suc at) (suc at) left) (cut-fits buffer at mode (omega arith)) (λ t behind. past_token buffer mode at left t behind (past_in_order buffer mode (stop t.span - suc at) (suc at) left (omega arith))))
 
--- The tokens from a position on lie behind it.
+-- The tokens from a position on lie after it.
 pub tokens-in_order : (buffer : List ℕ) (mode : Mode) (position : ℕ) → position ≤ length buffer →
     InOrder buffer position (tokens_from buffer mode position)
 tokens-in_order buffer mode position h =
@@ -56,7 +56,7 @@ tokens-in_order buffer mode position h =
 
 -- ---- events
 
--- What comes behind an offset comes behind smaller ones.
+-- What comes after an offset comes after smaller ones.
 pub sound-weaker : (buffer : List ℕ) (future : Future) (from less : ℕ) → less ≤ from → IsSound buffer from future → IsSound buffer less future
 sound-weaker buffer _ from less h (sound_event _ p future b e w more) = sound_event less p future (omega arith) e w more
 sound-weaker buffer _ from less h (sound_end _) = sound_end less
@@ -68,7 +68,7 @@ module _ (buffer : List ℕ) (m : Meaning) where
   SoundFrom ts = (stack : List ContainerKind) (stage : Stage) (from : ℕ) → InOrder buffer from ts →
       IsSound buffer from (reads m stack stage ts)
 
-  -- the same behind a key, which ends there
+  -- the same after a key, which ends there
   abbrev SoundBehindKey : Tokens → Type 0
   SoundBehindKey ts = (stack : List ContainerKind) (key : Token) → InOrder buffer (stop key.span) ts →
       IsSound buffer (stop key.span) (reads_colon m stack key ts)

@@ -1,4 +1,4 @@
-//! Laws about parsers: what the calls' contracts say of a new one, and of calls behind one another.
+//! Laws about parsers: what the calls' contracts say of a new one, and of calls one after another.
 
 ghost use Rattle.facet_json_protocol.specs.ParserLaws.{NewStands, AloneIsGiven, TrustedAgrees};
 ghost use Rattle.facet_json_protocol.specs.CallLaws.{MoveIsStep, PeekIsNext, RefusalRepeats, SaveIsNumbered, RestoreBringsBack, NumbersAreNew, UnknownChangesNothing, EndsInTime};
@@ -8,25 +8,25 @@ pub fn new_stands()
     ensures { NewStands }
 {}
 
-/// Where an input has no document, a new parser that is asked for the next event alone answers what the longest front
+/// Where an input has no document, a new parser that is asked for the next event alone answers what the longest prefix
 /// that begins a document gives, and then one refusal, never the end.
 pub fn alone_is_given()
     ensures { AloneIsGiven }
 {}
 
 /// Two new parsers of an input with a document, one that is trusted and one that checks its strings, answer every list of
-/// calls alike, up to the first want of memory in either.
+/// calls alike, up to the first out of memory in either.
 pub fn trusted_agrees()
     ensures { TrustedAgrees }
 {}
 
-/// Wherever a parser stands on a document's walk, each of its calls is one step of the cursor there, and behind the call
+/// Wherever a parser stands on a document's walk, each of its calls is one step of the cursor there, and after the call
 /// it stands where that step leads.
 pub fn move_is_step()
     ensures { MoveIsStep }
 {}
 
-/// On every input the next event, right behind a peek that answered one, is the one that the peek answered.
+/// On every input the next event, right after a peek that answered one, is the one that the peek answered.
 pub fn peek_is_next()
     ensures { PeekIsNext }
 {}
@@ -37,7 +37,7 @@ pub fn refusal_repeats()
     ensures { RefusalRepeats }
 {}
 
-/// On every input a save of a parser that isn't refused answers the next number. It answers none only for want of memory,
+/// On every input a save of a parser that isn't refused answers the next number. It answers none only for lack of memory,
 /// or where there are no more numbers; then nothing changes, and the refusal doesn't stick.
 pub fn save_is_numbered()
     ensures { SaveIsNumbered }

@@ -1,5 +1,5 @@
 -- Single inputs with what is cut of them, their tokens, and whether more bytes may change what is cut, by computation.
--- In the texts of this file a backslash or a quote stands behind a backslash of its own.
+-- In the texts of this file a backslash or a quote stands after a backslash of its own.
 use Rattle.std.proofs.Common.{◌≡◌, ◌≢◌, ℕ, true, false, List, [], ◌∷◌, ◌++◌, refl, codes}
 use Rattle.facet_format.specs.Bytes.{slash, star, left_bracket, right_bracket, dot, line_feed}
 use Rattle.facet_json_token.specs.Gap.{Mode, plain, jsonc, gap_len_from, OpensBlock, OpensLine}
@@ -65,7 +65,7 @@ dot_last_row : cut (codes "1.") 0 plain ≡ token_at (number 0 2 float) 0 2
 unfolding cut cut_here start_of parts gap_len_from
 dot_last_row = refl
 
--- Nor need one stand in front of it.
+-- Nor need one stand before it.
 minus_and_dot_row : cut (codes "-.5") 0 plain ≡ token_at (number 0 3 float) 0 3
 unfolding cut cut_here start_of parts gap_len_from
 minus_and_dot_row = refl
@@ -102,7 +102,7 @@ escaped_quote_row : cut (codes "\"a\\\"b\"") 0 plain ≡ token_at (string 1 5 tr
 unfolding cut cut_here start_of parts gap_len_from
 escaped_quote_row = refl
 
--- Nor does the end of the input behind a backslash.
+-- Nor does the end of the input after a backslash.
 open_escape_row : cut (codes "\"a\\") 0 plain ≡ fault_at (unexpected_eof in_string) 0 3
 unfolding cut cut_here start_of parts gap_len_from
 open_escape_row = refl
@@ -129,7 +129,7 @@ jsonc_slash_row : cut (codes "/") 0 jsonc ≡ fault_at (unexpected_char slash) 0
 unfolding cut cut_here start_of parts gap_len_from
 jsonc_slash_row = refl
 
--- Nor behind a number.
+-- Nor after a number.
 slash_behind_row : cut (codes "1/") 1 jsonc ≡ fault_at (unexpected_char slash) 1 1
 unfolding cut cut_here start_of parts gap_len_from
 slash_behind_row = refl
@@ -190,7 +190,7 @@ list_tokens_row : tokens (codes "[1,]") plain ≡
 unfolding cut cut_here start_of parts gap_len_from tokens_past
 list_tokens_row = refl
 
--- A fault stands behind the tokens in front of it.
+-- A fault stands after the tokens before it.
 fault_behind_row : tokens (codes "1 x") plain ≡
     next (token_of (number 0 1 unsigned) 0 1) (refused (record { kind = unexpected_char 0x78; span = span_at 2 1 }))
 unfolding cut cut_here start_of parts gap_len_from tokens_past
@@ -222,7 +222,7 @@ comment_byte_tokens_row = refl
 some : (b : ℕ) (bytes : List ℕ) → b ∷ bytes ≢ []
 some b bytes e = cc
 
--- The front of a literal is open.
+-- The prefix of a literal is open.
 part_of_literal_open : IsOpen (codes "tr") 0 plain
 unfolding gap_len_from
 part_of_literal_open =
@@ -270,7 +270,7 @@ slash_star_slash_open : IsOpen (codes "/*/") 0 jsonc
 unfolding gap_len_from
 slash_star_slash_open = IsBeginning.block (codes "/") (OpensBlock.one slash)
 
--- White space in front is passed.
+-- White space in prefix is passed.
 space_in_front_open : IsOpen (codes " nul") 0 plain
 unfolding gap_len_from
 space_in_front_open =
@@ -283,7 +283,7 @@ closed : (buffer : List ℕ) (position : ℕ) (mode : Mode) → is_open buffer p
     IsOpen buffer position mode → ⊥
 closed buffer position mode e open_there = let tested = (open_is_tested buffer position mode).1 open_there in cc
 
--- Behind a number stands a byte that isn't part of it.
+-- After a number stands a byte that isn't part of it.
 number_and_comma_closed : IsOpen (codes "42,") 0 plain → ⊥
 unfolding is_open is_beginning start_of gap_len_from parts
 number_and_comma_closed = closed (codes "42,") 0 plain refl
@@ -313,7 +313,7 @@ slash_closed : IsOpen (codes "/") 0 plain → ⊥
 unfolding is_open is_beginning start_of gap_len_from parts
 slash_closed = closed (codes "/") 0 plain refl
 
--- A line comment with its line feed is a gap, and nothing is behind it.
+-- A line comment with its line feed is a gap, and nothing is after it.
 line_comment_closed : IsOpen (codes "//x" ++ line_feed ∷ []) 0 jsonc → ⊥
 unfolding is_open is_beginning start_of gap_len_from parts
 line_comment_closed = closed (codes "//x" ++ line_feed ∷ []) 0 jsonc refl

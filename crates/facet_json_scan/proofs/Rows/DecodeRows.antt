@@ -1,5 +1,5 @@
 -- Single contents with their texts, and texts with the numbers that they are, by computation.
--- In the texts of this file a backslash or a quote stands behind a backslash of its own.
+-- In the texts of this file a backslash or a quote stands after a backslash of its own.
 use Rattle.std.proofs.Common.{◌≡◌, [], ◌∷◌, ◌++◌, Some, None, pos, neg_ℤ, codes, refl}
 use Rattle.std.specs.Char.{encode_utf8}
 use Rattle.std.specs.Str.{encode_utf8_all}

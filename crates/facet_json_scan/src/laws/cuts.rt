@@ -2,7 +2,7 @@
 
 ghost use Rattle.facet_json_token.specs.Laws.{GapIsLongest, ShapeIsCut, ShapeIsUnique};
 
-/// The gap at the front of the bytes is a gap, and no longer front of them is one (RFC 8259, section 2).
+/// The gap at the start of the bytes is a gap, and no longer prefix of them is one (RFC 8259, section 2).
 pub fn gap_is_longest()
     ensures { GapIsLongest }
 {}

@@ -2,7 +2,7 @@
 
 ghost use Rattle.facet_json_token.specs.Laws.{CutStays, OpenIsTested};
 
-/// What is cut where the buffer isn't open, a token or a fault, is cut alike from every longer buffer with that front:
+/// What is cut where the buffer isn't open, a token or a fault, is cut alike from every longer buffer with that prefix:
 /// bytes that come later don't change it.
 pub fn cut_stays()
     ensures { CutStays }

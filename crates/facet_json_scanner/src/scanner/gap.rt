@@ -1,4 +1,4 @@
-//! The gap in front of a token, in a buffer that grows.
+//! The gap before a token, in a buffer that grows.
 
 ghost use Rattle.std.specs.Prelude.{◌≡◌, ◌<◌, ◌≤◌, length, take, drop, Some, slice_get};
 ghost use Rattle.facet_format.specs.Bytes.{slash};

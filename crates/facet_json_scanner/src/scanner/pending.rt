@@ -35,7 +35,7 @@ pub enum State {
     Word,
     /// In this part of a number.
     Number(Part),
-    /// Behind a slash.
+    /// After a slash.
     Slash,
     /// In a line comment.
     Line,

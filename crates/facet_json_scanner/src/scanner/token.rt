@@ -1,4 +1,4 @@
-//! The token behind a gap, in a buffer that grows.
+//! The token after a gap, in a buffer that grows.
 
 ghost use Rattle.std.specs.Prelude.{◌≡◌, ℕ, ◌+◌, ◌<◌, ◌≤◌, length, take, drop, Some, slice_get};
 ghost use Rattle.facet_format.specs.Bytes.{slash};
@@ -39,7 +39,7 @@ pub enum Found {
     },
 }
 
-/// What stands at `position`, a gap in front.
+/// What stands at `position`, a gap before it.
 pub fn scan_from(buffer: &[u8], position: usize, mode: Mode) -> Found
     requires { position ≤ length buffer.now }
     ensures here { FoundFrom (mode_of mode) buffer.now position result }

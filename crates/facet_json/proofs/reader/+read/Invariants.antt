@@ -6,7 +6,7 @@ use Rattle.facet_json.proofs.ItemsRead.{ItemsPassed}
 use Rattle.facet_json.proofs.MembersRead.{MembersPassed}
 use Rattle.facet_json.proofs.reader.+read.Given as goal
 
--- how many bytes are ahead, twice; one more where an event was taken in front
+-- how many bytes are ahead, twice; one more where an event was taken in prefix
 abbrev pub decreases-value : goal.decreases-value
 decreases-value l = 2 * ahead l.parser.now + 1
 

@@ -1,4 +1,4 @@
--- Behind a closed comment it is found from the comment on, and an open one is found itself.
+-- After a closed comment it is found from the comment on, and an open one is found itself.
 use Rattle.std.proofs.Common.{refl}
 use Rattle.facet_json_token.specs.Views.{mode_of}
 use Rattle.facet_json_scanner.specs.Views.{state_of}

@@ -1,4 +1,4 @@
--- What is cut of the front is answered.
+-- What is cut of the prefix is answered.
 use Rattle.std.proofs.Common.{◌≡◌, ◌≤◌, length, take, Some, ap, ◌∙◌, subst, arith}
 use Rattle.std.proofs.lemmas.List.{length-take-le}
 use Rattle.facet_format.specs.Span.{stop}

@@ -1,4 +1,4 @@
--- A string or a number goes on where no gap is in front.
+-- A string or a number goes on where no gap is before it.
 use Rattle.std.proofs.Common.{drop, ap, ◌∙◌, subst, arith}
 use Rattle.facet_json_token.specs.Gap.{growing, piece_len}
 use Rattle.facet_json_scanner.specs.Scanner.{Describes}

@@ -1,4 +1,4 @@
--- What stands behind the gap is what is cut.
+-- What stands after the gap is what is cut.
 use Rattle.std.proofs.Common.{◌≡◌, drop, length, Some, refl, ap, ap₂, sym, ◌∙◌}
 use Rattle.std.proofs.lemmas.List.{drop_all}
 use Rattle.facet_json_token.specs.Views.{mode_of}

@@ -1,4 +1,4 @@
--- Each byte goes on with the comment, and a slash behind a star ends it.
+-- Each byte goes on with the comment, and a slash after a star ends it.
 use Rattle.std.proofs.Common.{◌≡◌, ◌&&◌, ◌==◌, ◌⊎◌, inl, inr, ℕ, Bool, false, refl, sym, ap, subst, arith}
 use Rattle.std.proofs.lemmas.Bool.{ne_eqb, and_right}
 use Rattle.facet_format.specs.Bytes.{slash}

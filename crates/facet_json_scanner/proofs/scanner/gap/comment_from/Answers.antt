@@ -1,4 +1,4 @@
--- The byte behind the slash says which comment it is.
+-- The byte after the slash says which comment it is.
 use Rattle.std.proofs.Common.{◌≡◌, ◌≢◌, ◌+◌, [], ◌∷◌, drop, false, refl, sym, ap, ◌∙◌, subst, arith}
 use Rattle.std.proofs.lemmas.List.{drop_all}
 use Rattle.facet_format.specs.Bytes.{slash, star}

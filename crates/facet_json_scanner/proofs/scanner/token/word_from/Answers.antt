@@ -1,4 +1,4 @@
--- The letters that stand are a front of the word, or the word is cut.
+-- The letters that stand are a prefix of the word, or the word is cut.
 use Rattle.std.proofs.Common.{◌≡◌, ◌+◌, ◌<◌, ◌∷◌, length, drop, refl, sym, ap, ◌∙◌, subst, arith, length-drop}
 use Rattle.std.proofs.lemmas.Option.{slice_get_within}
 use Rattle.facet_json_scanner.specs.Scanner.{Describes, in_word}
