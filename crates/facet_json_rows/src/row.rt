@@ -3,8 +3,9 @@
 use crate::compared::{Way, compare};
 use crate::faults::{Case, FaultyReader, write_untold};
 use crate::printf::printed;
+use facet_json::Span;
 use facet_json::scanner::Mode;
-use facet_json_command::outcome::Outcome;
+use facet_json_command::outcome::{OUT_OF_MEMORY, Outcome};
 use facet_json_command::report::{status, write_line};
 use facet_json_command::run::run;
 use facet_json_command::script::parse_script;
@@ -40,6 +41,10 @@ fn answer_command<W: Write>(
         "facet_json_tool" => answer_program(alloc, rest, input, writer),
         "broken_pipe" => answer_failed(alloc, ErrorKind::BrokenPipe, rest, input, writer),
         "out_of_memory" => answer_failed(alloc, ErrorKind::OutOfMemory, rest, input, writer),
+        "ended" => match ended(rest) {
+            Some(outcome) => write_end(outcome, b"", writer),
+            None => writeln!(writer, "NO END"),
+        },
         "parser" => answer_parser(alloc, rest, input, writer),
         "tree" => compare(alloc, modes(rest), &[Way::Tree], input, writer),
         _ => writeln!(writer, "NO COMMAND"),
