@@ -90,6 +90,18 @@ fn answer_failed<W: Write>(
     write_end(outcome, written.as_slice(), writer)
 }
 
+/// A run that ended in this way.
+fn ended(way: &str) -> Option<Outcome> {
+    match way {
+        "done" => Some(Outcome::Done),
+        "io" => Some(Outcome::Io),
+        "memory" => Some(OUT_OF_MEMORY),
+        "usage" => Some(Outcome::Usage),
+        "value" => Some(Outcome::Refused(5, Some(Span::new(1, 40)))),
+        _ => None,
+    }
+}
+
 /// Writes what the program wrote to its standard output, then its line for the standard error, and its status where that isn't 0.
 fn write_end<W: Write>(outcome: Outcome, written: &[u8], writer: &mut W) -> io::Result<()> {
     write_lines(written, writer)?;
