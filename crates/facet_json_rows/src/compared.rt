@@ -9,7 +9,7 @@ use std::io;
 use std::io::Write;
 
 /// How an input is asked for what is in it.
-#[derive(Debug, Clone, Copy)]
+#[derive(Clone, Copy)]
 pub enum Way<'a> {
     /// All events and the end, one at a time.
     ByNext,
@@ -21,6 +21,18 @@ pub enum Way<'a> {
     ByCalls(&'a [Call]),
     /// The tree.
     Tree,
+}
+
+impl Way<'_> {
+    fn name(self) -> &'static str {
+        match self {
+            Way::ByNext => "by next",
+            Way::ByPeekAndNext => "by peek and next",
+            Way::ByEvents => "by events",
+            Way::ByCalls(_) => "by calls",
+            Way::Tree => "as a tree",
+        }
+    }
 }
 
 /// Writes what is told of the input, and each other telling of it.
@@ -59,10 +71,8 @@ fn write_difference<W: Write>(
     if told.as_str() == expected {
         return Ok(());
     }
-    writeln!(
-        writer,
-        "DIFFERS: {mode:?}, trusted {is_trusted}, {way:?}: {told}"
-    )
+    let kind = if is_trusted { "trusted" } else { "checked" };
+    writeln!(writer, "DIFFERS: {mode:?}, {kind}, {}: {told}", way.name())
 }
 
 /// What is told of the input.

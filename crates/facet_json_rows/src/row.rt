@@ -3,8 +3,9 @@
 use crate::compared::{Way, compare};
 use crate::faults::{Case, FaultyReader, write_untold};
 use crate::printf::printed;
+use facet_json::Span;
 use facet_json::scanner::Mode;
-use facet_json_command::outcome::Outcome;
+use facet_json_command::outcome::{OUT_OF_MEMORY, Outcome};
 use facet_json_command::report::{status, write_line};
 use facet_json_command::run::run;
 use facet_json_command::script::parse_script;
@@ -40,6 +41,10 @@ fn answer_command<W: Write>(
         "facet_json_tool" => answer_program(alloc, rest, input, writer),
         "broken_pipe" => answer_failed(alloc, ErrorKind::BrokenPipe, rest, input, writer),
         "out_of_memory" => answer_failed(alloc, ErrorKind::OutOfMemory, rest, input, writer),
+        "ended" => match ended(rest) {
+            Some(outcome) => write_end(outcome, b"", writer),
+            None => writeln!(writer, "NO END"),
+        },
         "parser" => answer_parser(alloc, rest, input, writer),
         "tree" => compare(alloc, modes(rest), &[Way::Tree], input, writer),
         _ => writeln!(writer, "NO COMMAND"),
@@ -83,6 +88,18 @@ fn answer_failed<W: Write>(
     let mut written = Vec::new(alloc);
     let outcome = run(alloc, args.as_slice(), &mut reader, &mut written);
     write_end(outcome, written.as_slice(), writer)
+}
+
+/// A run that ended in this way.
+fn ended(way: &str) -> Option<Outcome> {
+    match way {
+        "done" => Some(Outcome::Done),
+        "io" => Some(Outcome::Io),
+        "memory" => Some(OUT_OF_MEMORY),
+        "usage" => Some(Outcome::Usage),
+        "value" => Some(Outcome::Refused(5, Some(Span::new(1, 40)))),
+        _ => None,
+    }
 }
 
 /// Writes what the program wrote to its standard output, then its line for the standard error, and its status where that isn't 0.

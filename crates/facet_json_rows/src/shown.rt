@@ -1,6 +1,6 @@
 //! Answers of a parser as texts, so that all that is told of an input is one line.
 
-use facet_format::{DeserializeErrorKind, ParseError, ParseEvent, ParseEventKind, ScalarValue};
+use facet_format::{ParseError, ParseEvent, ParseEventKind};
 use facet_json_core::Answer;
 use std::alloc::{AllocError, Global};
 
@@ -79,37 +79,13 @@ fn kind_shown(alloc: Global, kind: &ParseEventKind<'_>) -> Result<String, AllocE
         ParseEventKind::SequenceStart(_) => "[".to_string(alloc),
         ParseEventKind::SequenceEnd => "]".to_string(alloc),
         ParseEventKind::FieldKey(key) => format!(in alloc; "key({:?})", key.name.as_str()),
-        ParseEventKind::Scalar(value) => scalar_shown(alloc, value),
-    }
-}
-
-fn scalar_shown(alloc: Global, value: &ScalarValue<'_>) -> Result<String, AllocError> {
-    match value {
-        ScalarValue::Null => "Null".to_string(alloc),
-        ScalarValue::Bool(b) => format!(in alloc; "Bool({b})"),
-        ScalarValue::U64(n) => format!(in alloc; "U64({n})"),
-        ScalarValue::I64(n) => format!(in alloc; "I64({n})"),
-        ScalarValue::Decimal(number) => format!(in alloc; "Decimal({})", number.as_str()),
-        ScalarValue::Str(text) => format!(in alloc; "Str({:?})", text.as_str()),
-        _ => "another scalar".to_string(alloc),
+        ParseEventKind::Scalar(value) => format!(in alloc; "{value:?}"),
     }
 }
 
 fn error_shown(alloc: Global, error: &ParseError<'_>) -> Result<String, AllocError> {
-    let kind = refusal_shown(alloc, &error.kind)?;
-    format!(in alloc; "refused {kind} {}+{}", error.span.offset, error.span.len)
-}
-
-/// The number of the kind, and its texts.
-fn refusal_shown(alloc: Global, kind: &DeserializeErrorKind<'_>) -> Result<String, AllocError> {
-    match kind {
-        DeserializeErrorKind::UnexpectedChar { ch, expected } => {
-            format!(in alloc; "1({ch}, {expected})")
-        }
-        DeserializeErrorKind::UnexpectedEof { expected } => format!(in alloc; "2({expected})"),
-        DeserializeErrorKind::UnexpectedToken { got, expected } => {
-            format!(in alloc; "3({got}, {expected})")
-        }
-        other => format!(in alloc; "{}", other.code()),
-    }
+    format!(in alloc;
+        "refused {:?} {}+{}",
+        error.kind, error.span.offset, error.span.len
+    )
 }
