@@ -5,7 +5,7 @@ use facet_format::{
     ContainerKind, Decimal, FieldKey, FieldLocationHint, ParseEvent, ParseEventKind, SavePoint,
     ScalarValue, Span,
 };
-use std::alloc::{AllocError, Global};
+use std::alloc::Global;
 use std::borrow::CowStr;
 use std::process::Abort;
 
@@ -35,11 +35,6 @@ fn expect_scalar(rt: &impl Abort, alloc: Global, value: ScalarValue<'_>, shown: 
     expect(rt, alloc, ParseEventKind::Scalar(value), shown);
 }
 
-fn expect_key(rt: &impl Abort, alloc: Global, name: CowStr<'_>, shown: &str) {
-    let key = FieldKey::new(name, FieldLocationHint::KeyValue);
-    expect(rt, alloc, ParseEventKind::FieldKey(key), shown);
-}
-
 #[test]
 fn brackets(rt: HostRuntime) {
     let alloc = rt.alloc();
@@ -66,22 +61,40 @@ fn scalars(rt: HostRuntime) {
     expect_scalar(&rt, alloc, bytes, "Scalar(Bytes([1, 255]))");
 }
 
-fn owned(alloc: Global, text: &str) -> Result<CowStr<'static>, AllocError> {
-    Ok(CowStr::Owned(String::from_str(alloc, text)?))
+/// Whether an event is copied that has an owned text as its value.
+fn owned_text_holds(alloc: Global, text: &str, shown: &str) -> bool {
+    match String::from_str(alloc, text) {
+        Ok(text) => {
+            let value = ScalarValue::Str(CowStr::Owned(text));
+            holds(alloc, ParseEventKind::Scalar(value), shown)
+        }
+        Err(_) => false,
+    }
+}
+
+/// Whether an event is copied that has an owned text as its field's name.
+fn owned_key_holds(alloc: Global, name: &str, shown: &str) -> bool {
+    match String::from_str(alloc, name) {
+        Ok(name) => {
+            let key = FieldKey::new(CowStr::Owned(name), FieldLocationHint::KeyValue);
+            holds(alloc, ParseEventKind::FieldKey(key), shown)
+        }
+        Err(_) => false,
+    }
 }
 
 #[test]
-fn texts_and_keys(rt: HostRuntime) -> Result<(), AllocError> {
+fn texts_and_keys(rt: HostRuntime) {
     let alloc = rt.alloc();
     let text = ScalarValue::Str(CowStr::Borrowed("ab"));
     expect_scalar(&rt, alloc, text, "Scalar(Str(\"ab\"))");
-    let text = ScalarValue::Str(owned(alloc, "c")?);
-    expect_scalar(&rt, alloc, text, "Scalar(Str(\"c\"))");
+    let shown = "Scalar(Str(\"c\"))";
+    assert!(rt; owned_text_holds(alloc, "c", shown), "{shown}");
+    let key = FieldKey::new(CowStr::Borrowed("ab"), FieldLocationHint::KeyValue);
     let shown = "FieldKey(FieldKey { name: \"ab\", hint: KeyValue })";
-    expect_key(&rt, alloc, CowStr::Borrowed("ab"), shown);
+    expect(&rt, alloc, ParseEventKind::FieldKey(key), shown);
     let shown = "FieldKey(FieldKey { name: \"c\", hint: KeyValue })";
-    expect_key(&rt, alloc, owned(alloc, "c")?, shown);
-    Ok(())
+    assert!(rt; owned_key_holds(alloc, "c", shown), "{shown}");
 }
 
 /// A copy of the decimal of this text, in memory of its own.

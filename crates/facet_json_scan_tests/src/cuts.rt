@@ -1,6 +1,6 @@
 //! Worked rows: what is cut where, from outside of the definitions.
 
-use crate::shown::answers;
+use crate::shown::scans_as;
 use facet_json_scan::{Mode, cut};
 use std::alloc::Global;
 
@@ -77,7 +77,7 @@ static JSONC: [Row; 4] = [
 fn holds(alloc: Global, mode: Mode, row: &Row) -> bool {
     let (buffer, position, want) = *row;
     let bytes = buffer.as_bytes();
-    position <= bytes.len() && answers(alloc, &cut(bytes, position, mode), want)
+    position <= bytes.len() && scans_as(alloc, &cut(bytes, position, mode), want)
 }
 
 #[test]

@@ -17,12 +17,12 @@ enum Outcome {
     Differs,
 }
 
-/// Compares an answer with what is cut of the whole input at `start`.
-fn compare(answer: &ScanResult, input: &[u8], start: usize, mode: Mode) -> Outcome {
-    if start > input.len() || *answer != cut(input, start, mode) {
+/// Compares what was scanned with what is cut of the whole input at `start`.
+fn compare(scanned: &ScanResult, input: &[u8], start: usize, mode: Mode) -> Outcome {
+    if start > input.len() || *scanned != cut(input, start, mode) {
         return Outcome::Differs;
     }
-    match answer {
+    match scanned {
         Ok(found) if found.token != Token::Eof => {
             Outcome::Token(found.span.offset.saturating_add(found.span.len))
         }
@@ -38,17 +38,17 @@ fn last(scanner: &mut Scanner, input: &[u8], start: usize, mode: Mode) -> Outcom
     compare(&scanner.finalize_at_eof(input), input, start, mode)
 }
 
-/// Whether an answer asks for more bytes.
-fn asks(answer: &ScanResult) -> bool {
-    match answer {
+/// Whether more bytes are asked for.
+fn asks(scanned: &ScanResult) -> bool {
+    match scanned {
         Ok(found) => matches!(&found.token, Token::NeedMore { .. }),
         Err(_) => false,
     }
 }
 
-/// Whether an answer says that nothing is left of a buffer of this length.
-fn is_eof(answer: &ScanResult, len: usize) -> bool {
-    match answer {
+/// Whether nothing is left of a buffer of this length.
+fn is_eof(scanned: &ScanResult, len: usize) -> bool {
+    match scanned {
         Ok(found) => found.token == Token::Eof && found.span == Span::new(len, 0),
         Err(_) => false,
     }
@@ -59,14 +59,14 @@ fn next(scanner: &mut Scanner, input: &[u8], len: usize, start: usize, mode: Mod
     if len > input.len() || scanner.pos() > len {
         return Outcome::Differs;
     }
-    let answer = scanner.next_token(&input[..len]);
-    let asks = asks(&answer);
-    if len < input.len() && (asks || is_eof(&answer, len)) {
+    let scanned = scanner.next_token(&input[..len]);
+    let asks = asks(&scanned);
+    if len < input.len() && (asks || is_eof(&scanned, len)) {
         Outcome::Waits
     } else if asks {
         last(scanner, input, start, mode)
     } else {
-        compare(&answer, input, start, mode)
+        compare(&scanned, input, start, mode)
     }
 }
 

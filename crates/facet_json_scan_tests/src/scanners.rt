@@ -1,6 +1,6 @@
 //! Worked rows: what a scanner returns as its buffer grows.
 
-use crate::shown::{answers, shows};
+use crate::shown::{scans_as, shows};
 use facet_json_scan::Scanner;
 use std::alloc::Global;
 use std::process::Abort;
@@ -22,7 +22,7 @@ enum Call {
     SetPosition(usize),
 }
 
-/// A call, what it returns, and the position afterwards.
+/// A call, what it returns (nothing where it sets the position), and the position afterwards.
 type Step = (Call, &'static str, usize);
 
 /// What the steps are about, a new scanner, and its steps.
@@ -318,6 +318,7 @@ static COMMENTS: [Run; 2] = [
 
 const MEMBER: &str = "  {\n\t\"key\"  :  42  }  ";
 
+/// The scanner that is made so.
 fn made(start: Start) -> Scanner {
     match start {
         Start::New => Scanner::new(),
@@ -327,12 +328,14 @@ fn made(start: Start) -> Scanner {
     }
 }
 
+/// Whether `next_token` returns this.
 fn next_holds(alloc: Global, scanner: &mut Scanner, buffer: &[u8], want: &str) -> bool {
-    scanner.pos() <= buffer.len() && answers(alloc, &scanner.next_token(buffer), want)
+    scanner.pos() <= buffer.len() && scans_as(alloc, &scanner.next_token(buffer), want)
 }
 
+/// Whether `finalize_at_eof` returns this.
 fn last_holds(alloc: Global, scanner: &mut Scanner, buffer: &[u8], want: &str) -> bool {
-    scanner.pos() <= buffer.len() && answers(alloc, &scanner.finalize_at_eof(buffer), want)
+    scanner.pos() <= buffer.len() && scans_as(alloc, &scanner.finalize_at_eof(buffer), want)
 }
 
 /// Whether the call returns what the step says.
@@ -347,6 +350,7 @@ fn call_holds(alloc: Global, scanner: &mut Scanner, call: Call, want: &str) -> b
     }
 }
 
+/// Whether the call returns what the step says, and the scanner then stands there.
 fn step_holds(alloc: Global, scanner: &mut Scanner, step: &Step) -> bool {
     call_holds(alloc, scanner, step.0, step.1) && scanner.pos() == step.2
 }

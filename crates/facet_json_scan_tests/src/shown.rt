@@ -1,4 +1,4 @@
-//! Answers as texts, in which rows say what they expect.
+//! Results as texts, in which rows say what they expect.
 
 use facet_json_scan::{ScanError, ScanResult};
 use std::alloc::{AllocError, Global};
@@ -28,9 +28,9 @@ pub fn refuses(alloc: Global, error: &ScanError, want: &str) -> bool {
     )
 }
 
-/// Whether the scanner answers so: the token or the refusal, the offset of its bytes and their number.
-pub fn answers(alloc: Global, answer: &ScanResult, want: &str) -> bool {
-    match answer {
+/// Whether this was scanned: the token or the refusal, the offset of its bytes and their number.
+pub fn scans_as(alloc: Global, scanned: &ScanResult, want: &str) -> bool {
+    match scanned {
         Ok(found) => {
             let span = found.span;
             is_text(
