@@ -26,8 +26,10 @@ fn is_shown(alloc: Global, want: &str) -> bool {
 
 #[test]
 fn trees(rt: HostRuntime) {
-    assert!(rt; is_shown(
-        rt.alloc(),
-        "Pairs([(\"a\", Text(\"b\")), (\"c\", List([Null, Bool(true), U64(1), I64(-1)]))])",
-    ));
+    assert!(rt;
+        is_shown(
+            rt.alloc(),
+            "Pairs([(\"a\", Text(\"b\")), (\"c\", List([Null, Bool(true), U64(1), I64(-1)]))])",
+        )
+    );
 }

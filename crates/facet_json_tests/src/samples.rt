@@ -4,7 +4,7 @@ use facet_json::{Decimal, Tree};
 use std::alloc::{AllocError, Global};
 
 /// A tree, as a row names it.
-#[derive(Debug, Clone, Copy)]
+#[derive(Clone, Copy)]
 pub enum Sample {
     Null,
     Bool(bool),

@@ -15,43 +15,43 @@ fn is_written(alloc: Global, sample: Sample, want: &str) -> bool {
     }
 }
 
+/// A tree, and its text.
+static ROWS: [(Sample, &str); 20] = [
+    (Sample::Numbers(&[]), "[]"),
+    (Sample::NoPairs, "{}"),
+    (Sample::Leaves, "[null,true,false,0,18446744073709551615]"),
+    (Sample::Members, "{\"b\":1,\"a\":[],\"b\":{}}"),
+    (Sample::I64(-1), "-1"),
+    (Sample::I64(0), "0"),
+    (
+        Sample::I64(-9_223_372_036_854_775_808),
+        "-9223372036854775808",
+    ),
+    (
+        Sample::I64(9_223_372_036_854_775_807),
+        "9223372036854775807",
+    ),
+    (Sample::Decimal("1."), "1."),
+    (Sample::Decimal("-.5"), "-.5"),
+    (Sample::Decimal("5e-05"), "5e-05"),
+    (Sample::Decimal("0.0"), "0.0"),
+    (Sample::Text(""), "\"\""),
+    (Sample::Text("\"\\/"), "\"\\\"\\\\/\""),
+    (Sample::Text("\u{8}\u{c}\n\r\t"), "\"\\b\\f\\n\\r\\t\""),
+    (Sample::Text("\u{0}\u{1f} "), "\"\\u0000\\u001f \""),
+    (Sample::Text("\u{7f}"), "\"\\u007f\""),
+    (
+        Sample::Text("aaaaaaaaaaaaaaa\u{7f}"),
+        "\"aaaaaaaaaaaaaaa\\u007f\"",
+    ),
+    (Sample::Text("中文\n"), "\"中文\\n\""),
+    (Sample::Text("\u{80}\u{2028}"), "\"\u{80}\u{2028}\""),
+];
+
 #[test]
 fn trees_are_written(rt: HostRuntime) {
-    for (sample, want) in [
-        (Sample::Numbers(&[]), "[]"),
-        (Sample::NoPairs, "{}"),
-        (
-            Sample::Leaves,
-            "[null,true,false,0,18446744073709551615]",
-        ),
-        (Sample::Members, "{\"b\":1,\"a\":[],\"b\":{}}"),
-        (Sample::I64(-1), "-1"),
-        (Sample::I64(0), "0"),
-        (
-            Sample::I64(-9_223_372_036_854_775_808),
-            "-9223372036854775808",
-        ),
-        (
-            Sample::I64(9_223_372_036_854_775_807),
-            "9223372036854775807",
-        ),
-        (Sample::Decimal("1."), "1."),
-        (Sample::Decimal("-.5"), "-.5"),
-        (Sample::Decimal("5e-05"), "5e-05"),
-        (Sample::Decimal("0.0"), "0.0"),
-        (Sample::Text(""), "\"\""),
-        (Sample::Text("\"\\/"), "\"\\\"\\\\/\""),
-        (Sample::Text("\u{8}\u{c}\n\r\t"), "\"\\b\\f\\n\\r\\t\""),
-        (Sample::Text("\u{0}\u{1f} "), "\"\\u0000\\u001f \""),
-        (Sample::Text("\u{7f}"), "\"\\u007f\""),
-        (
-            Sample::Text("aaaaaaaaaaaaaaa\u{7f}"),
-            "\"aaaaaaaaaaaaaaa\\u007f\"",
-        ),
-        (Sample::Text("中文\n"), "\"中文\\n\""),
-        (Sample::Text("\u{80}\u{2028}"), "\"\u{80}\u{2028}\""),
-    ] {
-        assert!(rt; is_written(rt.alloc(), sample, want), "{want}");
+    for row in &ROWS {
+        assert!(rt; is_written(rt.alloc(), row.0, row.1), "{}", row.1);
     }
 }
 
