@@ -1,4 +1,4 @@
--- The character whose UTF-8 stands at the front of some bytes: what `utf8_at` of specs/Decode.antt finds.
+-- The character whose UTF-8 stands at the start of some bytes: what `utf8_at` of specs/Decode.antt finds.
 use Rattle.std.proofs.Common.{◌≡◌, ℕ, suc, ◌+◌, ◌/◌, ◌%◌, ◌<◌, ◌≤◌, ◌⊎◌, inl, inr, Bool, true, false, cond, ◌&&◌, List, [], ◌∷◌, ◌++◌, length, take, Option, Some, None, bytes_eq, refl, ap, ◌∙◌, arith}
 use Rattle.std.specs.Prelude.{◌==◌}
 use Rattle.std.specs.Char.{IsScalar, encode_utf8}
@@ -43,7 +43,7 @@ utf8_at-led b n c bytes len value is e =
     ∙ ap (λ k. if_encoded k (suc n) (b ∷ bytes)) value
     ∙ ap (λ t. cond t (Some (c, suc n)) None) (and_from (scalar c) _ is same)
 
--- The character at the front is found by the length of its UTF-8.
+-- The character at the start is found by the length of its UTF-8.
 utf8_at-shape : (c : ℕ) (rest : List ℕ) → IsScalar c → Shape c →
     utf8_at (encode_utf8 c ++ rest) ≡ Some (c, length (encode_utf8 c))
 utf8_at-shape c rest is (one h e) = rw e (utf8_at-led c 0 c rest (grind arith) (grind arith) is e)
@@ -55,7 +55,7 @@ utf8_at-shape c rest is (four l e) =
     let others = next (c / 4096) ∷ next (c / 64) ∷ next c ∷ rest in
     rw e (utf8_at-led (240 + c / 262144) 3 c others (grind arith) (grind arith) is e)
 
--- The character at the front is found.
+-- The character at the start is found.
 pub utf8_at-encoded : (c : ℕ) (rest : List ℕ) → IsScalar c →
     utf8_at (encode_utf8 c ++ rest) ≡ Some (c, length (encode_utf8 c))
 utf8_at-encoded c rest is = utf8_at-shape c rest is (shape c)
@@ -92,14 +92,14 @@ pub some_if : (t : Bool) (a b m n : ℕ) → cond t (found a m) None ≡ found b
 some_if true a b m n e = let same = some_same a b m n e in (refl, same.0, same.1)
 some_if false a b m n e = cc
 
--- A character with this UTF-8 stands at the front of the bytes.
+-- A character with this UTF-8 stands at the start of the bytes.
 pub record Leads (bytes : List ℕ) (c n : ℕ) : Type 0 where
   pub is_scalar : IsScalar c
   pub encoded : encode_utf8 c ≡ take n bytes
   pub within : n ≤ length bytes
   pub some : 0 < n
 
--- What is found is the character at the front.
+-- What is found is the character at the start.
 pub utf8_at-leads : (bytes : List ℕ) (c n : ℕ) → utf8_at bytes ≡ Some (c, n) → Leads bytes c n
 unfolding utf8_at
 utf8_at-leads [] c n e = cc

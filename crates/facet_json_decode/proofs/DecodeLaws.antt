@@ -10,7 +10,7 @@ use Rattle.facet_json_decode.specs.Decode.{short_escape, code_unit, is_high_surr
 use Rattle.facet_json_decode.specs.Laws.{DecodedIsDecodes}
 use Rattle.facet_json_decode.proofs.CharAt.{some_same, some_if, Leads, utf8_at-encoded, utf8_at-leads, encoded-first}
 
--- A piece that stands for the character is at the front of the bytes.
+-- A piece that stands for the character is at the start of the bytes.
 pub record Fronts (bytes : List ℕ) (c n : ℕ) : Type 0 where
   pub within : n ≤ length bytes
   pub some : 0 < n
@@ -18,7 +18,7 @@ pub record Fronts (bytes : List ℕ) (c n : ℕ) : Type 0 where
 
 -- ---- what is computed is a piece
 
--- the escape of a high surrogate, and what is found behind it
+-- the escape of a high surrogate, and what is found after it
 low_at-fronts : (a b c d high v n : ℕ) (bytes : List ℕ) → code_unit a b c d ≡ Some high →
     is_high_surrogate high ≡ true → low_at high bytes ≡ Some (v, n) →
     Fronts (backslash ∷ lower_u ∷ a ∷ b ∷ c ∷ d ∷ bytes) v n
@@ -115,7 +115,7 @@ itself-fronts b c n bytes ne leads =
     let own = itself c leads.is_scalar (leads-other b c n bytes ne leads) in
     record { within = leads.within; some = leads.some; is_piece = rw (← leads.encoded) own }
 
--- What is found is a piece at the front.
+-- What is found is a piece at the start.
 pub piece_at-fronts : (bytes : List ℕ) (c n : ℕ) → piece_at bytes ≡ Some (c, n) → Fronts bytes c n
 unfolding piece_at
 piece_at-fronts [] c n found = cc
@@ -163,7 +163,7 @@ pub escape_at-unit_of : (a b c d : ℕ) (bytes : List ℕ) (o : Option ℕ) → 
 unfolding piece_at escape_at unit_at
 escape_at-unit_of a b c d bytes o is = ap (unit_of bytes) is
 
--- A piece at the front is found.
+-- A piece at the start is found.
 pub piece_at-piece : (first : List ℕ) (c : ℕ) (rest : List ℕ) → Piece first c →
     piece_at (first ++ rest) ≡ Some (c, length first)
 piece_at-piece first c rest (itself _ is ne) = piece_at-itself c rest is ne
@@ -182,13 +182,13 @@ piece_at-piece first v rest (pair a b c d high e f g h low first_is is_high seco
 
 -- ---- the text of a content
 
--- Where a text is found behind a character's bytes, both texts make up the whole.
+-- Where a text is found after a character's bytes, both texts make up the whole.
 option_map-Some : (front text : List ℕ) (o : Option (List ℕ)) → option_map (λ t. front ++ t) o ≡ Some text →
     (t : List ℕ) × (o ≡ Some t) × (text ≡ front ++ t)
 option_map-Some front text None e = cc
 option_map-Some front text (Some t) e = (t, refl, cc)
 
--- A text of what stands behind the piece at the front, with the piece's character.
+-- A text of what stands after the piece at the start, with the piece's character.
 decodes-step : (b c n k : ℕ) (bytes rest text : List ℕ) → Fronts (b ∷ bytes) c n → k ≡ n - 1 →
     Decodes (drop k bytes) rest → text ≡ encode_utf8 c ++ rest → Decodes (b ∷ bytes) text
 decodes-step b c zero k bytes rest text fronts is others e = absurd (omega (arith, fronts.some))
@@ -198,12 +198,12 @@ decodes-step b c (suc n) k bytes rest text fronts is others e =
     let whole = sym (take-append-drop (suc n) (b ∷ bytes)) in
     piece (take (suc n) (b ∷ bytes)) (drop n bytes) (b ∷ bytes) c rest text fronts.is_piece behind whole e
 
--- the text of some bytes whose first is followed by these, where the piece at the front is known
+-- the text of some bytes whose first is followed by these, where the piece at the start is known
 abbrev pub decoded_by : List ℕ → Option (ℕ × ℕ) → Option (List ℕ)
 decoded_by bytes o =
     elim o [ None ↦ None | Some p ↦ option_map (λ text. encode_utf8 p.0 ++ text) (decoded_past (p.1 - 1) bytes) ]
 
--- What is computed with the piece at the front is a text, if what is computed behind it is.
+-- What is computed with the piece at the start is a text, if what is computed after it is.
 decodes_by : (b : ℕ) (bytes text : List ℕ) (o : Option (ℕ × ℕ)) → piece_at (b ∷ bytes) ≡ o →
     ((k : ℕ) (rest : List ℕ) → decoded_past k bytes ≡ Some rest → Decodes (drop k bytes) rest) →
     decoded_by bytes o ≡ Some text → Decodes (b ∷ bytes) text
@@ -213,7 +213,7 @@ decodes_by b bytes text (Some p) is later e =
     decodes-step b p.0 p.1 (p.1 - 1) bytes w.0 text (piece_at-fronts (b ∷ bytes) p.0 p.1 is) refl
     (later (p.1 - 1) w.0 w.1) w.2
 
--- What is computed behind some bytes is a text of what stands there.
+-- What is computed after some bytes is a text of what stands there.
 decodes_past : (bytes : List ℕ) (inside : ℕ) (text : List ℕ) → decoded_past inside bytes ≡ Some text →
     Decodes (drop inside bytes) text
 unfolding decoded_past
@@ -226,7 +226,7 @@ decodes_past (b ∷ bytes) zero text e = decodes_by b bytes text (piece_at (b �
 pub decodes-decoded : (content text : List ℕ) → decoded content ≡ Some text → Decodes content text
 decodes-decoded content text e = decodes_past content 0 text e
 
--- Behind its first bytes a content is decoded like what stands there.
+-- After its first bytes a content is decoded like what stands there.
 decoded_past-append : (front others : List ℕ) → decoded_past (length front) (front ++ others) ≡ decoded others
 unfolding decoded_past
 decoded_past-append [] others = refl

@@ -1,4 +1,4 @@
--- What is found at a backslash goes by the bytes behind it (specs/Decode.antt): the steps of a reader of escapes.
+-- What is found at a backslash goes by the bytes after it (specs/Decode.antt): the steps of a reader of escapes.
 use Rattle.std.proofs.Common.{◌≡◌, ◌≢◌, ℕ, ◌+◌, ◌<◌, ◌≤◌, true, false, List, [], ◌∷◌, length, drop, get_or, slice_get, Option, Some, None, refl, arith}
 use Rattle.std.specs.Char.{InScalarRange, OutOfScalarRange}
 use Rattle.std.proofs.lemmas.Bool.{ne_eqb}
@@ -24,7 +24,7 @@ piece_at-short (s ∷ t ∷ l) b h e ne =
     let same : t ≡ b = cc in
     rw (is, same) (escape_at-short_of b l (short_escape b) refl (ne_eqb b lower_u ne))
 
--- Nothing is found at a backslash and `u` with fewer than four bytes behind them.
+-- Nothing is found at a backslash and `u` with fewer than four bytes after them.
 pub piece_at-cut : (l : List ℕ) → slice_get l 0 ≡ Some backslash → slice_get l 1 ≡ Some lower_u → length l < 6 →
     piece_at l ≡ None
 unfolding piece_at escape_at unit_at
@@ -41,7 +41,7 @@ piece_at-cut (s ∷ t ∷ a ∷ b ∷ c ∷ d ∷ l) h e short = absurd (omega a
 abbrev pub unit_from : List ℕ → ℕ → Option ℕ
 unit_from l from = code_unit (get_or l from 0) (get_or l (from + 1) 0) (get_or l (from + 2) 0) (get_or l (from + 3) 0)
 
--- A backslash and `u` are found by the number of the four digits behind them.
+-- A backslash and `u` are found by the number of the four digits after them.
 pub piece_at-unit : (l : List ℕ) (o : Option ℕ) → slice_get l 0 ≡ Some backslash → slice_get l 1 ≡ Some lower_u →
     6 ≤ length l → unit_from l 2 ≡ o → piece_at l ≡ unit_of (drop 6 l) o
 piece_at-unit [] o h e long is = cc
@@ -66,7 +66,7 @@ pub unit_of-low : (bytes : List ℕ) (u : ℕ) → is_high_surrogate u ≡ false
 unit_of-low bytes u high small out =
     let low : is_low_surrogate u ≡ true = grind (arith, nat_tests) in rw (high, low) refl
 
--- The first half of a pair is found by what stands behind it.
+-- The first half of a pair is found by what stands after it.
 pub unit_of-high : (bytes : List ℕ) (u : ℕ) → is_high_surrogate u ≡ true → unit_of bytes (Some u) ≡ low_at u bytes
 unit_of-high bytes u high = rw high refl
 

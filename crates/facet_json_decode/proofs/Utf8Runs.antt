@@ -1,4 +1,4 @@
--- Where a content is UTF-8, so is each run of it, and what stands behind each piece.
+-- Where a content is UTF-8, so is each run of it, and what stands after each piece.
 use Rattle.std.proofs.Common.{◌≡◌, ℕ, ◌+◌, ◌-◌, ◌<◌, ◌≤◌, ◌⊎◌, inl, inr, Bool, true, false, ◌&&◌, List, [], ◌∷◌, length, take, drop, get_or, Some, refl, ap, ◌∙◌, arith}
 use Rattle.std.specs.Prelude.{IsUtf8, slice_range}
 use Rattle.std.proofs.lemmas.Bool.{cases_lt, and_parts}
@@ -13,7 +13,7 @@ use Rattle.facet_json_decode.proofs.DecodeLaws.{piece_at-fronts}
 use Rattle.facet_json_decode.proofs.DecodeSteps.{range-drop}
 use Rattle.facet_json_decode.proofs.EscapeSteps.{short_of-none}
 
--- An ASCII byte in front of text.
+-- An ASCII byte before text.
 ascii-cons : (b : ℕ) (l : List ℕ) → b < 128 → IsUtf8 l → IsUtf8 (b ∷ l)
 ascii-cons b l small is =
     let one = encode_ascii b small in
@@ -32,7 +32,7 @@ short-ascii b c is = by (cases_lt b 128)
 hex-ascii : (b : ℕ) → is_hex b ≡ true → b < 128
 hex-ascii b h = grind (arith, nat_tests)
 
--- Four hexadecimal digits in front of text.
+-- Four hexadecimal digits before text.
 unit-cons : (a b c d u : ℕ) (l : List ℕ) → code_unit a b c d ≡ Some u → IsUtf8 l → IsUtf8 (a ∷ b ∷ c ∷ d ∷ l)
 unfolding code_unit
 unit-cons a b c d u l e is = by (is_hex a && is_hex b && is_hex c && is_hex d) refl
@@ -60,7 +60,7 @@ piece-IsUtf8 _ v (pair a b c d high e f g h low is is_high same is_low) =
     let second = ascii-cons backslash _ (omega arith) (ascii-cons lower_u _ (omega arith) last) in
     ascii-cons backslash _ (omega arith) (ascii-cons lower_u _ (omega arith) (unit-cons a b c d high _ is second))
 
--- What stands behind a piece of a text is text.
+-- What stands after a piece of a text is text.
 pub found-IsUtf8 : (buf : List ℕ) (stop end c n : ℕ) → stop + n ≤ end →
     piece_at (slice_range buf stop end) ≡ Some (c, n) → IsUtf8 (slice_range buf stop end) →
     IsUtf8 (slice_range buf (stop + n) end)

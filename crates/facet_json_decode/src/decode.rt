@@ -11,9 +11,9 @@ ghost use Rattle.facet_json_decode.specs.Views.{has_backslash, IsItsText, IsWith
 mod escape;
 mod unchecked;
 
-use facet_json_token::{ScanError, ScanErrorKind};
 use escape::escape_at;
 use facet_format::Span;
+use facet_json_token::{ScanError, ScanErrorKind};
 use std::alloc::{AllocError, Global};
 use std::borrow::CowStr;
 use std::str;
@@ -71,11 +71,40 @@ pub fn decode_string_owned(
     ensures only { (text : List ℕ) → decoded (slice_range buf.now start end) ≡ Some text
         → MatchResult result (λ s. string_bytes s ≡ text) (λ e. e ≡ DecodeError.OutOfMemory) }
 {
+    decode_runs(alloc, buf, start, end, Trust::Nothing)
+}
+
+/// What is known of a content's bytes.
+#[derive(Clone, Copy)]
+enum Trust {
+    /// Nothing: each run is checked.
+    Nothing,
+    /// They are UTF-8.
+    Utf8,
+}
+
+/// Decodes a content run by run, for `decode_string_owned` and its unchecked form.
+fn decode_runs(
+    alloc: Global,
+    buf: &[u8],
+    start: usize,
+    end: usize,
+    trust: Trust,
+) -> Result<String, DecodeError>
+    requires in_order { start ≤ end }
+    requires in_range { end ≤ length buf.now }
+    requires utf8 { trust ≡ Trust.Utf8 → IsUtf8 (slice_range buf.now start end) }
+    ensures text { IfOk result (λ s. decoded (slice_range buf.now start end) ≡ Some (string_bytes s)) }
+    ensures decodes { IfOk result (λ s. Decodes (slice_range buf.now start end) (string_bytes s)) }
+    ensures refused { IfErr result (λ e. RefusesContent buf.now start end e) }
+    ensures only { (text : List ℕ) → decoded (slice_range buf.now start end) ≡ Some text
+        → MatchResult result (λ s. string_bytes s ≡ text) (λ e. e ≡ DecodeError.OutOfMemory) }
+{
     let mut text = String::with_capacity(alloc, end - start)?;
     let mut at = start;
     loop {
         let stop = run_end(buf, at, end);
-        text.push_str(run_at(buf, at, stop)?)?;
+        text.push_str(run_text(buf, at, stop, trust)?)?;
         if stop == end {
             return Ok(text);
         }
@@ -147,6 +176,22 @@ fn run_at(buf: &[u8], at: usize, stop: usize) -> Result<&str, ScanError>
     }
 }
 
+/// The text of a run, whose bytes are checked where nothing is known of them.
+fn run_text(buf: &[u8], at: usize, stop: usize, trust: Trust) -> Result<&str, ScanError>
+    requires in_order { at ≤ stop }
+    requires in_range { stop ≤ length buf.now }
+    requires utf8 { trust ≡ Trust.Utf8 → IsUtf8 (slice_range buf.now at stop) }
+    ensures text { IfOk result (λ s. (s.now ≡ slice_range buf.now at stop) × IsUtf8 (slice_range buf.now at stop)) }
+    ensures none { IfErr result (λ _. IsUtf8 (slice_range buf.now at stop) → ⊥) }
+    ensures within { IfErr result (λ e. IsWithin at stop e.span) }
+{
+    match trust {
+        Trust::Nothing => run_at(buf, at, stop),
+        // The requirement is what the call needs.
+        Trust::Utf8 => Ok(unsafe { str::from_utf8_unchecked(&buf[at..stop]) }),
+    }
+}
+
 /// The content of a string that stands in `buf[start..end]`, where that is its text: where no backslash stands in it,
 /// and its bytes are UTF-8.
 pub fn decode_string_borrowed(buf: &[u8], start: usize, end: usize) -> Option<&str>
@@ -156,10 +201,22 @@ pub fn decode_string_borrowed(buf: &[u8], start: usize, end: usize) -> Option<&s
         (λ s. (s.now ≡ slice_range buf.now start end) × IsItsText (slice_range buf.now start end)) }
     ensures text { IfSome result (λ s. decoded (slice_range buf.now start end) ≡ Some s.now) }
 {
+    borrowed_run(buf, start, end, Trust::Nothing)
+}
+
+/// The content of a string where it is one run of text, for `decode_string_borrowed` and its unchecked form.
+fn borrowed_run(buf: &[u8], start: usize, end: usize, trust: Trust) -> Option<&str>
+    requires in_order { start ≤ end }
+    requires in_range { end ≤ length buf.now }
+    requires utf8 { trust ≡ Trust.Utf8 → IsUtf8 (slice_range buf.now start end) }
+    ensures borrowed { MatchOption result (IsItsText (slice_range buf.now start end) → ⊥)
+        (λ s. (s.now ≡ slice_range buf.now start end) × IsItsText (slice_range buf.now start end)) }
+    ensures text { IfSome result (λ s. decoded (slice_range buf.now start end) ≡ Some s.now) }
+{
     if run_end(buf, start, end) < end {
         return None;
     }
-    run_at(buf, start, end).ok()
+    run_text(buf, start, end, trust).ok()
 }
 
 /// Decodes the content of a string that stands in `buf[start..end]`: into a text of its own where `has_escapes` says

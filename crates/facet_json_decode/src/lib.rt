@@ -1,5 +1,4 @@
-//! The contents of JSON strings (RFC 8259, section 7) to their texts: `decode_string` and its kin, and
-//! `check_string`, which does not allocate.
+//! The contents of JSON strings (RFC 8259, section 7) to their texts.
 #![tactic(auto)]
 
 mod decode;

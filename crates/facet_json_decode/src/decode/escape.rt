@@ -7,8 +7,8 @@ ghost use Rattle.facet_format.specs.Bytes.{backslash, lower_u};
 ghost use Rattle.facet_json_decode.specs.Decode.{piece_at, short_of, short_escape as short_escape_of, code_unit as code_unit_of, is_high_surrogate as is_high_surrogate_of, is_low_surrogate as is_low_surrogate_of, low_at};
 ghost use Rattle.facet_json_decode.specs.Views.{IsWithin};
 
-use facet_json_token::{ScanError, ScanErrorKind};
 use facet_format::Span;
+use facet_json_token::{ScanError, ScanErrorKind};
 
 /// What an escape stands for.
 #[derive(Clone, Copy)]
@@ -24,6 +24,7 @@ pub(crate) fn escape_at(rest: &[u8], at: usize) -> Result<Escape, ScanError>
     requires backslash { slice_get rest.now 0 ≡ Some backslash }
     requires fits { at + length rest.now < 2 ^ 64 }
     ensures found { IfOk result (λ e. piece_at rest.now ≡ Some (e.character, e.len)) }
+    ensures len { IfOk result (λ e. (0 < e.len) × (e.len ≤ length rest.now)) }
     ensures none { IfErr result (λ _. piece_at rest.now ≡ None) }
     ensures within { IfErr result (λ e. IsWithin at (at + length rest.now) e.span) }
 {
@@ -41,6 +42,7 @@ pub(crate) fn escape_at(rest: &[u8], at: usize) -> Result<Escape, ScanError>
 fn short_at(byte: u8, at: usize) -> Result<Escape, ScanError>
     requires fits { at + 2 < 2 ^ 64 }
     ensures found { IfOk result (λ e. short_of byte (short_escape_of byte) ≡ Some (e.character, e.len)) }
+    ensures len { IfOk result (λ e. e.len ≡ 2) }
     ensures none { IfErr result (λ _. short_of byte (short_escape_of byte) ≡ None) }
     ensures within { IfErr result (λ e. IsWithin at (at + 2) e.span) }
 {
@@ -76,6 +78,7 @@ fn unit_at(rest: &[u8], at: usize) -> Result<Escape, ScanError>
     requires letter { slice_get rest.now 1 ≡ Some lower_u }
     requires fits { at + length rest.now < 2 ^ 64 }
     ensures found { IfOk result (λ e. piece_at rest.now ≡ Some (e.character, e.len)) }
+    ensures len { IfOk result (λ e. (0 < e.len) × (e.len ≤ length rest.now)) }
     ensures none { IfErr result (λ _. piece_at rest.now ≡ None) }
     ensures within { IfErr result (λ e. IsWithin at (at + length rest.now) e.span) }
 {
@@ -101,6 +104,7 @@ fn pair_at(rest: &[u8], at: usize, high: u32) -> Result<Escape, ScanError>
     requires high { is_high_surrogate_of high ≡ true }
     requires fits { at + length rest.now < 2 ^ 64 }
     ensures found { IfOk result (λ e. low_at high (drop 6 rest.now) ≡ Some (e.character, e.len)) }
+    ensures len { IfOk result (λ e. (0 < e.len) × (e.len ≤ length rest.now)) }
     ensures none { IfErr result (λ _. low_at high (drop 6 rest.now) ≡ None) }
     ensures within { IfErr result (λ e. IsWithin at (at + length rest.now) e.span) }
 {

@@ -5,11 +5,9 @@ ghost use Rattle.std.specs.Cow.{cow_str_bytes, IsOwnedStr, IsBorrowedStr};
 ghost use Rattle.facet_json_decode.specs.Decode.{decoded, Decodes};
 ghost use Rattle.facet_json_decode.specs.Views.{IsItsText, RefusesContent, whole_refused};
 
-use super::escape::escape_at;
-use super::{DecodeError, run_end, whole_refusal};
+use super::{DecodeError, Trust, borrowed_run, decode_runs, whole_refusal};
 use std::alloc::Global;
 use std::borrow::CowStr;
-use std::str;
 
 /// As `decode_string_owned`, for a content in UTF-8.
 pub fn decode_string_owned_unchecked(
@@ -27,29 +25,7 @@ pub fn decode_string_owned_unchecked(
     ensures only { (text : List ℕ) → decoded (slice_range buf.now start end) ≡ Some text
         → MatchResult result (λ s. string_bytes s ≡ text) (λ e. e ≡ DecodeError.OutOfMemory) }
 {
-    let mut text = String::with_capacity(alloc, end - start)?;
-    let mut at = start;
-    loop {
-        let stop = run_end(buf, at, end);
-        text.push_str(text_at(buf, at, stop))?;
-        if stop == end {
-            return Ok(text);
-        }
-        let escape = escape_at(&buf[stop..end], stop)?;
-        text.push(escape.character)?;
-        at = stop + escape.len;
-    }
-}
-
-/// The bytes of a range in UTF-8 as text.
-fn text_at(buf: &[u8], at: usize, stop: usize) -> &str
-    requires in_order { at ≤ stop }
-    requires in_range { stop ≤ length buf.now }
-    requires utf8 { IsUtf8 (slice_range buf.now at stop) }
-    ensures { result.now ≡ slice_range buf.now at stop }
-{
-    // The requirement is what the call needs.
-    unsafe { str::from_utf8_unchecked(&buf[at..stop]) }
+    decode_runs(alloc, buf, start, end, Trust::Utf8)
 }
 
 /// As `decode_string_borrowed`, for a content in UTF-8.
@@ -61,10 +37,7 @@ pub fn decode_string_borrowed_unchecked(buf: &[u8], start: usize, end: usize) ->
         (λ s. (s.now ≡ slice_range buf.now start end) × IsItsText (slice_range buf.now start end)) }
     ensures text { IfSome result (λ s. decoded (slice_range buf.now start end) ≡ Some s.now) }
 {
-    if run_end(buf, start, end) < end {
-        return None;
-    }
-    Some(text_at(buf, start, end))
+    borrowed_run(buf, start, end, Trust::Utf8)
 }
 
 /// As `decode_string`, for a content in UTF-8.

@@ -1,8 +1,8 @@
--- Some text stands in front of the text of what is left.
+-- Some text stands before the text of what is left.
 use Rattle.std.proofs.Common.{◌≡◌, ◌-◌, ◌≤◌, ℕ, List}
 use Rattle.std.specs.Prelude.{slice_range}
 use Rattle.facet_json_decode.specs.Decode.{decoded}
-use Rattle.facet_json_decode.proofs.DecodeSteps.{behind}
+use Rattle.facet_json_decode.proofs.PlainText.{behind}
 use Rattle.facet_json_decode.proofs.decode.check_string.Given as goal
 
 abbrev pub invariant-loop-found : goal.invariant-loop-found

@@ -5,7 +5,7 @@ use Rattle.facet_json_token.specs.declared.token.ScanError.{ScanError}
 use Rattle.facet_json_decode.specs.Decode.{decoded}
 use Rattle.facet_json_decode.proofs.PlainText.{IsPlain, decoded-plain}
 use Rattle.facet_json_decode.proofs.DecodeSteps.{backslash-inside}
-use Rattle.facet_json_decode.proofs.decode.decode_string_borrowed.Goals as goal
+use Rattle.facet_json_decode.proofs.decode.borrowed_run.Goals as goal
 
 pub returns-then-run_end-end-clause-borrowed : goal.returns-then-run_end-end-clause-borrowed
 returns-then-run_end-end-clause-borrowed c =
@@ -24,5 +24,5 @@ returns-clause-text c =
     let whole : c.run_end.result ≡ c.args.end = omega (arith, c.run_end.ensures.within) in
     let plain = rw whole at c.run_end.ensures.plain in
     let content = slice_range c.args.buf.now c.args.start c.args.end in
-    let own = own-text content c.run_at.result plain c.run_at.ensures.text in
+    let own = own-text content c.run_text.result plain c.run_text.ensures.text in
     rw c.ok.ensures.value own
