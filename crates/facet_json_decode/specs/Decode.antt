@@ -61,11 +61,11 @@ abbrev pub continued : ℕ → List ℕ → ℕ
 continued n [] = n
 continued n (b ∷ bytes) = continued (n * 64 + (b - 128)) bytes
 
--- a character, where its UTF-8 is the front of the bytes, with the number of its bytes
+-- a character, where its UTF-8 is the prefix of the bytes, with the number of its bytes
 abbrev pub if_encoded : ℕ → ℕ → List ℕ → Option (ℕ × ℕ)
 if_encoded c n bytes = cond (scalar c && bytes_eq (encode_utf8 c) (take n bytes)) (Some (c, n)) None
 
--- the character whose UTF-8 stands at the front, with the number of its bytes
+-- the character whose UTF-8 stands at the start, with the number of its bytes
 unfoldable pub utf8_at : List ℕ → Option (ℕ × ℕ)
 utf8_at [] = None
 utf8_at (b ∷ bytes) = if_encoded (continued (lead_bits b) (take (continuation_len b) bytes)) (suc (continuation_len b)) (b ∷ bytes)
@@ -97,12 +97,12 @@ unfoldable pub escape_at : List ℕ → Option (ℕ × ℕ)
 escape_at [] = None
 escape_at (b ∷ bytes) = cond (b == lower_u) (unit_at bytes) (short_of b (short_escape b))
 
--- the character of the piece at the front, with the number of the piece's bytes
+-- the character of the piece at the start, with the number of the piece's bytes
 unfoldable pub piece_at : List ℕ → Option (ℕ × ℕ)
 piece_at [] = None
 piece_at (b ∷ bytes) = cond (b == backslash) (escape_at bytes) (utf8_at (b ∷ bytes))
 
--- the text of what stands behind the next `inside` bytes, which belong to the piece before
+-- the text of what stands after the next `inside` bytes, which belong to the piece before
 unfoldable pub decoded_past : ℕ → List ℕ → Option (List ℕ)
 decoded_past inside [] = elim inside [ zero ↦ Some [] | suc n ↦ None ]
 decoded_past (suc inside) (b ∷ bytes) = decoded_past inside bytes

@@ -47,7 +47,7 @@ impl From<AllocError> for DecodeError {
 }
 
 /// Decodes the content of a string (RFC 8259, section 7) that stands in `buf[start..end]`, between its quotes. A
-/// backslash in front of an ASCII character without an escape is passed over. A refusal is about the first thing from
+/// backslash before an ASCII character without an escape is passed over. A refusal is about the first thing from
 /// the left that has no text, with offsets of `buf`; it takes room for `end - start` bytes at once.
 ///
 /// ```text
@@ -115,7 +115,7 @@ fn decode_runs(
 }
 
 /// Whether the content of a string that stands in `buf[start..end]` has a text: the refusal of `decode_string_owned`
-/// where it has none. Takes no memory.
+/// where it has none. Does not allocate.
 ///
 /// ```text
 /// check_string(br"caf\u00e9\n", 0, 11)   Ok

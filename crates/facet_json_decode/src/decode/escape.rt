@@ -1,4 +1,4 @@
-//! Escapes of a string (RFC 8259, section 7): what a backslash and the bytes behind it stand for.
+//! Escapes of a string (RFC 8259, section 7): what a backslash and the bytes after it stand for.
 
 ghost use Rattle.std.specs.Prelude.{◌≡◌, ◌+◌, ◌*◌, ◌^◌, ◌≤◌, ◌<◌, Some, None, true, length, drop, slice_get, slice_index, IfOk, IfErr, IfSome};
 ghost use Rattle.std.specs.Char.{digit_value};
@@ -72,7 +72,7 @@ fn short_escape(byte: u8) -> u8
     }
 }
 
-/// The escape at `at` of a backslash, `u` and what is behind them.
+/// The escape at `at` of a backslash, `u` and what is after them.
 fn unit_at(rest: &[u8], at: usize) -> Result<Escape, ScanError>
     requires backslash { slice_get rest.now 0 ≡ Some backslash }
     requires letter { slice_get rest.now 1 ≡ Some lower_u }
@@ -98,7 +98,7 @@ fn unit_at(rest: &[u8], at: usize) -> Result<Escape, ScanError>
     }
 }
 
-/// The escape at `at` of a high surrogate, and what is behind its first six bytes.
+/// The escape at `at` of a high surrogate, and what is after its first six bytes.
 fn pair_at(rest: &[u8], at: usize, high: u32) -> Result<Escape, ScanError>
     requires in_range { 6 ≤ length rest.now }
     requires high { is_high_surrogate_of high ≡ true }

@@ -11,13 +11,8 @@ use Rattle.facet_json_document.specs.Quoted.{quoted}
 use Rattle.facet_json_document.specs.Text.{default_options, text}
 use Rattle.facet_json.specs.Views.{tree_view}
 use Rattle.facet_json_command.proofs.lines.quoted.Goals as goal
-
-tree_view-Text : (s : String Global) → tree_view (code.Text s) ≡ tree.text (string_bytes s)
-tree_view-Text s = search (rules, the_lemmas)
-
-cow_bytes : {A : Type 0} (t : CowStr A) → cow_str_bytes t ≡ bytes_of (text_of t)
-cow_bytes (cow.Borrowed t) = refl
-cow_bytes (cow.Owned t) = refl
+use Rattle.facet_json.proofs.TreeViews.{tree_view-Text}
+use Rattle.facet_json.proofs.MembersRead.{held-bytes}
 
 -- the text of a tree that is a text
 text_quoted : (bytes : List ℕ) → text default_options 0 (tree.text bytes) ≡ quoted bytes
@@ -27,4 +22,4 @@ text_quoted bytes = refl
 pub returns-in-Ok-to_vec-clause-text : goal.returns-in-Ok-to_vec-clause-text
 returns-in-Ok-to_vec-clause-text c =
     c.in-Ok-to_vec.ensures ∙ ap (text default_options 0) (tree_view-Text c.in-Ok.text) ∙ text_quoted _
-    ∙ ap quoted (c.in-Ok.ensures.ok ∙ cow_bytes c.args.text)
+    ∙ ap quoted (c.in-Ok.ensures.ok ∙ held-bytes c.args.text)

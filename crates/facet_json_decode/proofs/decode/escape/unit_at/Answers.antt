@@ -1,4 +1,4 @@
--- What the four bytes behind a backslash and `u` stand for.
+-- What the four bytes after a backslash and `u` stand for.
 use Rattle.std.proofs.Common.{◌≡◌, drop, Some, None, true, false, sym, ap, ◌∙◌}
 use Rattle.std.proofs.lemmas.Result.{err_from_is_err_and}
 use Rattle.facet_json_decode.specs.Decode.{piece_at, is_high_surrogate, low_at}
