@@ -14,7 +14,7 @@ pub fn object_comes(parser: &mut JsonParser<'_>) -> Result<bool, ParseError<'sta
     }
 }
 
-/// What a parser of the input answers to a look, two events and a question for its place.
+/// What a parser of the input returns for a look ahead, two events and its current span.
 pub fn answers<'a>(alloc: Global, input: &'a [u8]) -> Result<Vec<Answer<'a>>, AllocError> {
     let mut parser = JsonParser::new(alloc, input);
     drive(

@@ -25,7 +25,7 @@ pub fn tokens_in(input: &[u8]) -> Result<usize, ScanError> {
     Ok(input.len())
 }
 
-/// The text of the string at the start of the input, borrowed where no escape stands in it.
+/// The text of the string that the input begins with, borrowed where no escape stands in it.
 pub fn first_text<'a>(alloc: Global, input: &'a [u8]) -> Result<Option<CowStr<'a>>, DecodeError> {
     match Scanner::new().next_token(input)?.token {
         Token::String {
@@ -37,7 +37,7 @@ pub fn first_text<'a>(alloc: Global, input: &'a [u8]) -> Result<Option<CowStr<'a
     }
 }
 
-/// The number at the start of the input, after which something else stands.
+/// The number that the input begins with, where something follows that ends it.
 pub fn first_number<'a>(input: &'a [u8]) -> Result<Option<ParsedNumber<'a>>, ScanError> {
     match Scanner::new().next_token(input)?.token {
         Token::Number { start, end, hint } => Ok(Some(parse_number(input, start, end, hint)?)),
