@@ -4,7 +4,7 @@ ghost use Rattle.std.specs.Prelude.{◌≡◌, IfOk};
 ghost use Rattle.facet_json.specs.Document.{IsDocument};
 ghost use Rattle.facet_json.specs.Gap.{plain};
 ghost use Rattle.facet_json.specs.Node.{Node};
-ghost use Rattle.facet_json_document.specs.Text.{default_options, text};
+ghost use Rattle.facet_json.specs.Text.{default_options, text};
 ghost use Rattle.facet_json.specs.Tree.{Tree};
 
 use facet_json::{DeserializeError, JsonSerializeError, from_slice, to_vec};

@@ -1,4 +1,4 @@
-use Rattle.facet_json_protocol.specs.Now.{ahead}
+use Rattle.facet_json_core.specs.Now.{ahead}
 use Rattle.facet_json_core_tests.proofs.readers.has_odd_events.Given as goal
 
 abbrev pub decreases-loop-event : goal.decreases-loop-event
