@@ -16,8 +16,9 @@ ghost use Rattle.facet_json.specs.Inner.Reading.{first_then, GaveNext, GivesNone
 ghost use Rattle.facet_json.specs.Views.{tree_view, trees_view, pairs_view};
 
 use crate::tree::Tree;
-use facet_format::{FormatParser, 
-    Decimal, DeserializeError, DeserializeErrorKind, ParseEvent, ParseEventKind, ScalarValue, Span,
+use facet_format::{
+    Decimal, DeserializeError, DeserializeErrorKind, FormatParser, ParseEvent, ParseEventKind,
+    ScalarValue, Span,
 };
 use facet_json_core::JsonParser;
 use std::alloc::Global;

@@ -117,7 +117,10 @@ fn write_batch<W: Write>(
 }
 
 /// Writes the line of how many events were given out, or of the refusal after them.
-fn write_count<W: Write>(writer: &mut W, count: Result<usize, ParseError<'_>>) -> Result<(), Outcome>
+fn write_count<W: Write>(
+    writer: &mut W,
+    count: Result<usize, ParseError<'_>>,
+) -> Result<(), Outcome>
     ensures { Prints (W.contents writer.old) (W.contents writer.new) (count_line (count_of count.entry)) result }
 {
     match count {

@@ -6,11 +6,8 @@ pub use facet_json_document::laws::{
     spelled_is_spells, whole_document_is_found,
 };
 pub use facet_json_prefix::laws::{
-    begun_is_front, behind_is_refused, front_gives_walk, front_is_begun,
-};
-pub use facet_json_prefix::laws::{
-    begun_is_prefix, input_comes, one_given, prefix_gives_walk, prefix_is_begun,
-    refused_after_prefix,
+    begun_is_front, begun_is_prefix, behind_is_refused, front_gives_walk, front_is_begun,
+    input_comes, one_given, prefix_gives_walk, prefix_is_begun, refused_after_prefix,
 };
 pub use facet_json_protocol::laws::{
     alone_is_given, ends_in_time, move_is_step, new_stands, numbers_are_new, peek_is_next,

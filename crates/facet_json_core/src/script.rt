@@ -10,8 +10,8 @@ ghost use Rattle.facet_json_protocol.specs.Move.{Moves, MovesAll};
 ghost use Rattle.facet_json_protocol.specs.Sound.{AnswerWithin};
 ghost use Rattle.facet_json_core.specs.ScriptViews.{call_of, answer_of};
 
-use facet_json_parser::JsonParser;
 use facet_format::{FormatParser, ParseError, ParseEvent, SavePoint, Span};
+use facet_json_parser::JsonParser;
 use std::alloc::{AllocError, Global};
 use std::collections::VecDeque;
 

@@ -16,9 +16,9 @@ ghost use Rattle.facet_json_standing.specs.Fill.{FillsParser, GivesOne};
 ghost use Rattle.std.specs.Option.{option_map};
 ghost use Rattle.std.specs.VecDeque.{deque_len, deque_capacity};
 
+use facet_format::{FormatParser, ParseError, ParseEvent, SavePoint, Span};
 use facet_json_place::Refused;
 use facet_json_standing::{Point, Standing, bring_back, keep};
-use facet_format::{FormatParser, ParseError, ParseEvent, SavePoint, Span};
 use facet_json_token::Mode;
 use std::alloc::Global;
 use std::collections::VecDeque;

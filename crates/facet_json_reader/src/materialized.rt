@@ -13,10 +13,10 @@ ghost use Rattle.facet_json_document.specs.Walk.{scalar_of};
 ghost use Rattle.facet_json_place.specs.Views.{refused_of, name_text};
 ghost use Rattle.facet_json_reader.specs.TokenViews.{number_in, holds_made, CanBeRead, IsContent, IsReadAs, IsRead, IsTextOf, IsUnmade, IsMeaningless};
 
-use facet_json_place::{Name, Refused, Why};
 use facet_format::{Decimal, ScalarValue, Span};
 use facet_json_decode::{DecodeError, check_string, decode_string_borrowed, decode_string_owned};
 use facet_json_number::{ParsedNumber, parse_number};
+use facet_json_place::{Name, Refused, Why};
 use facet_json_token::{SpannedToken, Token};
 use std::alloc::{AllocError, Global};
 use std::borrow::CowStr;

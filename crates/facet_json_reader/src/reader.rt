@@ -14,10 +14,10 @@ ghost use Rattle.facet_json_reader.specs.TokenViews.{CanBeRead, IsMeaningless};
 ghost use Rattle.facet_json_reader.specs.Views.{stage_of, passed_of, StopsAt, IsNamed, IsTurn, IsValueOf, IsNameOf, IsColonAt, GivesHeld, Answers, Advances};
 
 use crate::materialized::{materialize, string_text};
-use facet_json_place::{Contexts, Expected, Name, Place, Refused, Turn, Why};
 use facet_format::{
     ContainerKind, FieldKey, FieldLocationHint, ParseEvent, ParseEventKind, ScalarValue, Span,
 };
+use facet_json_place::{Contexts, Expected, Name, Place, Refused, Turn, Why};
 use facet_json_token::{Mode, SpannedToken, Token, cut};
 use std::alloc::{AllocError, Global};
 use std::borrow::CowStr;

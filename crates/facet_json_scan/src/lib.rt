@@ -13,6 +13,4 @@ pub use facet_json_decode::{
 };
 pub use facet_json_number::{ParsedNumber, parse_number, parse_number_unchecked};
 pub use facet_json_scanner::Scanner;
-pub use facet_json_token::{
-    Mode, ScanError, ScanErrorKind, ScanResult, SpannedToken, Token, cut,
-};
+pub use facet_json_token::{Mode, ScanError, ScanErrorKind, ScanResult, SpannedToken, Token, cut};

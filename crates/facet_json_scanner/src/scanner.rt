@@ -14,13 +14,11 @@ mod gap;
 mod pending;
 mod token;
 
-use facet_json_token::Mode;
-use facet_json_token::cut;
 use crate::scanner::gap::{Piece, block_from, line_from};
 use crate::scanner::pending::{Pending, State};
 use crate::scanner::token::{Found, number_from, scan_from, text_from};
-use facet_json_token::{ScanResult, SpannedToken, Token};
 use facet_format::Span;
+use facet_json_token::{Mode, ScanResult, SpannedToken, Token, cut};
 use std::marker::Model;
 
 /// Cuts tokens off a buffer that grows.

@@ -9,9 +9,9 @@ ghost use Rattle.facet_json_standing.specs.Fill.{Fills, Takes, Lends, Withholds}
 ghost use Rattle.facet_json_place.specs.Views.{refused_of};
 ghost use Rattle.facet_json_standing.specs.Views.{standing_of};
 
-use facet_json_reader::{Held, Reader};
-use facet_json_place::Refused;
 use facet_format::{ParseEvent, Span};
+use facet_json_place::Refused;
+use facet_json_reader::{Held, Reader};
 use facet_json_token::Mode;
 use std::alloc::{AllocError, Global};
 

@@ -8,9 +8,9 @@ ghost use Rattle.facet_json_scanner.specs.Scanner.{in_line, in_block, Describes}
 ghost use Rattle.facet_json_token.specs.Views.{mode_of};
 ghost use Rattle.facet_json_scanner.specs.Views.{PieceHere, PieceWithin};
 
+use crate::scanner::pending::State;
 use facet_json_token::Mode;
 use facet_json_token::plain_cut::line_end;
-use crate::scanner::pending::State;
 
 /// What of a gap stands at a place.
 #[derive(Drop)]

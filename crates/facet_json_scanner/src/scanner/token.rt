@@ -13,12 +13,11 @@ ghost use Rattle.facet_format.specs.Number.{parts, parts_len, parts_hint, is_bar
 ghost use Rattle.facet_json_token.specs.Views.{mode_of, kind_of, scanned};
 ghost use Rattle.facet_json_scanner.specs.Views.{part_of, answered, span_answered, IndicesWithin, FoundHere, FoundFrom, FoundWithin};
 
-use facet_json_token::Mode;
-use facet_json_token::plain_cut::{common_len, cut_bare_minus, cut_token, cut_word, token_at};
 use crate::scanner::gap::{Piece, piece_from};
 use crate::scanner::pending::{Part, State};
-use facet_json_token::{ScanResult, SpannedToken, Token};
 use facet_format::Span;
+use facet_json_token::plain_cut::{common_len, cut_bare_minus, cut_token, cut_word, token_at};
+use facet_json_token::{Mode, ScanResult, SpannedToken, Token};
 
 /// What stands at a place.
 #[derive(Drop)]

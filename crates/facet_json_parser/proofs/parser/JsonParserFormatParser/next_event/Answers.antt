@@ -17,7 +17,10 @@ pub returns : goal.returns
 returns c =
     let known = c.in_ok-fill.ensures.sound in
     let move = next-answers _ _ _ c.take.result (standing_of c.take.new.self) c.in_ok-fill.ensures.filled c.self.view_is c.take.ensures.taken in
-    let gone = goes-on _ _ known refl move in record { steps = move-steps _ _ _ _ move; lowers = gone.onward; moves = move;
+    let gone = goes-on _ _ known refl move in record {
+      steps = move-steps _ _ _ _ move;
+      lowers = gone.onward;
+      moves = move;
       within = answer-within _ _ known move;
       onward = gone;
       shorter = event-lowers _ _ c.take.result known move;

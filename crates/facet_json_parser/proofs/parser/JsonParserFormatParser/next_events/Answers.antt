@@ -18,7 +18,11 @@ returns-in_err-event c =
     let known = given-sound _ _ _ _ _ c.loop-count.invariant.so_far c.loop-count.invariant.known c.in_err-event.ensures.sound in
     let g = given-refused _ _ _ _ _ _ _ _ _ c.loop-count.invariant.so_far c.in_err-event.ensures.items c.loop-count-test.true c.in_err-event.ensures.event in
     let move = g.2 in
-    rw (p.1, p.2) (let gone = batch-goes_on _ _ _ _ (λ _. known) move in record { steps = (g.0, g.1, move-steps _ _ _ _ move); lowers = gone.onward; moves = (g.0, g.1, move, batch-within _ _ _ _ (λ _. known) move); onward = gone;
+    rw (p.1, p.2) (let gone = batch-goes_on _ _ _ _ (λ _. known) move in record {
+      steps = (g.0, g.1, move-steps _ _ _ _ move);
+      lowers = gone.onward;
+      moves = (g.0, g.1, move, batch-within _ _ _ _ (λ _. known) move);
+      onward = gone;
       shorter = tt;
     })
 
@@ -28,7 +32,11 @@ returns-in_default c =
     let g = given-end _ _ _ _ _ _ _ _ c.loop-count.invariant.so_far c.in_ok-event.ensures.items c.loop-count-test.true
     (none-given _ _ _ c.in_default.not-Some c.in_ok-event.ensures.event) in
     let move = g.2 in
-    let gone = batch-goes_on _ _ _ _ (λ _. known) move in record { steps = (g.0, g.1, move-steps _ _ _ _ move); lowers = gone.onward; moves = (g.0, g.1, move, batch-within _ _ _ _ (λ _. known) move); onward = gone;
+    let gone = batch-goes_on _ _ _ _ (λ _. known) move in record {
+      steps = (g.0, g.1, move-steps _ _ _ _ move);
+      lowers = gone.onward;
+      moves = (g.0, g.1, move, batch-within _ _ _ _ (λ _. known) move);
+      onward = gone;
       shorter = batch-lowers _ _ _ _ _ (λ _. known) move;
     }
 
@@ -45,6 +53,10 @@ returns c =
     let known : 0 < c.args.limit → NowSound c.args.self.now = subst (λ n. 0 < n → NowSound c.args.self.now) full c.loop-count.invariant.known in
     let g = given-full _ _ _ _ _ _ c.loop-count.invariant.so_far full in
     let move = g.2 in
-    let gone = batch-goes_on _ _ _ _ known move in record { steps = (g.0, g.1, move-steps _ _ _ _ move); lowers = gone.onward; moves = (g.0, g.1, move, batch-within _ _ _ _ known move); onward = gone;
+    let gone = batch-goes_on _ _ _ _ known move in record {
+      steps = (g.0, g.1, move-steps _ _ _ _ move);
+      lowers = gone.onward;
+      moves = (g.0, g.1, move, batch-within _ _ _ _ known move);
+      onward = gone;
       shorter = batch-lowers _ _ _ _ _ known move;
     }

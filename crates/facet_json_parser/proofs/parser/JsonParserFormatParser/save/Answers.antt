@@ -43,7 +43,9 @@ returns-in-Ok c =
     let move = save-keeps _ _ (map point_of c.keep.new.points.items) c.in-Some-checked_add.number c.self.view_is (none_refused _ c.in_default.not-Some)
     (below-greatest i.counter e.0) (next-number i.counter c.in-Some-checked_add.number e.1) c.in-Ok.ensures in
     let is = moves-saved Complains _ _ _ _ refl move in
-    record { steps = move-steps _ _ _ _ move; moves = move;
+    record {
+      steps = move-steps _ _ _ _ move;
+      moves = move;
       within = answer-within _ _ known move;
       input = same-input _ _ move;
       lowers = save-onward _ _ known move;
