@@ -1,7 +1,7 @@
 -- The parts of a number from the offsets where they end.
-use Rattle.std.proofs.Common.{◌≡◌, ℕ, ◌+◌, ◌-◌, false, List, drop, refl, ap, ap₂, sym, ◌∙◌, arith}
+use Rattle.std.proofs.Common.{◌≡◌, ℕ, ◌+◌, ◌-◌, List, drop, refl, ap, sym, ◌∙◌, arith}
 use Rattle.std.proofs.lemmas.List.{drop-drop}
-use Rattle.facet_format.specs.Number.{Hint, minus_len, digits_len, fraction_len, exponent_len, Parts, parts, parts_len, parts_hint, is_bare}
+use Rattle.facet_format.specs.Number.{minus_len, digits_len, fraction_len, exponent_len, Parts, parts}
 
 -- The parts of what stands at `at` end at these offsets.
 pub record PartsEnd (p : Parts) (at digits fraction exponent end : ℕ) : Type 0 where

@@ -4,11 +4,9 @@ use Rattle.std.proofs.Math.Bool.{and-false}
 use Rattle.facet_json_token.specs.Token.{Kind, Token, Fault}
 use Rattle.facet_json_token.specs.Token as token
 use Rattle.facet_json_token.specs.Tokens.{Tokens, ended, refused, next, tokens}
-use Rattle.facet_json_document.specs.Node.{Node, Nodes, no_nodes, item, Members, no_members, member, is_scalar, is_string, Spells, one_token, brackets, braces, SpellsItems, closed, item_and_comma, last_item, SpellsMembers, ended_members, member_and_comma, last_member}
-use Rattle.std.specs.Option.{option_map}
-use Rattle.facet_json_document.specs.Tree.{Tree, Trees, no_trees, Pairs, no_pairs}
-use Rattle.facet_json_document.specs.Tree as tree
-use Rattle.facet_json_document.specs.Meaning.{Meaning, tree_of, trees_of, pairs_of, text_of, put_item, put_pair, meaning}
+use Rattle.facet_json_document.specs.Node.{Node, Nodes, no_nodes, Members, no_members, is_scalar, is_string, Spells, one_token, brackets, braces, SpellsItems, closed, item_and_comma, last_item, SpellsMembers, ended_members, member_and_comma, last_member}
+use Rattle.facet_json_document.specs.Tree.{Tree, Trees, Pairs}
+use Rattle.facet_json_document.specs.Meaning.{Meaning, tree_of, trees_of, pairs_of, text_of, meaning}
 use Rattle.facet_json_document.specs.Place.{Place, root, before_key, after_key, after_colon, after_member, before_item, after_item, is_colon, goes_on, begins_value}
 use Rattle.facet_json_document.specs.Refusal.{needs_meaning}
 use Rattle.facet_format.specs.Event.{ContainerKind, object, array, Passed}

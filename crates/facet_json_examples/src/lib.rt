@@ -2,11 +2,9 @@
 #![tactic(auto)]
 
 pub mod events;
-pub mod growing;
 pub mod loops;
 pub mod probing;
 pub mod reformat;
 pub mod scanning;
 pub mod tokens;
 pub mod trees;
-pub mod trusted;

@@ -5,9 +5,7 @@ use Rattle.std.specs.Option.{option_map}
 use Rattle.facet_format.specs.Complaint.{Refusal, refusal_at, save_limit}
 use Rattle.facet_format.specs.Event.{Event, Passed}
 use Rattle.facet_format.specs.Kept.{found, without, with_point}
-use Rattle.facet_format.specs.Cursor.{Call, Answer, event, saved, restored, spans, next, peek, save, restore, span, greatest, no_memory_at}
-use Rattle.facet_format.specs.Standing.{IsStep}
-use Rattle.facet_json_protocol.proofs.MoveIsStep.{moves-step}
+use Rattle.facet_format.specs.Cursor.{Answer, event, saved, restored, spans, next, peek, save, restore, span, greatest, no_memory_at}
 use Rattle.facet_format.specs.declared.event.ParseEvent.{ParseEvent}
 use Rattle.facet_format.specs.Views.{event_of}
 use Rattle.facet_json_token.specs.Gap.{Mode}
@@ -19,7 +17,7 @@ use Rattle.facet_json_reader.specs.Views.{passed_of}
 use Rattle.facet_json_place.specs.Views.{refused_of}
 use Rattle.facet_json_document.specs.Meaning.{meaning}
 use Rattle.facet_json_token.specs.Tokens.{tokens_from}
-use Rattle.facet_json_protocol.specs.Now.{Standing, Now, future_at, is_shown, span_of, StandsAt}
+use Rattle.facet_json_protocol.specs.Now.{Standing, Now, future_at, is_shown, span_of}
 use Rattle.facet_json_protocol.specs.Move.{Moves, repeats, passes, passes_without_memory, passes_the_end, passes_nothing, peeks, peeks_without_memory, peeks_at_the_end, peeks_at_nothing, saves, saves_at_the_limit, saves_without_memory, restores, restores_nothing, tells, with_standing, with_refusal, with_kept, back_at}
 use Rattle.facet_json_standing.specs.Fill.{ShowsSame, Fills, holds, is_over, lacks_memory, stops, FillsParser, fills, refuses, Takes, Lends, Withholds, GivesOne, gives_event, gives_end, lacks_room, behind}
 use Rattle.facet_json_standing.specs.Fill as fill

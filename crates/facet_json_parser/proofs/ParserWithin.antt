@@ -10,7 +10,7 @@ use Rattle.facet_format.specs.Cursor.{Call, next, events, save, restore, Answer,
 use Rattle.facet_format.specs.Kept.{without}
 use Rattle.facet_format.specs.Span.{Span}
 use Rattle.facet_json_token.specs.Gap.{Mode}
-use Rattle.facet_json_document.specs.Refusal.{Complains, of_number, of_plain_string, of_escaped_string}
+use Rattle.facet_json_document.specs.Refusal.{Complains}
 use Rattle.facet_json_protocol.specs.Now.{Standing, Now, first_standing, is_peeked, future_of, span_of, ahead, SameInput, GoesOn}
 use Rattle.facet_json_protocol.specs.Move.{Moves}
 use Rattle.facet_json_protocol.specs.Move as moves
@@ -19,7 +19,7 @@ use Rattle.facet_json_protocol.specs.Sound.{NowSound, AnswerWithin}
 use Rattle.facet_json_protocol.specs.Sound as sound
 use Rattle.facet_json_standing.specs.Ready.{IsReady}
 use Rattle.facet_json_protocol.proofs.MoveLaws.{leaves_points, moves-input, moves-points}
-use Rattle.facet_json_protocol.proofs.Spans.AnswersWithin.{complains-within, ComplainsWithin, fresh-sound, shows-sound, span-within, moves-sound, moves-onward, next-lowers, events-lower}
+use Rattle.facet_json_protocol.proofs.Spans.AnswersWithin.{complains-within, fresh-sound, shows-sound, span-within, moves-sound, moves-onward, next-lowers, events-lower}
 use Rattle.facet_json_standing.proofs.PointsByPlace.{without-missing}
 use Rattle.facet_json_parser.proofs.AnswersAreMoves.{fills-same, next-refused}
 

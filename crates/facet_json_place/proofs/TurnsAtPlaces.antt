@@ -7,9 +7,9 @@ use Rattle.facet_json_place.specs.declared.place.Place.TheVariants as places
 use Rattle.facet_json_token.specs.Token.{Kind, Token}
 use Rattle.facet_json_token.specs.Token as token
 use Rattle.facet_json_token.specs.Tokens.{Tokens}
-use Rattle.facet_json_document.specs.Future.{stuck, Stage, within, Turn, stops, passes, says, value_turn, key_turn, member_turn, first_item_turn, item_turn, place_turn, turn, unless_meaningless, is_meaningless, reads, reads_colon}
+use Rattle.facet_json_document.specs.Future.{stuck, Stage, within, Turn, stops, passes, says, key_turn, member_turn, first_item_turn, item_turn, place_turn, turn, unless_meaningless, is_meaningless, reads, reads_colon}
 use Rattle.facet_json_document.specs.Meaning.{Meaning}
-use Rattle.facet_json_document.specs.Place.{Place, root, before_key, after_key, after_colon, after_member, before_item, after_item, begins_value, begins_key, goes_on_member, begins_item, goes_on_item, goes_on, is_colon}
+use Rattle.facet_json_document.specs.Place.{Place, root, before_key, after_key, after_colon, after_member, before_item, after_item, begins_key, goes_on_member, begins_item, goes_on_item, goes_on, is_colon}
 use Rattle.facet_json_document.specs.Refusal.{needs_meaning, IsStuck, at_end, at_fault, meaningless, misplaced}
 use Rattle.facet_json_place.specs.Views.{place_of}
 use Rattle.facet_json_document.proofs.WalkComes.{reads-turn, turn-misplaced}

@@ -1,5 +1,5 @@
 -- Laws of a parser's moves, on every input: what is kept, what is repeated, a peek is the next event, save and restore.
-use Rattle.std.proofs.Common.{◌≡◌, ℕ, zero, suc, Bool, true, false, List, [], ◌∷◌, ◌++◌, length, Option, Some, None, refl, ap, ◌∙◌}
+use Rattle.std.proofs.Common.{◌≡◌, ℕ, zero, suc, Bool, true, false, List, [], ◌∷◌, ◌++◌, Option, Some, None, refl, ap, ◌∙◌}
 use Rattle.std.specs.Prelude.{Ok, Err}
 use Rattle.facet_json_token.specs.Gap.{Mode}
 use Rattle.facet_format.specs.Span.{Span}

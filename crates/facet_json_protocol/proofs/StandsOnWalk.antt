@@ -5,16 +5,15 @@ use Rattle.facet_json_token.specs.Gap.{Mode}
 use Rattle.facet_format.specs.Span.{Span}
 use Rattle.facet_json_document.specs.Node.{Node}
 use Rattle.facet_json_document.specs.Tree.{Tree}
-use Rattle.facet_json_token.specs.Tokens.{Tokens, tokens}
+use Rattle.facet_json_token.specs.Tokens.{Tokens}
 use Rattle.facet_json_document.specs.Meaning.{meaning}
 use Rattle.facet_json_document.specs.Document.{IsDocument}
 use Rattle.facet_json_document.specs.Place.{Place}
-use Rattle.facet_json_document.specs.Place as place
 use Rattle.facet_format.specs.Event.{Event, Passed}
 use Rattle.facet_json_document.specs.Walk.{walk}
 use Rattle.facet_format.specs.Kept.{found, without, with_point}
 use Rattle.facet_format.specs.Cursor.{Spot, start, last_of, seen, current_span}
-use Rattle.facet_json_document.specs.Future.{Future, gives, finished, stuck, events_before, within, reads}
+use Rattle.facet_json_document.specs.Future.{Future, gives, finished, stuck, events_before}
 use Rattle.facet_json_protocol.specs.Now.{Standing, Now, fresh, held_before, is_shown, last_shown, span_of, StandsOn, KeptAlike, none_kept, one_kept, StandsAt}
 use Rattle.facet_json_protocol.specs.Move.{Shows, IsAlike, Passes, no_events, one_event}
 use Rattle.facet_json_document.proofs.WalkComes.{document-comes}

@@ -1,23 +1,19 @@
 -- How a string or number without a meaning is refused where it is read.
-use Rattle.std.proofs.Common.{◌≡◌, ℕ, ◌-◌, Bool, true, false, List, Some, None, refl, sym, ap, arith}
+use Rattle.std.proofs.Common.{◌≡◌, ℕ, Bool, true, false, List, None, refl, sym, ap, arith}
 use Rattle.std.specs.Prelude.{slice_range}
 use Rattle.std.specs.Option.{option_map}
 use Rattle.facet_format.specs.declared.span.Span.{Span as RustSpan}
 use Rattle.facet_json_token.specs.declared.token.ScanError.{ScanError}
 use Rattle.facet_format.specs.Complaint.{Refusal, refusal_at, invalid_utf8}
-use Rattle.facet_format.specs.Number.{Hint}
-use Rattle.facet_format.specs.Number as numbers
 use Rattle.facet_format.specs.Views.{span_of}
 use Rattle.facet_json_decode.specs.Decode.{decoded}
 use Rattle.facet_json_decode.specs.Views.{IsItsText, IsWithin}
-use Rattle.facet_json_number.specs.Views.{number_refusal}
 use Rattle.facet_json_token.specs.Token as token
 use Rattle.facet_json_decode.proofs.PlainText.{decoded-plain_none}
-use Rattle.facet_json_document.specs.Meaning.{tree_of_number}
-use Rattle.facet_json_document.specs.Refusal.{number_complaint, IsBetweenQuotes, of_number, of_plain_string, of_escaped_string}
+use Rattle.facet_json_document.specs.Refusal.{IsBetweenQuotes, of_plain_string, of_escaped_string}
 use Rattle.facet_json_document.specs.Tree as tree
 use Rattle.facet_json_place.specs.Views.{IsPassedOn}
-use Rattle.facet_json_reader.specs.TokenViews.{IsContent, IsNumberThere, IsMeaningless}
+use Rattle.facet_json_reader.specs.TokenViews.{IsContent, IsMeaningless}
 
 -- A refusal that is passed on is over the same bytes.
 bytes_of_refusal : (e : ScanError) (r : Refusal) → IsPassedOn e r → r ≡ refusal_at r.complaint (span_of e.span)

@@ -1,9 +1,9 @@
 -- The test of an open buffer says exactly where it is open.
-use Rattle.std.proofs.Common.{◌≡◌, ◌≢◌, ℕ, suc, ◌<◌, Bool, true, false, cond, ◌==◌, ◌&&◌, is_none, List, [], ◌∷◌, ◌++◌, length, drop, Option, Some, None, refl, sym, ap, ◌∙◌, subst, arith, length-append}
+use Rattle.std.proofs.Common.{◌≡◌, ◌≢◌, ℕ, ◌<◌, Bool, true, false, cond, ◌==◌, ◌&&◌, is_none, List, [], ◌∷◌, ◌++◌, length, drop, Option, Some, None, refl, sym, ap, ◌∙◌, subst, arith, length-append}
 use Rattle.std.proofs.lemmas.Bool.{and_parts, and_from, eqb-true, ltb-true, lt-ltb, eq-eqb}
 use Rattle.std.proofs.lemmas.List.{append-nil}
 use Rattle.facet_format.specs.Bytes.{backslash, slash, star}
-use Rattle.facet_json_token.specs.Gap.{Mode, plain, jsonc, OpensBlock, one_more, through_block_end, through_line_end}
+use Rattle.facet_json_token.specs.Gap.{Mode, plain, jsonc, one_more, through_block_end, through_line_end}
 use Rattle.facet_format.specs.Number.{parts, parts_len, begins_number}
 use Rattle.facet_json_token.specs.Token.{Kind}
 use Rattle.facet_json_token.specs.Cut.{ArePieces, IsLiteral, null_stands, true_stands, false_stands, Start, letter, start_of, common_len, content_len}

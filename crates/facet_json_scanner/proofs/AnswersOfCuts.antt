@@ -14,13 +14,13 @@ use Rattle.facet_format.specs.Span.{Span, stop, span_at}
 use Rattle.facet_json_token.specs.Gap.{Mode}
 use Rattle.facet_json_token.specs.Cut.{Cut, nothing_left, token, fault, cut_here}
 use Rattle.facet_json_token.specs.Open.{IsBeginning}
-use Rattle.facet_json_token.specs.Token.{Kind, string, number, Token}
+use Rattle.facet_json_token.specs.Token.{Kind, string, number}
 use Rattle.facet_json_scanner.specs.Scanner.{ended, answer_for}
 use Rattle.facet_json_token.specs.Views.{scanned, token_answer as token_scanned, fault_answer as fault_scanned}
 use Rattle.facet_json_scanner.specs.Views.{answered, token_answered, fault_answered, span_answered, NamesWithin, IndicesWithin, FoundHere}
 use Rattle.facet_format.specs.Views.{span_of}
 use Rattle.facet_json_scanner.specs.declared.scanner.token.Found.TheVariants as found
-use Rattle.facet_json_token.proofs.CutBounds.{KindFits, TokenFits, CutFits, here_fits}
+use Rattle.facet_json_token.proofs.CutBounds.{KindFits, CutFits, here_fits}
 use Rattle.facet_json_token.proofs.FirstBytes.{cut_here-something}
 
 -- The indices of a kind stand in order within the first `last` bytes.

@@ -9,7 +9,6 @@ use Rattle.facet_json_token.specs.Cut.{ArePieces, IsLiteral, Start, punctuation,
 use Rattle.facet_json_token.specs.Open.{IsBeginning}
 use Rattle.facet_json_scanner.specs.Scanner.{State, Describes}
 use Rattle.facet_json_token.proofs.Starts.{Begins, a_mark, a_word, a_text, a_number, a_comment, no_token, start_of-begins, start_of-number}
-use Rattle.facet_json_token.proofs.FirstBytes.{start_of-number_range}
 use Rattle.facet_json_scanner.proofs.GrowthOfNumber.{number_begins}
 use Rattle.facet_format.proofs.NumberLaws.{parts_len-is, begins_number-is}
 

@@ -1,6 +1,5 @@
 -- What the types of the scanner stand for in the definitions.
 use Rattle.std.specs.Prelude.{ℕ, Option, Some, None, Result, Ok, Err, ◌≡◌, ◌≤◌, List, length, ◌+◌, ◌<◌, drop, slice_get}
-use Rattle.facet_json_token.specs.declared.mode.Mode.TheVariants as mode
 use Rattle.facet_json_token.specs.declared.token.Token.{Token as RustToken}
 use Rattle.facet_json_token.specs.declared.token.Token.TheVariants as code
 use Rattle.facet_json_token.specs.declared.token.SpannedToken.{SpannedToken}
@@ -13,7 +12,6 @@ use Rattle.facet_json_token.specs.Gap.{Mode, growing, piece_len}
 use Rattle.facet_json_token.specs.Token.{Kind}
 use Rattle.facet_json_token.specs.Token as token
 use Rattle.facet_json_token.specs.Cut.{cut_here, cut, past_gap}
-use Rattle.facet_format.specs.Number.{Number}
 use Rattle.facet_json_token.specs.declared.token.ScanErrorKind.TheVariants.{InvalidUtf8}
 use Rattle.facet_format.specs.Bytes.{slash}
 use Rattle.facet_json_scanner.specs.declared.scanner.pending.Part.{Part as RustPart}

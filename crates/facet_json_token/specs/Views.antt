@@ -18,7 +18,6 @@ use Rattle.facet_json_token.specs.Token.{Kind}
 use Rattle.facet_json_token.specs.Token as token
 use Rattle.facet_json_token.specs.Cut.{Cut, nothing_left, fault}
 use Rattle.facet_json_token.specs.Cut as cutting
-use Rattle.facet_format.specs.Number.{Number}
 use Rattle.facet_json_token.specs.declared.token.ScanErrorKind.TheVariants.{InvalidUtf8}
 
 abbrev pub mode_of : RustMode → Mode

@@ -1,12 +1,11 @@
 -- What follows a prefix of a list or an object in a whole spelling.
-use Rattle.std.proofs.Common.{◌≡◌, ℕ, true, List, Option, Some, None, refl, sym, subst}
-use Rattle.std.specs.Option.{option_map}
+use Rattle.std.proofs.Common.{◌≡◌, ℕ, true, List, Some, refl, sym, subst}
 use Rattle.facet_json_token.specs.Token.{Token}
 use Rattle.facet_json_token.specs.Token as token
 use Rattle.facet_json_token.specs.Tokens.{Tokens, next}
 use Rattle.facet_json_document.specs.Node.{Node, Nodes, Members, is_string, Spells, one_token, brackets, braces, SpellsItems, closed, item_and_comma, last_item, SpellsMembers, ended_members, member_and_comma, last_member}
-use Rattle.facet_json_document.specs.Tree.{Tree, list, pairs, Trees, no_trees, Pairs, no_pairs}
-use Rattle.facet_json_document.specs.Meaning.{Meaning, tree_of, trees_of, pairs_of, text_of, put_item, put_pair}
+use Rattle.facet_json_document.specs.Tree.{Tree, Trees, no_trees, Pairs, no_pairs}
+use Rattle.facet_json_document.specs.Meaning.{Meaning, tree_of, trees_of, pairs_of, text_of}
 use Rattle.facet_json_document.specs.Document.{Reads}
 use Rattle.facet_json_document.specs.Refusal.{PassesItems, PassesMembers}
 use Rattle.facet_json_document.specs.Refusal as fronts

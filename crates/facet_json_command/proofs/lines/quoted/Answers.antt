@@ -1,15 +1,7 @@
-use Rattle.std.proofs.Common.{◌≡◌, ℕ, List, refl, ap, ◌∙◌, rules, String, Global, string_bytes}
-use Rattle.std.specs.Cow.{cow_str_bytes}
-use Rattle.std.specs.declared.borrow.CowStr.{CowStr}
-use Rattle.std.specs.declared.borrow.CowStr.TheVariants as cow
-use Rattle.facet_format.specs.Event.{bytes_of}
-use Rattle.facet_format.specs.HeldText.{text_of}
+use Rattle.std.proofs.Common.{◌≡◌, ℕ, List, refl, ap, ◌∙◌}
 use Rattle.facet_json_document.specs.Tree as tree
-use Rattle.facet_json.specs.declared.tree.Tree.{the_lemmas}
-use Rattle.facet_json.specs.declared.tree.Tree.TheVariants as code
 use Rattle.facet_json_document.specs.Quoted.{quoted}
 use Rattle.facet_json_document.specs.Text.{default_options, text}
-use Rattle.facet_json.specs.Views.{tree_view}
 use Rattle.facet_json_command.proofs.lines.quoted.Goals as goal
 use Rattle.facet_json.proofs.TreeViews.{tree_view-Text}
 use Rattle.facet_json.proofs.MembersRead.{held-bytes}

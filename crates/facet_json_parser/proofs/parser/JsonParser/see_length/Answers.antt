@@ -1,5 +1,4 @@
-use Rattle.std.proofs.Common.{◌≡◌, ◌<◌, ◌^◌, ◌-◌, length, ap, subst, arith}
-use Rattle.facet_format.specs.Span.{stop}
+use Rattle.std.proofs.Common.{◌≡◌, ◌<◌, ◌^◌, length, subst, arith}
 use Rattle.facet_json_protocol.specs.Now.{Now, ahead}
 use Rattle.facet_json_parser.proofs.parser.JsonParser.see_length.Goals as goal
 
