@@ -1,5 +1,5 @@
 -- A string or a number goes on where no gap is before it.
-use Rattle.std.proofs.Common.{drop, ap, ◌∙◌, subst, arith}
+use Rattle.std.proofs.Common.{rules, drop, ap, ◌∙◌, subst, arith}
 use Rattle.facet_json_token.specs.Gap.{growing, piece_len}
 use Rattle.facet_json_scanner.specs.Scanner.{Describes}
 use Rattle.facet_json_token.specs.Views.{mode_of}
@@ -35,3 +35,6 @@ returns-in-Number-clause-here c = λ h.
     ap (piece_len mode growing) (between-rest buffer start at (omega arith) c.requires.room)
     ∙ number_no_piece mode part text (drop at buffer) ends in
     found-no_gap mode buffer start c.number_from.result (omega arith) none (c.number_from.ensures.here ends mode)
+
+pub returns-in-Line-clause-here : goal.returns-in-Line-clause-here
+returns-in-Line-clause-here c = search rules

@@ -1,5 +1,5 @@
 -- What is found is answered, and kept if it is open.
-use Rattle.std.proofs.Common.{◌≡◌, length, drop, sym, ap, subst}
+use Rattle.std.proofs.Common.{rules, ◌≡◌, length, drop, sym, ap, subst}
 use Rattle.facet_json_scanner.specs.Scanner.{GoesOnFrom, Describes, waiting, past_growing_gap}
 use Rattle.facet_json_scanner.specs.Views.{state_of}
 use Rattle.facet_json_scanner.proofs.OpenNeedsMore.{gives-open}
@@ -17,3 +17,12 @@ returns-in-Open-clause-token c = λ p g.
     mode (c.in-Open.ensures.here p from) in
     gives-open buffer p start c.args.self.now.mode state _ _ found c.needs_more.ensures.token
     (ap (λ m. waiting (length buffer) m start state) mode)
+
+pub invariant_of-self-in-Answer : goal.invariant_of-self-in-Answer
+invariant_of-self-in-Answer c = search rules
+
+pub returns-in-Answer-clause-token : goal.returns-in-Answer-clause-token
+returns-in-Answer-clause-token c = search rules
+
+pub returns-in-Answer-clause-idle : goal.returns-in-Answer-clause-idle
+returns-in-Answer-clause-idle c = search rules

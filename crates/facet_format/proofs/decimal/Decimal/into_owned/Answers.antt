@@ -1,0 +1,5 @@
+use Rattle.std.proofs.Common.{rules}
+use Rattle.facet_format.proofs.decimal.Decimal.into_owned.Goals as goal
+
+pub returns-in-Owned : goal.returns-in-Owned
+returns-in-Owned c = search rules

@@ -1,0 +1,5 @@
+use Rattle.std.proofs.Common.{rules}
+use Rattle.facet_format.proofs.numeral.Parts.exponent_start.Goals as goal
+
+pub returns : goal.returns
+returns c = search rules
