@@ -1,4 +1,5 @@
 use Rattle.std.proofs.Common.{arith}
+use Rattle.std.proofs.lemmas.Grind.{common_steps}
 use Rattle.facet_format.proofs.NumberText.{digit_at-above, digits_value-above}
 use Rattle.facet_json_number.proofs.number.parse_unsigned.Goals as goal
 
@@ -14,3 +15,6 @@ pub returns-in_err-value : goal.returns-in_err-value
 returns-in_err-value c =
     let above = digits_value-above _ _ _ c.loop-digit.digit-index c.loop-digit-test.true c.loop-digit.invariant.same in
     rw c.from_residual-in_err-value.ensures (omega (arith, c.in_err-value.ensures))
+
+pub loop-digit-preserved : goal.loop-digit-preserved
+loop-digit-preserved c = grind (arith, common_steps)

@@ -1,3 +1,4 @@
+use Rattle.std.proofs.Common.{rules}
 use Rattle.facet_json_parser.proofs.AnswersAreMoves.{told-moves}
 use Rattle.facet_json_core.proofs.script.Call.make.Goals as goal
 
@@ -6,3 +7,6 @@ returns-in-Span c = rw c.in-Span.is (record {
   moves = told-moves _ _ c.current_span.ensures.told;
   within = c.current_span.ensures.within;
 })
+
+pub returns-in-Next-clause-moves : goal.returns-in-Next-clause-moves
+returns-in-Next-clause-moves c = search rules

@@ -1,5 +1,5 @@
 -- What the four bytes after a backslash and `u` stand for.
-use Rattle.std.proofs.Common.{◌≡◌, drop, Some, None, true, false, sym, ap, ◌∙◌}
+use Rattle.std.proofs.Common.{rules, ◌≡◌, drop, Some, None, true, false, sym, ap, ◌∙◌}
 use Rattle.std.proofs.lemmas.Result.{err_from_is_err_and}
 use Rattle.facet_json_decode.specs.Decode.{piece_at, is_high_surrogate, low_at}
 use Rattle.facet_json_decode.proofs.EscapeSteps.{piece_at-cut, piece_at-unit, unit_of-scalar, unit_of-low, unit_of-high}
@@ -55,3 +55,6 @@ returns-in-None-clause-none c =
     let rest = c.args.rest.now in
     let unit = piece_at-unit rest (Some u) r.backslash r.letter c.if-rest-lt6.false c.in_ok-unit.ensures.unit in
     unit ∙ unit_of-low (drop 6 rest) u is c.in_ok-unit.ensures.range c.in-None.ensures.cases
+
+pub returns-then-rest-lt6-clause-within : goal.returns-then-rest-lt6-clause-within
+returns-then-rest-lt6-clause-within c = search rules

@@ -1,0 +1,5 @@
+use Rattle.std.proofs.Common.{rules}
+use Rattle.facet_json_decode.proofs.decode.decode_string_borrowed.Goals as goal
+
+pub borrowed_run-requires-clause-utf8 : goal.borrowed_run-requires-clause-utf8
+borrowed_run-requires-clause-utf8 c = search rules

@@ -1,0 +1,5 @@
+use Rattle.std.proofs.Common.{rules}
+use Rattle.facet_json_number.proofs.number.parse_number_unchecked.Goals as goal
+
+pub returns-clause-number : goal.returns-clause-number
+returns-clause-number c = search rules
