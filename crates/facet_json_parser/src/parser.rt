@@ -141,13 +141,6 @@ impl<'de> JsonParser<'de> {
         }
     }
 
-    /// The input is no longer than a slice may be.
-    fn see_length(&self)
-        ensures { ahead self.now < 2 ^ 64 }
-    {
-        let _len = self.input.len();
-    }
-
     /// Refuses for lack of memory from now on.
     fn refuse_growth<'t>(&mut self) -> ParseError<'t>
         ensures error { parse_refusal result ≡ no_memory_at (span_of self.old.standing) }

@@ -1,4 +1,3 @@
-pub mod BorrowedText
 pub mod ColonAfterKey
 pub mod EventsAtTurns
 pub mod MeaninglessTokens
