@@ -47,6 +47,19 @@ script_behind _ word behind _ cut lacks (word_first text first rest call calls c
     let same = one_cut comma word behind first rest lacks (word_lacks call first is) (sym cut ∙ cut') in
     (call, calls, subst (IsWordOf call) (sym same.0) is, subst (λ t. IsScript t calls) (sym same.1) more)
 
+-- What a word is that numbers no events
+pub restore_or_none : (word : List ℕ) (answer : Option RustCall) → ((number : ℕ) → ¬ IsNumbered (codes "events:") word number) →
+    MatchOption answer ((number : ℕ) → ¬ IsNumbered (codes "restore:") word number) (λ c. IsWordOf (call_of c) word) →
+    MatchOption answer
+    ((number : ℕ) → ¬ (IsNumbered (codes "events:") word number ⊎ IsNumbered (codes "restore:") word number))
+    (λ c. IsWordOf (call_of c) word)
+restore_or_none word None no_events no_restore = λ number either.
+    elim either [
+      | inl is ↦ no_events number is
+      | inr is ↦ no_restore number is
+    ]
+restore_or_none word (Some c) no_events is = is
+
 -- A word of no call
 no_call : (word : List ℕ) → word ≢ codes "next" → word ≢ codes "peek" → word ≢ codes "save" → word ≢ codes "span" →
     ((number : ℕ) → ¬ (IsNumbered (codes "events:") word number ⊎ IsNumbered (codes "restore:") word number)) →

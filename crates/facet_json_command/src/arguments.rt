@@ -14,7 +14,7 @@ use facet_json_core::Call;
 use std::alloc::Global;
 
 /// What the program is asked to do.
-#[derive(Debug, Drop)]
+#[derive(Drop)]
 pub enum Command {
     /// Write the document of the input anew.
     Fmt {

@@ -6,9 +6,11 @@ ghost use Rattle.std.specs.List.{flat_map};
 ghost use Rattle.std.specs.Option.{option_map};
 ghost use Rattle.facet_format.specs.Event.{bytes_of};
 ghost use Rattle.facet_format.specs.HeldText.{text_of};
-ghost use Rattle.facet_format.specs.Views.{span_of, event_of, scalar_value_of, parse_refusal};
+ghost use Rattle.facet_format.specs.Views.{span_of, event_of, scalar_value_of, parse_refusal, answer_of_event, answer_of_save, answer_of_span};
 ghost use Rattle.facet_json_core.specs.ScriptViews.{answer_of};
 ghost use Rattle.facet_json_document.specs.Quoted.{quoted as quoted_text};
+ghost use Rattle.facet_json_document.specs.Text.{default_options, text as tree_text};
+ghost use Rattle.facet_json.specs.Views.{tree_view};
 ghost use Rattle.facet_json_command.specs.declared.outcome.Outcome.TheVariants as outcome;
 ghost use Rattle.facet_json_command.specs.Lines.{head_text, place_line, value_line, scalar_line, event_line, refusal_line, count_line, next_line, answer_lines};
 ghost use Rattle.facet_json_command.specs.Views.{count_of};
@@ -77,14 +79,48 @@ pub fn write_answer<W: Write>(
     ensures { Prints (W.contents writer.old) (W.contents writer.new) (answer_lines (answer_of answer.entry)) result }
 {
     match answer {
-        Answer::Event(Ok(event)) => write_next(alloc, event, writer),
-        Answer::Event(Err(error)) => write_refusal(writer, error),
+        Answer::Event(event) => write_given(alloc, event, writer),
         Answer::Events(events, count) => write_batch(alloc, events, count, writer),
-        Answer::Saved(Ok(SavePoint(point))) => told(writeln!(writer, "point {point}")),
-        Answer::Saved(Err(error)) => write_refusal(writer, error),
+        Answer::Saved(point) => write_point(writer, point),
         Answer::Restored => told(writeln!(writer, "ok")),
-        Answer::Span(Some(span)) => write_place(writer, "span", span),
-        Answer::Span(None) => told(writeln!(writer, "None")),
+        Answer::Span(span) => write_span(writer, span),
+    }
+}
+
+/// Writes the line of the next event or of the end, or of the refusal in its place.
+fn write_given<W: Write>(
+    alloc: Global,
+    event: Result<Option<ParseEvent<'_>>, ParseError<'_>>,
+    writer: &mut W,
+) -> Result<(), Outcome>
+    ensures { Prints (W.contents writer.old) (W.contents writer.new) (answer_lines (answer_of_event event.entry)) result }
+{
+    match event {
+        Ok(event) => write_next(alloc, event, writer),
+        Err(error) => write_refusal(writer, error),
+    }
+}
+
+/// Writes the line of the point that is kept, or of the refusal in its place.
+fn write_point<W: Write>(
+    writer: &mut W,
+    point: Result<SavePoint, ParseError<'_>>,
+) -> Result<(), Outcome>
+    ensures { Prints (W.contents writer.old) (W.contents writer.new) (answer_lines (answer_of_save point.entry)) result }
+{
+    match point {
+        Ok(SavePoint(point)) => told(writeln!(writer, "point {point}")),
+        Err(error) => write_refusal(writer, error),
+    }
+}
+
+/// Writes the line of the current span.
+fn write_span<W: Write>(writer: &mut W, span: Option<Span>) -> Result<(), Outcome>
+    ensures { Prints (W.contents writer.old) (W.contents writer.new) (answer_lines (answer_of_span span)) result }
+{
+    match span {
+        Some(span) => write_place(writer, "span", span),
+        None => told(writeln!(writer, "None")),
     }
 }
 
@@ -216,11 +252,19 @@ fn quoted(alloc: Global, text: CowStr<'_>) -> Result<Vec<u8>, Outcome>
     ensures text { IfOk result (λ v. v.items ≡ quoted_text (bytes_of (text_of text.entry))) }
     ensures refused { IfErr result (λ o. o ≡ outcome.Refused 9 None) }
 {
-    let Ok(text) = text.into_owned(alloc) else {
-        return Err(OUT_OF_MEMORY);
-    };
-    match to_vec(alloc, &Tree::Text(text)) {
-        Ok(quoted) => Ok(quoted),
+    match text.into_owned(alloc) {
+        Ok(text) => text_of_tree(alloc, &Tree::Text(text)),
+        Err(_) => Err(OUT_OF_MEMORY),
+    }
+}
+
+/// The compact text of a tree.
+pub fn text_of_tree(alloc: Global, tree: &Tree) -> Result<Vec<u8>, Outcome>
+    ensures text { IfOk result (λ v. v.items ≡ tree_text default_options 0 (tree_view tree.now)) }
+    ensures refused { IfErr result (λ o. o ≡ outcome.Refused 9 None) }
+{
+    match to_vec(alloc, tree) {
+        Ok(text) => Ok(text),
         Err(_) => Err(OUT_OF_MEMORY),
     }
 }

@@ -2,6 +2,7 @@
 
 ghost use Rattle.std.specs.Prelude.{◌≡◌, ◌≢◌, ◌⊎◌, ℕ, List, Option, None, map, IfOk, IfErr, IfSome, MatchResult};
 ghost use Rattle.std.specs.List.{flat_map};
+ghost use Rattle.std.specs.Vec.Iter.{into_iter_items};
 ghost use Rattle.std.specs.Io.KnownBytes.{Appends, Keeps};
 ghost use Rattle.facet_format.specs.declared.span.Span.{Span as TheSpan};
 ghost use Rattle.facet_format.specs.Complaint.{out_of_memory};
@@ -12,8 +13,9 @@ ghost use Rattle.facet_json_token.specs.Views.{mode_of};
 ghost use Rattle.facet_json_document.specs.Node.{Node};
 ghost use Rattle.facet_json_document.specs.Tree.{Tree as SpecTree};
 ghost use Rattle.facet_json_document.specs.Document.{IsDocument};
-ghost use Rattle.facet_json_document.specs.Refusal.{Refuses};
-ghost use Rattle.facet_json_protocol.specs.Now.{fresh};
+ghost use Rattle.facet_json_document.specs.Refusal.{Refuses, Complains};
+ghost use Rattle.facet_json_protocol.specs.Now.{Now, fresh};
+ghost use Rattle.facet_json_protocol.specs.Move.{MovesAll};
 ghost use Rattle.facet_json_core.specs.ScriptViews.{call_of, answer_of};
 ghost use Rattle.facet_json.specs.Views.{tree_view};
 ghost use Rattle.facet_json_command.specs.declared.outcome.Outcome.TheVariants as outcome;
@@ -23,14 +25,15 @@ ghost use Rattle.facet_json_command.specs.Lines.{answer_lines};
 ghost use Rattle.facet_json_command.specs.Run.{HasDocument, IsReformatted, IsFailure, IsRefusal, Formats, Grows, Prints, Lists, Drives, Answers, ForFmt, ForDrive, outcome_of};
 
 use crate::arguments::{Command, command_of};
-use crate::lines::{write_answer, write_event};
+use crate::lines::{text_of_tree, write_answer, write_event};
 use crate::outcome::{OUT_OF_MEMORY, Outcome, failure};
 use facet_format::{DeserializeError, FormatParser};
 use facet_json::scanner::Mode;
-use facet_json::{Tree, from_slice, from_slice_jsonc, to_vec};
+use facet_json::{Tree, from_slice, from_slice_jsonc};
 use facet_json_core::{Answer, Call, JsonParser, drive};
-use std::alloc::Global;
+use std::alloc::{AllocError, Global};
 use std::io::{Read, Write};
+use std::vec::IntoIter;
 
 /// Does what the arguments after the program's name ask for. It writes in small pieces.
 pub fn run<R: Read, W: Write>(
@@ -130,13 +133,9 @@ fn reformatted(alloc: Global, mode: Mode, input: &[u8]) -> Result<Vec<u8>, Outco
     ensures refused { IfErr result (λ o. IsRefusal (mode_of mode) input.now o) }
     ensures only { HasDocument (mode_of mode) input.now → IfErr result IsFailure }
 {
-    let tree = match read_tree(alloc, mode, input) {
-        Ok(tree) => tree,
-        Err(error) => return Err(Outcome::Refused(error.kind.code(), error.span)),
-    };
-    match to_vec(alloc, &tree) {
-        Ok(text) => Ok(text),
-        Err(_) => Err(OUT_OF_MEMORY),
+    match read_tree(alloc, mode, input) {
+        Ok(tree) => text_of_tree(alloc, &tree),
+        Err(error) => Err(Outcome::Refused(error.kind.code(), error.span)),
     }
 }
 
@@ -195,6 +194,18 @@ fn list_events<W: Write>(
     ensures { Lists (mode_of mode) input.now (W.contents writer.old) (W.contents writer.new) (outcome_of result) }
 {
     let mut parser = parser_of(alloc, mode, input);
+    list_ahead(alloc, &mut parser, writer)
+}
+
+/// Writes a line for each event that the parser still has to give.
+fn list_ahead<W: Write>(
+    alloc: Global,
+    parser: &mut JsonParser<'_>,
+    writer: &mut W,
+) -> Result<(), Outcome>
+    ensures { (mode : SpecMode) (input : List ℕ) → parser.old ≡ fresh input mode
+        → Lists mode input (W.contents writer.old) (W.contents writer.new) (outcome_of result) }
+{
     loop {
         match parser.next_event() {
             Ok(Some(event)) => write_event(alloc, event, writer)?,
@@ -218,18 +229,26 @@ fn print_answers<R: Read, W: Write>(
     ensures grows { result ≢ outcome.Io → Grows (W.contents writer.old) (W.contents writer.new) }
 {
     match read_all(alloc, reader) {
-        Ok(input) => {
-            let mut parser = parser_of(alloc, mode, input.as_slice());
-            match drive(alloc, &mut parser, calls) {
-                Ok(answers) => {
-                    let written = write_answers(alloc, answers, writer);
-                    finish(written, writer)
-                }
-                Err(_) => OUT_OF_MEMORY,
-            }
-        }
+        Ok(input) => match answers_of(alloc, mode, input.as_slice(), calls) {
+            Ok(answers) => finish(write_answers(alloc, answers, writer), writer),
+            Err(_) => OUT_OF_MEMORY,
+        },
         Err(outcome) => outcome,
     }
+}
+
+/// What a parser of the input answers to the calls.
+fn answers_of<'de>(
+    alloc: Global,
+    mode: Mode,
+    input: &'de [u8],
+    calls: &[Call],
+) -> Result<Vec<Answer<'de>>, AllocError>
+    ensures { IfOk result (λ answers. (parser : Now)
+        × MovesAll Complains (fresh input.now (mode_of mode)) (map call_of calls.now) (map answer_of answers.items) parser) }
+{
+    let mut parser = parser_of(alloc, mode, input);
+    drive(alloc, &mut parser, calls)
 }
 
 /// Writes the lines of the answers, in order.
@@ -240,7 +259,18 @@ fn write_answers<W: Write>(
 ) -> Result<(), Outcome>
     ensures { Prints (W.contents writer.old) (W.contents writer.new) (flat_map answer_lines (map answer_of answers.entry.items)) result }
 {
-    for answer in answers {
+    write_ahead(alloc, &mut answers.into_iter(), writer)
+}
+
+/// Writes the lines of the answers that are left, in order.
+fn write_ahead<W: Write>(
+    alloc: Global,
+    answers: &mut IntoIter<Answer<'_>>,
+    writer: &mut W,
+) -> Result<(), Outcome>
+    ensures { Prints (W.contents writer.old) (W.contents writer.new) (flat_map answer_lines (map answer_of (into_iter_items answers.old))) result }
+{
+    while let Some(answer) = answers.next() {
         write_answer(alloc, answer, writer)?;
     }
     Ok(())

@@ -55,19 +55,25 @@ fn parse_numbered(word: &str) -> Option<Call>
         ((number : ℕ) → ¬ (IsNumbered (codes "events:") word.now number ⊎ IsNumbered (codes "restore:") word.now number))
         (λ c. IsWordOf (call_of c) word.now) }
 {
-    let Some((name, digits)) = word.split_once(':') else {
-        return None;
-    };
-    match name {
-        "events" => match parse_limit(digits) {
+    match word.strip_prefix("events:") {
+        Some(digits) => match parse_limit(digits) {
             Some(limit) => Some(Call::Events(limit)),
             None => None,
         },
-        "restore" => match parse_point(digits) {
+        None => parse_restore(word),
+    }
+}
+
+/// The call to go back to the point that the word names.
+fn parse_restore(word: &str) -> Option<Call>
+    ensures { MatchOption result ((number : ℕ) → ¬ IsNumbered (codes "restore:") word.now number) (λ c. IsWordOf (call_of c) word.now) }
+{
+    match word.strip_prefix("restore:") {
+        Some(digits) => match parse_point(digits) {
             Some(point) => Some(Call::Restore(point)),
             None => None,
         },
-        _ => None,
+        None => None,
     }
 }
 

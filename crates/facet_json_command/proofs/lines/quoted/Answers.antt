@@ -1,4 +1,5 @@
 use Rattle.std.proofs.Common.{◌≡◌, ℕ, List, refl, ap, ◌∙◌}
+use Rattle.std.proofs.lemmas.Result.{IfOk-weaker}
 use Rattle.facet_json_document.specs.Tree as tree
 use Rattle.facet_json_document.specs.Quoted.{quoted}
 use Rattle.facet_json_document.specs.Text.{default_options, text}
@@ -11,7 +12,8 @@ text_quoted : (bytes : List ℕ) → text default_options 0 (tree.text bytes) �
 unfolding text
 text_quoted bytes = refl
 
-pub returns-in-Ok-to_vec-clause-text : goal.returns-in-Ok-to_vec-clause-text
-returns-in-Ok-to_vec-clause-text c =
-    c.in-Ok-to_vec.ensures ∙ ap (text default_options 0) (tree_view-Text c.in-Ok.text) ∙ text_quoted _
-    ∙ ap quoted (c.in-Ok.ensures.ok ∙ held-bytes c.args.text)
+pub returns-in-Ok-clause-text : goal.returns-in-Ok-clause-text
+returns-in-Ok-clause-text c =
+    let same = ap (text default_options 0) (tree_view-Text c.in-Ok.text) ∙ text_quoted _
+    ∙ ap quoted (c.in-Ok.ensures.ok ∙ held-bytes c.args.text) in
+    IfOk-weaker c.text_of_tree.result _ _ (λ v is. is ∙ same) c.text_of_tree.ensures.text

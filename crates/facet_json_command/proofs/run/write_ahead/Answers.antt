@@ -4,12 +4,11 @@ use Rattle.std.proofs.lemmas.Result.{err_from_is_err_and}
 use Rattle.facet_json_core.specs.ScriptViews.{answer_of}
 use Rattle.facet_json_command.specs.Lines.{answer_lines}
 use Rattle.facet_json_command.proofs.Printing.{up_to_more, stops_behind}
-use Rattle.facet_json_command.proofs.run.write_answers.Goals as goal
+use Rattle.facet_json_command.proofs.run.write_ahead.Goals as goal
 
 pub loop-answer-preserved : goal.loop-answer-preserved
 loop-answer-preserved g c =
-    let items = rw c.in-Some.is at c.next.ensures.steps in
-    up_to_more _ _ _ _ _ _ _ (ap (λ l. flat_map answer_lines (map answer_of l)) items.0)
+    up_to_more _ _ _ _ _ _ _ (ap (λ l. flat_map answer_lines (map answer_of l)) c.in-Some.ensures.items)
     c.loop-answer.invariant c.in_ok-write_answer.ensures
 
 pub returns-in_err-write_answer : goal.returns-in_err-write_answer
