@@ -1,13 +1,13 @@
 //! Loops over a document's events.
 
 ghost use Rattle.std.specs.Prelude.{◌≤◌, IfOk, length};
+ghost use Rattle.facet_json.specs.Now.{ahead};
 
 use facet_json::{FormatParser, JsonParser, ParseError, ParseEventKind, ScalarValue};
 use std::alloc::Global;
 
-/// Whether a null stands in the document as a value of its own: not as part of a text.
-pub fn has_null(alloc: Global, input: &[u8]) -> Result<bool, ParseError<'static>> {
-    let mut parser = JsonParser::new(alloc, input);
+/// Whether a null is still to come in the document as a value of its own: not as part of a text.
+pub fn has_null(parser: &mut JsonParser<'_>) -> Result<bool, ParseError<'static>> {
     while let Some(event) = parser.next_event()? {
         if matches!(event.kind, ParseEventKind::Scalar(ScalarValue::Null)) {
             return Ok(true);
@@ -20,10 +20,16 @@ pub fn has_null(alloc: Global, input: &[u8]) -> Result<bool, ParseError<'static>
 pub fn count(alloc: Global, input: &[u8]) -> Result<usize, ParseError<'static>>
     ensures { IfOk result (λ n. n ≤ length input.now) }
 {
-    let mut parser = JsonParser::new(alloc, input);
-    let mut count = 0;
+    count_left(&mut JsonParser::new(alloc, input))
+}
+
+/// How many events the parser has left: no more than its measure.
+fn count_left(parser: &mut JsonParser<'_>) -> Result<usize, ParseError<'static>>
+    ensures { IfOk result (λ n. n ≤ ahead parser.old) }
+{
+    let mut count: usize = 0;
     while let Some(_event) = parser.next_event()? {
-        count += 1;
+        count = count.saturating_add(1);
     }
     Ok(count)
 }

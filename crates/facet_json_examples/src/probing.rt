@@ -6,9 +6,14 @@ use std::alloc::{AllocError, Global};
 /// Whether an object comes next. The parser goes back to where it stood.
 pub fn object_comes(parser: &mut JsonParser<'_>) -> Result<bool, ParseError<'static>> {
     let point = parser.save()?;
-    let first = parser.next_event();
+    let comes = begins_object(parser);
     parser.restore(point);
-    match first? {
+    comes
+}
+
+/// Whether the next event begins an object.
+fn begins_object(parser: &mut JsonParser<'_>) -> Result<bool, ParseError<'static>> {
+    match parser.next_event()? {
         Some(event) => Ok(matches!(event.kind, ParseEventKind::StructStart(_))),
         None => Ok(false),
     }

@@ -1,5 +1,5 @@
 use Rattle.facet_json.specs.Now.{ahead}
 use Rattle.facet_json_examples.proofs.loops.has_null.Given as goal
 
-abbrev pub decreases-loop-parser : goal.decreases-loop-parser
-decreases-loop-parser l = ahead l.parser
+abbrev pub decreases-loop-event : goal.decreases-loop-event
+decreases-loop-event l = ahead l.parser
