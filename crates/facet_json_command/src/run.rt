@@ -135,8 +135,17 @@ fn reformatted(alloc: Global, mode: Mode, input: &[u8]) -> Result<Vec<u8>, Outco
 {
     match read_tree(alloc, mode, input) {
         Ok(tree) => text_of_tree(alloc, &tree),
-        Err(error) => Err(Outcome::Refused(error.kind.code(), error.span)),
+        Err(error) => Err(refused(error)),
     }
+}
+
+/// How the refusal of a document ends the run.
+fn refused(error: DeserializeError<'_>) -> Outcome
+    ensures refused { (mode : SpecMode) (input : List ℕ)
+        → ((refusal_of error.entry).complaint ≡ out_of_memory) ⊎ Refuses input mode (refusal_of error.entry) → IsRefusal mode input result }
+    ensures failed { (refusal_of error.entry).complaint ≡ out_of_memory → IsFailure result }
+{
+    Outcome::Refused(error.kind.code(), error.span)
 }
 
 /// The tree of the document that the input begins with.
