@@ -1,22 +1,13 @@
 -- What the first event says of the value that events tell, or within which they break off.
-use Rattle.std.proofs.Common.{◌≡◌, ◌≢◌, ◌⊎◌, inl, inr, Bool, true, false, Some, refl, ap, ◌∙◌}
-use Rattle.facet_format.specs.Event.{ContainerKind, EventKind, struct_start, struct_end, sequence_start, sequence_end, field_key, scalar, Scalar, Text, bytes_of, Passed}
+use Rattle.std.proofs.Common.{◌≡◌, ◌≢◌, ◌⊎◌, inl, inr, true, false, Some, refl, ap, ◌∙◌}
+use Rattle.facet_format.specs.Event.{ContainerKind, struct_start, struct_end, sequence_start, sequence_end, field_key, scalar, Scalar, Text, bytes_of, Passed}
 use Rattle.facet_json_token.specs.Tokens.{Tokens}
 use Rattle.facet_json_document.specs.Tree.{Tree, list, pairs, Trees, no_trees, tree, Pairs, no_pairs, pair}
 use Rattle.facet_json_document.specs.Place.{Place}
 use Rattle.facet_json_document.specs.Future.{Future, gives, stuck}
-use Rattle.facet_json.specs.Inner.Told.{tree_of_scalar, Tells, a_scalar, a_list, an_object, TellsItems, no_item, one_item, TellsMembers, no_member, one_member, Breaks, in_front, in_list, in_object, BreaksItems, in_item, past_item, BreaksMembers, in_key, in_member, past_member}
+use Rattle.facet_json.specs.Inner.Told.{tree_of_scalar, opens, begins, is_member, Tells, a_scalar, a_list, an_object, TellsItems, no_item, one_item, TellsMembers, no_member, one_member, Breaks, in_front, in_list, in_object, BreaksItems, in_item, past_item, BreaksMembers, in_key, in_member, past_member}
 
 -- ---- events with which a value begins
-
-abbrev pub opens : EventKind → Bool
-opens (struct_start kind) = true
-opens (sequence_start kind) = true
-opens _ = false
-
-abbrev pub begins : EventKind → Bool
-begins (scalar value) = true
-begins kind = opens kind
 
 -- A value that is told begins with such an event.
 pub told-begins : (p : Passed) (f rest : Future) (t : Tree) → Tells (gives p f) t rest → begins p.event.kind ≡ true
@@ -109,12 +100,6 @@ members-first p f rest _ name k (no_member _ _ q) = cc
 members-first p f rest _ name k (one_member _ _ behind _ other t others q h more) =
     let same : other ≡ name = cc in
     (t, behind, others, h, more, ap (λ n. pair (bytes_of n) t others) same)
-
--- an event that may stand before a member or after the last one
-abbrev pub is_member : EventKind → Bool
-is_member (field_key name) = true
-is_member struct_end = true
-is_member _ = false
 
 pub members-begin : (p : Passed) (f rest : Future) (members : Pairs) → TellsMembers (gives p f) members rest → is_member p.event.kind ≡ true
 members-begin p f rest _ (no_member _ _ q) = ap is_member q

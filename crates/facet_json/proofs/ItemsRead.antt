@@ -42,6 +42,10 @@ pub record ItemsPassed (start here : Future) (items : List Tree) : Type 0 where
       (others : Trees) × TellsItems here others rest × (trees_before items others ≡ all)
   pub broken : (place : Place) (rest : Tokens) → BreaksItems place rest start → BreaksItems place rest here
 
+-- At the start none was.
+pub items-none : (start : Future) → ItemsPassed start start []
+items-none start = record { told = λ all rest h. (all, h, refl); broken = λ place rest h. h }
+
 module _ (start here : Future) (items : List Tree) (passed : ItemsPassed start here items) where
   -- How the others are refused, all of them are.
   pub items-unread : (buffer : List ℕ) (r : Refusal) → AreItemsUnread buffer here r → AreItemsUnread buffer start r

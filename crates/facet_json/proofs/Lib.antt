@@ -8,4 +8,5 @@ pub mod NextEventComes
 pub mod PrefixBreaksOff
 pub mod ReadingValues
 pub mod TreeViews
+pub mod ValuesBegin
 pub mod WalkTells

@@ -18,9 +18,9 @@ use Rattle.facet_json_document.specs.Place.{Place}
 use Rattle.facet_json_document.specs.Future.{Future, gives}
 use Rattle.facet_format.specs.Views.{event_kind_of}
 use Rattle.facet_json.specs.Views.{pairs_view, tree_view}
-use Rattle.facet_json.specs.Inner.Told.{TellsMembers, BreaksMembers}
+use Rattle.facet_json.specs.Inner.Told.{is_member, TellsMembers, BreaksMembers}
 use Rattle.facet_json.specs.Inner.Reading.{IsValueRead, AreMembersRead, IsValueUnread, AreMembersUnread}
-use Rattle.facet_json.proofs.FirstEventTells.{is_member, members-ended, members-first, members-begin, members_broken-begin, members-broken}
+use Rattle.facet_json.proofs.FirstEventTells.{members-ended, members-first, members-begin, members_broken-begin, members-broken}
 
 -- members before others
 abbrev pub pairs_before : List (List ℕ × Tree) → Pairs → Pairs
@@ -58,6 +58,10 @@ pub record MembersPassed (start here : Future) (members : List (List ℕ × Tree
   pub told : (all : Pairs) (rest : Future) → TellsMembers start all rest →
       (others : Pairs) × TellsMembers here others rest × (pairs_before members others ≡ all)
   pub broken : (place : Place) (rest : Tokens) → BreaksMembers place rest start → BreaksMembers place rest here
+
+-- At the start none was.
+pub members-none : (start : Future) → MembersPassed start start []
+members-none start = record { told = λ all rest h. (all, h, refl); broken = λ place rest h. h }
 
 module _ (start here : Future) (members : List (List ℕ × Tree)) (passed : MembersPassed start here members) where
   pub members-unread : (buffer : List ℕ) (r : Refusal) → AreMembersUnread buffer here r → AreMembersUnread buffer start r

@@ -32,6 +32,15 @@ tree_view-List v = search (rules, the_lemmas)
 pub tree_view-Pairs : (v : Vec (String Global × Tree) Global) → tree_view (code.Pairs v) ≡ tree.pairs (pairs_view v.items)
 tree_view-Pairs v = search (rules, the_lemmas)
 
+-- where nothing is seen there is nothing
+pub trees_view-none : (xs : List Tree) → trees_view xs ≡ tree.no_trees → xs ≡ []
+trees_view-none [] e = refl
+trees_view-none (x ∷ xs) e = cc
+
+pub pairs_view-none : (ps : List (String Global × Tree)) → pairs_view ps ≡ tree.no_pairs → ps ≡ []
+pairs_view-none [] e = refl
+pairs_view-none (p ∷ ps) e = cc
+
 -- lists that stand for the same items are as long
 pub trees_view-length : (xs ys : List Tree) → trees_view xs ≡ trees_view ys → length xs ≡ length ys
 trees_view-length [] [] e = refl

@@ -1,18 +1,19 @@
 //! Reads the tree of a document, event by event and by recursion.
 
-ghost use Rattle.std.specs.Prelude.{◌≡◌, ◌≤◌, ◌<◌, ◌+◌, ◌⊎◌, length, None, Some, IfOk, IfErr, IfSome, OnOk, MatchResult};
+ghost use Rattle.std.specs.Prelude.{◌≡◌, ◌≤◌, ◌<◌, ◌+◌, ◌⊎◌, false, [], string_bytes, length, None, Some, IfOk, IfErr, IfSome, OnOk, MatchResult, MatchOption};
 ghost use Rattle.facet_format.specs.Complaint.{no_memory, out_of_memory};
-ghost use Rattle.facet_format.specs.Event.{bytes_of};
-ghost use Rattle.facet_format.specs.Span.{Span as SpecSpan, stop};
+ghost use Rattle.facet_format.specs.Event.{bytes_of, sequence_end, struct_end};
+ghost use Rattle.facet_format.specs.Span.{stop};
 ghost use Rattle.facet_format.specs.Views.{event_of, refusal_of, scalar_value_of};
 ghost use Rattle.facet_json_token.specs.Gap.{plain, jsonc};
 ghost use Rattle.facet_json_document.specs.Node.{Node};
 ghost use Rattle.facet_json_document.specs.Tree.{Tree as SpecTree};
 ghost use Rattle.facet_json_document.specs.Document.{IsDocument};
+ghost use Rattle.facet_json_document.specs.Future.{Future};
 ghost use Rattle.facet_json_document.specs.Refusal.{Refuses};
 ghost use Rattle.facet_json_protocol.specs.Now.{ahead, future_of};
-ghost use Rattle.facet_json.specs.Inner.Told.{tree_of_scalar};
-ghost use Rattle.facet_json.specs.Inner.Reading.{first_then, GaveNext, GivesNone, LacksMemory, WentOn, IsValueRead, AreItemsRead, AreMembersRead, IsValueUnread, AreItemsUnread, AreMembersUnread};
+ghost use Rattle.facet_json.specs.Inner.Told.{tree_of_scalar, is_member};
+ghost use Rattle.facet_json.specs.Inner.Reading.{GaveNext, GivesNone, LacksMemory, WentOn, IsValueRead, AreItemsRead, AreMembersRead, IsValueUnread, AreItemsUnread, AreMembersUnread, HasBegun, IsRefused, BeganValue, BeganMember, PassedEnd, IsKey, IsFilled, IsUnfilled};
 ghost use Rattle.facet_json.specs.Views.{tree_view, trees_view, pairs_view};
 
 use crate::tree::Tree;
@@ -42,7 +43,7 @@ pub fn from_slice<'t>(alloc: Global, input: &[u8]) -> Result<Tree, DeserializeEr
         → MatchResult result (λ t. tree_view t ≡ value) (λ e. (refusal_of e).complaint ≡ out_of_memory) }
     ensures within { IfErr result (λ e. IfSome e.span (λ s. s.offset + s.len ≤ length input.now)) }
 {
-    root(alloc, &mut JsonParser::new(alloc, input))
+    document(alloc, JsonParser::new(alloc, input))
 }
 
 /// Reads the document that the bytes begin with, which may have comments (`//` up to the line's end, `/*` up to `*/`) wherever white
@@ -62,7 +63,17 @@ pub fn from_slice_jsonc<'t>(alloc: Global, input: &[u8]) -> Result<Tree, Deseria
         → MatchResult result (λ t. tree_view t ≡ value) (λ e. (refusal_of e).complaint ≡ out_of_memory) }
     ensures within { IfErr result (λ e. IfSome e.span (λ s. s.offset + s.len ≤ length input.now)) }
 {
-    root(alloc, &mut JsonParser::new_jsonc(alloc, input))
+    document(alloc, JsonParser::new_jsonc(alloc, input))
+}
+
+/// The tree of the document that a parser reads.
+fn document<'t>(alloc: Global, mut parser: JsonParser<'_>) -> Result<Tree, DeserializeError<'t>>
+    requires free { parser.refusal ≡ None }
+    ensures read { IfOk result (λ t. (behind : Future) × IsValueRead (future_of parser.entry) (tree_view t) behind) }
+    ensures refused { IfErr result (λ e. IsValueUnread parser.entry.buffer (future_of parser.entry) (refusal_of e)) }
+    ensures within { IfErr result (λ e. IfSome e.span (λ s. s.offset + s.len ≤ length parser.entry.buffer)) }
+{
+    root(alloc, &mut parser)
 }
 
 /// The value before which the parser stands.
@@ -73,8 +84,8 @@ fn root<'t>(alloc: Global, parser: &mut JsonParser<'_>) -> Result<Tree, Deserial
     ensures refused { IfErr result (λ e. IsValueUnread parser.old.buffer (future_of parser.old) (refusal_of e)) }
     ensures within { IfErr result (λ e. IfSome e.span (λ s. s.offset + s.len ≤ length parser.new.buffer)) }
 {
-    let first = next(parser)?;
-    value(alloc, parser, first)
+    let first = begin_value(alloc, parser)?;
+    finish(alloc, parser, first)
 }
 
 /// The next event, where a value has not ended.
@@ -107,78 +118,154 @@ fn ended<'t>(parser: &JsonParser<'_>) -> DeserializeError<'t>
     }
 }
 
-/// The value that begins with an event, after which the parser stands.
-#[cycle(read)]
-fn value<'t>(
+/// The tree of the value before which the parser stands, its items or members still to be read. Passes its first event.
+fn begin_value<'t>(alloc: Global, parser: &mut JsonParser<'_>) -> Result<Tree, DeserializeError<'t>>
+    requires free { parser.old.refusal ≡ None }
+    ensures same { parser.new.buffer ≡ parser.old.buffer }
+    ensures shorter { OnOk result (ahead parser.new < ahead parser.old) }
+    ensures begun { IfOk result (λ t. BeganValue parser.old (tree_view t) parser.new) }
+    ensures refused { IfErr result (λ e. IsValueUnread parser.old.buffer (future_of parser.old) (refusal_of e)) }
+    ensures within { IfErr result (λ e. IfSome e.span (λ s. s.offset + s.len ≤ length parser.new.buffer)) }
+{
+    begun(alloc, next(parser)?)
+}
+
+/// The next item of a list, its own items or members still to be read. Nothing at the end of the list, which is passed.
+fn begin_item<'t>(
     alloc: Global,
     parser: &mut JsonParser<'_>,
-    first: ParseEvent<'_>,
-) -> Result<Tree, DeserializeError<'t>>
+) -> Result<Option<Tree>, DeserializeError<'t>>
     requires free { parser.old.refusal ≡ None }
-    requires within { stop (event_of first).span ≤ length parser.old.buffer }
     ensures same { parser.new.buffer ≡ parser.old.buffer }
-    ensures went { OnOk result (WentOn parser.old parser.new) }
-    ensures read { IfOk result (λ t. (last : SpecSpan) → IsValueRead (first_then (event_of first.entry) last (future_of parser.old))
-        (tree_view t) (future_of parser.new)) }
-    ensures refused { IfErr result (λ e. (last : SpecSpan)
-        → IsValueUnread parser.old.buffer (first_then (event_of first.entry) last (future_of parser.old)) (refusal_of e)) }
+    ensures shorter { OnOk result (ahead parser.new < ahead parser.old) }
+    ensures begun { IfOk result (λ o. MatchOption o (PassedEnd sequence_end parser.old parser.new) (λ t. BeganValue parser.old (tree_view t) parser.new)) }
+    ensures refused { IfErr result (λ e. AreItemsUnread parser.old.buffer (future_of parser.old) (refusal_of e)) }
     ensures within { IfErr result (λ e. IfSome e.span (λ s. s.offset + s.len ≤ length parser.new.buffer)) }
+{
+    let first = next(parser)?;
+    if let ParseEventKind::SequenceEnd = first.kind {
+        return Ok(None);
+    }
+    Ok(Some(begun(alloc, first)?))
+}
+
+/// The next member of an object, its value's items or members still to be read. Nothing at the end of the object, which is passed.
+fn begin_member<'t>(
+    alloc: Global,
+    parser: &mut JsonParser<'_>,
+) -> Result<Option<(String, Tree)>, DeserializeError<'t>>
+    requires free { parser.old.refusal ≡ None }
+    ensures same { parser.new.buffer ≡ parser.old.buffer }
+    ensures shorter { OnOk result (ahead parser.new < ahead parser.old) }
+    ensures begun { IfOk result (λ o. MatchOption o (PassedEnd struct_end parser.old parser.new) (λ m. BeganMember parser.old (string_bytes m.0) (tree_view m.1) parser.new)) }
+    ensures refused { IfErr result (λ e. AreMembersUnread parser.old.buffer (future_of parser.old) (refusal_of e)) }
+    ensures within { IfErr result (λ e. IfSome e.span (λ s. s.offset + s.len ≤ length parser.new.buffer)) }
+{
+    match member_key(alloc, next(parser)?)? {
+        Some(key) => Ok(Some((key, begin_value(alloc, parser)?))),
+        None => Ok(None),
+    }
+}
+
+/// The key that an event is, or nothing where it ends an object.
+fn member_key<'t>(
+    alloc: Global,
+    event: ParseEvent<'_>,
+) -> Result<Option<String>, DeserializeError<'t>>
+    ensures key { IfOk result (λ o. MatchOption o ((event_of event.entry).kind ≡ struct_end) (λ k. IsKey (event_of event.entry).kind (string_bytes k))) }
+    ensures refused { IfErr result (λ e. LacksMemory (refusal_of e) ⊎ (is_member (event_of event.entry).kind ≡ false)) }
+    ensures span { IfErr result (λ e. IfSome e.span (λ s. s ≡ event.entry.span)) }
+{
+    let ParseEvent { kind, span } = event;
+    match kind {
+        ParseEventKind::FieldKey(key) => Ok(Some(key.name.into_owned(alloc)?)),
+        ParseEventKind::StructEnd => Ok(None),
+        _ => Err(mismatch("key", "value", span)),
+    }
+}
+
+/// The tree of the value that begins with an event, its items or members still to be read.
+fn begun<'t>(alloc: Global, first: ParseEvent<'_>) -> Result<Tree, DeserializeError<'t>>
+    ensures begun { IfOk result (λ t. HasBegun (event_of first.entry).kind (tree_view t)) }
+    ensures refused { IfErr result (λ e. IsRefused (event_of first.entry).kind (refusal_of e)) }
+    ensures span { IfErr result (λ e. IfSome e.span (λ s. s ≡ first.entry.span)) }
 {
     let ParseEvent { kind, span } = first;
     match kind {
         ParseEventKind::Scalar(value) => scalar(alloc, value, span),
-        ParseEventKind::SequenceStart(_) => Ok(Tree::List(items(alloc, parser)?)),
-        ParseEventKind::StructStart(_) => Ok(Tree::Pairs(members(alloc, parser)?)),
+        ParseEventKind::SequenceStart(_) => Ok(Tree::List(Vec::new(alloc))),
+        ParseEventKind::StructStart(_) => Ok(Tree::Pairs(Vec::new(alloc))),
         ParseEventKind::FieldKey(_) => Err(mismatch("value", "key", span)),
         ParseEventKind::SequenceEnd => Err(mismatch("value", "end", span)),
         ParseEventKind::StructEnd => Err(mismatch("value", "end", span)),
     }
 }
 
-/// The items of a list, after its opening bracket. Passes the closing one.
+/// The whole tree of a value that has begun: reads its items or its members, up to the closing bracket and past it.
 #[cycle(read)]
-fn items<'t>(alloc: Global, parser: &mut JsonParser<'_>) -> Result<Vec<Tree>, DeserializeError<'t>>
+fn finish<'t>(
+    alloc: Global,
+    parser: &mut JsonParser<'_>,
+    begun: Tree,
+) -> Result<Tree, DeserializeError<'t>>
     requires free { parser.old.refusal ≡ None }
     ensures same { parser.new.buffer ≡ parser.old.buffer }
     ensures went { OnOk result (WentOn parser.old parser.new) }
-    ensures read { IfOk result (λ v. AreItemsRead (future_of parser.old) (trees_view v.items) (future_of parser.new)) }
-    ensures refused { IfErr result (λ e. AreItemsUnread parser.old.buffer (future_of parser.old) (refusal_of e)) }
+    ensures read { IfOk result (λ t. IsFilled (tree_view begun) (future_of parser.old) (tree_view t) (future_of parser.new)) }
+    ensures refused { IfErr result (λ e. IsUnfilled parser.old.buffer (tree_view begun) (future_of parser.old) (refusal_of e)) }
     ensures within { IfErr result (λ e. IfSome e.span (λ s. s.offset + s.len ≤ length parser.new.buffer)) }
 {
-    let mut items = Vec::new(alloc);
-    loop {
-        let first = next(parser)?;
-        if let ParseEventKind::SequenceEnd = first.kind {
-            return Ok(items);
+    match begun {
+        Tree::List(mut items) => {
+            push_items(alloc, parser, &mut items)?;
+            Ok(Tree::List(items))
         }
-        items.push(value(alloc, parser, first)?)?;
+        Tree::Pairs(mut members) => {
+            push_members(alloc, parser, &mut members)?;
+            Ok(Tree::Pairs(members))
+        }
+        whole => Ok(whole),
     }
 }
 
-/// The members of an object, after its opening brace. Passes the closing one.
+/// Appends the items of a list, after its opening bracket. Passes the closing one.
 #[cycle(read)]
-fn members<'t>(
+fn push_items<'t>(
     alloc: Global,
     parser: &mut JsonParser<'_>,
-) -> Result<Vec<(String, Tree)>, DeserializeError<'t>>
+    items: &mut Vec<Tree>,
+) -> Result<(), DeserializeError<'t>>
     requires free { parser.old.refusal ≡ None }
     ensures same { parser.new.buffer ≡ parser.old.buffer }
     ensures went { OnOk result (WentOn parser.old parser.new) }
-    ensures read { IfOk result (λ v. AreMembersRead (future_of parser.old) (pairs_view v.items) (future_of parser.new)) }
-    ensures refused { IfErr result (λ e. AreMembersUnread parser.old.buffer (future_of parser.old) (refusal_of e)) }
+    ensures read { OnOk result (items.old.items ≡ [] → AreItemsRead (future_of parser.old) (trees_view items.new.items) (future_of parser.new)) }
+    ensures refused { IfErr result (λ e. items.old.items ≡ [] → AreItemsUnread parser.old.buffer (future_of parser.old) (refusal_of e)) }
     ensures within { IfErr result (λ e. IfSome e.span (λ s. s.offset + s.len ≤ length parser.new.buffer)) }
 {
-    let mut members = Vec::new(alloc);
-    loop {
-        let ParseEvent { kind, span } = next(parser)?;
-        let key = match kind {
-            ParseEventKind::FieldKey(key) => key.name.into_owned(alloc)?,
-            ParseEventKind::StructEnd => return Ok(members),
-            _ => return Err(mismatch("key", "value", span)),
-        };
-        let first = next(parser)?;
-        members.push((key, value(alloc, parser, first)?))?;
+    while let Some(item) = begin_item(alloc, parser)? {
+        items.push(finish(alloc, parser, item)?)?;
     }
+    Ok(())
+}
+
+/// Appends the members of an object, after its opening brace. Passes the closing one.
+#[cycle(read)]
+fn push_members<'t>(
+    alloc: Global,
+    parser: &mut JsonParser<'_>,
+    members: &mut Vec<(String, Tree)>,
+) -> Result<(), DeserializeError<'t>>
+    requires free { parser.old.refusal ≡ None }
+    ensures same { parser.new.buffer ≡ parser.old.buffer }
+    ensures went { OnOk result (WentOn parser.old parser.new) }
+    ensures read { OnOk result (members.old.items ≡ [] → AreMembersRead (future_of parser.old) (pairs_view members.new.items) (future_of parser.new)) }
+    ensures refused { IfErr result (λ e. members.old.items ≡ [] → AreMembersUnread parser.old.buffer (future_of parser.old) (refusal_of e)) }
+    ensures within { IfErr result (λ e. IfSome e.span (λ s. s.offset + s.len ≤ length parser.new.buffer)) }
+{
+    while let Some((key, value)) = begin_member(alloc, parser)? {
+        members.push((key, finish(alloc, parser, value)?))?;
+    }
+    Ok(())
 }
 
 /// The tree of a value that holds no others.
@@ -187,7 +274,7 @@ fn scalar<'t>(
     value: ScalarValue<'_>,
     span: Span,
 ) -> Result<Tree, DeserializeError<'t>>
-    ensures read { IfOk result (λ t. (u : SpecTree) → tree_of_scalar (scalar_value_of value.entry) ≡ Some u → tree_view t ≡ u) }
+    ensures read { IfOk result (λ t. tree_of_scalar (scalar_value_of value.entry) ≡ Some (tree_view t)) }
     ensures refused { IfErr result (λ e. (u : SpecTree) → tree_of_scalar (scalar_value_of value.entry) ≡ Some u → LacksMemory (refusal_of e)) }
     ensures span { IfErr result (λ e. IfSome e.span (λ s. s ≡ span)) }
 {

@@ -1,6 +1,6 @@
 -- Which values events tell (RFC 8259, section 3), as far as a `Tree` holds them, and where events break off within one.
-use Rattle.std.specs.Prelude.{◌≡◌, Option, Some, None}
-use Rattle.facet_format.specs.Event.{ContainerKind, struct_start, struct_end, sequence_start, sequence_end, field_key, scalar, Scalar, Text, bytes_of, Passed}
+use Rattle.std.specs.Prelude.{◌≡◌, Bool, true, false, Option, Some, None}
+use Rattle.facet_format.specs.Event.{ContainerKind, EventKind, struct_start, struct_end, sequence_start, sequence_end, field_key, scalar, Scalar, Text, bytes_of, Passed}
 use Rattle.facet_format.specs.Event as event
 use Rattle.facet_json_token.specs.Tokens.{Tokens}
 use Rattle.facet_json_document.specs.Tree.{Tree, list, pairs, Trees, no_trees, tree, Pairs, no_pairs, pair}
@@ -21,6 +21,23 @@ tree_of_scalar (event.char c) = None
 tree_of_scalar (event.i128 n) = None
 tree_of_scalar (event.u128 n) = None
 tree_of_scalar (event.bytes b) = None
+
+-- an event with which a container begins
+abbrev pub opens : EventKind → Bool
+opens (struct_start kind) = true
+opens (sequence_start kind) = true
+opens _ = false
+
+-- an event with which a value begins
+abbrev pub begins : EventKind → Bool
+begins (scalar value) = true
+begins kind = opens kind
+
+-- an event that may stand before a member or after the last one
+abbrev pub is_member : EventKind → Bool
+is_member (field_key name) = true
+is_member struct_end = true
+is_member _ = false
 
 -- The events that come first tell the value, and the last future comes after them.
 mutual

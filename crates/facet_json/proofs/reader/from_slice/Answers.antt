@@ -5,19 +5,19 @@ use Rattle.facet_json.proofs.reader.from_slice.Goals as goal
 
 pub returns-clause-document : goal.returns-clause-document
 returns-clause-document c =
-    let read = rw c.new.ensures at c.root.ensures.read in
-    IfOk-weaker c.root.result _ _ (λ t h. read-document c.args.input.now plain _ _ h) read
+    let read = rw c.new.ensures at c.document.ensures.read in
+    IfOk-weaker c.document.result _ _ (λ t h. read-document c.args.input.now plain _ h.0 h.1) read
 
 pub returns-clause-refused : goal.returns-clause-refused
 returns-clause-refused c =
-    let unread = rw c.new.ensures at c.root.ensures.refused in
-    IfErr-weaker c.root.result _ _ (λ e h. unread-refused c.args.input.now plain _ h) unread
+    let unread = rw c.new.ensures at c.document.ensures.refused in
+    IfErr-weaker c.document.result _ _ (λ e h. unread-refused c.args.input.now plain _ h) unread
 
 pub returns-clause-only : goal.returns-clause-only
 returns-clause-only c =
-    let read = rw c.new.ensures at c.root.ensures.read in
-    let unread = rw c.new.ensures at c.root.ensures.refused in
+    let read = rw c.new.ensures at c.document.ensures.read in
+    let unread = rw c.new.ensures at c.document.ensures.refused in
     λ root value d.
-    MatchResult-from_both c.root.result _ _
-    (IfOk-weaker c.root.result _ _ (λ t h. read-only c.args.input.now plain _ _ h root value d) read)
-    (IfErr-weaker c.root.result _ _ (λ e h. unread-only c.args.input.now plain _ h root value d) unread)
+    MatchResult-from_both c.document.result _ _
+    (IfOk-weaker c.document.result _ _ (λ t h. read-only c.args.input.now plain _ h.0 h.1 root value d) read)
+    (IfErr-weaker c.document.result _ _ (λ e h. unread-only c.args.input.now plain _ h root value d) unread)

@@ -1,8 +1,13 @@
-use Rattle.std.proofs.lemmas.Result.{err_from_is_err_and}
-use Rattle.facet_json.proofs.ReadingValues.{none-value}
+use Rattle.std.proofs.lemmas.Result.{IfOk-weaker, IfErr-weaker}
+use Rattle.facet_json.proofs.ReadingValues.{unread-at, unread-same, read-at}
 use Rattle.facet_json.proofs.reader.root.Goals as goal
 
-pub returns-in_err-first-clause-refused : goal.returns-in_err-first-clause-refused
-returns-in_err-first-clause-refused c =
-    let p = err_from_is_err_and c.from_residual.result c.from_residual.ensures.1 in
-    rw (p.1, p.2) (none-value c.args.parser.now _ c.in_err-first.ensures.refused)
+pub returns-clause-read : goal.returns-clause-read
+returns-clause-read c =
+    let first = c.in_ok-first.ensures.begun in
+    IfOk-weaker c.finish.result _ _ (λ t h. read-at first.comes (h first.passed first.begun)) c.finish.ensures.read
+
+pub returns-clause-refused : goal.returns-clause-refused
+returns-clause-refused c =
+    let first = c.in_ok-first.ensures.begun in
+    IfErr-weaker c.finish.result _ _ (λ e h. unread-same c.begin_value.ensures.same (unread-at first.comes (h first.passed first.begun))) c.finish.ensures.refused
