@@ -2,9 +2,9 @@ use Rattle.std.proofs.Common.{◌≡◌, [], drop, not, string_bytes, refl, sym,
 use Rattle.std.proofs.lemmas.Bool.{not-false}
 use Rattle.std.proofs.lemmas.List.{drop_all}
 use Rattle.std.specs.Cmp.Lexicographic.{bytes_decides}
-use Rattle.facet_json_document.specs.Tree.{list, pairs}
+use Rattle.facet_json_document.specs.Tree.{pairs}
 use Rattle.facet_json.specs.Views.{tree_view, trees_view, pairs_view}
-use Rattle.facet_json.proofs.TreeViews.{trees_view-length, pairs_view-length, trees_view-drop, pairs_view-drop, tree_view-List, tree_view-Pairs}
+use Rattle.facet_json.proofs.TreeViews.{trees_view-length, pairs_view-length, trees_view-drop, pairs_view-drop, tree_view-Pairs}
 use Rattle.facet_json.proofs.tree.+same.Goals as goal
 use Rattle.facet_json.proofs.tree.+same.Goals.{have_same-then-ne-via-then-ne, have_same-then-ne-via-else-ne+then-not-is_same}
 
@@ -91,15 +91,3 @@ Tree::is_same-returns-in-Pairs-Pairs t c =
     let a = ap tree_view step.is-0 ∙ tree_view-Pairs _ ∙ ps in
     let b = ap tree_view step.is-1 ∙ tree_view-Pairs _ ∙ qs in
     (λ yes. let same = c.have_same.ensures.0 yes in cc, λ e. c.have_same.ensures.1 (cc))
-
-pub Tree::is_same-returns-in-Null-Null : goal.Tree::is_same-returns-in-Null-Null
-Tree::is_same-returns-in-Null-Null t c = (λ _. ap tree_view (c.in-Null-Null.is-0 ∙ sym c.in-Null-Null.is-1), λ _. refl)
-
-pub Tree::is_same-returns-in-List-List : goal.Tree::is_same-returns-in-List-List
-Tree::is_same-returns-in-List-List t c =
-    let step = c.in-List-List in
-    let xs = ap (λ v. list (trees_view v)) (sym c.deref.ensures.value) in
-    let ys = ap (λ v. list (trees_view v)) (sym c.deref-in-List-List.ensures.value) in
-    let a = ap tree_view step.is-0 ∙ tree_view-List _ ∙ xs in
-    let b = ap tree_view step.is-1 ∙ tree_view-List _ ∙ ys in
-    (λ yes. let same = c.are_same.ensures.0 yes in cc, λ e. c.are_same.ensures.1 (cc))
