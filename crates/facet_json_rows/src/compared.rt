@@ -1,9 +1,9 @@
 //! What parsers tell of an input: each mode, trusted and checking parsers, and each way to ask tell the same.
 
-use crate::shown::{push_answer, tell, tell_answer};
+use crate::shown::{Telling, push, push_answer};
 use facet_json::scanner::Mode;
 use facet_json::{from_slice, from_slice_jsonc};
-use facet_json_core::{Call, JsonParser, drive};
+use facet_json_core::{Answer, Call, JsonParser, drive};
 use std::alloc::{AllocError, Global};
 use std::io;
 use std::io::Write;
@@ -47,12 +47,37 @@ pub fn compare<W: Write>(
         return writeln!(writer, "NO MODE");
     };
     let told = told(alloc, *mode, false, *way, input)?;
+    write_told(alloc, modes, ways, input, told.as_str(), writer)
+}
+
+/// Writes this, which is told of the input, and each other telling of it.
+fn write_told<W: Write>(
+    alloc: Global,
+    modes: &[Mode],
+    ways: &[Way<'_>],
+    input: &[u8],
+    told: &str,
+    writer: &mut W,
+) -> io::Result<()> {
     writeln!(writer, "{told}")?;
     for mode in modes {
-        for way in ways {
-            write_difference(alloc, *mode, false, *way, input, told.as_str(), writer)?;
-            write_difference(alloc, *mode, true, *way, input, told.as_str(), writer)?;
-        }
+        write_differences(alloc, *mode, ways, input, told, writer)?;
+    }
+    Ok(())
+}
+
+/// Writes what is told of the input in one mode, each time that it isn't this.
+fn write_differences<W: Write>(
+    alloc: Global,
+    mode: Mode,
+    ways: &[Way<'_>],
+    input: &[u8],
+    expected: &str,
+    writer: &mut W,
+) -> io::Result<()> {
+    for way in ways {
+        write_difference(alloc, mode, false, *way, input, expected, writer)?;
+        write_difference(alloc, mode, true, *way, input, expected, writer)?;
     }
     Ok(())
 }
@@ -69,10 +94,11 @@ fn write_difference<W: Write>(
 ) -> io::Result<()> {
     let told = told(alloc, mode, is_trusted, way, input)?;
     if told.as_str() == expected {
-        return Ok(());
+        Ok(())
+    } else {
+        let kind = if is_trusted { "trusted" } else { "checked" };
+        writeln!(writer, "DIFFERS: {mode:?}, {kind}, {}: {told}", way.name())
     }
-    let kind = if is_trusted { "trusted" } else { "checked" };
-    writeln!(writer, "DIFFERS: {mode:?}, {kind}, {}: {told}", way.name())
 }
 
 /// What is told of the input.
@@ -83,16 +109,40 @@ fn told(
     way: Way<'_>,
     input: &[u8],
 ) -> Result<String, AllocError> {
-    let mut parser = parser_of(alloc, mode, is_trusted, input);
     let mut told = String::new(alloc);
-    match way {
-        Way::ByNext => tell_by_next(alloc, &mut parser, input.len(), &mut told)?,
-        Way::ByPeekAndNext => tell_by_peek_and_next(alloc, &mut parser, input.len(), &mut told)?,
-        Way::ByEvents => tell_by_events(alloc, &mut parser, input.len(), &mut told)?,
-        Way::ByCalls(calls) => push_answers(alloc, &mut parser, calls, &mut told)?,
-        Way::Tree => push_tree(alloc, mode, input, &mut told)?,
-    }
+    tell_input(alloc, mode, is_trusted, way, input, &mut told)?;
     Ok(told)
+}
+
+/// Appends what is told of the input.
+fn tell_input(
+    alloc: Global,
+    mode: Mode,
+    is_trusted: bool,
+    way: Way<'_>,
+    input: &[u8],
+    told: &mut String,
+) -> Result<(), AllocError> {
+    let mut parser = parser_of(alloc, mode, is_trusted, input);
+    ask(alloc, mode, &mut parser, way, input, told)
+}
+
+/// Appends what the parser of the input tells when it is asked this way, or the tree.
+fn ask(
+    alloc: Global,
+    mode: Mode,
+    parser: &mut JsonParser<'_>,
+    way: Way<'_>,
+    input: &[u8],
+    told: &mut String,
+) -> Result<(), AllocError> {
+    match way {
+        Way::ByNext => tell_by_next(alloc, parser, input.len(), told),
+        Way::ByPeekAndNext => tell_by_peek_and_next(alloc, parser, input.len(), told),
+        Way::ByEvents => tell_by_events(alloc, parser, input.len(), told),
+        Way::ByCalls(calls) => push_answers(alloc, parser, calls, Telling::All, told),
+        Way::Tree => push_tree(alloc, mode, input, told),
+    }
 }
 
 /// A parser of the input; one that need not check it only where it is a text.
@@ -129,23 +179,26 @@ fn push_answers(
     alloc: Global,
     parser: &mut JsonParser<'_>,
     calls: &[Call],
+    telling: Telling,
     told: &mut String,
 ) -> Result<(), AllocError> {
-    for answer in &drive(alloc, parser, calls)? {
-        push_answer(alloc, answer, told)?;
-    }
-    Ok(())
+    push_each(
+        alloc,
+        drive(alloc, parser, calls)?.as_slice(),
+        telling,
+        told,
+    )
 }
 
-/// Appends the answers to the calls that aren't told yet.
-fn tell_answers(
+/// Appends the answers.
+fn push_each(
     alloc: Global,
-    parser: &mut JsonParser<'_>,
-    calls: &[Call],
+    answers: &[Answer<'_>],
+    telling: Telling,
     told: &mut String,
 ) -> Result<(), AllocError> {
-    for answer in &drive(alloc, parser, calls)? {
-        tell_answer(alloc, answer, told)?;
+    for answer in answers {
+        push_answer(alloc, answer, telling, told)?;
     }
     Ok(())
 }
@@ -158,9 +211,9 @@ fn tell_by_next(
     told: &mut String,
 ) -> Result<(), AllocError> {
     for _ in 0..=len {
-        tell_answers(alloc, parser, &[Call::Next], told)?;
+        push_answers(alloc, parser, &[Call::Next], Telling::New, told)?;
     }
-    tell_answers(alloc, parser, &[Call::Next, Call::Span], told)
+    push_answers(alloc, parser, &[Call::Next, Call::Span], Telling::New, told)
 }
 
 /// The same, each after a look at it, which shows the same.
@@ -171,14 +224,14 @@ fn tell_by_peek_and_next(
     told: &mut String,
 ) -> Result<(), AllocError> {
     for _ in 0..=len {
-        tell_answers(alloc, parser, &[Call::Peek], told)?;
+        push_answers(alloc, parser, &[Call::Peek], Telling::New, told)?;
         let looked = told.len();
-        tell_answers(alloc, parser, &[Call::Next], told)?;
+        push_answers(alloc, parser, &[Call::Next], Telling::New, told)?;
         if told.len() != looked {
-            tell(told, "not the event that was seen")?;
+            push(told, "not the event that was seen", Telling::New)?;
         }
     }
-    tell_answers(alloc, parser, &[Call::Span], told)
+    push_answers(alloc, parser, &[Call::Span], Telling::New, told)
 }
 
 /// The same, all at once.
@@ -189,7 +242,7 @@ fn tell_by_events(
     told: &mut String,
 ) -> Result<(), AllocError> {
     let calls = [Call::Events(len), Call::Events(0), Call::Next, Call::Span];
-    tell_answers(alloc, parser, &calls, told)
+    push_answers(alloc, parser, &calls, Telling::New, told)
 }
 
 /// Appends the tree or the refusal.

@@ -11,15 +11,19 @@ use std::alloc::Global;
 use std::io;
 use std::io::{BufWriter, ErrorKind, Read, Write};
 
+/// Writes a line of the rows anew, and below a command line what it prints.
+fn answer_line<W: Write>(alloc: Global, line: &str, writer: &mut W) -> io::Result<()> {
+    if line.is_empty() || line.starts_with('#') {
+        return writeln!(writer, "{line}");
+    }
+    writeln!(writer, "$ {line}")?;
+    row::answer(alloc, line, writer)
+}
+
 /// Writes each line of the rows anew, and below a command line what it prints.
 fn answer<W: Write>(alloc: Global, rows: &str, writer: &mut W) -> io::Result<()> {
     for line in rows.lines() {
-        if line.is_empty() || line.starts_with('#') {
-            writeln!(writer, "{line}")?;
-        } else {
-            writeln!(writer, "$ {line}")?;
-            row::answer(alloc, line, writer)?;
-        }
+        answer_line(alloc, line, writer)?;
     }
     writer.flush()
 }

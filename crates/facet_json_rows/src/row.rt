@@ -41,10 +41,7 @@ fn answer_command<W: Write>(
         "facet_json_tool" => answer_program(alloc, rest, input, writer),
         "broken_pipe" => answer_failed(alloc, ErrorKind::BrokenPipe, rest, input, writer),
         "out_of_memory" => answer_failed(alloc, ErrorKind::OutOfMemory, rest, input, writer),
-        "ended" => match ended(rest) {
-            Some(outcome) => write_end(outcome, b"", writer),
-            None => writeln!(writer, "NO END"),
-        },
+        "ended" => answer_ended(rest, writer),
         "parser" => answer_parser(alloc, rest, input, writer),
         "tree" => compare(alloc, modes(rest), &[Way::Tree], input, writer),
         _ => writeln!(writer, "NO COMMAND"),
@@ -88,6 +85,14 @@ fn answer_failed<W: Write>(
     let mut written = Vec::new(alloc);
     let outcome = run(alloc, args.as_slice(), &mut reader, &mut written);
     write_end(outcome, written.as_slice(), writer)
+}
+
+/// Writes what the program writes at a run's end in this way.
+fn answer_ended<W: Write>(way: &str, writer: &mut W) -> io::Result<()> {
+    match ended(way) {
+        Some(outcome) => write_end(outcome, b"", writer),
+        None => writeln!(writer, "NO END"),
+    }
 }
 
 /// A run that ended in this way.

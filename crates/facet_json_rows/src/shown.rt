@@ -3,52 +3,66 @@
 use facet_format::{ParseError, ParseEvent, ParseEventKind};
 use facet_json_core::Answer;
 use std::alloc::{AllocError, Global};
+use std::collections::VecDeque;
+
+/// What is told of what is seen.
+#[derive(Clone, Copy)]
+pub enum Telling {
+    /// All of it.
+    All,
+    /// What wasn't told last.
+    New,
+}
 
 /// Appends a text after those that are told.
-fn push(told: &mut String, text: &str) -> Result<(), AllocError> {
+pub fn push(told: &mut String, text: &str, telling: Telling) -> Result<(), AllocError> {
+    if matches!(telling, Telling::New) && told.as_str().ends_with(text) {
+        return Ok(());
+    }
     if !told.is_empty() {
         told.push_str("; ")?;
     }
     told.push_str(text)
 }
 
-/// Appends a text, where it isn't the last that was told.
-pub fn tell(told: &mut String, text: &str) -> Result<(), AllocError> {
-    if told.as_str().ends_with(text) {
-        return Ok(());
+/// Appends an event.
+fn push_event(
+    alloc: Global,
+    event: &ParseEvent<'_>,
+    telling: Telling,
+    told: &mut String,
+) -> Result<(), AllocError> {
+    push(told, event_shown(alloc, event)?.as_str(), telling)
+}
+
+/// Appends events, one after the other.
+fn push_events(
+    alloc: Global,
+    events: &VecDeque<ParseEvent<'_>>,
+    telling: Telling,
+    told: &mut String,
+) -> Result<(), AllocError> {
+    for event in events {
+        push_event(alloc, event, telling, told)?;
     }
-    push(told, text)
+    Ok(())
 }
 
 /// Appends an answer; of several events one after the other, and then their number or the refusal after them.
+/// Where only what is new is told, their number is told where it isn't right.
 pub fn push_answer(
     alloc: Global,
     answer: &Answer<'_>,
+    telling: Telling,
     told: &mut String,
 ) -> Result<(), AllocError> {
-    if let Answer::Events(events, _) = answer {
-        for event in events {
-            push(told, event_shown(alloc, event)?.as_str())?;
-        }
-    }
-    push(told, answer_shown(alloc, answer)?.as_str())
-}
-
-/// Appends an answer, where it isn't the last that was told; of several events their number only where it isn't right.
-pub fn tell_answer(
-    alloc: Global,
-    answer: &Answer<'_>,
-    told: &mut String,
-) -> Result<(), AllocError> {
-    if let Answer::Events(events, result) = answer {
-        for event in events {
-            tell(told, event_shown(alloc, event)?.as_str())?;
-        }
-        if *result == Ok(events.len()) {
+    if let Answer::Events(events, answered) = answer {
+        push_events(alloc, events, telling, told)?;
+        if matches!(telling, Telling::New) && *answered == Ok(events.len()) {
             return Ok(());
         }
     }
-    tell(told, answer_shown(alloc, answer)?.as_str())
+    push(told, answer_shown(alloc, answer)?.as_str(), telling)
 }
 
 /// The answer; of several events their number, or the refusal after them.
