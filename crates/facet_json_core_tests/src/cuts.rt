@@ -17,9 +17,8 @@ fn span_of(answer: &Answer<'_>) -> Span {
     }
 }
 
-/// The answer speaks of bytes among the first so many.
-fn is_within(answer: &Answer<'_>, len: usize) -> bool {
-    let span = span_of(answer);
+/// These bytes are among the first so many.
+fn is_within(span: Span, len: usize) -> bool {
     span.offset.saturating_add(span.len) <= len
 }
 
@@ -37,7 +36,7 @@ fn ends(answers: &[Answer<'_>], len: usize) -> bool {
     let mut ending: Option<&Answer<'_>> = None;
     let mut repeats = false;
     for answer in answers {
-        if !is_within(answer, len) {
+        if !is_within(span_of(answer), len) {
             return false;
         }
         match ending {
@@ -57,15 +56,28 @@ fn ends(answers: &[Answer<'_>], len: usize) -> bool {
     repeats
 }
 
-/// The calls are answered by events and then one ending, and the last token stands among the first so many bytes.
-fn reads_to_its_end(alloc: Global, mut parser: JsonParser<'_>, calls: &[Call], len: usize) -> bool {
-    match drive(alloc, &mut parser, calls) {
-        Ok(answers) => {
-            let span = Answer::Span(parser.current_span());
-            ends(answers.as_slice(), len) && is_within(&span, len)
-        }
+/// The calls are answered by events and then one ending.
+fn are_answered(alloc: Global, parser: &mut JsonParser<'_>, calls: &[Call], len: usize) -> bool {
+    match drive(alloc, parser, calls) {
+        Ok(answers) => ends(answers.as_slice(), len),
         Err(_) => false,
     }
+}
+
+/// The calls are answered so, and the last token stands among the first so many bytes.
+fn comes_to_its_end(
+    alloc: Global,
+    parser: &mut JsonParser<'_>,
+    calls: &[Call],
+    len: usize,
+) -> bool {
+    are_answered(alloc, parser, calls, len)
+        && is_within(parser.current_span().unwrap_or(Span::new(0, 0)), len)
+}
+
+/// The same, of a parser that is read but once.
+fn reads_to_its_end(alloc: Global, mut parser: JsonParser<'_>, calls: &[Call], len: usize) -> bool {
+    comes_to_its_end(alloc, &mut parser, calls, len)
 }
 
 /// In both modes, one call more than there are bytes meets the end or a refusal, and the call after it the same.

@@ -87,12 +87,16 @@ fn input_of(alloc: Global, row: &Row) -> Result<String, AllocError> {
     Ok(input)
 }
 
+/// Whether an event comes.
+fn comes(parser: &mut JsonParser<'_>) -> Result<bool, ParseError<'static>> {
+    Ok(parser.next_event()?.is_some())
+}
+
 /// The parser is refused so, or is at the document's end.
 fn is_refused(parser: &mut JsonParser<'_>, refusal: Option<ParseError<'static>>) -> bool {
-    match parser.next_event() {
-        Ok(Some(_)) => false,
-        Ok(None) => refusal.is_none(),
-        Err(error) => refusal == Some(error),
+    match refusal {
+        None => comes(parser) == Ok(false),
+        Some(error) => comes(parser) == Err(error),
     }
 }
 
@@ -106,44 +110,66 @@ fn ends(parser: &mut JsonParser<'_>, row: &Row) -> bool {
     is_refused(parser, row.refusal) && stands_at(parser, row.last)
 }
 
-/// An event comes.
-fn comes(parser: &mut JsonParser<'_>) -> bool {
-    matches!(parser.next_event(), Ok(Some(_)))
-}
-
 /// So many events come.
 fn all_come(parser: &mut JsonParser<'_>, count: usize) -> bool {
     for _ in 0..count {
-        if !comes(parser) {
+        if comes(parser) != Ok(true) {
             return false;
         }
     }
     true
 }
 
-/// The events come one at a time.
-fn comes_one_by_one(mut parser: JsonParser<'_>, row: &Row) -> bool {
-    all_come(&mut parser, row.count) && ends(&mut parser, row)
+/// The answer has so many events, and says so.
+fn has_events(answer: Option<&Answer<'_>>, count: usize) -> bool {
+    match answer {
+        Some(Answer::Events(events, Ok(told))) => *told == count && events.len() == count,
+        _ => false,
+    }
 }
 
-/// The events come all at once.
-fn comes_at_once(alloc: Global, mut parser: JsonParser<'_>, row: &Row) -> bool {
-    let came = match drive(alloc, &mut parser, &[Call::Events(row.count)]) {
-        Ok(answers) => matches!(answers.first(), Some(Answer::Events(events, Ok(count)))
-            if *count == row.count && events.len() == row.count),
+/// So many events come all at once.
+fn all_come_at_once(alloc: Global, parser: &mut JsonParser<'_>, count: usize) -> bool {
+    match drive(alloc, parser, &[Call::Events(count)]) {
+        Ok(answers) => has_events(answers.first(), count),
         Err(_) => false,
+    }
+}
+
+/// How a parser is asked for the events.
+#[derive(Clone, Copy)]
+enum Way {
+    OneByOne,
+    AtOnce,
+}
+
+/// The events come this way, and the parser ends as the row says.
+fn comes_to_its_end(alloc: Global, parser: &mut JsonParser<'_>, way: Way, row: &Row) -> bool {
+    let all_come = match way {
+        Way::OneByOne => all_come(parser, row.count),
+        Way::AtOnce => all_come_at_once(alloc, parser, row.count),
     };
-    came && ends(&mut parser, row)
+    all_come && ends(parser, row)
+}
+
+/// The same, of a parser that is read but once.
+fn reads_to_its_end(alloc: Global, mut parser: JsonParser<'_>, way: Way, row: &Row) -> bool {
+    comes_to_its_end(alloc, &mut parser, way, row)
 }
 
 /// A plain parser reads the input one event at a time, and a trusted one with comments all at once.
 fn is_text_read(alloc: Global, input: &str, row: &Row) -> bool {
-    comes_one_by_one(JsonParser::new(alloc, input.as_bytes()), row)
-        && comes_at_once(
-            alloc,
-            JsonParser::new_jsonc_trusted(alloc, input.as_bytes()),
-            row,
-        )
+    reads_to_its_end(
+        alloc,
+        JsonParser::new(alloc, input.as_bytes()),
+        Way::OneByOne,
+        row,
+    ) && reads_to_its_end(
+        alloc,
+        JsonParser::new_jsonc_trusted(alloc, input.as_bytes()),
+        Way::AtOnce,
+        row,
+    )
 }
 
 /// The row's input is read so.

@@ -18,9 +18,14 @@ fn is_shown<T: Debug>(alloc: Global, value: &T, want: &str) -> bool {
     }
 }
 
+/// The text of a new parser.
+fn parser_shown(alloc: Global) -> Result<String, AllocError> {
+    shown(alloc, &JsonParser::new(alloc, b"[]"))
+}
+
 /// A new parser is shown under its name.
 fn is_parser_shown(alloc: Global) -> bool {
-    match shown(alloc, &JsonParser::new(alloc, b"[]")) {
+    match parser_shown(alloc) {
         Ok(text) => text.as_str().starts_with("JsonParser {"),
         Err(_) => false,
     }
