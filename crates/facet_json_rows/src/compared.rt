@@ -96,9 +96,20 @@ fn write_difference<W: Write>(
     if told.as_str() == expected {
         Ok(())
     } else {
-        let kind = if is_trusted { "trusted" } else { "checked" };
-        writeln!(writer, "DIFFERS: {mode:?}, {kind}, {}: {told}", way.name())
+        write_other(mode, is_trusted, way, told.as_str(), writer)
     }
+}
+
+/// Writes another telling.
+fn write_other<W: Write>(
+    mode: Mode,
+    is_trusted: bool,
+    way: Way<'_>,
+    told: &str,
+    writer: &mut W,
+) -> io::Result<()> {
+    let kind = if is_trusted { "trusted" } else { "checked" };
+    writeln!(writer, "DIFFERS: {mode:?}, {kind}, {}: {told}", way.name())
 }
 
 /// What is told of the input.
@@ -224,14 +235,25 @@ fn tell_by_peek_and_next(
     told: &mut String,
 ) -> Result<(), AllocError> {
     for _ in 0..=len {
-        push_answers(alloc, parser, &[Call::Peek], Telling::New, told)?;
-        let looked = told.len();
-        push_answers(alloc, parser, &[Call::Next], Telling::New, told)?;
-        if told.len() != looked {
-            push(told, "not the event that was seen", Telling::New)?;
-        }
+        tell_peek_and_next(alloc, parser, told)?;
     }
     push_answers(alloc, parser, &[Call::Span], Telling::New, told)
+}
+
+/// An event after a look at it.
+fn tell_peek_and_next(
+    alloc: Global,
+    parser: &mut JsonParser<'_>,
+    told: &mut String,
+) -> Result<(), AllocError> {
+    push_answers(alloc, parser, &[Call::Peek], Telling::New, told)?;
+    let looked = told.len();
+    push_answers(alloc, parser, &[Call::Next], Telling::New, told)?;
+    if told.len() == looked {
+        Ok(())
+    } else {
+        push(told, "not the event that was seen", Telling::New)
+    }
 }
 
 /// The same, all at once.

@@ -179,16 +179,21 @@ fn tells_of_writes(alloc: Global, case: &Case<'_>) -> bool {
     false
 }
 
+/// Writes where a run does not tell of a failure.
+fn write_unless<W: Write>(is_told: bool, place: &str, writer: &mut W) -> io::Result<()> {
+    if is_told {
+        Ok(())
+    } else {
+        writeln!(writer, "DIFFERS: where {place}")
+    }
+}
+
 /// Writes which failures a run does not tell of.
 pub fn write_untold<W: Write>(alloc: Global, case: &Case<'_>, writer: &mut W) -> io::Result<()> {
-    if !tells_of_reads(alloc, case, ErrorKind::BrokenPipe, Outcome::Io) {
-        writeln!(writer, "DIFFERS: where a read fails")?;
-    }
-    if !tells_of_reads(alloc, case, ErrorKind::OutOfMemory, OUT_OF_MEMORY) {
-        writeln!(writer, "DIFFERS: where a read is out of memory")?;
-    }
-    if !tells_of_writes(alloc, case) {
-        writeln!(writer, "DIFFERS: where a write fails or waits for a flush")?;
-    }
-    Ok(())
+    let is_told = tells_of_reads(alloc, case, ErrorKind::BrokenPipe, Outcome::Io);
+    write_unless(is_told, "a read fails", writer)?;
+    let is_told = tells_of_reads(alloc, case, ErrorKind::OutOfMemory, OUT_OF_MEMORY);
+    write_unless(is_told, "a read is out of memory", writer)?;
+    let is_told = tells_of_writes(alloc, case);
+    write_unless(is_told, "a write fails or waits for a flush", writer)
 }

@@ -24,6 +24,34 @@ pub fn answer<W: Write>(alloc: Global, row: &str, writer: &mut W) -> io::Result<
     }
 }
 
+/// What a row's command does.
+#[derive(Clone, Copy)]
+enum Command {
+    /// It runs the program.
+    Program,
+    /// It runs the program, and a read fails so.
+    Failed(ErrorKind),
+    /// It tells how a run ended.
+    Ended,
+    /// It asks parsers.
+    Parser,
+    /// It reads trees.
+    Tree,
+}
+
+/// The command of this name.
+fn command_of(name: &str) -> Option<Command> {
+    match name {
+        "facet_json_tool" => Some(Command::Program),
+        "broken_pipe" => Some(Command::Failed(ErrorKind::BrokenPipe)),
+        "out_of_memory" => Some(Command::Failed(ErrorKind::OutOfMemory)),
+        "ended" => Some(Command::Ended),
+        "parser" => Some(Command::Parser),
+        "tree" => Some(Command::Tree),
+        _ => None,
+    }
+}
+
 /// The text that the row prints, and the command that reads it.
 fn parts(row: &str) -> Option<(&str, &str)> {
     row.strip_prefix("printf '")?.split_once("' | ")
@@ -36,16 +64,20 @@ fn answer_command<W: Write>(
     input: &[u8],
     writer: &mut W,
 ) -> io::Result<()> {
-    let (name, rest) = command.split_once(' ').unwrap_or((command, ""));
-    match name {
-        "facet_json_tool" => answer_program(alloc, rest, input, writer),
-        "broken_pipe" => answer_failed(alloc, ErrorKind::BrokenPipe, rest, input, writer),
-        "out_of_memory" => answer_failed(alloc, ErrorKind::OutOfMemory, rest, input, writer),
-        "ended" => answer_ended(rest, writer),
-        "parser" => answer_parser(alloc, rest, input, writer),
-        "tree" => compare(alloc, modes(rest), &[Way::Tree], input, writer),
-        _ => writeln!(writer, "NO COMMAND"),
+    let (name, rest) = first_word(command);
+    match command_of(name) {
+        Some(Command::Program) => answer_program(alloc, rest, input, writer),
+        Some(Command::Failed(kind)) => answer_failed(alloc, kind, rest, input, writer),
+        Some(Command::Ended) => answer_ended(rest, writer),
+        Some(Command::Parser) => answer_parser(alloc, rest, input, writer),
+        Some(Command::Tree) => compare(alloc, modes(rest), &[Way::Tree], input, writer),
+        None => writeln!(writer, "NO COMMAND"),
     }
+}
+
+/// The first word, and what stands after the blank that ends it.
+fn first_word(text: &str) -> (&str, &str) {
+    text.split_once(' ').unwrap_or((text, ""))
 }
 
 /// Writes what the program writes, and which failures of a reader or writer it does not tell of.
@@ -144,18 +176,27 @@ fn answer_parser<W: Write>(
     input: &[u8],
     writer: &mut W,
 ) -> io::Result<()> {
-    let (word, asked) = words.split_once(' ').unwrap_or((words, ""));
+    let (word, asked) = first_word(words);
     let modes = modes(word);
     if asked == "all" {
-        return compare(
-            alloc,
-            modes,
-            &[Way::ByNext, Way::ByPeekAndNext, Way::ByEvents],
-            input,
-            writer,
-        );
+        compare(alloc, modes, &ALL_EVENTS, input, writer)
+    } else {
+        answer_script(alloc, modes, asked, input, writer)
     }
-    match parse_script(alloc, asked) {
+}
+
+/// The ways to ask for all events.
+static ALL_EVENTS: [Way<'static>; 3] = [Way::ByNext, Way::ByPeekAndNext, Way::ByEvents];
+
+/// Writes what parsers of the input answer to the script's calls.
+fn answer_script<W: Write>(
+    alloc: Global,
+    modes: &[Mode],
+    script: &str,
+    input: &[u8],
+    writer: &mut W,
+) -> io::Result<()> {
+    match parse_script(alloc, script) {
         Ok(calls) => compare(
             alloc,
             modes,

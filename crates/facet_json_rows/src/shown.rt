@@ -70,11 +70,11 @@ fn answer_shown(alloc: Global, answer: &Answer<'_>) -> Result<String, AllocError
     match answer {
         Answer::Event(Ok(Some(event))) => event_shown(alloc, event),
         Answer::Event(Ok(None)) => "None".to_string(alloc),
-        Answer::Event(Err(error)) => error_shown(alloc, error),
         Answer::Events(_, Ok(count)) => format!(in alloc; "events {count}"),
-        Answer::Events(_, Err(error)) => error_shown(alloc, error),
         Answer::Saved(Ok(point)) => format!(in alloc; "point {}", point.0),
-        Answer::Saved(Err(error)) => error_shown(alloc, error),
+        Answer::Event(Err(error)) | Answer::Events(_, Err(error)) | Answer::Saved(Err(error)) => {
+            error_shown(alloc, error)
+        }
         Answer::Restored => "restored".to_string(alloc),
         Answer::Span(Some(span)) => format!(in alloc; "span {}+{}", span.offset, span.len),
         Answer::Span(None) => "no span".to_string(alloc),
