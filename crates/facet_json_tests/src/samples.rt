@@ -31,25 +31,33 @@ pub fn tree_of(alloc: Global, sample: Sample) -> Option<Tree> {
         Sample::Bool(b) => Some(Tree::Bool(b)),
         Sample::U64(n) => Some(Tree::U64(n)),
         Sample::I64(n) => Some(Tree::I64(n)),
-        Sample::Decimal(text) => Some(Tree::Decimal(Decimal::new(text)?)),
-        Sample::Text(text) => Some(Tree::Text(text.to_string(alloc).ok()?)),
-        Sample::Numbers(numbers) => Some(Tree::List(list(alloc, numbers).ok()?)),
-        Sample::Leaves => Some(Tree::List(leaves(alloc).ok()?)),
+        Sample::Decimal(text) => decimal(text),
+        Sample::Text(text) => text_leaf(alloc, text).ok(),
+        Sample::Numbers(numbers) => list(alloc, numbers).ok(),
+        Sample::Leaves => leaves(alloc).ok(),
         Sample::NoPairs => Some(Tree::Pairs(Vec::new(alloc))),
-        Sample::NullUnder(key) => Some(Tree::Pairs(pair(alloc, key, Tree::Null).ok()?)),
-        Sample::Members => Some(Tree::Pairs(members(alloc).ok()?)),
+        Sample::NullUnder(key) => null_under(alloc, key).ok(),
+        Sample::Members => members(alloc).ok(),
     }
 }
 
-fn list(alloc: Global, numbers: &[u64]) -> Result<Vec<Tree>, AllocError> {
+fn decimal(text: &'static str) -> Option<Tree> {
+    Some(Tree::Decimal(Decimal::new(text)?))
+}
+
+pub fn text_leaf(alloc: Global, text: &str) -> Result<Tree, AllocError> {
+    Ok(Tree::Text(text.to_string(alloc)?))
+}
+
+fn list(alloc: Global, numbers: &[u64]) -> Result<Tree, AllocError> {
     let mut items = Vec::new(alloc);
     for number in numbers {
         items.push(Tree::U64(*number))?;
     }
-    Ok(items)
+    Ok(Tree::List(items))
 }
 
-fn leaves(alloc: Global) -> Result<Vec<Tree>, AllocError> {
+fn leaves(alloc: Global) -> Result<Tree, AllocError> {
     let items = vec![in alloc;
         Tree::Null,
         Tree::Bool(true),
@@ -57,18 +65,34 @@ fn leaves(alloc: Global) -> Result<Vec<Tree>, AllocError> {
         Tree::U64(0),
         Tree::U64(18_446_744_073_709_551_615),
     ]?;
-    Ok(items)
+    Ok(Tree::List(items))
 }
 
-fn pair(alloc: Global, key: &str, value: Tree) -> Result<Vec<(String, Tree)>, AllocError> {
-    let mut pairs = Vec::new(alloc);
+/// Appends a member.
+pub fn push_member(
+    alloc: Global,
+    key: &str,
+    value: Tree,
+    pairs: &mut Vec<(String, Tree)>,
+) -> Result<(), AllocError> {
     pairs.push((key.to_string(alloc)?, value))?;
-    Ok(pairs)
+    Ok(())
 }
 
-fn members(alloc: Global) -> Result<Vec<(String, Tree)>, AllocError> {
-    let mut members = pair(alloc, "b", Tree::U64(1))?;
-    members.push(("a".to_string(alloc)?, Tree::List(Vec::new(alloc))))?;
-    members.push(("b".to_string(alloc)?, Tree::Pairs(Vec::new(alloc))))?;
-    Ok(members)
+fn null_under(alloc: Global, key: &str) -> Result<Tree, AllocError> {
+    let mut pairs = Vec::new(alloc);
+    push_member(alloc, key, Tree::Null, &mut pairs)?;
+    Ok(Tree::Pairs(pairs))
+}
+
+fn push_members(alloc: Global, pairs: &mut Vec<(String, Tree)>) -> Result<(), AllocError> {
+    push_member(alloc, "b", Tree::U64(1), pairs)?;
+    push_member(alloc, "a", Tree::List(Vec::new(alloc)), pairs)?;
+    push_member(alloc, "b", Tree::Pairs(Vec::new(alloc)), pairs)
+}
+
+fn members(alloc: Global) -> Result<Tree, AllocError> {
+    let mut pairs = Vec::new(alloc);
+    push_members(alloc, &mut pairs)?;
+    Ok(Tree::Pairs(pairs))
 }

@@ -4,14 +4,16 @@ use crate::samples::{Sample, tree_of};
 use facet_json::{JsonSerializeError, to_vec};
 use std::alloc::Global;
 
+/// The text of the tree, unless memory ran out.
+fn text_of(alloc: Global, sample: Sample) -> Option<Vec<u8>> {
+    to_vec(alloc, &tree_of(alloc, sample)?).ok()
+}
+
 /// The tree is written so.
 fn is_written(alloc: Global, sample: Sample, want: &str) -> bool {
-    let Some(tree) = tree_of(alloc, sample) else {
-        return false;
-    };
-    match to_vec(alloc, &tree) {
-        Ok(text) => text.as_slice() == want.as_bytes(),
-        Err(_) => false,
+    match text_of(alloc, sample) {
+        Some(text) => text.as_slice() == want.as_bytes(),
+        None => false,
     }
 }
 
