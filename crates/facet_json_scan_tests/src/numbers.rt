@@ -90,7 +90,18 @@ static REFUSED: [Row; 16] = [
     ),
 ];
 
-static DECIMALS: [&str; 6] = ["3.14", "1.", "-.5", "1.e5", "1E-5", "-0.0e+0"];
+static DECIMALS: [Row; 6] = [
+    ("3.14", NumberHint::Float, "Decimal(Decimal(\"3.14\"))"),
+    ("1.", NumberHint::Float, "Decimal(Decimal(\"1.\"))"),
+    ("-.5", NumberHint::Float, "Decimal(Decimal(\"-.5\"))"),
+    ("1.e5", NumberHint::Float, "Decimal(Decimal(\"1.e5\"))"),
+    ("1E-5", NumberHint::Float, "Decimal(Decimal(\"1E-5\"))"),
+    (
+        "-0.0e+0",
+        NumberHint::Float,
+        "Decimal(Decimal(\"-0.0e+0\"))",
+    ),
+];
 
 const BUFFER: &str = "[12, -3.50e+1, 1e]";
 
@@ -137,30 +148,15 @@ fn refused(rt: HostRuntime) {
     }
 }
 
-/// Whether the text is read as the decimal of this text.
-fn is_decimal(read: &Result<ParsedNumber<'_>, ScanError>, text: &str) -> bool {
-    match read {
-        Ok(ParsedNumber::Decimal(decimal)) => decimal.as_str() == text,
-        _ => false,
-    }
-}
-
-/// Whether both readers read the whole text as its decimal.
-fn decimal_holds(text: &str) -> bool {
-    let bytes = text.as_bytes();
-    let end = bytes.len();
-    is_decimal(&parse_number(bytes, 0, end, NumberHint::Float), text)
-        && is_decimal(
-            &parse_number_unchecked(bytes, 0, end, NumberHint::Float),
-            text,
-        )
-        && Decimal::new(text).is_some()
+/// Whether both readers read the whole text so, and it is a decimal's.
+fn decimal_holds(alloc: Global, row: &Row) -> bool {
+    holds(alloc, row) && Decimal::new(row.0).is_some()
 }
 
 #[test]
 fn decimals(rt: HostRuntime) {
-    for text in &DECIMALS {
-        assert!(rt; decimal_holds(*text), "{text}");
+    for row in &DECIMALS {
+        assert!(rt; decimal_holds(rt.alloc(), row), "{row:?}");
     }
 }
 
