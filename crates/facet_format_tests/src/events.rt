@@ -130,13 +130,18 @@ fn decimals(rt: HostRuntime) {
     );
 }
 
-/// Whether a copy of a borrowed text is borrowed.
-fn stays_borrowed(alloc: Global, text: &str) -> bool {
-    let kind = ParseEventKind::Scalar(ScalarValue::Str(CowStr::Borrowed(text)));
-    match ParseEvent::new(kind, Span::new(0, 4)).clone(alloc) {
+/// Whether a copy of the event has this text, borrowed.
+fn copy_borrows(alloc: Global, event: &ParseEvent<'_>, text: &str) -> bool {
+    match event.clone(alloc) {
         Ok(copy) => is_borrowed(&copy.kind, text),
         Err(_) => false,
     }
+}
+
+/// Whether a copy of a borrowed text is borrowed.
+fn stays_borrowed(alloc: Global, text: &str) -> bool {
+    let kind = ParseEventKind::Scalar(ScalarValue::Str(CowStr::Borrowed(text)));
+    copy_borrows(alloc, &ParseEvent::new(kind, Span::new(0, 4)), text)
 }
 
 fn is_borrowed(kind: &ParseEventKind<'_>, text: &str) -> bool {
