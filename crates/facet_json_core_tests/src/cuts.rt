@@ -154,14 +154,17 @@ fn cut_texts(rt: HostRuntime) {
     }
 }
 
+/// Inputs that are no texts.
+static BYTES: [&[u8]; 4] = [
+    b"[/*\xff*/1]",
+    b"\xef\xbb\xbf1",
+    b"\"\\n\xff\"",
+    b"{\"\\\xff\":",
+];
+
 #[test]
 fn cut_bytes(rt: HostRuntime) {
-    for input in [
-        b"[/*\xff*/1]".as_slice(),
-        b"\xef\xbb\xbf1".as_slice(),
-        b"\"\\n\xff\"".as_slice(),
-        b"{\"\\\xff\":".as_slice(),
-    ] {
-        assert_eq!(rt; unread(rt.alloc(), input), None, "{input:?}");
+    for input in &BYTES {
+        assert_eq!(rt; unread(rt.alloc(), *input), None, "{input:?}");
     }
 }

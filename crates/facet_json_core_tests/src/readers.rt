@@ -75,24 +75,33 @@ fn are_refused(alloc: Global, input: &[u8], want: ParseError<'static>) -> bool {
         && has_odd_events_in(alloc, input) == Err(want)
 }
 
+/// An input, and how many events come.
+static DOCUMENTS: [(&str, usize); 4] = [("1", 1), ("[]", 2), ("{\"a\":[1,2,],}", 7), ("null x", 1)];
+
 #[test]
 fn documents_are_counted(rt: HostRuntime) {
     let alloc = rt.alloc();
-    for (input, want) in [("1", 1), ("[]", 2), ("{\"a\":[1,2,],}", 7), ("null x", 1)] {
-        assert!(rt; are_counted(alloc, input.as_bytes(), want), "{input}");
+    for (input, want) in &DOCUMENTS {
+        assert!(rt; are_counted(alloc, input.as_bytes(), *want), "{input}");
     }
-    assert_eq!(rt; name_of_json(alloc), Some("json"));
+    assert!(rt; name_of_json(alloc) == Some("json"));
 }
+
+/// An input, the token that refuses it, what was expected, and the offset of that token, of one byte.
+static REFUSED: [(&str, &str, &str, usize); 3] = [
+    ("]", "ArrayEnd", "value", 0),
+    ("[1 2]", "U64", "',' or ']'", 3),
+    ("{\"a\"}", "ObjectEnd", "':'", 4),
+];
 
 #[test]
 fn refusals_are_passed_on(rt: HostRuntime) {
-    for (input, got, expected, offset) in [
-        ("]", "ArrayEnd", "value", 0),
-        ("[1 2]", "U64", "',' or ']'", 3),
-        ("{\"a\"}", "ObjectEnd", "':'", 4),
-    ] {
-        let kind = DeserializeErrorKind::UnexpectedToken { got, expected };
-        let want = ParseError::new(Span::new(offset, 1), kind);
+    for (input, got, expected, offset) in &REFUSED {
+        let kind = DeserializeErrorKind::UnexpectedToken {
+            got: *got,
+            expected: *expected,
+        };
+        let want = ParseError::new(Span::new(*offset, 1), kind);
         assert!(rt; are_refused(rt.alloc(), input.as_bytes(), want), "{input}");
     }
 }
