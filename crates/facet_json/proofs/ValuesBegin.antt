@@ -16,7 +16,7 @@ use Rattle.facet_json.proofs.ReadingValues.{scalar-unread, list-unread, object-u
 
 -- ---- the first event
 
--- At an event of another kind no value begins.
+-- The event with which a value begins is no end of a list.
 pub begun-no_end : {kind : EventKind} {t : Tree} → HasBegun kind t → kind ≢ sequence_end
 begun-no_end (whole value k s) e = cc
 begun-no_end (a_list c k s) e = cc
