@@ -36,6 +36,7 @@ pub use Rattle.facet_json_protocol.specs.Sound
 pub use Rattle.facet_json_protocol.specs.Alone
 pub use Rattle.facet_json_protocol.specs.ParserLaws
 pub use Rattle.facet_json_protocol.specs.CallLaws
+pub use Rattle.facet_json_protocol.specs.Headline
 pub use Rattle.facet_json_core.specs.ScriptViews
 pub use Rattle.facet_format.specs.Views as FormatViews
 pub use Rattle.facet_format.specs.Laws as FormatLaws

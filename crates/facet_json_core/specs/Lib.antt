@@ -16,4 +16,5 @@ pub use Rattle.facet_json_protocol.specs.Sound
 pub use Rattle.facet_json_protocol.specs.Alone
 pub use Rattle.facet_json_protocol.specs.ParserLaws
 pub use Rattle.facet_json_protocol.specs.CallLaws
+pub use Rattle.facet_json_protocol.specs.Headline
 pub mod ScriptViews

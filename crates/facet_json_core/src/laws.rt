@@ -10,7 +10,7 @@ pub use facet_json_prefix::laws::{
     input_comes, one_given, prefix_gives_walk, prefix_is_begun, refused_after_prefix,
 };
 pub use facet_json_protocol::laws::{
-    alone_is_given, ends_in_time, move_is_step, new_stands, numbers_are_new, peek_is_next,
-    refusal_repeats, restore_brings_back, save_is_numbered, trusted_agrees,
+    alone_is_given, ends_in_time, headline, move_is_step, new_stands, numbers_are_new,
+    peek_is_next, refusal_repeats, restore_brings_back, save_is_numbered, trusted_agrees,
     unknown_changes_nothing,
 };

@@ -244,7 +244,7 @@ input-comes buffer mode = outcome buffer mode (root-comes (meaning buffer) (is_m
 -- ---- events of a prefix
 
 -- What comes after fewer events of a walk are its others.
-tail-finished : (first w : List Passed) (future : Future) → events_before first future ≡ events_before w finished →
+pub tail-finished : (first w : List Passed) (future : Future) → events_before first future ≡ events_before w finished →
     (more : List Passed) × (w ≡ first ++ more) × (future ≡ events_before more finished)
 tail-finished [] w future e = (w, refl, e)
 tail-finished (p ∷ first) [] future e = cc

@@ -3,20 +3,20 @@ use Rattle.std.proofs.Common.{◌≡◌, ℕ, List, [], ◌∷◌, Some, None, r
 use Rattle.std.specs.Prelude.{Err}
 use Rattle.facet_json_token.specs.Gap.{Mode}
 use Rattle.facet_json_token.specs.Token.{Token}
-use Rattle.facet_json_token.specs.Tokens.{Tokens}
+use Rattle.facet_json_token.specs.Tokens.{Tokens, tokens}
 use Rattle.facet_json_document.specs.Node.{Node}
 use Rattle.facet_json_document.specs.Tree.{Tree}
 use Rattle.facet_json_document.specs.Meaning.{meaning}
 use Rattle.facet_json_document.specs.Document.{IsDocument}
-use Rattle.facet_json_document.specs.Place.{Place}
+use Rattle.facet_json_document.specs.Place.{Place, root}
 use Rattle.facet_format.specs.Complaint.{Refusal}
 use Rattle.facet_json_document.specs.Refusal.{IsStuck}
 use Rattle.facet_format.specs.Event.{Passed}
 use Rattle.facet_format.specs.Cursor.{Call, next, Answer, event}
-use Rattle.facet_json_document.specs.Future.{gives, stuck, events_before}
+use Rattle.facet_json_document.specs.Future.{gives, stuck, events_before, within, reads}
 use Rattle.facet_json_protocol.specs.Now.{Now, fresh, future_of}
 use Rattle.facet_json_protocol.specs.Move.{Moves, repeats, passes, passes_without_memory, passes_the_end, passes_nothing, MovesAll, no_calls, one_call}
-use Rattle.facet_json_prefix.specs.Begun.{RefusesAfter}
+use Rattle.facet_json_prefix.specs.Begun.{LongestPrefix, RefusesAfter}
 use Rattle.facet_json_protocol.specs.ParserLaws.{GivenAlone}
 use Rattle.facet_json_prefix.specs.EventLaws.{RootComes, document_comes, prefix_comes}
 use Rattle.facet_json_protocol.specs.Alone.{AllNext, no_call, one_next, AllRefused, no_answer, one_refused, AnswersAlone, not_asked, one_event, refused, wants_memory}
@@ -76,6 +76,17 @@ module _ (complains : Token → Refusal → Type 0) where
         step_alone now events free comes h only move more
         (λ p others same none behind there. answers-alone others only none behind there more)
 
+-- Where this prefix comes and then nothing, its events are answered, and then one refusal.
+pub prefix-alone : (buffer : List ℕ) (mode : Mode) (complains : Token → Refusal → Type 0) (events : List Passed) (here : Place)
+    (rest : Tokens) {new : Now} {calls : List Call} {answers : List Answer} →
+    LongestPrefix (meaning buffer) (tokens buffer mode) events here rest →
+    reads (meaning buffer) [] (within root) (tokens buffer mode) ≡ events_before events (stuck here rest) → AllNext calls →
+    MovesAll complains (fresh buffer mode) calls answers new →
+    AnswersAlone (RefusesAfter buffer mode complains events) events answers
+prefix-alone buffer mode complains events here rest front e only moves =
+    answers-alone complains (RefusesAfter buffer mode complains events) here rest events only refl e
+    (λ r stops. record { here = here; rest = rest; front = front; stuck = stops }) moves
+
 given_by : (buffer : List ℕ) (mode : Mode) (complains : Token → Refusal → Type 0) {new : Now} {calls : List Call} {answers : List Answer} →
     RootComes buffer mode → ((node : Node) (value : Tree) → IsDocument buffer mode node value → ⊥) → AllNext calls →
     MovesAll complains (fresh buffer mode) calls answers new → GivenAlone buffer mode complains answers
@@ -85,8 +96,7 @@ given_by buffer mode complains (prefix_comes events here rest front e) none only
   here = here;
   rest = rest;
   front = front;
-  alone = answers-alone complains (RefusesAfter buffer mode complains events) here rest events only refl e
-      (λ r stops. record { here = here; rest = rest; front = front; stuck = stops }) moves;
+  alone = prefix-alone buffer mode complains events here rest front e only moves;
 }
 
 -- Where there is no document, what the longest prefix gives is answered, and then one refusal.

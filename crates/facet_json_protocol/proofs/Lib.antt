@@ -1,5 +1,6 @@
 pub mod AloneIsGiven
 pub mod EndsInTime
+pub mod InputIsAnswered
 pub mod MoveIsStep
 pub mod MoveLaws
 pub mod RefusalRepeats

@@ -1,5 +1,6 @@
 pub mod Alone
 pub mod CallLaws
+pub mod Headline
 pub mod Move
 pub mod Now
 pub mod ParserLaws

@@ -1,7 +1,15 @@
 //! Laws about parsers: what the calls' contracts say of a new one, and of calls one after another.
 
 ghost use Rattle.facet_json_protocol.specs.ParserLaws.{NewStands, AloneIsGiven, TrustedAgrees};
+ghost use Rattle.facet_json_protocol.specs.Headline.{Headline};
 ghost use Rattle.facet_json_protocol.specs.CallLaws.{MoveIsStep, PeekIsNext, RefusalRepeats, SaveIsNumbered, RestoreBringsBack, NumbersAreNew, UnknownChangesNothing, EndsInTime};
+
+/// What a new parser of any input answers. Where the input has a document, it answers every list of calls as a cursor on the
+/// document's walk does from its start. Where it has none, it answers the next event alone with the events of the longest
+/// prefix that begins a document, and then with one refusal, never the end.
+pub fn headline()
+    ensures { Headline }
+{}
 
 /// A new parser of an input with a document stands at the start of the document's walk.
 pub fn new_stands()
