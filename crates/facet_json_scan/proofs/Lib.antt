@@ -2,3 +2,4 @@ pub mod GapIsLongest
 pub mod OpenIsTested
 pub mod Rows
 pub mod ShapeIsCut
+pub mod TokensAreCuts

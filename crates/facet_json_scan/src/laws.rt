@@ -5,6 +5,6 @@ mod cuts;
 mod decoding;
 mod growth;
 
-pub use cuts::{gap_is_longest, shape_is_cut, shape_is_unique};
+pub use cuts::{gap_is_longest, shape_is_cut, shape_is_unique, tokens_are_cuts};
 pub use decoding::decoded_is_decodes;
 pub use growth::{cut_stays, open_is_tested};

@@ -3,6 +3,7 @@ use Rattle.std.specs.Prelude.{ℕ, ◌≡◌, ◌≢◌, ◌≤◌, ◌↔◌, t
 use Rattle.facet_json_token.specs.Gap.{Mode, Input, IsGap, gap_len}
 use Rattle.facet_json_token.specs.Token.{Kind}
 use Rattle.facet_json_token.specs.Cut.{IsShape, nothing_left, token_at, cut_here, cut}
+use Rattle.facet_json_token.specs.Tokens.{Tokens, AreCuts, tokens_from}
 use Rattle.facet_json_token.specs.Open.{IsOpen, is_open}
 
 -- The gap at the start is a gap, and no longer prefix of the bytes is one.
@@ -21,6 +22,12 @@ ShapeIsCut = (mode : Mode) (at : ℕ) (bytes rest : List ℕ) (kind : Kind) →
 abbrev pub ShapeIsUnique : Type 0
 ShapeIsUnique = (at : ℕ) (a b r s : List ℕ) (kind other : Kind) → IsShape at a r kind → IsShape at b s other → a
     ++ r ≡ b ++ s → (a ≡ b) × (kind ≡ other)
+
+-- The tokens from a position on are what is cut from there on, each where the one before ends, up to the end or the first fault,
+-- and nothing else is.
+abbrev pub TokensAreCuts : Type 0
+TokensAreCuts = (buffer : List ℕ) (mode : Mode) (position : ℕ) (these : Tokens) →
+    AreCuts buffer mode position these ↔ (tokens_from buffer mode position ≡ these)
 
 -- What is cut where the buffer isn't open is cut alike from every longer buffer with that prefix.
 abbrev pub CutStays : Type 0

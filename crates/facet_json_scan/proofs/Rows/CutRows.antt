@@ -7,7 +7,7 @@ use Rattle.facet_format.specs.Number.{unsigned, signed, float, parts}
 use Rattle.facet_json_token.specs.Token.{Kind, Token, object_start, object_end, array_start, array_end, colon, comma, null, true_literal, string, number, unexpected_char, unexpected_eof, in_string, in_number, in_literal, in_block_comment}
 use Rattle.facet_json_token.specs.Cut.{ArePieces, IsLiteral, nothing_left, start_of, token_at, fault_at, cut_here, cut}
 use Rattle.facet_format.specs.Span.{span_at}
-use Rattle.facet_json_token.specs.Tokens.{ended, refused, next, tokens_past, tokens}
+use Rattle.facet_json_token.specs.Tokens.{ended, refused, next, AreCuts, tokens_past, tokens}
 use Rattle.facet_json_token.specs.Open.{IsBeginning, IsOpen, is_beginning, is_open}
 use Rattle.facet_format.proofs.NumberLaws.{is_number-sound}
 use Rattle.facet_json_scan.proofs.OpenIsTested.{open_is_tested}
@@ -215,6 +215,17 @@ comment_byte_tokens_row : tokens (left_bracket ∷ slash ∷ star ∷ 0xff ∷ s
     next (token_of array_start 0 1) (next (token_of (number 6 7 unsigned) 6 1) (next (token_of array_end 7 1) ended))
 unfolding cut cut_here start_of parts gap_len_from tokens_past
 comment_byte_tokens_row = refl
+
+-- A token is cut where the one before ends, and then a fault.
+cuts_to_a_fault_row : AreCuts (codes "1 x") plain 0
+    (next (token_of (number 0 1 unsigned) 0 1) (refused (record { kind = unexpected_char 0x78; span = span_at 2 1 })))
+unfolding cut cut_here start_of parts gap_len_from
+cuts_to_a_fault_row = AreCuts.goes_on 0 _ _ refl (AreCuts.breaks_off 1 _ refl)
+
+-- The end stands after the last, a comment before it.
+cuts_to_the_end_row : AreCuts (codes "[]//") jsonc 1 (next (token_of array_end 1 1) ended)
+unfolding cut cut_here start_of parts gap_len_from
+cuts_to_the_end_row = AreCuts.goes_on 1 _ _ refl (AreCuts.ends 2 refl)
 
 -- ---- where more bytes may change what is cut
 

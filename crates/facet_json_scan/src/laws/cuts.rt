@@ -1,6 +1,6 @@
 //! What gaps and tokens are: the definitions that compute agree with those that say what is meant.
 
-ghost use Rattle.facet_json_token.specs.Laws.{GapIsLongest, ShapeIsCut, ShapeIsUnique};
+ghost use Rattle.facet_json_token.specs.Laws.{GapIsLongest, ShapeIsCut, ShapeIsUnique, TokensAreCuts};
 
 /// The gap at the start of the bytes is a gap, and no longer prefix of them is one (RFC 8259, section 2).
 pub fn gap_is_longest()
@@ -15,4 +15,10 @@ pub fn shape_is_cut()
 /// At one place stands the shape of at most one token.
 pub fn shape_is_unique()
     ensures { ShapeIsUnique }
+{}
+
+/// The tokens from a position on are what is cut from there on, each where the one before ends, up to the end or the
+/// first fault (RFC 8259, section 2). So `tokens` are the cuts from the first byte on.
+pub fn tokens_are_cuts()
+    ensures { TokensAreCuts }
 {}
