@@ -3,7 +3,7 @@ use Rattle.std.proofs.Common.{◌≡◌, ℕ, suc, ◌+◌, ◌-◌, ◌≤◌, 
 use Rattle.std.specs.Prelude.{slice_get}
 use Rattle.std.proofs.lemmas.Bool.{cond_both, eqb-true, both_ways, false_from_ne_true}
 use Rattle.std.proofs.lemmas.List.{length-take-le, take_at, drop_at, take_min}
-use Rattle.facet_format.specs.Bytes.{quote, slash, star, minus}
+use Rattle.facet_format.specs.Bytes.{quote, slash, star}
 use Rattle.facet_json_token.specs.Gap.{Mode, plain, jsonc}
 use Rattle.facet_format.specs.Number.{Hint, IsNumber, parts, parts_len, parts_hint, is_bare, starts_number, begins_number}
 use Rattle.facet_json_token.specs.Token.{Kind, string, number, Token, unexpected_eof, unexpected_char, in_literal}
@@ -14,6 +14,7 @@ use Rattle.facet_format.proofs.NumberPrefixes.{parts-take, parts_len-bound, is_b
 use Rattle.facet_format.proofs.NumberLaws.{number_is_longest, parts_len-is, parts_hint-is, begins_number-is, is_bare-number}
 use Rattle.facet_json_token.proofs.TextShapes.{Below, content_len-below, any_backslash, content_len-is, pieces-mark, ContentAt, content_at}
 use Rattle.facet_json_token.proofs.CutBounds.{common_len-bound}
+use Rattle.facet_json_scanner.proofs.PendingNumber.{sign-bound}
 
 -- ---- what is cut has the shape
 
@@ -216,12 +217,6 @@ cut_here-number mode at (b ∷ bytes) begins more =
 begins_number-append : (text rest : List ℕ) → begins_number text ≡ true → begins_number (text ++ rest) ≡ true
 begins_number-append [] rest e = cc
 begins_number-append (b ∷ text) rest e = e
-
--- A number's sign is one byte at most.
-sign-bound : (bytes : List ℕ) → (parts bytes).sign ≤ 1
-unfolding parts
-sign-bound [] = omega arith
-sign-bound (b ∷ bytes) = cond_both (b == minus) 1 0 (λ n. n ≤ 1) (λ e. omega arith) (λ e. omega arith)
 
 -- More than a minus stands where a number is in prefix.
 bare_behind : (text rest : List ℕ) (hint : Hint) → IsNumber text hint → is_bare (parts (text ++ rest)) ≡ false

@@ -277,7 +277,7 @@ static PARTS: [Run; 7] = [
 ];
 
 /// Comments that go on.
-static COMMENTS: [Run; 2] = [
+static COMMENTS: [Run; 4] = [
     (
         "line comments",
         Start::WithComments,
@@ -300,6 +300,25 @@ static COMMENTS: [Run; 2] = [
                 "Number { start: 6, end: 7, hint: Unsigned } 6+1",
                 7,
             ),
+        ],
+    ),
+    (
+        "a block comment whose bytes are changed",
+        Start::WithComments,
+        &[
+            (Call::Next("/*abc"), "NeedMore { consumed: 0 } 0+5", 5),
+            (Call::Last("/**/x"), "UnexpectedChar('x') 4+1", 4),
+            (Call::Next("/**/x"), "UnexpectedChar('x') 4+1", 4),
+            (Call::Next("/**/x"), "UnexpectedChar('x') 4+1", 4),
+        ],
+    ),
+    (
+        "a line comment whose bytes are changed",
+        Start::WithComments,
+        &[
+            (Call::Next("//a"), "NeedMore { consumed: 0 } 0+3", 3),
+            (Call::Next("xxx\n?"), "UnexpectedChar('?') 4+1", 4),
+            (Call::Next("xxx\n?"), "UnexpectedChar('?') 4+1", 4),
         ],
     ),
     (

@@ -1,5 +1,5 @@
 -- What an answer of a scan says, where it is a token or a fault that is cut.
-use Rattle.std.proofs.Common.{◌≡◌, ◌≢◌, ℕ, ◌≤◌, List, length, drop, slice_get, Option, Some, None, Result, Ok, Err, IfOk, refl, sym, ap, ◌∙◌, subst, arith}
+use Rattle.std.proofs.Common.{◌≡◌, ◌≢◌, ℕ, ◌+◌, ◌≤◌, true, List, length, drop, slice_get, Option, Some, None, Result, Ok, Err, IfOk, refl, sym, ap, ◌∙◌, subst, arith}
 use Rattle.std.specs.Option.{option_map}
 use Rattle.std.proofs.lemmas.List.{length-drop}
 use Rattle.std.proofs.lemmas.Option.{slice_get_within}
@@ -10,6 +10,7 @@ use Rattle.facet_json_token.specs.declared.token.SpannedToken.{SpannedToken}
 use Rattle.facet_json_token.specs.declared.token.ScanErrorKind.{ScanErrorKind}
 use Rattle.facet_json_token.specs.declared.token.ScanErrorKind.TheVariants as scan
 use Rattle.facet_json_token.specs.declared.token.ScanError.{ScanError}
+use Rattle.facet_format.specs.Number.{starts_number, parts}
 use Rattle.facet_format.specs.Span.{Span, stop, span_at}
 use Rattle.facet_json_token.specs.Gap.{Mode}
 use Rattle.facet_json_token.specs.Cut.{Cut, nothing_left, token, fault, cut_here}
@@ -21,7 +22,9 @@ use Rattle.facet_json_scanner.specs.Views.{answered, token_answered, fault_answe
 use Rattle.facet_format.specs.Views.{span_of}
 use Rattle.facet_json_scanner.specs.declared.scanner.token.Found.TheVariants as found
 use Rattle.facet_json_token.proofs.CutBounds.{KindFits, CutFits, here_fits}
-use Rattle.facet_json_token.proofs.FirstBytes.{cut_here-something}
+use Rattle.facet_json_token.proofs.FirstBytes.{cut_here-something, cut_here-number}
+use Rattle.facet_json_token.proofs.NumberCuts.{number_at}
+use Rattle.facet_json_token.proofs.Starts.{start_of-number}
 
 -- The indices of a kind stand in order within the first `last` bytes.
 abbrev pub KindWithin : ℕ → Kind → Type 0
@@ -104,6 +107,16 @@ cut_here-ends mode buffer at b here =
     let room = slice_get_within buffer at b here in
     fits-within buffer at _ (here_fits mode buffer (drop at buffer) at refl (omega (arith, length-drop at buffer)))
     (cut_here-something mode buffer at b here)
+
+-- Where a number is cut, its span ends within the buffer, and its indices stand within.
+pub number-answered : (mode : Mode) (buffer : List ℕ) (at b : ℕ) (r : Result SpannedToken ScanError) →
+    slice_get buffer at ≡ Some b → starts_number b ≡ true →
+    scanned r ≡ Some (number_at at (drop (at + 1) buffer) (parts (drop at buffer))) →
+    (stop (span_answered r) ≤ length buffer) × IndicesWithin (length buffer) r
+number-answered mode buffer at b r here starts e =
+    answered-ends r (cut_here mode at (drop at buffer)) (length buffer)
+    (e ∙ ap Some (cut_here-number mode buffer at b here (start_of-number b starts)))
+    (cut_here-ends mode buffer at b here)
 
 -- What is found where no gap is before it: what is cut there, and nothing longer begins.
 pub found-here : (mode : Mode) (buffer : List ℕ) (start : ℕ) (r : Result SpannedToken ScanError) (c : Cut) →

@@ -14,12 +14,12 @@ use Rattle.facet_json_scanner.proofs.GrowthOfGap.{piece_len-keeps}
 use Rattle.facet_json_scanner.proofs.GrowthOfCut.{past_gap-stays}
 
 -- Where no piece stands, the growing gap ends.
-growing_gap-none : (mode : Mode) (buffer : List ℕ) (p : ℕ) → piece_len mode growing (drop p buffer) ≡ 0 →
+pub growing_gap-none : (mode : Mode) (buffer : List ℕ) (p : ℕ) → piece_len mode growing (drop p buffer) ≡ 0 →
     past_growing_gap buffer p mode ≡ p
 growing_gap-none mode buffer p e = omega (arith, gap_len-none mode growing (drop p buffer) e)
 
 -- Where the buffer isn't open, the gap of the whole input ends where that of the growing one does.
-same_gap : (mode : Mode) (buffer : List ℕ) (p : ℕ) → p ≤ length buffer → (IsOpen buffer p mode → ⊥) →
+pub same_gap : (mode : Mode) (buffer : List ℕ) (p : ℕ) → p ≤ length buffer → (IsOpen buffer p mode → ⊥) →
     past_gap buffer p mode ≡ past_growing_gap buffer p mode
 same_gap mode buffer p room shut = rw append-nil at (past_gap-stays buffer [] p mode room shut (λ e. refl))
 

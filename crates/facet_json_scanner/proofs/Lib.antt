@@ -12,4 +12,5 @@ pub mod PendingComment
 pub mod PendingNumber
 pub mod PendingText
 pub mod PendingWord
+pub mod Refusals
 pub mod Segments

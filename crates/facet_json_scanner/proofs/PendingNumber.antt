@@ -1,18 +1,18 @@
 -- A number that the end of a buffer cuts, and its token where it ends before.
 use Rattle.std.proofs.Common.{◌≡◌, ℕ, ◌+◌, ◌-◌, ◌<◌, ◌≤◌, Bool, true, false, cond, ◌==◌, List, [], ◌∷◌, ◌++◌, length, drop, slice_get, Some, refl, ap, ap₂, sym, ◌∙◌, subst, arith, length-drop}
-use Rattle.std.proofs.lemmas.Bool.{eqb-true}
+use Rattle.std.proofs.lemmas.Bool.{eqb-true, cond_both}
 use Rattle.facet_format.specs.Bytes.{minus, dot}
 use Rattle.facet_json_token.specs.Gap.{Mode}
 use Rattle.facet_format.specs.Number.{Hint, float, AreDigits, IsMinus, IsFraction, IsExponent, hint_of, IsNumeral, is_some_len, parts, parts_len, parts_hint, is_bare, starts_number, begins_number}
 use Rattle.facet_json_token.specs.Token.{number}
-use Rattle.facet_json_token.specs.Cut.{opens_number, start_of, cut_number, cut_bare_minus, cut_here, token_at}
+use Rattle.facet_json_token.specs.Cut.{opens_number, start_of, cut_number, cut_here, token_at}
 use Rattle.facet_json_token.specs.Open.{IsBeginning}
 use Rattle.facet_json_scanner.specs.Scanner.{Part, in_digits, in_fraction, at_mark, in_exponent, last_part, part_hint, EndsIn, in_number, Describes}
 use Rattle.facet_json_token.proofs.Offsets.{drop-at_byte}
-use Rattle.facet_json_scanner.proofs.Segments.{between, between-length, between-first, between-starts}
+use Rattle.facet_json_scanner.proofs.Segments.{between, between-length, between-starts}
 use Rattle.facet_json_scanner.proofs.NumberParts.{last-digits}
 use Rattle.facet_json_token.proofs.NumberCuts.{number_at}
-use Rattle.facet_format.proofs.NumberLaws.{parts-is, parts_len-is, parts_hint-is, begins_number-is, is_bare-number, bare_minus-is, minus-some}
+use Rattle.facet_format.proofs.NumberLaws.{parts-is, parts_len-is, parts_hint-is, begins_number-is, is_bare-number, minus-some}
 use Rattle.facet_json_scanner.proofs.Beginnings.{BeginsBy, begins_by}
 use Rattle.facet_json_token.proofs.FirstBytes.{cut_here-number}
 use Rattle.facet_json_token.proofs.Starts.{start_of-number}
@@ -65,10 +65,16 @@ first-ends b e = by_minus b (b == minus) refl e
         } in
         record { hint = hint_of false false false; numeral = numeral; last = refl }
 
+-- A number's sign is one byte at most.
+pub sign-bound : (bytes : List ℕ) → (parts bytes).sign ≤ 1
+unfolding parts
+sign-bound [] = omega arith
+sign-bound (b ∷ bytes) = cond_both (b == minus) 1 0 (λ n. n ≤ 1) (λ e. omega arith) (λ e. omega arith)
+
 -- ---- where it ends before the buffer does
 
 -- Then nothing longer begins.
-number-shut : (mode : Mode) (b : ℕ) (bytes : List ℕ) → start_of b ≡ opens_number →
+pub number-shut : (mode : Mode) (b : ℕ) (bytes : List ℕ) → start_of b ≡ opens_number →
     (parts_len (parts (b ∷ bytes)) ≡ length (b ∷ bytes) → ⊥) → IsBeginning mode (b ∷ bytes) → ⊥
 number-shut mode b bytes begins ends i = ends (subst (λ s. BeginsBy s b bytes) begins (begins_by mode b bytes i))
 
@@ -179,12 +185,3 @@ number-token buffer rest start end b part order room here more i =
     ap (λ n. token_at (number start n (part_hint part (b == minus))) start (end - start)) finish
     ∙ ap₂ (λ n h. token_at (number start (start + n) h) start n) long hint
     ∙ ap (cut_number start rest (parts_len (parts text)) (parts_hint (parts text))) (sym bare)
-
--- A minus alone is refused.
-pub number-bare : (buffer rest : List ℕ) (start : ℕ) → start < length buffer → slice_get buffer start ≡ Some minus →
-    cut_bare_minus start rest ≡ number_at start rest (parts (between buffer start (start + 1)))
-number-bare buffer rest start room here =
-    let text = between buffer start (start + 1) in
-    let bare : is_bare (parts text) ≡ true =
-    ap (λ l. is_bare (parts l)) (between-first buffer start minus here) ∙ bare_minus-is in
-    ap (cut_number start rest (parts_len (parts text)) (parts_hint (parts text))) (sym bare)

@@ -156,8 +156,8 @@ first_byte_of position (pending_at start state) = start
 abbrev pub first_of : Scanner → ℕ
 first_of s = first_byte_of s.position s.pending
 
--- where the scanner stands where no more bytes follow: where it stood, or at the first byte of what is refused
-abbrev pub stands_at_end : Scanner → Cut → ℕ
-stands_at_end s nothing_left = s.position
-stands_at_end s (token t) = s.position
-stands_at_end s (fault f) = first_of s
+-- where the scanner stands where no more bytes follow these: where it stood, or at the first byte of what is refused
+abbrev pub stands_at_end : Scanner → List ℕ → Cut → ℕ
+stands_at_end s bytes nothing_left = s.position
+stands_at_end s bytes (token t) = s.position
+stands_at_end s bytes (fault f) = past_gap bytes (first_of s) s.mode

@@ -1,5 +1,5 @@
 -- What the types of the scanner stand for in the definitions.
-use Rattle.std.specs.Prelude.{ℕ, Option, Some, None, Result, Ok, Err, ◌≡◌, ◌≤◌, List, length, ◌+◌, ◌<◌, drop, slice_get}
+use Rattle.std.specs.Prelude.{ℕ, Option, Some, None, Result, Ok, Err, IfErr, ◌≡◌, ◌≤◌, List, length, ◌+◌, ◌<◌, drop, slice_get}
 use Rattle.facet_json_token.specs.declared.token.Token.{Token as RustToken}
 use Rattle.facet_json_token.specs.declared.token.Token.TheVariants as code
 use Rattle.facet_json_token.specs.declared.token.SpannedToken.{SpannedToken}
@@ -119,6 +119,15 @@ FoundFrom mode buffer p (found.Answer at result) = (at ≡ past_gap buffer p mod
     × (IsOpen buffer p mode → ⊥)
 FoundFrom mode buffer p (found.Open at s) = (at ≡ past_growing_gap buffer p mode)
     × Describes mode (state_of s) (drop (past_growing_gap buffer p mode) buffer)
+
+-- A refusal is what is cut at `at`, where no gap is before it and the buffer isn't open.
+abbrev pub RefusedAt : Mode → List ℕ → ℕ → Result SpannedToken ScanError → Type 0
+RefusedAt mode buffer at result = IfErr result (λ _. FoundFrom mode buffer at (found.Answer at result))
+
+-- So is one that is found.
+abbrev pub RefusedThere : Mode → List ℕ → Found → Type 0
+RefusedThere mode buffer (found.Answer at result) = RefusedAt mode buffer at result
+RefusedThere mode buffer (found.Open at s) = Unit {0}
 
 -- What is found stands within the first `last` bytes.
 abbrev pub FoundWithin : ℕ → Found → Type 0

@@ -4,11 +4,12 @@
 ghost use Rattle.std.specs.Prelude.{◌≡◌, ℕ, ◌-◌, ◌<◌, ◌≤◌, length, take, drop, Some, IfSome, IfErr};
 ghost use Rattle.facet_json_token.specs.Gap.{plain, jsonc};
 ghost use Rattle.facet_format.specs.Span.{stop, span_at};
+ghost use Rattle.facet_json_token.specs.Cut.{past_gap};
 ghost use Rattle.facet_json_token.specs.Cut as spec_cut;
 ghost use Rattle.facet_json_scanner.specs.Scanner.{answer_for, idle, nothing_pending, scanner_at, first_of, first_byte_of, stands_at_end, Describes, GoesOnFrom, Gives};
 ghost use Rattle.facet_json_scanner.specs.Scanner as spec_scanner;
 ghost use Rattle.facet_json_token.specs.Views.{mode_of};
-ghost use Rattle.facet_json_scanner.specs.Views.{state_of, pending_of, answered, span_answered, IndicesWithin, position_after, stands_last, FoundFrom, FoundWithin, PieceHere, PieceWithin};
+ghost use Rattle.facet_json_scanner.specs.Views.{state_of, pending_of, answered, span_answered, IndicesWithin, position_after, stands_last, FoundFrom, FoundWithin, RefusedThere, PieceHere, PieceWithin};
 
 mod gap;
 mod pending;
@@ -18,6 +19,7 @@ use crate::scanner::gap::{Piece, block_from, line_from};
 use crate::scanner::pending::{Pending, State};
 use crate::scanner::token::{Found, number_from, scan_from, text_from};
 use facet_format::Span;
+use facet_json_token::plain_cut::skip_gap;
 use facet_json_token::{Mode, ScanResult, SpannedToken, Token, cut};
 use std::marker::Model;
 
@@ -109,7 +111,7 @@ impl Scanner {
     /// is `Eof`, an empty span at the end of the buffer. Offsets are in bytes.
     ///
     /// On every buffer, also one whose bytes are no longer the same, the position, the span and the indices of the
-    /// answer lie within it.
+    /// answer lie within it, and what is refused is what stands at the position: the same call again refuses alike.
     ///
     /// # Errors
     ///
@@ -122,6 +124,7 @@ impl Scanner {
         ensures span { stop (span_answered result) ≤ length buf.now }
         ensures indices { IndicesWithin (length buf.now) result }
         ensures idle { IfErr result (λ _. self.new.pending ≡ nothing_pending) }
+        ensures refusal { IfErr result (λ _. Gives buf.now self.new.position self.old.mode (answered result) self.new) }
         ensures mode { self.new.mode ≡ self.old.mode }
     {
         match find(buf, self.position, self.pending, self.mode) {
@@ -141,16 +144,17 @@ impl Scanner {
     /// Answers what is pending, where no more bytes follow those up to the position: a number, the end after a line
     /// comment, or a refusal. With nothing pending the answer is the end.
     ///
-    /// Nothing is pending afterwards, and the position stays.
+    /// Nothing is pending afterwards, and the position stays, unless the answer is a refusal.
     ///
     /// # Errors
     ///
-    /// The bytes end inside of a token or a block comment. The position is then the first byte of it.
+    /// The bytes end inside of a token or a block comment, or are no longer the same, and no token stands there. The
+    /// position is then the first byte of what is refused, where the gap before it ends.
     pub fn finalize_at_eof(&mut self, buf: &[u8]) -> ScanResult
         requires { self.old.position ≤ length buf.now }
         ensures token { answered result ≡ Some (answer_for self.old.position
             (spec_cut.cut (take self.old.position buf.now) (first_of self.old) self.old.mode)) }
-        ensures scanner { self.new ≡ idle (stands_at_end self.old
+        ensures scanner { self.new ≡ idle (stands_at_end self.old (take self.old.position buf.now)
             (spec_cut.cut (take self.old.position buf.now) (first_of self.old) self.old.mode)) self.old.mode }
         ensures span { stop (span_answered result) ≤ self.old.position }
         ensures indices { IndicesWithin self.old.position result }
@@ -158,7 +162,7 @@ impl Scanner {
         let first = first_byte(self.position, self.pending);
         let result = cut_front(buf, self.position, first, self.mode);
         self.pending = None;
-        self.position = stands_at_end(self.position, first, &result);
+        self.position = stands_at_end(buf, self.position, first, self.mode, &result);
         result
     }
 }
@@ -170,6 +174,7 @@ fn find(buffer: &[u8], position: usize, pending: Option<Pending>, mode: Mode) ->
     ensures here { (p : ℕ) → GoesOnFrom (scanner_at position (mode_of mode) (pending_of pending)) buffer.now p
         → FoundFrom (mode_of mode) buffer.now p result }
     ensures within { FoundWithin (length buffer.now) result }
+    ensures refusal { RefusedThere (mode_of mode) buffer.now result }
 {
     match pending {
         Some(pending) => resume(buffer, position, pending, mode),
@@ -184,6 +189,7 @@ fn resume(buffer: &[u8], at: usize, pending: Pending, mode: Mode) -> Found
     ensures here { Describes (mode_of mode) (state_of pending.state) (drop pending.start (take at buffer.now))
         → FoundFrom (mode_of mode) buffer.now pending.start result }
     ensures within { FoundWithin (length buffer.now) result }
+    ensures refusal { RefusedThere (mode_of mode) buffer.now result }
 {
     let start = pending.start;
     match pending.state {
@@ -211,6 +217,7 @@ fn behind_comment(buffer: &[u8], start: usize, comment: Piece, mode: Mode) -> Fo
     requires within { PieceWithin start (length buffer.now) comment }
     ensures here { PieceHere (mode_of mode) buffer.now start comment → FoundFrom (mode_of mode) buffer.now start result }
     ensures within { FoundWithin (length buffer.now) result }
+    ensures refusal { RefusedThere (mode_of mode) buffer.now result }
 {
     match comment {
         Piece::Closed(end) => scan_from(buffer, end, mode),
@@ -243,13 +250,16 @@ fn cut_front(buffer: &[u8], end: usize, first: usize, mode: Mode) -> ScanResult
     cut(&buffer[..end], first, mode)
 }
 
-/// Where the scanner stands after the last answer: where it stood, or at the first byte of what is refused.
-fn stands_at_end(position: usize, first: usize, answer: &ScanResult) -> usize
-    ensures { result ≡ stands_last position first answer.now }
+/// Where the scanner stands after the last answer, where the input ends at `end`: there, or after a refusal at the first
+/// byte of what is refused.
+fn stands_at_end(buffer: &[u8], end: usize, first: usize, mode: Mode, answer: &ScanResult) -> usize
+    requires order { first ≤ end }
+    requires room { end ≤ length buffer.now }
+    ensures { result ≡ stands_last end (past_gap (take end buffer.now) first (mode_of mode)) answer.now }
 {
     match answer {
-        Ok(_) => position,
-        Err(_) => first,
+        Ok(_) => end,
+        Err(_) => skip_gap(&buffer[..end], first, mode),
     }
 }
 

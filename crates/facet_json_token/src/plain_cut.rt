@@ -45,7 +45,7 @@ pub fn cut(buffer: &[u8], position: usize, mode: Mode) -> ScanResult
 // ---- the gap
 
 /// The offset after the gap at `position`.
-fn skip_gap(buffer: &[u8], position: usize, mode: Mode) -> usize
+pub fn skip_gap(buffer: &[u8], position: usize, mode: Mode) -> usize
     requires { position ≤ length buffer.now }
     ensures end { result ≡ past_gap buffer.now position (mode_of mode) }
     ensures within { result ≤ length buffer.now }
@@ -242,7 +242,7 @@ pub fn common_len(buffer: &[u8], at: usize, word: &[u8]) -> usize
 }
 
 /// Cuts the number, or the bare minus, at `at`.
-fn cut_number(buffer: &[u8], at: usize) -> ScanResult
+pub fn cut_number(buffer: &[u8], at: usize) -> ScanResult
     requires { at < length buffer.now }
     ensures { let p = parts (drop at buffer.now) in scanned result
         ≡ Some (spec_cut.cut_number at (drop (at + 1) buffer.now) (parts_len p) (parts_hint p) (is_bare p)) }
@@ -261,7 +261,7 @@ fn cut_number(buffer: &[u8], at: usize) -> ScanResult
 }
 
 /// The fault of a minus at `at` with no number after it.
-pub fn cut_bare_minus(buffer: &[u8], at: usize) -> ScanResult
+fn cut_bare_minus(buffer: &[u8], at: usize) -> ScanResult
     requires { at < length buffer.now }
     ensures { scanned result ≡ Some (spec_cut.cut_bare_minus at (drop (at + 1) buffer.now)) }
 {

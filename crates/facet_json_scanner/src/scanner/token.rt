@@ -11,12 +11,12 @@ ghost use Rattle.facet_json_token.specs.Open.{IsBeginning};
 ghost use Rattle.facet_json_scanner.specs.Scanner.{in_text, ended, EndsIn, Describes};
 ghost use Rattle.facet_format.specs.Number.{parts, parts_len, parts_hint, is_bare};
 ghost use Rattle.facet_json_token.specs.Views.{mode_of, kind_of, scanned};
-ghost use Rattle.facet_json_scanner.specs.Views.{part_of, answered, span_answered, IndicesWithin, FoundHere, FoundFrom, FoundWithin};
+ghost use Rattle.facet_json_scanner.specs.Views.{part_of, answered, span_answered, IndicesWithin, FoundHere, FoundFrom, FoundWithin, RefusedAt, RefusedThere};
 
 use crate::scanner::gap::{Piece, piece_from};
 use crate::scanner::pending::{Part, State};
 use facet_format::Span;
-use facet_json_token::plain_cut::{common_len, cut_bare_minus, cut_token, cut_word, token_at};
+use facet_json_token::plain_cut::{common_len, cut_number, cut_token, cut_word, token_at};
 use facet_json_token::{Mode, ScanResult, SpannedToken, Token};
 
 /// What stands at a place.
@@ -43,6 +43,7 @@ pub fn scan_from(buffer: &[u8], position: usize, mode: Mode) -> Found
     requires { position ≤ length buffer.now }
     ensures here { FoundFrom (mode_of mode) buffer.now position result }
     ensures within { FoundWithin (length buffer.now) result }
+    ensures refusal { RefusedThere (mode_of mode) buffer.now result }
 {
     let mut at = position;
     loop {
@@ -98,6 +99,7 @@ pub fn text_from(buffer: &[u8], start: usize, at: usize, escaped: bool, has_esca
     ensures here { (mode : spec_gap.Mode) → Describes mode (in_text escaped has_escapes) (drop start (take at buffer.now))
         → FoundHere mode buffer.now start result }
     ensures within { FoundWithin (length buffer.now) result }
+    ensures refusal { (mode : spec_gap.Mode) → RefusedThere mode buffer.now result }
 {
     let mut end = at;
     let mut escaped = escaped;
@@ -156,6 +158,7 @@ pub fn number_from(buffer: &[u8], start: usize, at: usize, part: Part) -> Found
     ensures here { EndsIn (part_of part) (drop start (take at buffer.now))
         → (mode : spec_gap.Mode) → FoundHere mode buffer.now start result }
     ensures within { FoundWithin (length buffer.now) result }
+    ensures refusal { (mode : spec_gap.Mode) → RefusedThere mode buffer.now result }
 {
     let mut end = at;
     let mut part = part;
@@ -175,19 +178,21 @@ pub fn number_from(buffer: &[u8], start: usize, at: usize, part: Part) -> Found
     }
 }
 
-/// The token of the number from `start` to `end`, whose last byte stands in this part, or the fault of a bare minus.
+/// The token of the number from `start` to `end`, whose last byte stands in this part, or what is cut of a minus alone.
 fn number_token(buffer: &[u8], start: usize, end: usize, part: Part) -> ScanResult
     requires order { start < end }
-    requires room { end ≤ length buffer.now }
+    requires room { end < length buffer.now }
     ensures token { let text = drop start (take end buffer.now) in EndsIn (part_of part) text
+        → parts (drop start buffer.now) ≡ parts text
         → scanned result ≡ Some (spec_cut.cut_number start (drop (start + 1) buffer.now)
         (parts_len (parts text)) (parts_hint (parts text)) (is_bare (parts text))) }
+    ensures refusal { (mode : spec_gap.Mode) → RefusedAt mode buffer.now start result }
     ensures span { stop (span_answered result) ≤ length buffer.now }
     ensures indices { IndicesWithin (length buffer.now) result }
 {
     let is_negative = buffer[start] == b'-';
     if is_negative && end == start + 1 {
-        return cut_bare_minus(buffer, start);
+        return cut_number(buffer, start);
     }
     let token = Token::Number {
         start,

@@ -38,3 +38,9 @@ returns-in-Number-clause-here c = λ h.
 
 pub returns-in-Line-clause-here : goal.returns-in-Line-clause-here
 returns-in-Line-clause-here c = search rules
+
+pub returns-in-Text-clause-refusal : goal.returns-in-Text-clause-refusal
+returns-in-Text-clause-refusal c = c.text_from.ensures.refusal (mode_of c.args.mode)
+
+pub returns-in-Number-clause-refusal : goal.returns-in-Number-clause-refusal
+returns-in-Number-clause-refusal c = c.number_from.ensures.refusal (mode_of c.args.mode)

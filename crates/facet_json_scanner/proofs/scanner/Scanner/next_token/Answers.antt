@@ -1,8 +1,10 @@
 -- What is found is answered, and kept if it is open.
-use Rattle.std.proofs.Common.{rules, ◌≡◌, length, drop, sym, ap, subst}
-use Rattle.facet_json_scanner.specs.Scanner.{GoesOnFrom, Describes, waiting, past_growing_gap}
-use Rattle.facet_json_scanner.specs.Views.{state_of}
+use Rattle.std.proofs.Common.{rules, ◌≡◌, length, drop, IfErr, sym, ap, subst}
+use Rattle.facet_json_scanner.specs.Scanner.{GoesOnFrom, Describes, idle, waiting, past_growing_gap, Gives}
+use Rattle.facet_json_token.specs.Views.{mode_of}
+use Rattle.facet_json_scanner.specs.Views.{state_of, answered, position_after}
 use Rattle.facet_json_scanner.proofs.OpenNeedsMore.{gives-open}
+use Rattle.facet_json_scanner.proofs.Refusals.{more-no_refusal, gives-refused}
 use Rattle.facet_json_scanner.proofs.scanner.Scanner.next_token.Goals as goal
 
 pub returns-in-Open-clause-token : goal.returns-in-Open-clause-token
@@ -26,3 +28,17 @@ returns-in-Answer-clause-token c = search rules
 
 pub returns-in-Answer-clause-idle : goal.returns-in-Answer-clause-idle
 returns-in-Answer-clause-idle c = search rules
+
+pub returns-in-Open-clause-refusal : goal.returns-in-Open-clause-refusal
+returns-in-Open-clause-refusal c = more-no_refusal c.needs_more.result _ _ _ c.needs_more.ensures.token
+
+pub returns-in-Answer-clause-refusal : goal.returns-in-Answer-clause-refusal
+returns-in-Answer-clause-refusal c =
+    let buffer = c.args.buf.now in
+    let r = c.in-Answer.result in
+    let inside = mode_of c.self.inside.mode in
+    let p = position_after c.in-Answer.start r in
+    subst (λ n. IfErr r (λ _. Gives buffer n c.args.self.now.mode (answered r) (idle n inside)))
+    (sym c.stands_after-self-inside.ensures)
+    (subst (λ m. IfErr r (λ _. Gives buffer p m (answered r) (idle p inside))) (ap (λ s. s.mode) c.self.view_is)
+    (gives-refused buffer c.in-Answer.start inside r c.in-Answer.ensures.refusal))

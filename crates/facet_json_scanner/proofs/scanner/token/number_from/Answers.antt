@@ -36,7 +36,10 @@ returns-in_default-after-clause-here c = λ i mode.
     let some : number_at start (drop (start + 1) buffer) (parts text) ≢ nothing_left =
     λ e. cut_here-something mode buffer start first here (sym found.0 ∙ e) in
     found-here mode buffer start c.number_token.result (number_at start (drop (start + 1) buffer) (parts text))
-    (c.number_token.ensures.token ends) some found.0 found.1
+    (c.number_token.ensures.token ends same) some found.0 found.1
+
+pub returns-in_default-after-clause-refusal : goal.returns-in_default-after-clause-refusal
+returns-in_default-after-clause-refusal c = λ mode. c.number_token.ensures.refusal mode
 
 pub loop-byte-preserved : goal.loop-byte-preserved
 loop-byte-preserved c =

@@ -5,6 +5,7 @@ use Rattle.facet_json_scanner.specs.Views.{state_of}
 use Rattle.facet_json_scanner.specs.declared.scanner.token.Found.TheVariants as found
 use Rattle.facet_json_scanner.proofs.FoundPastGap.{found-no_gap, found-piece}
 use Rattle.facet_json_scanner.proofs.NoPiece.{open_no_piece}
+use Rattle.facet_json_scanner.proofs.Refusals.{found-refused}
 use Rattle.facet_json_scanner.proofs.scanner.token.scan_from.Goals as goal
 
 pub loop-end-preserved : goal.loop-end-preserved
@@ -32,3 +33,11 @@ returns-in-Absent-clause-here c =
     c.loop-end.invariant.same c.token_from.result
     (found-no_gap (mode_of c.args.mode) c.args.buffer.now c.loop-end.at _ c.loop-end.invariant.within absent.0
     (c.token_from.ensures.here absent.1))
+
+pub returns-in-Absent-clause-refusal : goal.returns-in-Absent-clause-refusal
+returns-in-Absent-clause-refusal c =
+    let mode = mode_of c.args.mode in
+    let buffer = c.args.buffer.now in
+    let absent = c.in-Absent.ensures.here in
+    found-refused mode buffer c.loop-end.at c.token_from.result c.loop-end.invariant.within
+    (found-no_gap mode buffer c.loop-end.at _ c.loop-end.invariant.within absent.0 (c.token_from.ensures.here absent.1))

@@ -1,6 +1,7 @@
 -- Each byte goes on with what was read, and the quote closes it.
 use Rattle.std.proofs.Common.{◌+◌, ◌-◌, refl, sym, subst, arith}
 use Rattle.facet_format.specs.Bytes.{quote}
+use Rattle.facet_format.specs.Span.{span_at}
 use Rattle.facet_json_token.specs.Token.{string}
 use Rattle.facet_json_token.specs.Cut.{token_at}
 use Rattle.facet_json_scanner.specs.Scanner.{Describes, in_text}
@@ -9,6 +10,7 @@ use Rattle.facet_json_token.proofs.TextSteps.{no_quote}
 use Rattle.facet_json_scanner.proofs.Segments.{between, between-more}
 use Rattle.facet_json_scanner.proofs.PendingText.{text-step, text-found}
 use Rattle.facet_json_scanner.proofs.AnswersOfCuts.{found-here, answered-ends}
+use Rattle.facet_json_scanner.proofs.Refusals.{token-no_refusal}
 use Rattle.facet_json_scanner.proofs.scanner.token.text_from.Goals as goal
 
 pub returns-then-not-escaped-clause-here : goal.returns-then-not-escaped-clause-here
@@ -35,6 +37,14 @@ returns-then-not-escaped-clause-within c =
     (c.token_at.ensures (string (start + 1) end e) refl)
     (omega (arith, c.in-Some.ensures.lookup.3.0), (omega arith, omega (arith, c.in-Some.ensures.lookup.3.0))) in
     (omega arith, ends.0, ends.1)
+
+pub returns-then-not-escaped-clause-refusal : goal.returns-then-not-escaped-clause-refusal
+returns-then-not-escaped-clause-refusal c = λ mode.
+    let start = c.args.start in
+    let end = c.loop-byte.end in
+    let kind = string (start + 1) end c.loop-byte.has_escapes in
+    token-no_refusal c.token_at.result (record { kind = kind; span = span_at start ((end + 1) - start) }) _
+    (c.token_at.ensures kind refl)
 
 pub loop-byte-preserved : goal.loop-byte-preserved
 loop-byte-preserved c =
