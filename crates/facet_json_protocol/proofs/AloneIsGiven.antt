@@ -1,6 +1,7 @@
 -- Reading by the next event alone, on an input without a document: what the longest prefix gives, and then one refusal.
-use Rattle.std.proofs.Common.{◌≡◌, ℕ, List, [], ◌∷◌, Some, None, refl, sym, ap, ◌∙◌}
-use Rattle.std.specs.Prelude.{Err}
+use Rattle.std.proofs.Common.{◌≡◌, ℕ, Bool, true, false, List, [], ◌∷◌, Option, Some, None, refl, sym, ap, ◌∙◌, subst}
+use Rattle.std.specs.Prelude.{Ok, Err}
+use Rattle.facet_format.specs.Span.{Span, span_at}
 use Rattle.facet_json_token.specs.Gap.{Mode}
 use Rattle.facet_json_token.specs.Token.{Token}
 use Rattle.facet_json_token.specs.Tokens.{Tokens, tokens}
@@ -11,10 +12,10 @@ use Rattle.facet_json_document.specs.Document.{IsDocument}
 use Rattle.facet_json_document.specs.Place.{Place, root}
 use Rattle.facet_format.specs.Complaint.{Refusal}
 use Rattle.facet_json_document.specs.Refusal.{IsStuck}
-use Rattle.facet_format.specs.Event.{Passed}
-use Rattle.facet_format.specs.Cursor.{Call, next, Answer, event}
+use Rattle.facet_format.specs.Event.{Passed, takes_memory}
+use Rattle.facet_format.specs.Cursor.{Call, next, Answer, event, no_memory_at}
 use Rattle.facet_json_document.specs.Future.{gives, stuck, events_before, within, reads}
-use Rattle.facet_json_protocol.specs.Now.{Now, fresh, future_of}
+use Rattle.facet_json_protocol.specs.Now.{Now, fresh, future_of, is_shown, last_shown, span_of}
 use Rattle.facet_json_protocol.specs.Move.{Moves, repeats, passes, passes_without_memory, passes_the_end, passes_nothing, MovesAll, no_calls, one_call}
 use Rattle.facet_json_prefix.specs.Begun.{LongestPrefix, RefusesAfter}
 use Rattle.facet_json_protocol.specs.ParserLaws.{GivenAlone}
@@ -22,6 +23,12 @@ use Rattle.facet_json_prefix.specs.EventLaws.{RootComes, document_comes, prefix_
 use Rattle.facet_json_protocol.specs.Alone.{AllNext, no_call, one_next, AllRefused, no_answer, one_refused, AnswersAlone, not_asked, one_event, refused, wants_memory}
 use Rattle.facet_json_protocol.proofs.MoveLaws.{moves-repeats}
 use Rattle.facet_json_prefix.proofs.LongestPrefix.{input-comes}
+
+-- Where no peek showed an event, the last token that was read is that of the last event that was passed.
+unshown-last : (held : Option Passed) (shown : Bool) (last : Span) → is_shown held shown ≡ false → last_shown held shown last ≡ last
+unshown-last None shown last e = refl
+unshown-last (Some p) true last e = cc
+unshown-last (Some p) false last e = refl
 
 module _ (complains : Token → Refusal → Type 0) where
   -- A refused parser answers its refusal again and again.
@@ -40,41 +47,48 @@ module _ (complains : Token → Refusal → Type 0) where
     RefusesHere now = (r : Refusal) → IsStuck now.buffer (meaning now.buffer) complains here rest r → refuses r
 
     -- The first answer, and the others.
-    step_alone : (now : Now) (events : List Passed) {between new : Now} {answer : Answer} {calls : List Call} {answers : List Answer} →
-        now.refusal ≡ None → future_of now ≡ events_before events (stuck here rest) → RefusesHere now → AllNext calls →
+    step_alone : (now : Now) (last : Span) (events : List Passed) (answers : List Answer) {between new : Now} {answer : Answer}
+        {calls : List Call} → now.refusal ≡ None → now.standing.last ≡ last →
+        future_of now ≡ events_before events (stuck here rest) → RefusesHere now → AllNext calls →
         Moves complains now next answer between → MovesAll complains between calls answers new →
-        ((p : Passed) (others : List Passed) → events ≡ p ∷ others → between.refusal ≡ None →
-        future_of between ≡ events_before others (stuck here rest) → RefusesHere between → AnswersAlone refuses others answers) →
-        AnswersAlone refuses events (answer ∷ answers)
-    step_alone now events free comes h only (repeats r call answer e a) more go = cc
-    step_alone now [] free comes h only (passes p future s none goes shows) more go = cc
-    step_alone now (q ∷ events) free comes h only (passes p future s none goes shows) more go =
+        ((p : Passed) (others : List Passed) → events ≡ p ∷ others → between.refusal ≡ None → between.standing.last ≡ p.last →
+        future_of between ≡ events_before others (stuck here rest) → RefusesHere between → AnswersAlone refuses p.last others answers) →
+        AnswersAlone refuses last events (answer ∷ answers)
+    step_alone now last events answers free at comes h only (repeats r call answer e a) more go = cc
+    step_alone now last [] answers free at comes h only (passes p future s none goes shows) more go = cc
+    step_alone now last (q ∷ events) answers free at comes h only (passes p future s none goes shows) more go =
         let both : gives q (events_before events (stuck here rest)) ≡ gives p future = sym comes ∙ goes in
         let first : q ≡ p = cc in
         let behind : future ≡ events_before events (stuck here rest) = cc in
-        rw first (one_event p events _ (go q events refl none (shows.comes ∙ behind) h))
-    step_alone now [] free comes h only (passes_without_memory p future s none goes takes off like) more go = cc
-    step_alone now (q ∷ events) free comes h only (passes_without_memory p future s none goes takes off like) more go =
+        let passed : s.last ≡ q.last = shows.last_is ∙ ap (λ x. x.last) (sym first) in
+        let others = go q events refl none passed (shows.comes ∙ behind) h in
+        subst (λ x. AnswersAlone refuses last (q ∷ events) (event (Ok (Some x.event)) ∷ answers)) first (one_event last q events answers others)
+    step_alone now last [] answers free at comes h only (passes_without_memory p future s none goes takes off like) more go = cc
+    step_alone now last (q ∷ events) answers free at comes h only (passes_without_memory p future s none goes takes off like) more go =
         let both : gives q (events_before events (stuck here rest)) ≡ gives p future = sym comes ∙ goes in
         let first : q ≡ p = cc in
-        wants_memory _ q events _ (rw first takes) refl (all-refused _ refl only more)
-    step_alone now [] free comes h only (passes_the_end s none e like) more go = cc
-    step_alone now (q ∷ events) free comes h only (passes_the_end s none e like) more go = cc
-    step_alone now [] free comes h only (passes_nothing place left r s none e stops like) more go =
+        let current : span_of s ≡ last = unshown-last s.held s.shown s.last (like.peeked_is ∙ off) ∙ like.last_is ∙ at in
+        let allocates : takes_memory q.event.kind ≡ true = rw first takes in
+        let others : AllRefused (no_memory_at last) answers = all-refused (no_memory_at last) (ap (λ x. Some (no_memory_at x)) current) only more in
+        rw current (wants_memory last q events answers allocates others)
+    step_alone now last [] answers free at comes h only (passes_the_end s none e like) more go = cc
+    step_alone now last (q ∷ events) answers free at comes h only (passes_the_end s none e like) more go = cc
+    step_alone now last [] answers free at comes h only (passes_nothing place left r s none e stops like) more go =
         let both : stuck here rest ≡ stuck place left = sym comes ∙ e in
-        let at : place ≡ here = cc in
+        let same : place ≡ here = cc in
         let in_front : left ≡ rest = cc in
-        refused r _ (h r (rw (at, in_front) at stops)) (all-refused r refl only more)
-    step_alone now (q ∷ events) free comes h only (passes_nothing place left r s none e stops like) more go = cc
+        refused last r answers (h r (rw (same, in_front) at stops)) (all-refused r refl only more)
+    step_alone now last (q ∷ events) answers free at comes h only (passes_nothing place left r s none e stops like) more go = cc
 
     -- What comes is answered event by event, and then the refusal.
-    pub answers-alone : (events : List Passed) {now new : Now} {calls : List Call} {answers : List Answer} → AllNext calls →
-        now.refusal ≡ None → future_of now ≡ events_before events (stuck here rest) → RefusesHere now →
-        MovesAll complains now calls answers new → AnswersAlone refuses events answers
-    answers-alone events no_call free comes h (no_calls now) = not_asked events
-    answers-alone events (one_next calls only) free comes h (one_call now between new call answer _ answers move more) =
-        step_alone now events free comes h only move more
-        (λ p others same none behind there. answers-alone others only none behind there more)
+    pub answers-alone : (last : Span) (events : List Passed) {now new : Now} {calls : List Call} {answers : List Answer} →
+        AllNext calls → now.refusal ≡ None → now.standing.last ≡ last →
+        future_of now ≡ events_before events (stuck here rest) → RefusesHere now → MovesAll complains now calls answers new →
+        AnswersAlone refuses last events answers
+    answers-alone last events no_call free at comes h (no_calls now) = not_asked last events
+    answers-alone last events (one_next calls only) free at comes h (one_call now between new call answer _ answers move more) =
+        step_alone now last events answers free at comes h only move more
+        (λ p others same none passed behind there. answers-alone p.last others only none passed behind there more)
 
 -- Where this prefix comes and then nothing, its events are answered, and then one refusal.
 pub prefix-alone : (buffer : List ℕ) (mode : Mode) (complains : Token → Refusal → Type 0) (events : List Passed) (here : Place)
@@ -82,9 +96,9 @@ pub prefix-alone : (buffer : List ℕ) (mode : Mode) (complains : Token → Refu
     LongestPrefix (meaning buffer) (tokens buffer mode) events here rest →
     reads (meaning buffer) [] (within root) (tokens buffer mode) ≡ events_before events (stuck here rest) → AllNext calls →
     MovesAll complains (fresh buffer mode) calls answers new →
-    AnswersAlone (RefusesAfter buffer mode complains events) events answers
+    AnswersAlone (RefusesAfter buffer mode complains events) (span_at 0 0) events answers
 prefix-alone buffer mode complains events here rest front e only moves =
-    answers-alone complains (RefusesAfter buffer mode complains events) here rest events only refl e
+    answers-alone complains (RefusesAfter buffer mode complains events) here rest (span_at 0 0) events only refl refl e
     (λ r stops. record { here = here; rest = rest; front = front; stuck = stops }) moves
 
 given_by : (buffer : List ℕ) (mode : Mode) (complains : Token → Refusal → Type 0) {new : Now} {calls : List Call} {answers : List Answer} →

@@ -3,6 +3,7 @@
 -- one refusal. Where memory may be lacking, the cursor's steps and `AnswersAlone` say.
 use Rattle.std.specs.Prelude.{◌≡◌, ℕ, List}
 use Rattle.facet_json_token.specs.Gap.{Mode}
+use Rattle.facet_format.specs.Span.{span_at}
 use Rattle.facet_format.specs.Complaint.{Refusal}
 use Rattle.facet_format.specs.Event.{Passed}
 use Rattle.facet_format.specs.Cursor.{Call, Answer, Cursor, start, Run}
@@ -43,7 +44,7 @@ pub record AnswersPrefix (buffer : List ℕ) (mode : Mode) : Type 0 where
   pub refusal : Refusal
   pub refused : RefusesAfter buffer mode Complains events refusal
   pub alone : (calls : List Call) (answers : List Answer) (new : Now) → AllNext calls → NewAnswers buffer mode calls answers new →
-      AnswersAlone (RefusesAfter buffer mode Complains events) events answers
+      AnswersAlone (RefusesAfter buffer mode Complains events) (span_at 0 0) events answers
 
 -- The input is of the one kind or of the other.
 pub data Answered (buffer : List ℕ) (mode : Mode) : Type 0 where

@@ -1,5 +1,6 @@
 -- Laws of parsers: where a new one stands, what comes from there, and what reading by the next event alone answers where there is no document.
 use Rattle.std.specs.Prelude.{ℕ, List}
+use Rattle.facet_format.specs.Span.{span_at}
 use Rattle.facet_json_token.specs.Gap.{Mode}
 use Rattle.facet_json_token.specs.Token.{Token}
 use Rattle.facet_json_token.specs.Tokens.{Tokens, tokens}
@@ -30,10 +31,11 @@ pub record GivenAlone (buffer : List ℕ) (mode : Mode) (complains : Token → R
   pub here : Place
   pub rest : Tokens
   pub front : LongestPrefix (meaning buffer) (tokens buffer mode) events here rest
-  pub alone : AnswersAlone (RefusesAfter buffer mode complains events) events answers
+  pub alone : AnswersAlone (RefusesAfter buffer mode complains events) (span_at 0 0) events answers
 
 -- Where the input has no document, a new parser that is asked for the next event alone answers what the longest prefix gives, one
--- event a call, and from then on one refusal of what stands after that prefix; or in place of some event out of memory.
+-- event a call, and from then on one refusal of what stands after that prefix; or, in place of an event that allocates, out of memory
+-- with the current span.
 abbrev pub AloneIsGiven : Type 0
 AloneIsGiven = (buffer : List ℕ) (mode : Mode) (new : Now) (calls : List Call) (answers : List Answer) →
     ((node : Node) (value : Tree) → IsDocument buffer mode node value → ⊥) → AllNext calls →
