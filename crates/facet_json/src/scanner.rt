@@ -2,7 +2,7 @@
 
 pub use facet_json_scan::{
     DecodeError, Mode, NumberHint, ParsedNumber, ScanError, ScanErrorKind, ScanResult, Scanner,
-    SpannedToken, Token, check_string, cut, decode_string, decode_string_borrowed,
+    SpannedToken, Token, check_content, cut, decode_string, decode_string_borrowed,
     decode_string_borrowed_unchecked, decode_string_owned, decode_string_owned_unchecked,
     decode_string_unchecked, parse_number, parse_number_unchecked,
 };

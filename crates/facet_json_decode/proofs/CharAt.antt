@@ -72,7 +72,7 @@ encoded-continuation_len c b others e = by (shape c)
     by (four l s) = let k : 240 + c / 262144 ≡ b = cc in rw s (grind arith)
 
 -- a character and the number of its bytes
-abbrev found : ℕ → ℕ → Option (ℕ × ℕ)
+abbrev pub found : ℕ → ℕ → Option (ℕ × ℕ)
 found c n = Some (c, n)
 
 abbrev char_of : Option (ℕ × ℕ) → ℕ

@@ -1,6 +1,6 @@
 -- The steps of a reader that decodes run by run (specs/Decode.antt): what a run of plain bytes and an escape add to
--- a text.
-use Rattle.std.proofs.Common.{◌≡◌, ◌≢◌, ℕ, ◌+◌, ◌-◌, ◌<◌, ◌≤◌, false, List, [], ◌∷◌, ◌++◌, length, take, drop, get_or, slice_get, Some, None, refl, sym, ap, ◌∙◌, append-nil, arith}
+-- a text. How it is refused stands in FaultSteps.antt.
+use Rattle.std.proofs.Common.{◌≡◌, ◌≢◌, ℕ, ◌+◌, ◌-◌, ◌<◌, ◌≤◌, false, List, [], ◌∷◌, ◌++◌, length, take, drop, get_or, slice_get, Some, refl, sym, ap, ◌∙◌, append_assoc, append-nil, arith}
 use Rattle.std.specs.Prelude.{◌==◌, IsUtf8, slice_range}
 use Rattle.std.specs.List.{list_any}
 use Rattle.std.specs.Char.{encode_utf8}
@@ -10,29 +10,14 @@ use Rattle.std.proofs.lemmas.List.Edits.{between_none, between_more, length-betw
 use Rattle.std.proofs.lemmas.Option.{slice_get-get_or}
 use Rattle.std.proofs.lemmas.List.Folds.{list_any-append}
 use Rattle.facet_format.specs.Bytes.{backslash}
-use Rattle.facet_json_decode.specs.Decode.{piece_at, decoded_past, decoded}
-use Rattle.facet_json_decode.proofs.DecodeLaws.{piece_at-fronts, decoded_by, decoded-piece}
-use Rattle.facet_json_decode.proofs.PlainText.{IsPlain, plain-parts, behind, behind-behind, decoded-run, EndsRun, decoded-broken}
-
--- ---- what an escape adds
-
--- The character of a piece stands before the text of what follows.
-decoded-found : (l : List ℕ) (c n : ℕ) → piece_at l ≡ Some (c, n) →
-    decoded l ≡ behind (encode_utf8 c) (decoded (drop n l))
-decoded-found l c n e =
-    let front = piece_at-fronts l c n e in
-    ap decoded (sym (take-append-drop n l)) ∙ decoded-piece (take n l) (drop n l) c front.is_piece
-
--- Where no piece is found, there is no text.
-decoded-lost : (l : List ℕ) → 0 < length l → piece_at l ≡ None → decoded l ≡ None
-unfolding decoded_past
-decoded-lost [] some e = absurd (omega arith)
-decoded-lost (b ∷ bytes) some e = ap (decoded_by bytes) e
+use Rattle.facet_json_decode.specs.Decode.{piece_at, Decodes, empty, piece}
+use Rattle.facet_json_decode.proofs.DecodeLaws.{piece_at-fronts, decodes-decoded}
+use Rattle.facet_json_decode.proofs.PlainText.{IsPlain, plain-parts, decoded-plain, EndsRun}
 
 -- ---- places in a buffer
 
 -- The bytes up to a place, and those from there on.
-range-append : (buf : List ℕ) (at stop end : ℕ) → at ≤ stop → stop ≤ end →
+pub range-append : (buf : List ℕ) (at stop end : ℕ) → at ≤ stop → stop ≤ end →
     slice_range buf at end ≡ slice_range buf at stop ++ slice_range buf stop end
 range-append buf at stop end a b =
     let m = drop at buf in
@@ -65,7 +50,7 @@ range-first buf at end b lt h is =
     slice_get-get_or (slice_range buf at end) 0 0 some ∙ ap Some byte
 
 -- A range whose first byte is a backslash, if it has one, may stand after a run.
-range-ends : (buf : List ℕ) (at end : ℕ) → end ≤ length buf → (at < end → get_or buf at 0 ≡ backslash) →
+pub range-ends : (buf : List ℕ) (at end : ℕ) → end ≤ length buf → (at < end → get_or buf at 0 ≡ backslash) →
     EndsRun (slice_range buf at end)
 range-ends buf at end h is some =
     let lt : at < end = omega (arith, length-between buf at end h) in
@@ -93,56 +78,48 @@ plain-more buf at stop le lt ne plain =
     ap (list_any (λ b. b == backslash)) (between_more buf at stop 0 le lt)
     ∙ list_any-append (λ b. b == backslash) (slice_range buf at stop) (get_or buf stop 0 ∷ []) ∙ rw (plain, last) refl
 
+-- What is passed of a range is some bytes of it.
+range-take : (buf : List ℕ) (n at end : ℕ) → at + n ≤ end → take n (slice_range buf at end) ≡ slice_range buf at (at + n)
+range-take buf n at end h =
+    let size : (at + n) - at ≡ n = omega arith in
+    let less : n ≤ end - at = omega arith in
+    take-take n (end - at) (drop at buf) less ∙ ap (λ k. take k (drop at buf)) (sym size)
+
 -- ---- steps
 
--- A run of text is passed.
-pub step-run : (buf whole out next run : List ℕ) (at stop end : ℕ) → at ≤ stop → stop ≤ end →
-    IsPlain (slice_range buf at stop) → (run ≡ slice_range buf at stop) × IsUtf8 (slice_range buf at stop) →
-    next ≡ out ++ run → decoded whole ≡ behind out (decoded (slice_range buf at end)) →
-    decoded whole ≡ behind next (decoded (slice_range buf stop end))
-step-run buf whole out next run at stop end a b plain is f e =
-    let own = slice_range buf at stop in
-    let rest = slice_range buf stop end in
-    let pushed = f ∙ ap (λ l. out ++ l) is.0 in
-    e ∙ ap (λ l. behind out (decoded l)) (range-append buf at stop end a b)
-    ∙ ap (behind out) (decoded-run own rest plain is.1) ∙ behind-behind out own (decoded rest)
-    ∙ ap (λ l. behind l (decoded rest)) (sym pushed)
+-- Two contents, one after the other, stand for their texts.
+decodes-append : (a b s t : List ℕ) → Decodes a s → Decodes b t → Decodes (a ++ b) (s ++ t)
+decodes-append _ b _ t empty later = later
+decodes-append _ b _ t (piece first others content c rest text is behind e f) later =
+    let whole = ap (λ l. l ++ b) e ∙ append_assoc first others b in
+    let said = ap (λ l. l ++ t) f ∙ append_assoc (encode_utf8 c) rest t in
+    piece first (others ++ b) (content ++ b) c (rest ++ t) (text ++ t) is (decodes-append others b rest t behind later) whole said
 
--- A run that is no text stops.
-pub step-broken : (buf whole out : List ℕ) (at stop end : ℕ) → at ≤ stop → stop ≤ end → end ≤ length buf →
-    IsPlain (slice_range buf at stop) → (IsUtf8 (slice_range buf at stop) → ⊥) →
-    (stop < end → get_or buf stop 0 ≡ backslash) →
-    decoded whole ≡ behind out (decoded (slice_range buf at end)) → decoded whole ≡ None
-step-broken buf whole out at stop end a b h plain none is e =
-    let run = slice_range buf at stop in
-    let rest = slice_range buf stop end in
-    e ∙ ap (λ l. behind out (decoded l)) (range-append buf at stop end a b)
-    ∙ ap (behind out) (decoded-broken run rest plain none (range-ends buf stop end h is))
+-- Nothing is read of a content so far.
+pub step-none : (buf : List ℕ) (start : ℕ) → Decodes (slice_range buf start start) []
+step-none buf start = rw (between_none buf start) empty
+
+-- A run of text is passed.
+pub step-run : (buf out next run : List ℕ) (start at stop : ℕ) → start ≤ at → at ≤ stop →
+    IsPlain (slice_range buf at stop) → (run ≡ slice_range buf at stop) × IsUtf8 (slice_range buf at stop) →
+    next ≡ out ++ run → Decodes (slice_range buf start at) out → Decodes (slice_range buf start stop) next
+step-run buf out next run start at stop a b plain is f so_far =
+    let own = slice_range buf at stop in
+    let both =
+    decodes-append (slice_range buf start at) own out own so_far (decodes-decoded own own (decoded-plain own plain is.1)) in
+    let pushed : out ++ own ≡ next = ap (λ l. out ++ l) (sym is.0) ∙ sym f in
+    rw (← range-append buf start at stop a b, pushed) at both
 
 -- A piece is passed.
-pub step-found : (buf whole out next : List ℕ) (stop end c n : ℕ) → stop + n ≤ end →
-    piece_at (slice_range buf stop end) ≡ Some (c, n) →
-    decoded whole ≡ behind out (decoded (slice_range buf stop end)) →
-    next ≡ out ++ encode_utf8 c → decoded whole ≡ behind next (decoded (slice_range buf (stop + n) end))
-step-found buf whole out next stop end c n h found e f =
-    e ∙ ap (behind out) (decoded-found (slice_range buf stop end) c n found)
-    ∙ behind-behind out (encode_utf8 c) (decoded (drop n (slice_range buf stop end)))
-    ∙ ap (λ l. behind (out ++ encode_utf8 c) (decoded l)) (range-drop buf n stop end h)
-    ∙ ap (λ l. behind l (decoded (slice_range buf (stop + n) end))) (sym f)
-
--- Where no piece is found, there is no text.
-pub step-lost : (buf whole out : List ℕ) (stop end : ℕ) → stop < end → end ≤ length buf →
-    piece_at (slice_range buf stop end) ≡ None → decoded whole ≡ behind out (decoded (slice_range buf stop end)) →
-    decoded whole ≡ None
-step-lost buf whole out stop end lt h lost e =
-    let some : 0 < length (slice_range buf stop end) = omega (arith, length-between buf stop end h) in
-    e ∙ ap (behind out) (decoded-lost (slice_range buf stop end) some lost)
-
--- At the end the text is there.
-pub step-end : (buf whole out : List ℕ) (stop end : ℕ) → stop ≡ end →
-    decoded whole ≡ behind out (decoded (slice_range buf stop end)) → decoded whole ≡ Some out
-unfolding decoded_past
-step-end buf whole out stop end same e =
-    e ∙ ap (λ n. behind out (decoded (slice_range buf n end))) same
-    ∙ ap (λ l. behind out (decoded l)) (between_none buf end)
-    ∙ ap Some (append-nil out)
+pub step-found : (buf out next : List ℕ) (start stop end c n : ℕ) → start ≤ stop → stop + n ≤ end →
+    piece_at (slice_range buf stop end) ≡ Some (c, n) → Decodes (slice_range buf start stop) out →
+    next ≡ out ++ encode_utf8 c → Decodes (slice_range buf start (stop + n)) next
+step-found buf out next start stop end c n a h found so_far f =
+    let front = piece_at-fronts (slice_range buf stop end) c n found in
+    let own = rw (range-take buf n stop end h) at front.is_piece in
+    let bytes = slice_range buf stop (stop + n) in
+    let char = encode_utf8 c in
+    let one =
+    piece bytes [] bytes c [] char own empty (sym (append-nil bytes)) (sym (append-nil char)) in
+    let both = decodes-append (slice_range buf start stop) bytes out char so_far one in
+    rw (← range-append buf start stop (stop + n) a (omega arith), ← f) at both

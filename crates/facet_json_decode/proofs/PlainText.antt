@@ -90,11 +90,11 @@ encoded-plain c ne = by (shape c)
     by (four l s) = rw s (grind arith)
 
 -- Two ways to cut a list: one prefix is a prefix of the other.
-data Cuts (a b c d : List ℕ) : Type 0 where
+pub data Cuts (a b c d : List ℕ) : Type 0 where
   first_in_second : (m : List ℕ) → c ≡ a ++ m → b ≡ m ++ d → Cuts a b c d
   second_in_first : (x : ℕ) (m : List ℕ) → a ≡ c ++ x ∷ m → d ≡ (x ∷ m) ++ b → Cuts a b c d
 
-cuts : (a b c d : List ℕ) → a ++ b ≡ c ++ d → Cuts a b c d
+pub cuts : (a b c d : List ℕ) → a ++ b ≡ c ++ d → Cuts a b c d
 cuts [] b c d e = first_in_second c refl e
 cuts (x ∷ a) b [] d e = second_in_first x a refl (sym e)
 cuts (x ∷ a) b (y ∷ c) d e =
@@ -107,7 +107,7 @@ cuts (x ∷ a) b (y ∷ c) d e =
     by same (second_in_first z m p q) = second_in_first z m (rw (same, p) refl) q
 
 -- A backslash is no part of plain bytes.
-not-plain : (c : ℕ) (run m : List ℕ) (x : ℕ) → (c == backslash) ≡ false → encode_utf8 c ≡ run ++ x ∷ m →
+pub not-plain : (c : ℕ) (run m : List ℕ) (x : ℕ) → (c == backslash) ≡ false → encode_utf8 c ≡ run ++ x ∷ m →
     x ≡ backslash → ⊥
 not-plain c run m x ne e is =
     let whole = rw e at (encoded-plain c ne) in
@@ -160,15 +160,6 @@ decoded-broken run rest plain none ends = by (decoded (run ++ rest)) refl
     by None is = refl
     by (Some text) is =
         absurd (none (run-text (run ++ rest) text run rest (decodes-decoded (run ++ rest) text is) refl plain ends))
-
--- Plain bytes stand for nothing but themselves, and for that only where they are text.
-pub plain-text : (content text : List ℕ) → IsPlain content → decoded content ≡ Some text →
-    IsUtf8 content × (text ≡ content)
-plain-text content text plain e =
-    let cut = sym (append-nil content) in
-    let is = run-text content text content [] (decodes-decoded content text e) cut plain (λ some. absurd (omega arith)) in
-    let own = decoded-plain content plain is in
-    (is, cc)
 
 -- Plain bytes that are no text stand for nothing.
 pub decoded-plain_none : (content : List ℕ) → IsPlain content → (IsUtf8 content → ⊥) → decoded content ≡ None

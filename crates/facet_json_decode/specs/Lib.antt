@@ -1,3 +1,5 @@
 pub mod Decode
+pub mod Fault
+pub mod Inner
 pub mod Laws
 pub mod Views

@@ -1,15 +1,15 @@
 -- What a decoder of strings returns (RFC 8259, section 7).
-use Rattle.std.specs.Prelude.{ℕ, None, ◌≡◌, ◌-◌, ◌≤◌, List, ◌==◌, ◌+◌, Bool, false, slice_range, IsUtf8}
-use Rattle.facet_format.specs.declared.span.Span.{Span as RustSpan}
+use Rattle.std.specs.Prelude.{ℕ, ◌≡◌, ◌-◌, List, ◌==◌, Bool, false, slice_range, IsUtf8}
 use Rattle.facet_json_decode.specs.declared.decode.DecodeError.{DecodeError}
 use Rattle.facet_json_decode.specs.declared.decode.DecodeError.TheVariants as decode
 use Rattle.facet_format.specs.Complaint.{Refusal}
 use Rattle.facet_format.specs.Complaint as complaint
 use Rattle.std.specs.List.{list_any}
+use Rattle.facet_json_token.specs.declared.token.ScanError.{ScanError}
 use Rattle.facet_json_token.specs.declared.token.ScanErrorKind.TheVariants.{InvalidUtf8}
 use Rattle.facet_json_decode.specs.declared.decode.DecodeError.TheVariants.{Scan, OutOfMemory}
 use Rattle.facet_format.specs.Bytes.{backslash}
-use Rattle.facet_json_decode.specs.Decode.{decoded}
+use Rattle.facet_json_decode.specs.Fault.{Fault, FirstFault, fault_refusal}
 use Rattle.facet_json_token.specs.Views.{scan_refusal}
 
 -- how a refused decode is passed on
@@ -25,14 +25,15 @@ has_backslash content = list_any (λ b. b == backslash) content
 abbrev pub IsItsText : List ℕ → Type 0
 IsItsText content = (has_backslash content ≡ false) × IsUtf8 content
 
--- The span's bytes are some of those from `start` to `finish`.
-abbrev pub IsWithin : ℕ → ℕ → RustSpan → Type 0
-IsWithin start finish s = (start ≤ s.offset) × (s.offset + s.len ≤ finish)
+-- A content that starts there in the buffer is refused with its first fault.
+pub record TellsFirstFault (content : List ℕ) (start : ℕ) (e : ScanError) : Type 0 where
+  pub fault : Fault
+  pub is_first : FirstFault content fault
+  pub told : scan_refusal e ≡ fault_refusal start fault
 
--- A content without a text is refused with bytes of its own.
+-- The same, or memory ran out.
 abbrev pub RefusesContent : List ℕ → ℕ → ℕ → DecodeError → Type 0
-RefusesContent buffer start finish (Scan e) =
-    (decoded (slice_range buffer start finish) ≡ None) × IsWithin start finish e.span
+RefusesContent buffer start finish (Scan e) = TellsFirstFault (slice_range buffer start finish) start e
 RefusesContent buffer start finish OutOfMemory = Unit {0}
 
 -- the refusal of a whole content as no UTF-8

@@ -1,12 +1,13 @@
 //! Strings' contents to text (RFC 8259, section 7), in one pass: runs of bytes up to a backslash are checked and copied
 //! whole, and escapes between them are read one by one, in `escape`.
 
-ghost use Rattle.std.specs.Prelude.{◌≡◌, ℕ, ◌+◌, ◌≤◌, ◌<◌, List, Some, None, true, false, length, slice_range, slice_index, string_bytes, IfOk, IfErr, IfSome, IsSome, IsUtf8, MatchOption, MatchResult};
+ghost use Rattle.std.specs.Prelude.{◌≡◌, ℕ, ◌≤◌, ◌<◌, List, Some, None, true, false, length, slice_range, slice_index, string_bytes, IfOk, IfErr, IfSome, IsSome, IsUtf8, MatchOption, MatchResult};
 ghost use Rattle.std.specs.Cow.{cow_str_bytes, IsOwnedStr, IsBorrowedStr};
 ghost use Rattle.facet_json_decode.specs.declared.decode.DecodeError.TheVariants as refusal;
 ghost use Rattle.facet_format.specs.Bytes.{backslash};
 ghost use Rattle.facet_json_decode.specs.Decode.{decoded, Decodes};
-ghost use Rattle.facet_json_decode.specs.Views.{has_backslash, IsItsText, IsWithin, RefusesContent, whole_refused};
+ghost use Rattle.facet_json_decode.specs.Views.{has_backslash, IsItsText, RefusesContent, TellsFirstFault, whole_refused};
+ghost use Rattle.facet_json_decode.specs.Inner.Run.{StopsBeingText};
 
 mod escape;
 mod unchecked;
@@ -118,15 +119,14 @@ fn decode_runs(
 /// where it has none. Does not allocate.
 ///
 /// ```text
-/// check_string(br"caf\u00e9\n", 0, 11)   Ok
-/// check_string(br"\ud800", 0, 6)         Err: InvalidUtf8, span 0+6
+/// check_content(br"caf\u00e9\n", 0, 11)   Ok
+/// check_content(br"\ud800", 0, 6)         Err: InvalidUtf8, span 0+6
 /// ```
-pub fn check_string(buf: &[u8], start: usize, end: usize) -> Result<(), ScanError>
+pub fn check_content(buf: &[u8], start: usize, end: usize) -> Result<(), ScanError>
     requires in_order { start ≤ end }
     requires in_range { end ≤ length buf.now }
     ensures text { IfOk result (λ _. IsSome (decoded (slice_range buf.now start end))) }
-    ensures none { IfErr result (λ _. decoded (slice_range buf.now start end) ≡ None) }
-    ensures within { IfErr result (λ e. IsWithin start end e.span) }
+    ensures refused { IfErr result (λ e. TellsFirstFault (slice_range buf.now start end) start e) }
 {
     let mut at = start;
     loop {
@@ -165,7 +165,7 @@ fn run_at(buf: &[u8], at: usize, stop: usize) -> Result<&str, ScanError>
     requires in_range { stop ≤ length buf.now }
     ensures text { IfOk result (λ s. (s.now ≡ slice_range buf.now at stop) × IsUtf8 (slice_range buf.now at stop)) }
     ensures none { IfErr result (λ _. IsUtf8 (slice_range buf.now at stop) → ⊥) }
-    ensures within { IfErr result (λ e. IsWithin at stop e.span) }
+    ensures refused { IfErr result (λ e. StopsBeingText (slice_range buf.now at stop) at e) }
 {
     match str::from_utf8(&buf[at..stop]) {
         Ok(text) => Ok(text),
@@ -183,7 +183,7 @@ fn run_text(buf: &[u8], at: usize, stop: usize, trust: Trust) -> Result<&str, Sc
     requires utf8 { trust ≡ Trust.Utf8 → IsUtf8 (slice_range buf.now at stop) }
     ensures text { IfOk result (λ s. (s.now ≡ slice_range buf.now at stop) × IsUtf8 (slice_range buf.now at stop)) }
     ensures none { IfErr result (λ _. IsUtf8 (slice_range buf.now at stop) → ⊥) }
-    ensures within { IfErr result (λ e. IsWithin at stop e.span) }
+    ensures refused { IfErr result (λ e. StopsBeingText (slice_range buf.now at stop) at e) }
 {
     match trust {
         Trust::Nothing => run_at(buf, at, stop),

@@ -5,7 +5,7 @@ mod decode;
 mod refusal;
 
 pub use decode::{
-    DecodeError, check_string, decode_string, decode_string_borrowed,
+    DecodeError, check_content, decode_string, decode_string_borrowed,
     decode_string_borrowed_unchecked, decode_string_owned, decode_string_owned_unchecked,
     decode_string_unchecked,
 };

@@ -14,7 +14,7 @@ ghost use Rattle.facet_json_place.specs.Views.{refused_of, name_text};
 ghost use Rattle.facet_json_reader.specs.TokenViews.{number_in, holds_made, CanBeRead, IsContent, IsReadAs, IsRead, IsTextOf, IsUnmade, IsMeaningless};
 
 use facet_format::{Decimal, ScalarValue, Span};
-use facet_json_decode::{DecodeError, check_string, decode_string_borrowed, decode_string_owned};
+use facet_json_decode::{DecodeError, check_content, decode_string_borrowed, decode_string_owned};
 use facet_json_number::{ParsedNumber, parse_number};
 use facet_json_place::{Name, Refused, Why};
 use facet_json_token::{SpannedToken, Token};
@@ -215,7 +215,7 @@ pub(crate) fn string_text<'a>(
             Ok(text) => Ok(Some(CowStr::Owned(text))),
             Err(DecodeError::Scan(error)) => Err(Refused::from(error)),
             Err(DecodeError::OutOfMemory) => {
-                check_string(buffer, start, end)?;
+                check_content(buffer, start, end)?;
                 Ok(None)
             }
         };

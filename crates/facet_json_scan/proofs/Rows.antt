@@ -1,2 +1,3 @@
 pub mod CutRows
 pub mod DecodeRows
+pub mod FaultRows

@@ -4,6 +4,7 @@ pub use Rattle.facet_json_token.specs.Cut
 pub use Rattle.facet_json_token.specs.Open
 pub use Rattle.facet_json_token.specs.Tokens
 pub use Rattle.facet_json_decode.specs.Decode
+pub use Rattle.facet_json_decode.specs.Fault
 pub use Rattle.facet_json_scanner.specs.Scanner
 pub mod Views
 pub mod Laws

@@ -7,7 +7,7 @@ pub mod laws;
 
 pub use facet_format::numeral::NumberHint;
 pub use facet_json_decode::{
-    DecodeError, check_string, decode_string, decode_string_borrowed,
+    DecodeError, check_content, decode_string, decode_string_borrowed,
     decode_string_borrowed_unchecked, decode_string_owned, decode_string_owned_unchecked,
     decode_string_unchecked,
 };

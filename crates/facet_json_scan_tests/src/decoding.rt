@@ -2,7 +2,7 @@
 
 use crate::shown::{Want, refuses};
 use facet_json_scan::{
-    DecodeError, check_string, decode_string, decode_string_borrowed,
+    DecodeError, check_content, decode_string, decode_string_borrowed,
     decode_string_borrowed_unchecked, decode_string_owned, decode_string_owned_unchecked,
     decode_string_unchecked,
 };
@@ -119,7 +119,7 @@ fn is_decoded_so(alloc: Global, decoded: &Result<CowStr<'_>, DecodeError>, want:
 }
 
 fn check_holds(alloc: Global, content: &[u8], want: Want) -> bool {
-    match (check_string(content, 0, content.len()), want) {
+    match (check_content(content, 0, content.len()), want) {
         (Ok(()), Ok(_)) => true,
         (Err(error), Err(want)) => refuses(alloc, &error, want),
         _ => false,

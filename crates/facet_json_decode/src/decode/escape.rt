@@ -4,8 +4,11 @@ ghost use Rattle.std.specs.Prelude.{◌≡◌, ◌+◌, ◌*◌, ◌^◌, ◌≤
 ghost use Rattle.std.specs.Char.{digit_value};
 ghost use Rattle.std.specs.Option.{SomeIff};
 ghost use Rattle.facet_format.specs.Bytes.{backslash, lower_u};
+ghost use Rattle.facet_format.specs.Complaint.{invalid_utf8, refusal_at};
+ghost use Rattle.facet_format.specs.Span.{span_at};
 ghost use Rattle.facet_json_decode.specs.Decode.{piece_at, short_of, short_escape as short_escape_of, code_unit as code_unit_of, is_high_surrogate as is_high_surrogate_of, is_low_surrogate as is_low_surrogate_of, low_at};
-ghost use Rattle.facet_json_decode.specs.Views.{IsWithin};
+ghost use Rattle.facet_json_decode.specs.Fault.{fault_at, fault_of, fault_refusal, pair_fault, no_character, not_digits};
+ghost use Rattle.facet_json_token.specs.Views.{scan_refusal};
 
 use facet_format::Span;
 use facet_json_token::{ScanError, ScanErrorKind};
@@ -26,7 +29,7 @@ pub(crate) fn escape_at(rest: &[u8], at: usize) -> Result<Escape, ScanError>
     ensures found { IfOk result (λ e. piece_at rest.now ≡ Some (e.character, e.len)) }
     ensures len { IfOk result (λ e. (0 < e.len) × (e.len ≤ length rest.now)) }
     ensures none { IfErr result (λ _. piece_at rest.now ≡ None) }
-    ensures within { IfErr result (λ e. IsWithin at (at + length rest.now) e.span) }
+    ensures refused { IfErr result (λ e. scan_refusal e ≡ fault_refusal at (fault_of rest.now)) }
 {
     match rest.get(1) {
         Some(b'u') => unit_at(rest, at),
@@ -44,7 +47,7 @@ fn short_at(byte: u8, at: usize) -> Result<Escape, ScanError>
     ensures found { IfOk result (λ e. short_of byte (short_escape_of byte) ≡ Some (e.character, e.len)) }
     ensures len { IfOk result (λ e. e.len ≡ 2) }
     ensures none { IfErr result (λ _. short_of byte (short_escape_of byte) ≡ None) }
-    ensures within { IfErr result (λ e. IsWithin at (at + 2) e.span) }
+    ensures refused { IfErr result (λ e. scan_refusal e ≡ fault_refusal at (fault_at no_character 1 1)) }
 {
     if byte >= 0x80 {
         return Err(not_utf8(at + 1, 1));
@@ -80,7 +83,7 @@ fn unit_at(rest: &[u8], at: usize) -> Result<Escape, ScanError>
     ensures found { IfOk result (λ e. piece_at rest.now ≡ Some (e.character, e.len)) }
     ensures len { IfOk result (λ e. (0 < e.len) × (e.len ≤ length rest.now)) }
     ensures none { IfErr result (λ _. piece_at rest.now ≡ None) }
-    ensures within { IfErr result (λ e. IsWithin at (at + length rest.now) e.span) }
+    ensures refused { IfErr result (λ e. scan_refusal e ≡ fault_refusal at (fault_of rest.now)) }
 {
     if rest.len() < 6 {
         return Err(ScanError {
@@ -106,7 +109,7 @@ fn pair_at(rest: &[u8], at: usize, high: u32) -> Result<Escape, ScanError>
     ensures found { IfOk result (λ e. low_at high (drop 6 rest.now) ≡ Some (e.character, e.len)) }
     ensures len { IfOk result (λ e. (0 < e.len) × (e.len ≤ length rest.now)) }
     ensures none { IfErr result (λ _. low_at high (drop 6 rest.now) ≡ None) }
-    ensures within { IfErr result (λ e. IsWithin at (at + length rest.now) e.span) }
+    ensures refused { IfErr result (λ e. scan_refusal e ≡ fault_refusal at (pair_fault (drop 6 rest.now))) }
 {
     if rest.len() < 12 || rest[6] != b'\\' || rest[7] != b'u' {
         return Err(not_utf8(at, 6));
@@ -130,7 +133,7 @@ fn code_unit_at(rest: &[u8], from: usize, at: usize) -> Result<u32, ScanError>
     ensures range { IfOk result (λ u. u < 0x10000) }
     ensures none { IfErr result (λ _. code_unit_of (slice_index rest.now from) (slice_index rest.now (from + 1))
         (slice_index rest.now (from + 2)) (slice_index rest.now (from + 3)) ≡ None) }
-    ensures within { IfErr result (λ e. IsWithin (at + from) (at + from + 4) e.span) }
+    ensures refused { IfErr result (λ e. scan_refusal e ≡ fault_refusal at (fault_at not_digits from 4)) }
 {
     match code_unit(rest[from], rest[from + 1], rest[from + 2], rest[from + 3]) {
         Some(unit) => Ok(unit),
@@ -177,8 +180,7 @@ fn is_low_surrogate(unit: u32) -> bool
 
 /// The refusal of bytes that spell no character.
 fn not_utf8(offset: usize, len: usize) -> ScanError
-    ensures offset { result.span.offset ≡ offset }
-    ensures len { result.span.len ≡ len }
+    ensures { scan_refusal result ≡ refusal_at invalid_utf8 (span_at offset len) }
 {
     ScanError {
         kind: ScanErrorKind::InvalidUtf8,

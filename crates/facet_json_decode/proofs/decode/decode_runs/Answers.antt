@@ -4,9 +4,9 @@ use Rattle.std.proofs.Common.{◌+◌, ◌<◌, ◌≤◌, arith}
 use Rattle.std.proofs.lemmas.Result.{err_from_is_err_and}
 use Rattle.std.proofs.lemmas.List.Edits.{length-between}
 use Rattle.facet_format.specs.Bytes.{backslash}
-use Rattle.facet_json_decode.specs.Views.{IsWithin}
-use Rattle.facet_json_decode.proofs.DecodeLaws.{decodes-decoded}
-use Rattle.facet_json_decode.proofs.DecodeSteps.{range-first, step-run, step-broken, step-found, step-lost, step-end}
+use Rattle.facet_json_decode.proofs.DecodeLaws.{decoded-decodes}
+use Rattle.facet_json_decode.proofs.DecodeSteps.{range-first, step-none, step-run, step-found}
+use Rattle.facet_json_decode.proofs.FaultSteps.{step-broken, step-lost, told-no_text}
 use Rattle.facet_json_decode.proofs.Utf8Runs.{run-IsUtf8, found-IsUtf8}
 use Rattle.facet_json_decode.proofs.decode.decode_runs.Goals as goal
 
@@ -19,24 +19,24 @@ run_text-requires-clause-utf8 c =
 pub returns-in_err-run_text : goal.returns-in_err-run_text
 returns-in_err-run_text c =
     let ends = c.run_end-stop.ensures in
-    let none =
-    step-broken _ _ _ _ _ _ ends.ahead ends.within c.requires.in_range ends.plain c.in_err-run_text.ensures.none
-    ends.stops c.loop-text.invariant.so_far in
-    let own = c.in_err-run_text.ensures.within in
-    let within : IsWithin c.args.start c.args.end c.in_err-run_text.field-0.0.span =
-    (omega (arith, own.0), omega (arith, own.1)) in
+    let l = c.loop-text.invariant in
+    let told =
+    step-broken _ _ _ _ _ _ _ l.ahead ends.ahead ends.within c.requires.in_range ends.plain ends.stops l.so_far
+    c.in_err-run_text.ensures.refused in
+    let none = told-no_text _ _ _ told in
     let r = c.from_residual-in_err-run_text in
     let p = err_from_is_err_and r.result r.ensures.1 in
-    rw (p.1, p.2) (record { text = tt; decodes = tt; refused = (none, within); only = λ text e. absurd (cc) })
+    rw (p.1, p.2) (record { text = tt; decodes = tt; refused = told; only = λ text e. absurd (cc) })
 
 pub returns-then-stop-end : goal.returns-then-stop-end
 returns-then-stop-end c =
     let ends = c.run_end-stop.ensures in
+    let l = c.loop-text.invariant in
     let passed =
-    step-run _ _ _ _ _ _ _ _ ends.ahead ends.within ends.plain c.in_ok-run_text.ensures.text
-    c.in_ok-push_str.ensures.bytes c.loop-text.invariant.so_far in
-    let done = step-end _ _ _ _ _ c.if-stop-end.true passed in
-    record { text = done; decodes = decodes-decoded _ _ done; refused = tt; only = λ text e. cc }
+    step-run _ _ _ _ _ _ _ l.ahead ends.ahead ends.plain c.in_ok-run_text.ensures.text c.in_ok-push_str.ensures.bytes l.so_far in
+    let done = rw c.if-stop-end.true at passed in
+    let found = decoded-decodes _ _ done in
+    record { text = found; decodes = done; refused = tt; only = λ text e. cc }
 
 pub escape_at-requires-clause-backslash : goal.escape_at-requires-clause-backslash
 escape_at-requires-clause-backslash c =
@@ -46,35 +46,43 @@ escape_at-requires-clause-backslash c =
 pub returns-in_err-escape : goal.returns-in_err-escape
 returns-in_err-escape c =
     let ends = c.run_end-stop.ensures in
+    let l = c.loop-text.invariant in
     let passed =
-    step-run _ _ _ _ _ _ _ _ ends.ahead ends.within ends.plain c.in_ok-run_text.ensures.text
-    c.in_ok-push_str.ensures.bytes c.loop-text.invariant.so_far in
+    step-run _ _ _ _ _ _ _ l.ahead ends.ahead ends.plain c.in_ok-run_text.ensures.text c.in_ok-push_str.ensures.bytes l.so_far in
     let lt : c.run_end-stop.result < c.args.end = omega (arith, ends.within) in
-    let none = step-lost _ _ _ _ _ lt c.requires.in_range c.in_err-escape.ensures.none passed in
-    let own = c.in_err-escape.ensures.within in
-    let size = length-between c.args.buf.now c.run_end-stop.result c.args.end c.requires.in_range in
-    let within : IsWithin c.args.start c.args.end c.in_err-escape.field-0.0.span =
-    (omega (arith, own.0), omega (arith, own.1)) in
+    let e = c.in_err-escape.ensures in
+    let told = step-lost _ _ _ _ _ _ (omega arith) lt c.requires.in_range e.none e.refused passed in
+    let none = told-no_text _ _ _ told in
     let r = c.from_residual-in_err-escape in
     let p = err_from_is_err_and r.result r.ensures.1 in
-    rw (p.1, p.2) (record { text = tt; decodes = tt; refused = (none, within); only = λ text e. absurd (cc) })
+    rw (p.1, p.2) (record { text = tt; decodes = tt; refused = told; only = λ text e. absurd (cc) })
+
+pub loop-text-init : goal.loop-text-init
+loop-text-init c =
+    let bytes = c.in_ok-text.ensures.bytes in
+    record {
+      ahead = omega arith;
+      within = c.requires.in_order;
+      utf8 = c.requires.utf8;
+      so_far = rw bytes (step-none c.args.buf.now c.args.start);
+    }
 
 pub loop-text-preserved : goal.loop-text-preserved
 loop-text-preserved c =
     let ends = c.run_end-stop.ensures in
+    let l = c.loop-text.invariant in
     let passed =
-    step-run _ _ _ _ _ _ _ _ ends.ahead ends.within ends.plain c.in_ok-run_text.ensures.text
-    c.in_ok-push_str.ensures.bytes c.loop-text.invariant.so_far in
+    step-run _ _ _ _ _ _ _ l.ahead ends.ahead ends.plain c.in_ok-run_text.ensures.text c.in_ok-push_str.ensures.bytes l.so_far in
     let size = length-between c.args.buf.now c.run_end-stop.result c.args.end c.requires.in_range in
     let len = c.in_ok-escape.ensures.len in
     let within : c.run_end-stop.result + c.in_ok-escape.escape.len ≤ c.args.end = omega (arith, len.1, size, ends.within) in
     let found = c.in_ok-escape.ensures.found in
-    let next = step-found _ _ _ _ _ _ _ _ within found passed c.in_ok-push.ensures.bytes in
+    let next = step-found _ _ _ _ _ _ _ _ (omega arith) within found passed c.in_ok-push.ensures.bytes in
     record {
       ahead = omega arith;
       within = within;
       utf8 = λ is.
           found-IsUtf8 _ _ _ c.in_ok-escape.escape.character _ within found
-          (run-IsUtf8 _ _ _ _ ends.ahead ends.within c.requires.in_range ends.stops (c.loop-text.invariant.utf8 is)).1;
+          (run-IsUtf8 _ _ _ _ ends.ahead ends.within c.requires.in_range ends.stops (l.utf8 is)).1;
       so_far = next;
     }

@@ -1,9 +1,8 @@
--- The text so far stands before the text of what is left, which is UTF-8 where the content is known to be.
+-- What is read so far stands for the text so far, and what is left is UTF-8 where the content is known to be.
 use Rattle.std.proofs.Common.{◌≡◌, ◌-◌, ◌≤◌, string_bytes}
 use Rattle.std.specs.Prelude.{slice_range, IsUtf8}
-use Rattle.facet_json_decode.specs.Decode.{decoded}
+use Rattle.facet_json_decode.specs.Decode.{Decodes}
 use Rattle.facet_json_decode.specs.declared.decode.Trust.TheVariants.{Utf8}
-use Rattle.facet_json_decode.proofs.PlainText.{behind}
 use Rattle.facet_json_decode.proofs.decode.decode_runs.Given as goal
 
 abbrev pub invariant-loop-text : goal.invariant-loop-text
@@ -11,8 +10,7 @@ invariant-loop-text l = record {
   ahead : l.start ≤ l.at;
   within : l.at ≤ l.end;
   utf8 : l.trust ≡ Utf8 → IsUtf8 (slice_range l.buf l.at l.end);
-  so_far : decoded (slice_range l.buf l.start l.end)
-      ≡ behind (string_bytes l.text) (decoded (slice_range l.buf l.at l.end));
+  so_far : Decodes (slice_range l.buf l.start l.at) (string_bytes l.text);
 }
 
 abbrev pub decreases-loop-text : goal.decreases-loop-text

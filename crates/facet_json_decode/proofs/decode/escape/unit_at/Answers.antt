@@ -1,8 +1,10 @@
 -- What the four bytes after a backslash and `u` stand for.
-use Rattle.std.proofs.Common.{rules, ◌≡◌, drop, Some, None, true, false, sym, ap, ◌∙◌}
+use Rattle.std.proofs.Common.{◌≡◌, ◌+◌, drop, Some, None, true, false, cond, codes, length, sym, ap, ◌∙◌, arith}
 use Rattle.std.proofs.lemmas.Result.{err_from_is_err_and}
+use Rattle.facet_format.specs.Complaint.{unexpected_eof}
 use Rattle.facet_json_decode.specs.Decode.{piece_at, is_high_surrogate, low_at}
-use Rattle.facet_json_decode.proofs.EscapeSteps.{piece_at-cut, piece_at-unit, unit_of-scalar, unit_of-low, unit_of-high}
+use Rattle.facet_json_decode.specs.Fault.{fault_at, fault_of, pair_fault, no_character}
+use Rattle.facet_json_decode.proofs.EscapeSteps.{piece_at-cut, piece_at-unit, unit_of-scalar, unit_of-low, unit_of-high, told-over, fault_of-cut, fault_of-unit}
 use Rattle.facet_json_decode.proofs.decode.escape.unit_at.Goals as goal
 
 pub returns-then-rest-lt6-clause-none : goal.returns-then-rest-lt6-clause-none
@@ -56,5 +58,40 @@ returns-in-None-clause-none c =
     let unit = piece_at-unit rest (Some u) r.backslash r.letter c.if-rest-lt6.false c.in_ok-unit.ensures.unit in
     unit ∙ unit_of-low (drop 6 rest) u is c.in_ok-unit.ensures.range c.in-None.ensures.cases
 
-pub returns-then-rest-lt6-clause-within : goal.returns-then-rest-lt6-clause-within
-returns-then-rest-lt6-clause-within c = search rules
+pub returns-then-rest-lt6-clause-refused : goal.returns-then-rest-lt6-clause-refused
+returns-then-rest-lt6-clause-refused c =
+    let rest = c.args.rest.now in
+    let fault = fault_of-cut rest c.requires.backslash c.requires.letter c.if-rest-lt6.true in
+    let place : c.new.result.offset ≡ c.args.at + 0 = omega (arith, c.new.ensures.offset) in
+    rw fault
+    (told-over (unexpected_eof (codes "in unicode escape")) c.new.result (c.args.at + 0) (length rest) place c.new.ensures.len)
+
+pub returns-in_err-unit-clause-refused : goal.returns-in_err-unit-clause-refused
+returns-in_err-unit-clause-refused c =
+    let r = c.requires in
+    let rest = c.args.rest.now in
+    let fault = fault_of-unit rest None r.backslash r.letter c.if-rest-lt6.false c.in_err-unit.ensures.none in
+    let p = err_from_is_err_and c.from_residual.result c.from_residual.ensures.1 in
+    rw (p.1, p.2, fault) c.in_err-unit.ensures.refused
+
+pub returns-then-is_high_surrogate-clause-refused : goal.returns-then-is_high_surrogate-clause-refused
+returns-then-is_high_surrogate-clause-refused c =
+    let u = c.in_ok-unit.unit in
+    let is : is_high_surrogate u ≡ true = sym c.if-is_high_surrogate.ensures in
+    let r = c.requires in
+    let rest = c.args.rest.now in
+    let fault = fault_of-unit rest (Some u) r.backslash r.letter c.if-rest-lt6.false c.in_ok-unit.ensures.unit in
+    let same : fault_of rest ≡ pair_fault (drop 6 rest) =
+    fault ∙ ap (λ x. cond x (pair_fault (drop 6 rest)) (fault_at no_character 2 4)) is in
+    rw same c.pair_at.ensures.refused
+
+pub returns-in-None-clause-refused : goal.returns-in-None-clause-refused
+returns-in-None-clause-refused c =
+    let u = c.in_ok-unit.unit in
+    let is : is_high_surrogate u ≡ false = sym c.if-is_high_surrogate.ensures in
+    let r = c.requires in
+    let rest = c.args.rest.now in
+    let fault = fault_of-unit rest (Some u) r.backslash r.letter c.if-rest-lt6.false c.in_ok-unit.ensures.unit in
+    let same : fault_of rest ≡ fault_at no_character 2 4 =
+    fault ∙ ap (λ x. cond x (pair_fault (drop 6 rest)) (fault_at no_character 2 4)) is in
+    rw same c.not_utf8.ensures

@@ -1,0 +1,5 @@
+use Rattle.facet_json_decode.proofs.FaultLaws as laws
+use Rattle.facet_json_scan.proofs.laws.decoding.text_or_fault.Goals as goal
+
+pub returns : goal.returns
+returns c = laws.text_or_fault
