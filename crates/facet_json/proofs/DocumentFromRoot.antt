@@ -5,13 +5,12 @@ use Rattle.facet_json_token.specs.Gap.{Mode}
 use Rattle.facet_json_document.specs.Node.{Node}
 use Rattle.facet_json_document.specs.Tree.{Tree}
 use Rattle.facet_json_document.specs.Document.{IsDocument}
-use Rattle.facet_json_document.specs.Refusal.{Refuses, Complains}
 use Rattle.facet_json_document.specs.Future.{Future, finished}
 use Rattle.facet_json_protocol.specs.Now.{fresh, future_of}
 use Rattle.facet_json_prefix.specs.EventLaws.{RootComes, document_comes, prefix_comes}
+use Rattle.facet_json_prefix.specs.Refusal.{Refuses}
 use Rattle.facet_json_protocol.proofs.StandsOnWalk.{fresh-stands}
 use Rattle.facet_json_prefix.proofs.LongestPrefix.{input-comes}
-use Rattle.facet_json_prefix.proofs.PrefixIsRefused.{refused-from}
 use Rattle.facet_json.specs.Inner.Told.{Tells, Breaks}
 use Rattle.facet_json.specs.Inner.Reading.{LacksMemory, IsValueRead, IsValueUnread}
 use Rattle.facet_json.proofs.WalkTells.{walk-tells}
@@ -53,9 +52,9 @@ module _ (buffer : List ℕ) (mode : Mode) where
   unread_by r unread (prefix_comes events here left front e) =
       elim (unread.broken here left (subst (λ f. Breaks here left f) (sym e) (begun-breaks buffer front.begun))) [
         | inl h ↦ inl h
-        | inr s ↦ inr (refused-from buffer mode Complains events r (record { here = here; rest = left; front = front; stuck = s }))
+        | inr s ↦ inr (record { events = events; after = record { here = here; rest = left; front = front; stuck = s } })
       ]
 
-  -- What is refused for anything but out of memory is refused from the root.
+  -- What is refused for anything but out of memory is so refused after the longest prefix.
   pub unread-refused : (r : Refusal) → IsValueUnread buffer (future_of (fresh buffer mode)) r → LacksMemory r ⊎ Refuses buffer mode r
   unread-refused r unread = unread_by r unread (input-comes buffer mode)

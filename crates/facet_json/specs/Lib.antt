@@ -24,13 +24,13 @@ pub use Rattle.facet_json_document.specs.Document
 pub use Rattle.facet_json_document.specs.Spelled
 pub use Rattle.facet_json_document.specs.Walk
 pub use Rattle.facet_json_document.specs.Place
-pub use Rattle.facet_json_document.specs.Refusal
 pub use Rattle.facet_json_document.specs.Future
 pub use Rattle.facet_json_document.specs.Quoted
 pub use Rattle.facet_json_document.specs.Text
 pub use Rattle.facet_json_document.specs.TextLaws
 pub use Rattle.facet_json_prefix.specs.Begun
 pub use Rattle.facet_json_prefix.specs.EventLaws
+pub use Rattle.facet_json_prefix.specs.Refusal
 pub use Rattle.facet_json_protocol.specs.Now
 pub use Rattle.facet_json_protocol.specs.Move
 pub use Rattle.facet_json_protocol.specs.Sound

@@ -10,7 +10,7 @@ ghost use Rattle.facet_json_document.specs.Node.{Node};
 ghost use Rattle.facet_json_document.specs.Tree.{Tree as SpecTree};
 ghost use Rattle.facet_json_document.specs.Document.{IsDocument};
 ghost use Rattle.facet_json_document.specs.Future.{Future};
-ghost use Rattle.facet_json_document.specs.Refusal.{Refuses};
+ghost use Rattle.facet_json_prefix.specs.Refusal.{Refuses};
 ghost use Rattle.facet_json_protocol.specs.Now.{ahead, future_of};
 ghost use Rattle.facet_json.specs.Inner.Told.{tree_of_scalar, is_member};
 ghost use Rattle.facet_json.specs.Inner.Reading.{GaveNext, GivesNone, LacksMemory, WentOn, IsValueRead, AreItemsRead, AreMembersRead, IsValueUnread, AreItemsUnread, AreMembersUnread, HasBegun, IsRefused, BeganValue, BeganMember, PassedEnd, IsKey, IsFilled, IsUnfilled};

@@ -9,7 +9,7 @@ use Rattle.facet_json_document.specs.Node.{Node}
 use Rattle.facet_json_document.specs.Tree.{Tree}
 use Rattle.facet_json_document.specs.Document.{IsDocument}
 use Rattle.facet_format.specs.Complaint.{Refusal, code_of}
-use Rattle.facet_json_document.specs.Refusal.{Refuses, Complains}
+use Rattle.facet_json.specs.Refusal.{Refuses, Complains}
 use Rattle.facet_json_protocol.specs.Now.{Now, fresh}
 use Rattle.facet_json_protocol.specs.Move.{MovesAll}
 use Rattle.facet_format.specs.Event.{Event}

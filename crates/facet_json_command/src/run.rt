@@ -13,7 +13,7 @@ ghost use Rattle.facet_json_token.specs.Views.{mode_of};
 ghost use Rattle.facet_json_document.specs.Node.{Node};
 ghost use Rattle.facet_json_document.specs.Tree.{Tree as SpecTree};
 ghost use Rattle.facet_json_document.specs.Document.{IsDocument};
-ghost use Rattle.facet_json_document.specs.Refusal.{Refuses, Complains};
+ghost use Rattle.facet_json.specs.Refusal.{Refuses, Complains};
 ghost use Rattle.facet_json_protocol.specs.Now.{Now, fresh};
 ghost use Rattle.facet_json_protocol.specs.Move.{MovesAll};
 ghost use Rattle.facet_json_core.specs.ScriptViews.{call_of, answer_of};

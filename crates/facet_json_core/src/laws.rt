@@ -2,12 +2,12 @@
 //! without effect.
 
 pub use facet_json_document::laws::{
-    document_is_found, one_document, one_spelling, plain_is_jsonc, refused_has_none,
-    spelled_is_spells, whole_document_is_found,
+    document_is_found, one_document, one_spelling, plain_is_jsonc, spelled_is_spells,
+    whole_document_is_found,
 };
 pub use facet_json_prefix::laws::{
-    begun_is_front, begun_is_prefix, behind_is_refused, front_gives_walk, front_is_begun,
-    input_comes, one_given, prefix_gives_walk, prefix_is_begun, refused_after_prefix,
+    begun_is_front, begun_is_prefix, front_gives_walk, front_is_begun, input_comes, one_given,
+    prefix_gives_walk, prefix_is_begun, refused_has_none,
 };
 pub use facet_json_protocol::laws::{
     alone_is_given, ends_in_time, headline, move_is_step, new_stands, numbers_are_new,

@@ -8,14 +8,14 @@ use Rattle.facet_json_document.specs.Tree as tree
 use Rattle.facet_json_document.specs.Meaning.{Meaning, tree_of, trees_of, pairs_of, text_of, put_item, put_pair}
 
 -- the first item's tree and the others'
-pub put_item_meant : (a : Option Tree) (b : Option Trees) (all : Trees) → put_item a b ≡ Some all →
+put_item_meant : (a : Option Tree) (b : Option Trees) (all : Trees) → put_item a b ≡ Some all →
     (value : Tree) × (values : Trees) × (a ≡ Some value) × (b ≡ Some values)
 put_item_meant None b all e = cc
 put_item_meant (Some t) None all e = cc
 put_item_meant (Some t) (Some others) all e = (t, others, refl, refl)
 
 -- the first member's key and tree and the others'
-pub put_pair_meant : (k : Option (List ℕ)) (a : Option Tree) (b : Option Pairs) (all : Pairs) → put_pair k a b ≡ Some all →
+put_pair_meant : (k : Option (List ℕ)) (a : Option Tree) (b : Option Pairs) (all : Pairs) → put_pair k a b ≡ Some all →
     (name : List ℕ) × (value : Tree) × (values : Pairs) × (k ≡ Some name) × (a ≡ Some value) × (b ≡ Some values)
 put_pair_meant None a b all e = cc
 put_pair_meant (Some name) None b all e = cc

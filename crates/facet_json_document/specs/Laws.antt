@@ -6,8 +6,6 @@ use Rattle.facet_json_token.specs.Tokens.{Tokens}
 use Rattle.facet_json_document.specs.Tree.{Tree}
 use Rattle.facet_json_document.specs.Document.{IsDocument, IsWholeDocument}
 use Rattle.facet_json_document.specs.Spelled.{spelled, document, whole_document}
-use Rattle.facet_format.specs.Complaint.{Refusal}
-use Rattle.facet_json_document.specs.Refusal.{Refuses}
 
 -- No spelling of a value is a proper prefix of another's, and tokens spell one value at most.
 abbrev pub OneSpelling : Type 0
@@ -35,7 +33,3 @@ WholeDocumentIsFound = (buffer : List ℕ) (root : Node) (value : Tree) →
 -- A plain document is the same JSONC document.
 abbrev pub PlainIsJsonc : Type 0
 PlainIsJsonc = (buffer : List ℕ) (root : Node) (value : Tree) → IsDocument buffer plain root value → IsDocument buffer jsonc root value
-
--- An input that is refused has no document.
-abbrev pub RefusedHasNone : Type 0
-RefusedHasNone = (buffer : List ℕ) (mode : Mode) (refusal : Refusal) (root : Node) (value : Tree) → Refuses buffer mode refusal → IsDocument buffer mode root value → ⊥

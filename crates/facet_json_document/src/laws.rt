@@ -4,7 +4,7 @@ mod documents;
 mod texts;
 
 pub use documents::{
-    document_is_found, one_document, one_spelling, plain_is_jsonc, refused_has_none,
-    spelled_is_spells, whole_document_is_found,
+    document_is_found, one_document, one_spelling, plain_is_jsonc, spelled_is_spells,
+    whole_document_is_found,
 };
 pub use texts::quoted_by_characters;

@@ -1,6 +1,6 @@
 pub mod BegunIsPrefix
 pub mod LongestPrefix
-pub mod PrefixIsRefused
 pub mod QuotedTokens
+pub mod RefusedHasNone
 pub mod SomeRefusal
 pub mod ValueOrPrefix

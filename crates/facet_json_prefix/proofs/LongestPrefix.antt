@@ -51,16 +51,26 @@ is_meaning buffer = record {
 
 -- ---- what comes after a prefix
 
+-- The future is what is read from these tokens on, from this stage, or after some key.
+pub data IsReadAt (m : Meaning) (future : Future) (here : Stage) (ts : Tokens) : Type 0 where
+  at_stage : (stack : List ContainerKind) → future ≡ reads m stack here ts → IsReadAt m future here ts
+  at_key : (stack : List ContainerKind) (key : Token) → here ≡ within after_key → future ≡ reads_colon m stack key ts →
+      IsReadAt m future here ts
+
+read-somewhere : {m : Meaning} {future : Future} {here : Stage} {ts : Tokens} → IsReadAt m future here ts → IsReadFrom m future ts
+read-somewhere {here = here} (at_stage stack f) = from_stage stack here f
+read-somewhere (at_key stack key e f) = from_key stack key f
+
 -- These events come, and then what is read from the last tokens on.
-record Leads (m : Meaning) (start : Future) (events : List Passed) (rest : Tokens) : Type 0 where
-  behind : Future
-  comes : start ≡ events_before events behind
-  from : IsReadFrom m behind rest
+pub record Leads (m : Meaning) (start : Future) (events : List Passed) (here : Stage) (rest : Tokens) : Type 0 where
+  pub behind : Future
+  pub comes : start ≡ events_before events behind
+  pub from : IsReadAt m behind here rest
 
 -- The same after further events.
-leads_behind : (m : Meaning) (before : List Passed) (first start : Future) (events total : List Passed) (rest : Tokens) →
-    first ≡ events_before before start → total ≡ before ++ events → Leads m start events rest → Leads m first total rest
-leads_behind m before first start events total rest e a l = record {
+leads_behind : (m : Meaning) (before : List Passed) (first start : Future) (events total : List Passed) (here : Stage) (rest : Tokens) →
+    first ≡ events_before before start → total ≡ before ++ events → Leads m start events here rest → Leads m first total here rest
+leads_behind m before first start events total here rest e a l = record {
   behind = l.behind;
   comes = e ∙ ap (events_before before) l.comes ∙ sym (events_before-append before events l.behind) ∙ ap (λ es. events_before es l.behind) (sym a);
   from = l.from;
@@ -69,42 +79,42 @@ leads_behind m before first start events total rest e a l = record {
 module _ (m : Meaning) where
   mutual
     -- From the prefix of a begun value on its events come.
-    begun-leads : (stack : List ContainerKind) {place : Place} {after here : Stage} {ts rest : Tokens} {events : List Passed} →
+    pub begun-leads : (stack : List ContainerKind) {place : Place} {after here : Stage} {ts rest : Tokens} {events : List Passed} →
         Begun m place after ts events here rest → TakesValue place → after ≡ after_value stack →
-        Leads m (reads m stack (within place) ts) events rest
+        Leads m (reads m stack (within place) ts) events here rest
     begun-leads stack (nothing place after ts) at e =
-        record { behind = reads m stack (within place) ts; comes = refl; from = from_stage stack (within place) refl }
+        record { behind = reads m stack (within place) ts; comes = refl; from = at_stage stack refl }
     begun-leads stack (whole place after ts rest node value s t) at e = record {
       behind = reads m stack (after_value stack) rest;
       comes = walk-comes m value s t stack place at;
-      from = from_stage stack (after_value stack) refl;
+      from = at_stage stack (ap (λ s. reads m stack s rest) (sym e));
     }
     begun-leads stack (in_list place after here first inner rest events k b) at e =
-        leads_behind m (event_at (event.sequence_start array) first ∷ []) _ _ events _ rest (reads-array m stack place first inner at k) refl (list-leads stack b)
+        leads_behind m (event_at (event.sequence_start array) first ∷ []) _ _ events _ here rest (reads-array m stack place first inner at k) refl (list-leads stack b)
     begun-leads stack (in_object place after here first inner rest events k b) at e =
-        leads_behind m (event_at (event.struct_start object) first ∷ []) _ _ events _ rest (reads-object m stack place first inner at k) refl (object-leads stack b)
+        leads_behind m (event_at (event.struct_start object) first ∷ []) _ _ events _ here rest (reads-object m stack place first inner at k) refl (object-leads stack b)
 
     list-leads : (stack : List ContainerKind) {here : Stage} {ts rest : Tokens} {events : List Passed} →
-        ListBegun m ts events here rest → Leads m (reads m (array ∷ stack) (within before_item) ts) events rest
+        ListBegun m ts events here rest → Leads m (reads m (array ∷ stack) (within before_item) ts) events here rest
     list-leads stack (begins_item ts rest events here b) = begun-leads (array ∷ stack) b of_list refl
     list-leads stack (past_item ts others rest node value separator events total here s t k b a) =
-        leads_behind m (walk m node) _ _ events total rest
+        leads_behind m (walk m node) _ _ events total here rest
         (walk-comes m value s t (array ∷ stack) before_item of_list ∙ ap (events_before (walk m node)) (reads-item_comma m (array ∷ stack) separator others k))
         a (list-leads stack b)
 
     object-leads : (stack : List ContainerKind) {here : Stage} {ts rest : Tokens} {events : List Passed} →
-        ObjectBegun m ts events here rest → Leads m (reads m (object ∷ stack) (within before_key) ts) events rest
+        ObjectBegun m ts events here rest → Leads m (reads m (object ∷ stack) (within before_key) ts) events here rest
     object-leads stack (no_key ts) =
-        record { behind = reads m (object ∷ stack) (within before_key) ts; comes = refl; from = from_stage (object ∷ stack) (within before_key) refl }
+        record { behind = reads m (object ∷ stack) (within before_key) ts; comes = refl; from = at_stage (object ∷ stack) refl }
     object-leads stack (key_alone key rest name k n) = record {
       behind = reads_colon m (object ∷ stack) key rest;
       comes = reads-names m (object ∷ stack) key rest name k n;
-      from = from_key (object ∷ stack) key refl;
+      from = at_key (object ∷ stack) key refl refl;
     }
     object-leads stack (begins_member key mark ts rest name events here k n c b) =
-        leads_behind m (key_event m key mark ∷ []) _ _ events _ rest (reads-key m (object ∷ stack) key mark ts name k n c) refl (begun-leads (object ∷ stack) b behind_colon refl)
+        leads_behind m (key_event m key mark ∷ []) _ _ events _ here rest (reads-key m (object ∷ stack) key mark ts name k n c) refl (begun-leads (object ∷ stack) b behind_colon refl)
     object-leads stack (past_member key mark ts others rest name node value separator events total here k n c s t p b a) =
-        leads_behind m (key_event m key mark ∷ walk m node) _ _ events total rest
+        leads_behind m (key_event m key mark ∷ walk m node) _ _ events total here rest
         (reads-key m (object ∷ stack) key mark ts name k n c
         ∙ ap (gives (key_event m key mark)) (walk-comes m value s t (object ∷ stack) after_colon behind_colon
         ∙ ap (events_before (walk m node)) (reads-member_comma m (object ∷ stack) separator others p)))
@@ -183,10 +193,10 @@ module _ (m : Meaning) where
     colon-count (next mark ts) stack key events here rest e =
         mark-count stack key mark ts (is_colon mark.kind) (stuck-count ts) refl events here rest e
 
-  from-count : (future : Future) (ts : Tokens) → IsReadFrom m future ts → (events : List Passed) (here : Place) (rest : Tokens) →
+  from-count : (future : Future) (stage : Stage) (ts : Tokens) → IsReadAt m future stage ts → (events : List Passed) (here : Place) (rest : Tokens) →
       future ≡ events_before events (stuck here rest) → count rest + length events ≤ count ts
-  from-count future ts (from_stage stack stage f) events here rest e = stuck-count ts stack stage events here rest (sym f ∙ e)
-  from-count future ts (from_key stack key f) events here rest e = colon-count ts stack key events here rest (sym f ∙ e)
+  from-count future stage ts (at_stage stack f) events here rest e = stuck-count ts stack stage events here rest (sym f ∙ e)
+  from-count future stage ts (at_key stack key k f) events here rest e = colon-count ts stack key events here rest (sym f ∙ e)
 
 -- ---- the longest prefix
 
@@ -216,7 +226,7 @@ stuck-longest m ts events here rest begun e =
     λ others there left b.
     (let leads = begun-leads m [] b at_root refl in
     let more = tail-stuck others events leads.behind here rest (sym leads.comes ∙ e) in
-    omega (arith, from-count m leads.behind left leads.from more.0 here rest more.1)) in
+    omega (arith, from-count m leads.behind there left leads.from more.0 here rest more.1)) in
     record { begun = begun; longest = no_longer }
 
 -- All longest prefixes give the same events.
@@ -226,7 +236,7 @@ pub longest-once : (m : Meaning) (ts : Tokens) (events others : List Passed) (he
 longest-once m ts events others here there rest left begun e front =
     let leads = begun-leads m [] front.begun at_root refl in
     let more = tail-stuck others events leads.behind here rest (sym leads.comes ∙ e) in
-    let fewer = from-count m leads.behind left leads.from more.0 here rest more.1 in
+    let fewer = from-count m leads.behind (within there) left leads.from more.0 here rest more.1 in
     let shortest = front.longest events (within here) rest begun in
     no_more (count rest) events others more.0 more.2 (omega arith)
 
@@ -267,7 +277,7 @@ front-walk m ts mid rest node value events here b s t =
     let leads = begun-leads m [] b at_root refl in
     let whole_walk = walk-comes m value s t [] root at_root ∙ ap (events_before (walk m node)) (over-finished m rest) in
     let found = tail-finished events (walk m node) leads.behind (sym leads.comes ∙ whole_walk) in
-    (found.0, found.1, subst (λ f. IsReadFrom m f mid) found.2 leads.from)
+    (found.0, found.1, subst (λ f. IsReadFrom m f mid) found.2 (read-somewhere leads.from))
 
 -- An input without a document has a longest prefix, and all longest prefixes give the same events.
 pub given_once : (buffer : List ℕ) (mode : Mode) → ((node : Node) (value : Tree) → IsDocument buffer mode node value → ⊥) →

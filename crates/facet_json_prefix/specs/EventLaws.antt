@@ -11,9 +11,9 @@ use Rattle.facet_json_document.specs.Place.{Place, root}
 use Rattle.facet_format.specs.Event.{ContainerKind, Passed}
 use Rattle.facet_json_document.specs.Walk.{walk}
 use Rattle.facet_json_document.specs.Future.{Future, finished, events_before, Stage, reads, reads_colon, stuck, within}
-use Rattle.facet_json_prefix.specs.Begun.{BegunDocument, LongestPrefix, tokens_before, RefusesAfter}
+use Rattle.facet_json_prefix.specs.Begun.{BegunDocument, LongestPrefix, tokens_before}
 use Rattle.facet_format.specs.Complaint.{Refusal}
-use Rattle.facet_json_document.specs.Refusal.{Complains, Refuses}
+use Rattle.facet_json_prefix.specs.Refusal.{Refuses}
 
 -- Tokens that begin a document are a prefix of the spelling of some value with a meaning, whatever follows that.
 abbrev pub BegunIsPrefix : Type 0
@@ -65,7 +65,7 @@ pub data RootComes (buffer : List ℕ) (mode : Mode) : Type 0 where
 abbrev pub InputComes : Type 0
 InputComes = (buffer : List ℕ) (mode : Mode) → RootComes buffer mode
 
--- What is refused after the longest prefix of an input is a refusal of that input.
-abbrev pub RefusedAfterPrefix : Type 0
-RefusedAfterPrefix = (buffer : List ℕ) (mode : Mode) (events : List Passed) (refusal : Refusal) →
-    RefusesAfter buffer mode Complains events refusal → Refuses buffer mode refusal
+-- An input that is refused has no document.
+abbrev pub RefusedHasNone : Type 0
+RefusedHasNone = (buffer : List ℕ) (mode : Mode) (refusal : Refusal) (root : Node) (value : Tree) → Refuses buffer mode refusal →
+    IsDocument buffer mode root value → ⊥

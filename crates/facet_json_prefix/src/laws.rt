@@ -4,10 +4,10 @@ mod prefixes;
 
 pub use prefixes::{
     begun_is_prefix, input_comes, one_given, prefix_gives_walk, prefix_is_begun,
-    refused_after_prefix,
+    refused_has_none,
 };
 // The names that these laws had before.
 pub use prefixes::{
     begun_is_prefix as begun_is_front, prefix_gives_walk as front_gives_walk,
-    prefix_is_begun as front_is_begun, refused_after_prefix as behind_is_refused,
+    prefix_is_begun as front_is_begun,
 };

@@ -31,7 +31,8 @@ use Rattle.facet_json_place.specs.Views.{turn_of, opening}
 use Rattle.facet_json_reader.specs.TokenViews.{IsTextOf, IsUnmade, IsMeaningless}
 use Rattle.facet_json_reader.specs.Views.{stage_of, passed_of, coming, IsTurn, StopsAt, IsUnmadeScalar, IsColon, GivesHeld, RefusesNext, IsRefusedBefore, without_memory, at_a_stop}
 use Rattle.facet_json_document.proofs.WalkComes.{follows, reads-turn, turn-plain}
-use Rattle.facet_json_place.proofs.TurnsAtPlaces.{says-plain, passes-plain, stuck-reads, stuck-reads_colon}
+use Rattle.facet_json_document.proofs.StuckComes.{stuck-reads, stuck-reads_colon}
+use Rattle.facet_json_place.proofs.TurnsAtPlaces.{says-plain, passes-plain}
 
 -- ---- what needs a meaning and has it
 

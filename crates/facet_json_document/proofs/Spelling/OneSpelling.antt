@@ -17,7 +17,7 @@ pub record Starts (ts : Tokens) : Type 0 where
   pub begins : begins_value first.kind ≡ true
 
 -- A scalar is a value.
-pub scalar_begins : (kind : Kind) → is_scalar kind ≡ true → begins_value kind ≡ true
+scalar_begins : (kind : Kind) → is_scalar kind ≡ true → begins_value kind ≡ true
 scalar_begins object_start e = refl
 scalar_begins array_start e = refl
 scalar_begins _ e = e
@@ -31,7 +31,7 @@ Spells-starts (braces first last inner rest ms e h) =
     record { first = first; others = inner; here = refl; begins = ap begins_value e }
 
 -- No token that begins a value is one of another kind.
-pub not_first : {ts : Tokens} → Starts ts → (t : Token) (rest : Tokens) (kind : Kind) → t.kind ≡ kind →
+not_first : {ts : Tokens} → Starts ts → (t : Token) (rest : Tokens) (kind : Kind) → t.kind ≡ kind →
     begins_value kind ≡ false → ts ≡ next t rest → ⊥
 not_first s t rest kind e other same = let here = s.here in let begins = s.begins in cc
 

@@ -1,6 +1,6 @@
 //! Laws about documents: which tokens spell a value, and which value.
 
-ghost use Rattle.facet_json_document.specs.Laws.{DocumentIsFound, OneDocument, OneSpelling, PlainIsJsonc, RefusedHasNone, SpelledIsSpells, WholeDocumentIsFound};
+ghost use Rattle.facet_json_document.specs.Laws.{DocumentIsFound, OneDocument, OneSpelling, PlainIsJsonc, SpelledIsSpells, WholeDocumentIsFound};
 
 /// Tokens spell at most one value, and no spelling is a proper prefix of another's.
 pub fn one_spelling()
@@ -10,11 +10,6 @@ pub fn one_spelling()
 /// An input has at most one document.
 pub fn one_document()
     ensures { OneDocument }
-{}
-
-/// An input that is refused has no document, in either mode.
-pub fn refused_has_none()
-    ensures { RefusedHasNone }
 {}
 
 /// A plain document is the same document where comments are read.

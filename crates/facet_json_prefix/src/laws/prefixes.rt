@@ -1,6 +1,6 @@
 //! Laws about begun documents: prefixes of tokens with which some document begins, and what they give.
 
-ghost use Rattle.facet_json_prefix.specs.EventLaws.{BegunIsPrefix, PrefixIsBegun, PrefixGivesWalk, OneGiven, InputComes, RefusedAfterPrefix};
+ghost use Rattle.facet_json_prefix.specs.EventLaws.{BegunIsPrefix, PrefixIsBegun, PrefixGivesWalk, OneGiven, InputComes, RefusedHasNone};
 
 /// Tokens that begin a document are a prefix of the spelling of some value, all of whose texts and numbers can be read.
 pub fn begun_is_prefix()
@@ -27,7 +27,7 @@ pub fn input_comes()
     ensures { InputComes }
 {}
 
-/// What is refused after the longest prefix of an input is a refusal of that input.
-pub fn refused_after_prefix()
-    ensures { RefusedAfterPrefix }
+/// An input that is refused has no document, in either mode.
+pub fn refused_has_none()
+    ensures { RefusedHasNone }
 {}
