@@ -335,14 +335,6 @@ text_or-past [] (suc inside) h = absurd (omega arith)
 text_or-past (b ∷ bytes) (suc inside) h = text_or-past bytes inside (omega arith)
 text_or-past (b ∷ bytes) zero h = text_or-by b bytes (piece_at (b ∷ bytes)) refl (text_or-past bytes)
 
--- A content has a text or a first fault, and never both.
-pub text_or_fault : TextOrFault
-text_or_fault content = record {
-  one_of_them = text_or-past content 0 (omega arith);
-  not_both = not_both content;
-  one_fault = one_fault content;
-}
-
 -- What is computed is the first fault.
 first_fault-is : (content : List ℕ) (f : Fault) → first_fault content ≡ Some f → TextOr content → FirstFault content f
 first_fault-is content f found (inl t) = let none : first_fault content ≡ None = fault_past-text content t.0 0 t.1 in absurd (cc)
@@ -384,3 +376,12 @@ fault-within _ _ (after first others content c later f is behind e g) =
     let own = fault-within others later behind in
     let size = ap length e ∙ length-append first others in
     omega (arith, own, size, ap (λ x. x.bytes.offset) g, ap (λ x. x.bytes.len) g)
+
+-- A content has a text or a first fault, and never both.
+pub text_or_fault : TextOrFault
+text_or_fault content = record {
+  one_of_them = text_or-past content 0 (omega arith);
+  not_both = not_both content;
+  one_fault = one_fault content;
+  within = fault-within content;
+}

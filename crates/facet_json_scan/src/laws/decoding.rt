@@ -13,7 +13,7 @@ pub fn first_fault_is_found()
     ensures { FirstFaultIsFound }
 {}
 
-/// A content has a text or a first fault, never both, and one first fault at most.
+/// A content has a text or a first fault, never both, and one first fault at most, whose bytes are some of the content's.
 pub fn text_or_fault()
     ensures { TextOrFault }
 {}
