@@ -1,6 +1,6 @@
 -- The fault that `first_fault` computes is the one that `FirstFault` gives (specs/Fault.antt), and a content has a text or a fault.
-use Rattle.std.proofs.Common.{◌≡◌, ℕ, zero, suc, ◌+◌, ◌-◌, ◌<◌, ◌≤◌, ◌⊎◌, inl, inr, Bool, true, false, cond, ◌&&◌, List, [], ◌∷◌, ◌++◌, length, take, drop, Option, Some, None, refl, sym, ap, ◌∙◌, arith, length-append}
-use Rattle.std.specs.Prelude.{◌==◌, nat_lt}
+use Rattle.std.proofs.Common.{◌≡◌, ℕ, zero, suc, ◌+◌, ◌-◌, ◌<◌, ◌≤◌, ◌⊎◌, inl, inr, Bool, true, false, cond, ◌&&◌, List, [], ◌∷◌, ◌++◌, length, take, drop, Option, Some, None, refl, sym, ap, ◌∙◌, arith, length-append, length-drop, length-take}
+use Rattle.std.specs.Prelude.{◌==◌, nat_lt, slice_range}
 use Rattle.std.specs.Char.{encode_utf8}
 use Rattle.std.specs.Str.{StartsWithNoChar}
 use Rattle.std.proofs.lemmas.Bool.{and_parts, eqb-true, ltb-false}
@@ -376,6 +376,22 @@ fault-within _ _ (after first others content c later f is behind e g) =
     let own = fault-within others later behind in
     let size = ap length e ∙ length-append first others in
     omega (arith, own, size, ap (λ x. x.bytes.offset) g, ap (λ x. x.bytes.len) g)
+
+-- A content with a fault has bytes.
+first-some : (content : List ℕ) (f : Fault) → FirstFault content f → 0 < length content
+first-some _ _ (here content f is) = fault-some content f is
+first-some _ _ (after first others content c later f is behind e g) =
+    let own = first-some others later behind in omega (arith, own, ap length e, length-append first others)
+
+-- The bytes of a fault are the buffer's, wherever its content stands.
+pub fault-in_buffer : (buffer : List ℕ) (start finish : ℕ) (f : Fault) → FirstFault (slice_range buffer start finish) f →
+    (start + f.bytes.offset) + f.bytes.len ≤ length buffer
+fault-in_buffer buffer start finish f is =
+    let own = fault-within (slice_range buffer start finish) f is in
+    let some = first-some (slice_range buffer start finish) f is in
+    let size = length-take (finish - start) (drop start buffer) in
+    let left = length-drop start buffer in
+    omega (arith, own, some, size, left)
 
 -- A content has a text or a first fault, and never both.
 pub text_or_fault : TextOrFault

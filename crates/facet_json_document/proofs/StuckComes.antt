@@ -16,7 +16,7 @@ still_stops : (b : Bool) (other : Turn) → other ≡ stops → unless_meaningle
 still_stops true other e = refl
 still_stops false other e = e
 
-module _ (buffer : List ℕ) (m : Meaning) (complains : Token → Refusal → Type 0) where
+module _ (buffer : List ℕ) (m : Meaning) (complains : List ℕ → Token → Refusal → Type 0) where
   -- Where the tokens are refused at a place, nothing comes.
   pub stuck-reads : (stack : List ContainerKind) (place : Place) (ts : Tokens) (r : Refusal) →
       IsStuck buffer m complains place ts r → reads m stack (within place) ts ≡ stuck place ts

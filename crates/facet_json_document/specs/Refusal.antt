@@ -1,12 +1,13 @@
 -- How tokens are refused at a place where no document goes on with them (RFC 8259, sections 2 to 7).
-use Rattle.std.specs.Prelude.{◌≡◌, ◌<◌, ℕ, Bool, true, false, List, length, None, IsSome, codes}
-use Rattle.facet_format.specs.Span.{Span, stop, span_at}
+use Rattle.std.specs.Prelude.{◌≡◌, ℕ, Bool, true, false, List, length, None, IsSome, slice_range, codes}
+use Rattle.facet_format.specs.Span.{span_at}
 use Rattle.facet_json_token.specs.Token.{Kind, Token, Fault}
 use Rattle.facet_json_token.specs.Token as token
 use Rattle.facet_json_token.specs.Tokens.{Tokens, ended, refused, next}
+use Rattle.facet_json_decode.specs.Fault.{Fault as TextFault, FirstFault, fault_refusal}
 use Rattle.facet_json_document.specs.Meaning.{Meaning}
 use Rattle.facet_json_document.specs.Place.{Place, goes_on, expected_at, complaint_at_end, complaint_of_fault, kind_name}
-use Rattle.facet_format.specs.Complaint.{Complaint, unexpected_char, unexpected_eof, unexpected_token, invalid_utf8, Refusal, refusal_at}
+use Rattle.facet_format.specs.Complaint.{Complaint, unexpected_char, unexpected_token, invalid_utf8, Refusal, refusal_at}
 
 abbrev pub is_number : Kind → Bool
 is_number (token.number start finish hint) = true
@@ -20,14 +21,14 @@ needs_meaning _ = false
 
 -- At the place the tokens don't go on with a document, and are refused so. A string or number without a meaning has a refusal of
 -- its own, whatever the place.
-pub data IsStuck (buffer : List ℕ) (m : Meaning) (complains : Token → Refusal → Type 0) : Place → Tokens → Refusal →
+pub data IsStuck (buffer : List ℕ) (m : Meaning) (complains : List ℕ → Token → Refusal → Type 0) : Place → Tokens → Refusal →
     Type 0 where
   at_end : (place : Place) →
       IsStuck buffer m complains place ended (refusal_at (complaint_at_end place) (span_at (length buffer) 0))
   at_fault : (place : Place) (f : Fault) →
       IsStuck buffer m complains place (refused f) (refusal_at (complaint_of_fault f.kind) f.span)
   meaningless : (place : Place) (t : Token) (rest : Tokens) (refusal : Refusal) → needs_meaning t.kind ≡ true →
-      m t ≡ None → complains t refusal → IsStuck buffer m complains place (next t rest) refusal
+      m t ≡ None → complains buffer t refusal → IsStuck buffer m complains place (next t rest) refusal
   misplaced : (place : Place) (t : Token) (rest : Tokens) → (needs_meaning t.kind ≡ true → IsSome (m t)) →
       goes_on place t.kind ≡ false →
       IsStuck buffer m complains place (next t rest) (refusal_at (unexpected_token (kind_name buffer t.kind) (expected_at place t.kind)) t.span)
@@ -38,22 +39,11 @@ pub data IsStuck (buffer : List ℕ) (m : Meaning) (complains : Token → Refusa
 abbrev pub number_complaint : Complaint
 number_complaint = unexpected_char 0x3f (codes "valid JSON token")
 
--- what may be wrong with a string that holds a backslash: a character or an end within an escape, or bytes that are not UTF-8
-pub data IsTextComplaint : Complaint → Type 0 where
-  at_a_character : (c : ℕ) → IsTextComplaint (unexpected_char c (codes "valid JSON token"))
-  at_an_end : (expected : List ℕ) → IsTextComplaint (unexpected_eof expected)
-  not_utf8 : IsTextComplaint invalid_utf8
-
--- The bytes lie between the quotes of the string that takes the span.
-abbrev pub IsBetweenQuotes : Span → Span → Type 0
-IsBetweenQuotes string bytes = (string.offset < bytes.offset) × (stop bytes < stop string)
-
--- How a token without a meaning is refused: a number as a question mark over all of it, a string without a backslash as bytes that
--- are not UTF-8 over all of it, and a string with one for some of the bytes between its quotes.
-pub data Complains (t : Token) (refusal : Refusal) : Type 0 where
-  of_number : is_number t.kind ≡ true → refusal ≡ refusal_at number_complaint t.span → Complains t refusal
+-- How a token of the buffer without a meaning is refused: a number as a question mark over all of it, a string without a backslash
+-- as bytes that are not UTF-8 over all of it, and a string with one for the first fault of its content.
+pub data Complains (buffer : List ℕ) (t : Token) (refusal : Refusal) : Type 0 where
+  of_number : is_number t.kind ≡ true → refusal ≡ refusal_at number_complaint t.span → Complains buffer t refusal
   of_plain_string : (start finish : ℕ) → t.kind ≡ token.string start finish false →
-      refusal ≡ refusal_at invalid_utf8 t.span → Complains t refusal
-  of_escaped_string : (start finish : ℕ) (complaint : Complaint) (bytes : Span) →
-      t.kind ≡ token.string start finish true → IsTextComplaint complaint → IsBetweenQuotes t.span bytes →
-      refusal ≡ refusal_at complaint bytes → Complains t refusal
+      refusal ≡ refusal_at invalid_utf8 t.span → Complains buffer t refusal
+  of_escaped_string : (start finish : ℕ) (f : TextFault) → t.kind ≡ token.string start finish true →
+      FirstFault (slice_range buffer start finish) f → refusal ≡ fault_refusal start f → Complains buffer t refusal

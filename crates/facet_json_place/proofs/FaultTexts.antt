@@ -7,18 +7,18 @@ use Rattle.facet_format.specs.Number.{Hint, parts, parts_len, parts_hint, is_bar
 use Rattle.facet_json_token.specs.Gap.{Mode, plain, jsonc}
 use Rattle.facet_json_token.specs.Token.{Fault, FaultKind, unexpected_char, unexpected_eof, in_literal}
 use Rattle.facet_json_token.specs.Cut.{Cut, nothing_left, token, fault, Start, punctuation, letter, opens_text, opens_number, opens_comment, opens_nothing, start_of, fault_at, common_len, cut_text, content_len, cut_bare_minus, cut_number, cut_slash, cut_by, cut_here, past_gap, cut}
-use Rattle.facet_json_place.specs.Views.{IsCutText, a_string, a_number, a_literal, a_comment}
+use Rattle.facet_json_place.specs.Views.{IsEndText, a_string, a_number, a_literal, a_comment}
 
 -- The fault says one of the texts, or a character.
-abbrev pub SaysCutText : FaultKind → Type 0
-SaysCutText (unexpected_char c) = Unit {0}
-SaysCutText (unexpected_eof text) = IsCutText text
+abbrev pub FaultSaysText : FaultKind → Type 0
+FaultSaysText (unexpected_char c) = Unit {0}
+FaultSaysText (unexpected_eof text) = IsEndText text
 
 -- So does what is cut, where it is a fault.
 abbrev CutSays : Cut → Type 0
 CutSays nothing_left = Unit {0}
 CutSays (token t) = Unit {0}
-CutSays (fault f) = SaysCutText f.kind
+CutSays (fault f) = FaultSaysText f.kind
 
 broken_word : (at n : ℕ) (found : Option ℕ) →
     CutSays (elim found [ None ↦ fault_at (unexpected_eof in_literal) at n | Some b ↦ fault_at (unexpected_char b) (at + n) 1 ])
@@ -60,7 +60,7 @@ here mode at (b ∷ bytes) = by_start (start_of b) mode at b bytes
 
 -- A fault that is cut says one of the texts, or a character.
 pub cut-says : (buffer : List ℕ) (position : ℕ) (mode : Mode) (what : Fault) →
-    cut buffer position mode ≡ fault what → SaysCutText what.kind
+    cut buffer position mode ≡ fault what → FaultSaysText what.kind
 unfolding cut
 cut-says buffer position mode what e =
     subst CutSays e (here mode (past_gap buffer position mode) (drop (past_gap buffer position mode) buffer))

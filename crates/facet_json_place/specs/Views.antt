@@ -24,10 +24,9 @@ use Rattle.facet_format.specs.Event.{ContainerKind, object, array, EventKind}
 use Rattle.facet_format.specs.Event as event
 use Rattle.facet_format.specs.Views.{span_of, container_of}
 use Rattle.facet_json_token.specs.Token.{Kind, in_string, in_number, in_literal, in_block_comment}
-use Rattle.facet_json_token.specs.Views.{scan_complaint}
+use Rattle.facet_json_token.specs.Views.{scan_complaint, scan_refusal}
 use Rattle.facet_json_document.specs.Place.{Place}
 use Rattle.facet_json_document.specs.Place as place
-use Rattle.facet_json_document.specs.Refusal.{IsTextComplaint}
 use Rattle.facet_json_document.specs.Future.{Turn, Stage, within, after_value, place_turn, closing_turn}
 use Rattle.facet_json_document.specs.Future as future
 
@@ -78,27 +77,27 @@ why_of why.SaveLimit = complaint.save_limit
 abbrev pub refused_of : Refused → Refusal
 refused_of r = complaint.refusal_at (why_of r.why) (span_of r.span)
 
--- what the input may end inside of, where a token should be cut
-pub data IsCutText : List ℕ → Type 0 where
-  a_string : IsCutText in_string
-  a_number : IsCutText in_number
-  a_literal : IsCutText in_literal
-  a_comment : IsCutText in_block_comment
+-- the texts that say what the input ends inside of, where a token is cut or a string's content is decoded
+pub data IsEndText : List ℕ → Type 0 where
+  a_string : IsEndText in_string
+  a_number : IsEndText in_number
+  a_literal : IsEndText in_literal
+  a_comment : IsEndText in_block_comment
+  an_escape : IsEndText (codes "in escape sequence")
+  digits : IsEndText (codes "in unicode escape")
 
--- A scan is refused as where a token should be cut.
-abbrev pub IsCutError : ScanErrorKind → Type 0
-IsCutError (scan.UnexpectedEof text) = IsCutText text.now
-IsCutError _ = Unit {0}
+-- A scan that is refused at an end says one of them.
+abbrev pub SaysEndText : ScanErrorKind → Type 0
+SaysEndText (scan.UnexpectedEof text) = IsEndText text.now
+SaysEndText _ = Unit {0}
 
--- A refused scan is passed on so: as it is, where a token should be cut; and always as what may be wrong with a string.
-pub record IsWhy (kind : ScanErrorKind) (c : Complaint) : Type 0 where
-  pub cuts : IsCutError kind → c ≡ scan_complaint kind
-  pub decodes : IsTextComplaint c
+-- A refused scan is passed on as it is.
+abbrev pub IsWhy : ScanErrorKind → Complaint → Type 0
+IsWhy kind c = SaysEndText kind → c ≡ scan_complaint kind
 
 -- The same, over the scan's bytes.
-pub record IsPassedOn (e : ScanError) (r : Refusal) : Type 0 where
-  pub why : IsWhy e.kind r.complaint
-  pub same_bytes : r.span ≡ Some (span_of e.span)
+abbrev pub IsPassedOn : ScanError → Refusal → Type 0
+IsPassedOn e r = SaysEndText e.kind → r ≡ scan_refusal e
 
 -- ---- places
 

@@ -4,7 +4,7 @@ ghost use Rattle.std.specs.Prelude.{◌≡◌};
 ghost use Rattle.facet_format.specs.Complaint.{refusal_at, save_limit};
 ghost use Rattle.facet_format.specs.Cursor.{no_memory_at};
 ghost use Rattle.facet_format.specs.Views.{complaint_of, span_of, parse_refusal};
-ghost use Rattle.facet_json_place.specs.Views.{expected_text, name_text, why_of, refused_of, IsCutText, IsWhy, IsPassedOn};
+ghost use Rattle.facet_json_place.specs.Views.{expected_text, name_text, why_of, refused_of, IsEndText, IsWhy, IsPassedOn};
 
 use facet_format::{DeserializeErrorKind, ParseError, Span};
 use facet_json_token::{ScanError, ScanErrorKind};
@@ -61,7 +61,7 @@ impl Expected {
 
     /// What the input ends inside of, by the text in which a scan or a decoder says so. They have no others.
     fn inside(text: &str) -> Expected
-        ensures { IsCutText text.now → expected_text result ≡ text.now }
+        ensures { IsEndText text.now → expected_text result ≡ text.now }
     {
         match text {
             "in string" => Expected::InString,

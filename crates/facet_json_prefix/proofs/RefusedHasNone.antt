@@ -15,7 +15,7 @@ use Rattle.facet_json_prefix.specs.EventLaws.{RefusedHasNone}
 use Rattle.facet_json_prefix.proofs.LongestPrefix.{IsReadAt, at_stage, at_key, begun-leads, tail-finished}
 
 -- What is read where no document goes on is stuck there.
-read-stuck : {buffer : List ℕ} {m : Meaning} {complains : Token → Refusal → Type 0} {future : Future} {place : Place} {ts : Tokens}
+read-stuck : {buffer : List ℕ} {m : Meaning} {complains : List ℕ → Token → Refusal → Type 0} {future : Future} {place : Place} {ts : Tokens}
     {refusal : Refusal} → IsReadAt m future (within place) ts → IsStuck buffer m complains place ts refusal →
     future ≡ stuck place ts
 read-stuck {buffer = buffer} {m = m} {complains = complains} {place = place} {ts = ts} {refusal = refusal} (at_stage stack f) s =

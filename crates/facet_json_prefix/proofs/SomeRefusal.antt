@@ -1,22 +1,25 @@
 -- Where nothing comes any more, no document goes on, so some refusal stands there.
-use Rattle.std.proofs.Common.{◌≡◌, ℕ, suc, ◌≤◌, Bool, true, false, ◌&&◌, List, [], ◌∷◌, Option, Some, None, refl, sym, ◌∙◌, arith}
-use Rattle.std.specs.Prelude.{⊤, is_none, IsSome}
-use Rattle.facet_format.specs.Span.{span_at}
+use Rattle.std.proofs.Common.{◌≡◌, ℕ, Bool, true, false, ◌&&◌, List, [], ◌∷◌, Option, Some, None, ◌⊎◌, inl, inr, refl, sym, ap, ◌∙◌}
+use Rattle.std.specs.Prelude.{⊤, is_none, IsSome, slice_range}
+use Rattle.std.specs.Option.{option_map}
 use Rattle.facet_json_token.specs.Token.{Kind, Token, Fault}
 use Rattle.facet_json_token.specs.Token as token
 use Rattle.facet_json_token.specs.Gap.{Mode}
 use Rattle.facet_json_prefix.specs.Begun.{LongestPrefix, RefusesAfter}
 use Rattle.facet_json_token.specs.Tokens.{Tokens, ended, refused, next, tokens}
-use Rattle.facet_json_document.specs.Tree.{Tree}
-use Rattle.facet_json_document.specs.Meaning.{Meaning, meaning}
+use Rattle.facet_json_document.specs.Tree.{Tree, text}
+use Rattle.facet_json_document.specs.Meaning.{Meaning, meaning_of, meaning}
 use Rattle.facet_json_document.specs.Place.{Place, root, before_key, after_key, after_colon, after_member, before_item, after_item, is_colon, goes_on}
-use Rattle.facet_format.specs.Complaint.{Refusal, invalid_utf8}
-use Rattle.facet_json_document.specs.Refusal.{needs_meaning, IsStuck, at_end, at_fault, meaningless, misplaced, Complains, of_number, of_plain_string, of_escaped_string, not_utf8}
+use Rattle.facet_format.specs.Complaint.{Refusal}
+use Rattle.facet_json_document.specs.Refusal.{needs_meaning, IsStuck, at_end, at_fault, meaningless, misplaced, Complains, of_number, of_plain_string, of_escaped_string}
 use Rattle.facet_format.specs.Event.{ContainerKind, object, array, Passed}
 use Rattle.facet_json_document.specs.Walk.{key_event}
 use Rattle.facet_json_document.specs.Future.{gives, stuck, events_before, Stage, within, over, after_value, around, Turn, stops, passes, says, says_scalar, names, value_turn, place_turn, unless_meaningless, is_meaningless, turn, reads, reads_colon}
 use Rattle.facet_json_document.proofs.WalkComes.{follows, reads-turn}
-use Rattle.facet_json_prefix.proofs.QuotedTokens.{HasQuotes, AreQuoted, at_a_token, tokens-quoted}
+use Rattle.facet_json_decode.specs.Decode.{decoded}
+use Rattle.facet_json_decode.specs.Laws.{HasTextOrFault}
+use Rattle.facet_json_decode.proofs.DecodeLaws.{decodes-decoded}
+use Rattle.facet_json_decode.proofs.FaultLaws.{text_or_fault}
 use Rattle.facet_json_document.proofs.TurnsStop.{value_stops}
 
 -- The stage is not after a key.
@@ -99,22 +102,21 @@ place-stops stack after_item token.array_end h e = cc
 place-stops stack after_item _ h e = refl
 
 -- Some refusal is allowed there.
-abbrev pub IsRefusable : List ℕ → Meaning → (Token → Refusal → Type 0) → Place → Tokens → Type 0
+abbrev pub IsRefusable : List ℕ → Meaning → (List ℕ → Token → Refusal → Type 0) → Place → Tokens → Type 0
 IsRefusable buffer m complains place ts = (r : Refusal) × IsStuck buffer m complains place ts r
 
--- Each string or number without a meaning is refused in some way, a string where it has its quotes.
-abbrev pub ComplainsAlways : Meaning → (Token → Refusal → Type 0) → Type 0
-ComplainsAlways m complains =
-    (t : Token) → HasQuotes t → needs_meaning t.kind ≡ true → m t ≡ None → (r : Refusal) × complains t r
+-- Each string or number without a meaning is refused in some way.
+abbrev pub ComplainsAlways : List ℕ → Meaning → (List ℕ → Token → Refusal → Type 0) → Type 0
+ComplainsAlways buffer m complains = (t : Token) → needs_meaning t.kind ≡ true → m t ≡ None → (r : Refusal) × complains buffer t r
 
-module _ (buffer : List ℕ) (m : Meaning) (complains : Token → Refusal → Type 0) (always : ComplainsAlways m complains) where
-  without_by : (t : Token) (rest : Tokens) (place : Place) (needs : Bool) (o : Option Tree) → HasQuotes t →
-      needs_meaning t.kind ≡ needs → m t ≡ o → (needs && is_none o) ≡ true → IsRefusable buffer m complains place (next t rest)
-  without_by t rest place true None quoted n e h =
-      let r = always t quoted n e in
+module _ (buffer : List ℕ) (m : Meaning) (complains : List ℕ → Token → Refusal → Type 0) (always : ComplainsAlways buffer m complains) where
+  without_by : (t : Token) (rest : Tokens) (place : Place) (needs : Bool) (o : Option Tree) → needs_meaning t.kind ≡ needs →
+      m t ≡ o → (needs && is_none o) ≡ true → IsRefusable buffer m complains place (next t rest)
+  without_by t rest place true None n e h =
+      let r = always t n e in
       (r.0, meaningless place t rest r.0 n e r.1)
-  without_by t rest place true (Some value) quoted n e h = cc
-  without_by t rest place false o quoted n e h = cc
+  without_by t rest place true (Some value) n e h = cc
+  without_by t rest place false o n e h = cc
 
   sensible_by : (t : Token) (needs : Bool) (o : Option Tree) → needs_meaning t.kind ≡ needs → m t ≡ o →
       (needs && is_none o) ≡ false → needs_meaning t.kind ≡ true → IsSome (m t)
@@ -123,18 +125,18 @@ module _ (buffer : List ℕ) (m : Meaning) (complains : Token → Refusal → Ty
   sensible_by t false o n e h k = cc
 
   -- A token where the turn is to stop.
-  stops_by : (stack : List ContainerKind) (place : Place) (t : Token) (rest : Tokens) (b : Bool) → HasQuotes t →
-      is_meaningless m t ≡ b → IsNoKey (within place) → unless_meaningless b (place_turn stack place t.kind) ≡ stops →
+  stops_by : (stack : List ContainerKind) (place : Place) (t : Token) (rest : Tokens) (b : Bool) → is_meaningless m t ≡ b →
+      IsNoKey (within place) → unless_meaningless b (place_turn stack place t.kind) ≡ stops →
       IsRefusable buffer m complains place (next t rest)
-  stops_by stack place t rest true quoted e h s = without_by t rest place (needs_meaning t.kind) (m t) quoted refl refl e
-  stops_by stack place t rest false quoted e h s =
+  stops_by stack place t rest true e h s = without_by t rest place (needs_meaning t.kind) (m t) refl refl e
+  stops_by stack place t rest false e h s =
       (_, misplaced place t rest (sensible_by t (needs_meaning t.kind) (m t) refl refl e) (place-stops stack place t.kind h s))
 
   -- A token after a key that is no colon.
-  no_colon_by : (t : Token) (rest : Tokens) (b : Bool) → HasQuotes t → is_meaningless m t ≡ b → is_colon t.kind ≡ false →
+  no_colon_by : (t : Token) (rest : Tokens) (b : Bool) → is_meaningless m t ≡ b → is_colon t.kind ≡ false →
       IsRefusable buffer m complains after_key (next t rest)
-  no_colon_by t rest true quoted e c = without_by t rest after_key (needs_meaning t.kind) (m t) quoted refl refl e
-  no_colon_by t rest false quoted e c =
+  no_colon_by t rest true e c = without_by t rest after_key (needs_meaning t.kind) (m t) refl refl e
+  no_colon_by t rest false e c =
       (_, misplaced after_key t rest (sensible_by t (needs_meaning t.kind) (m t) refl refl e) c)
 
   -- Wherever these tokens are stuck at the end, some refusal is allowed.
@@ -172,18 +174,18 @@ module _ (buffer : List ℕ) (m : Meaning) (complains : Token → Refusal → Ty
       h others stage events here rest on same
   turn-halts stack place t ts names h g on r events here rest e = g stack t events here rest e
 
-  mark-halts : (stack : List ContainerKind) (key mark : Token) (ts : Tokens) (b : Bool) → HasQuotes mark → Halts ts →
-      is_colon mark.kind ≡ b → (events : List Passed) (here : Place) (rest : Tokens) →
+  mark-halts : (stack : List ContainerKind) (key mark : Token) (ts : Tokens) (b : Bool) → Halts ts → is_colon mark.kind ≡ b →
+      (events : List Passed) (here : Place) (rest : Tokens) →
       reads_colon m stack key (next mark ts) ≡ events_before events (stuck here rest) → IsRefusable buffer m complains here rest
   unfolding reads_colon
-  mark-halts stack key mark ts false quoted h c [] here rest e =
+  mark-halts stack key mark ts false h c [] here rest e =
       let same : stuck after_key (next mark ts) ≡ stuck here rest = rw (c, reads_colon) at e in
-      there after_key here (next mark ts) rest same (no_colon_by mark ts (is_meaningless m mark) quoted refl c)
-  mark-halts stack key mark ts false quoted h c (p ∷ events) here rest e =
+      there after_key here (next mark ts) rest same (no_colon_by mark ts (is_meaningless m mark) refl c)
+  mark-halts stack key mark ts false h c (p ∷ events) here rest e =
       let same : stuck after_key (next mark ts) ≡ gives p (events_before events (stuck here rest)) = rw (c, reads_colon) at e in cc
-  mark-halts stack key mark ts true quoted h c [] here rest e =
+  mark-halts stack key mark ts true h c [] here rest e =
       let same : gives (key_event m key mark) (reads m stack (within after_colon) ts) ≡ stuck here rest = rw (c, reads_colon) at e in cc
-  mark-halts stack key mark ts true quoted h c (p ∷ events) here rest e =
+  mark-halts stack key mark ts true h c (p ∷ events) here rest e =
       let same : gives (key_event m key mark) (reads m stack (within after_colon) ts) ≡ gives p (events_before events (stuck here rest)) = rw (c, reads_colon) at e in
       let behind : reads m stack (within after_colon) ts ≡ events_before events (stuck here rest) = cc in
       h stack (within after_colon) events here rest tt behind
@@ -192,41 +194,51 @@ module _ (buffer : List ℕ) (m : Meaning) (complains : Token → Refusal → Ty
     unfolding reads
 
     -- Where nothing comes any more, some refusal is allowed.
-    stuck-halts : (ts : Tokens) → AreQuoted ts → Halts ts
-    stuck-halts ts quoted stack over [] here rest k e = cc
-    stuck-halts ts quoted stack over (p ∷ events) here rest k e = cc
-    stuck-halts ended quoted stack (within place) [] here rest k e = there place here ended rest e (_, at_end place)
-    stuck-halts ended quoted stack (within place) (p ∷ events) here rest k e = cc
-    stuck-halts (refused f) quoted stack (within place) [] here rest k e = there place here (refused f) rest e (_, at_fault place f)
-    stuck-halts (refused f) quoted stack (within place) (p ∷ events) here rest k e = cc
-    stuck-halts (next t ts) (at_a_token _ _ quoted more) stack (within place) events here rest k e =
-        turn-halts stack place t ts (turn m stack place t) (stuck-halts ts more) (colon-halts ts more)
+    stuck-halts : (ts : Tokens) → Halts ts
+    stuck-halts ts stack over [] here rest k e = cc
+    stuck-halts ts stack over (p ∷ events) here rest k e = cc
+    stuck-halts ended stack (within place) [] here rest k e = there place here ended rest e (_, at_end place)
+    stuck-halts ended stack (within place) (p ∷ events) here rest k e = cc
+    stuck-halts (refused f) stack (within place) [] here rest k e = there place here (refused f) rest e (_, at_fault place f)
+    stuck-halts (refused f) stack (within place) (p ∷ events) here rest k e = cc
+    stuck-halts (next t ts) stack (within place) events here rest k e =
+        turn-halts stack place t ts (turn m stack place t) (stuck-halts ts) (colon-halts ts)
         (unless-leads (is_meaningless m t) (place_turn stack place t.kind) (place-leads stack place t.kind))
-        (stops_by stack place t ts (is_meaningless m t) quoted refl k) events here rest
+        (stops_by stack place t ts (is_meaningless m t) refl k) events here rest
         (sym (reads-turn m stack place t ts (turn m stack place t) refl) ∙ e)
 
-    colon-halts : (ts : Tokens) → AreQuoted ts → HaltsBehindKey ts
-    colon-halts ended quoted stack key [] here rest e = there after_key here ended rest e (_, at_end after_key)
-    colon-halts ended quoted stack key (p ∷ events) here rest e = cc
-    colon-halts (refused f) quoted stack key [] here rest e = there after_key here (refused f) rest e (_, at_fault after_key f)
-    colon-halts (refused f) quoted stack key (p ∷ events) here rest e = cc
-    colon-halts (next mark ts) (at_a_token _ _ quoted more) stack key events here rest e =
-        mark-halts stack key mark ts (is_colon mark.kind) quoted (stuck-halts ts more) refl events here rest e
+    colon-halts : (ts : Tokens) → HaltsBehindKey ts
+    colon-halts ended stack key [] here rest e = there after_key here ended rest e (_, at_end after_key)
+    colon-halts ended stack key (p ∷ events) here rest e = cc
+    colon-halts (refused f) stack key [] here rest e = there after_key here (refused f) rest e (_, at_fault after_key f)
+    colon-halts (refused f) stack key (p ∷ events) here rest e = cc
+    colon-halts (next mark ts) stack key events here rest e =
+        mark-halts stack key mark ts (is_colon mark.kind) (stuck-halts ts) refl events here rest e
 
 -- ---- the refusals of strings and numbers
 
-complains-by : (t : Token) (kind : Kind) → t.kind ≡ kind → HasQuotes t → needs_meaning kind ≡ true →
-    (r : Refusal) × Complains t r
-complains-by t (token.string start finish true) e quoted n =
-    let some : 2 ≤ t.span.len = quoted start finish true e in
-    (_, of_escaped_string start finish invalid_utf8 (span_at (suc t.span.offset) 0) e not_utf8 (omega (arith, some), omega (arith, some)) refl)
-complains-by t (token.string start finish false) e quoted n = (_, of_plain_string start finish e refl)
-complains-by t (token.number start finish hint) e quoted n = (_, of_number (rw e refl) refl)
-complains-by t _ e quoted n = cc
+text-faults : (buffer : List ℕ) (t : Token) (start finish : ℕ) → t.kind ≡ token.string start finish true →
+    option_map text (decoded (slice_range buffer start finish)) ≡ None → HasTextOrFault (slice_range buffer start finish) →
+    (r : Refusal) × Complains buffer t r
+text-faults buffer t start finish e none has = elim has.one_of_them [
+  | inl found ↦
+      let is : decoded (slice_range buffer start finish) ≡ Some found.0 = decodes-decoded _ found.0 found.1 in
+      let some : option_map text (decoded (slice_range buffer start finish)) ≡ Some (text found.0) = ap (option_map text) is in
+      absurd (cc)
+  | inr fault ↦ (_, of_escaped_string start finish fault.0 e fault.1 refl)
+]
+
+complains-by : (buffer : List ℕ) (t : Token) (kind : Kind) → t.kind ≡ kind → needs_meaning kind ≡ true →
+    meaning_of buffer kind ≡ None → (r : Refusal) × Complains buffer t r
+complains-by buffer t (token.string start finish true) e n none =
+    text-faults buffer t start finish e none (text_or_fault (slice_range buffer start finish))
+complains-by buffer t (token.string start finish false) e n none = (_, of_plain_string start finish e refl)
+complains-by buffer t (token.number start finish hint) e n none = (_, of_number (rw e refl) refl)
+complains-by buffer t _ e n none = cc
 
 -- Whatever a buffer holds, its strings and numbers without a meaning are refused in some way.
-complains-always : (buffer : List ℕ) → ComplainsAlways (meaning buffer) Complains
-complains-always buffer t quoted needs none = complains-by t t.kind refl quoted needs
+complains-always : (buffer : List ℕ) → ComplainsAlways buffer (meaning buffer) Complains
+complains-always buffer t needs none = complains-by buffer t t.kind refl needs none
 
 -- Where a longest prefix comes and then nothing, some refusal is allowed after it.
 pub prefix-refuses : (buffer : List ℕ) (mode : Mode) (events : List Passed) (here : Place) (rest : Tokens) →
@@ -234,5 +246,5 @@ pub prefix-refuses : (buffer : List ℕ) (mode : Mode) (events : List Passed) (h
     reads (meaning buffer) [] (within root) (tokens buffer mode) ≡ events_before events (stuck here rest) →
     (r : Refusal) × RefusesAfter buffer mode Complains events r
 prefix-refuses buffer mode events here rest front e =
-    let found = stuck-halts buffer (meaning buffer) Complains (complains-always buffer) (tokens buffer mode) (tokens-quoted buffer mode) [] (within root) events here rest tt e in
+    let found = stuck-halts buffer (meaning buffer) Complains (complains-always buffer) (tokens buffer mode) [] (within root) events here rest tt e in
     (found.0, record { here = here; rest = rest; front = front; stuck = found.1 })

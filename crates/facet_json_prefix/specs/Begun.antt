@@ -70,7 +70,7 @@ pub record LongestPrefix (m : Meaning) (ts : Tokens) (events : List Passed) (her
       count rest ≤ count left
 
 -- Where the input has no document, these events are given, and then it is refused so, by what stands after the longest prefix.
-pub record RefusesAfter (buffer : List ℕ) (mode : Mode) (complains : Token → Refusal → Type 0) (events : List Passed)
+pub record RefusesAfter (buffer : List ℕ) (mode : Mode) (complains : List ℕ → Token → Refusal → Type 0) (events : List Passed)
     (refusal : Refusal) : Type 0 where
   pub here : Place
   pub rest : Tokens

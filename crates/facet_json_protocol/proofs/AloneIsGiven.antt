@@ -30,7 +30,7 @@ unshown-last None shown last e = refl
 unshown-last (Some p) true last e = cc
 unshown-last (Some p) false last e = refl
 
-module _ (complains : Token → Refusal → Type 0) where
+module _ (complains : List ℕ → Token → Refusal → Type 0) where
   -- A refused parser answers its refusal again and again.
   all-refused : {now new : Now} {calls : List Call} {answers : List Answer} (r : Refusal) → now.refusal ≡ Some r →
       AllNext calls → MovesAll complains now calls answers new → AllRefused r answers
@@ -91,7 +91,7 @@ module _ (complains : Token → Refusal → Type 0) where
         (λ p others same none passed behind there. answers-alone p.last others only none passed behind there more)
 
 -- Where this prefix comes and then nothing, its events are answered, and then one refusal.
-pub prefix-alone : (buffer : List ℕ) (mode : Mode) (complains : Token → Refusal → Type 0) (events : List Passed) (here : Place)
+pub prefix-alone : (buffer : List ℕ) (mode : Mode) (complains : List ℕ → Token → Refusal → Type 0) (events : List Passed) (here : Place)
     (rest : Tokens) {new : Now} {calls : List Call} {answers : List Answer} →
     LongestPrefix (meaning buffer) (tokens buffer mode) events here rest →
     reads (meaning buffer) [] (within root) (tokens buffer mode) ≡ events_before events (stuck here rest) → AllNext calls →
@@ -101,7 +101,7 @@ prefix-alone buffer mode complains events here rest front e only moves =
     answers-alone complains (RefusesAfter buffer mode complains events) here rest (span_at 0 0) events only refl refl e
     (λ r stops. record { here = here; rest = rest; front = front; stuck = stops }) moves
 
-given_by : (buffer : List ℕ) (mode : Mode) (complains : Token → Refusal → Type 0) {new : Now} {calls : List Call} {answers : List Answer} →
+given_by : (buffer : List ℕ) (mode : Mode) (complains : List ℕ → Token → Refusal → Type 0) {new : Now} {calls : List Call} {answers : List Answer} →
     RootComes buffer mode → ((node : Node) (value : Tree) → IsDocument buffer mode node value → ⊥) → AllNext calls →
     MovesAll complains (fresh buffer mode) calls answers new → GivenAlone buffer mode complains answers
 given_by buffer mode complains (document_comes node value d e) none only moves = absurd (none node value d)
@@ -114,7 +114,7 @@ given_by buffer mode complains (prefix_comes events here rest front e) none only
 }
 
 -- Where there is no document, what the longest prefix gives is answered, and then one refusal.
-pub given-alone : (buffer : List ℕ) (mode : Mode) (complains : Token → Refusal → Type 0) {new : Now} {calls : List Call} {answers : List Answer} →
+pub given-alone : (buffer : List ℕ) (mode : Mode) (complains : List ℕ → Token → Refusal → Type 0) {new : Now} {calls : List Call} {answers : List Answer} →
     ((node : Node) (value : Tree) → IsDocument buffer mode node value → ⊥) → AllNext calls →
     MovesAll complains (fresh buffer mode) calls answers new → GivenAlone buffer mode complains answers
 given-alone buffer mode complains none only moves = given_by buffer mode complains (input-comes buffer mode) none only moves

@@ -17,7 +17,7 @@ use Rattle.facet_json_protocol.proofs.Spans.AnswersWithin.{ComplainsWithin, move
 data AnswersNext : Answer → Type 0 where
   one : (result : Result (Option Event) Refusal) → AnswersNext (event result)
 
-module _ (complains : Token → Refusal → Type 0) (c : ComplainsWithin complains) where
+module _ (complains : List ℕ → Token → Refusal → Type 0) (c : ComplainsWithin complains) where
   answers-next : {now new : Now} {answer : Answer} → Moves complains now next answer new → AnswersNext answer
   answers-next (repeats r call answer e a) =
       let same : answer ≡ event (Err r) = cc in rw same (one (Err r))

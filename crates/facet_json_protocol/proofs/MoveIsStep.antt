@@ -68,7 +68,7 @@ more-upcoming w spot n k h le =
     let some = take k (drop spot.place w) in
     omega (arith, length-map some (λ p. p.event), length-take k (drop spot.place w), length-drop spot.place w)
 
-module _ (complains : Token → Refusal → Type 0) (now : Now) (w : List Passed) (c : Cursor) (stands : StandsAt now w c) where
+module _ (complains : List ℕ → Token → Refusal → Type 0) (now : Now) (w : List Passed) (c : Cursor) (stands : StandsAt now w c) where
   current : span_of now.standing ≡ current_span w c.spot
   current = span-on now.buffer now.mode w now.standing c.spot stands.standing
 

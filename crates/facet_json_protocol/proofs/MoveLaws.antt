@@ -41,7 +41,7 @@ leaves_refusal _ = true
 pub not_both : {o : Option Refusal} {r : Refusal} → o ≡ None → o ≡ Some r → ⊥
 not_both e f = cc
 
-module _ (complains : Token → Refusal → Type 0) where
+module _ (complains : List ℕ → Token → Refusal → Type 0) where
   -- Every call leaves the input and the mode.
   pub moves-input : (now new : Now) {call : Call} {answer : Answer} → Moves complains now call answer new →
       (new.buffer ≡ now.buffer) × (new.mode ≡ now.mode)
@@ -177,7 +177,7 @@ module _ (complains : Token → Refusal → Type 0) where
       (rest.0, cursor.one_call c step.0 rest.0 call answer calls answers step.1 rest.1, rest.2)
 
 -- On a document a new parser answers every list of calls as the cursor does from its start.
-pub document-run : (complains : Token → Refusal → Type 0) (buffer : List ℕ) (mode : Mode) (node : Node) (value : Tree)
+pub document-run : (complains : List ℕ → Token → Refusal → Type 0) (buffer : List ℕ) (mode : Mode) (node : Node) (value : Tree)
     {new : Now} {calls : List Call} {answers : List Answer} → IsDocument buffer mode node value →
     MovesAll complains (fresh buffer mode) calls answers new →
     (d : Cursor) × Run (walk (meaning buffer) node) start calls answers d × StandsAt new (walk (meaning buffer) node) d

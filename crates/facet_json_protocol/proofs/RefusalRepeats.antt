@@ -21,7 +21,7 @@ repeats-same q r save answer e f = let same : saved (Err q) ≡ answer = cc in c
 repeats-same q r (restore point) answer e f = cc
 repeats-same q r span answer e f = cc
 
-module _ (complains : Token → Refusal → Type 0) where
+module _ (complains : List ℕ → Token → Refusal → Type 0) where
   -- A call for events that is refused leaves the parser refused so.
   pub refused-sticks : (now new : Now) {call : Call} {answer : Answer} (r : Refusal) → Moves complains now call answer new →
       refusal_in answer ≡ Some r → new.refusal ≡ Some r

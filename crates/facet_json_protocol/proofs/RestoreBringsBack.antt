@@ -21,7 +21,7 @@ pub record IsKept (now : Now) (point : ℕ) (s : Standing) : Type 0 where
 pub fresh-up_to : (buffer : List ℕ) (mode : Mode) → AreUpTo (fresh buffer mode).counter (fresh buffer mode).kept
 fresh-up_to buffer mode number less = refl
 
-module _ (complains : Token → Refusal → Type 0) where
+module _ (complains : List ℕ → Token → Refusal → Type 0) where
   -- Points are numbered up to the counter.
   pub moves-up_to : (now new : Now) {call : Call} {answer : Answer} → Moves complains now call answer new →
       AreUpTo now.counter now.kept → AreUpTo new.counter new.kept
@@ -108,6 +108,6 @@ module _ (complains : Token → Refusal → Type 0) where
       let same : r ≡ no_memory_at (span_of now.standing) = cc in rw same (no_memory h, refl)
 
 -- After whatever calls of a new parser no point has the next number.
-pub numbers-new : (complains : Token → Refusal → Type 0) (buffer : List ℕ) (mode : Mode) (now : Now) {calls : List Call}
+pub numbers-new : (complains : List ℕ → Token → Refusal → Type 0) (buffer : List ℕ) (mode : Mode) (now : Now) {calls : List Call}
     {answers : List Answer} → MovesAll complains (fresh buffer mode) calls answers now → found (suc now.counter) now.kept ≡ None
 numbers-new complains buffer mode now all = all-up_to complains all (fresh-up_to buffer mode) (suc now.counter) (omega arith)

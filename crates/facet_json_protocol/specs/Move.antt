@@ -61,7 +61,7 @@ back_at now point s = record now { standing = s; refusal = None; kept = without 
 -- ---- moves
 
 -- The call may be answered so, and leaves the parser so.
-pub data Moves (complains : Token → Refusal → Type 0) (now : Now) : Call → Answer → Now → Type 0 where
+pub data Moves (complains : List ℕ → Token → Refusal → Type 0) (now : Now) : Call → Answer → Now → Type 0 where
   repeats : (r : Refusal) (call : Call) (answer : Answer) → now.refusal ≡ Some r → repeated r call ≡ Some answer →
       Moves complains now call answer now
   passes : (p : Passed) (future : Future) (s : Standing) → now.refusal ≡ None → future_of now ≡ gives p future →
@@ -117,7 +117,7 @@ pub data Moves (complains : Token → Refusal → Type 0) (now : Now) : Call →
   tells : Moves complains now span (spans (Some (span_of now.standing))) now
 
 -- All calls in order are answered so.
-pub data MovesAll (complains : Token → Refusal → Type 0) : Now → List Call → List Answer → Now → Type 0 where
+pub data MovesAll (complains : List ℕ → Token → Refusal → Type 0) : Now → List Call → List Answer → Now → Type 0 where
   no_calls : (now : Now) → MovesAll complains now [] [] now
   one_call : (now between new : Now) (call : Call) (answer : Answer) (calls : List Call) (answers : List Answer) →
       Moves complains now call answer between → MovesAll complains between calls answers new →

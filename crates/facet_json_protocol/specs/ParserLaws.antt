@@ -26,7 +26,7 @@ NewStands = (buffer : List ℕ) (mode : Mode) (node : Node) (value : Tree) → I
     StandsAt (fresh buffer mode) (walk (meaning buffer) node) start
 
 -- What a new parser answers by the next event alone, where there is no document.
-pub record GivenAlone (buffer : List ℕ) (mode : Mode) (complains : Token → Refusal → Type 0) (answers : List Answer) : Type 0 where
+pub record GivenAlone (buffer : List ℕ) (mode : Mode) (complains : List ℕ → Token → Refusal → Type 0) (answers : List Answer) : Type 0 where
   pub events : List Passed
   pub here : Place
   pub rest : Tokens

@@ -1,26 +1,35 @@
 -- How a string or number without a meaning is refused where it is read.
-use Rattle.std.proofs.Common.{◌≡◌, ℕ, ◌+◌, Bool, true, false, List, refl, sym, ap, arith}
+use Rattle.std.proofs.Common.{◌≡◌, ℕ, Bool, true, false, List, codes, refl, sym, ap, ◌∙◌}
 use Rattle.std.specs.Prelude.{slice_range}
 use Rattle.std.specs.Option.{option_map}
-use Rattle.std.proofs.lemmas.List.Edits.{length-between}
 use Rattle.facet_format.specs.declared.span.Span.{Span as RustSpan}
 use Rattle.facet_json_token.specs.declared.token.ScanError.{ScanError}
+use Rattle.facet_json_token.specs.declared.token.ScanErrorKind.{ScanErrorKind}
+use Rattle.facet_json_token.specs.declared.token.ScanErrorKind.TheVariants as scan
+use Rattle.facet_json_token.specs.Views.{scan_complaint, scan_refusal}
 use Rattle.facet_format.specs.Complaint.{Refusal, refusal_at, invalid_utf8}
-use Rattle.facet_format.specs.Span.{span_at}
 use Rattle.facet_format.specs.Views.{span_of}
+use Rattle.facet_json_decode.specs.Fault.{Fault, FaultKind, ends_in_escape, ends_in_digits, not_digits, no_character, fault_complaint, fault_refusal}
 use Rattle.facet_json_decode.specs.Views.{IsItsText, TellsFirstFault}
 use Rattle.facet_json_token.specs.Token as token
-use Rattle.facet_json_decode.proofs.FaultLaws.{fault-within}
 use Rattle.facet_json_decode.proofs.FaultSteps.{told-no_text}
 use Rattle.facet_json_decode.proofs.PlainText.{decoded-plain_none}
-use Rattle.facet_json_document.specs.Refusal.{IsBetweenQuotes, of_plain_string, of_escaped_string}
+use Rattle.facet_json_document.specs.Refusal.{of_plain_string, of_escaped_string}
 use Rattle.facet_json_document.specs.Tree as tree
-use Rattle.facet_json_place.specs.Views.{IsPassedOn}
+use Rattle.facet_json_place.specs.Views.{SaysEndText, IsPassedOn, an_escape, digits}
 use Rattle.facet_json_reader.specs.TokenViews.{IsContent, IsMeaningless}
 
--- A refusal that is passed on is over the same bytes.
-bytes_of_refusal : (e : ScanError) (r : Refusal) → IsPassedOn e r → r ≡ refusal_at r.complaint (span_of e.span)
-bytes_of_refusal e r p = let bytes = p.same_bytes in rw (← bytes) refl
+-- A fault's refusal says a text that is known.
+fault-says : (start : ℕ) (e : ScanError) (f : Fault) → scan_refusal e ≡ fault_refusal start f → SaysEndText e.kind
+fault-says start e f told = by e.kind f.kind (ap (λ r. r.complaint) told)
+  where
+    by : (k : ScanErrorKind) (kind : FaultKind) → scan_complaint k ≡ fault_complaint kind → SaysEndText k
+    by (scan.UnexpectedChar c) kind same = tt
+    by scan.InvalidUtf8 kind same = tt
+    by (scan.UnexpectedEof text) ends_in_escape same = let is : text.now ≡ codes "in escape sequence" = cc in rw is an_escape
+    by (scan.UnexpectedEof text) ends_in_digits same = let is : text.now ≡ codes "in unicode escape" = cc in rw is digits
+    by (scan.UnexpectedEof text) not_digits same = cc
+    by (scan.UnexpectedEof text) no_character same = cc
 
 module _ (buffer : List ℕ) (s : RustSpan) (start finish : ℕ) where
   -- ---- strings
@@ -31,17 +40,11 @@ module _ (buffer : List ℕ) (s : RustSpan) (start finish : ℕ) where
       IsMeaningless buffer (token.string start finish h) (span_of s) r
   escaped_unread true e r h is t p =
       let none = told-no_text (slice_range buffer start finish) start e t in
-      let inside = fault-within (slice_range buffer start finish) t.fault t.is_first in
-      let size = length-between buffer start finish is.within in
-      let spans : span_of e.span ≡ span_at (start + t.fault.bytes.offset) t.fault.bytes.len = cc (ap (λ x. x.span) t.told) in
-      let offset : e.span.offset ≡ start + t.fault.bytes.offset = ap (λ x. x.offset) spans in
-      let len : e.span.len ≡ t.fault.bytes.len = ap (λ x. x.len) spans in
-      let between : IsBetweenQuotes (span_of s) (span_of e.span) =
-      (omega (arith, is.starts, offset), omega (arith, is.finishes, is.ordered, inside, size, offset, len)) in
+      let same = p (fault-says start e t.fault t.told) in
       record {
         judged = refl;
         meaningless = ap (option_map tree.text) none;
-        refused = of_escaped_string start finish r.complaint (span_of e.span) refl p.why.decodes between (bytes_of_refusal e r p);
+        refused = of_escaped_string start finish t.fault refl t.is_first (same ∙ t.told);
       }
   escaped_unread false e r h is t p = cc
 

@@ -8,6 +8,7 @@ use Rattle.facet_format.specs.Span.{Span, stop}
 use Rattle.facet_json_token.specs.Gap.{Mode}
 use Rattle.facet_json_token.specs.Token.{Token}
 use Rattle.facet_json_token.specs.Tokens.{Tokens, ended, refused, next, tokens_from}
+use Rattle.facet_json_decode.proofs.FaultLaws.{fault-in_buffer}
 use Rattle.facet_json_document.specs.Future.{Future, stuck, Stage, within, over, Turn, stops, passes, says, says_scalar, names, turn, reads, reads_colon}
 use Rattle.facet_json_document.specs.Meaning.{Meaning, meaning}
 use Rattle.facet_json_document.specs.Place.{Place, is_colon}
@@ -60,12 +61,12 @@ module _ (buffer : List ℕ) (m : Meaning) where
   rest_within stack (within p) (next t rest) ts place e (at_a_token _ _ s w) =
       turn_within stack p t rest ts place (turn m stack p t) (sym (reads-turn m stack p t rest (turn m stack p t) refl) ∙ e) (at_a_token t rest s w) w (λ others stage x. rest_within others stage rest ts place x w)
 
--- A token without a meaning is refused for some of its bytes.
-complains_within : (buffer : List ℕ) (t : Token) (r : Refusal) → Complains t r → stop t.span ≤ length buffer →
+-- A token without a meaning is refused for some bytes of the buffer.
+complains_within : (buffer : List ℕ) (t : Token) (r : Refusal) → Complains buffer t r → stop t.span ≤ length buffer →
     IfSome r.span (λ s. stop s ≤ length buffer)
 complains_within buffer t r (of_number k e) w = rw e w
 complains_within buffer t r (of_plain_string a b k e) w = rw e w
-complains_within buffer t r (of_escaped_string a b complaint bytes k c between e) w = rw e (omega (arith, between.1, w))
+complains_within buffer t r (of_escaped_string a b f k is e) w = rw e (fault-in_buffer buffer a b f is)
 
 stops_within : (buffer : List ℕ) (place : Place) (ts : Tokens) (r : Refusal) → StopsAt buffer place ts r →
     AreWithin buffer ts → IfSome r.span (λ s. stop s ≤ length buffer)

@@ -21,10 +21,10 @@ use Rattle.facet_json_token.proofs.CutBounds.{TokenFits, KindFits, StringFits, N
 use Rattle.facet_json_token.proofs.TokensSteps.{tokens_from-token, tokens_from-fault, tokens_from-nothing}
 use Rattle.facet_json_document.specs.Place.{Place, complaint_of_fault}
 use Rattle.facet_json_document.specs.Refusal.{at_fault}
-use Rattle.facet_json_place.specs.Views.{IsCutError, IsPassedOn}
+use Rattle.facet_json_place.specs.Views.{SaysEndText, IsPassedOn}
 use Rattle.facet_json_reader.specs.TokenViews.{CanBeRead}
 use Rattle.facet_json_reader.specs.Views.{StopsAt}
-use Rattle.facet_json_place.proofs.FaultTexts.{SaysCutText, cut-says}
+use Rattle.facet_json_place.proofs.FaultTexts.{FaultSaysText, cut-says}
 
 -- ---- a token
 
@@ -111,7 +111,7 @@ record FaultAnswer (e : ScanError) (c : Cut) : Type 0 where
   what : Fault
   is_fault : c ≡ fault what
   passed_on : refusal_at (scan_complaint e.kind) (span_of e.span) ≡ refusal_at (complaint_of_fault what.kind) what.span
-  says : SaysCutText what.kind → IsCutError e.kind
+  says : FaultSaysText what.kind → SaysEndText e.kind
 
 fault_answer-is : (s : RustSpan) (kind : ScanErrorKind) (c : Cut) → fault_answer s kind ≡ Some c →
     FaultAnswer (record { kind = kind; span = s }) c
@@ -129,11 +129,6 @@ fault_answer-is s (scan.UnexpectedEof text) c e = record {
 }
 fault_answer-is s scan.InvalidUtf8 c e = cc
 
--- How a fault that is cut is passed on.
-passed_as : (e : ScanError) (r : Refusal) → IsCutError e.kind → IsPassedOn e r →
-    r ≡ refusal_at (scan_complaint e.kind) (span_of e.span)
-passed_as e r is p = let why = p.why.cuts is in let bytes = p.same_bytes in rw (← why, ← bytes) refl
-
 -- A fault stops the reader wherever it stands.
 pub fault-stops : (buffer : List ℕ) (position : ℕ) (mode : Mode) (e : ScanError) (place : Place) (r : Refusal) →
     scanned (Err e) ≡ Some (cut buffer position mode) → IsPassedOn e r →
@@ -141,4 +136,4 @@ pub fault-stops : (buffer : List ℕ) (position : ℕ) (mode : Mode) (e : ScanEr
 fault-stops buffer position mode e place r h p =
     let a : FaultAnswer e (cut buffer position mode) = fault_answer-is e.span e.kind _ h in
     let is = a.says (cut-says buffer position mode a.what a.is_fault) in
-    rw (passed_as e r is p, a.passed_on, tokens_from-fault buffer position mode a.what a.is_fault) (at_fault place a.what)
+    rw (p is, a.passed_on, tokens_from-fault buffer position mode a.what a.is_fault) (at_fault place a.what)

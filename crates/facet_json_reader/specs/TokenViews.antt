@@ -110,4 +110,4 @@ IsRead buffer kind (Some t) = IsReadAs buffer kind t.kind
 pub record IsMeaningless (buffer : List ℕ) (kind : Kind) (s : Span) (refusal : Refusal) : Type 0 where
   pub judged : needs_meaning kind ≡ true
   pub meaningless : meaning_of buffer kind ≡ None
-  pub refused : Complains (record { kind = kind; span = s }) refusal
+  pub refused : Complains buffer (record { kind = kind; span = s }) refusal

@@ -5,6 +5,7 @@ use Rattle.facet_json_token.specs.Gap.{Mode}
 use Rattle.facet_format.specs.Span.{Span, stop}
 use Rattle.facet_json_token.specs.Token.{Token}
 use Rattle.facet_json_token.specs.Tokens.{Tokens}
+use Rattle.facet_json_decode.proofs.FaultLaws.{fault-in_buffer}
 use Rattle.facet_json_document.specs.Meaning.{meaning}
 use Rattle.facet_json_document.specs.Place.{Place, root}
 use Rattle.facet_format.specs.Complaint.{Refusal}
@@ -107,23 +108,20 @@ with_point-sound buffer mode number s _ (one_kept point t points sound more) her
 
 -- ---- refusals
 
--- A token without a meaning is refused with a span within the token.
-abbrev pub ComplainsWithin : (Token → Refusal → Type 0) → Type 0
-ComplainsWithin complains = (t : Token) (r : Refusal) → complains t r → IfSome r.span (λ s. stop s ≤ stop t.span)
+-- A token of the buffer without a meaning is refused with a span within the buffer.
+abbrev pub ComplainsWithin : (List ℕ → Token → Refusal → Type 0) → Type 0
+ComplainsWithin complains = (buffer : List ℕ) (t : Token) (r : Refusal) → stop t.span ≤ length buffer → complains buffer t r →
+    IfSome r.span (λ s. stop s ≤ length buffer)
 
-if_weaker : (o : Option Span) (a b : ℕ) → a ≤ b → IfSome o (λ s. stop s ≤ a) → IfSome o (λ s. stop s ≤ b)
-if_weaker None a b h w = w
-if_weaker (Some s) a b h w = omega arith
-
-stuck-within : (complains : Token → Refusal → Type 0) (buffer : List ℕ) (mode : Mode) (place : Place) (rest : Tokens) (r : Refusal) (from : ℕ) →
+stuck-within : (complains : List ℕ → Token → Refusal → Type 0) (buffer : List ℕ) (mode : Mode) (place : Place) (rest : Tokens) (r : Refusal) (from : ℕ) →
     ComplainsWithin complains → IsStuck buffer (meaning buffer) complains place rest r → InOrder buffer from rest → RefusalWithin buffer r
 stuck-within complains buffer mode place _ r from c (at_end _) o = omega arith
 stuck-within complains buffer mode place _ r from c (at_fault _ f) (at_a_fault _ _ w) = w
 stuck-within complains buffer mode place _ r from c (meaningless _ t rest _ k n q) (at_a_token _ _ _ b w more) =
-    if_weaker r.span (stop t.span) (length buffer) w (c t r q)
+    c buffer t r w q
 stuck-within complains buffer mode place _ r from c (misplaced _ t rest k n) (at_a_token _ _ _ b w more) = w
 
-stuck_sound : (complains : Token → Refusal → Type 0) (buffer : List ℕ) (mode : Mode) (place : Place) (rest : Tokens) (r : Refusal) (from : ℕ) →
+stuck_sound : (complains : List ℕ → Token → Refusal → Type 0) (buffer : List ℕ) (mode : Mode) (place : Place) (rest : Tokens) (r : Refusal) (from : ℕ) →
     ComplainsWithin complains → IsStuck buffer (meaning buffer) complains place rest r → IsSound buffer from (stuck place rest) → RefusalWithin buffer r
 stuck_sound complains buffer mode place rest r from c s (sound_stuck _ _ _ o) = stuck-within complains buffer mode place rest r from c s o
 
@@ -134,7 +132,7 @@ pub record MovedSound (now new : Now) (answer : Answer) : Type 0 where
   pub parser : NowSound new
   pub within : AnswerWithin now.buffer answer
 
-module _ (complains : Token → Refusal → Type 0) (c : ComplainsWithin complains) (now : Now) (good : NowSound now) where
+module _ (complains : List ℕ → Token → Refusal → Type 0) (c : ComplainsWithin complains) (now : Now) (good : NowSound now) where
   settled : (s : Standing) → StandsSound now.buffer now.mode s → NowSound (record now { standing = s })
   settled s stands = record { standing = stands; kept = good.kept; refusal = good.refusal }
 
@@ -319,8 +317,8 @@ module _ (complains : Token → Refusal → Type 0) (c : ComplainsWithin complai
   events-lower new limit n given answer a (gives_up k others last place rest r s none all le stops shows) = cc
   events-lower new limit n given answer a (gives_without_memory k others last p future s none all le shows) = cc
 
--- A token without a meaning is refused with a span within the token.
+-- A token of the buffer without a meaning is refused with a span within the buffer.
 pub complains-within : ComplainsWithin Complains
-complains-within t r (of_number k e) = rw e (omega arith)
-complains-within t r (of_plain_string start finish k e) = rw e (omega arith)
-complains-within t r (of_escaped_string start finish complaint bytes k c between e) = rw e (omega (arith, between.1))
+complains-within buffer t r w (of_number k e) = rw e w
+complains-within buffer t r w (of_plain_string start finish k e) = rw e w
+complains-within buffer t r w (of_escaped_string start finish f k is e) = rw e (fault-in_buffer buffer start finish f is)
