@@ -6,3 +6,4 @@ pub mod NumberPrefixes
 pub mod NumberLaws
 pub mod NumberSteps
 pub mod NumberText
+pub mod RefusalKinds

@@ -1,6 +1,6 @@
 -- What the text of a number stands for: the value of its digits, or with a dot or an exponent mark the text.
 use Rattle.std.proofs.Common.{◌≡◌, ℕ, zero, suc, ◌+◌, ◌-◌, ◌*◌, ◌<◌, ◌≤◌, Bool, true, false, cond, List, [], ◌∷◌, ◌++◌, length, take, drop, get_or, Some, None, refl, sym, ap, ◌∙◌, subst, inl, inr, lit<, arith, length-drop}
-use Rattle.std.specs.Prelude.{not, nat_le, ◌==◌, ◌||◌, IsUtf8}
+use Rattle.std.specs.Prelude.{nat_le, ◌==◌, ◌||◌, IsUtf8}
 use Rattle.std.specs.List.{list_any}
 use Rattle.std.proofs.lemmas.Bool.{and_parts, or_cases, eqb-true, leb-true}
 use Rattle.std.proofs.lemmas.List.{drop_more, append-nil, take_all}
@@ -127,19 +127,14 @@ any_digit-is : (bytes : List ℕ) → list_any is_digit bytes ≡ any_digit byte
 any_digit-is [] = refl
 any_digit-is (b ∷ bytes) = ap (λ t. is_digit b || t) (any_digit-is bytes)
 
--- A part of some length is there.
-some_len : (n : ℕ) → (n ≡ 0 → ⊥) → not (is_some_len n) ≡ false
-some_len zero some = absurd (some refl)
-some_len (suc n) some = refl
-
 -- Where a digit stands before an exponent mark, the number has a value if one stands after it.
 pub has_value-behind : (p : Parts) (text before exponent : List ℕ) →
     before ≡ take (p.sign + p.digits + p.fraction) text → exponent ≡ drop (p.sign + p.digits + p.fraction) text →
-    list_any is_digit before ≡ true → (p.exponent ≡ 0 → ⊥) → list_any is_digit exponent ≡ has_value p text
+    list_any is_digit before ≡ true → is_some_len p.exponent ≡ true → list_any is_digit exponent ≡ has_value p text
 has_value-behind p text before exponent b e some mark =
     let front : any_digit (take (p.sign + p.digits + p.fraction) text) ≡ true =
     sym (any_digit-is before ∙ ap any_digit b) ∙ some in
-    any_digit-is exponent ∙ ap any_digit e ∙ rw (front, some_len p.exponent mark) refl
+    any_digit-is exponent ∙ ap any_digit e ∙ rw (front, mark) refl
 
 -- ---- a number's text is ASCII
 

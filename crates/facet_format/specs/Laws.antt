@@ -1,8 +1,12 @@
--- What the definitions of numbers and cursors mean, in the subject's own words. Each law is the contract of a function of the module `laws`.
+-- What the definitions of numbers, refusals and cursors mean, in the subject's own words. Each law is the contract of a function of the module `laws`.
 use Rattle.std.specs.Prelude.{◌≡◌, ℕ, ◌≤◌, ◌↔◌, true, false, List, length, take}
 use Rattle.facet_format.specs.Event.{Passed}
 use Rattle.facet_format.specs.Cursor.{Cursor, Call, Step, Run, Answer, next, peek}
 use Rattle.facet_format.specs.Agree.{Agree, AgreeToLack}
+use Rattle.facet_format.specs.Complaint.{out_of_memory}
+use Rattle.facet_format.specs.declared.error.DeserializeErrorKind.{DeserializeErrorKind}
+use Rattle.facet_format.specs.declared.error.DeserializeErrorKind.TheVariants as error
+use Rattle.facet_format.specs.Views.{complaint_of}
 use Rattle.facet_format.specs.Number.{Hint, IsNumber, parts, parts_len, parts_hint, is_bare, begins_number, is_number}
 
 -- Where more than a minus stands, the number at the start is a number, and no longer prefix of the bytes is one.
@@ -15,6 +19,10 @@ NumberIsLongest = (bytes : List ℕ) → begins_number bytes ≡ true → is_bar
 -- A text is tested to be a number with a hint exactly where it is one.
 abbrev pub NumberIsTested : Type 0
 NumberIsTested = (text : List ℕ) (hint : Hint) → (is_number text hint ≡ true) ↔ IsNumber text hint
+
+-- What is refused as out of memory has the kind `OutOfMemory`.
+abbrev pub MemoryIsItsKind : Type 0
+MemoryIsItsKind = (kind : DeserializeErrorKind) → complaint_of kind ≡ out_of_memory → kind ≡ error.OutOfMemory
 
 -- The call after a peek answers what the peek did.
 abbrev pub PeekIsNext : Type 0

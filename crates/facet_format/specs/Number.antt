@@ -1,5 +1,5 @@
 -- Numbers (RFC 8259, section 6), read leniently: each run of digits may be empty, and leading zeros may stand.
-use Rattle.std.specs.Prelude.{◌≡◌, ◌≢◌, ℕ, zero, suc, ◌+◌, ◌-◌, ◌*◌, ◌^◌, Bool, true, false, cond, not, ◌==◌, ◌&&◌, ◌||◌, nat_lt, nat_le, List, [], ◌∷◌, ◌++◌, length, take, drop, Option, Some, None, ℤ, pos, neg_ℤ}
+use Rattle.std.specs.Prelude.{◌≡◌, ◌≢◌, ◌≤◌, ℕ, zero, suc, ◌+◌, ◌-◌, ◌*◌, ◌^◌, Bool, true, false, cond, not, ◌==◌, ◌&&◌, ◌||◌, nat_lt, nat_le, List, [], ◌∷◌, ◌++◌, length, take, drop, Option, Some, None, ℤ, pos, neg_ℤ}
 use Rattle.facet_format.specs.Bytes.{is_digit, is_exponent_mark, is_sign, minus, dot}
 
 -- what stands in a number: digits alone, a minus but neither dot nor exponent mark, or one of these
@@ -104,6 +104,10 @@ parts bytes =
 
 abbrev pub parts_len : Parts → ℕ
 parts_len p = p.sign + p.digits + p.fraction + p.exponent
+
+-- these are the parts of the text, and none goes beyond it
+abbrev pub ArePartsOf : List ℕ → Parts → Type 0
+ArePartsOf text p = (p ≡ parts text) × (parts_len p ≤ length text)
 
 abbrev pub is_some_len : ℕ → Bool
 is_some_len zero = false

@@ -1,10 +1,9 @@
 -- What the types of the code stand for in the definitions. This file and `HeldText` name types of the code.
-use Rattle.std.specs.Prelude.{◌≡◌, ◌≤◌, ℕ, List, map, length, Option, Result, Ok, Err}
+use Rattle.std.specs.Prelude.{ℕ, List, map, Option, Some, None, Result, Ok, Err}
 use Rattle.std.specs.Option.{option_map}
 use Rattle.facet_format.specs.declared.span.Span.{Span as RustSpan}
 use Rattle.facet_format.specs.declared.numeral.NumberHint.{NumberHint}
 use Rattle.facet_format.specs.declared.numeral.NumberHint.TheVariants as hint
-use Rattle.facet_format.specs.declared.numeral.Parts.{Parts as RustParts}
 use Rattle.facet_format.specs.declared.error.DeserializeErrorKind.{DeserializeErrorKind}
 use Rattle.facet_format.specs.declared.error.DeserializeErrorKind.TheVariants as error
 use Rattle.facet_format.specs.declared.error.DeserializeError.{DeserializeError}
@@ -17,7 +16,7 @@ use Rattle.facet_format.specs.declared.event.ParseEventKind.{ParseEventKind}
 use Rattle.facet_format.specs.declared.event.ParseEventKind.TheVariants as kind
 use Rattle.facet_format.specs.declared.event.ParseEvent.{ParseEvent}
 use Rattle.facet_format.specs.declared.event.SavePoint.{SavePoint}
-use Rattle.facet_format.specs.Number.{Hint, unsigned, signed, float, Parts, parts, parts_len}
+use Rattle.facet_format.specs.Number.{Hint, unsigned, signed, float}
 use Rattle.facet_format.specs.Span.{Span}
 use Rattle.facet_format.specs.Complaint.{Complaint, Refusal}
 use Rattle.facet_format.specs.Complaint as complaint
@@ -35,13 +34,6 @@ hint_of hint.Unsigned = unsigned
 hint_of hint.Signed = signed
 hint_of hint.Float = float
 
-abbrev pub parts_of : RustParts → Parts
-parts_of p = record { sign = p.sign; digits = p.digits; fraction = p.fraction; exponent = p.exponent }
-
--- these are the parts of the text, and none goes beyond it
-abbrev pub ArePartsOf : List ℕ → RustParts → Type 0
-ArePartsOf text p = (parts_of p ≡ parts text) × (parts_len (parts_of p) ≤ length text)
-
 abbrev pub complaint_of : DeserializeErrorKind → Complaint
 complaint_of (error.UnexpectedChar ch expected) = complaint.unexpected_char ch expected.now
 complaint_of (error.UnexpectedEof expected) = complaint.unexpected_eof expected.now
@@ -57,8 +49,16 @@ complaint_of error.SaveLimit = complaint.save_limit
 abbrev pub refusal_of : DeserializeError → Refusal
 refusal_of e = record { complaint = complaint_of e.kind; span = option_map span_of e.span }
 
+-- a growth was refused, which has no place in the input
+abbrev pub memory_refused : DeserializeError
+memory_refused = record { kind = error.OutOfMemory; span = None }
+
 abbrev pub parse_refusal : ParseError → Refusal
 parse_refusal e = complaint.refusal_at (complaint_of e.kind) (span_of e.span)
+
+-- the same refusal, at the same place
+abbrev pub passed_on : ParseError → DeserializeError
+passed_on e = record { kind = e.kind; span = Some e.span }
 
 abbrev pub container_of : RustContainerKind → ContainerKind
 container_of container.Object = event.object

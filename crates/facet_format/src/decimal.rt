@@ -6,8 +6,7 @@ ghost use Rattle.std.specs.Cmp.{partial_equiv_from_equiv, on_per, on_equiv};
 ghost use Rattle.std.specs.Cmp.Lexicographic.{pointwise, nat_list_eq_equiv};
 ghost use Rattle.facet_format.specs.Bytes.{is_digit};
 ghost use Rattle.facet_format.specs.Event.{borrowed, owned, bytes_of, is_owned};
-ghost use Rattle.facet_format.specs.Number.{number, is_number, float, decimal, has_value};
-ghost use Rattle.facet_format.specs.Views.{parts_of, ArePartsOf};
+ghost use Rattle.facet_format.specs.Number.{number, is_number, float, decimal, has_value, ArePartsOf};
 
 use crate::numeral::{NumberHint, Parts, number_parts};
 use std::alloc::{AllocError, Global};
@@ -118,10 +117,10 @@ impl<'a> Decimal<'a> {
 /// Whether a digit stands before any exponent mark, and one after it, in a number of these parts.
 fn has_value(text: &[u8], parts: Parts) -> bool
     requires { ArePartsOf text.now parts }
-    ensures { result ≡ has_value (parts_of parts) text.now }
+    ensures { result ≡ has_value parts text.now }
 {
     let (before, exponent) = text.split_at(parts.exponent_start());
-    any_digit(before) && (parts.exponent == 0 || any_digit(exponent))
+    any_digit(before) && (!parts.has_exponent() || any_digit(exponent))
 }
 
 /// Whether a digit stands there.

@@ -2,7 +2,7 @@
 
 ghost use Rattle.std.specs.Prelude.{◌≡◌};
 ghost use Rattle.facet_format.specs.Complaint.{code_of, no_memory};
-ghost use Rattle.facet_format.specs.Views.{refusal_of, complaint_of};
+ghost use Rattle.facet_format.specs.Views.{refusal_of, complaint_of, memory_refused};
 
 use crate::span::Span;
 use std::alloc::{AllocError, AllocFailed};
@@ -71,7 +71,8 @@ pub struct DeserializeError<'t> {
 impl<'t> DeserializeError<'t> {
     /// The refusal of a growth, which has no place in the input.
     pub fn out_of_memory() -> DeserializeError<'t>
-        ensures { refusal_of result ≡ no_memory }
+        ensures refusal { refusal_of result ≡ no_memory }
+        ensures error { result ≡ memory_refused }
     {
         DeserializeError {
             kind: DeserializeErrorKind::OutOfMemory,
@@ -81,7 +82,7 @@ impl<'t> DeserializeError<'t> {
 }
 
 impl From<AllocError> for DeserializeError<'_> {
-    ghost from_gives = { λ _ e. refusal_of e ≡ no_memory };
+    ghost from_gives = { λ _ e. e ≡ memory_refused };
 
     fn from(_e: AllocError) -> Self {
         DeserializeError::out_of_memory()
@@ -89,7 +90,7 @@ impl From<AllocError> for DeserializeError<'_> {
 }
 
 impl<T: Drop> From<AllocFailed<T>> for DeserializeError<'_> {
-    ghost from_gives = { λ _ e. refusal_of e ≡ no_memory };
+    ghost from_gives = { λ _ e. e ≡ memory_refused };
 
     fn from(_e: AllocFailed<T>) -> Self {
         DeserializeError::out_of_memory()

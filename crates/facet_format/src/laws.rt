@@ -1,7 +1,7 @@
-//! What the definitions of numbers and cursors mean, in the subject's own words: each law is the contract of a function
+//! What the definitions of numbers, refusals and cursors mean, in the subject's own words: each law is the contract of a function
 //! without effect.
 
-ghost use Rattle.facet_format.specs.Laws.{NumberIsLongest, NumberIsTested, PeekIsNext, StepsAgree, RunsAgree};
+ghost use Rattle.facet_format.specs.Laws.{NumberIsLongest, NumberIsTested, MemoryIsItsKind, PeekIsNext, StepsAgree, RunsAgree};
 
 /// Where more than a minus stands, the number at the start of the bytes is a number, and no longer prefix of them is one
 /// (RFC 8259, section 6).
@@ -12,6 +12,11 @@ pub fn number_is_longest()
 /// A text is tested to be a number with a hint exactly where it is one (RFC 8259, section 6).
 pub fn number_is_tested()
     ensures { NumberIsTested }
+{}
+
+/// What is refused as out of memory has the kind `OutOfMemory`.
+pub fn memory_is_its_kind()
+    ensures { MemoryIsItsKind }
 {}
 
 /// A peek is the next event: the call after it answers what it did, a refusal too, and out of memory comes between

@@ -1,8 +1,10 @@
 //! The parts of a number (RFC 8259, section 6, leniently): a minus, digits, a fraction and an exponent.
 
 ghost use Rattle.std.specs.Prelude.{◌≡◌, ◌+◌, ◌^◌, ◌<◌, ◌≤◌, true, false, length, drop, MatchOption};
-ghost use Rattle.facet_format.specs.Number.{minus_len, digits_len, fraction_len, sign_len, exponent_len, parts, parts_len, parts_hint, is_bare, begins_number, is_number};
-ghost use Rattle.facet_format.specs.Views.{hint_of, parts_of, ArePartsOf};
+ghost use Rattle.facet_format.specs.Number.{minus_len, digits_len, fraction_len, sign_len, exponent_len, parts, parts_len, parts_hint, is_bare, is_some_len, begins_number, is_number, ArePartsOf};
+ghost use Rattle.facet_format.specs.Views.{hint_of};
+
+use std::marker::Model;
 
 /// What stands in a number, from its bytes alone.
 #[derive(Debug, Clone, Copy, PartialEq)]
@@ -15,46 +17,71 @@ pub enum NumberHint {
     Float,
 }
 
-/// How long each part is of the longest number at some place, 0 where the part is missing.
+/// How long each part is of the longest number at some place, 0 where the part is missing. All of them together are an offset.
 #[derive(Debug, Clone, Copy)]
 pub struct Parts {
     /// The minus.
-    pub sign: usize,
+    sign: usize,
     /// The digits.
-    pub digits: usize,
+    digits: usize,
     /// The dot and its digits.
-    pub fraction: usize,
+    fraction: usize,
     /// The exponent mark, its sign and its digits.
-    pub exponent: usize,
+    exponent: usize,
+}
+
+impl Model for Parts {
+    ghost use Rattle.std.specs.Prelude.{◌+◌, ◌<◌, ◌^◌};
+    ghost use Rattle.facet_format.specs.Number.{Parts as Lengths};
+
+    ghost Value = { Lengths };
+
+    ghost view = { λ p. record { sign = p.sign; digits = p.digits; fraction = p.fraction; exponent = p.exponent } };
+
+    ghost inverse = { λ p. record { sign = p.sign; digits = p.digits; fraction = p.fraction; exponent = p.exponent } };
+
+    ghost invariant = { λ p. p.sign + p.digits + p.fraction + p.exponent < 2 ^ 64 };
 }
 
 impl Parts {
     /// How long the number is.
     pub fn len(self) -> usize
-        requires { parts_len (parts_of self) < 2 ^ 64 }
-        ensures { result ≡ parts_len (parts_of self) }
+        ensures { result ≡ parts_len self }
     {
         self.exponent_start() + self.exponent
     }
 
+    /// Where the digits start, or would start: after the minus.
+    pub fn digits_start(self) -> usize
+        ensures { result ≡ self.sign }
+    {
+        self.sign
+    }
+
     /// Where the exponent starts, or would start.
     pub fn exponent_start(self) -> usize
-        requires { parts_len (parts_of self) < 2 ^ 64 }
         ensures { result ≡ self.sign + self.digits + self.fraction }
     {
-        self.sign + self.digits + self.fraction
+        self.digits_start() + self.digits + self.fraction
+    }
+
+    /// Whether an exponent stands there.
+    pub fn has_exponent(self) -> bool
+        ensures { result ≡ is_some_len self.exponent }
+    {
+        self.exponent != 0
     }
 
     /// Whether nothing but a minus stands there, or nothing.
     pub fn is_bare(self) -> bool
-        ensures { result ≡ is_bare (parts_of self) }
+        ensures { result ≡ is_bare self }
     {
         self.digits == 0 && self.fraction == 0 && self.exponent == 0
     }
 
     /// What stands in the number.
     pub fn hint(self) -> NumberHint
-        ensures { hint_of result ≡ parts_hint (parts_of self) }
+        ensures { hint_of result ≡ parts_hint self }
     {
         if self.fraction > 0 || self.exponent > 0 {
             NumberHint::Float
@@ -92,8 +119,8 @@ fn begins_number(text: &[u8]) -> bool
 /// The parts of the longest number at `at`.
 pub fn parts_at(buffer: &[u8], at: usize) -> Parts
     requires { at ≤ length buffer.now }
-    ensures parts { parts_of result ≡ parts (drop at buffer.now) }
-    ensures within { at + parts_len (parts_of result) ≤ length buffer.now }
+    ensures parts { result ≡ parts (drop at buffer.now) }
+    ensures within { at + parts_len result ≤ length buffer.now }
 {
     let digits = minus_end(buffer, at);
     let fraction = digits_end(buffer, digits);

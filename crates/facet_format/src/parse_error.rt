@@ -2,7 +2,7 @@
 
 ghost use Rattle.std.specs.Prelude.{◌≡◌};
 ghost use Rattle.facet_format.specs.Complaint.{refusal_at};
-ghost use Rattle.facet_format.specs.Views.{span_of, complaint_of, refusal_of, parse_refusal};
+ghost use Rattle.facet_format.specs.Views.{span_of, complaint_of, parse_refusal, passed_on};
 
 use crate::error::{DeserializeError, DeserializeErrorKind};
 use crate::span::Span;
@@ -19,14 +19,16 @@ pub struct ParseError<'t> {
 impl<'t> ParseError<'t> {
     /// The refusal of these bytes for this reason.
     pub fn new(span: Span, kind: DeserializeErrorKind<'t>) -> ParseError<'t>
-        ensures { parse_refusal result ≡ refusal_at (complaint_of kind.entry) (span_of span) }
+        ensures refusal { parse_refusal result ≡ refusal_at (complaint_of kind.entry) (span_of span) }
+        ensures kind { result.kind ≡ kind.entry }
+        ensures span { result.span ≡ span }
     {
         ParseError { span, kind }
     }
 }
 
 impl<'t> From<ParseError<'t>> for DeserializeError<'t> {
-    ghost from_gives = { λ error e. refusal_of e ≡ parse_refusal error };
+    ghost from_gives = { λ error e. e ≡ passed_on error };
 
     fn from(error: ParseError<'t>) -> Self {
         DeserializeError {

@@ -1,6 +1,6 @@
 //! What every parser of a format offers: a document's events one by one, with a look ahead and points to go back to.
 
-ghost use Rattle.std.specs.Prelude.{◌≡◌, ◌+◌, ◌<◌, ◌≤◌, List, ◌++◌, IfOk, OnSome};
+ghost use Rattle.std.specs.Prelude.{◌≡◌, ◌+◌, ◌<◌, ◌≤◌, List, ◌++◌, IfOk, OnSome, IsSome};
 ghost use Rattle.facet_format.specs.declared.event.ParseEvent.{ParseEvent};
 ghost use Rattle.facet_format.specs.Cursor.{next, peek, events, save, restore, restored, span};
 ghost use Rattle.facet_format.specs.Standing.{IsStep};
@@ -58,9 +58,10 @@ pub trait FormatParser<'de> {
     fn restore(&mut self, point: SavePoint)
         ensures steps { IsStep at self.old (restore point.0) restored self.new };
 
-    /// The bytes of the last token that was consumed, a peek's included.
+    /// The bytes of the last token that was consumed, a peek's included. It is always there.
     fn current_span(&self) -> Option<Span>
-        ensures steps { IsStep at self.now span (answer_of_span result) self.now };
+        ensures steps { IsStep at self.now span (answer_of_span result) self.now }
+        ensures given { IsSome result };
 
     /// The input, where the parser has all of it.
     fn input(&self) -> Option<&'de [u8]>;

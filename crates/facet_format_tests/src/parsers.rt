@@ -4,10 +4,13 @@ ghost use Rattle.std.specs.Prelude.{◌≡◌, ◌+◌, ◌^◌, ◌<◌, ◌≤
 ghost use Rattle.facet_format.specs.Event.{Passed};
 ghost use Rattle.facet_format.specs.Cursor.{Cursor};
 ghost use Rattle.facet_format.specs.Views.{event_of};
+ghost use Rattle.facet_format.specs.declared.error.DeserializeErrorKind.TheVariants.{OutOfMemory};
 
 use facet_format::{
-    FormatParser, ParseError, ParseEvent, ParseEventKind, SavePoint, ScalarValue, Span,
+    DeserializeError, FormatParser, ParseError, ParseEvent, ParseEventKind, SavePoint, ScalarValue,
+    Span,
 };
+use std::alloc::AllocError;
 use std::collections::VecDeque;
 
 /// The event that a peek shows, and the one that follows.
@@ -37,6 +40,35 @@ fn count<'de, 't, P: FormatParser<'de>>(parser: &mut P) -> Result<usize, ParseEr
         count += 1;
     }
     Ok(count)
+}
+
+/// The offset after the last token that was taken, of whatever parser.
+fn position<'de, P: FormatParser<'de>>(parser: &P) -> usize {
+    parser.current_span().unwrap().end()
+}
+
+/// How a reader over a parser refuses where a growth was refused.
+fn growth_refused<'de, 't, P: FormatParser<'de>>(parser: &P) -> ParseError<'t>
+    ensures { result.kind ≡ OutOfMemory }
+{
+    ParseError::new(
+        parser.current_span().unwrap(),
+        DeserializeError::out_of_memory().kind,
+    )
+}
+
+/// The number of the kind of that refusal, once it is passed on.
+fn code_of_growth<'de, P: FormatParser<'de>>(parser: &P) -> u8
+    ensures { result ≡ 9 }
+{
+    DeserializeError::from(growth_refused(parser)).kind.code()
+}
+
+/// The number of the kind as which a refusal of the allocator is passed on.
+fn code_of_refusal(refused: AllocError) -> u8
+    ensures { result ≡ 9 }
+{
+    DeserializeError::from(refused).kind.code()
 }
 
 /// Stands on no walk, and gives `null` again and again.
@@ -78,7 +110,7 @@ impl<'de> FormatParser<'de> for Nulls {
     fn restore(&mut self, _point: SavePoint) {}
 
     fn current_span(&self) -> Option<Span> {
-        None
+        Some(Span::new(3, self.left))
     }
 
     fn input(&self) -> Option<&'de [u8]> {
@@ -111,4 +143,16 @@ fn peek_shows_next(left: usize) -> bool {
 #[test]
 fn a_peek_shows_the_next_event(rt: HostRuntime) {
     assert!(rt; peek_shows_next(3));
+}
+
+#[test]
+fn a_span_is_always_there(rt: HostRuntime) {
+    assert_eq!(rt; position(&Nulls { left: 4 }), 7);
+    assert_eq!(rt; position(&Nulls { left: usize::MAX }), usize::MAX);
+}
+
+#[test]
+fn refused_growths_are_kind_9(rt: HostRuntime) {
+    assert_eq!(rt; code_of_growth(&Nulls { left: 4 }), 9);
+    assert_eq!(rt; DeserializeError::out_of_memory().kind.code(), 9);
 }

@@ -1,28 +1,12 @@
--- What a parser's answer of the next event says of what comes.
-use Rattle.std.proofs.Common.{◌≡◌, None, Some, sym, ap, ◌∙◌}
-use Rattle.std.specs.Prelude.{Ok, Err}
+-- What a parser's refusal of the next event says of what comes.
+use Rattle.std.proofs.Common.{◌≡◌, None, sym, ap}
+use Rattle.std.specs.Prelude.{Err}
 use Rattle.facet_format.specs.Complaint.{Refusal}
 use Rattle.facet_format.specs.Cursor.{next, Answer, event, no_memory_at}
-use Rattle.facet_format.specs.Event.{Event}
 use Rattle.facet_json_document.specs.Refusal.{Complains}
-use Rattle.facet_json_document.specs.Future.{gives}
-use Rattle.facet_json_protocol.specs.Now.{Now, future_of, span_of}
-use Rattle.facet_json_protocol.specs.Move.{with_standing, Moves, repeats, passes, passes_without_memory, passes_the_end, passes_nothing}
-use Rattle.facet_json.specs.Inner.Reading.{GaveNext, GivesNone, lacks_memory, is_stuck}
-
--- An event that is answered came.
-pub next-gave : {old new : Now} {answer : Answer} (e : Event) → old.refusal ≡ None → answer ≡ event (Ok (Some e)) → Moves Complains old next answer new → GaveNext old e new
-next-gave e free is (repeats r call answer f a) = cc
-next-gave {old = old} e free is (passes p future s none goes shows) =
-    let same : p.event ≡ e = cc in
-    record {
-      last = p.last;
-      comes = goes ∙ ap (gives p) (sym shows.comes) ∙ ap (λ x. gives (record { event = x; last = p.last }) (future_of (with_standing old s))) same;
-      free = none;
-    }
-next-gave e free is (passes_without_memory p future s none goes takes off like) = cc
-next-gave e free is (passes_the_end s none f like) = cc
-next-gave e free is (passes_nothing place rest r s none f stops like) = cc
+use Rattle.facet_json_protocol.specs.Now.{Now, span_of}
+use Rattle.facet_json_protocol.specs.Move.{Moves, repeats, passes, passes_without_memory, passes_the_end, passes_nothing}
+use Rattle.facet_json.specs.Inner.Reading.{GivesNone, lacks_memory, is_stuck}
 
 -- A refusal is out of memory, or nothing goes on.
 pub next-refused : {old new : Now} {answer : Answer} (r : Refusal) → old.refusal ≡ None → answer ≡ event (Err r) → Moves Complains old next answer new → GivesNone old r

@@ -9,8 +9,9 @@ use Rattle.facet_json_document.specs.Tree.{Tree, Trees, no_trees, Pairs, no_pair
 use Rattle.facet_json_document.specs.Place.{Place}
 use Rattle.facet_json_document.specs.Future.{Future, gives}
 use Rattle.facet_json_protocol.specs.Now.{Now, future_of}
+use Rattle.facet_json_protocol.specs.Next.{PassesNext}
 use Rattle.facet_json.specs.Inner.Told.{tree_of_scalar, opens, begins}
-use Rattle.facet_json.specs.Inner.Reading.{LacksMemory, GaveNext, IsUnread, AreItemsRead, AreMembersRead, IsValueUnread, AreItemsUnread, AreMembersUnread, HasBegun, whole, a_list, an_object, IsRefused, begins_none, a_scalar, BeganValue, IsFilled, IsUnfilled}
+use Rattle.facet_json.specs.Inner.Reading.{LacksMemory, IsUnread, AreItemsRead, AreMembersRead, IsValueUnread, AreItemsUnread, AreMembersUnread, HasBegun, whole, a_list, an_object, IsRefused, begins_none, a_scalar, BeganValue, IsFilled, IsUnfilled}
 use Rattle.facet_json.proofs.FirstEventTells.{told-begins, broken-opens, list-told, object-told, list-broken, object-broken}
 use Rattle.facet_json.proofs.ReadingValues.{scalar-unread, list-unread, object-unread, unread-at}
 
@@ -44,10 +45,10 @@ pub lacks-unread : {V : Type 0} {tells : Future → V → Future → Type 0} {br
 lacks-unread h = record { told = λ v rest s. h; broken = λ place rest b. inl h }
 
 -- The event that the parser gave is the first of the value.
-pub began : (old : Now) (e : Event) (t : Tree) (new : Now) → GaveNext old e new → HasBegun e.kind t → BeganValue old t new
+pub began : (old : Now) (e : Event) (t : Tree) (new : Now) → PassesNext old e new → HasBegun e.kind t → BeganValue old t new
 began old e t new g h = record { passed = record { event = e; last = g.last }; comes = g.comes; begun = h; free = g.free }
 
-pub began-unread : (old : Now) (e : Event) (new : Now) (buffer : List ℕ) (r : Refusal) → GaveNext old e new → IsRefused e.kind r →
+pub began-unread : (old : Now) (e : Event) (new : Now) (buffer : List ℕ) (r : Refusal) → PassesNext old e new → IsRefused e.kind r →
     IsValueUnread buffer (future_of old) r
 began-unread old e new buffer r g h = unread-at g.comes (refused-unread (record { event = e; last = g.last }) (future_of new) buffer r h)
 

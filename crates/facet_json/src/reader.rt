@@ -12,8 +12,9 @@ ghost use Rattle.facet_json_document.specs.Document.{IsDocument};
 ghost use Rattle.facet_json_document.specs.Future.{Future};
 ghost use Rattle.facet_json_prefix.specs.Refusal.{Refuses};
 ghost use Rattle.facet_json_protocol.specs.Now.{ahead, future_of};
+ghost use Rattle.facet_json_protocol.specs.Next.{PassesNext};
 ghost use Rattle.facet_json.specs.Inner.Told.{tree_of_scalar, is_member};
-ghost use Rattle.facet_json.specs.Inner.Reading.{GaveNext, GivesNone, LacksMemory, WentOn, IsValueRead, AreItemsRead, AreMembersRead, IsValueUnread, AreItemsUnread, AreMembersUnread, HasBegun, IsRefused, BeganValue, BeganMember, PassedEnd, IsKey, IsFilled, IsUnfilled};
+ghost use Rattle.facet_json.specs.Inner.Reading.{GivesNone, LacksMemory, WentOn, IsValueRead, AreItemsRead, AreMembersRead, IsValueUnread, AreItemsUnread, AreMembersUnread, HasBegun, IsRefused, BeganValue, BeganMember, PassedEnd, IsKey, IsFilled, IsUnfilled};
 ghost use Rattle.facet_json.specs.Views.{tree_view, trees_view, pairs_view};
 
 use crate::tree::Tree;
@@ -92,7 +93,7 @@ fn root<'t>(alloc: Global, parser: &mut JsonParser<'_>) -> Result<Tree, Deserial
 fn next<'t, 'de>(parser: &mut JsonParser<'de>) -> Result<ParseEvent<'de>, DeserializeError<'t>>
     requires free { parser.old.refusal ≡ None }
     ensures same { parser.new.buffer ≡ parser.old.buffer }
-    ensures gave { IfOk result (λ e. GaveNext parser.old (event_of e) parser.new) }
+    ensures gave { IfOk result (λ e. PassesNext parser.old (event_of e) parser.new) }
     ensures shorter { OnOk result (ahead parser.new < ahead parser.old) }
     ensures event_within { IfOk result (λ e. stop (event_of e).span ≤ length parser.new.buffer) }
     ensures refused { IfErr result (λ e. GivesNone parser.old (refusal_of e)) }
@@ -108,10 +109,7 @@ fn next<'t, 'de>(parser: &mut JsonParser<'de>) -> Result<ParseEvent<'de>, Deseri
 fn ended<'t>(parser: &JsonParser<'_>) -> DeserializeError<'t>
     ensures { IfSome result.span (λ s. s.offset + s.len ≤ length parser.now.buffer) }
 {
-    let end = match parser.current_span() {
-        Some(span) => span.offset.saturating_add(span.len),
-        None => 0,
-    };
+    let end = parser.current_span().unwrap().end();
     DeserializeError {
         kind: DeserializeErrorKind::UnexpectedEof { expected: "value" },
         span: Some(Span::new(end, 0)),

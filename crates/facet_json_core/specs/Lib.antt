@@ -12,6 +12,7 @@ pub use Rattle.facet_json_prefix.specs.EventLaws
 pub use Rattle.facet_json_prefix.specs.Refusal
 pub use Rattle.facet_json_protocol.specs.Now
 pub use Rattle.facet_json_protocol.specs.Move
+pub use Rattle.facet_json_protocol.specs.Next
 pub use Rattle.facet_json_protocol.specs.Sound
 pub use Rattle.facet_json_protocol.specs.Alone
 pub use Rattle.facet_json_protocol.specs.ParserLaws

@@ -19,7 +19,7 @@ fn span_of(answer: &Answer<'_>) -> Span {
 
 /// These bytes are among the first so many.
 fn is_within(span: Span, len: usize) -> bool {
-    span.offset.saturating_add(span.len) <= len
+    span.end() <= len
 }
 
 /// Both answers are the end, or both are the same refusal.

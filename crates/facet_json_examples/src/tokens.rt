@@ -5,7 +5,7 @@ use facet_json::scanner::{Mode, ScanError, Scanner, Token, cut};
 /// The offset after the first token of the input.
 fn first_end(input: &[u8]) -> Result<usize, ScanError> {
     let token = cut(input, 0, Mode::Jsonc)?;
-    Ok(token.span.offset.saturating_add(token.span.len))
+    Ok(token.span.end())
 }
 
 /// Whether the first token of a buffer that may still grow is whole.

@@ -83,7 +83,7 @@ fn number<'a>(text: &'a [u8], hint: NumberHint) -> Option<ParsedNumber<'a>>
     let parts = number_parts(text, hint)?;
     match hint {
         NumberHint::Unsigned => unsigned_number(text),
-        NumberHint::Signed => negative_number(&text[parts.sign..]),
+        NumberHint::Signed => negative_number(&text[parts.digits_start()..]),
         NumberHint::Float => decimal_number(text),
     }
 }

@@ -1,6 +1,6 @@
 -- What a call of a parser answers, after the reading of the next event, is a move.
 use Rattle.std.proofs.Common.{◌≡◌, ℕ, suc, ◌<◌, true, false, List, Option, Some, None, refl, sym, subst, ◌∙◌}
-use Rattle.std.specs.Prelude.{Ok, Err, is_some, MatchOption}
+use Rattle.std.specs.Prelude.{Ok, Err, is_some, MatchOption, IfSome, IfNone}
 use Rattle.std.specs.Option.{option_map}
 use Rattle.facet_format.specs.Complaint.{Refusal, refusal_at, save_limit}
 use Rattle.facet_format.specs.Event.{Event, Passed}
@@ -19,6 +19,8 @@ use Rattle.facet_json_document.specs.Meaning.{meaning}
 use Rattle.facet_json_token.specs.Tokens.{tokens_from}
 use Rattle.facet_json_protocol.specs.Now.{Standing, Now, future_at, is_shown, span_of}
 use Rattle.facet_json_protocol.specs.Move.{Moves, repeats, passes, passes_without_memory, passes_the_end, passes_nothing, peeks, peeks_without_memory, peeks_at_the_end, peeks_at_nothing, saves, saves_at_the_limit, saves_without_memory, restores, restores_nothing, tells, with_standing, with_refusal, with_kept, back_at}
+use Rattle.facet_json_protocol.specs.Next.{PassesNext, ShowsNext, IsOver}
+use Rattle.facet_json_protocol.proofs.MovesNext.{next-passes, next-over, peek-shows, peek-over}
 use Rattle.facet_json_standing.specs.Fill.{ShowsSame, Fills, holds, is_over, lacks_memory, stops, FillsParser, fills, refuses, Takes, Lends, Withholds, GivesOne, gives_event, gives_end, lacks_room, behind}
 use Rattle.facet_json_standing.specs.Fill as fill
 
@@ -218,3 +220,29 @@ room-lacked now mid made new r held f e code n same after =
 pub told-moves : (now : Now) (answer : Answer) → answer ≡ spans (Some (span_of now.standing)) →
     Moves Complains now span answer now
 told-moves now answer e = rw e tells
+
+-- ---- what a loop needs
+
+-- An event that is answered came next.
+pub event-passes : (old new : Now) (o : Option ParseEvent) → Moves Complains old next (event (Ok (option_map event_of o))) new →
+    IfSome o (λ e. PassesNext old (event_of e) new)
+event-passes old new None move = tt
+event-passes old new (Some e) move = next-passes Complains old new (event_of e) _ refl move
+
+-- Where no event is answered, nothing comes.
+pub event-over : (old new : Now) (o : Option ParseEvent) → Moves Complains old next (event (Ok (option_map event_of o))) new →
+    IfNone o (IsOver old new)
+event-over old new None move = next-over Complains old new _ refl move
+event-over old new (Some e) move = tt
+
+-- An event that is shown comes next.
+pub event-shows : (old new : Now) (o : Option ParseEvent) → Moves Complains old peek (event (Ok (option_map event_of o))) new →
+    IfSome o (λ e. ShowsNext old (event_of e) new)
+event-shows old new None move = tt
+event-shows old new (Some e) move = peek-shows Complains old new (event_of e) _ refl move
+
+-- Where no event is shown, nothing comes.
+pub no-event-over : (old new : Now) (o : Option ParseEvent) → Moves Complains old peek (event (Ok (option_map event_of o))) new →
+    IfNone o (IsOver old new)
+no-event-over old new None move = peek-over Complains old new _ refl move
+no-event-over old new (Some e) move = tt

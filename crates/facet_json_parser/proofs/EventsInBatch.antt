@@ -4,7 +4,7 @@ use Rattle.std.proofs.lemmas.List.{map-append, length-map}
 use Rattle.facet_format.specs.declared.event.ParseEvent.{ParseEvent}
 use Rattle.facet_format.specs.declared.parse_error.ParseError.{ParseError}
 use Rattle.facet_format.specs.Views.{event_of, parse_refusal, answer_of_events}
-use Rattle.std.specs.Prelude.{Ok, Err}
+use Rattle.std.specs.Prelude.{Ok, Err, ⊤}
 use Rattle.std.specs.Option.{option_map}
 use Rattle.facet_format.specs.Complaint.{Refusal}
 use Rattle.facet_format.specs.Event.{Event, Passed}
@@ -15,6 +15,8 @@ use Rattle.facet_json_document.specs.Refusal.{Complains}
 use Rattle.facet_json_document.specs.Future.{Future, stuck}
 use Rattle.facet_json_protocol.specs.Now.{Standing, Now, held_before, future_at, future_of, is_shown, is_peeked, span_of}
 use Rattle.facet_json_protocol.specs.Move.{Moves, repeats, gives_none, gives_all, gives_to_the_end, gives_up, gives_without_memory, Passes, no_events, still_peeked, with_standing, with_refusal}
+use Rattle.facet_json_protocol.specs.Next.{PassesAll}
+use Rattle.facet_json_protocol.proofs.MovesNext.{events-pass, events-count}
 use Rattle.facet_json_protocol.specs.Sound.{NowSound}
 use Rattle.facet_json_standing.specs.Fill.{Fills, holds, is_over, lacks_memory, stops, FillsParser, fills, refuses, Takes, GivesOne, gives_event, gives_end, gives_refusal, lacks_room, behind}
 use Rattle.facet_json_standing.specs.Fill as fill
@@ -209,6 +211,21 @@ pub given-full : (start now : List ParseEvent) (old cur : Now) (count limit : �
 given-full start now old cur count limit (given, items, n, b) e =
     let len : length (map event_of given) ≡ limit = rw length-map (n ∙ e) in
     (given, items, batch-full old cur (map event_of given) limit b len)
+
+-- What a batch appends came next, and is as many events as is answered.
+pub given-pass : (start now : List ParseEvent) (old new : Now) (limit n : ℕ) →
+    (given : List ParseEvent) × (now ≡ start ++ given) × Moves Complains old (events limit) (answer_of_events given (Ok n)) new →
+    (given : List ParseEvent) × (now ≡ start ++ given) × PassesAll old (map event_of given) new × (n ≡ length given)
+given-pass start now old new limit n (given, items, move) =
+    let count = events-count Complains old new limit n (map event_of given) _ refl move in
+    (given, items, events-pass Complains old new limit (map event_of given) (Ok n) _ refl move, count ∙ length-map given event_of)
+
+-- The same of what it appends before a refusal.
+pub given-pass_refused : (start now : List ParseEvent) (old new : Now) (limit : ℕ) (r : Refusal) →
+    (given : List ParseEvent) × (now ≡ start ++ given) × Moves Complains old (events limit) (batch (map event_of given) (Err r)) new →
+    (given : List ParseEvent) × (now ≡ start ++ given) × PassesAll old (map event_of given) new × ⊤
+given-pass_refused start now old new limit r (given, items, move) =
+    (given, items, events-pass Complains old new limit (map event_of given) (Err r) _ refl move, tt)
 
 -- ---- what holds of every parser
 

@@ -1,6 +1,6 @@
 //! Reads a document event by event, with a look ahead and points to go back to.
 
-ghost use Rattle.std.specs.Prelude.{◌≡◌, ◌≤◌, ◌+◌, ◌^◌, suc, List, Some, None, Ok, Err, ◌<◌, length, ◌++◌, OnSome, IfOk, IfErr, IfSome, IsSome, IsUtf8, codes, MatchOption, MatchResult};
+ghost use Rattle.std.specs.Prelude.{◌≡◌, ◌≤◌, ◌+◌, ◌^◌, suc, List, Some, None, Ok, Err, ◌<◌, length, ◌++◌, OnSome, IfOk, IfErr, IfSome, IfNone, IsSome, IsUtf8, map, codes, MatchOption, MatchResult};
 ghost use Rattle.facet_format.specs.declared.event.ParseEvent.{ParseEvent as RustEvent};
 ghost use Rattle.facet_json_token.specs.Gap.{plain, jsonc};
 ghost use Rattle.facet_json_token.specs.Views.{mode_of};
@@ -9,8 +9,10 @@ ghost use Rattle.facet_format.specs.Standing.{IsStep};
 ghost use Rattle.facet_format.specs.Views.{event_of, parse_refusal, answer_of_event, answer_of_events, answer_of_save, answer_of_span};
 ghost use Rattle.facet_json_document.specs.Refusal.{Complains};
 ghost use Rattle.facet_format.specs.Kept.{found, without};
-ghost use Rattle.facet_json_protocol.specs.Now.{fresh, span_of, ahead, SameInput, GoesOn, StandsAt};
+ghost use Rattle.facet_json_document.specs.Future.{finished};
+ghost use Rattle.facet_json_protocol.specs.Now.{fresh, span_of, ahead, future_of, SameInput, GoesOn, StandsAt};
 ghost use Rattle.facet_json_protocol.specs.Move.{Moves, with_standing, with_refusal, with_kept};
+ghost use Rattle.facet_json_protocol.specs.Next.{PassesNext, ShowsNext, PassesAll, IsOver};
 ghost use Rattle.facet_json_protocol.specs.Sound.{NowSound, AnswerWithin};
 ghost use Rattle.facet_json_standing.specs.Fill.{FillsParser, GivesOne};
 ghost use Rattle.std.specs.Option.{option_map};
@@ -201,6 +203,8 @@ impl<'de> FormatParser<'de> for JsonParser<'de> {
         ensures lowers { ahead self.new ≤ ahead self.old }
         ensures onward { GoesOn self.old self.new }
         ensures shorter { IfOk result (λ o. OnSome o (ahead self.new < ahead self.old)) }
+        ensures next { IfOk result (λ o. IfSome o (λ e. PassesNext self.old (event_of e) self.new)) }
+        ensures end { IfOk result (λ o. IfNone o (IsOver self.old self.new)) }
     {
         self.fill()?;
         Ok(self.standing.take())
@@ -218,6 +222,8 @@ impl<'de> FormatParser<'de> for JsonParser<'de> {
         ensures within { AnswerWithin self.new.buffer (answer_of_event result) }
         ensures lowers { ahead self.new ≤ ahead self.old }
         ensures onward { GoesOn self.old self.new }
+        ensures next { IfOk result (λ o. IfSome o (λ e. ShowsNext self.old (event_of e) self.new)) }
+        ensures end { IfOk result (λ o. IfNone o (IsOver self.old self.new)) }
     {
         self.fill()?;
         match self.standing.peek(self.alloc) {
@@ -247,6 +253,9 @@ impl<'de> FormatParser<'de> for JsonParser<'de> {
         ensures lowers { ahead self.new ≤ ahead self.old }
         ensures onward { GoesOn self.old self.new }
         ensures shorter { IfOk result (λ n. ahead self.new + n ≤ ahead self.old) }
+        ensures next { (given : List RustEvent) × (buf.new.items ≡ buf.old.items ++ given)
+            × PassesAll self.old (map event_of given) self.new × IfOk result (λ n. n ≡ length given) }
+        ensures end { IfOk result (λ n. n < limit → future_of self.new ≡ finished) }
     {
         for count in 0..limit {
             let Some(event) = self.next_with_room(buf)? else {
@@ -312,6 +321,7 @@ impl<'de> FormatParser<'de> for JsonParser<'de> {
         ensures steps { IsStep StandsAt self.now span (answer_of_span result) self.now }
         ensures told { answer_of_span result ≡ spans (Some (span_of self.now.standing)) }
         ensures within { AnswerWithin self.now.buffer (answer_of_span result) }
+        ensures given { IsSome result }
     {
         Some(self.standing.span())
     }

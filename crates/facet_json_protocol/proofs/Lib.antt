@@ -3,6 +3,7 @@ pub mod EndsInTime
 pub mod InputIsAnswered
 pub mod MoveIsStep
 pub mod MoveLaws
+pub mod MovesNext
 pub mod RefusalRepeats
 pub mod RestoreBringsBack
 pub mod Rows

@@ -137,7 +137,7 @@ impl Reader {
             match place.turn(&token.token) {
                 Turn::Stops => return Err(stopped(alloc, input, place, &token)),
                 Turn::Passes(next) => {
-                    self.position = end(token.span);
+                    self.position = token.span.end();
                     self.stage = Stage::Within(next);
                 }
                 Turn::Opens(kind) => return Ok(Some(self.open(&token, kind, last)?)),
@@ -164,7 +164,7 @@ impl Reader {
             Err(_) => return Err(Refused::out_of_memory(last)),
         }
         self.stage = Stage::inside(kind);
-        self.position = end(token.span);
+        self.position = token.span.end();
         Ok(event(opening(kind), token.span, token.span))
     }
 
@@ -176,7 +176,7 @@ impl Reader {
     {
         self.contexts.pop();
         self.stage = Stage::behind_value(&self.contexts);
-        self.position = end(token.span);
+        self.position = token.span.end();
         event(closing(kind), token.span, token.span)
     }
 
@@ -195,7 +195,7 @@ impl Reader {
     {
         let value = scalar_value(alloc, input, token, last)?;
         self.stage = Stage::behind_value(&self.contexts);
-        self.position = end(token.span);
+        self.position = token.span.end();
         Ok(event(ParseEventKind::Scalar(value), token.span, token.span))
     }
 
@@ -215,23 +215,15 @@ impl Reader {
             → Answers input.now (mode_of mode) self.old self.new (span_of last) result }
     {
         let name = name_of_key(alloc, input, token)?;
-        let mark = colon(alloc, input, end(token.span), mode)?;
+        let mark = colon(alloc, input, token.span.end(), mode)?;
         let Some(name) = name else {
             return Err(Refused::out_of_memory(last));
         };
         self.stage = Stage::Within(Place::AfterColon);
-        self.position = end(mark);
+        self.position = mark.end();
         let key = FieldKey::new(name, FieldLocationHint::KeyValue);
         Ok(event(ParseEventKind::FieldKey(key), token.span, mark))
     }
-}
-
-/// The offset after the bytes.
-fn end(span: Span) -> usize
-    requires { stop (span_of span) < 2 ^ 64 }
-    ensures { result ≡ stop (span_of span) }
-{
-    span.offset + span.len
 }
 
 /// The event of a bracket that opens a container of this kind.

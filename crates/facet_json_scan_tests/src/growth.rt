@@ -23,9 +23,7 @@ fn compare(scanned: &ScanResult, input: &[u8], start: usize, mode: Mode) -> Outc
         return Outcome::Differs;
     }
     match scanned {
-        Ok(found) if found.token != Token::Eof => {
-            Outcome::Token(found.span.offset.saturating_add(found.span.len))
-        }
+        Ok(found) if found.token != Token::Eof => Outcome::Token(found.span.end()),
         _ => Outcome::Ends,
     }
 }

@@ -1,8 +1,7 @@
 -- What a reader of a tree says of what it read, how it was refused, and how it leaves its parser.
 use Rattle.std.specs.Prelude.{◌≡◌, ◌≤◌, ◌⊎◌, ℕ, false, List, None, Some}
 use Rattle.facet_format.specs.Complaint.{Refusal, out_of_memory}
-use Rattle.facet_format.specs.Event.{Event, EventKind, ContainerKind, Scalar, scalar, Text, bytes_of, field_key, struct_start, sequence_start, Passed}
-use Rattle.facet_format.specs.Span.{Span}
+use Rattle.facet_format.specs.Event.{EventKind, ContainerKind, Scalar, scalar, Text, bytes_of, field_key, struct_start, sequence_start, Passed}
 use Rattle.facet_json_token.specs.Tokens.{Tokens}
 use Rattle.facet_json_document.specs.Meaning.{meaning}
 use Rattle.facet_json_document.specs.Place.{Place}
@@ -23,16 +22,6 @@ abbrev pub StopsAt : List ℕ → Place → Tokens → Refusal → Type 0
 StopsAt buffer place rest refusal = LacksMemory refusal ⊎ IsStuck buffer (meaning buffer) Complains place rest refusal
 
 -- ---- one event
-
--- the event, with this last token, and then what comes
-abbrev pub first_then : Event → Span → Future → Future
-first_then given last future = gives (record { event = given; last = last }) future
-
--- The parser gave this event, and is not refused.
-pub record GaveNext (old : Now) (given : Event) (new : Now) : Type 0 where
-  pub last : Span
-  pub comes : future_of old ≡ first_then given last (future_of new)
-  pub free : new.refusal ≡ None
 
 -- The next event is refused: memory ran out, or none comes.
 pub data GivesNone (now : Now) (refusal : Refusal) : Type 0 where

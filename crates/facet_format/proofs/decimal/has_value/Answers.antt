@@ -1,13 +1,12 @@
 use Rattle.std.proofs.Common.{sym, ap, ◌∙◌, drop, take}
-use Rattle.facet_format.specs.Views.{parts_of}
 use Rattle.facet_format.proofs.NumberText.{has_value-behind}
 use Rattle.facet_format.proofs.decimal.has_value.Goals as goal
 
-pub returns-else-parts-eq0 : goal.returns-else-parts-eq0
-returns-else-parts-eq0 c =
+pub returns-else-not-has_exponent : goal.returns-else-not-has_exponent
+returns-else-not-has_exponent c =
     let text = c.args.text.now in
     let front = c.split_at.ensures.front ∙ ap (λ n. take n text) c.exponent_start.ensures in
     let back = c.split_at.ensures.back ∙ ap (λ n. drop n text) c.exponent_start.ensures in
-    c.any_digit-else-parts-eq0.ensures
-    ∙ has_value-behind (parts_of c.args.parts) text _ _ front back (sym c.any_digit.ensures ∙ c.if-any_digit.true)
-    c.if-parts-eq0.false
+    c.any_digit-else-not-has_exponent.ensures
+    ∙ has_value-behind c.args.parts text _ _ front back (sym c.any_digit.ensures ∙ c.if-any_digit.true)
+    (sym c.has_exponent.ensures ∙ c.if-not-has_exponent.false)

@@ -14,7 +14,7 @@ unsigned_number-requires c =
 
 pub negative_number-requires : goal.negative_number-requires
 negative_number-requires c =
-    let same = ap (λ (p : Parts). p.sign) c.in_ok-parts.ensures.0.0 in
+    let same = c.digits_start.ensures ∙ ap (λ (p : Parts). p.sign) c.in_ok-parts.ensures.0.0 in
     signed-digits c.args.text.now _ same (rw c.in-Signed.is at c.in_ok-parts.ensures.1)
 
 pub returns-in-Unsigned-clause-number : goal.returns-in-Unsigned-clause-number
@@ -24,6 +24,6 @@ returns-in-Unsigned-clause-number c =
 
 pub returns-in-Signed-clause-number : goal.returns-in-Signed-clause-number
 returns-in-Signed-clause-number c =
-    let same = ap (λ (p : Parts). p.sign) c.in_ok-parts.ensures.0.0 in
+    let same = c.digits_start.ensures ∙ ap (λ (p : Parts). p.sign) c.in_ok-parts.ensures.0.0 in
     let is = rw c.in-Signed.is at c.in_ok-parts.ensures.1 in
     rw c.in-Signed.is (c.negative_number.ensures.number ∙ sym (number-signed c.args.text.now _ same is))

@@ -2,7 +2,7 @@
 use Rattle.std.proofs.Common.{◌≡◌, ◌+◌, drop, Some, true, ap, sym, ◌∙◌, refl}
 use Rattle.facet_format.specs.Number.{parts, parts_len, parts_hint, is_bare}
 use Rattle.facet_json_token.specs.Token.{number}
-use Rattle.facet_format.specs.Views.{hint_of, parts_of}
+use Rattle.facet_format.specs.Views.{hint_of}
 use Rattle.facet_json_token.specs.Cut.{cut_number}
 use Rattle.facet_json_token.proofs.NumberCuts.{cut_number-parts}
 use Rattle.facet_json_token.proofs.plain_cut.cut_number.Goals as goal
@@ -21,7 +21,7 @@ returns c =
     let at = c.args.at in
     let bytes = drop at c.args.buffer.now in
     let rest = drop (at + 1) c.args.buffer.now in
-    let q = parts_of c.parts_at-parts.result in
+    let q = c.parts_at-parts.result in
     let h = hint_of c.hint.result in
     let more = sym c.is_bare.ensures ∙ c.if-is_bare.false in
     c.token_at.ensures (number at (at + c.len-len.result) h) refl

@@ -1,5 +1,8 @@
 use Rattle.std.proofs.Common.{rules}
 use Rattle.facet_format.proofs.error.DeserializeError.out_of_memory.Goals as goal
 
-pub returns : goal.returns
-returns c = search rules
+pub returns-clause-refusal : goal.returns-clause-refusal
+returns-clause-refusal c = search rules
+
+pub returns-clause-error : goal.returns-clause-error
+returns-clause-error c = search rules

@@ -1,8 +1,10 @@
-use Rattle.std.proofs.Common.{◌≡◌, ◌<◌, [], ◌∷◌, ◌++◌, ◌∙◌, ap, subst, arith}
+use Rattle.std.proofs.Common.{◌≡◌, ◌<◌, [], ◌∷◌, ◌++◌, ◌∙◌, refl, ap, subst, arith}
 use Rattle.std.proofs.lemmas.Result.{err_from_is_err_and}
 use Rattle.facet_json_protocol.specs.Sound.{NowSound}
-use Rattle.facet_json_parser.proofs.EventsInBatch.{none-given, event-given, given-none, given-more, given-end, given-refused, given-full, given-sound}
+use Rattle.facet_json_parser.proofs.EventsInBatch.{none-given, event-given, given-none, given-more, given-end, given-refused, given-full, given-sound, given-pass, given-pass_refused}
+use Rattle.facet_json_document.specs.Refusal.{Complains}
 use Rattle.facet_json_protocol.proofs.MoveIsStep.{move-steps}
+use Rattle.facet_json_protocol.proofs.MovesNext.{events-over}
 use Rattle.facet_json_parser.proofs.ParserWithin.{batch-within, batch-goes_on, batch-lowers}
 use Rattle.facet_json_parser.proofs.parser.JsonParserFormatParser.next_events.Goals as goal
 
@@ -24,6 +26,8 @@ returns-in_err-event c =
       moves = (g.0, g.1, move, batch-within _ _ _ _ (λ _. known) move);
       onward = gone;
       shorter = tt;
+      next = given-pass_refused _ _ _ _ _ _ g;
+      end = tt;
     })
 
 pub returns-in_default : goal.returns-in_default
@@ -38,6 +42,8 @@ returns-in_default c =
       moves = (g.0, g.1, move, batch-within _ _ _ _ (λ _. known) move);
       onward = gone;
       shorter = batch-lowers _ _ _ _ _ (λ _. known) move;
+      next = given-pass _ _ _ _ _ _ g;
+      end = events-over Complains _ _ _ _ _ _ refl move;
     }
 
 pub loop-count-preserved : goal.loop-count-preserved
@@ -59,4 +65,6 @@ returns c =
       moves = (g.0, g.1, move, batch-within _ _ _ _ known move);
       onward = gone;
       shorter = batch-lowers _ _ _ _ _ known move;
+      next = given-pass _ _ _ _ _ _ g;
+      end = events-over Complains _ _ _ _ _ _ refl move;
     }

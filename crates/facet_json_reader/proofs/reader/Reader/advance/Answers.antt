@@ -58,21 +58,13 @@ returns-in-Stops-clause-range c =
     let front = earlier-refused c.args.input.now m c.args.self.now r r (span_of c.args.last) _ c.loop-self.invariant.same here in
     λ l. refusal-within c.args.input.now m c.args.self.now (span_of c.args.last) _ c.requires.within l front.refused
 
-pub end-self-requires : goal.end-self-requires
-end-self-requires c =
-    let r = c.loop-self.self in
-    let m = mode_of c.args.mode in
-    let found = is_cut c.args.input.now r.position m c.in_ok-token.token c.loop-self.invariant.within c.in_ok-token.ensures.answer in
-    let t = is-turn c.args.input.now m r c.in_ok-token.token c.in-Within.place (turns.Passes c.in-Passes.next) c.in-Within.is found (c.in-Passes.ensures.turn r.contexts) (λ e. cc) in
-    omega (arith, t.ends)
-
 pub loop-self-smaller : goal.loop-self-smaller
 loop-self-smaller c =
     let r = c.loop-self.self in
     let m = mode_of c.args.mode in
     let found = is_cut c.args.input.now r.position m c.in_ok-token.token c.loop-self.invariant.within c.in_ok-token.ensures.answer in
     let t = is-turn c.args.input.now m r c.in_ok-token.token c.in-Within.place (turns.Passes c.in-Passes.next) c.in-Within.is found (c.in-Passes.ensures.turn r.contexts) (λ e. cc) in
-    omega (arith, t.past, t.ends, c.end-self.ensures)
+    omega (arith, t.past, t.ends, c.end-self.ensures.fits (omega (arith, t.ends)))
 
 pub loop-self-preserved : goal.loop-self-preserved
 loop-self-preserved c =
@@ -81,9 +73,9 @@ loop-self-preserved c =
     let found = is_cut c.args.input.now r.position m c.in_ok-token.token c.loop-self.invariant.within c.in_ok-token.ensures.answer in
     let t = is-turn c.args.input.now m r c.in_ok-token.token c.in-Within.place (turns.Passes c.in-Passes.next) c.in-Within.is found (c.in-Passes.ensures.turn r.contexts) (λ e. cc) in
     record {
-      within = omega (arith, t.ends, c.end-self.ensures);
-      forward = omega (arith, c.loop-self.invariant.forward, t.past, c.end-self.ensures);
-      same = passes-comes c.args.input.now m r c.in_ok-token.token (turns.Passes c.in-Passes.next) (within (place_of c.in-Passes.next)) refl t (record { position = c.end-self.result; contexts = r.contexts; stage = stages.Within c.in-Passes.next }) c.end-self.ensures refl refl ∙ c.loop-self.invariant.same;
+      within = omega (arith, t.ends, c.end-self.ensures.fits (omega (arith, t.ends)));
+      forward = omega (arith, c.loop-self.invariant.forward, t.past, c.end-self.ensures.fits (omega (arith, t.ends)));
+      same = passes-comes c.args.input.now m r c.in_ok-token.token (turns.Passes c.in-Passes.next) (within (place_of c.in-Passes.next)) refl t (record { position = c.end-self.result; contexts = r.contexts; stage = stages.Within c.in-Passes.next }) (c.end-self.ensures.fits (omega (arith, t.ends))) refl refl ∙ c.loop-self.invariant.same;
     }
 
 pub open-requires : goal.open-requires

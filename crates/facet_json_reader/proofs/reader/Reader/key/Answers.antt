@@ -1,4 +1,4 @@
-use Rattle.std.proofs.Common.{refl, ap}
+use Rattle.std.proofs.Common.{refl, ap, arith}
 use Rattle.std.proofs.lemmas.Result.{err_from_is_err_and}
 use Rattle.facet_format.specs.HeldText.{text_of}
 use Rattle.facet_format.specs.Views.{span_of}
@@ -19,19 +19,19 @@ returns-in_err-mark c =
     λ is.
     let p = err_from_is_err_and c.from_residual-in_err-mark.result c.from_residual-in_err-mark.ensures.1 in
     let some = key_means c.args.input.now is.kind (span_of c.args.token.now.span) c.in_ok-name.name (c.in_ok-name.ensures is.kind is.is_kind) in
-    let stops = rw c.end.ensures at c.in_err-mark.ensures in
+    let stops = rw (c.end.ensures.fits (omega (arith, c.requires.within))) at c.in_err-mark.ensures in
     rw (p.1, p.2) (key-stopped c.args.input.now (mode_of c.args.mode) c.args.self.now c.args.token.now (span_of c.args.last) _ is some stops, refl)
 
 pub returns-in_default : goal.returns-in_default
 returns-in_default c =
     λ is.
     let unmade = key-none c.args.input.now is.kind (span_of c.args.token.now.span) c.in_ok-name.name c.in_default.not-Some (c.in_ok-name.ensures is.kind is.is_kind) in
-    let colon = rw c.end.ensures at c.in_ok-mark.ensures in
+    let colon = rw (c.end.ensures.fits (omega (arith, c.requires.within))) at c.in_ok-mark.ensures in
     (rw c.out_of_memory.ensures (key-unmade c.args.input.now (mode_of c.args.mode) c.args.self.now c.args.token.now (span_of c.args.last) c.in_ok-mark.mark is unmade colon), refl)
 
 pub returns : goal.returns
 returns c =
     λ is.
     let text = rw c.in-Some.is at (c.in_ok-name.ensures is.kind is.is_kind) in
-    let colon = rw c.end.ensures at c.in_ok-mark.ensures in
-    key-given c.args.input.now (mode_of c.args.mode) c.args.self.now c.args.token.now is (text_of c.in-Some.name) c.in_ok-mark.mark text colon _ _ c.end-self.ensures refl refl (rw c.new-key.ensures.name at c.event.ensures.event) (ap span_of c.event.ensures.last)
+    let colon = rw (c.end.ensures.fits (omega (arith, c.requires.within))) at c.in_ok-mark.ensures in
+    key-given c.args.input.now (mode_of c.args.mode) c.args.self.now c.args.token.now is (text_of c.in-Some.name) c.in_ok-mark.mark text colon _ _ (c.end-self.ensures.fits (omega (arith, c.in_ok-mark.ensures))) refl refl (rw c.new-key.ensures.name at c.event.ensures.event) (ap span_of c.event.ensures.last)

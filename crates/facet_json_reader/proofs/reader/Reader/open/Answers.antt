@@ -12,4 +12,4 @@ returns-in-Err c =
 pub returns : goal.returns
 returns c =
     λ buffer mode is.
-    says-given buffer mode c.args.self.now c.args.token.now (turns.Opens c.args.kind) _ _ _ refl is _ _ c.end-self.ensures c.in-Ok.ensures c.inside-self.ensures (rw c.opening.ensures at c.event.ensures.event) (ap span_of c.event.ensures.last)
+    says-given buffer mode c.args.self.now c.args.token.now (turns.Opens c.args.kind) _ _ _ refl is _ _ (c.end-self.ensures.fits c.requires) c.in-Ok.ensures c.inside-self.ensures (rw c.opening.ensures at c.event.ensures.event) (ap span_of c.event.ensures.last)

@@ -14,4 +14,4 @@ pub returns : goal.returns
 returns c =
     λ mode is.
     let v = c.in_ok-value.ensures is.kind is.is_kind in
-    scalar-given c.args.input.now mode c.args.self.now c.args.token.now is (scalar_value_of c.in_ok-value.value) v.0 v.1 _ _ c.end-self.ensures refl c.behind_value-self.ensures c.event.ensures.event (ap span_of c.event.ensures.last)
+    scalar-given c.args.input.now mode c.args.self.now c.args.token.now is (scalar_value_of c.in_ok-value.value) v.0 v.1 _ _ (c.end-self.ensures.fits c.requires.fits) refl c.behind_value-self.ensures c.event.ensures.event (ap span_of c.event.ensures.last)
