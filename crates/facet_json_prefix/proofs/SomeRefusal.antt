@@ -18,7 +18,7 @@ use Rattle.facet_json_document.specs.Future.{gives, stuck, events_before, Stage,
 use Rattle.facet_json_document.proofs.WalkComes.{follows, reads-turn}
 use Rattle.facet_json_decode.specs.Decode.{decoded}
 use Rattle.facet_json_decode.specs.Laws.{HasTextOrFault}
-use Rattle.facet_json_decode.proofs.DecodeLaws.{decodes-decoded}
+use Rattle.facet_json_decode.proofs.DecodeLaws.{decoded-decodes}
 use Rattle.facet_json_decode.proofs.FaultLaws.{text_or_fault}
 use Rattle.facet_json_document.proofs.TurnsStop.{value_stops}
 
@@ -222,7 +222,7 @@ text-faults : (buffer : List ℕ) (t : Token) (start finish : ℕ) → t.kind �
     (r : Refusal) × Complains buffer t r
 text-faults buffer t start finish e none has = elim has.one_of_them [
   | inl found ↦
-      let is : decoded (slice_range buffer start finish) ≡ Some found.0 = decodes-decoded _ found.0 found.1 in
+      let is : decoded (slice_range buffer start finish) ≡ Some found.0 = decoded-decodes _ found.0 found.1 in
       let some : option_map text (decoded (slice_range buffer start finish)) ≡ Some (text found.0) = ap (option_map text) is in
       absurd (cc)
   | inr fault ↦ (_, of_escaped_string start finish fault.0 e fault.1 refl)
