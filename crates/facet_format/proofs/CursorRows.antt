@@ -1,9 +1,10 @@
 -- Runs of the cursor by computation: lists of calls on the walk of `[1]`, and their answers.
-use Rattle.std.proofs.Common.{ℕ, List, [], ◌∷◌, Some, None, refl, arith}
-use Rattle.std.specs.Prelude.{Ok, false}
+use Rattle.std.proofs.Common.{◌≡◌, ℕ, true, false, List, [], ◌∷◌, Some, None, refl, arith}
+use Rattle.std.specs.Prelude.{Ok, Err}
 use Rattle.facet_format.specs.Span.{span_at}
-use Rattle.facet_format.specs.Event.{EventKind, Event, Passed, array, sequence_start, sequence_end, scalar, u64}
-use Rattle.facet_format.specs.Cursor.{next, peek, events, save, restore, span, event, batch, saved, restored, spans, Spot, Cursor, start, Run, no_calls, one_call, passes, passes_the_end, peeks, gives_none, gives, saves, restores, restores_nothing, tells}
+use Rattle.facet_format.specs.Complaint.{Refusal}
+use Rattle.facet_format.specs.Event.{EventKind, Event, Passed, array, sequence_start, sequence_end, scalar, u64, holds_made}
+use Rattle.facet_format.specs.Cursor.{next, peek, events, save, restore, span, Answer, event, batch, saved, restored, spans, Spot, Cursor, start, peeked_at, at_spot, Step, Run, no_calls, one_call, repeats, passes, passes_the_end, peeks, peeks_without_memory, peeks_at_the_end, gives_none, gives, saves, restores, restores_nothing, tells}
 
 -- an event of one token, with its offset and length
 abbrev at : EventKind → ℕ → ℕ → Event
@@ -48,6 +49,16 @@ peek_row : Run w start (span ∷ peek ∷ span ∷ next ∷ [])
 peek_row =
     one_call _ _ _ _ _ _ _ tells (one_call _ _ _ _ _ _ _ (peeks (passed opens) refl refl)
     (one_call _ _ _ _ _ _ _ tells (one_call _ _ _ _ _ _ _ (passes (passed opens) refl refl) (no_calls _))))
+
+-- A bracket that was peeked at is peeked at again, and nothing else is answered: it is read already.
+second_peek_row : (d : Cursor) (answer : Answer) (r : Refusal) → answer ≡ event (Err r) →
+    Step w (at_spot start (peeked_at (spot 0))) peek answer d → ⊥
+second_peek_row d answer r e (repeats q call told is repeats_it) = cc
+second_peek_row d answer r e (peeks p none up) = cc
+second_peek_row d answer r e (peeks_without_memory p none up takes) =
+    let first : passed opens ≡ p = cc in
+    let made : holds_made (sequence_start array) ≡ true = rw (← first) at takes in cc
+second_peek_row d answer r e (peeks_at_the_end none up) = cc
 
 -- All that are left at once, a peeked one first; none where none is asked for.
 batch_row : Run w start (peek ∷ events 9 ∷ events 0 ∷ span ∷ [])

@@ -2,7 +2,7 @@
 use Rattle.std.specs.Prelude.{◌≡◌, ◌<◌, ℕ, zero, suc, ◌+◌, Bool, true, false, List, [], ◌∷◌, map, length, take, drop, slice_get, Option, Some, None, Result, Ok, Err}
 use Rattle.facet_format.specs.Span.{Span, span_at}
 use Rattle.facet_format.specs.Complaint.{Refusal, refusal_at, out_of_memory, save_limit}
-use Rattle.facet_format.specs.Event.{Event, Passed, takes_memory}
+use Rattle.facet_format.specs.Event.{Event, Passed, takes_memory, peek_takes_memory}
 use Rattle.facet_format.specs.Kept.{found, without, with_point}
 
 -- ---- calls
@@ -127,8 +127,9 @@ pub data Step (w : List Passed) (c : Cursor) : Call → Answer → Cursor → Ty
   passes_the_end : c.refusal ≡ None → upcoming w c.spot ≡ None → Step w c next (event (Ok None)) c
   peeks : (p : Passed) → c.refusal ≡ None → upcoming w c.spot ≡ Some p →
       Step w c peek (event (Ok (Some p.event))) (at_spot c (peeked_at c.spot))
+  -- a second peek of an event allocates only for the copy of a text that is made
   peeks_without_memory : (p : Passed) → c.refusal ≡ None → upcoming w c.spot ≡ Some p →
-      takes_memory p.event.kind ≡ true →
+      peek_takes_memory c.spot.peeked p.event.kind ≡ true →
       Step w c peek (event (Err (no_memory_at (current_span w c.spot)))) (refused_at c c.spot (no_memory_at (current_span w c.spot)))
   peeks_at_the_end : c.refusal ≡ None → upcoming w c.spot ≡ None → Step w c peek (event (Ok None)) c
   -- asked for none, also where the cursor is refused

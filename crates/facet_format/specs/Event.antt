@@ -83,3 +83,8 @@ takes_memory (sequence_start kind) = true
 takes_memory sequence_end = false
 takes_memory (field_key name) = is_owned name
 takes_memory (scalar value) = is_made value
+
+-- a peek of such an event may allocate: to read the event, and to copy a text that is made; an event that was peeked at is read already
+abbrev pub peek_takes_memory : Bool → EventKind → Bool
+peek_takes_memory false kind = takes_memory kind
+peek_takes_memory true kind = holds_made kind

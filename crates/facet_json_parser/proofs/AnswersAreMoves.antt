@@ -1,9 +1,9 @@
 -- What a call of a parser answers, after the reading of the next event, is a move.
-use Rattle.std.proofs.Common.{◌≡◌, ℕ, suc, ◌<◌, true, false, List, Option, Some, None, refl, sym, subst, ◌∙◌}
+use Rattle.std.proofs.Common.{◌≡◌, ℕ, suc, ◌<◌, Bool, true, false, List, Option, Some, None, refl, sym, subst, ◌∙◌}
 use Rattle.std.specs.Prelude.{Ok, Err, is_some, MatchOption, IfSome, IfNone}
 use Rattle.std.specs.Option.{option_map}
 use Rattle.facet_format.specs.Complaint.{Refusal, refusal_at, save_limit}
-use Rattle.facet_format.specs.Event.{Event, Passed}
+use Rattle.facet_format.specs.Event.{EventKind, field_key, scalar, Event, Passed, holds_made, peek_takes_memory}
 use Rattle.facet_format.specs.Kept.{found, without, with_point}
 use Rattle.facet_format.specs.Cursor.{Answer, event, saved, restored, spans, next, peek, save, restore, span, greatest, no_memory_at}
 use Rattle.facet_format.specs.declared.event.ParseEvent.{ParseEvent}
@@ -103,10 +103,17 @@ next-answers now mid made (Some o) s f e taken =
 
 -- ---- a peek
 
+-- A peek of an event with a text that is made allocates, the first as each other one.
+copy-takes : (peeked : Bool) (kind : EventKind) → holds_made kind ≡ true → peek_takes_memory peeked kind ≡ true
+copy-takes true kind e = e
+copy-takes false (field_key name) e = e
+copy-takes false (scalar value) e = e
+copy-takes false _ e = cc
+
 pub peek-refused : (now new : Now) (r : Refusal) → FillsParser now (Some r) new → Moves Complains now peek (event (Err r)) new
 peek-refused now new r (fill.repeats _ e) = repeats r peek (event (Err r)) e refl
 peek-refused now _ r (refuses _ t none (lacks_memory p future _ same comes takes off)) =
-    peeks_without_memory p future t none comes takes same
+    peeks_without_memory p future t none comes (rw off takes) same
 peek-refused now _ r (refuses _ t none (stops place rest _ _ same comes so)) = peeks_at_nothing place rest r t none comes so same
 
 pub peek-shown : (now mid : Now) (e : Event) (s : Standing) → FillsParser now None mid → Lends mid.standing e s →
@@ -131,7 +138,7 @@ pub peek-withheld : (now mid : Now) (s : Standing) → FillsParser now None mid 
     Moves Complains now peek (event (Err (no_memory_at (span_of s)))) (with_refusal mid s (no_memory_at (span_of s)))
 peek-withheld now _ s (fills t none f) w =
     let move = peeks_without_memory w.p (behind_held now.buffer now.mode t) t none
-    (fills-holds now.buffer now.mode now.standing t w.p f w.held) w.takes (fills-same now.buffer now.mode now.standing t f) in
+    (fills-holds now.buffer now.mode now.standing t w.p f w.held) (copy-takes _ w.p.event.kind w.made) (fills-same now.buffer now.mode now.standing t f) in
     rw w.new move
 
 pub peek-answers : (now mid made : Now) (o : Option ParseEvent) (s : Standing) → FillsParser now None mid → made ≡ mid →

@@ -214,8 +214,8 @@ impl<'de> FormatParser<'de> for JsonParser<'de> {
     ///
     /// # Errors
     ///
-    /// As `next_event`, and `OutOfMemory`, with the current span, where the event's owned text can't be copied. A refusal
-    /// sticks, until a point that is kept is restored.
+    /// As `next_event`, and `OutOfMemory`, with the current span, where the event's owned text can't be copied: for an event
+    /// that a peek answered before, only then. A refusal sticks, until a point that is kept is restored.
     fn peek_event<'t>(&mut self) -> Result<Option<ParseEvent<'de>>, ParseError<'t>>
         ensures steps { IsStep StandsAt self.old peek (answer_of_event result) self.new }
         ensures moves { Moves Complains self.old peek (answer_of_event result) self.new }

@@ -7,7 +7,7 @@ use Rattle.facet_json_token.specs.Token.{Token}
 use Rattle.facet_json_document.specs.Place.{Place}
 use Rattle.facet_format.specs.Complaint.{Refusal}
 use Rattle.facet_json_token.specs.Tokens.{Tokens}
-use Rattle.facet_format.specs.Event.{Event, Passed}
+use Rattle.facet_format.specs.Event.{Event, Passed, peek_takes_memory}
 use Rattle.facet_format.specs.Cursor.{Call, next, peek, events, save, restore, span, Answer, event, batch, saved, restored, spans, Spot, Cursor, Step, last_of, current_span, upcoming_events, moved, peeked_at, at_spot, refused_at, kept_here, no_memory_at}
 use Rattle.facet_format.specs.Cursor as cursor
 use Rattle.facet_json_document.specs.Future.{Future, gives, finished, stuck, events_before}
@@ -219,7 +219,8 @@ module _ (complains : List ℕ → Token → Refusal → Type 0) (now : Now) (w 
   moves-step (peeks p future s none comes shows) = peeked p future s none comes shows
   moves-step (peeks_without_memory p future s none comes takes like) =
       let first = comes-event w c.spot.place p future (sym stands.standing.comes ∙ comes) in
-      want s peek (λ r. event (Err r)) like (cursor.peeks_without_memory p (no_refusal none) first.there takes)
+      let allocates = ap (λ b. peek_takes_memory b p.event.kind) (sym stands.standing.peeked) ∙ takes in
+      want s peek (λ r. event (Err r)) like (cursor.peeks_without_memory p (no_refusal none) first.there allocates)
   moves-step (peeks_at_the_end s none e like) =
       rests s peek (event (Ok None)) like (cursor.peeks_at_the_end (no_refusal none) (no_more none e))
   moves-step (peeks_at_nothing place rest r s none e stops like) = absurd (not_stuck place rest e)

@@ -9,7 +9,7 @@ use Rattle.facet_json_document.specs.Meaning.{meaning}
 use Rattle.facet_json_document.specs.Place.{Place}
 use Rattle.facet_format.specs.Complaint.{Refusal, refusal_at, save_limit}
 use Rattle.facet_json_document.specs.Refusal.{IsStuck}
-use Rattle.facet_format.specs.Event.{Event, Passed, takes_memory}
+use Rattle.facet_format.specs.Event.{Event, Passed, takes_memory, peek_takes_memory}
 use Rattle.facet_format.specs.Kept.{found, without, with_point}
 use Rattle.facet_format.specs.Cursor.{Call, next, peek, events, save, restore, span, Answer, event, batch, saved, restored, spans, greatest, no_memory_at, repeated}
 use Rattle.facet_json_document.specs.Future.{Future, gives, finished, stuck}
@@ -80,7 +80,7 @@ pub data Moves (complains : List ℕ → Token → Refusal → Type 0) (now : No
       NowShows now s (gives p future) now.standing.last true →
       Moves complains now peek (event (Ok (Some p.event))) (with_standing now s)
   peeks_without_memory : (p : Passed) (future : Future) (s : Standing) → now.refusal ≡ None →
-      future_of now ≡ gives p future → takes_memory p.event.kind ≡ true → IsAlike now s →
+      future_of now ≡ gives p future → peek_takes_memory (is_peeked now.standing) p.event.kind ≡ true → IsAlike now s →
       Moves complains now peek (event (Err (no_memory_at (span_of s)))) (with_refusal now s (no_memory_at (span_of s)))
   peeks_at_the_end : (s : Standing) → now.refusal ≡ None → future_of now ≡ finished → IsAlike now s →
       Moves complains now peek (event (Ok None)) (with_standing now s)

@@ -1,7 +1,7 @@
 -- What a parser does before a call that answers events: it reads the next one, where it holds none, and keeps it.
 use Rattle.std.specs.Prelude.{◌≡◌, ℕ, true, false, List, Option, Some, None, Result, Ok, Err}
 use Rattle.facet_format.specs.Complaint.{Refusal}
-use Rattle.facet_format.specs.Event.{Event, Passed, takes_memory}
+use Rattle.facet_format.specs.Event.{Event, Passed, holds_made, takes_memory}
 use Rattle.facet_format.specs.Cursor.{no_memory_at}
 use Rattle.facet_json_token.specs.Gap.{Mode}
 use Rattle.facet_json_token.specs.Tokens.{Tokens}
@@ -58,7 +58,7 @@ pub record Lends (s : Standing) (e : Event) (t : Standing) : Type 0 where
 pub record Withholds (s : Standing) (t : Standing) : Type 0 where
   pub p : Passed
   pub held : s.held ≡ Some p
-  pub takes : takes_memory p.event.kind ≡ true
+  pub made : holds_made p.event.kind ≡ true
   pub new : t ≡ s
 
 -- The next event is given, where room for it was there; at the end there is none.
