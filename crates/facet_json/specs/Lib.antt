@@ -21,7 +21,7 @@ pub use Rattle.facet_json_document.specs.Node
 pub use Rattle.facet_json_document.specs.Tree
 pub use Rattle.facet_json_document.specs.Meaning
 pub use Rattle.facet_json_document.specs.Document
-pub use Rattle.facet_json_document.specs.Spelled
+pub use Rattle.facet_json_document.specs.Order
 pub use Rattle.facet_json_document.specs.Walk
 pub use Rattle.facet_json_document.specs.Place
 pub use Rattle.facet_json_document.specs.Future

@@ -1,10 +1,7 @@
 //! What the definitions of documents and parsers mean, in the subject's own words: each law is the contract of a function
 //! without effect.
 
-pub use facet_json_document::laws::{
-    document_is_found, one_document, one_spelling, plain_is_jsonc, spelled_is_spells,
-    whole_document_is_found,
-};
+pub use facet_json_document::laws::{one_document, one_spelling, plain_is_jsonc};
 pub use facet_json_prefix::laws::{
     begun_is_front, begun_is_prefix, front_gives_walk, front_is_begun, input_comes, one_given,
     prefix_gives_walk, prefix_is_begun, refused_has_none,

@@ -1,6 +1,8 @@
 pub mod Rows
+pub mod Spelled
 pub mod Spelling
 pub mod StuckComes
+pub mod TokensInOrder
 pub mod TreesOfParts
 pub mod TurnsStop
 pub mod WalkComes

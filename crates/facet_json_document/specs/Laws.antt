@@ -1,11 +1,10 @@
 -- What the definitions mean, in the subject's own words. Each law is the contract of a function of the module `laws`.
-use Rattle.std.specs.Prelude.{◌≡◌, ℕ, ◌↔◌, List, Some}
+use Rattle.std.specs.Prelude.{◌≡◌, ℕ, List}
 use Rattle.facet_json_token.specs.Gap.{Mode, plain, jsonc}
 use Rattle.facet_json_document.specs.Node.{Node, Spells}
 use Rattle.facet_json_token.specs.Tokens.{Tokens}
 use Rattle.facet_json_document.specs.Tree.{Tree}
-use Rattle.facet_json_document.specs.Document.{IsDocument, IsWholeDocument}
-use Rattle.facet_json_document.specs.Spelled.{spelled, document, whole_document}
+use Rattle.facet_json_document.specs.Document.{IsDocument}
 
 -- No spelling of a value is a proper prefix of another's, and tokens spell one value at most.
 abbrev pub OneSpelling : Type 0
@@ -15,20 +14,6 @@ OneSpelling = (ts r s : Tokens) (a b : Node) → Spells ts a r → Spells ts b s
 abbrev pub OneDocument : Type 0
 OneDocument = (buffer : List ℕ) (mode : Mode) (a b : Node) (v w : Tree) → IsDocument buffer mode a v → IsDocument buffer mode b w → (a ≡ b)
     × (v ≡ w)
-
--- The value that is computed from tokens is the one value that they spell.
-abbrev pub SpelledIsSpells : Type 0
-SpelledIsSpells = (ts rest : Tokens) (node : Node) → (spelled ts ≡ Some (node, rest)) ↔ Spells ts node rest
-
--- The document that is computed is the one document of the input.
-abbrev pub DocumentIsFound : Type 0
-DocumentIsFound = (buffer : List ℕ) (mode : Mode) (root : Node) (value : Tree) →
-    (document buffer mode ≡ Some (root, value)) ↔ IsDocument buffer mode root value
-
--- What is computed as the whole document of a text is the one plain document that all of it is.
-abbrev pub WholeDocumentIsFound : Type 0
-WholeDocumentIsFound = (buffer : List ℕ) (root : Node) (value : Tree) →
-    (whole_document buffer ≡ Some (root, value)) ↔ IsWholeDocument buffer root value
 
 -- A plain document is the same JSONC document.
 abbrev pub PlainIsJsonc : Type 0

@@ -3,10 +3,10 @@ pub mod Future
 pub mod Laws
 pub mod Meaning
 pub mod Node
+pub mod Order
 pub mod Place
 pub mod Quoted
 pub mod Refusal
-pub mod Spelled
 pub mod Text
 pub mod TextLaws
 pub mod Tree

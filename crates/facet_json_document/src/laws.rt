@@ -3,8 +3,5 @@
 mod documents;
 mod texts;
 
-pub use documents::{
-    document_is_found, one_document, one_spelling, plain_is_jsonc, spelled_is_spells,
-    whole_document_is_found,
-};
+pub use documents::{one_document, one_spelling, plain_is_jsonc};
 pub use texts::quoted_by_characters;

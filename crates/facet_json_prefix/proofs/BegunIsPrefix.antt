@@ -1,4 +1,6 @@
 -- A prefix of tokens begins a document exactly where it is a prefix of the spelling of some value.
+use Rattle.std.specs.Prelude.{All}
+use Rattle.std.proofs.lemmas.List.Elements.{All-nil, All-same}
 use Rattle.std.proofs.Common.{◌≡◌, ℕ, ◌⊎◌, inl, inr, true, List, [], ◌∷◌, ◌++◌, Some, refl, sym, ap, ◌∙◌, subst, arith}
 use Rattle.facet_format.specs.Span.{span_at}
 use Rattle.facet_json_token.specs.Token.{Kind, Token}
@@ -17,88 +19,10 @@ use Rattle.facet_json_document.specs.Future.{Stage, within, over}
 use Rattle.facet_json_prefix.specs.Begun.{Begun, nothing, whole, in_list, in_object, ListBegun, begins_item, past_item, ObjectBegun, no_key, key_alone, begins_member, past_member, tokens_before}
 use Rattle.facet_json_document.proofs.Spelling.TokenSuffixes.{IsSuffix, all, later, Spells-suffix}
 use Rattle.facet_json_document.proofs.TreesOfParts.{list_meant, object_meant, item_meant, member_meant}
-use Rattle.facet_json_prefix.specs.EventLaws.{BegunIsPrefix, PrefixIsBegun, PrefixGivesWalk, OneGiven}
+use Rattle.facet_json_prefix.specs.EventLaws.{BegunIsPrefix, PrefixIsBegun, OneGiven, EndsAmong}
+use Rattle.facet_json_prefix.proofs.OwnTokens.{before-append, ends-first, ends-key, ends-join, spelled_by}
 use Rattle.facet_json_prefix.proofs.ValueOrPrefix.{IsMeaning, suffix-count}
-use Rattle.facet_json_prefix.proofs.LongestPrefix.{is_meaning, front-walk, given_once, input-comes}
-
--- ---- lists of tokens before others
-
-pub before-append : (a b : List Token) (rest : Tokens) → tokens_before (a ++ b) rest ≡ tokens_before a (tokens_before b rest)
-before-append [] b rest = refl
-before-append (t ∷ a) b rest = ap (next t) (before-append a b rest)
-
--- ---- a spelling's own tokens
-
--- The tokens before the rest are these, and whatever else follows them, they spell the same.
-record SpelledBy (ts : Tokens) (node : Node) (rest : Tokens) : Type 0 where
-  own : List Token
-  here : ts ≡ tokens_before own rest
-  anywhere : (other : Tokens) → Spells (tokens_before own other) node other
-
-record ItemsBy (ts : Tokens) (nodes : Nodes) (last : Token) (rest : Tokens) : Type 0 where
-  own : List Token
-  here : ts ≡ tokens_before own rest
-  anywhere : (other : Tokens) → SpellsItems (tokens_before own other) nodes last other
-
-record MembersBy (ts : Tokens) (members : Members) (last : Token) (rest : Tokens) : Type 0 where
-  own : List Token
-  here : ts ≡ tokens_before own rest
-  anywhere : (other : Tokens) → SpellsMembers (tokens_before own other) members last other
-
-mutual
-  spelled_by : {ts rest : Tokens} {node : Node} → Spells ts node rest → SpelledBy ts node rest
-  spelled_by (one_token t rest k) = record { own = t ∷ []; here = refl; anywhere = λ other. one_token t other k }
-  spelled_by (brackets first last inner rest nodes k s) =
-      let by = items_by s in
-      record {
-        own = first ∷ by.own;
-        here = ap (next first) by.here;
-        anywhere = λ other. brackets first last (tokens_before by.own other) other nodes k (by.anywhere other);
-      }
-  spelled_by (braces first last inner rest ms k s) =
-      let by = members_by s in
-      record {
-        own = first ∷ by.own;
-        here = ap (next first) by.here;
-        anywhere = λ other. braces first last (tokens_before by.own other) other ms k (by.anywhere other);
-      }
-
-  items_by : {ts rest : Tokens} {nodes : Nodes} {last : Token} → SpellsItems ts nodes last rest → ItemsBy ts nodes last rest
-  items_by (closed last rest k) = record { own = last ∷ []; here = refl; anywhere = λ other. closed last other k }
-  items_by (item_and_comma ts others rest node nodes separator last s k more) =
-      let by = spelled_by s in
-      let behind = items_by more in
-      record {
-        own = by.own ++ separator ∷ behind.own;
-        here = by.here ∙ ap (λ r. tokens_before by.own (next separator r)) behind.here ∙ sym (before-append by.own (separator ∷ behind.own) rest);
-        anywhere = λ other. rw (before-append by.own (separator ∷ behind.own) other) (item_and_comma (tokens_before by.own (next separator (tokens_before behind.own other))) (tokens_before behind.own other) other node nodes separator last (by.anywhere (next separator (tokens_before behind.own other))) k (behind.anywhere other));
-      }
-  items_by (last_item ts rest node last s k) =
-      let by = spelled_by s in
-      record {
-        own = by.own ++ last ∷ [];
-        here = by.here ∙ sym (before-append by.own (last ∷ []) rest);
-        anywhere = λ other. rw (before-append by.own (last ∷ []) other) (last_item (tokens_before by.own (next last other)) other node last (by.anywhere (next last other)) k);
-      }
-
-  members_by : {ts rest : Tokens} {members : Members} {last : Token} → SpellsMembers ts members last rest →
-      MembersBy ts members last rest
-  members_by (ended_members last rest k) = record { own = last ∷ []; here = refl; anywhere = λ other. ended_members last other k }
-  members_by (member_and_comma ts others rest key mark node ms separator last i c s k more) =
-      let by = spelled_by s in
-      let behind = members_by more in
-      record {
-        own = key ∷ mark ∷ by.own ++ separator ∷ behind.own;
-        here = ap (λ r. next key (next mark r)) (by.here ∙ ap (λ r. tokens_before by.own (next separator r)) behind.here ∙ sym (before-append by.own (separator ∷ behind.own) rest));
-        anywhere = λ other. rw (before-append by.own (separator ∷ behind.own) other) (member_and_comma (tokens_before by.own (next separator (tokens_before behind.own other))) (tokens_before behind.own other) other key mark node ms separator last i c (by.anywhere (next separator (tokens_before behind.own other))) k (behind.anywhere other));
-      }
-  members_by (last_member ts rest key mark node last i c s k) =
-      let by = spelled_by s in
-      record {
-        own = key ∷ mark ∷ by.own ++ last ∷ [];
-        here = ap (λ r. next key (next mark r)) (by.here ∙ sym (before-append by.own (last ∷ []) rest));
-        anywhere = λ other. rw (before-append by.own (last ∷ []) other) (last_member (tokens_before by.own (next last other)) other key mark node last i c (by.anywhere (next last other)) k);
-      }
+use Rattle.facet_json_prefix.proofs.LongestPrefix.{is_meaning, given_once, input-comes}
 
 -- ---- what completes a prefix
 
@@ -107,8 +31,8 @@ abbrev any_token : Kind → Token
 any_token kind = record { kind = kind; span = span_at 0 0 }
 
 module _ (m : Meaning) (sane : IsMeaning m) where
-  -- The prefix's tokens are these, and with some after them they spell a value with a meaning.
-  pub record Completed (ts rest : Tokens) : Type 0 where
+  -- The prefix's tokens are these, in which its events end, and with some after them they spell a value with a meaning.
+  pub record Completed (ts rest : Tokens) (events : List Passed) : Type 0 where
     pub front : List Token
     pub back : List Token
     pub node : Node
@@ -116,8 +40,9 @@ module _ (m : Meaning) (sane : IsMeaning m) where
     pub here : ts ≡ tokens_before front rest
     pub anywhere : (other : Tokens) → Spells (tokens_before front (tokens_before back other)) node other
     pub has_tree : tree_of m node ≡ Some value
+    pub ends : All (EndsAmong front) events
 
-  pub record ListCompleted (ts rest : Tokens) : Type 0 where
+  pub record ListCompleted (ts rest : Tokens) (events : List Passed) : Type 0 where
     pub front : List Token
     pub back : List Token
     pub nodes : Nodes
@@ -126,8 +51,9 @@ module _ (m : Meaning) (sane : IsMeaning m) where
     pub here : ts ≡ tokens_before front rest
     pub anywhere : (other : Tokens) → SpellsItems (tokens_before front (tokens_before back other)) nodes last other
     pub has_trees : trees_of m nodes ≡ Some values
+    pub ends : All (EndsAmong front) events
 
-  pub record ObjectCompleted (ts rest : Tokens) : Type 0 where
+  pub record ObjectCompleted (ts rest : Tokens) (events : List Passed) : Type 0 where
     pub front : List Token
     pub back : List Token
     pub members : Members
@@ -136,9 +62,10 @@ module _ (m : Meaning) (sane : IsMeaning m) where
     pub here : ts ≡ tokens_before front rest
     pub anywhere : (other : Tokens) → SpellsMembers (tokens_before front (tokens_before back other)) members last other
     pub has_pairs : pairs_of m members ≡ Some values
+    pub ends : All (EndsAmong front) events
 
   -- Nothing is completed by a null.
-  null_completes : (ts : Tokens) → Completed ts ts
+  null_completes : (ts : Tokens) → Completed ts ts []
   unfolding tree_of
   null_completes ts =
       let meant = sane.literals (any_token token.null) refl refl in
@@ -150,12 +77,13 @@ module _ (m : Meaning) (sane : IsMeaning m) where
         here = refl;
         anywhere = λ other. one_token (any_token token.null) other refl;
         has_tree = meant.1;
+        ends = All-nil (EndsAmong []);
       }
 
   -- An item is completed by what completes it and a closing bracket.
-  item_completes : (ts rest : Tokens) → Completed ts rest → ListCompleted ts rest
+  item_completes : (ts rest : Tokens) (events : List Passed) → Completed ts rest events → ListCompleted ts rest events
   unfolding trees_of
-  item_completes ts rest c =
+  item_completes ts rest events c =
       let end = any_token token.array_end in
       let has = c.has_tree in
       record {
@@ -167,13 +95,15 @@ module _ (m : Meaning) (sane : IsMeaning m) where
         here = c.here;
         anywhere = λ other. rw (before-append c.back (end ∷ []) other) (last_item (tokens_before c.front (tokens_before c.back (next end other))) other c.node end (c.anywhere (next end other)) refl);
         has_trees = rw has refl;
+        ends = c.ends;
       }
 
   -- A member is completed by what completes its value and a closing brace.
-  member_completes : (key mark : Token) (ts rest : Tokens) (name : List ℕ) → is_string key.kind ≡ true →
-      text_of (m key) ≡ Some name → mark.kind ≡ token.colon → Completed ts rest → ObjectCompleted (next key (next mark ts)) rest
+  member_completes : (key mark : Token) (ts rest : Tokens) (name : List ℕ) (events : List Passed) → is_string key.kind ≡ true →
+      text_of (m key) ≡ Some name → mark.kind ≡ token.colon → Completed ts rest events →
+      ObjectCompleted (next key (next mark ts)) rest (key_event m key mark ∷ events)
   unfolding pairs_of
-  member_completes key mark ts rest name k n p c =
+  member_completes key mark ts rest name events k n p c =
       let end = any_token token.object_end in
       let has = c.has_tree in
       record {
@@ -185,6 +115,7 @@ module _ (m : Meaning) (sane : IsMeaning m) where
         here = ap (λ r. next key (next mark r)) c.here;
         anywhere = λ other. rw (before-append c.back (end ∷ []) other) (last_member (tokens_before c.front (tokens_before c.back (next end other))) other key mark c.node end k p (c.anywhere (next end other)) refl);
         has_pairs = rw (n, has) refl;
+        ends = ends-key m key mark c.front events c.ends;
       }
 
   mutual
@@ -192,11 +123,20 @@ module _ (m : Meaning) (sane : IsMeaning m) where
 
     -- A begun value is completed.
     pub begun-completes : {place : Place} {after here : Stage} {ts rest : Tokens} {events : List Passed} →
-        Begun m place after ts events here rest → Completed ts rest
+        Begun m place after ts events here rest → Completed ts rest events
     begun-completes (nothing place after ts) = null_completes ts
     begun-completes (whole place after ts rest node value s t) =
-        let by = spelled_by s in
-        record { front = by.own; back = []; node = node; value = value; here = by.here; anywhere = by.anywhere; has_tree = t }
+        let by = spelled_by m s in
+        record {
+          front = by.own;
+          back = [];
+          node = node;
+          value = value;
+          here = by.here;
+          anywhere = by.anywhere;
+          has_tree = t;
+          ends = by.ends;
+        }
     begun-completes (in_list place after here first inner rest events k b) =
         let c = list-completes b in
         let has = c.has_trees in
@@ -208,6 +148,7 @@ module _ (m : Meaning) (sane : IsMeaning m) where
           here = ap (next first) c.here;
           anywhere = λ other. brackets first c.last (tokens_before c.front (tokens_before c.back other)) other c.nodes k (c.anywhere other);
           has_tree = rw has refl;
+          ends = ends-first first c.front _ events c.ends;
         }
     begun-completes (in_object place after here first inner rest events k b) =
         let c = object-completes b in
@@ -220,12 +161,14 @@ module _ (m : Meaning) (sane : IsMeaning m) where
           here = ap (next first) c.here;
           anywhere = λ other. braces first c.last (tokens_before c.front (tokens_before c.back other)) other c.members k (c.anywhere other);
           has_tree = rw has refl;
+          ends = ends-first first c.front _ events c.ends;
         }
 
-    pub list-completes : {here : Stage} {ts rest : Tokens} {events : List Passed} → ListBegun m ts events here rest → ListCompleted ts rest
-    list-completes (begins_item ts rest events here b) = item_completes ts rest (begun-completes b)
+    pub list-completes : {here : Stage} {ts rest : Tokens} {events : List Passed} → ListBegun m ts events here rest →
+        ListCompleted ts rest events
+    list-completes (begins_item ts rest events here b) = item_completes ts rest events (begun-completes b)
     list-completes (past_item ts others rest node value separator events total here s t k b a) =
-        let by = spelled_by s in
+        let by = spelled_by m s in
         let c = list-completes b in
         let has = c.has_trees in
         record {
@@ -237,16 +180,27 @@ module _ (m : Meaning) (sane : IsMeaning m) where
           here = by.here ∙ ap (λ r. tokens_before by.own (next separator r)) c.here ∙ sym (before-append by.own (separator ∷ c.front) rest);
           anywhere = λ other. rw (before-append by.own (separator ∷ c.front) (tokens_before c.back other)) (item_and_comma (tokens_before by.own (next separator (tokens_before c.front (tokens_before c.back other)))) (tokens_before c.front (tokens_before c.back other)) other node c.nodes separator c.last (by.anywhere (next separator (tokens_before c.front (tokens_before c.back other)))) k (c.anywhere other));
           has_trees = rw (t, has) refl;
+          ends = All-same (EndsAmong (by.own ++ separator ∷ c.front)) total (walk m node ++ events) a (ends-join by.own c.front separator (walk m node) events by.ends c.ends);
         }
 
     pub object-completes : {here : Stage} {ts rest : Tokens} {events : List Passed} → ObjectBegun m ts events here rest →
-        ObjectCompleted ts rest
+        ObjectCompleted ts rest events
     object-completes (no_key ts) =
         let end = any_token token.object_end in
-        record { front = []; back = end ∷ []; members = no_members; last = end; values = no_pairs; here = refl; anywhere = λ other. ended_members end other refl; has_pairs = refl }
+        record {
+          front = [];
+          back = end ∷ [];
+          members = no_members;
+          last = end;
+          values = no_pairs;
+          here = refl;
+          anywhere = λ other. ended_members end other refl;
+          has_pairs = refl;
+          ends = All-nil (EndsAmong []);
+        }
     object-completes (key_alone key rest name k n) =
         let mark = any_token token.colon in
-        let c = member_completes key mark rest rest name k n refl (null_completes rest) in
+        let c = member_completes key mark rest rest name [] k n refl (null_completes rest) in
         let has = c.has_pairs in
         record {
           front = key ∷ [];
@@ -257,11 +211,12 @@ module _ (m : Meaning) (sane : IsMeaning m) where
           here = refl;
           anywhere = c.anywhere;
           has_pairs = has;
+          ends = All-nil (EndsAmong (key ∷ []));
         }
     object-completes (begins_member key mark ts rest name events here k n p b) =
-        member_completes key mark ts rest name k n p (begun-completes b)
+        member_completes key mark ts rest name events k n p (begun-completes b)
     object-completes (past_member key mark ts others rest name node value separator events total here k n p s t q b a) =
-        let by = spelled_by s in
+        let by = spelled_by m s in
         let c = object-completes b in
         let has = c.has_pairs in
         record {
@@ -273,6 +228,7 @@ module _ (m : Meaning) (sane : IsMeaning m) where
           here = ap (λ r. next key (next mark r)) (by.here ∙ ap (λ r. tokens_before by.own (next separator r)) c.here ∙ sym (before-append by.own (separator ∷ c.front) rest));
           anywhere = λ other. rw (before-append by.own (separator ∷ c.front) (tokens_before c.back other)) (member_and_comma (tokens_before by.own (next separator (tokens_before c.front (tokens_before c.back other)))) (tokens_before c.front (tokens_before c.back other)) other key mark node c.members separator c.last k p (by.anywhere (next separator (tokens_before c.front (tokens_before c.back other)))) q (c.anywhere other));
           has_pairs = rw (n, t, has) refl;
+          ends = All-same (EndsAmong (key ∷ mark ∷ by.own ++ separator ∷ c.front)) total (key_event m key mark ∷ walk m node ++ events) a (ends-key m key mark (by.own ++ separator ∷ c.front) (walk m node ++ events) (ends-join by.own c.front separator (walk m node) events by.ends c.ends));
         }
 
 -- ---- what begins a spelling
@@ -434,7 +390,7 @@ begun_is_prefix buffer ts rest events here b =
     (c.front, c.back, c.node, c.value, c.here, c.anywhere, c.has_tree)
 
 -- Tokens stand before their rest.
-before-suffix : (front : List Token) (rest : Tokens) → IsSuffix (tokens_before front rest) rest
+pub before-suffix : (front : List Token) (rest : Tokens) → IsSuffix (tokens_before front rest) rest
 before-suffix [] rest = all rest
 before-suffix (t ∷ front) rest = later t (tokens_before front rest) rest (before-suffix front rest)
 
@@ -442,10 +398,6 @@ before-suffix (t ∷ front) rest = later t (tokens_before front rest) rest (befo
 pub prefix_is_begun : PrefixIsBegun
 prefix_is_begun buffer front back other node value s t =
     spelled-begins (meaning buffer) value (tokens_before back other) root over s t (before-suffix front (tokens_before back other)) (before-suffix back other)
-
--- It gives the first events of the walk, and the others come from after it.
-pub prefix_gives_walk : PrefixGivesWalk
-prefix_gives_walk buffer ts mid rest node value events here b s t = front-walk (meaning buffer) ts mid rest node value events here b s t
 
 -- An input without a document has a longest prefix, and all longest prefixes give the same events.
 pub one_given : OneGiven

@@ -1,5 +1,7 @@
 pub mod BegunIsPrefix
 pub mod LongestPrefix
+pub mod OwnTokens
+pub mod PrefixGivesWalk
 pub mod RefusedHasNone
 pub mod SomeRefusal
 pub mod ValueOrPrefix

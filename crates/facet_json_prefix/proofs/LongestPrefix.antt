@@ -11,7 +11,7 @@ use Rattle.facet_json_document.specs.Tree.{Tree}
 use Rattle.facet_json_document.specs.Tree as trees
 use Rattle.facet_json_document.specs.Meaning.{Meaning, meaning_of, meaning, tree_of, text_of}
 use Rattle.facet_json_document.specs.Document.{IsDocument}
-use Rattle.facet_json_document.specs.Spelled.{count}
+use Rattle.facet_json_document.specs.Order.{count}
 use Rattle.facet_json_document.specs.Place.{Place, root, before_key, after_key, after_colon, before_item, is_colon}
 use Rattle.facet_json_document.specs.Refusal.{needs_meaning}
 use Rattle.facet_format.specs.Event.{ContainerKind, object, array, Passed}
@@ -19,7 +19,7 @@ use Rattle.facet_format.specs.Event as event
 use Rattle.facet_json_document.specs.Walk.{event_at, key_event, walk}
 use Rattle.facet_json_document.specs.Future.{Future, gives, finished, stuck, events_before, Stage, within, over, after_value, Turn, stops, passes, says, says_scalar, names, turn, reads, reads_colon}
 use Rattle.facet_json_prefix.specs.Begun.{Begun, nothing, whole, in_list, in_object, ListBegun, begins_item, past_item, ObjectBegun, no_key, key_alone, begins_member, past_member, BegunDocument, LongestPrefix}
-use Rattle.facet_json_prefix.specs.EventLaws.{IsReadFrom, from_stage, from_key, IsGiven, RootComes, document_comes, prefix_comes, InputComes}
+use Rattle.facet_json_prefix.specs.EventLaws.{IsGiven, RootComes, document_comes, prefix_comes, InputComes}
 use Rattle.facet_json_document.proofs.WalkComes.{TakesValue, at_root, behind_colon, of_list, events_before-append, follows, reads-turn, reads-array, reads-object, reads-item_comma, reads-member_comma, reads-key, reads-names, walk-comes, document-comes}
 use Rattle.facet_json_prefix.proofs.ValueOrPrefix.{IsMeaning, ValueComes, value_stands, value_stops, root-comes}
 
@@ -56,10 +56,6 @@ pub data IsReadAt (m : Meaning) (future : Future) (here : Stage) (ts : Tokens) :
   at_stage : (stack : List ContainerKind) → future ≡ reads m stack here ts → IsReadAt m future here ts
   at_key : (stack : List ContainerKind) (key : Token) → here ≡ within after_key → future ≡ reads_colon m stack key ts →
       IsReadAt m future here ts
-
-read-somewhere : {m : Meaning} {future : Future} {here : Stage} {ts : Tokens} → IsReadAt m future here ts → IsReadFrom m future ts
-read-somewhere {here = here} (at_stage stack f) = from_stage stack here f
-read-somewhere (at_key stack key e f) = from_key stack key f
 
 -- These events come, and then what is read from the last tokens on.
 pub record Leads (m : Meaning) (start : Future) (events : List Passed) (here : Stage) (rest : Tokens) : Type 0 where
@@ -123,8 +119,8 @@ module _ (m : Meaning) where
   -- ---- where nothing comes any more
 
   -- Wherever these tokens are stuck at the end, they are as many more as the events that they give, or more.
-  abbrev pub EndsIn : Tokens → Type 0
-  EndsIn ts = (stack : List ContainerKind) (stage : Stage) (events : List Passed) (here : Place) (rest : Tokens) →
+  abbrev pub EndsAmong : Tokens → Type 0
+  EndsAmong ts = (stack : List ContainerKind) (stage : Stage) (events : List Passed) (here : Place) (rest : Tokens) →
       reads m stack stage ts ≡ events_before events (stuck here rest) → count rest + length events ≤ count ts
 
   -- the same after a key
@@ -138,7 +134,7 @@ module _ (m : Meaning) where
       let same : ts ≡ rest = cc in
       omega (arith, ap count same)
 
-  turn-count : (stack : List ContainerKind) (place : Place) (t : Token) (ts : Tokens) (way : Turn) → EndsIn ts →
+  turn-count : (stack : List ContainerKind) (place : Place) (t : Token) (ts : Tokens) (way : Turn) → EndsAmong ts →
       EndsBehindKey ts → (events : List Passed) (here : Place) (rest : Tokens) →
       follows m place t stack ts way ≡ events_before events (stuck here rest) → count rest + length events ≤ suc (count ts)
   turn-count stack place t ts stops h g [] here rest e = none_given (next t ts) rest place here e
@@ -154,7 +150,7 @@ module _ (m : Meaning) where
       omega (arith, h others stage events here rest same)
   turn-count stack place t ts names h g events here rest e = omega (arith, g stack t events here rest e)
 
-  mark-count : (stack : List ContainerKind) (key mark : Token) (ts : Tokens) (b : Bool) → EndsIn ts → is_colon mark.kind ≡ b →
+  mark-count : (stack : List ContainerKind) (key mark : Token) (ts : Tokens) (b : Bool) → EndsAmong ts → is_colon mark.kind ≡ b →
       (events : List Passed) (here : Place) (rest : Tokens) →
       reads_colon m stack key (next mark ts) ≡ events_before events (stuck here rest) → count rest + length events ≤ suc (count ts)
   unfolding reads_colon
@@ -174,7 +170,7 @@ module _ (m : Meaning) where
     unfolding reads
 
     -- Each event that is given takes a token at least.
-    pub stuck-count : (ts : Tokens) → EndsIn ts
+    pub stuck-count : (ts : Tokens) → EndsAmong ts
     stuck-count ts stack over [] here rest e = cc
     stuck-count ts stack over (p ∷ events) here rest e = cc
     stuck-count ended stack (within place) [] here rest e = none_given ended rest place here e
@@ -272,12 +268,12 @@ over-finished m ts = refl
 -- A prefix gives the first events of the walk of each value that goes on from it.
 pub front-walk : (m : Meaning) (ts mid rest : Tokens) (node : Node) (value : Tree) (events : List Passed) (here : Stage) →
     BegunDocument m ts events here mid → Spells ts node rest → tree_of m node ≡ Some value →
-    (more : List Passed) × (walk m node ≡ events ++ more) × IsReadFrom m (events_before more finished) mid
+    (more : List Passed) × (walk m node ≡ events ++ more) × IsReadAt m (events_before more finished) here mid
 front-walk m ts mid rest node value events here b s t =
     let leads = begun-leads m [] b at_root refl in
     let whole_walk = walk-comes m value s t [] root at_root ∙ ap (events_before (walk m node)) (over-finished m rest) in
     let found = tail-finished events (walk m node) leads.behind (sym leads.comes ∙ whole_walk) in
-    (found.0, found.1, subst (λ f. IsReadFrom m f mid) found.2 (read-somewhere leads.from))
+    (found.0, found.1, subst (λ f. IsReadAt m f here mid) found.2 leads.from)
 
 -- An input without a document has a longest prefix, and all longest prefixes give the same events.
 pub given_once : (buffer : List ℕ) (mode : Mode) → ((node : Node) (value : Tree) → IsDocument buffer mode node value → ⊥) →

@@ -9,7 +9,7 @@ use Rattle.facet_json_document.specs.Node as shapes
 use Rattle.facet_json_document.specs.Tree.{Tree, Trees, no_trees, Pairs, no_pairs}
 use Rattle.facet_json_document.specs.Tree as trees
 use Rattle.facet_json_document.specs.Meaning.{Meaning, tree_of, trees_of, pairs_of, text_of}
-use Rattle.facet_json_document.specs.Spelled.{count}
+use Rattle.facet_json_document.specs.Order.{count}
 use Rattle.facet_json_document.specs.Place.{Place, root, before_key, after_key, after_colon, after_member, before_item, after_item, is_colon}
 use Rattle.facet_json_document.specs.Refusal.{needs_meaning}
 use Rattle.facet_format.specs.Event.{ContainerKind, object, array, Passed}

@@ -7,7 +7,7 @@ use Rattle.facet_json_token.specs.Tokens.{Tokens, next, tokens}
 use Rattle.facet_json_document.specs.Node.{Node, Spells, is_string}
 use Rattle.facet_json_document.specs.Tree.{Tree}
 use Rattle.facet_json_document.specs.Meaning.{Meaning, meaning, tree_of, text_of}
-use Rattle.facet_json_document.specs.Spelled.{count}
+use Rattle.facet_json_document.specs.Order.{count}
 use Rattle.facet_json_document.specs.Place.{Place, root, before_key, after_key, after_colon, after_member, before_item, after_item}
 use Rattle.facet_format.specs.Complaint.{Refusal}
 use Rattle.facet_json_document.specs.Refusal.{IsStuck}

@@ -1,16 +1,16 @@
 -- Laws of begun documents and of what they give.
-use Rattle.std.specs.Prelude.{ℕ, ◌≡◌, List, ◌++◌, Some, []}
+use Rattle.std.specs.Prelude.{ℕ, ◌≡◌, List, [], ◌++◌, All, Contains, Some}
 use Rattle.facet_json_token.specs.Gap.{Mode}
 use Rattle.facet_json_token.specs.Token.{Token}
 use Rattle.facet_json_token.specs.Tokens.{Tokens, tokens}
 use Rattle.facet_json_document.specs.Node.{Node, Spells}
 use Rattle.facet_json_document.specs.Tree.{Tree}
-use Rattle.facet_json_document.specs.Meaning.{Meaning, meaning, tree_of}
+use Rattle.facet_json_document.specs.Meaning.{meaning, tree_of}
 use Rattle.facet_json_document.specs.Document.{IsDocument}
 use Rattle.facet_json_document.specs.Place.{Place, root}
-use Rattle.facet_format.specs.Event.{ContainerKind, Passed}
+use Rattle.facet_format.specs.Event.{Passed}
 use Rattle.facet_json_document.specs.Walk.{walk}
-use Rattle.facet_json_document.specs.Future.{Future, finished, events_before, Stage, reads, reads_colon, stuck, within}
+use Rattle.facet_json_document.specs.Future.{finished, events_before, Stage, reads, stuck, within}
 use Rattle.facet_json_prefix.specs.Begun.{BegunDocument, LongestPrefix, tokens_before}
 use Rattle.facet_format.specs.Complaint.{Refusal}
 use Rattle.facet_json_prefix.specs.Refusal.{Refuses}
@@ -30,17 +30,18 @@ PrefixIsBegun = (buffer : List ℕ) (front back : List Token) (other : Tokens) (
     (events : List Passed) × (here : Stage)
     × BegunDocument (meaning buffer) (tokens_before front (tokens_before back other)) events here (tokens_before back other)
 
--- The future is what is read from these tokens on, from some stage, or after some key.
-pub data IsReadFrom (m : Meaning) (future : Future) (ts : Tokens) : Type 0 where
-  from_stage : (stack : List ContainerKind) (stage : Stage) → future ≡ reads m stack stage ts → IsReadFrom m future ts
-  from_key : (stack : List ContainerKind) (key : Token) → future ≡ reads_colon m stack key ts → IsReadFrom m future ts
+-- The event's last token is one of these.
+abbrev pub EndsAmong : List Token → Passed → Type 0
+EndsAmong ts p = (t : Token) × Contains ts t × (p.last ≡ t.span)
 
--- Whatever value goes on from it, a prefix gives the first events of that value's walk, and the others are read from after it.
+-- Whatever value goes on from it, a prefix gives the first events of that value's walk. Their last tokens are among its own; those
+-- of the other events, in the tokens of an input, are not.
 abbrev pub PrefixGivesWalk : Type 0
-PrefixGivesWalk = (buffer : List ℕ) (ts mid rest : Tokens) (node : Node) (value : Tree) (events : List Passed) (here : Stage) →
-    BegunDocument (meaning buffer) ts events here mid → Spells ts node rest → tree_of (meaning buffer) node ≡ Some value →
-    (more : List Passed) × (walk (meaning buffer) node ≡ events ++ more)
-    × IsReadFrom (meaning buffer) (events_before more finished) mid
+PrefixGivesWalk = (buffer : List ℕ) (mode : Mode) (front : List Token) (mid rest : Tokens) (node : Node) (value : Tree)
+    (events : List Passed) (here : Stage) → BegunDocument (meaning buffer) (tokens_before front mid) events here mid →
+    Spells (tokens_before front mid) node rest → tree_of (meaning buffer) node ≡ Some value →
+    (more : List Passed) × (walk (meaning buffer) node ≡ events ++ more) × All (EndsAmong front) events
+    × (tokens buffer mode ≡ tokens_before front mid → All (λ p. EndsAmong front p → ⊥) more)
 
 -- what the longest prefix of an input gives
 abbrev pub IsGiven : List ℕ → Mode → List Passed → Type 0

@@ -1,9 +1,9 @@
 -- Where spans lie: each event that comes ends after the one before, within the input.
 use Rattle.std.specs.Prelude.{◌<◌, ◌≤◌, ℕ, List, [], ◌∷◌, length, Option, Some, None, Result, Ok, Err, IfSome, ⊤}
 use Rattle.facet_json_token.specs.Gap.{Mode}
-use Rattle.facet_json_token.specs.Token.{Token, Fault}
 use Rattle.facet_format.specs.Span.{stop}
-use Rattle.facet_json_token.specs.Tokens.{Tokens, ended, refused, next}
+use Rattle.facet_json_token.specs.Tokens.{Tokens}
+pub use Rattle.facet_json_document.specs.Order.{InOrder, at_the_end, at_a_fault, at_a_token}
 use Rattle.facet_json_document.specs.Place.{Place}
 use Rattle.facet_format.specs.Complaint.{Refusal}
 use Rattle.facet_format.specs.Event.{Event, Passed}
@@ -11,14 +11,7 @@ use Rattle.facet_format.specs.Cursor.{Answer, event, batch, saved, restored, spa
 use Rattle.facet_json_document.specs.Future.{Future, gives, finished, stuck}
 use Rattle.facet_json_protocol.specs.Now.{Standing, Now, future_at}
 
--- Each token ends after the one before, the first after this offset, and all with the fault after them lie within the buffer.
-pub data InOrder (buffer : List ℕ) : ℕ → Tokens → Type 0 where
-  at_the_end : (from : ℕ) → InOrder buffer from ended
-  at_a_fault : (from : ℕ) (f : Fault) → stop f.span ≤ length buffer → InOrder buffer from (refused f)
-  at_a_token : (from : ℕ) (t : Token) (ts : Tokens) → from < stop t.span → stop t.span ≤ length buffer →
-      InOrder buffer (stop t.span) ts → InOrder buffer from (next t ts)
-
--- The same of events and their last tokens.
+-- Each event ends after the one before, the first after this offset, and the tokens after them are in order.
 pub data IsSound (buffer : List ℕ) : ℕ → Future → Type 0 where
   sound_event : (from : ℕ) (p : Passed) (future : Future) → from < stop p.last → stop p.event.span ≤ stop p.last →
       stop p.last ≤ length buffer → IsSound buffer (stop p.last) future → IsSound buffer from (gives p future)

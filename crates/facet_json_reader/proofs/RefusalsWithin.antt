@@ -15,7 +15,7 @@ use Rattle.facet_json_document.specs.Place.{Place, is_colon}
 use Rattle.facet_json_document.specs.Refusal.{at_end, at_fault, meaningless, misplaced, Complains, of_number, of_plain_string, of_escaped_string}
 use Rattle.facet_json_reader.specs.Views.{stage_of, coming, StopsAt, IsRefusedBefore, without_memory, at_a_stop}
 use Rattle.facet_json_document.proofs.WalkComes.{follows, reads-turn}
-use Rattle.facet_json_document.proofs.Spelling.TokenSuffixes.{AreWithin, at_a_fault, at_a_token, past_within}
+use Rattle.facet_json_document.proofs.TokensInOrder.{AreWithin, fault_within, token_within, tokens-in_order, in_order-within}
 
 -- the tokens at which nothing goes on
 abbrev stuck_at : Tokens → Future → Tokens
@@ -58,8 +58,8 @@ module _ (buffer : List ℕ) (m : Meaning) where
   rest_within stack over all ts place e w = cc
   rest_within stack (within p) ended ts place e w = subst (AreWithin buffer) (same_rest _ place _ ts e) w
   rest_within stack (within p) (refused f) ts place e w = subst (AreWithin buffer) (same_rest _ place _ ts e) w
-  rest_within stack (within p) (next t rest) ts place e (at_a_token _ _ s w) =
-      turn_within stack p t rest ts place (turn m stack p t) (sym (reads-turn m stack p t rest (turn m stack p t) refl) ∙ e) (at_a_token t rest s w) w (λ others stage x. rest_within others stage rest ts place x w)
+  rest_within stack (within p) (next t rest) ts place e (token_within _ _ s w) =
+      turn_within stack p t rest ts place (turn m stack p t) (sym (reads-turn m stack p t rest (turn m stack p t) refl) ∙ e) (token_within t rest s w) w (λ others stage x. rest_within others stage rest ts place x w)
 
 -- A token without a meaning is refused for some bytes of the buffer.
 complains_within : (buffer : List ℕ) (t : Token) (r : Refusal) → Complains buffer t r → stop t.span ≤ length buffer →
@@ -71,10 +71,10 @@ complains_within buffer t r (of_escaped_string a b f k is e) w = rw e (fault-in_
 stops_within : (buffer : List ℕ) (place : Place) (ts : Tokens) (r : Refusal) → StopsAt buffer place ts r →
     AreWithin buffer ts → IfSome r.span (λ s. stop s ≤ length buffer)
 stops_within buffer place _ _ (at_end _) w = omega arith
-stops_within buffer place _ _ (at_fault _ f) (at_a_fault _ s) = s.within
-stops_within buffer place _ r (meaningless _ t rest _ k none because) (at_a_token _ _ s w) =
-    complains_within buffer t r because s.within
-stops_within buffer place _ _ (misplaced _ t rest k never) (at_a_token _ _ s w) = s.within
+stops_within buffer place _ _ (at_fault _ f) (fault_within _ s) = s
+stops_within buffer place _ r (meaningless _ t rest _ k none because) (token_within _ _ s w) =
+    complains_within buffer t r because s
+stops_within buffer place _ _ (misplaced _ t rest k never) (token_within _ _ s w) = s
 
 before_within : (buffer : List ℕ) (mode : Mode) (r : Reader) (last : Span) (future : Future) (refusal : Refusal) →
     coming buffer mode r ≡ future → r.position ≤ length buffer → stop last ≤ length buffer →
@@ -82,7 +82,7 @@ before_within : (buffer : List ℕ) (mode : Mode) (r : Reader) (last : Span) (fu
 before_within buffer mode r last _ _ e p l (without_memory _ future takes) = l
 before_within buffer mode r last _ refusal e p l (at_a_stop place ts _ stopped) =
     let all : AreWithin buffer (tokens_from buffer mode r.position) =
-    past_within buffer mode 0 r.position (drop r.position buffer) (omega (arith, p, length-drop r.position buffer)) in
+    in_order-within buffer r.position _ (tokens-in_order buffer mode r.position p) in
     stops_within buffer place ts refusal stopped (rest_within buffer (meaning buffer) r.contexts (stage_of r.stage) _ ts place e all)
 
 -- A refusal is about bytes of the input, where the last token that was passed stands there.

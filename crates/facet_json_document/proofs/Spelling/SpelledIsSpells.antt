@@ -1,18 +1,18 @@
 -- The value that is computed from tokens is the one that they spell, and so is an input's document.
-use Rattle.std.proofs.Common.{◌≡◌, ℕ, zero, suc, ◌+◌, ◌≤◌, true, Option, Some, None, refl, sym, ap, ◌∙◌, subst, arith}
+use Rattle.std.proofs.Common.{◌≡◌, ◌↔◌, List, ℕ, zero, suc, ◌+◌, ◌≤◌, true, Option, Some, None, refl, sym, ap, ◌∙◌, subst, arith}
 use Rattle.std.specs.Prelude.{⊤}
 use Rattle.std.specs.Option.{option_map, option_and_then}
-use Rattle.facet_json_token.specs.Gap.{plain}
+use Rattle.facet_json_token.specs.Gap.{Mode, plain}
 use Rattle.facet_json_token.specs.Token.{Kind, Token}
 use Rattle.facet_json_token.specs.Token as token
 use Rattle.facet_json_token.specs.Tokens.{Tokens, ended, refused, next, tokens}
 use Rattle.facet_json_document.specs.Node.{Node, scalar, array, object, Nodes, item, Members, member, is_scalar, is_string, Spells, one_token, brackets, braces, SpellsItems, closed, item_and_comma, last_item, SpellsMembers, ended_members, member_and_comma, last_member}
 use Rattle.facet_json_document.specs.Tree.{Tree}
 use Rattle.facet_json_document.specs.Meaning.{Meaning, meaning, tree_of}
-use Rattle.facet_json_document.specs.Document.{Reads, IsWholeDocument}
+use Rattle.facet_json_document.specs.Document.{Reads, IsDocument, IsWholeDocument}
 use Rattle.facet_json_document.specs.Place.{begins_value}
-use Rattle.facet_json_document.specs.Spelled.{ValueReader, ItemsReader, MembersReader, node_by, node_from, after_item_by, after_item_from, nodes_by, nodes_from, after_member_by, after_member_from, after_key_by, after_key_from, members_by, members_from, node_within, nodes_within, members_within, count, spelled, read_by, if_ended, whole_document}
-use Rattle.facet_json_document.specs.Laws.{SpelledIsSpells, DocumentIsFound, WholeDocumentIsFound}
+use Rattle.facet_json_document.specs.Order.{count}
+use Rattle.facet_json_document.proofs.Spelled.{ValueReader, ItemsReader, MembersReader, node_by, node_from, after_item_by, after_item_from, nodes_by, nodes_from, after_member_by, after_member_from, after_key_by, after_key_from, members_by, members_from, node_within, nodes_within, members_within, spelled, read_by, if_ended, document, whole_document}
 use Rattle.facet_json_document.proofs.Spelling.OneSpelling.{Starts, Spells-starts}
 
 -- ---- what is computed is spelled
@@ -268,7 +268,7 @@ mutual
 -- ---- the laws
 
 -- The value that is computed from tokens is the one that they spell.
-pub spelled_is_spells : SpelledIsSpells
+pub spelled_is_spells : (ts rest : Tokens) (node : Node) → (spelled ts ≡ Some (node, rest)) ↔ Spells ts node rest
 unfolding spelled
 spelled_is_spells ts rest node =
     (λ e. subst (IsValue ts) e (node_within-is (count ts) ts), λ s. node_within-found s (count ts) (omega arith))
@@ -310,7 +310,8 @@ reads-read_by m ts rest root value r =
     ∙ ap (option_map (λ v. (root, v))) r.has_tree
 
 -- The document that is computed is the one of the input.
-pub document_is_found : DocumentIsFound
+pub document_is_found : (buffer : List ℕ) (mode : Mode) (root : Node) (value : Tree) →
+    (document buffer mode ≡ Some (root, value)) ↔ IsDocument buffer mode root value
 document_is_found buffer mode root value = (
   λ e. (let r = read_by-reads (meaning buffer) (tokens buffer mode) root value e in record { rest = r.0; reads = r.1 }),
   λ d. reads-read_by (meaning buffer) (tokens buffer mode) d.rest root value d.reads,
@@ -336,7 +337,8 @@ whole-reads m ts root value None h e = cc
 whole-reads m ts root value (Some r) h e = ended-reads m ts r.1 r.0 root value h e
 
 -- What is computed as the whole document of a text is the one plain document that all of it is.
-pub whole_document_is_found : WholeDocumentIsFound
+pub whole_document_is_found : (buffer : List ℕ) (root : Node) (value : Tree) →
+    (whole_document buffer ≡ Some (root, value)) ↔ IsWholeDocument buffer root value
 unfolding whole_document spelled
 whole_document_is_found buffer root value =
     let m = meaning buffer in

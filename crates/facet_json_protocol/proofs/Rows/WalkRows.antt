@@ -13,7 +13,7 @@ use Rattle.facet_json_token.specs.Tokens as tokens
 use Rattle.facet_json_token.specs.Token as token
 use Rattle.facet_json_decode.specs.Decode.{short_escape, code_unit, utf8_at, unit_at, escape_at, piece_at, decoded_past}
 use Rattle.facet_json_document.specs.Meaning.{meaning, tree_of}
-use Rattle.facet_json_document.specs.Spelled.{node_within, spelled, document, read_by}
+use Rattle.facet_json_document.proofs.Spelled.{node_within, spelled, document, read_by}
 use Rattle.facet_format.specs.Event.{EventKind, Passed, object, array, borrowed, owned, struct_start, struct_end, sequence_start, sequence_end, field_key, scalar, null, bool, i64, u64, decimal, text}
 use Rattle.facet_json_document.specs.Walk.{walk}
 use Rattle.facet_json_document.specs.Place as place

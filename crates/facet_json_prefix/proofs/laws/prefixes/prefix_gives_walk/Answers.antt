@@ -1,4 +1,4 @@
-use Rattle.facet_json_prefix.proofs.BegunIsPrefix.{prefix_gives_walk}
+use Rattle.facet_json_prefix.proofs.PrefixGivesWalk.{prefix_gives_walk}
 use Rattle.facet_json_prefix.proofs.laws.prefixes.prefix_gives_walk.Goals as goal
 
 pub returns : goal.returns

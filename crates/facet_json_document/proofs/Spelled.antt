@@ -1,4 +1,4 @@
--- The value that tokens spell, and the document of an input, computed: slow, and plain.
+-- The value that tokens spell, and the document of an input, computed: slow, and plain. Rows are computed by it.
 use Rattle.std.specs.Prelude.{ℕ, zero, suc, List, Option, Some, None}
 use Rattle.std.specs.Option.{option_map, option_and_then}
 use Rattle.facet_json_token.specs.Gap.{Mode, plain}
@@ -8,6 +8,7 @@ use Rattle.facet_json_token.specs.Tokens.{Tokens, ended, refused, next, tokens}
 use Rattle.facet_json_document.specs.Node.{Node, scalar, array, object, Nodes, no_nodes, item, Members, no_members, member}
 use Rattle.facet_json_document.specs.Tree.{Tree}
 use Rattle.facet_json_document.specs.Meaning.{Meaning, meaning, tree_of}
+use Rattle.facet_json_document.specs.Order.{count}
 
 -- a value at the start of the tokens, and what follows it
 abbrev pub ValueReader : Type 0
@@ -111,12 +112,6 @@ unfoldable mutual
   pub members_within : ℕ → MembersReader
   members_within zero ts = None
   members_within (suc n) ts = members_from (node_within n) (members_within n) ts
-
--- how many tokens there are
-abbrev pub count : Tokens → ℕ
-count ended = 0
-count (refused f) = 0
-count (next t rest) = suc (count rest)
 
 -- the value that a prefix of the tokens spells, and what follows it
 unfoldable pub spelled : Tokens → Option (Node × Tokens)
