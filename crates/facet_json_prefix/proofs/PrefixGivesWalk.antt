@@ -137,8 +137,12 @@ prefix_gives_walk buffer mode front mid rest node value events here b s t =
     let m = meaning buffer in
     let found = front-walk m (tokens_before front mid) mid rest node value events here b s t in
     let c = begun-completes m (is_meaning buffer) b in
-    let own = sym (before-same front c.front mid c.here) in
-    (found.0, found.1, subst (λ ts. All (EndsAmong ts) events) own c.ends, λ e.
-    (let order = end_by buffer 0 front mid (subst (InOrder buffer 0) e (tokens-in_order buffer mode 0 (omega arith))) in
-    ends-elsewhere front order.end found.0 order.own
-    (later-events order.end found.0 (read-later buffer m (events_before found.0 finished) here mid order.end order.behind found.2))))
+    let own = sym (before-same front c.front mid c.here) in (
+      found.0,
+      found.1,
+      subst (λ ts. All (EndsAmong ts) events) own c.ends,
+      λ e.
+          (let order = end_by buffer 0 front mid (subst (InOrder buffer 0) e (tokens-in_order buffer mode 0 (omega arith))) in
+          ends-elsewhere front order.end found.0 order.own
+          (later-events order.end found.0 (read-later buffer m (events_before found.0 finished) here mid order.end order.behind found.2))),
+    )

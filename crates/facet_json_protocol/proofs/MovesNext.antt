@@ -28,7 +28,7 @@ all-passed old new all shown same =
     let (passed, events_are, comes) = Passes-comes all in
     record { passed = passed; events = events_are ∙ same; comes = comes ∙ ap (events_before passed) (sym shown) }
 
-module _ (complains : Token → Refusal → Type 0) where
+module _ (complains : List ℕ → Token → Refusal → Type 0) where
   -- An event that is answered came next.
   pub next-passes : (old new : Now) (e : Event) (answer : Answer) → answer ≡ event (Ok (Some e)) →
       Moves complains old next answer new → PassesNext old e new
