@@ -1,3 +1,4 @@
+pub mod AfterRefusals
 pub mod GapIsLongest
 pub mod OpenIsTested
 pub mod Rows

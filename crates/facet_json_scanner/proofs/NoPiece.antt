@@ -1,14 +1,13 @@
 -- Where no piece of a gap stands, and none begins.
 use Rattle.std.proofs.Common.{◌≡◌, ◌≢◌, ℕ, Bool, true, false, ◌==◌, List, [], ◌∷◌, refl, ap, sym, ◌∙◌, arith, ◌++◌, inl, inr, None}
 use Rattle.std.proofs.lemmas.Bool.{ne_eqb, or_cases, eqb-true, and_parts, leb-true}
-use Rattle.std.proofs.lemmas.List.{append-nil}
 use Rattle.facet_format.specs.Bytes.{quote, minus, slash, star, is_space, is_digit}
 use Rattle.facet_json_token.specs.Gap.{Mode, plain, jsonc, Input, growing, piece_len, OpensBlock, OpensLine, one_more, with_mark, with_line_mark, through_block_end, through_line_end}
 use Rattle.facet_json_token.specs.Token.{Kind}
 use Rattle.facet_json_token.specs.Cut.{IsLiteral, start_of, letter, opens_comment}
 use Rattle.facet_format.specs.Number.{starts_number}
 use Rattle.facet_json_token.specs.Open.{IsBeginning}
-use Rattle.facet_json_scanner.specs.Scanner.{State, Part, EndsIn, in_text, Describes}
+use Rattle.facet_json_scanner.specs.Scanner.{State, Part, EndsIn, in_text, in_word, in_number, in_line, Describes}
 use Rattle.facet_format.proofs.NumberLaws.{begins_number-is}
 use Rattle.facet_json_scanner.proofs.Beginnings.{literal_starts}
 
@@ -89,19 +88,34 @@ number_no_piece mode part (b ∷ text) rest i =
     let byte = number_byte b (begins_number-is (b ∷ text) i.hint i.numeral) in
     no_piece mode growing b (text ++ rest) byte.0 byte.1
 
--- What is open is no piece of a gap.
+-- What is open is no piece of a gap, a line comment aside.
+pub no_piece_but_line : (mode : Mode) (input : Input) (state : State) (bytes : List ℕ) → Describes mode state bytes →
+    (state ≡ in_line → ⊥) → piece_len mode input bytes ≡ 0
+no_piece_but_line mode input _ _ (Describes.text _ content e h) other = no_piece mode input quote content refl refl
+no_piece_but_line mode input _ _ (Describes.escape _ content e h) other = no_piece mode input quote _ refl refl
+no_piece_but_line mode input _ [] (Describes.literal _ _ others kind is some more) other = refl
+no_piece_but_line mode input _ (b ∷ front) (Describes.literal _ _ others kind is some more) other =
+    let byte = literal_byte b _ (front ++ others) kind is refl in
+    no_piece mode input b front byte.0 byte.1
+no_piece_but_line mode input _ [] (Describes.number _ part _ i) other = refl
+no_piece_but_line mode input _ (b ∷ text) (Describes.number _ part _ i) other =
+    let byte = number_byte b (begins_number-is (b ∷ text) i.hint i.numeral) in
+    no_piece mode input b text byte.0 byte.1
+no_piece_but_line _ input _ _ Describes.slash_alone other = refl
+no_piece_but_line _ input _ _ (Describes.line body h) other = absurd (other refl)
+no_piece_but_line _ input _ _ (Describes.block body after_star h is) other = ap with_mark (opens_block-none body h)
+
+-- Nor is a line comment in a buffer that may grow.
 pub open_no_piece : (mode : Mode) (state : State) (bytes : List ℕ) → Describes mode state bytes →
     piece_len mode growing bytes ≡ 0
+open_no_piece _ _ _ (Describes.line body h) = ap (with_line_mark growing body) (opens_line-none body h)
 open_no_piece mode _ _ (Describes.text _ content e h) = no_piece mode growing quote content refl refl
 open_no_piece mode _ _ (Describes.escape _ content e h) = no_piece mode growing quote _ refl refl
-open_no_piece mode _ [] (Describes.literal _ _ others kind is some more) = refl
-open_no_piece mode _ (b ∷ front) (Describes.literal _ _ others kind is some more) =
-    let byte = literal_byte b _ (front ++ others) kind is refl in
-    no_piece mode growing b front byte.0 byte.1
-open_no_piece mode _ text (Describes.number _ part _ i) =
-    ap (piece_len mode growing) (sym (append-nil text)) ∙ number_no_piece mode part text [] i
+open_no_piece mode _ bytes (Describes.literal _ _ others kind is some more) =
+    no_piece_but_line mode growing in_word bytes (Describes.literal mode bytes others kind is some more) (λ e. cc)
+open_no_piece mode _ bytes (Describes.number _ part _ i) =
+    no_piece_but_line mode growing (in_number part) bytes (Describes.number mode part bytes i) (λ e. cc)
 open_no_piece _ _ _ Describes.slash_alone = refl
-open_no_piece _ _ _ (Describes.line body h) = ap (with_line_mark growing body) (opens_line-none body h)
 open_no_piece _ _ _ (Describes.block body after_star h is) = ap with_mark (opens_block-none body h)
 
 -- Nor is a string that goes on.

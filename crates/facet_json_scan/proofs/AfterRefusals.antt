@@ -1,0 +1,145 @@
+-- What a scanner answers after a refusal.
+use Rattle.std.proofs.Common.{◌≡◌, ◌≢◌, ℕ, ◌-◌, ◌≤◌, ◌<◌, List, ◌∷◌, length, take, drop, Option, Some, inl, inr, refl, sym, ap, ◌∙◌, subst, arith, length-drop}
+use Rattle.std.proofs.lemmas.Bool.{cases_lt}
+use Rattle.std.proofs.lemmas.List.{drop_all, take_all}
+use Rattle.facet_format.specs.Bytes.{slash}
+use Rattle.facet_format.specs.Span.{span_at}
+use Rattle.facet_json_token.specs.Gap.{Mode, jsonc, whole, piece_len, gap_len, with_line_mark}
+use Rattle.facet_json_token.specs.Token.{Fault}
+use Rattle.facet_json_token.specs.Cut.{Cut, nothing_left, token, fault, cut_here, past_gap, cut}
+use Rattle.facet_json_token.specs.Open.{IsBeginning, IsOpen}
+use Rattle.facet_json_token.proofs.Gaps.{gap_len-piece, gap_len-none}
+use Rattle.facet_json_token.proofs.TokensSteps.{cut-end}
+use Rattle.facet_json_scanner.specs.Scanner.{Scanner, State, pending_at, idle, in_line, Describes, GoesOnFrom, Answer, needs_more, refuses, answer_for, past_growing_gap, Gives, first_of, first_byte_of, stands_after, stands_at_end}
+use Rattle.facet_json_scanner.specs.Laws.{RefusalRepeats, RefusalAtEnd, PendingAgain}
+use Rattle.facet_json_scanner.proofs.Beginnings.{described_begins}
+use Rattle.facet_json_scanner.proofs.FoundPastGap.{growing_gap-none}
+use Rattle.facet_json_scanner.proofs.NoPiece.{no_piece_but_line, open_no_piece, opens_line-none}
+use Rattle.facet_json_scanner.proofs.Refusals.{past_gap-again, growing_gap-again, cut-past_gap, shut-past_gap}
+
+-- ---- after a refusal
+
+-- Where a fault is cut, the position lies within the buffer.
+fault_within : (buffer : List ℕ) (p : ℕ) (mode : Mode) (f : Fault) → cut buffer p mode ≡ fault f → p < length buffer
+fault_within buffer p mode f e =
+    elim (cases_lt p (length buffer)) [
+      | inl h ↦ h
+      | inr h ↦ let none : cut buffer p mode ≡ nothing_left = cut-end buffer p mode h in cc
+    ]
+
+-- A refusal is the answer of a fault.
+refused_cut : (last : ℕ) (c : Cut) (f : Fault) → Some (refuses f) ≡ Some (answer_for last c) → c ≡ fault f
+refused_cut last nothing_left f e = cc
+refused_cut last (token t) f e = cc
+refused_cut last (fault g) f e = let same : f ≡ g = cc in ap fault (sym same)
+
+-- A call that goes on from where the gap before a fault ends: it needs more bytes of it if the buffer is open there, and else
+-- refuses alike.
+from_fault : (buffer : List ℕ) (p : ℕ) (mode : Mode) (f : Fault) (answer : Option Answer) (after : Scanner) →
+    cut buffer p mode ≡ fault f →
+    let at = past_gap buffer p mode in
+    Gives buffer at mode answer after →
+    (IsOpen buffer at mode → (answer ≡ Some (needs_more at (span_at at (length buffer - at))))
+    × (after.position ≡ length buffer) × (first_of after ≡ at))
+    × ((IsOpen buffer at mode → ⊥) → (answer ≡ Some (refuses f)) × (after ≡ idle at mode))
+from_fault buffer p mode f answer after e (Gives.still_open state i d is new) =
+    let at = past_gap buffer p mode in
+    let same = growing_gap-again buffer p mode in (
+      λ j. (
+        is ∙ ap (λ n. Some (needs_more n (span_at n (length buffer - n)))) same,
+        ap (λ s. s.position) new,
+        ap first_of new ∙ same,
+      ),
+      λ shut. absurd (shut i),
+    )
+from_fault buffer p mode f answer after e (Gives.decided shut is new) =
+    let at = past_gap buffer p mode in
+    let there : cut buffer at mode ≡ fault f = cut-past_gap buffer p mode ∙ e in (
+      λ i. absurd (shut i),
+      λ j. (
+        is ∙ ap (λ c. Some (answer_for (length buffer) c)) there,
+        new ∙ ap (λ c. idle (stands_after buffer at mode c) mode) there
+            ∙ ap (λ n. idle n mode) (past_gap-again buffer p mode),
+      ),
+    )
+
+-- From a scanner with nothing pending a call goes on from its position.
+idle_goes_on : (buffer : List ℕ) (at : ℕ) (mode : Mode) (q : ℕ) → GoesOnFrom (idle at mode) buffer q → q ≡ at
+idle_goes_on buffer at mode _ (GoesOnFrom.idles is) = refl
+idle_goes_on buffer at mode _ (GoesOnFrom.resumes start state is d) = cc
+
+-- After a refusal the same call refuses alike, and leaves the scanner as it is.
+pub refusal_repeats : RefusalRepeats
+refusal_repeats buffer p mode f new (Gives.still_open state i d is to) q answer after from gives = cc
+refusal_repeats buffer p mode f new (Gives.decided shut is to) q answer after from gives =
+    let e : cut buffer p mode ≡ fault f = refused_cut (length buffer) (cut buffer p mode) f is in
+    let at = past_gap buffer p mode in
+    let left : new ≡ idle at mode = to ∙ ap (λ c. idle (stands_after buffer p mode c) mode) e in
+    let room = fault_within buffer p mode f e in
+    let here : q ≡ at = idle_goes_on buffer at mode q (subst (λ s. GoesOnFrom s buffer q) left from) in
+    let again : Gives buffer at mode answer after =
+    subst (λ n. Gives buffer n mode answer after) here (subst (λ s. Gives buffer q s.mode answer after) left gives) in
+    let refused = (from_fault buffer p mode f answer after e again).1 (shut-past_gap buffer p mode (omega arith) shut) in
+    (refused.0, refused.1 ∙ sym left)
+
+-- ---- after a refusal at the end
+
+-- All of the buffer is before its end.
+all_of : (buffer : List ℕ) (n : ℕ) → n ≡ length buffer → take n buffer ≡ buffer
+all_of buffer n e = take_all n buffer (omega arith)
+
+-- Where the buffer was said to be the whole input, the next call after a refusal needs more bytes or refuses alike.
+pub refusal_at_end : RefusalAtEnd
+refusal_at_end buffer s f answer after end e gives =
+    let all = all_of buffer s.position end in
+    let here : cut buffer (first_of s) s.mode ≡ fault f = ap (λ l. cut l (first_of s) s.mode) (sym all) ∙ e in
+    let same : past_gap buffer (first_of s) s.mode ≡ past_gap (take s.position buffer) (first_of s) s.mode =
+    ap (λ l. past_gap l (first_of s) s.mode) (sym all) in
+    rw same at (from_fault buffer (first_of s) s.mode f answer after here (rw (← same) at gives))
+
+-- Where a fault is cut, the gap before it is not all that is left.
+gap_not_all : (buffer : List ℕ) (p : ℕ) (mode : Mode) (f : Fault) → cut buffer p mode ≡ fault f →
+    gap_len mode whole (drop p buffer) ≢ length (drop p buffer)
+unfolding cut cut_here
+gap_not_all buffer p mode f e all =
+    let at = past_gap buffer p mode in
+    let room = fault_within buffer p mode f e in
+    let ends : length buffer ≤ at = omega (arith, all, length-drop p buffer) in
+    let none : cut buffer p mode ≡ nothing_left = ap (cut_here mode at) (drop_all at buffer ends) in cc
+
+-- An open line comment is all gap of a whole input, so what is pending before a fault is none.
+no_line : (mode : Mode) (state : State) (bytes : List ℕ) → Describes mode state bytes →
+    gap_len mode whole bytes ≢ length bytes → state ≡ in_line → ⊥
+no_line _ _ _ (Describes.line body h) more e =
+    let bytes = slash ∷ slash ∷ body in
+    let all : piece_len jsonc whole bytes ≡ length bytes = ap (with_line_mark whole body) (opens_line-none body h) in
+    let rest : gap_len jsonc whole (drop (length bytes) bytes) ≡ 0 =
+    gap_len-none jsonc whole _ (ap (piece_len jsonc whole) (drop_all (length bytes) bytes (omega arith))) in
+    more (omega (arith, rest, gap_len-piece jsonc whole (length bytes) bytes all (omega arith)))
+no_line mode state bytes d more e = cc
+
+-- What is pending stands where no gap is before it, and the buffer is open there.
+pending_here : (buffer : List ℕ) (start : ℕ) (mode : Mode) (state : State) (f : Fault) →
+    Describes mode state (drop start buffer) → cut buffer start mode ≡ fault f →
+    (past_gap buffer start mode ≡ start) × IsOpen buffer start mode
+pending_here buffer start mode state f d e =
+    let bytes = drop start buffer in
+    let other = no_line mode state bytes d (gap_not_all buffer start mode f e) in
+    let none : gap_len mode whole bytes ≡ 0 =
+    gap_len-none mode whole bytes (no_piece_but_line mode whole state bytes d other) in
+    let grows : past_growing_gap buffer start mode ≡ start =
+    growing_gap-none mode buffer start (open_no_piece mode state bytes d) in
+    (omega arith, subst (λ n. IsBeginning mode (drop n buffer)) (sym grows) (described_begins mode state bytes d))
+
+-- Where what was pending fits, the call after the refusal needs more bytes of it again.
+pub pending_again : PendingAgain
+pending_again buffer s start state f end is d e =
+    let all = all_of buffer s.position end in
+    let first : first_of s ≡ start = ap (first_byte_of s.position) is in
+    let same : past_gap (take s.position buffer) (first_of s) s.mode ≡ past_gap buffer start s.mode =
+    ap (λ l. past_gap l (first_of s) s.mode) all ∙ ap (λ n. past_gap buffer n s.mode) first in
+    let cuts : cut buffer start s.mode ≡ fault f =
+    sym (ap (λ l. cut l (first_of s) s.mode) all ∙ ap (λ n. cut buffer n s.mode) first) ∙ e in
+    let here =
+    pending_here buffer start s.mode state f (subst (λ l. Describes s.mode state (drop start l)) all d) cuts in
+    (same ∙ here.0, subst (λ n. IsOpen buffer n s.mode) (sym (same ∙ here.0)) here.1)
