@@ -12,6 +12,7 @@ pub use Rattle.facet_format.specs.Agree
 pub use Rattle.facet_json_token.specs.Gap
 pub use Rattle.facet_json_token.specs.Token
 pub use Rattle.facet_json_token.specs.Cut
+pub use Rattle.facet_json_token.specs.Faults
 pub use Rattle.facet_json_token.specs.Open
 pub use Rattle.facet_json_token.specs.Tokens
 pub use Rattle.facet_json_decode.specs.Decode

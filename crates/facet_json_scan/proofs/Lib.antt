@@ -1,4 +1,5 @@
 pub mod AfterRefusals
+pub mod FaultIsCut
 pub mod GapIsLongest
 pub mod OpenIsTested
 pub mod Rows

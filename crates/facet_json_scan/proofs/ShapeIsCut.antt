@@ -219,7 +219,7 @@ begins_number-append [] rest e = cc
 begins_number-append (b ∷ text) rest e = e
 
 -- More than a minus stands where a number is in prefix.
-bare_behind : (text rest : List ℕ) (hint : Hint) → IsNumber text hint → is_bare (parts (text ++ rest)) ≡ false
+pub bare_behind : (text rest : List ℕ) (hint : Hint) → IsNumber text hint → is_bare (parts (text ++ rest)) ≡ false
 bare_behind text rest hint is =
     let all = text ++ rest in
     let p = parts all in

@@ -6,7 +6,9 @@ mod decoding;
 mod growth;
 mod refusals;
 
-pub use cuts::{gap_is_longest, shape_is_cut, shape_is_unique, tokens_are_cuts};
+pub use cuts::{
+    fault_is_cut, fault_is_unique, gap_is_longest, shape_is_cut, shape_is_unique, tokens_are_cuts,
+};
 pub use decoding::{decoded_is_decodes, first_fault_is_found, text_or_fault};
 pub use growth::{cut_stays, open_is_tested};
 pub use refusals::{pending_again, refusal_at_end, refusal_repeats};

@@ -23,14 +23,14 @@ BeginsBy opens_comment b bytes = Unit {0}
 BeginsBy opens_nothing b bytes = ⊥
 
 -- Pieces hold no closing quote.
-pieces_go_on : (content : List ℕ) (has_escapes : Bool) → ArePieces content has_escapes → content_len false content ≡ None
+pub pieces_go_on : (content : List ℕ) (has_escapes : Bool) → ArePieces content has_escapes → content_len false content ≡ None
 pieces_go_on _ _ ArePieces.none = refl
 pieces_go_on _ _ (ArePieces.byte b others e no_quote no_backslash h) =
     rw (no_quote, no_backslash) (ap one_more (pieces_go_on others e h))
 pieces_go_on _ _ (ArePieces.escape b others e h) = ap (λ o. one_more (one_more o)) (pieces_go_on others e h)
 
 -- Nor do pieces and a backslash.
-pieces_go_on_escaped : (content : List ℕ) (has_escapes : Bool) → ArePieces content has_escapes →
+pub pieces_go_on_escaped : (content : List ℕ) (has_escapes : Bool) → ArePieces content has_escapes →
     content_len false (content ++ backslash ∷ []) ≡ None
 pieces_go_on_escaped _ _ ArePieces.none = refl
 pieces_go_on_escaped _ _ (ArePieces.byte b others e no_quote no_backslash h) =

@@ -76,7 +76,7 @@ comment_by-none false true o p (Some i) m bytes longer k j e = cc
 comment_by-none false false o p l m bytes longer k j e = refl
 
 -- Where a mark and what follows count nothing, nothing follows.
-with_mark-none : (o : Option ℕ) → with_mark o ≡ 0 → o ≡ None
+pub with_mark-none : (o : Option ℕ) → with_mark o ≡ 0 → o ≡ None
 with_mark-none None e = refl
 with_mark-none (Some n) e = cc
 

@@ -21,7 +21,7 @@ content_len-keeps false (b ∷ bytes) more n e =
     cond-keeps (b == quote) 0 _ _ (content_len-keeps (b == backslash) bytes more) n e
 
 -- The bytes are the content of a string that doesn't end, perhaps with a backslash at the end.
-data IsUnended : List ℕ → Type 0 where
+pub data IsUnended : List ℕ → Type 0 where
   whole : (bytes : List ℕ) (has_escapes : Bool) → ArePieces bytes has_escapes → IsUnended bytes
   escaped : (content bytes : List ℕ) (has_escapes : Bool) → ArePieces content has_escapes →
       bytes ≡ content ++ backslash ∷ [] → IsUnended bytes
@@ -51,7 +51,7 @@ with_either true b bytes q s h = rw (eqb-true b backslash s) h
 with_either false b bytes q s h = with_byte b bytes q s h
 
 -- A string without an end is unended.
-content_len-none : (t : Bool) (bytes : List ℕ) → content_len t bytes ≡ None → IsUnendedBehind t bytes
+pub content_len-none : (t : Bool) (bytes : List ℕ) → content_len t bytes ≡ None → IsUnendedBehind t bytes
 content_len-none true [] e = escaped [] _ false ArePieces.none refl
 content_len-none false [] e = whole [] false ArePieces.none
 content_len-none true (b ∷ bytes) e = with_escape b bytes (content_len-none false bytes (cond-none false 0 _ e).1)

@@ -1,8 +1,10 @@
 -- Laws of gaps, tokens and growing buffers. Each is the contract of a function of the module `laws` of `facet_json_scan`.
 use Rattle.std.specs.Prelude.{ℕ, ◌≡◌, ◌≢◌, ◌≤◌, ◌↔◌, true, List, ◌++◌, length, take, drop}
 use Rattle.facet_json_token.specs.Gap.{Mode, Input, IsGap, gap_len}
-use Rattle.facet_json_token.specs.Token.{Kind}
-use Rattle.facet_json_token.specs.Cut.{IsShape, nothing_left, token_at, cut_here, cut}
+use Rattle.facet_format.specs.Span.{Span}
+use Rattle.facet_json_token.specs.Token.{Kind, FaultKind}
+use Rattle.facet_json_token.specs.Cut.{IsShape, nothing_left, fault, token_at, cut_here, past_gap, cut}
+use Rattle.facet_json_token.specs.Faults.{IsFault}
 use Rattle.facet_json_token.specs.Tokens.{Tokens, AreCuts, tokens_from}
 use Rattle.facet_json_token.specs.Open.{IsOpen, is_open}
 
@@ -22,6 +24,18 @@ ShapeIsCut = (mode : Mode) (at : ℕ) (bytes rest : List ℕ) (kind : Kind) →
 abbrev pub ShapeIsUnique : Type 0
 ShapeIsUnique = (at : ℕ) (a b r s : List ℕ) (kind other : Kind) → IsShape at a r kind → IsShape at b s other → a
     ++ r ≡ b ++ s → (a ≡ b) × (kind ≡ other)
+
+-- A fault is cut at a position exactly where its relation holds of what is left after the gap.
+abbrev pub FaultIsCut : Type 0
+FaultIsCut = (buffer : List ℕ) (position : ℕ) (mode : Mode) (kind : FaultKind) (span : Span) →
+    let at = past_gap buffer position mode in
+    IsFault at mode (drop at buffer) kind span ↔ (cut buffer position mode ≡ fault (record { kind = kind; span = span }))
+
+-- At one place stands at most one fault, and none where a token's shape stands.
+abbrev pub FaultIsUnique : Type 0
+FaultIsUnique = (at : ℕ) (mode : Mode) (bytes : List ℕ) (kind : FaultKind) (span : Span) → IsFault at mode bytes kind span →
+    ((other : FaultKind) (place : Span) → IsFault at mode bytes other place → (kind ≡ other) × (span ≡ place))
+    × ((front rest : List ℕ) (token : Kind) → IsShape at front rest token → front ++ rest ≡ bytes → ⊥)
 
 -- The tokens from a position on are what is cut from there on, each where the one before ends, up to the end or the first fault,
 -- and nothing else is.

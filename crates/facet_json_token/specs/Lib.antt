@@ -1,4 +1,5 @@
 pub mod Cut
+pub mod Faults
 pub mod Gap
 pub mod Laws
 pub mod Open

@@ -1,6 +1,6 @@
 -- Single inputs with what is cut of them, their tokens, and whether more bytes may change what is cut, by computation.
 -- In the texts of this file a backslash or a quote stands after a backslash of its own.
-use Rattle.std.proofs.Common.{◌≡◌, ◌≢◌, ℕ, true, false, List, [], ◌∷◌, ◌++◌, refl, codes}
+use Rattle.std.proofs.Common.{◌≡◌, ◌≢◌, ℕ, true, false, List, [], ◌∷◌, ◌++◌, refl, codes, arith}
 use Rattle.facet_format.specs.Bytes.{slash, star, left_bracket, right_bracket, dot, line_feed}
 use Rattle.facet_json_token.specs.Gap.{Mode, plain, jsonc, gap_len_from, OpensBlock, OpensLine}
 use Rattle.facet_format.specs.Number.{unsigned, signed, float, parts}
@@ -10,7 +10,9 @@ use Rattle.facet_format.specs.Span.{span_at}
 use Rattle.facet_json_token.specs.Tokens.{ended, refused, next, AreCuts, tokens_past, tokens}
 use Rattle.facet_json_token.specs.Open.{IsBeginning, IsOpen, is_beginning, is_open}
 use Rattle.facet_format.proofs.NumberLaws.{is_number-sound}
+use Rattle.facet_json_token.specs.Faults.{IsFault}
 use Rattle.facet_json_scan.proofs.OpenIsTested.{open_is_tested}
+use Rattle.facet_json_scan.proofs.FaultIsCut.{fault_is_cut}
 
 -- a token of this kind, with this span
 abbrev token_of : Kind → ℕ → ℕ → Token
@@ -180,6 +182,43 @@ only_space_row = refl
 empty_row : cut (codes "") 0 plain ≡ nothing_left
 unfolding cut cut_here start_of parts gap_len_from
 empty_row = refl
+
+-- ---- faults, by the relation
+
+-- A literal that differs at its last byte.
+wrong_letter_fault : IsFault 0 plain (codes "trux") (unexpected_char 0x78) (span_at 3 1)
+wrong_letter_fault =
+    IsFault.literal plain (codes "tru") [] [] 0x65 0x78 true_literal IsLiteral.true_stands (λ e. cc) (λ e. omega (arith, e))
+
+-- One that the end cuts.
+part_of_null_fault : IsFault 0 plain (codes "nul") (unexpected_eof in_literal) (span_at 0 3)
+part_of_null_fault = IsFault.part plain (codes "nul") (codes "l") null IsLiteral.null_stands (λ e. cc) (λ e. cc)
+
+-- A string that the end cuts after a backslash.
+open_escape_fault : IsFault 0 plain (codes "\"a\\") (unexpected_eof in_string) (span_at 0 3)
+open_escape_fault = IsFault.escape plain (codes "a") false (ArePieces.byte 0x61 [] false refl refl ArePieces.none)
+
+-- A block comment that the end cuts, after another byte.
+block_fault : IsFault 1 jsonc (codes "/*/") (unexpected_eof in_block_comment) (span_at 1 3)
+block_fault = IsFault.block (codes "/") (OpensBlock.one slash)
+
+-- A slash before a number.
+slash_fault : IsFault 0 jsonc (codes "/1") (unexpected_char slash) (span_at 0 1)
+slash_fault = IsFault.slash_before 0x31 [] (λ e. cc) (λ e. cc)
+
+-- A minus before the end.
+minus_fault : IsFault 0 plain (codes "-") (unexpected_eof in_number) (span_at 0 1)
+minus_fault = IsFault.minus_last plain
+
+-- A minus before a comma, which is named.
+minus_and_comma_fault : IsFault 0 plain (codes "-,") (unexpected_char 0x2c) (span_at 0 1)
+unfolding cut cut_here start_of parts gap_len_from
+minus_and_comma_fault = (fault_is_cut (codes "-,") 0 plain (unexpected_char 0x2c) (span_at 0 1)).1 refl
+
+-- A dot.
+dot_fault : IsFault 0 plain (codes ".5") (unexpected_char dot) (span_at 0 1)
+unfolding cut cut_here start_of parts gap_len_from
+dot_fault = (fault_is_cut (codes ".5") 0 plain (unexpected_char dot) (span_at 0 1)).1 refl
 
 -- ---- all tokens
 

@@ -1,6 +1,6 @@
 //! What gaps and tokens are: the definitions that compute agree with those that say what is meant.
 
-ghost use Rattle.facet_json_token.specs.Laws.{GapIsLongest, ShapeIsCut, ShapeIsUnique, TokensAreCuts};
+ghost use Rattle.facet_json_token.specs.Laws.{GapIsLongest, ShapeIsCut, ShapeIsUnique, FaultIsCut, FaultIsUnique, TokensAreCuts};
 
 /// The gap at the start of the bytes is a gap, and no longer prefix of them is one (RFC 8259, section 2).
 pub fn gap_is_longest()
@@ -15,6 +15,16 @@ pub fn shape_is_cut()
 /// At one place stands the shape of at most one token.
 pub fn shape_is_unique()
     ensures { ShapeIsUnique }
+{}
+
+/// A fault is cut exactly where its relation holds of what is left after the gap (RFC 8259, section 2).
+pub fn fault_is_cut()
+    ensures { FaultIsCut }
+{}
+
+/// At one place stands at most one fault, and none where the shape of a token stands.
+pub fn fault_is_unique()
+    ensures { FaultIsUnique }
 {}
 
 /// The tokens from a position on are what is cut from there on, each where the one before ends, up to the end or the
