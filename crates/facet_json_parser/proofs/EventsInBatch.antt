@@ -18,7 +18,7 @@ use Rattle.facet_json_protocol.specs.Move.{Moves, repeats, gives_none, gives_all
 use Rattle.facet_json_protocol.specs.Next.{PassesAll}
 use Rattle.facet_json_protocol.proofs.MovesNext.{events-pass, events-count}
 use Rattle.facet_json_protocol.specs.Sound.{NowSound}
-use Rattle.facet_json_standing.specs.Fill.{Fills, holds, is_over, lacks_memory, stops, FillsParser, fills, refuses, Takes, GivesOne, gives_event, gives_end, gives_refusal, lacks_room, behind}
+use Rattle.facet_json_standing.specs.Fill.{Fills, lacks_memory, stops, FillsParser, fills, refuses, Takes, GivesOne, gives_event, gives_end, gives_refusal, lacks_room, behind}
 use Rattle.facet_json_standing.specs.Fill as fill
 use Rattle.facet_json_protocol.proofs.MoveLaws.{Passes-one_more, not_both}
 use Rattle.facet_json_parser.proofs.AnswersAreMoves.{behind_held, fills-holds, fills-over, fills-same}

@@ -1,8 +1,8 @@
 -- Where nothing comes any more, no document goes on, so some refusal stands there.
-use Rattle.std.proofs.Common.{◌≡◌, ℕ, Bool, true, false, ◌&&◌, List, [], ◌∷◌, Option, Some, None, ◌⊎◌, inl, inr, refl, sym, ap, ◌∙◌}
+use Rattle.std.proofs.Common.{◌≡◌, ℕ, Bool, true, false, ◌&&◌, List, [], ◌∷◌, Option, Some, None, inl, inr, refl, sym, ap, ◌∙◌}
 use Rattle.std.specs.Prelude.{⊤, is_none, IsSome, slice_range}
 use Rattle.std.specs.Option.{option_map}
-use Rattle.facet_json_token.specs.Token.{Kind, Token, Fault}
+use Rattle.facet_json_token.specs.Token.{Kind, Token}
 use Rattle.facet_json_token.specs.Token as token
 use Rattle.facet_json_token.specs.Gap.{Mode}
 use Rattle.facet_json_prefix.specs.Begun.{LongestPrefix, RefusesAfter}

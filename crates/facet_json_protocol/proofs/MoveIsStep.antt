@@ -8,7 +8,7 @@ use Rattle.facet_json_document.specs.Place.{Place}
 use Rattle.facet_format.specs.Complaint.{Refusal}
 use Rattle.facet_json_token.specs.Tokens.{Tokens}
 use Rattle.facet_format.specs.Event.{Event, Passed, peek_takes_memory}
-use Rattle.facet_format.specs.Cursor.{Call, next, peek, events, save, restore, span, Answer, event, batch, saved, restored, spans, Spot, Cursor, Step, last_of, current_span, upcoming_events, moved, peeked_at, at_spot, refused_at, kept_here, no_memory_at}
+use Rattle.facet_format.specs.Cursor.{Call, next, peek, events, save, Answer, event, batch, saved, Spot, Cursor, Step, last_of, current_span, upcoming_events, moved, peeked_at, at_spot, refused_at, kept_here, no_memory_at}
 use Rattle.facet_format.specs.Cursor as cursor
 use Rattle.facet_json_document.specs.Future.{Future, gives, finished, stuck, events_before}
 use Rattle.facet_json_protocol.specs.Now.{Standing, Now, held_before, is_shown, future_of, is_peeked, span_of, StandsOn, StandsAt}

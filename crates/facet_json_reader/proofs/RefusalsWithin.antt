@@ -1,5 +1,5 @@
 -- The span of a refusal lies within the input, whatever stands there.
-use Rattle.std.proofs.Common.{◌≡◌, ◌≤◌, ◌∙◌, ℕ, Bool, true, false, List, drop, length, length-drop, refl, sym, ap, subst, arith}
+use Rattle.std.proofs.Common.{◌≡◌, ◌≤◌, ◌∙◌, ℕ, Bool, true, false, List, length, refl, sym, ap, subst, arith}
 use Rattle.std.specs.Prelude.{IfSome}
 use Rattle.facet_json_reader.specs.declared.reader.Reader.{Reader}
 use Rattle.facet_format.specs.Complaint.{Refusal}

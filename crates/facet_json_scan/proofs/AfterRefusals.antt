@@ -10,7 +10,7 @@ use Rattle.facet_json_token.specs.Cut.{Cut, nothing_left, token, fault, cut_here
 use Rattle.facet_json_token.specs.Open.{IsBeginning, IsOpen}
 use Rattle.facet_json_token.proofs.Gaps.{gap_len-piece, gap_len-none}
 use Rattle.facet_json_token.proofs.TokensSteps.{cut-end}
-use Rattle.facet_json_scanner.specs.Scanner.{Scanner, State, pending_at, idle, in_line, Describes, GoesOnFrom, Answer, needs_more, refuses, answer_for, past_growing_gap, Gives, first_of, first_byte_of, stands_after, stands_at_end}
+use Rattle.facet_json_scanner.specs.Scanner.{Scanner, State, idle, in_line, Describes, GoesOnFrom, Answer, needs_more, refuses, answer_for, past_growing_gap, Gives, first_of, first_byte_of, stands_after}
 use Rattle.facet_json_scanner.specs.Laws.{RefusalRepeats, RefusalAtEnd, PendingAgain}
 use Rattle.facet_json_scanner.proofs.Beginnings.{described_begins}
 use Rattle.facet_json_scanner.proofs.FoundPastGap.{growing_gap-none}

@@ -1,5 +1,5 @@
 -- Where no piece of a gap stands, and none begins.
-use Rattle.std.proofs.Common.{◌≡◌, ◌≢◌, ℕ, Bool, true, false, ◌==◌, List, [], ◌∷◌, refl, ap, sym, ◌∙◌, arith, ◌++◌, inl, inr, None}
+use Rattle.std.proofs.Common.{◌≡◌, ◌≢◌, ℕ, Bool, true, false, ◌==◌, List, [], ◌∷◌, refl, ap, arith, ◌++◌, inl, inr, None}
 use Rattle.std.proofs.lemmas.Bool.{ne_eqb, or_cases, eqb-true, and_parts, leb-true}
 use Rattle.facet_format.specs.Bytes.{quote, minus, slash, star, is_space, is_digit}
 use Rattle.facet_json_token.specs.Gap.{Mode, plain, jsonc, Input, growing, piece_len, OpensBlock, OpensLine, one_more, with_mark, with_line_mark, through_block_end, through_line_end}

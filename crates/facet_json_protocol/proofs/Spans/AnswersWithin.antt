@@ -17,7 +17,7 @@ use Rattle.facet_format.specs.Cursor as cursor
 use Rattle.facet_json_document.specs.Future.{Future, gives, finished, stuck, within}
 use Rattle.facet_json_protocol.specs.Now.{Standing, Now, fresh, held_before, last_shown, future_at, future_of, is_peeked, span_of, ahead}
 use Rattle.facet_json_protocol.specs.Move.{NowShows, IsAlike, Passes, no_events, one_event, Moves, repeats, passes, passes_without_memory, passes_the_end, passes_nothing, peeks, peeks_without_memory, peeks_at_the_end, peeks_at_nothing, gives_none, gives_all, gives_to_the_end, gives_up, gives_without_memory, saves, saves_at_the_limit, saves_without_memory, restores, restores_nothing, tells}
-use Rattle.facet_json_protocol.specs.Sound.{InOrder, at_the_end, at_a_fault, at_a_token, IsSound, sound_event, sound_end, sound_stuck, StandsSound, KeptSound, none_kept, one_kept, RefusalWithin, NowSound, EventsWithin, ResultWithin, AnswerWithin}
+use Rattle.facet_json_protocol.specs.Sound.{InOrder, at_a_fault, at_a_token, IsSound, sound_event, sound_stuck, StandsSound, KeptSound, none_kept, one_kept, RefusalWithin, NowSound, EventsWithin, AnswerWithin}
 use Rattle.facet_json_protocol.specs.Sound as sound
 use Rattle.facet_json_protocol.proofs.Spans.EventsWithin.{position-sound}
 
