@@ -1,124 +1,236 @@
 -- A cursor answers in one way where memory is ample, so two answers to a call are one, or one of them is out of memory.
-use Rattle.std.proofs.Common.{◌≡◌, ◌≢◌, ◌⊎◌, inl, inr, ℕ, zero, suc, ◌==◌, cond, List, [], ◌∷◌, length, Option, Some, None, refl, sym, ◌∙◌, subst, arith}
-use Rattle.std.specs.Prelude.{Ok, Err}
+use Rattle.std.proofs.Common.{◌≡◌, ◌≢◌, ℕ, zero, suc, ◌<◌, ◌≤◌, ◌==◌, cond, List, [], ◌∷◌, length, Option, Some, None, refl, sym, ap, ◌∙◌, subst, arith}
+use Rattle.std.specs.Prelude.{Result, Ok, Err}
 use Rattle.std.proofs.lemmas.Bool.{eq-eqb, ne_eqb}
+use Rattle.std.proofs.lemmas.Option.{none-some, same_Some}
 use Rattle.facet_format.specs.Complaint.{Refusal, refusal_at, save_limit}
-use Rattle.facet_format.specs.Event.{Passed}
+use Rattle.facet_format.specs.Event.{Event, Passed}
 use Rattle.facet_format.specs.Kept.{found}
-use Rattle.facet_format.specs.Cursor.{Call, next, peek, events, save, restore, span, Answer, event, batch, saved, restored, spans, Spot, Cursor, Step, repeats, passes, passes_without_memory, passes_the_end, peeks, peeks_without_memory, peeks_at_the_end, gives_none, gives, gives_without_memory, saves, saves_at_the_limit, saves_without_memory, restores, restores_nothing, tells, repeated, upcoming, upcoming_events, current_span, moved, peeked_at, at_spot, kept_here, back_at, greatest, Run, no_calls, one_call}
+use Rattle.facet_format.specs.Cursor.{Coming, an_event, the_end, a_refusal, World, Call, next, peek, events, save, restore, span, Answer, event, batch, saved, restored, spans, Spot, Cursor, Comes, Step, repeats, passes, passes_without_memory, passes_the_end, passes_nothing, peeks, peeks_without_memory, peeks_at_the_end, peeks_at_nothing, gives_none, gives, gives_without_memory, gives_up, saves, saves_at_the_limit, saves_without_memory, restores, restores_nothing, tells, repeated, current_span, unpeeked, peeked_at, spot_after, at_spot, refused_at, kept_here, back_at, greatest, Run, no_calls, one_call}
+use Rattle.facet_format.specs.Cursor as cursor
 use Rattle.facet_format.specs.Agree.{LacksMemory, no_event, no_more, no_point, Agree, lacks, other_lacks, is_one, AgreeToLack, no_answers, first_lacks, second_lacks, same_answer}
+use Rattle.facet_format.proofs.CursorSteps.{same-event}
+
+-- ---- what is met at a place
+
+-- an event, the end, or a refusal
+abbrev Met : Type 0
+Met = Result (Option Passed) Refusal
+
+-- This is met at the place.
+abbrev Meets : {P : Type 0} → World P → P → Met → Type 0
+Meets w place (Ok (Some p)) = w.comes place ≡ an_event p
+Meets w place (Ok None) = w.comes place ≡ the_end
+Meets w place (Err r) = (w.comes place ≡ a_refusal) × w.refuses place r
+
+-- These events end a batch: they are as many as are asked for, or there is no other.
+data Ends {P : Type 0} (w : World P) (k : ℕ) (given : List Event) (place : P) : Result ℕ Refusal → Type 0 where
+  ends_well : (n : ℕ) → n ≡ length given → n ≤ suc k → (n ≤ k → w.comes place ≡ the_end) → Ends w k given place (Ok n)
+  ends_badly : (r : Refusal) → length given ≤ k → w.comes place ≡ a_refusal → w.refuses place r → Ends w k given place (Err r)
+
+-- No event comes.
+abbrev Stops : Coming → Type 0
+Stops what = (p : Passed) → what ≡ an_event p → ⊥
+
+stops_at_the_end : (what : Coming) → what ≡ the_end → Stops what
+stops_at_the_end what e p up = let no : the_end ≡ an_event p = sym e ∙ up in cc
+
+stops_at_nothing : (what : Coming) → what ≡ a_refusal → Stops what
+stops_at_nothing what e p up = let no : a_refusal ≡ an_event p = sym e ∙ up in cc
 
 -- ---- one answer where memory is ample
 
--- an answer, and the cursor after it
-abbrev Outcome : Type 0
-Outcome = Answer × Cursor
+module _ {P : Type 0} (w : World P) where
+  -- an answer, and the cursor after it
+  abbrev Outcome : Type 0
+  Outcome = Answer × Cursor P
 
-abbrev next_by : Cursor → Option Passed → Outcome
-next_by c None = (event (Ok None), c)
-next_by c (Some p) = (event (Ok (Some p.event)), at_spot c (moved c.spot 1))
+  abbrev next_by : Cursor P → Met → Outcome
+  next_by c (Ok (Some p)) = (event (Ok (Some p.event)), at_spot c (unpeeked (w.past p c.spot.place)))
+  next_by c (Ok None) = (event (Ok None), c)
+  next_by c (Err r) = (event (Err r), refused_at c c.spot r)
 
-abbrev peek_by : Cursor → Option Passed → Outcome
-peek_by c None = (event (Ok None), c)
-peek_by c (Some p) = (event (Ok (Some p.event)), at_spot c (peeked_at c.spot))
+  abbrev peek_by : Cursor P → Met → Outcome
+  peek_by c (Ok (Some p)) = (event (Ok (Some p.event)), at_spot c (peeked_at c.spot))
+  peek_by c (Ok None) = (event (Ok None), c)
+  peek_by c (Err r) = (event (Err r), refused_at c c.spot r)
 
-abbrev restore_by : Cursor → ℕ → Option Spot → Outcome
-restore_by c point None = (restored, c)
-restore_by c point (Some spot) = (restored, back_at c point spot)
+  abbrev batch_by : Cursor P → List Event → P → Result ℕ Refusal → Outcome
+  batch_by c given place (Ok n) = (batch given (Ok n), at_spot c (spot_after given place c.spot))
+  batch_by c given place (Err r) = (batch given (Err r), refused_at c (spot_after given place c.spot) r)
 
--- where no refusal is repeated
-abbrev free : List Passed → Cursor → Call → Outcome
-free w c next = next_by c (upcoming w c.spot)
-free w c peek = peek_by c (upcoming w c.spot)
-free w c (events zero) = (batch [] (Ok 0), c)
-free w c (events (suc k)) =
-    let given = upcoming_events w c.spot (suc k) in
-    (batch given (Ok (length given)), at_spot c (moved c.spot (length given)))
-free w c save =
-    cond (c.counter == greatest) (saved (Err (refusal_at save_limit (current_span w c.spot))), c) (saved (Ok (suc c.counter)), kept_here c)
-free w c (restore point) = restore_by c point (found point c.kept)
-free w c span = (spans (Some (current_span w c.spot)), c)
+  abbrev save_by : Cursor P → Outcome
+  save_by c =
+      let full = saved (Err (refusal_at save_limit (current_span w c.spot))) in
+      cond (c.counter == greatest) (full, c) (saved (Ok (suc c.counter)), kept_here c)
+
+  abbrev restore_by : Cursor P → ℕ → Option (Spot P) → Outcome
+  restore_by c point None = (restored, c)
+  restore_by c point (Some spot) = (restored, back_at c point spot)
+
+  -- The answer and the cursor after it are these.
+  abbrev Is : Answer → Cursor P → Outcome → Type 0
+  Is a d outcome = (a ≡ outcome.0) × (d ≡ outcome.1)
+
+  -- The answer and the cursor after it, where memory is ample and no refusal is repeated.
+  abbrev IsFree : Cursor P → Call → Answer → Cursor P → Type 0
+  IsFree c next a d = (x : Met) × Meets w c.spot.place x × Is a d (next_by c x)
+  IsFree c peek a d = (x : Met) × Meets w c.spot.place x × Is a d (peek_by c x)
+  IsFree c (events zero) a d = Is a d (batch [] (Ok 0), c)
+  IsFree c (events (suc k)) a d =
+      (given : List Event) × (place : P) × (x : Result ℕ Refusal) × Comes w c.spot.place given place × Ends w k given place x ×
+      Is a d (batch_by c given place x)
+  IsFree c save a d = Is a d (save_by c)
+  IsFree c (restore point) a d = Is a d (restore_by c point (found point c.kept))
+  IsFree c span a d = Is a d (spans (Some (current_span w c.spot)), c)
 
 -- the answer that repeats a refusal
 abbrev told : Option Refusal → Call → Option Answer
 told None call = None
 told (Some r) call = repeated r call
 
-abbrev unless_told : Cursor → Option Answer → Outcome → Outcome
-unless_told c None other = other
-unless_told c (Some answer) other = (answer, c)
-
-abbrev ample : List Passed → Cursor → Call → Outcome
-ample w c call = unless_told c (told c.refusal call) (free w c call)
-
--- The answer and the cursor after it are these.
-abbrev Is : Answer → Cursor → Outcome → Type 0
-Is a d outcome = (a ≡ outcome.0) × (d ≡ outcome.1)
-
 -- Where a call repeats no refusal, it is as if there were none.
 untold : (refusal : Option Refusal) (call : Call) → ((r : Refusal) → repeated r call ≡ None) → told refusal call ≡ None
 untold None call none = refl
 untold (Some r) call none = none r
 
-module _ (w : List Passed) (c : Cursor) where
-  -- A call that is not told is answered as by a free cursor.
-  is_free : (call : Call) (a : Answer) (d : Cursor) → told c.refusal call ≡ None → Is a d (free w c call) → Is a d (ample w c call)
-  is_free call a d none is = rw none is
+-- The answer is out of memory, repeats a refusal, or is free.
+data Shows {P : Type 0} (w : World P) (c : Cursor P) (call : Call) (a : Answer) (d : Cursor P) : Type 0 where
+  is_lack : LacksMemory a → Shows w c call a d
+  is_told : told c.refusal call ≡ Some a → d ≡ c → Shows w c call a d
+  is_free : told c.refusal call ≡ None → IsFree w c call a d → Shows w c call a d
 
-  unrefused : (call : Call) (a : Answer) (d : Cursor) → c.refusal ≡ None → Is a d (free w c call) → Is a d (ample w c call)
-  unrefused call a d none is = is_free call a d (rw none refl) is
+module _ {P : Type 0} (w : World P) (c : Cursor P) where
+  unrefused : (call : Call) {a : Answer} {d : Cursor P} → c.refusal ≡ None → IsFree w c call a d → Shows w c call a d
+  unrefused call none is = is_free (rw none refl) is
 
-  -- Each answer is out of memory, or the one where memory is ample.
-  step-ample : {call : Call} {a : Answer} {d : Cursor} → Step w c call a d → LacksMemory a ⊎ Is a d (ample w c call)
-  step-ample (repeats r call answer is repeats_it) =
-      let same : told c.refusal call ≡ Some answer = rw is repeats_it in
-      inr (rw same (refl, refl))
-  step-ample (passes p none up) = inr (unrefused next _ _ none (rw up (refl, refl)))
-  step-ample (passes_without_memory p none up takes unseen) = inl (no_event _ refl)
-  step-ample (passes_the_end none up) = inr (unrefused next _ _ none (rw up (refl, refl)))
-  step-ample (peeks p none up) = inr (unrefused peek _ _ none (rw up (refl, refl)))
-  step-ample (peeks_without_memory p none up takes) = inl (no_event _ refl)
-  step-ample (peeks_at_the_end none up) = inr (unrefused peek _ _ none (rw up (refl, refl)))
-  step-ample gives_none = inr (is_free (events 0) _ _ (untold c.refusal (events 0) (λ r. refl)) (refl, refl))
-  step-ample (gives k n given none are count) =
-      inr (unrefused (events (suc k)) _ _ none (rw (count, are) (refl, refl)))
-  step-ample (gives_without_memory k n given spot none more are there) = inl (no_more _ _ refl)
-  step-ample (saves none less) =
+  -- Each answer is so.
+  step-shows : {call : Call} {a : Answer} {d : Cursor P} → Step w c call a d → Shows w c call a d
+  step-shows (repeats r call answer is repeats_it) = is_told (rw is repeats_it) refl
+  step-shows (passes p none up) = unrefused next none (Ok (Some p), up, (refl, refl))
+  step-shows (passes_without_memory p none up takes unseen) = is_lack (no_event _ refl)
+  step-shows (passes_the_end none up) = unrefused next none (Ok None, up, (refl, refl))
+  step-shows (passes_nothing r none up refuses) = unrefused next none (Err r, (up, refuses), (refl, refl))
+  step-shows (peeks p none up) = unrefused peek none (Ok (Some p), up, (refl, refl))
+  step-shows (peeks_without_memory p none up takes) = is_lack (no_event _ refl)
+  step-shows (peeks_at_the_end none up) = unrefused peek none (Ok None, up, (refl, refl))
+  step-shows (peeks_at_nothing r none up refuses) = unrefused peek none (Err r, (up, refuses), (refl, refl))
+  step-shows gives_none = is_free (untold c.refusal (events 0) (λ r. refl)) (refl, refl)
+  step-shows (gives k n given place none all count most ends) =
+      unrefused (events (suc k)) none (given, place, Ok n, all, ends_well n count most ends, (refl, refl))
+  step-shows (gives_without_memory k given place p spot none all le up is) = is_lack (no_more _ _ refl)
+  step-shows (gives_up k given place r none all le up refuses) =
+      unrefused (events (suc k)) none (given, place, Err r, all, ends_badly r le up refuses, (refl, refl))
+  step-shows (saves none less) =
       let other : c.counter ≢ greatest = λ e. absurd (omega (arith, e)) in
-      inr (unrefused save _ _ none (rw (ne_eqb c.counter greatest other) (refl, refl)))
-  step-ample (saves_at_the_limit none e) =
-      inr (unrefused save _ _ none (rw (eq-eqb c.counter greatest e) (refl, refl)))
-  step-ample (saves_without_memory none less) = inl (no_point _ refl)
-  step-ample (restores point spot e) =
-      inr (is_free (restore point) _ _ (untold c.refusal (restore point) (λ r. refl)) (rw e (refl, refl)))
-  step-ample (restores_nothing point e) =
-      inr (is_free (restore point) _ _ (untold c.refusal (restore point) (λ r. refl)) (rw e (refl, refl)))
-  step-ample tells = inr (is_free span _ _ (untold c.refusal span (λ r. refl)) (refl, refl))
+      unrefused save none (rw (ne_eqb c.counter greatest other) (refl, refl))
+  step-shows (saves_at_the_limit none e) = unrefused save none (rw (eq-eqb c.counter greatest e) (refl, refl))
+  step-shows (saves_without_memory none less) = is_lack (no_point _ refl)
+  step-shows (restores point spot e) = is_free (untold c.refusal (restore point) (λ r. refl)) (rw e (refl, refl))
+  step-shows (restores_nothing point e) = is_free (untold c.refusal (restore point) (λ r. refl)) (rw e (refl, refl))
+  step-shows tells = is_free (untold c.refusal span (λ r. refl)) (refl, refl)
 
-agree_by : {a b : Answer} {d e : Cursor} {outcome : Outcome} → LacksMemory a ⊎ Is a d outcome → LacksMemory b ⊎ Is b e outcome →
-    Agree a b d e
-agree_by (inl l) other = lacks l
-agree_by (inr is) (inl l) = other_lacks l
-agree_by (inr is) (inr other) = is_one (is.0 ∙ sym other.0) (is.1 ∙ sym other.1)
+module _ {P : Type 0} (w : World P) where
+  -- A batch is not too long.
+  ends-within : {k : ℕ} {given : List Event} {place : P} {x : Result ℕ Refusal} → Ends w k given place x → length given ≤ suc k
+  ends-within (ends_well n count most ends) = omega (arith, count)
+  ends-within (ends_badly r le up refuses) = omega (arith, le)
 
--- Two answers to a call are one, out of memory aside.
-pub step-agrees : (w : List Passed) (c d e : Cursor) (call : Call) (a b : Answer) → Step w c call a d → Step w c call b e →
-    Agree a b d e
-step-agrees w c d e call a b first second = agree_by (step-ample w c first) (step-ample w c second)
+  -- Where it is too short, no event comes.
+  ends-stops : {k : ℕ} {given : List Event} {place : P} {x : Result ℕ Refusal} → Ends w k given place x → length given < suc k →
+      Stops (w.comes place)
+  ends-stops {place = place} (ends_well n count most ends) less = stops_at_the_end (w.comes place) (ends (omega (arith, count)))
+  ends-stops {place = place} (ends_badly r le up refuses) less = stops_at_nothing (w.comes place) up
+
+  -- Two lists of events that come from one place, and can't be longer, are one.
+  one-batch : (n : ℕ) {place there here : P} {given others : List Event} → Comes w place given there →
+      Comes w place others here → length given ≤ n → length others ≤ n → (length given < n → Stops (w.comes there)) →
+      (length others < n → Stops (w.comes here)) → (given ≡ others) × (there ≡ here)
+  one-batch n (cursor.no_event _) (cursor.no_event _) g o stops ends = (refl, refl)
+  one-batch n (cursor.no_event _) (cursor.one_event place after p others up more) g o stops ends = absurd (stops (omega arith) p up)
+  one-batch n (cursor.one_event place after p given up more) (cursor.no_event _) g o stops ends = absurd (ends (omega arith) p up)
+  one-batch zero (cursor.one_event _ _ _ _ _ _) (cursor.one_event _ _ _ _ _ _) g o stops ends = absurd (omega (arith, g))
+  one-batch (suc n) (cursor.one_event place _ p _ up more) (cursor.one_event _ last q others up_too more_too) g o stops ends =
+      let same : q ≡ p = same-event q p up_too up in
+      let from : Comes w (w.past p place) others last = subst (λ x. Comes w (w.past x place) others last) same more_too in
+      let rest =
+      one-batch n more from (omega (arith, g)) (omega (arith, o)) (λ less. stops (omega (arith, less)))
+      (λ less. ends (omega (arith, less))) in
+      (rw (same, rest.0) refl, rest.1)
+
+module _ {P : Type 0} (w : World P) (only : (place : P) (r q : Refusal) → w.refuses place r → w.refuses place q → r ≡ q) where
+  -- One thing is met at a place.
+  one-met : (place : P) (x y : Met) → Meets w place x → Meets w place y → x ≡ y
+  one-met place (Ok (Some p)) (Ok (Some q)) up up_too = ap (λ (e : Passed). Ok (Some e)) (same-event p q up up_too)
+  one-met place (Ok (Some p)) (Ok None) up up_too = let no : an_event p ≡ the_end = sym up ∙ up_too in cc
+  one-met place (Ok (Some p)) (Err q) up up_too = let no : an_event p ≡ a_refusal = sym up ∙ up_too.0 in cc
+  one-met place (Ok None) (Ok (Some q)) up up_too = let no : the_end ≡ an_event q = sym up ∙ up_too in cc
+  one-met place (Ok None) (Ok None) up up_too = refl
+  one-met place (Ok None) (Err q) up up_too = let no : the_end ≡ a_refusal = sym up ∙ up_too.0 in cc
+  one-met place (Err r) (Ok (Some q)) up up_too = let no : a_refusal ≡ an_event q = sym up.0 ∙ up_too in cc
+  one-met place (Err r) (Ok None) up up_too = let no : a_refusal ≡ the_end = sym up.0 ∙ up_too in cc
+  one-met place (Err r) (Err q) up up_too = ap (λ (x : Refusal). Err x) (only place r q up.1 up_too.1)
+
+  -- A batch ends in one way.
+  one-end : {k : ℕ} {given : List Event} {place : P} {x y : Result ℕ Refusal} → Ends w k given place x →
+      Ends w k given place y → x ≡ y
+  one-end (ends_well n count most ends) (ends_well m count_too _ _) = ap (λ (i : ℕ). Ok i) (count ∙ sym count_too)
+  one-end (ends_well n count most ends) (ends_badly r le up refuses) =
+      let no : the_end ≡ a_refusal = sym (ends (omega (arith, count, le))) ∙ up in cc
+  one-end (ends_badly r le up refuses) (ends_well n count most ends) =
+      let no : the_end ≡ a_refusal = sym (ends (omega (arith, count, le))) ∙ up in cc
+  one-end {place = place} (ends_badly r le up refuses) (ends_badly q _ _ refuses_too) =
+      ap (λ (x : Refusal). Err x) (only place r q refuses refuses_too)
+
+  agree_by : {a b : Answer} {d e : Cursor P} {x y : Outcome w} → Is w a d x → Is w b e y → x ≡ y → Agree a b d e
+  agree_by is other same =
+      is_one (is.0 ∙ ap (λ (o : Outcome w). o.0) same ∙ sym other.0) (is.1 ∙ ap (λ (o : Outcome w). o.1) same ∙ sym other.1)
+
+  -- Two free answers are one.
+  free-agree : (c : Cursor P) (call : Call) {a b : Answer} {d e : Cursor P} → IsFree w c call a d → IsFree w c call b e →
+      Agree a b d e
+  free-agree c next (x, met, is) (y, met_too, is_too) = agree_by is is_too (ap (next_by w c) (one-met c.spot.place x y met met_too))
+  free-agree c peek (x, met, is) (y, met_too, is_too) = agree_by is is_too (ap (peek_by w c) (one-met c.spot.place x y met met_too))
+  free-agree c (events zero) is is_too = agree_by is is_too refl
+  free-agree c (events (suc k)) (given, place, x, all, ends, is) (others, here, y, all_too, ends_too, is_too) =
+      let same =
+      one-batch w (suc k) all all_too (ends-within w ends) (ends-within w ends_too) (ends-stops w ends) (ends-stops w ends_too) in
+      let there : Ends w k given place y = rw (same.0, same.1) ends_too in
+      let end : x ≡ y = one-end ends there in
+      agree_by is is_too (rw (same.0, same.1, end) refl)
+  free-agree c save is is_too = agree_by is is_too refl
+  free-agree c (restore point) is is_too = agree_by is is_too refl
+  free-agree c span is is_too = agree_by is is_too refl
+
+  -- Two answers are one, out of memory aside.
+  shown-agree : (c : Cursor P) (call : Call) {a b : Answer} {d e : Cursor P} → Shows w c call a d → Shows w c call b e →
+      Agree a b d e
+  shown-agree c call (is_lack l) other = lacks l
+  shown-agree c call (is_told t same) (is_lack l) = other_lacks l
+  shown-agree c call (is_told t same) (is_told u other) = is_one (same_Some _ _ (sym t ∙ u)) (same ∙ sym other)
+  shown-agree c call (is_told t same) (is_free none is) = absurd (none-some _ (sym none ∙ t))
+  shown-agree c call (is_free none is) (is_lack l) = other_lacks l
+  shown-agree c call (is_free none is) (is_told t same) = absurd (none-some _ (sym none ∙ t))
+  shown-agree c call (is_free none is) (is_free _ other) = free-agree c call is other
+
+  -- Two answers to a call are one, out of memory aside.
+  pub step-agrees : (c d e : Cursor P) (call : Call) (a b : Answer) → Step w c call a d → Step w c call b e → Agree a b d e
+  step-agrees c d e call a b first second = shown-agree c call (step-shows w c first) (step-shows w c second)
 
 -- ---- runs
 
-runs_on : {a b : Answer} {d e : Cursor} {these those : List Answer} → Agree a b d e → (d ≡ e → AgreeToLack these those) →
-    AgreeToLack (a ∷ these) (b ∷ those)
+runs_on : {P : Type 0} {a b : Answer} {d e : Cursor P} {these those : List Answer} → Agree a b d e →
+    (d ≡ e → AgreeToLack these those) → AgreeToLack (a ∷ these) (b ∷ those)
 runs_on {a = a} {b = b} {these = these} {those = those} (lacks l) more = first_lacks a b these those l
 runs_on {a = a} {b = b} {these = these} {those = those} (other_lacks l) more = second_lacks a b these those l
 runs_on {a = a} {b = b} {these = these} {those = those} (is_one same left) more =
     subst (λ x. AgreeToLack (a ∷ these) (x ∷ those)) same (same_answer a these those (more left))
 
--- Two runs with the same calls agree up to the first out of memory.
-pub runs-agree : (w : List Passed) (c d e : Cursor) (calls : List Call) (these those : List Answer) → Run w c calls these d →
-    Run w c calls those e → AgreeToLack these those
-runs-agree w c d e _ _ _ (no_calls _) (no_calls _) = no_answers
-runs-agree w c d e _ _ _ (one_call _ behind _ call a calls these step more) (one_call _ other _ _ b _ those step_too more_too) =
-    runs_on (step-agrees w c behind other call a b step step_too)
-    (λ same. runs-agree w behind d e calls these those more (subst (λ x. Run w x calls those e) (sym same) more_too))
+module _ {P : Type 0} (w : World P) (only : (place : P) (r q : Refusal) → w.refuses place r → w.refuses place q → r ≡ q) where
+  -- Two runs with the same calls agree up to the first out of memory.
+  pub runs-agree : (c d e : Cursor P) (calls : List Call) (these those : List Answer) → Run w c calls these d →
+      Run w c calls those e → AgreeToLack these those
+  runs-agree c d e _ _ _ (no_calls _) (no_calls _) = no_answers
+  runs-agree c d e _ _ _ (one_call _ behind _ call a calls these step more) (one_call _ other _ _ b _ those step_too more_too) =
+      runs_on (step-agrees w only c behind other call a b step step_too)
+      (λ same. runs-agree behind d e calls these those more (subst (λ x. Run w x calls those e) (sym same) more_too))

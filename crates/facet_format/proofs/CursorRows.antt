@@ -4,7 +4,8 @@ use Rattle.std.specs.Prelude.{Ok, Err}
 use Rattle.facet_format.specs.Span.{span_at}
 use Rattle.facet_format.specs.Complaint.{Refusal}
 use Rattle.facet_format.specs.Event.{EventKind, Event, Passed, array, sequence_start, sequence_end, scalar, u64, holds_made}
-use Rattle.facet_format.specs.Cursor.{next, peek, events, save, restore, span, Answer, event, batch, saved, restored, spans, Spot, Cursor, start, peeked_at, at_spot, Step, Run, no_calls, one_call, repeats, passes, passes_the_end, peeks, peeks_without_memory, peeks_at_the_end, gives_none, gives, saves, restores, restores_nothing, tells}
+use Rattle.facet_format.specs.Cursor.{next, peek, events, save, restore, span, Answer, event, batch, saved, restored, spans, Spot, Cursor, start, on_walk, peeked_at, at_spot, Comes, no_event, one_event, Step, Run, no_calls, one_call, repeats, passes, passes_the_end, peeks, peeks_without_memory, peeks_at_the_end, peeks_at_nothing, gives_none, gives, saves, restores, restores_nothing, tells}
+use Rattle.facet_format.proofs.CursorSteps.{same-event}
 
 -- an event of one token, with its offset and length
 abbrev at : EventKind → ℕ → ℕ → Event
@@ -27,15 +28,15 @@ abbrev w : List Passed
 w = passed opens ∷ passed one ∷ passed closes ∷ []
 
 -- where so many events are passed
-abbrev spot : ℕ → Spot
+abbrev spot : ℕ → Spot ℕ
 spot n = record { place = n; peeked = false }
 
 -- a cursor after all of them
-abbrev at_end : Cursor
+abbrev at_end : Cursor ℕ
 at_end = record start { spot = spot 3 }
 
 -- Event by event, then the end, again and again.
-next_row : Run w start (next ∷ next ∷ next ∷ next ∷ next ∷ [])
+next_row : Run (on_walk w) start (next ∷ next ∷ next ∷ next ∷ next ∷ [])
     (event (Ok (Some opens)) ∷ event (Ok (Some one)) ∷ event (Ok (Some closes)) ∷ event (Ok None) ∷ event (Ok None) ∷ []) at_end
 next_row =
     one_call _ _ _ _ _ _ _ (passes (passed opens) refl refl) (one_call _ _ _ _ _ _ _ (passes (passed one) refl refl)
@@ -43,7 +44,7 @@ next_row =
     (one_call _ _ _ _ _ _ _ (passes_the_end refl refl) (no_calls _)))))
 
 -- A peek shows the event's span, and passes nothing.
-peek_row : Run w start (span ∷ peek ∷ span ∷ next ∷ [])
+peek_row : Run (on_walk w) start (span ∷ peek ∷ span ∷ next ∷ [])
     (spans (Some (span_at 0 0)) ∷ event (Ok (Some opens)) ∷ spans (Some (span_at 0 1)) ∷ event (Ok (Some opens)) ∷ [])
     (record start { spot = spot 1 })
 peek_row =
@@ -51,25 +52,33 @@ peek_row =
     (one_call _ _ _ _ _ _ _ tells (one_call _ _ _ _ _ _ _ (passes (passed opens) refl refl) (no_calls _))))
 
 -- A bracket that was peeked at is peeked at again, and nothing else is answered: it is read already.
-second_peek_row : (d : Cursor) (answer : Answer) (r : Refusal) → answer ≡ event (Err r) →
-    Step w (at_spot start (peeked_at (spot 0))) peek answer d → ⊥
+second_peek_row : (d : Cursor ℕ) (answer : Answer) (r : Refusal) → answer ≡ event (Err r) →
+    Step (on_walk w) (at_spot start (peeked_at (spot 0))) peek answer d → ⊥
 second_peek_row d answer r e (repeats q call told is repeats_it) = cc
 second_peek_row d answer r e (peeks p none up) = cc
 second_peek_row d answer r e (peeks_without_memory p none up takes) =
-    let first : passed opens ≡ p = cc in
+    let first : passed opens ≡ p = same-event (passed opens) p refl up in
     let made : holds_made (sequence_start array) ≡ true = rw (← first) at takes in cc
 second_peek_row d answer r e (peeks_at_the_end none up) = cc
+second_peek_row d answer r e (peeks_at_nothing q none up refuses) = absurd refuses
+
+-- All three come from the start on.
+all : Comes (on_walk w) 0 (opens ∷ one ∷ closes ∷ []) 3
+all =
+    one_event 0 3 (passed opens) _ refl (one_event 1 3 (passed one) _ refl (one_event 2 3 (passed closes) [] refl (no_event 3)))
 
 -- All that are left at once, a peeked one first; none where none is asked for.
-batch_row : Run w start (peek ∷ events 9 ∷ events 0 ∷ span ∷ [])
+batch_row : Run (on_walk w) start (peek ∷ events 9 ∷ events 0 ∷ span ∷ [])
     (event (Ok (Some opens)) ∷ batch (opens ∷ one ∷ closes ∷ []) (Ok 3) ∷ batch [] (Ok 0) ∷ spans (Some (span_at 2 1)) ∷ []) at_end
 batch_row =
-    one_call _ _ _ _ _ _ _ (peeks (passed opens) refl refl) (one_call _ _ _ _ _ _ _ (gives 8 3 _ refl refl refl)
+    one_call _ _ _ _ _ _ _ (peeks (passed opens) refl refl)
+    (one_call _ _ _ _ _ _ _ (gives 8 3 _ 3 refl all refl (omega arith) (λ le. refl))
     (one_call _ _ _ _ _ _ _ gives_none (one_call _ _ _ _ _ _ _ tells (no_calls _))))
 
 -- A point that was restored is used up.
-restore_row : Run w start (next ∷ save ∷ next ∷ restore 1 ∷ next ∷ restore 1 ∷ next ∷ [])
-    (event (Ok (Some opens)) ∷ saved (Ok 1) ∷ event (Ok (Some one)) ∷ restored ∷ event (Ok (Some one)) ∷ restored ∷ event (Ok (Some closes)) ∷ [])
+restore_row : Run (on_walk w) start (next ∷ save ∷ next ∷ restore 1 ∷ next ∷ restore 1 ∷ next ∷ [])
+    (event (Ok (Some opens)) ∷ saved (Ok 1) ∷ event (Ok (Some one)) ∷ restored ∷ event (Ok (Some one)) ∷ restored ∷
+    event (Ok (Some closes)) ∷ [])
     (record start { spot = spot 3; counter = 1 })
 restore_row =
     one_call _ _ _ _ _ _ _ (passes (passed opens) refl refl) (one_call _ _ _ _ _ _ _ (saves refl (omega arith))

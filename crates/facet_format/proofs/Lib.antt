@@ -7,3 +7,4 @@ pub mod NumberLaws
 pub mod NumberSteps
 pub mod NumberText
 pub mod RefusalKinds
+pub mod StepsAlike

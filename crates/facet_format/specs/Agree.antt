@@ -11,7 +11,7 @@ pub data LacksMemory : Answer → Type 0 where
   no_point : (r : Refusal) → r.complaint ≡ out_of_memory → LacksMemory (saved (Err r))
 
 -- One of two answers to a call is out of memory, or both are one answer, after which both cursors are one.
-pub data Agree (a b : Answer) (d e : Cursor) : Type 0 where
+pub data Agree {P : Type 0} (a b : Answer) (d e : Cursor P) : Type 0 where
   lacks : LacksMemory a → Agree a b d e
   other_lacks : LacksMemory b → Agree a b d e
   is_one : a ≡ b → d ≡ e → Agree a b d e

@@ -1,5 +1,6 @@
--- A cursor over a finished list of events, and what each call of a reader answers there. Skips and captures are not among the calls yet.
-use Rattle.std.specs.Prelude.{◌≡◌, ◌<◌, ℕ, zero, suc, ◌+◌, Bool, true, false, List, [], ◌∷◌, map, length, take, drop, slice_get, Option, Some, None, Result, Ok, Err}
+-- A cursor, and what each call of a reader answers there. It stands at places: on a walk, a finished list of events, the place says how
+-- many events are passed; in an input it says what is passed and what is open. Skips and captures are not among the calls yet.
+use Rattle.std.specs.Prelude.{◌≡◌, ◌<◌, ◌≤◌, ℕ, zero, suc, Bool, true, false, List, [], ◌∷◌, length, slice_get, Option, Some, None, Result, Ok, Err}
 use Rattle.facet_format.specs.Span.{Span, span_at}
 use Rattle.facet_format.specs.Complaint.{Refusal, refusal_at, out_of_memory, save_limit}
 use Rattle.facet_format.specs.Event.{Event, Passed, takes_memory, peek_takes_memory}
@@ -25,23 +26,24 @@ pub data Answer : Type 0 where
   restored : Answer
   spans : Option Span → Answer
 
--- ---- the cursor
+-- ---- places
 
--- how many events are passed, and whether the next one was peeked at
-pub record Spot : Type 0 where
-  pub place : ℕ
-  pub peeked : Bool
+-- what comes at a place
+pub data Coming : Type 0 where
+  an_event : Passed → Coming
+  the_end : Coming
+  a_refusal : Coming
 
-pub record Cursor : Type 0 where
-  pub spot : Spot
-  -- what the last refused call was refused with
-  pub refusal : Option Refusal
-  pub kept : List (ℕ × Spot)
-  -- the number of the last point
-  pub counter : ℕ
-
-abbrev pub start : Cursor
-start = record { spot = record { place = 0; peeked = false }; refusal = None; kept = []; counter = 0 }
+-- places to stand at
+pub record World (P : Type 0) : Type 1 where
+  -- what comes at a place
+  pub comes : P → Coming
+  -- Where a refusal comes, it may be this one.
+  pub refuses : P → Refusal → Type 0
+  -- the place after an event
+  pub past : Passed → P → P
+  -- the last token before a place
+  pub last : P → Span
 
 -- the last token of an event; before the first event, none
 abbrev pub last_token : Option Passed → Span
@@ -53,45 +55,81 @@ abbrev pub last_of : List Passed → ℕ → Span
 last_of w zero = last_token None
 last_of w (suc n) = last_token (slice_get w n)
 
--- how many events are read, where this many are passed
-abbrev pub seen : Bool → ℕ → ℕ
-seen true place = suc place
-seen false place = place
+abbrev pub event_or_end : Option Passed → Coming
+event_or_end None = the_end
+event_or_end (Some p) = an_event p
+
+-- the places on a walk: nothing is refused there
+abbrev pub on_walk : List Passed → World ℕ
+on_walk w = record {
+  comes = λ place. event_or_end (slice_get w place);
+  refuses = λ place refusal. ⊥;
+  past = λ p place. suc place;
+  last = last_of w;
+}
+
+-- ---- the cursor
+
+-- a place, and whether the event there was peeked at
+pub record Spot (P : Type 0) : Type 0 where
+  pub place : P
+  pub peeked : Bool
+
+pub record Cursor (P : Type 0) : Type 0 where
+  pub spot : Spot P
+  -- what the last refused call was refused with
+  pub refusal : Option Refusal
+  pub kept : List (ℕ × Spot P)
+  -- the number of the last point
+  pub counter : ℕ
+
+abbrev pub start_at : {P : Type 0} → P → Cursor P
+start_at place = record { spot = record { place = place; peeked = false }; refusal = None; kept = []; counter = 0 }
+
+-- before a walk's first event
+abbrev pub start : Cursor ℕ
+start = start_at 0
+
+-- the last token of an event that comes and was peeked at, else the last one before it
+abbrev pub last_seen : Bool → Coming → Span → Span
+last_seen true (an_event p) last = p.last
+last_seen _ _ last = last
 
 -- the last token that was read, also of an event that was peeked at
-abbrev pub current_span : List Passed → Spot → Span
-current_span w spot = last_of w (seen spot.peeked spot.place)
+abbrev pub current_span : {P : Type 0} → World P → Spot P → Span
+current_span w spot = last_seen spot.peeked (w.comes spot.place) (w.last spot.place)
 
--- the next event
-abbrev pub upcoming : List Passed → Spot → Option Passed
-upcoming w spot = slice_get w spot.place
+abbrev pub unpeeked : {P : Type 0} → P → Spot P
+unpeeked place = record { place = place; peeked = false }
 
--- the next events, up to so many
-abbrev pub upcoming_events : List Passed → Spot → ℕ → List Event
-upcoming_events w spot n = map (λ p. p.event) (take n (drop spot.place w))
-
--- after so many more events
-abbrev pub moved : Spot → ℕ → Spot
-moved spot zero = spot
-moved spot (suc n) = record { place = spot.place + suc n; peeked = false }
-
-abbrev pub peeked_at : Spot → Spot
+abbrev pub peeked_at : {P : Type 0} → Spot P → Spot P
 peeked_at spot = record spot { peeked = true }
 
+-- These events come from a place on, and after them the cursor is at the other place.
+pub data Comes {P : Type 0} (w : World P) : P → List Event → P → Type 0 where
+  no_event : (place : P) → Comes w place [] place
+  one_event : (place after : P) (p : Passed) (others : List Event) → w.comes place ≡ an_event p →
+      Comes w (w.past p place) others after → Comes w place (p.event ∷ others) after
+
+-- after these events, the last of which leads to the place
+abbrev pub spot_after : {P : Type 0} → List Event → P → Spot P → Spot P
+spot_after [] place spot = spot
+spot_after (e ∷ others) place spot = unpeeked place
+
 -- the cursor at another spot
-abbrev pub at_spot : Cursor → Spot → Cursor
+abbrev pub at_spot : {P : Type 0} → Cursor P → Spot P → Cursor P
 at_spot c spot = record c { spot = spot }
 
 -- the cursor at another spot, and refused
-abbrev pub refused_at : Cursor → Spot → Refusal → Cursor
+abbrev pub refused_at : {P : Type 0} → Cursor P → Spot P → Refusal → Cursor P
 refused_at c spot refusal = record c { spot = spot; refusal = Some refusal }
 
 -- with one more point
-abbrev pub kept_here : Cursor → Cursor
+abbrev pub kept_here : {P : Type 0} → Cursor P → Cursor P
 kept_here c = record c { kept = with_point (suc c.counter) c.spot c.kept; counter = suc c.counter }
 
 -- back at the spot of a point, which is used up
-abbrev pub back_at : Cursor → ℕ → Spot → Cursor
+abbrev pub back_at : {P : Type 0} → Cursor P → ℕ → Spot P → Cursor P
 back_at c point spot = record c { spot = spot; refusal = None; kept = without point c.kept }
 
 -- ---- steps
@@ -115,45 +153,54 @@ repeated r (restore point) = None
 repeated r span = None
 
 -- The call may be answered so, and leaves the cursor so.
-pub data Step (w : List Passed) (c : Cursor) : Call → Answer → Cursor → Type 0 where
+pub data Step {P : Type 0} (w : World P) (c : Cursor P) : Call → Answer → Cursor P → Type 0 where
   repeats : (r : Refusal) (call : Call) (answer : Answer) → c.refusal ≡ Some r → repeated r call ≡ Some answer →
       Step w c call answer c
-  passes : (p : Passed) → c.refusal ≡ None → upcoming w c.spot ≡ Some p →
-      Step w c next (event (Ok (Some p.event))) (at_spot c (moved c.spot 1))
+  passes : (p : Passed) → c.refusal ≡ None → w.comes c.spot.place ≡ an_event p →
+      Step w c next (event (Ok (Some p.event))) (at_spot c (unpeeked (w.past p c.spot.place)))
   -- an event that was peeked at does not allocate any more
-  passes_without_memory : (p : Passed) → c.refusal ≡ None → upcoming w c.spot ≡ Some p →
+  passes_without_memory : (p : Passed) → c.refusal ≡ None → w.comes c.spot.place ≡ an_event p →
       takes_memory p.event.kind ≡ true → c.spot.peeked ≡ false →
       Step w c next (event (Err (no_memory_at (current_span w c.spot)))) (refused_at c c.spot (no_memory_at (current_span w c.spot)))
-  passes_the_end : c.refusal ≡ None → upcoming w c.spot ≡ None → Step w c next (event (Ok None)) c
-  peeks : (p : Passed) → c.refusal ≡ None → upcoming w c.spot ≡ Some p →
+  passes_the_end : c.refusal ≡ None → w.comes c.spot.place ≡ the_end → Step w c next (event (Ok None)) c
+  passes_nothing : (r : Refusal) → c.refusal ≡ None → w.comes c.spot.place ≡ a_refusal → w.refuses c.spot.place r →
+      Step w c next (event (Err r)) (refused_at c c.spot r)
+  peeks : (p : Passed) → c.refusal ≡ None → w.comes c.spot.place ≡ an_event p →
       Step w c peek (event (Ok (Some p.event))) (at_spot c (peeked_at c.spot))
   -- a second peek of an event allocates only for the copy of a text that is made
-  peeks_without_memory : (p : Passed) → c.refusal ≡ None → upcoming w c.spot ≡ Some p →
+  peeks_without_memory : (p : Passed) → c.refusal ≡ None → w.comes c.spot.place ≡ an_event p →
       peek_takes_memory c.spot.peeked p.event.kind ≡ true →
       Step w c peek (event (Err (no_memory_at (current_span w c.spot)))) (refused_at c c.spot (no_memory_at (current_span w c.spot)))
-  peeks_at_the_end : c.refusal ≡ None → upcoming w c.spot ≡ None → Step w c peek (event (Ok None)) c
+  peeks_at_the_end : c.refusal ≡ None → w.comes c.spot.place ≡ the_end → Step w c peek (event (Ok None)) c
+  peeks_at_nothing : (r : Refusal) → c.refusal ≡ None → w.comes c.spot.place ≡ a_refusal → w.refuses c.spot.place r →
+      Step w c peek (event (Err r)) (refused_at c c.spot r)
   -- asked for none, also where the cursor is refused
   gives_none : Step w c (events 0) (batch [] (Ok 0)) c
-  gives : (k n : ℕ) (given : List Event) → c.refusal ≡ None → given ≡ upcoming_events w c.spot (suc k) →
-      n ≡ length given → Step w c (events (suc k)) (batch given (Ok n)) (at_spot c (moved c.spot n))
-  -- memory ran out after n events, where more stand there
-  gives_without_memory : (k n : ℕ) (given : List Event) (spot : Spot) → c.refusal ≡ None →
-      n < length (upcoming_events w c.spot (suc k)) → given ≡ upcoming_events w c.spot n → spot ≡ moved c.spot n →
+  -- as many as are asked for, or all up to the end
+  gives : (k n : ℕ) (given : List Event) (place : P) → c.refusal ≡ None → Comes w c.spot.place given place → n ≡ length given →
+      n ≤ suc k → (n ≤ k → w.comes place ≡ the_end) →
+      Step w c (events (suc k)) (batch given (Ok n)) (at_spot c (spot_after given place c.spot))
+  -- memory ran out after these events, where more stand there
+  gives_without_memory : (k : ℕ) (given : List Event) (place : P) (p : Passed) (spot : Spot P) → c.refusal ≡ None →
+      Comes w c.spot.place given place → length given ≤ k → w.comes place ≡ an_event p → spot ≡ spot_after given place c.spot →
       Step w c (events (suc k)) (batch given (Err (no_memory_at (current_span w spot)))) (refused_at c spot (no_memory_at (current_span w spot)))
+  gives_up : (k : ℕ) (given : List Event) (place : P) (r : Refusal) → c.refusal ≡ None → Comes w c.spot.place given place →
+      length given ≤ k → w.comes place ≡ a_refusal → w.refuses place r →
+      Step w c (events (suc k)) (batch given (Err r)) (refused_at c (spot_after given place c.spot) r)
   saves : c.refusal ≡ None → c.counter < greatest → Step w c save (saved (Ok (suc c.counter))) (kept_here c)
   -- a refused save changes nothing, and the refusal is not kept
   saves_at_the_limit : c.refusal ≡ None → c.counter ≡ greatest →
       Step w c save (saved (Err (refusal_at save_limit (current_span w c.spot)))) c
   saves_without_memory : c.refusal ≡ None → c.counter < greatest →
       Step w c save (saved (Err (no_memory_at (current_span w c.spot)))) c
-  restores : (point : ℕ) (spot : Spot) → found point c.kept ≡ Some spot →
+  restores : (point : ℕ) (spot : Spot P) → found point c.kept ≡ Some spot →
       Step w c (restore point) restored (back_at c point spot)
   restores_nothing : (point : ℕ) → found point c.kept ≡ None → Step w c (restore point) restored c
   tells : Step w c span (spans (Some (current_span w c.spot))) c
 
 -- All calls in order are answered so.
-pub data Run (w : List Passed) : Cursor → List Call → List Answer → Cursor → Type 0 where
-  no_calls : (c : Cursor) → Run w c [] [] c
-  one_call : (c between last : Cursor) (call : Call) (answer : Answer) (calls : List Call) (answers : List Answer) →
+pub data Run {P : Type 0} (w : World P) : Cursor P → List Call → List Answer → Cursor P → Type 0 where
+  no_calls : (c : Cursor P) → Run w c [] [] c
+  one_call : (c between last : Cursor P) (call : Call) (answer : Answer) (calls : List Call) (answers : List Answer) →
       Step w c call answer between → Run w between calls answers last →
       Run w c (call ∷ calls) (answer ∷ answers) last

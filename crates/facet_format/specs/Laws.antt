@@ -1,7 +1,7 @@
 -- What the definitions of numbers, refusals and cursors mean, in the subject's own words. Each law is the contract of a function of the module `laws`.
 use Rattle.std.specs.Prelude.{◌≡◌, ℕ, ◌≤◌, ◌↔◌, true, false, List, length, take}
 use Rattle.facet_format.specs.Event.{Passed}
-use Rattle.facet_format.specs.Cursor.{Cursor, Call, Step, Run, Answer, next, peek}
+use Rattle.facet_format.specs.Cursor.{Cursor, Call, on_walk, Step, Run, Answer, next, peek}
 use Rattle.facet_format.specs.Agree.{Agree, AgreeToLack}
 use Rattle.facet_format.specs.Complaint.{out_of_memory}
 use Rattle.facet_format.specs.declared.error.DeserializeErrorKind.{DeserializeErrorKind}
@@ -26,14 +26,15 @@ MemoryIsItsKind = (kind : DeserializeErrorKind) → complaint_of kind ≡ out_of
 
 -- The call after a peek answers what the peek did.
 abbrev pub PeekIsNext : Type 0
-PeekIsNext = (w : List Passed) (c between last : Cursor) (shown answer : Answer) → Step w c peek shown between →
-    Step w between next answer last → shown ≡ answer
+PeekIsNext = (w : List Passed) (c between last : Cursor ℕ) (shown answer : Answer) → Step (on_walk w) c peek shown between →
+    Step (on_walk w) between next answer last → shown ≡ answer
 
 -- A cursor answers a call in one way, and is then in one state, out of memory aside.
 abbrev pub StepsAgree : Type 0
-StepsAgree = (w : List Passed) (c d e : Cursor) (call : Call) (a b : Answer) → Step w c call a d → Step w c call b e → Agree a b d e
+StepsAgree = (w : List Passed) (c d e : Cursor ℕ) (call : Call) (a b : Answer) → Step (on_walk w) c call a d →
+    Step (on_walk w) c call b e → Agree a b d e
 
 -- Two runs of one cursor with the same calls give the same answers, up to the first out of memory in either.
 abbrev pub RunsAgree : Type 0
-RunsAgree = (w : List Passed) (c d e : Cursor) (calls : List Call) (these those : List Answer) → Run w c calls these d →
-    Run w c calls those e → AgreeToLack these those
+RunsAgree = (w : List Passed) (c d e : Cursor ℕ) (calls : List Call) (these those : List Answer) → Run (on_walk w) c calls these d →
+    Run (on_walk w) c calls those e → AgreeToLack these those

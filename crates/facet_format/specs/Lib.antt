@@ -1,4 +1,5 @@
 pub mod Agree
+pub mod Alike
 pub mod Bytes
 pub mod Complaint
 pub mod Cursor

@@ -21,7 +21,7 @@ pub trait FormatParser<'de> {
     ghost use Rattle.facet_format.specs.Cursor.{Cursor};
 
     /// It stands at this cursor on this walk.
-    ghost at: { Self → List Passed → Cursor → Type 0 };
+    ghost at: { Self → List Passed → Cursor ℕ → Type 0 };
 
     /// So much is ahead of it: each event that is passed lowers it.
     ghost ahead: { Self → ℕ };

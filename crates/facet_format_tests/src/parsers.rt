@@ -1,6 +1,6 @@
 //! Generic code over parsers is proved from the trait alone.
 
-ghost use Rattle.std.specs.Prelude.{◌≡◌, ◌+◌, ◌^◌, ◌<◌, ◌≤◌, List, IfSome, IfOk};
+ghost use Rattle.std.specs.Prelude.{◌≡◌, ◌+◌, ◌^◌, ◌<◌, ◌≤◌, ℕ, List, IfSome, IfOk};
 ghost use Rattle.facet_format.specs.Event.{Passed};
 ghost use Rattle.facet_format.specs.Cursor.{Cursor};
 ghost use Rattle.facet_format.specs.Views.{event_of};
@@ -17,9 +17,9 @@ use std::collections::VecDeque;
 fn peek_and_next<'de, P: FormatParser<'de>>(
     parser: &mut P,
 ) -> Option<(ParseEvent<'de>, ParseEvent<'de>)>
-    ensures alike { (w : List Passed) (c : Cursor) → P.at parser.old w c
+    ensures alike { (w : List Passed) (c : Cursor ℕ) → P.at parser.old w c
         → IfSome result (λ events. event_of events.0 ≡ event_of events.1) }
-    ensures stands { (w : List Passed) (c : Cursor) → P.at parser.old w c → (last : Cursor) × P.at parser.new w last }
+    ensures stands { (w : List Passed) (c : Cursor ℕ) → P.at parser.old w c → (last : Cursor ℕ) × P.at parser.new w last }
 {
     match parser.peek_event() {
         Ok(Some(shown)) => match parser.next_event() {

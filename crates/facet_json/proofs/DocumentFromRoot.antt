@@ -21,7 +21,7 @@ module _ (buffer : List ℕ) (mode : Mode) where
   document-told : (root : Node) (value : Tree) → IsDocument buffer mode root value →
       Tells (future_of (fresh buffer mode)) value finished
   document-told root value d =
-      let comes = (fresh-stands buffer mode root value d).standing.comes in
+      let comes = (fresh-stands buffer mode root value d).spot.place.comes in
       subst (λ f. Tells f value finished) (sym comes) (walk-tells buffer root value finished d.reads.has_tree)
 
   -- What is read is the document's tree.

@@ -30,7 +30,7 @@ pub read-at : {V : Type 0} {tells : Future → V → Future → Type 0} {breaks 
 read-at {V = V} {tells = tells} {breaks = breaks} {rest = rest} {value = value} e h = subst (λ x. IsRead V tells breaks x value rest) (sym e) h
 
 -- A parser that isn't refused has gone on by nothing.
-pub went-none : (now : Now) → now.refusal ≡ None → WentOn now now
+pub went-none : (now : Now) → now.cursor.refusal ≡ None → WentOn now now
 went-none now free = record { free = free; onward = omega arith }
 
 -- After an event and what goes on from it no more bytes are ahead.

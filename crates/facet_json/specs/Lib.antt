@@ -8,6 +8,7 @@ pub use Rattle.facet_format.specs.HeldText
 pub use Rattle.facet_format.specs.Cursor
 pub use Rattle.facet_format.specs.Kept
 pub use Rattle.facet_format.specs.Standing
+pub use Rattle.facet_format.specs.Alike
 pub use Rattle.facet_format.specs.Agree
 pub use Rattle.facet_json_token.specs.Gap
 pub use Rattle.facet_json_token.specs.Token
@@ -26,6 +27,7 @@ pub use Rattle.facet_json_document.specs.Order
 pub use Rattle.facet_json_document.specs.Walk
 pub use Rattle.facet_json_document.specs.Place
 pub use Rattle.facet_json_document.specs.Future
+pub use Rattle.facet_json_document.specs.InputPlace
 pub use Rattle.facet_json_document.specs.Quoted
 pub use Rattle.facet_json_document.specs.Text
 pub use Rattle.facet_json_document.specs.TextLaws
@@ -35,7 +37,7 @@ pub use Rattle.facet_json_prefix.specs.Refusal
 pub use Rattle.facet_json_protocol.specs.Now
 pub use Rattle.facet_json_protocol.specs.Move
 pub use Rattle.facet_json_protocol.specs.Next
-pub use Rattle.facet_json_protocol.specs.Sound
+pub use Rattle.facet_json_protocol.specs.Within
 pub use Rattle.facet_json_protocol.specs.Alone
 pub use Rattle.facet_json_protocol.specs.ParserLaws
 pub use Rattle.facet_json_protocol.specs.CallLaws

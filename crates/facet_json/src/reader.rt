@@ -69,7 +69,7 @@ pub fn from_slice_jsonc<'t>(alloc: Global, input: &[u8]) -> Result<Tree, Deseria
 
 /// The tree of the document that a parser reads.
 fn document<'t>(alloc: Global, mut parser: JsonParser<'_>) -> Result<Tree, DeserializeError<'t>>
-    requires free { parser.refusal ≡ None }
+    requires free { parser.cursor.refusal ≡ None }
     ensures read { IfOk result (λ t. (behind : Future) × IsValueRead (future_of parser.entry) (tree_view t) behind) }
     ensures refused { IfErr result (λ e. IsValueUnread parser.entry.buffer (future_of parser.entry) (refusal_of e)) }
     ensures within { IfErr result (λ e. IfSome e.span (λ s. s.offset + s.len ≤ length parser.entry.buffer)) }
@@ -79,7 +79,7 @@ fn document<'t>(alloc: Global, mut parser: JsonParser<'_>) -> Result<Tree, Deser
 
 /// The value before which the parser stands.
 fn root<'t>(alloc: Global, parser: &mut JsonParser<'_>) -> Result<Tree, DeserializeError<'t>>
-    requires free { parser.old.refusal ≡ None }
+    requires free { parser.old.cursor.refusal ≡ None }
     ensures same { parser.new.buffer ≡ parser.old.buffer }
     ensures read { IfOk result (λ t. IsValueRead (future_of parser.old) (tree_view t) (future_of parser.new)) }
     ensures refused { IfErr result (λ e. IsValueUnread parser.old.buffer (future_of parser.old) (refusal_of e)) }
@@ -91,7 +91,7 @@ fn root<'t>(alloc: Global, parser: &mut JsonParser<'_>) -> Result<Tree, Deserial
 
 /// The next event, where a value has not ended.
 fn next<'t, 'de>(parser: &mut JsonParser<'de>) -> Result<ParseEvent<'de>, DeserializeError<'t>>
-    requires free { parser.old.refusal ≡ None }
+    requires free { parser.old.cursor.refusal ≡ None }
     ensures same { parser.new.buffer ≡ parser.old.buffer }
     ensures gave { IfOk result (λ e. PassesNext parser.old (event_of e) parser.new) }
     ensures shorter { OnOk result (ahead parser.new < ahead parser.old) }
@@ -118,7 +118,7 @@ fn ended<'t>(parser: &JsonParser<'_>) -> DeserializeError<'t>
 
 /// The tree of the value before which the parser stands, its items or members still to be read. Passes its first event.
 fn begin_value<'t>(alloc: Global, parser: &mut JsonParser<'_>) -> Result<Tree, DeserializeError<'t>>
-    requires free { parser.old.refusal ≡ None }
+    requires free { parser.old.cursor.refusal ≡ None }
     ensures same { parser.new.buffer ≡ parser.old.buffer }
     ensures shorter { OnOk result (ahead parser.new < ahead parser.old) }
     ensures begun { IfOk result (λ t. BeganValue parser.old (tree_view t) parser.new) }
@@ -133,7 +133,7 @@ fn begin_item<'t>(
     alloc: Global,
     parser: &mut JsonParser<'_>,
 ) -> Result<Option<Tree>, DeserializeError<'t>>
-    requires free { parser.old.refusal ≡ None }
+    requires free { parser.old.cursor.refusal ≡ None }
     ensures same { parser.new.buffer ≡ parser.old.buffer }
     ensures shorter { OnOk result (ahead parser.new < ahead parser.old) }
     ensures begun { IfOk result (λ o. MatchOption o (PassedEnd sequence_end parser.old parser.new) (λ t. BeganValue parser.old (tree_view t) parser.new)) }
@@ -152,7 +152,7 @@ fn begin_member<'t>(
     alloc: Global,
     parser: &mut JsonParser<'_>,
 ) -> Result<Option<(String, Tree)>, DeserializeError<'t>>
-    requires free { parser.old.refusal ≡ None }
+    requires free { parser.old.cursor.refusal ≡ None }
     ensures same { parser.new.buffer ≡ parser.old.buffer }
     ensures shorter { OnOk result (ahead parser.new < ahead parser.old) }
     ensures begun { IfOk result (λ o. MatchOption o (PassedEnd struct_end parser.old parser.new) (λ m. BeganMember parser.old (string_bytes m.0) (tree_view m.1) parser.new)) }
@@ -206,7 +206,7 @@ fn finish<'t>(
     parser: &mut JsonParser<'_>,
     begun: Tree,
 ) -> Result<Tree, DeserializeError<'t>>
-    requires free { parser.old.refusal ≡ None }
+    requires free { parser.old.cursor.refusal ≡ None }
     ensures same { parser.new.buffer ≡ parser.old.buffer }
     ensures went { OnOk result (WentOn parser.old parser.new) }
     ensures read { IfOk result (λ t. IsFilled (tree_view begun) (future_of parser.old) (tree_view t) (future_of parser.new)) }
@@ -233,7 +233,7 @@ fn push_items<'t>(
     parser: &mut JsonParser<'_>,
     items: &mut Vec<Tree>,
 ) -> Result<(), DeserializeError<'t>>
-    requires free { parser.old.refusal ≡ None }
+    requires free { parser.old.cursor.refusal ≡ None }
     ensures same { parser.new.buffer ≡ parser.old.buffer }
     ensures went { OnOk result (WentOn parser.old parser.new) }
     ensures read { OnOk result (items.old.items ≡ [] → AreItemsRead (future_of parser.old) (trees_view items.new.items) (future_of parser.new)) }
@@ -253,7 +253,7 @@ fn push_members<'t>(
     parser: &mut JsonParser<'_>,
     members: &mut Vec<(String, Tree)>,
 ) -> Result<(), DeserializeError<'t>>
-    requires free { parser.old.refusal ≡ None }
+    requires free { parser.old.cursor.refusal ≡ None }
     ensures same { parser.new.buffer ≡ parser.old.buffer }
     ensures went { OnOk result (WentOn parser.old parser.new) }
     ensures read { OnOk result (members.old.items ≡ [] → AreMembersRead (future_of parser.old) (pairs_view members.new.items) (future_of parser.new)) }

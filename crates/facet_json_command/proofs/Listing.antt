@@ -5,24 +5,16 @@ use Rattle.std.specs.Io.KnownBytes.{Appends, Keeps}
 use Rattle.std.proofs.lemmas.List.{append-nil}
 use Rattle.std.proofs.lemmas.Grind.{flat_map-append}
 use Rattle.facet_format.specs.Event.{Event}
-use Rattle.facet_format.specs.Cursor.{Call, next, Answer, event}
+use Rattle.facet_format.specs.Cursor.{next, Answer, event, no_calls}
 use Rattle.facet_json_token.specs.Gap.{Mode}
-use Rattle.facet_json_document.specs.Refusal.{Complains}
 use Rattle.facet_json_protocol.specs.Now.{Now, fresh}
-use Rattle.facet_json_protocol.specs.Move.{Moves, MovesAll, no_calls, one_call}
+use Rattle.facet_json_protocol.specs.Move.{Moves, MovesAll}
+use Rattle.facet_json_protocol.proofs.MoveLaws.{moves-one_more}
 use Rattle.facet_json_command.specs.Lines.{event_line}
 use Rattle.facet_json_command.specs.declared.outcome.Outcome.{Outcome}
 use Rattle.facet_json_command.specs.declared.outcome.Outcome.TheVariants.{Done, Refused, Io, Usage}
 use Rattle.facet_json_command.specs.Run.{Grows, Stops, AreListed, Lists}
 use Rattle.facet_json_command.proofs.Printing.{appends_nothing, appends_both, appends_keeps, grows_both}
-
-one_more_move : (old mid new : Now) (calls : List Call) (answers : List Answer) (call : Call) (answer : Answer) →
-    MovesAll Complains old calls answers mid → Moves Complains mid call answer new →
-    MovesAll Complains old (calls ++ (call ∷ [])) (answers ++ (answer ∷ [])) new
-one_more_move _ _ new _ _ call answer (no_calls now) move = one_call now new new call answer [] [] move (no_calls new)
-one_more_move _ _ new _ _ call answer (one_call now between mid first firsts calls answers head rest) move =
-    one_call now between new first firsts (calls ++ (call ∷ [])) (answers ++ (answer ∷ [])) head
-    (one_more_move between mid new calls answers call answer rest move)
 
 -- the answers that give these events
 abbrev pub given_out : List Event → List Answer
@@ -31,14 +23,14 @@ given_out given = map (λ e. event (Ok (Some e))) given
 -- The parser gave these events so far, and their lines are printed.
 pub record AreSoFar (mode : Mode) (input : List ℕ) (before after : Option (List ℕ)) (parser : Now) : Type 0 where
   pub given : List Event
-  pub moves : MovesAll Complains (fresh input mode) (map (λ e. next) given) (given_out given) parser
+  pub moves : MovesAll (fresh input mode) (map (λ e. next) given) (given_out given) parser
   pub printed : Appends before after (flat_map event_line given)
 
 pub none_so_far : (mode : Mode) (input : List ℕ) (held : Option (List ℕ)) (parser : Now) → parser ≡ fresh input mode →
     AreSoFar mode input held held parser
 none_so_far mode input held parser is = record {
   given = [];
-  moves = rw is (no_calls (fresh input mode));
+  moves = rw is (record { input = record { buffer = refl; mode = refl }; run = no_calls _ });
   printed = appends_nothing held;
 }
 
@@ -52,23 +44,23 @@ given_more (d ∷ given) e = ap (λ l. event (Ok (Some d)) ∷ l) (given_more gi
 
 -- One more event was given, and its line is printed.
 pub one_more_event : (mode : Mode) (input : List ℕ) (a b c : Option (List ℕ)) (old new : Now) (e : Event) →
-    AreSoFar mode input a b old → Moves Complains old next (event (Ok (Some e))) new → Appends b c (event_line e) →
+    AreSoFar mode input a b old → Moves old next (event (Ok (Some e))) new → Appends b c (event_line e) →
     AreSoFar mode input a c new
 one_more_event mode input a b c old new e so_far move line = record {
   given = so_far.given ++ (e ∷ []);
   moves = rw (nexts_more so_far.given e, given_more so_far.given e)
-      (one_more_move (fresh input mode) old new _ _ next (event (Ok (Some e))) so_far.moves move);
+      (moves-one_more so_far.moves move);
   printed = rw (flat_map-append event_line so_far.given (e ∷ []), append-nil (event_line e))
       (appends_both a b c (flat_map event_line so_far.given) (event_line e) so_far.printed line);
 }
 
 -- The parser answered something else.
 pub last_answer : (mode : Mode) (input : List ℕ) (a b : Option (List ℕ)) (old new : Now) (answer : Answer) →
-    AreSoFar mode input a b old → Moves Complains old next answer new → AreListed mode input a b answer
+    AreSoFar mode input a b old → Moves old next answer new → AreListed mode input a b answer
 last_answer mode input a b old new answer so_far move = record {
   given = so_far.given;
   parser = new;
-  moves = one_more_move (fresh input mode) old new _ _ next answer so_far.moves move;
+  moves = moves-one_more so_far.moves move;
   printed = so_far.printed;
 }
 

@@ -9,7 +9,7 @@ use Rattle.facet_json_document.specs.Node.{Node}
 use Rattle.facet_json_document.specs.Tree.{Tree}
 use Rattle.facet_json_document.specs.Document.{IsDocument}
 use Rattle.facet_format.specs.Complaint.{Refusal, code_of}
-use Rattle.facet_json.specs.Refusal.{Refuses, Complains}
+use Rattle.facet_json.specs.Refusal.{Refuses}
 use Rattle.facet_json_protocol.specs.Now.{Now, fresh}
 use Rattle.facet_json_protocol.specs.Move.{MovesAll}
 use Rattle.facet_format.specs.Event.{Event}
@@ -83,7 +83,7 @@ nexts given = map (λ e. next) given ++ (next ∷ [])
 pub record AreListed (mode : Mode) (input : List ℕ) (before after : Option (List ℕ)) (last : Answer) : Type 0 where
   pub given : List Event
   pub parser : Now
-  pub moves : MovesAll Complains (fresh input mode) (nexts given) (map (λ e. event (Ok (Some e))) given ++ (last ∷ [])) parser
+  pub moves : MovesAll (fresh input mode) (nexts given) (map (λ e. event (Ok (Some e))) given ++ (last ∷ [])) parser
   pub printed : Appends before after (flat_map event_line given)
 
 -- A parser that has read nothing was refused so after the events whose lines are printed.
@@ -110,7 +110,7 @@ outcome_of (Err outcome) = outcome
 -- then holds those after.
 abbrev pub Drives : Mode → List Call → List ℕ → List ℕ → Option (List ℕ) → Outcome → Type 0
 Drives mode calls input before after Done = (answers : List Answer) × (parser : Now) ×
-    MovesAll Complains (fresh input mode) calls answers parser × (after ≡ Some (before ++ flat_map answer_lines answers))
+    MovesAll (fresh input mode) calls answers parser × (after ≡ Some (before ++ flat_map answer_lines answers))
 Drives mode calls input before after (Refused code span) = code ≡ 9
 Drives mode calls input before after Io = Unit {0}
 Drives mode calls input before after Usage = ⊥

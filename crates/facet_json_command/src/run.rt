@@ -13,7 +13,7 @@ ghost use Rattle.facet_json_token.specs.Views.{mode_of};
 ghost use Rattle.facet_json_document.specs.Node.{Node};
 ghost use Rattle.facet_json_document.specs.Tree.{Tree as SpecTree};
 ghost use Rattle.facet_json_document.specs.Document.{IsDocument};
-ghost use Rattle.facet_json.specs.Refusal.{Refuses, Complains};
+ghost use Rattle.facet_json.specs.Refusal.{Refuses};
 ghost use Rattle.facet_json_protocol.specs.Now.{Now, fresh};
 ghost use Rattle.facet_json_protocol.specs.Move.{MovesAll};
 ghost use Rattle.facet_json_core.specs.ScriptViews.{call_of, answer_of};
@@ -254,7 +254,7 @@ fn answers_of<'de>(
     calls: &[Call],
 ) -> Result<Vec<Answer<'de>>, AllocError>
     ensures { IfOk result (λ answers. (parser : Now)
-        × MovesAll Complains (fresh input.now (mode_of mode)) (map call_of calls.now) (map answer_of answers.items) parser) }
+        × MovesAll (fresh input.now (mode_of mode)) (map call_of calls.now) (map answer_of answers.items) parser) }
 {
     let mut parser = parser_of(alloc, mode, input);
     drive(alloc, &mut parser, calls)

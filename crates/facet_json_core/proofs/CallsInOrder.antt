@@ -7,13 +7,14 @@ use Rattle.facet_json_core.specs.declared.script.Call.{Call}
 use Rattle.facet_json_core.specs.declared.script.Answer.{Answer}
 use Rattle.facet_format.specs.Event.{Passed}
 use Rattle.facet_format.specs.Cursor as cursor
-use Rattle.facet_format.specs.Cursor.{Cursor, Run}
+use Rattle.facet_format.specs.Cursor.{on_walk, Cursor, Run}
 use Rattle.facet_json_document.specs.Refusal.{Complains}
-use Rattle.facet_json_protocol.specs.Now.{Now, StandsAt, SameInput}
+use Rattle.facet_json_protocol.specs.Now.{Now, StandsAt}
 use Rattle.facet_json_protocol.specs.Move.{Moves, MovesAll}
-use Rattle.facet_json_protocol.specs.Sound.{AnswerWithin}
+use Rattle.facet_json_protocol.specs.Within.{AnswerWithin}
 use Rattle.facet_json_core.specs.ScriptViews.{call_of, answer_of}
-use Rattle.facet_json_protocol.proofs.MoveLaws.{moves-input, moves-one_more, moves-run, all-input}
+use Rattle.facet_json_protocol.proofs.MoveIsStep.{moves-run}
+use Rattle.facet_json_protocol.proofs.MoveLaws.{moves-one_more}
 
 take-next : (calls : List Call) (i : ℕ) (d : Call) → i < length calls → take (suc i) calls ≡ take i calls ++ get_or calls i d ∷ []
 take-next [] i d h = absurd (omega (arith, h))
@@ -23,26 +24,26 @@ take-next (x ∷ calls) (suc i) d h = ap (λ cs. x ∷ cs) (take-next calls i d 
 -- One more call was made, and answered.
 pub made-one_more : (old mid new : Now) (calls : List Call) (i : ℕ) (d : Call) (answers more : List Answer) (a : Answer) →
     i < length calls → more ≡ answers ++ a ∷ [] →
-    MovesAll Complains old (map call_of (take i calls)) (map answer_of answers) mid →
-    Moves Complains mid (call_of (get_or calls i d)) (answer_of a) new →
-    MovesAll Complains old (map call_of (take (i + 1) calls)) (map answer_of more) new
+    MovesAll old (map call_of (take i calls)) (map answer_of answers) mid →
+    Moves mid (call_of (get_or calls i d)) (answer_of a) new →
+    MovesAll old (map call_of (take (i + 1) calls)) (map answer_of more) new
 made-one_more old mid new calls i d answers more a h e all move =
     let next = take-next calls i d h in
-    rw (add-one, next, e, map-append, map-append) (moves-one_more Complains all move)
+    rw (add-one, next, e, map-append, map-append) (moves-one_more all move)
 
 -- All calls were made.
 pub made-all : (old new : Now) (calls : List Call) (i : ℕ) (answers : List Answer) → length calls ≤ i →
-    MovesAll Complains old (map call_of (take i calls)) (map answer_of answers) new →
-    MovesAll Complains old (map call_of calls) (map answer_of answers) new
+    MovesAll old (map call_of (take i calls)) (map answer_of answers) new →
+    MovesAll old (map call_of calls) (map answer_of answers) new
 made-all old new calls i answers h all =
-    subst (λ cs. MovesAll Complains old (map call_of cs) (map answer_of answers) new) (take_all i calls h) all
+    subst (λ cs. MovesAll old (map call_of cs) (map answer_of answers) new) (take_all i calls h) all
 
 -- On a document that is a run of the cursor.
 pub made-run : (old new : Now) (calls : List Call) (answers : List Answer) →
-    MovesAll Complains old (map call_of calls) (map answer_of answers) new →
-    (w : List Passed) (c : Cursor) → StandsAt old w c →
-    (d : Cursor) × Run w c (map call_of calls) (map answer_of answers) d × StandsAt new w d
-made-run old new calls answers all w c stands = moves-run Complains w c stands all
+    MovesAll old (map call_of calls) (map answer_of answers) new →
+    (w : List Passed) (c : Cursor ℕ) → StandsAt old w c →
+    (d : Cursor ℕ) × Run (on_walk w) c (map call_of calls) (map answer_of answers) d × StandsAt new w d
+made-run old new calls answers all w c stands = moves-run old new w c stands all
 
 -- Of no answers all lie within.
 pub made-none : (buffer : List ℕ) (answers : List Answer) → answers ≡ [] → All (AnswerWithin buffer) (map answer_of answers)
@@ -50,14 +51,10 @@ made-none buffer answers e = rw e (All-nil (AnswerWithin buffer))
 
 -- With one more that lies within, all answers do.
 pub made-within : (mid new : Now) (call : cursor.Call) (answers more : List Answer) (a : Answer) → more ≡ answers ++ a ∷ [] →
-    All (AnswerWithin mid.buffer) (map answer_of answers) → Moves Complains mid call (answer_of a) new →
+    All (AnswerWithin mid.buffer) (map answer_of answers) → Moves mid call (answer_of a) new →
     AnswerWithin new.buffer (answer_of a) → All (AnswerWithin new.buffer) (map answer_of more)
 made-within mid new call answers more a e all move last =
-    let same = (moves-input Complains mid new move).0 in
+    let same = move.input.buffer in
     let before = subst (λ b. All (AnswerWithin b) (map answer_of answers)) (sym same) all in
     let both : map answer_of more ≡ map answer_of answers ++ answer_of a ∷ [] = rw (e, map-append) refl in
     All-same (AnswerWithin new.buffer) _ _ both (All-push (AnswerWithin new.buffer) (map answer_of answers) (answer_of a) before last)
-
--- The calls leave the input.
-pub made-input : (old new : Now) (calls : List cursor.Call) (answers : List cursor.Answer) → MovesAll Complains old calls answers new → SameInput old new
-made-input old new calls answers all = all-input Complains all

@@ -7,13 +7,14 @@ pub use Rattle.facet_json_document.specs.Laws
 pub use Rattle.facet_json_document.specs.Walk
 pub use Rattle.facet_json_document.specs.Place
 pub use Rattle.facet_json_document.specs.Future
+pub use Rattle.facet_json_document.specs.InputPlace
 pub use Rattle.facet_json_prefix.specs.Begun
 pub use Rattle.facet_json_prefix.specs.EventLaws
 pub use Rattle.facet_json_prefix.specs.Refusal
 pub use Rattle.facet_json_protocol.specs.Now
 pub use Rattle.facet_json_protocol.specs.Move
 pub use Rattle.facet_json_protocol.specs.Next
-pub use Rattle.facet_json_protocol.specs.Sound
+pub use Rattle.facet_json_protocol.specs.Within
 pub use Rattle.facet_json_protocol.specs.Alone
 pub use Rattle.facet_json_protocol.specs.ParserLaws
 pub use Rattle.facet_json_protocol.specs.CallLaws

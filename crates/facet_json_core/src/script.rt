@@ -1,13 +1,12 @@
 //! Calls of a parser as values, made in order: by lists of them a parser is tried and compared.
 
-ghost use Rattle.std.specs.Prelude.{◌≡◌, ◌+◌, ◌≤◌, List, length, map, IfOk, IfErr};
+ghost use Rattle.std.specs.Prelude.{◌≡◌, ◌+◌, ◌≤◌, ℕ, List, length, map, IfOk, IfErr};
 ghost use Rattle.std.specs.List.{All};
 ghost use Rattle.facet_format.specs.Event.{Passed};
-ghost use Rattle.facet_format.specs.Cursor.{Cursor, Run};
+ghost use Rattle.facet_format.specs.Cursor.{on_walk, Cursor, Run};
 ghost use Rattle.facet_json_protocol.specs.Now.{StandsAt, SameInput};
-ghost use Rattle.facet_json_document.specs.Refusal.{Complains};
 ghost use Rattle.facet_json_protocol.specs.Move.{Moves, MovesAll};
-ghost use Rattle.facet_json_protocol.specs.Sound.{AnswerWithin};
+ghost use Rattle.facet_json_protocol.specs.Within.{AnswerWithin};
 ghost use Rattle.facet_json_core.specs.ScriptViews.{call_of, answer_of};
 
 use facet_format::{FormatParser, ParseError, ParseEvent, SavePoint, Span};
@@ -50,7 +49,7 @@ pub enum Answer<'de> {
 impl Call {
     /// Makes the call.
     fn make<'de>(self, alloc: Global, parser: &mut JsonParser<'de>) -> Answer<'de>
-        ensures moves { Moves Complains parser.old (call_of self) (answer_of result) parser.new }
+        ensures moves { Moves parser.old (call_of self) (answer_of result) parser.new }
         ensures within { AnswerWithin parser.new.buffer (answer_of result) }
     {
         match self {
@@ -88,9 +87,9 @@ pub fn drive<'de>(
     parser: &mut JsonParser<'de>,
     calls: &[Call],
 ) -> Result<Vec<Answer<'de>>, AllocError>
-    ensures moves { IfOk result (λ answers. MovesAll Complains parser.old (map call_of calls.now) (map answer_of answers.items) parser.new) }
-    ensures run { IfOk result (λ answers. (w : List Passed) (c : Cursor) → StandsAt parser.old w c
-        → (d : Cursor) × Run w c (map call_of calls.now) (map answer_of answers.items) d × StandsAt parser.new w d) }
+    ensures moves { IfOk result (λ answers. MovesAll parser.old (map call_of calls.now) (map answer_of answers.items) parser.new) }
+    ensures run { IfOk result (λ answers. (w : List Passed) (c : Cursor ℕ) → StandsAt parser.old w c
+        → (d : Cursor ℕ) × Run (on_walk w) c (map call_of calls.now) (map answer_of answers.items) d × StandsAt parser.new w d) }
     ensures within { IfOk result (λ answers. All (AnswerWithin parser.new.buffer) (map answer_of answers.items)) }
     ensures input { SameInput parser.old parser.new }
     ensures unmoved { IfErr result (λ _. parser.new ≡ parser.old) }

@@ -1,3 +1,5 @@
+pub mod EventsInOrder
+pub mod PastEvents
 pub mod Rows
 pub mod Spelled
 pub mod Spelling

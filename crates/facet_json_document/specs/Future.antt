@@ -38,6 +38,24 @@ abbrev pub around : List ContainerKind → List ContainerKind
 around [] = []
 around (kind ∷ stack) = stack
 
+-- the open containers after an event
+abbrev pub stack_after : EventKind → List ContainerKind → List ContainerKind
+stack_after (event.struct_start kind) stack = object ∷ stack
+stack_after event.struct_end stack = around stack
+stack_after (event.sequence_start kind) stack = array ∷ stack
+stack_after event.sequence_end stack = around stack
+stack_after (event.field_key name) stack = stack
+stack_after (event.scalar value) stack = stack
+
+-- the place after an event, in the containers that are open before it
+abbrev pub stage_after : EventKind → List ContainerKind → Stage
+stage_after (event.struct_start kind) stack = within before_key
+stage_after event.struct_end stack = after_value (around stack)
+stage_after (event.sequence_start kind) stack = within before_item
+stage_after event.sequence_end stack = after_value (around stack)
+stage_after (event.field_key name) stack = within after_colon
+stage_after (event.scalar value) stack = after_value stack
+
 -- ---- one token
 
 -- what follows from a token at a place

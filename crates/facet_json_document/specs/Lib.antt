@@ -1,5 +1,6 @@
 pub mod Document
 pub mod Future
+pub mod InputPlace
 pub mod Laws
 pub mod Meaning
 pub mod Node

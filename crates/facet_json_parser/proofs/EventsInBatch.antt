@@ -1,242 +1,270 @@
 -- Events that are given one by one are a batch.
-use Rattle.std.proofs.Common.{◌≡◌, ℕ, zero, suc, ◌<◌, ◌≤◌, Bool, false, List, [], ◌∷◌, ◌++◌, map, length, Option, Some, None, refl, sym, ap, subst, ◌∙◌, arith, append-nil, append_assoc, length-append, ◌+◌}
+use Rattle.std.proofs.Common.{◌≡◌, ℕ, zero, suc, ◌+◌, ◌<◌, ◌≤◌, List, [], ◌∷◌, ◌++◌, map, length, Option, Some, None, refl, sym, ap, subst, ◌∙◌, arith, append-nil, append_assoc, length-append}
+use Rattle.std.specs.Prelude.{Result, Ok, Err, ⊤}
+use Rattle.std.specs.Option.{option_map}
 use Rattle.std.proofs.lemmas.List.{map-append, length-map}
+use Rattle.std.proofs.lemmas.Option.{none-some}
 use Rattle.facet_format.specs.declared.event.ParseEvent.{ParseEvent}
 use Rattle.facet_format.specs.declared.parse_error.ParseError.{ParseError}
 use Rattle.facet_format.specs.Views.{event_of, parse_refusal, answer_of_events}
-use Rattle.std.specs.Prelude.{Ok, Err, ⊤}
-use Rattle.std.specs.Option.{option_map}
 use Rattle.facet_format.specs.Complaint.{Refusal}
 use Rattle.facet_format.specs.Event.{Event, Passed}
-use Rattle.facet_format.specs.Cursor.{batch, events, no_memory_at}
-use Rattle.facet_json_token.specs.Tokens.{Tokens}
-use Rattle.facet_json_document.specs.Place.{Place}
-use Rattle.facet_json_document.specs.Refusal.{Complains}
-use Rattle.facet_json_document.specs.Future.{Future, stuck}
-use Rattle.facet_json_protocol.specs.Now.{Standing, Now, held_before, future_at, future_of, is_shown, is_peeked, span_of}
-use Rattle.facet_json_protocol.specs.Move.{Moves, repeats, gives_none, gives_all, gives_to_the_end, gives_up, gives_without_memory, Passes, no_events, still_peeked, with_standing, with_refusal}
+use Rattle.facet_format.specs.Cursor.{World, an_event, the_end, a_refusal, Spot, unpeeked, Comes, no_event, one_event, spot_after, current_span, no_memory_at, Cursor, at_spot, refused_at, events, batch, Step, repeats, gives_none, gives, gives_without_memory, gives_up}
+use Rattle.facet_json_standing.specs.Steps.{QueuesOne, queues, queues_the_end, queues_without_memory, queues_nothing, QueuesNext, answers, refuses, QueuesNow}
+use Rattle.facet_json_standing.specs.Steps as steps
+use Rattle.facet_json_document.specs.InputPlace.{Standing}
+use Rattle.facet_json_protocol.specs.Now.{Now, on_input, SameInput}
+use Rattle.facet_json_protocol.specs.Move.{Moves}
 use Rattle.facet_json_protocol.specs.Next.{PassesAll}
+use Rattle.facet_json_protocol.specs.Within.{NowWithin}
 use Rattle.facet_json_protocol.proofs.MovesNext.{events-pass, events-count}
-use Rattle.facet_json_protocol.specs.Sound.{NowSound}
-use Rattle.facet_json_standing.specs.Fill.{Fills, lacks_memory, stops, FillsParser, fills, refuses, Takes, GivesOne, gives_event, gives_end, gives_refusal, lacks_room, behind}
-use Rattle.facet_json_standing.specs.Fill as fill
-use Rattle.facet_json_protocol.proofs.MoveLaws.{Passes-one_more, not_both}
-use Rattle.facet_json_parser.proofs.AnswersAreMoves.{behind_held, fills-holds, fills-over, fills-same}
+use Rattle.facet_json_protocol.proofs.MoveLaws.{with_cursor, same_cursor-is}
+use Rattle.facet_json_parser.proofs.AnswersAreMoves.{step-moves}
 
--- These events are passed, and it stands there.
-pub record IsOn (old : Now) (given : List Event) (s : Standing) : Type 0 where
-  pub unrefused : old.refusal ≡ None
-  pub passes : Passes old.standing.last (future_of old) given s.last (future_at old.buffer old.mode s)
-  pub peeked : is_peeked s ≡ still_peeked given (is_peeked old.standing)
+module _ {P : Type 0} (w : World P) where
+  -- These events were given so far.
+  pub data Batch (c : Cursor P) : List Event → Cursor P → Type 0 where
+    nothing_yet : Batch c [] c
+    some_given : (given : List Event) (place : P) → 1 ≤ length given → c.refusal ≡ None → Comes w c.spot.place given place →
+        Batch c given (at_spot c (unpeeked place))
+
+  -- ---- one more event
+
+  -- One more event comes.
+  comes-more : {a b : P} {given : List Event} (p : Passed) → Comes w a given b → w.comes b ≡ an_event p →
+      Comes w a (given ++ p.event ∷ []) (w.past p b)
+  comes-more p (no_event place) next = one_event place (w.past p place) p [] next (no_event _)
+  comes-more p (one_event place after q others first more) next =
+      one_event place (w.past p after) q (others ++ p.event ∷ []) first (comes-more p more next)
+
+  length-more : (given : List Event) (e : Event) → 1 ≤ length (given ++ e ∷ [])
+  length-more [] e = omega arith
+  length-more (f ∷ given) e = omega arith
+
+  first-given : (old : Cursor P) (e : Event) (s : Spot P) → old.refusal ≡ None → QueuesOne w old.spot (Ok (Some e)) s →
+      Batch old (e ∷ []) (at_spot old s)
+  first-given old _ _ none (queues p up) =
+      some_given (p.event ∷ []) (w.past p old.spot.place) (omega arith) none (one_event _ _ p [] up (no_event _))
+
+  next-given : (old : Cursor P) (given : List Event) (place : P) (e : Event) (s : Spot P) → old.refusal ≡ None →
+      Comes w old.spot.place given place → QueuesOne w (unpeeked place) (Ok (Some e)) s → Batch old (given ++ e ∷ []) (at_spot old s)
+  next-given old given place _ _ none comes (queues p up) =
+      some_given (given ++ p.event ∷ []) (w.past p place) (length-more given p.event) none (comes-more p comes up)
+
+  pub batch-more : (old cur new : Cursor P) (given : List Event) (e : Event) → Batch old given cur → QueuesNext w cur (Ok (Some e)) new →
+      Batch old (given ++ e ∷ []) new
+  batch-more old _ _ _ e (nothing_yet) (answers _ s none one) = first-given old e s none one
+  batch-more old _ _ given e (some_given _ place h none comes) (answers _ s none_too one) = next-given old given place e s none comes one
+
+  -- ---- the end, or a refusal
+
+  after-some : (given : List Event) (place : P) (s : Spot P) → 1 ≤ length given → spot_after given place s ≡ unpeeked place
+  after-some [] place s h = absurd (omega (arith, h))
+  after-some (e ∷ given) place s h = refl
+
+  end-given : (old : Cursor P) (k : ℕ) (s : Spot P) → old.refusal ≡ None → QueuesOne w old.spot (Ok None) s →
+      Step w old (events (suc k)) (batch [] (Ok 0)) (at_spot old s)
+  end-given old k _ none (queues_the_end up) = gives k 0 [] old.spot.place none (no_event _) refl (omega arith) (λ h. up)
+
+  end-after : (old : Cursor P) (given : List Event) (place : P) (k : ℕ) (s : Spot P) → 1 ≤ length given → length given ≤ k →
+      old.refusal ≡ None → Comes w old.spot.place given place → QueuesOne w (unpeeked place) (Ok None) s →
+      Step w old (events (suc k)) (batch given (Ok (length given))) (at_spot old s)
+  end-after old given place k _ h le none comes (queues_the_end up) =
+      subst (λ s. Step w old (events (suc k)) (batch given (Ok (length given))) (at_spot old s)) (after-some given place old.spot h)
+      (gives k (length given) given place none comes refl (omega (arith, le)) (λ h. up))
+
+  pub batch-end : (old cur new : Cursor P) (given : List Event) (k : ℕ) → length given ≤ k → Batch old given cur →
+      QueuesNext w cur (Ok None) new → Step w old (events (suc k)) (batch given (Ok (length given))) new
+  batch-end old _ _ _ k le (nothing_yet) (answers _ s none one) = end-given old k s none one
+  batch-end old _ _ given k le (some_given _ place h none comes) (answers _ s none_too one) =
+      end-after old given place k s h le none comes one
+
+  refused-first : (old : Cursor P) (k : ℕ) (r : Refusal) (s : Spot P) → old.refusal ≡ None → QueuesOne w old.spot (Err r) s →
+      Step w old (events (suc k)) (batch [] (Err r)) (refused_at old s r)
+  refused-first old k _ _ none (queues_without_memory p up) = gives_without_memory k [] old.spot.place p old.spot none (no_event _) (omega arith) up refl
+  refused-first old k _ _ none (queues_nothing r up so) = gives_up k [] old.spot.place r none (no_event _) (omega arith) up so
+
+  refused-after : (old : Cursor P) (given : List Event) (place : P) (k : ℕ) (r : Refusal) (s : Spot P) → 1 ≤ length given →
+      length given ≤ k → old.refusal ≡ None → Comes w old.spot.place given place → QueuesOne w (unpeeked place) (Err r) s →
+      Step w old (events (suc k)) (batch given (Err r)) (refused_at old s r)
+  refused-after old given place k _ _ h le none comes (queues_without_memory p up) =
+      gives_without_memory k given place p (unpeeked place) none comes le up (sym (after-some given place old.spot h))
+  refused-after old given place k _ _ h le none comes (queues_nothing r up so) =
+      subst (λ s. Step w old (events (suc k)) (batch given (Err r)) (refused_at old s r)) (after-some given place old.spot h)
+      (gives_up k given place r none comes le up so)
+
+  pub batch-refused : (old cur new : Cursor P) (given : List Event) (k : ℕ) (r : Refusal) → length given ≤ k → Batch old given cur →
+      QueuesNext w cur (Err r) new → Step w old (events (suc k)) (batch given (Err r)) new
+  batch-refused old _ _ _ k r le (nothing_yet) (steps.repeats _ f) = repeats r (events (suc k)) (batch [] (Err r)) f refl
+  batch-refused old _ _ given k r le (some_given _ place h none comes) (steps.repeats _ f) = absurd (none-some r (sym none ∙ f))
+  batch-refused old _ _ _ k r le (nothing_yet) (refuses _ s none one) = refused-first old k r s none one
+  batch-refused old _ _ given k r le (some_given _ place h none comes) (refuses _ s none_too one) =
+      refused-after old given place k r s h le none comes one
+
+  -- ---- all of them
+
+  pub batch-full : (old cur : Cursor P) (given : List Event) (limit : ℕ) → Batch old given cur → length given ≡ limit →
+      Step w old (events limit) (batch given (Ok limit)) cur
+  batch-full old _ _ zero (nothing_yet) e = gives_none
+  batch-full old _ _ (suc k) (nothing_yet) e = cc
+  batch-full old _ given zero (some_given _ place h none comes) e = absurd (omega (arith, h, e))
+  batch-full old _ given (suc k) (some_given _ place h none comes) e =
+      subst (λ s. Step w old (events (suc k)) (batch given (Ok (suc k))) (at_spot old s)) (after-some given place old.spot h)
+      (gives k (suc k) given place none comes (sym e) (omega arith) (λ less. absurd (omega (arith, less))))
+
+-- ---- of a parser
 
 -- These events were given so far.
-pub data Batch (old : Now) : List Event → Now → Type 0 where
-  nothing_yet : Batch old [] old
-  some_given : (given : List Event) (s : Standing) → 1 ≤ length given → IsOn old given s → Batch old given (with_standing old s)
+abbrev pub GivenSoFar : Now → List Event → Now → Type 0
+GivenSoFar old given cur = SameInput old cur × Batch (on_input old.buffer old.mode) old.cursor given cur.cursor
 
-on-start : (old : Now) → old.refusal ≡ None → IsOn old [] old.standing
-on-start old none = record { unrefused = none; passes = no_events old.standing.last (future_of old); peeked = refl }
+-- A step over the input of one parser is one over that of another with the same input.
+same-world : (old cur : Now) (answer : Result (Option Event) Refusal) (c d : Cursor Standing) → SameInput old cur →
+    QueuesNext (on_input cur.buffer cur.mode) c answer d → QueuesNext (on_input old.buffer old.mode) c answer d
+same-world old cur answer c d same step = rw (← same.buffer, ← same.mode) step
 
-still-append : (given : List Event) (e : Event) (peeked : Bool) → still_peeked (given ++ e ∷ []) peeked ≡ false
-still-append [] e peeked = refl
-still-append (f ∷ given) e peeked = refl
+through : (old cur new : Now) → SameInput old cur → SameInput cur new → SameInput old new
+through old cur new first second = record { buffer = second.buffer ∙ first.buffer; mode = second.mode ∙ first.mode }
 
-length-more : (given : List Event) (e : Event) → 1 ≤ length (given ++ e ∷ [])
-length-more [] e = omega arith
-length-more (f ∷ given) e = omega arith
+more-of : (old cur new : Now) (given : List Event) (e : Event) → GivenSoFar old given cur → QueuesNow cur (Ok (Some e)) new →
+    GivenSoFar old (given ++ e ∷ []) new
+more-of old cur new given e (same, b) one =
+    (through old cur new same one.input, batch-more (on_input old.buffer old.mode) old.cursor cur.cursor new.cursor given e b (same-world old cur _ _ _ same one.step))
 
--- ---- one more event
+end-of : (old cur new : Now) (given : List Event) (k : ℕ) → length given ≤ k → GivenSoFar old given cur → QueuesNow cur (Ok None) new →
+    Moves old (events (suc k)) (batch given (Ok (length given))) new
+end-of old cur new given k le (same, b) one = record {
+  input = through old cur new same one.input;
+  step = batch-end (on_input old.buffer old.mode) old.cursor cur.cursor new.cursor given k le b (same-world old cur _ _ _ same one.step);
+}
 
-more-by : (old : Now) (given : List Event) (s t u : Standing) (e : Event) → IsOn old given s → Fills old.buffer old.mode s None t →
-    Takes t e u → Batch old (given ++ e ∷ []) (with_standing old u)
-more-by old given s t u e on f taken =
-    let p = taken.p in
-    let comes = fills-holds old.buffer old.mode s t p f taken.held in
-    let passes = Passes-one_more p (subst (λ x. Passes old.standing.last (future_of old) given s.last x) comes on.passes) in
-    let there : IsOn old (given ++ p.event ∷ []) (behind t p) = record {
-      unrefused = on.unrefused;
-      passes = passes;
-      peeked = sym (still-append given p.event (is_peeked old.standing));
-    } in
-    rw (taken.event, taken.new) (some_given (given ++ p.event ∷ []) (behind t p) (length-more given p.event) there)
+refused-of : (old cur new : Now) (given : List Event) (k : ℕ) (r : Refusal) → length given ≤ k → GivenSoFar old given cur →
+    QueuesNow cur (Err r) new → Moves old (events (suc k)) (batch given (Err r)) new
+refused-of old cur new given k r le (same, b) one = record {
+  input = through old cur new same one.input;
+  step = batch-refused (on_input old.buffer old.mode) old.cursor cur.cursor new.cursor given k r le b (same-world old cur _ _ _ same one.step);
+}
 
-more-of : (old : Now) (given : List Event) (s u : Standing) (mid : Now) (e : Event) → (old.refusal ≡ None → IsOn old given s) →
-    FillsParser (with_standing old s) None mid → Takes mid.standing e u → Batch old (given ++ e ∷ []) (with_standing mid u)
-more-of old given s u _ e on (fills t none f) taken = more-by old given s t u e (on none) f taken
+full-of : (old cur : Now) (given : List Event) (limit : ℕ) → GivenSoFar old given cur → length given ≡ limit →
+    Moves old (events limit) (batch given (Ok limit)) cur
+full-of old cur given limit (same, b) e =
+    record { input = same; step = batch-full (on_input old.buffer old.mode) old.cursor cur.cursor given limit b e }
 
-pub batch-more : (old cur new : Now) (given : List Event) (e : Event) → Batch old given cur → GivesOne cur (Ok (Some e)) new →
-    Batch old (given ++ e ∷ []) new
-batch-more old _ _ _ e (nothing_yet) (gives_event mid _ u f taken) = more-of old [] old.standing u mid e (on-start old) f taken
-batch-more old _ _ given e (some_given _ s h on) (gives_event mid _ u f taken) = more-of old given s u mid e (λ _. on) f taken
+-- A refusal of the first event that is asked for is one of the call.
+pub queue-refuses : (made now new : Now) (r : Refusal) (t : Spot Standing) → made ≡ now → now.cursor.refusal ≡ None →
+    QueuesOne (on_input made.buffer made.mode) made.cursor.spot (Err r) t → new ≡ with_cursor made (refused_at made.cursor t r) →
+    Moves now (events 1) (batch [] (Err r)) new
+queue-refuses made now new r t e none one after =
+    let free : made.cursor.refusal ≡ None = rw e none in
+    rw after (step-moves made now _ (events 1) (batch [] (Err r)) e (refused-first (on_input made.buffer made.mode) made.cursor 0 r t free one))
 
--- ---- the end
+-- The next event of a parser, once there is room for it.
+pub queue-answers : (made now : Now) (o : Option Event) (t : Spot Standing) → made ≡ now → now.cursor.refusal ≡ None →
+    QueuesOne (on_input made.buffer made.mode) made.cursor.spot (Ok o) t → QueuesNow now (Ok o) (with_cursor made (at_spot made.cursor t))
+queue-answers made now o t e none one =
+    let free : made.cursor.refusal ≡ None = rw e none in
+    subst (λ x. QueuesNow x (Ok o) (with_cursor made (at_spot made.cursor t))) e
+    (record { input = record { buffer = refl; mode = refl }; step = answers o t free one })
 
-over-not_shown : (held : Option Passed) (shown : Bool) → held ≡ None → is_shown held shown ≡ false
-over-not_shown None shown e = refl
-over-not_shown (Some p) shown e = cc
+pub queue-refused : (made now new : Now) (r q : Refusal) (t : Spot Standing) → made ≡ now → now.cursor.refusal ≡ None →
+    QueuesOne (on_input made.buffer made.mode) made.cursor.spot (Err r) t → new ≡ with_cursor made (refused_at made.cursor t r) → q ≡ r →
+    QueuesNow now (Err q) new
+queue-refused made now new r q t e none one after same =
+    let free : made.cursor.refusal ≡ None = rw e none in
+    rw (same, after) (subst (λ x. QueuesNow x (Err r) (with_cursor made (refused_at made.cursor t r))) e
+    (record { input = record { buffer = refl; mode = refl }; step = refuses r t free one }))
 
-end-of : (old : Now) (given : List Event) (s : Standing) (mid : Now) (k : ℕ) → (old.refusal ≡ None → IsOn old given s) →
-    FillsParser (with_standing old s) None mid → mid.standing.held ≡ None → length given ≤ k →
-    Moves Complains old (events (suc k)) (batch given (Ok (length given))) mid
-end-of old given s _ k on (fills t none f) n le =
-    let over = fills-over old.buffer old.mode s t f n in
-    let same = fills-same old.buffer old.mode s t f in
-    let passes = subst (λ x. Passes old.standing.last (future_of old) given s.last x) over (on none).passes in
-    gives_to_the_end k (length given) given s.last t none passes refl le
-    (record { comes = same.comes ∙ over; last_is = same.last_is; peeked_is = over-not_shown t.held t.shown n })
-
-pub batch-end : (old cur new : Now) (given : List Event) (k : ℕ) → Batch old given cur → GivesOne cur (Ok None) new →
-    length given ≤ k → Moves Complains old (events (suc k)) (batch given (Ok (length given))) new
-batch-end old _ _ _ k (nothing_yet) (gives_end mid f n) le = end-of old [] old.standing mid k (on-start old) f n le
-batch-end old _ _ given k (some_given _ s h on) (gives_end mid f n) le = end-of old given s mid k (λ _. on) f n le
-
--- ---- a refusal
-
-stuck-not_shown : (held : Option Passed) (shown : Bool) (place : Place) (ts : Tokens) (rest : Future) → held_before held rest ≡ stuck place ts →
-    is_shown held shown ≡ false
-stuck-not_shown None shown place ts rest e = refl
-stuck-not_shown (Some p) shown place ts rest e = cc
-
-stops-by : (old : Now) (given : List Event) (s t : Standing) (r : Refusal) (k : ℕ) → IsOn old given s →
-    Fills old.buffer old.mode s (Some r) t → length given ≤ k →
-    Moves Complains old (events (suc k)) (batch given (Err r)) (with_refusal old t r)
-stops-by old given s t _ k on (lacks_memory p future _ same comes takes off) le =
-    gives_without_memory k given s.last p future t on.unrefused
-    (subst (λ x. Passes old.standing.last (future_of old) given s.last x) comes on.passes) le
-    (record { comes = same.comes ∙ comes; last_is = same.last_is; peeked_is = same.peeked_is ∙ on.peeked })
-stops-by old given s t r k on (stops place rest _ _ same comes so) le =
-    gives_up k given s.last place rest r t on.unrefused
-    (subst (λ x. Passes old.standing.last (future_of old) given s.last x) comes on.passes) le so
-    (record { comes = same.comes ∙ comes; last_is = same.last_is; peeked_is = same.peeked_is ∙ stuck-not_shown s.held s.shown place rest _ comes })
-
-refused-of : (old : Now) (given : List Event) (s : Standing) (new : Now) (r : Refusal) (k : ℕ) → (old.refusal ≡ None → IsOn old given s) →
-    (old.refusal ≡ Some r → Moves Complains old (events (suc k)) (batch given (Err r)) (with_standing old s)) →
-    FillsParser (with_standing old s) (Some r) new → length given ≤ k → Moves Complains old (events (suc k)) (batch given (Err r)) new
-refused-of old given s _ r k on again (fill.repeats _ e) le = again e
-refused-of old given s _ r k on again (refuses _ t none f) le = stops-by old given s t r k (on none) f le
-
-room-of : (old : Now) (given : List Event) (s : Standing) (mid : Now) (p : Passed) (k : ℕ) → (old.refusal ≡ None → IsOn old given s) →
-    FillsParser (with_standing old s) None mid → mid.standing.held ≡ Some p → length given ≤ k →
-    Moves Complains old (events (suc k)) (batch given (Err (no_memory_at (span_of mid.standing))))
-    (with_refusal mid mid.standing (no_memory_at (span_of mid.standing)))
-room-of old given s _ p k on (fills t none f) held le =
-    let there = on none in
-    let same = fills-same old.buffer old.mode s t f in
-    let comes = fills-holds old.buffer old.mode s t p f held in
-    gives_without_memory k given s.last p (behind_held old.buffer old.mode t) t none
-    (subst (λ x. Passes old.standing.last (future_of old) given s.last x) comes there.passes) le
-    (record { comes = same.comes ∙ comes; last_is = same.last_is; peeked_is = same.peeked_is ∙ there.peeked })
-
-pub batch-refused : (old cur new : Now) (given : List Event) (r : Refusal) (k : ℕ) → Batch old given cur → GivesOne cur (Err r) new →
-    length given ≤ k → Moves Complains old (events (suc k)) (batch given (Err r)) new
-batch-refused old _ new _ r k (nothing_yet) (gives_refusal _ _ f) le =
-    refused-of old [] old.standing new r k (on-start old) (λ e. repeats r (events (suc k)) (batch [] (Err r)) e refl) f le
-batch-refused old _ new given r k (some_given _ s h on) (gives_refusal _ _ f) le =
-    refused-of old given s new r k (λ _. on) (λ e. absurd (not_both on.unrefused e)) f le
-batch-refused old _ _ _ _ k (nothing_yet) (lacks_room mid p f held) le = room-of old [] old.standing mid p k (on-start old) f held le
-batch-refused old _ _ given _ k (some_given _ s h on) (lacks_room mid p f held) le = room-of old given s mid p k (λ _. on) f held le
-
--- ---- all of them
-
-full-peeked : (given : List Event) (peeked : Bool) → 1 ≤ length given → still_peeked given peeked ≡ false
-full-peeked [] peeked h = absurd (omega (arith, h))
-full-peeked (e ∷ given) peeked h = refl
-
-pub batch-full : (old cur : Now) (given : List Event) (limit : ℕ) → Batch old given cur → length given ≡ limit →
-    Moves Complains old (events limit) (batch given (Ok limit)) cur
-batch-full old _ _ zero (nothing_yet) e = gives_none
-batch-full old _ _ (suc k) (nothing_yet) e = cc
-batch-full old _ given zero (some_given _ s h on) e = absurd (omega (arith, h, e))
-batch-full old _ given (suc k) (some_given _ s h on) e =
-    gives_all k given s.last (future_at old.buffer old.mode s) s on.unrefused on.passes e
-    (record { comes = refl; last_is = refl; peeked_is = on.peeked ∙ full-peeked given (is_peeked old.standing) h })
+-- A refusal that was kept is repeated.
+pub queue-repeats : (now : Now) (r : Refusal) → now.cursor.refusal ≡ Some r → QueuesNow now (Err r) now
+queue-repeats now r e = record { input = record { buffer = refl; mode = refl }; step = steps.repeats r e }
 
 -- ---- over the code's events
 
 -- No event is given yet.
 pub given-none : (items : List ParseEvent) (old : Now) →
-    (given : List ParseEvent) × (items ≡ items ++ given) × (length given ≡ 0) × Batch old (map event_of given) old
-given-none items old = ([], rw append-nil refl, refl, nothing_yet)
+    (given : List ParseEvent) × (items ≡ items ++ given) × (length given ≡ 0) × GivenSoFar old (map event_of given) old
+given-none items old = ([], rw append-nil refl, refl, (record { buffer = refl; mode = refl }, nothing_yet))
 
 pub none-given : (cur new : Now) (o : Option ParseEvent) → ((e : ParseEvent) → o ≡ Some e → ⊥) →
-    GivesOne cur (Ok (option_map event_of o)) new → GivesOne cur (Ok None) new
+    QueuesNow cur (Ok (option_map event_of o)) new → QueuesNow cur (Ok None) new
 none-given cur new None n one = one
 none-given cur new (Some e) n one = absurd (n e refl)
 
 pub event-given : (cur new : Now) (o : Option ParseEvent) (e : ParseEvent) → o ≡ Some e →
-    GivesOne cur (Ok (option_map event_of o)) new → GivesOne cur (Ok (Some (event_of e))) new
-event-given cur new o e same one = subst (λ x. GivesOne cur (Ok (option_map event_of x)) new) same one
+    QueuesNow cur (Ok (option_map event_of o)) new → QueuesNow cur (Ok (Some (event_of e))) new
+event-given cur new o e same one = subst (λ x. QueuesNow cur (Ok (option_map event_of x)) new) same one
 
 -- One more event is given.
 pub given-more : (start now next : List ParseEvent) (old cur new : Now) (e : ParseEvent) (count : ℕ) →
-    (given : List ParseEvent) × (now ≡ start ++ given) × (length given ≡ count) × Batch old (map event_of given) cur →
-    next ≡ now ++ e ∷ [] → GivesOne cur (Ok (Some (event_of e))) new →
-    (given : List ParseEvent) × (next ≡ start ++ given) × (length given ≡ count + 1) × Batch old (map event_of given) new
+    (given : List ParseEvent) × (now ≡ start ++ given) × (length given ≡ count) × GivenSoFar old (map event_of given) cur →
+    next ≡ now ++ e ∷ [] → QueuesNow cur (Ok (Some (event_of e))) new →
+    (given : List ParseEvent) × (next ≡ start ++ given) × (length given ≡ count + 1) × GivenSoFar old (map event_of given) new
 given-more start now next old cur new e count (given, items, n, b) more one = (
   given ++ e ∷ [],
   more ∙ (ap (λ xs. xs ++ e ∷ []) items ∙ append_assoc start given (e ∷ [])),
   rw length-append (omega (arith, n)),
-  subst (λ x. Batch old x new) (sym (map-append event_of given (e ∷ []))) (batch-more old cur new (map event_of given) (event_of e) b one),
+  subst (λ x. GivenSoFar old x new) (sym (map-append event_of given (e ∷ []))) (more-of old cur new (map event_of given) (event_of e) b one),
 )
 
 -- The end came after what is given.
 pub given-end : (start now next : List ParseEvent) (old cur new : Now) (count limit : ℕ) →
-    (given : List ParseEvent) × (now ≡ start ++ given) × (length given ≡ count) × Batch old (map event_of given) cur →
-    next ≡ now → count < limit → GivesOne cur (Ok None) new →
-    (given : List ParseEvent) × (next ≡ start ++ given) × Moves Complains old (events limit) (answer_of_events given (Ok count)) new
+    (given : List ParseEvent) × (now ≡ start ++ given) × (length given ≡ count) × GivenSoFar old (map event_of given) cur →
+    next ≡ now → count < limit → QueuesNow cur (Ok None) new →
+    (given : List ParseEvent) × (next ≡ start ++ given) × Moves old (events limit) (answer_of_events given (Ok count)) new
 given-end start now next old cur new count zero g same less one = absurd (omega (arith, less))
 given-end start now next old cur new count (suc k) (given, items, n, b) same less one =
     let len : length (map event_of given) ≡ count = rw length-map n in (
       given,
       same ∙ items,
-      subst (λ x. Moves Complains old (events (suc k)) (batch (map event_of given) (Ok x)) new) len
-          (batch-end old cur new (map event_of given) k b one (omega (arith, len, less))),
+      subst (λ x. Moves old (events (suc k)) (batch (map event_of given) (Ok x)) new) len
+          (end-of old cur new (map event_of given) k (omega (arith, len, less)) b one),
     )
 
 -- A refusal came after what is given.
 pub given-refused : (start now next : List ParseEvent) (old cur new : Now) (e : ParseError) (count limit : ℕ) →
-    (given : List ParseEvent) × (now ≡ start ++ given) × (length given ≡ count) × Batch old (map event_of given) cur →
-    next ≡ now → count < limit → GivesOne cur (Err (parse_refusal e)) new →
-    (given : List ParseEvent) × (next ≡ start ++ given) × Moves Complains old (events limit) (answer_of_events given (Err e)) new
+    (given : List ParseEvent) × (now ≡ start ++ given) × (length given ≡ count) × GivenSoFar old (map event_of given) cur →
+    next ≡ now → count < limit → QueuesNow cur (Err (parse_refusal e)) new →
+    (given : List ParseEvent) × (next ≡ start ++ given) × Moves old (events limit) (answer_of_events given (Err e)) new
 given-refused start now next old cur new e count zero g same less one = absurd (omega (arith, less))
 given-refused start now next old cur new e count (suc k) (given, items, n, b) same less one =
     let len : length (map event_of given) ≡ count = rw length-map n in
-    (given, same ∙ items, batch-refused old cur new (map event_of given) (parse_refusal e) k b one (omega (arith, len, less)))
+    (given, same ∙ items, refused-of old cur new (map event_of given) k (parse_refusal e) (omega (arith, len, less)) b one)
 
 -- As many events are given as were asked for.
 pub given-full : (start now : List ParseEvent) (old cur : Now) (count limit : ℕ) →
-    (given : List ParseEvent) × (now ≡ start ++ given) × (length given ≡ count) × Batch old (map event_of given) cur →
+    (given : List ParseEvent) × (now ≡ start ++ given) × (length given ≡ count) × GivenSoFar old (map event_of given) cur →
     count ≡ limit →
-    (given : List ParseEvent) × (now ≡ start ++ given) × Moves Complains old (events limit) (answer_of_events given (Ok limit)) cur
+    (given : List ParseEvent) × (now ≡ start ++ given) × Moves old (events limit) (answer_of_events given (Ok limit)) cur
 given-full start now old cur count limit (given, items, n, b) e =
     let len : length (map event_of given) ≡ limit = rw length-map (n ∙ e) in
-    (given, items, batch-full old cur (map event_of given) limit b len)
+    (given, items, full-of old cur (map event_of given) limit b len)
 
 -- What a batch appends came next, and is as many events as is answered.
 pub given-pass : (start now : List ParseEvent) (old new : Now) (limit n : ℕ) →
-    (given : List ParseEvent) × (now ≡ start ++ given) × Moves Complains old (events limit) (answer_of_events given (Ok n)) new →
+    (given : List ParseEvent) × (now ≡ start ++ given) × Moves old (events limit) (answer_of_events given (Ok n)) new →
     (given : List ParseEvent) × (now ≡ start ++ given) × PassesAll old (map event_of given) new × (n ≡ length given)
 given-pass start now old new limit n (given, items, move) =
-    let count = events-count Complains old new limit n (map event_of given) _ refl move in
-    (given, items, events-pass Complains old new limit (map event_of given) (Ok n) _ refl move, count ∙ length-map given event_of)
+    let count = events-count old new limit n (map event_of given) move in
+    (given, items, events-pass old new limit (map event_of given) (Ok n) move, count ∙ length-map given event_of)
 
 -- The same of what it appends before a refusal.
 pub given-pass_refused : (start now : List ParseEvent) (old new : Now) (limit : ℕ) (r : Refusal) →
-    (given : List ParseEvent) × (now ≡ start ++ given) × Moves Complains old (events limit) (batch (map event_of given) (Err r)) new →
+    (given : List ParseEvent) × (now ≡ start ++ given) × Moves old (events limit) (batch (map event_of given) (Err r)) new →
     (given : List ParseEvent) × (now ≡ start ++ given) × PassesAll old (map event_of given) new × ⊤
 given-pass_refused start now old new limit r (given, items, move) =
-    (given, items, events-pass Complains old new limit (map event_of given) (Err r) _ refl move, tt)
+    (given, items, events-pass old new limit (map event_of given) (Err r) move, tt)
 
 -- ---- what holds of every parser
 
-batch-sound : (old cur : Now) (given : List Event) → Batch old given cur → (0 < length given → NowSound old) → NowSound cur → NowSound old
-batch-sound old _ _ (nothing_yet) known here = here
-batch-sound old _ given (some_given _ s h on) known here = known (omega (arith, h))
+within-by : (old cur : Now) (given : List Event) (d : Cursor Standing) → SameInput old cur → cur.cursor ≡ d →
+    Batch (on_input old.buffer old.mode) old.cursor given d → (0 < length given → NowWithin old) → NowWithin cur → NowWithin old
+within-by old cur _ _ same e (nothing_yet) known here = subst NowWithin (same_cursor-is old cur same e) here
+within-by old cur given _ same e (some_given _ place h none comes) known here = known (omega (arith, h))
 
--- Once one event is asked for, the parser is known to be sound.
-pub given-sound : (start now : List ParseEvent) (old cur : Now) (count : ℕ) →
-    (given : List ParseEvent) × (now ≡ start ++ given) × (length given ≡ count) × Batch old (map event_of given) cur →
-    (0 < count → NowSound old) → NowSound cur → NowSound old
-given-sound start now old cur count (given, items, n, b) known here =
+-- Once one event is asked for, the parser is known to lie within its input.
+pub given-within : (start now : List ParseEvent) (old cur : Now) (count : ℕ) →
+    (given : List ParseEvent) × (now ≡ start ++ given) × (length given ≡ count) × GivenSoFar old (map event_of given) cur →
+    (0 < count → NowWithin old) → NowWithin cur → NowWithin old
+given-within start now old cur count (given, items, n, (same, b)) known here =
     let len : length (map event_of given) ≡ count = rw length-map n in
-    batch-sound old cur (map event_of given) b (λ h. known (omega (arith, len, h))) here
+    within-by old cur (map event_of given) cur.cursor same refl b (λ h. known (omega (arith, len, h))) here

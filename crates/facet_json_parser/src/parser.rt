@@ -1,22 +1,22 @@
 //! Reads a document event by event, with a look ahead and points to go back to.
 
-ghost use Rattle.std.specs.Prelude.{◌≡◌, ◌≤◌, ◌+◌, ◌^◌, suc, List, Some, None, Ok, Err, ◌<◌, length, ◌++◌, OnSome, IfOk, IfErr, IfSome, IfNone, IsSome, IsUtf8, map, codes, MatchOption, MatchResult};
-ghost use Rattle.facet_format.specs.declared.event.ParseEvent.{ParseEvent as RustEvent};
-ghost use Rattle.facet_json_token.specs.Gap.{plain, jsonc};
-ghost use Rattle.facet_json_token.specs.Views.{mode_of};
-ghost use Rattle.facet_format.specs.Cursor.{next, peek, events, save, restore, restored, span, spans, no_memory_at};
-ghost use Rattle.facet_format.specs.Standing.{IsStep};
-ghost use Rattle.facet_format.specs.Views.{event_of, parse_refusal, answer_of_event, answer_of_events, answer_of_save, answer_of_span};
-ghost use Rattle.facet_json_document.specs.Refusal.{Complains};
-ghost use Rattle.facet_format.specs.Kept.{found, without};
-ghost use Rattle.facet_json_document.specs.Future.{finished};
-ghost use Rattle.facet_json_protocol.specs.Now.{fresh, span_of, ahead, future_of, SameInput, GoesOn, StandsAt};
-ghost use Rattle.facet_json_protocol.specs.Move.{Moves, with_standing, with_refusal, with_kept};
-ghost use Rattle.facet_json_protocol.specs.Next.{PassesNext, ShowsNext, PassesAll, IsOver};
-ghost use Rattle.facet_json_protocol.specs.Sound.{NowSound, AnswerWithin};
-ghost use Rattle.facet_json_standing.specs.Fill.{FillsParser, GivesOne};
+ghost use Rattle.std.specs.Prelude.{◌≡◌, ◌≤◌, ◌+◌, suc, List, Some, None, Ok, Err, ◌<◌, length, ◌++◌, OnSome, IfOk, IfErr, IfSome, IfNone, IsSome, IsUtf8, map, codes, MatchResult};
 ghost use Rattle.std.specs.Option.{option_map};
 ghost use Rattle.std.specs.VecDeque.{deque_len, deque_capacity};
+ghost use Rattle.facet_format.specs.declared.event.ParseEvent.{ParseEvent as RustEvent};
+ghost use Rattle.facet_format.specs.Cursor.{next, peek, events, save, restore, restored, span, spans, refused_at};
+ghost use Rattle.facet_format.specs.Kept.{found, without};
+ghost use Rattle.facet_format.specs.Standing.{IsStep};
+ghost use Rattle.facet_format.specs.Views.{event_of, parse_refusal, answer_of_event, answer_of_events, answer_of_save, answer_of_span};
+ghost use Rattle.facet_json_token.specs.Gap.{plain, jsonc};
+ghost use Rattle.facet_json_token.specs.Views.{mode_of};
+ghost use Rattle.facet_json_document.specs.Future.{finished};
+ghost use Rattle.facet_json_place.specs.Views.{refused_of};
+ghost use Rattle.facet_json_protocol.specs.Now.{fresh, span_of, ahead, future_of, SameInput, GoesOn, StandsAt};
+ghost use Rattle.facet_json_protocol.specs.Move.{Moves, with_kept};
+ghost use Rattle.facet_json_protocol.specs.Next.{PassesNext, ShowsNext, PassesAll, IsOver};
+ghost use Rattle.facet_json_protocol.specs.Within.{RefusalWithin, NowWithin, AnswerWithin};
+ghost use Rattle.facet_json_standing.specs.Steps.{QueuesNow};
 
 use facet_format::{FormatParser, ParseError, ParseEvent, SavePoint, Span};
 use facet_json_place::Refused;
@@ -64,15 +64,16 @@ impl<'de> Model for JsonParser<'de> {
     ghost use Rattle.std.specs.Option.{option_map};
     ghost use Rattle.facet_json_token.specs.Views.{mode_of};
     ghost use Rattle.facet_json_protocol.specs.Now.{Now};
-    ghost use Rattle.facet_json_standing.specs.Ready.{IsReady};
     ghost use Rattle.facet_json_place.specs.Views.{refused_of};
-    ghost use Rattle.facet_json_standing.specs.Views.{now_of};
+    ghost use Rattle.facet_json_standing.specs.Ready.{IsReady};
+    ghost use Rattle.facet_json_standing.specs.Views.{filling_of, point_of, now_of};
 
     ghost Value = { Now };
 
     ghost view = { λ p. now_of p.input.now p.mode p.standing p.refusal p.points.items p.counter };
 
-    ghost invariant = { λ p. IsReady (now_of p.input.now p.mode p.standing p.refusal p.points.items p.counter) };
+    ghost invariant = { λ p. IsReady p.input.now (mode_of p.mode) (filling_of p.standing) (option_map refused_of p.refusal)
+        (map point_of p.points.items) p.counter };
 }
 
 impl<'de> JsonParser<'de> {
@@ -124,31 +125,25 @@ impl<'de> JsonParser<'de> {
         }
     }
 
-    /// Reads the next event, where none is held.
-    fn fill<'t>(&mut self) -> Result<(), ParseError<'t>>
-        ensures filled { MatchResult result
-            (λ _. FillsParser self.old None self.new)
-            (λ e. FillsParser self.old (Some (parse_refusal e)) self.new) }
-        ensures sound { NowSound self.old }
+    /// Repeats a refusal, where there is one.
+    fn unrefused<'t>(&self) -> Result<(), ParseError<'t>>
+        ensures { MatchResult result
+            (λ _. self.now.cursor.refusal ≡ None)
+            (λ e. self.now.cursor.refusal ≡ Some (parse_refusal e)) }
     {
-        if let Some(refused) = self.refusal {
-            return Err(ParseError::from(refused));
-        }
-        match self.standing.fill(self.alloc, self.input, self.mode) {
-            Ok(()) => Ok(()),
-            Err(refused) => {
-                self.refusal = Some(refused);
-                Err(ParseError::from(refused))
-            }
+        match self.refusal {
+            Some(refused) => Err(ParseError::from(refused)),
+            None => Ok(()),
         }
     }
 
-    /// Refuses for lack of memory from now on.
-    fn refuse_growth<'t>(&mut self) -> ParseError<'t>
-        ensures error { parse_refusal result ≡ no_memory_at (span_of self.old.standing) }
-        ensures kept { self.new ≡ with_refusal self.old self.old.standing (no_memory_at (span_of self.old.standing)) }
+    /// Refuses so from now on.
+    fn refuse<'t>(&mut self, refused: Refused) -> ParseError<'t>
+        requires within { RefusalWithin self.old.buffer (refused_of refused) }
+        ensures error { parse_refusal result ≡ refused_of refused }
+        ensures kept { self.new
+            ≡ record self.old { cursor = refused_at self.old.cursor self.old.cursor.spot (refused_of refused) } }
     {
-        let refused = Refused::out_of_memory(self.standing.span());
         self.refusal = Some(refused);
         ParseError::from(refused)
     }
@@ -161,17 +156,17 @@ impl<'de> JsonParser<'de> {
         ensures items { queue.new.items ≡ queue.old.items }
         ensures room { IfOk result (λ o. OnSome o (deque_len queue.new < deque_capacity queue.new)) }
         ensures event { MatchResult result
-            (λ o. GivesOne self.old (Ok (option_map event_of o)) self.new)
-            (λ e. GivesOne self.old (Err (parse_refusal e)) self.new) }
-        ensures sound { NowSound self.old }
+            (λ o. QueuesNow self.old (Ok (option_map event_of o)) self.new)
+            (λ e. QueuesNow self.old (Err (parse_refusal e)) self.new) }
+        ensures within { NowWithin self.old }
     {
-        self.fill()?;
-        if self.standing.held.is_none() {
-            return Ok(None);
-        }
-        match queue.reserve(1) {
-            Ok(()) => Ok(self.standing.take()),
-            Err(_) => Err(self.refuse_growth()),
+        self.unrefused()?;
+        match self
+            .standing
+            .next_with_room(self.alloc, self.input, self.mode, queue)
+        {
+            Ok(event) => Ok(event),
+            Err(refused) => Err(self.refuse(refused)),
         }
     }
 }
@@ -198,7 +193,7 @@ impl<'de> FormatParser<'de> for JsonParser<'de> {
     /// A refusal sticks, until a point that is kept is restored.
     fn next_event<'t>(&mut self) -> Result<Option<ParseEvent<'de>>, ParseError<'t>>
         ensures steps { IsStep StandsAt self.old next (answer_of_event result) self.new }
-        ensures moves { Moves Complains self.old next (answer_of_event result) self.new }
+        ensures moves { Moves self.old next (answer_of_event result) self.new }
         ensures within { AnswerWithin self.new.buffer (answer_of_event result) }
         ensures lowers { ahead self.new ≤ ahead self.old }
         ensures onward { GoesOn self.old self.new }
@@ -206,8 +201,11 @@ impl<'de> FormatParser<'de> for JsonParser<'de> {
         ensures next { IfOk result (λ o. IfSome o (λ e. PassesNext self.old (event_of e) self.new)) }
         ensures end { IfOk result (λ o. IfNone o (IsOver self.old self.new)) }
     {
-        self.fill()?;
-        Ok(self.standing.take())
+        self.unrefused()?;
+        match self.standing.next(self.alloc, self.input, self.mode) {
+            Ok(event) => Ok(event),
+            Err(refused) => Err(self.refuse(refused)),
+        }
     }
 
     /// Answers the next event and lets it stay the next one, or `None` after the document's last one.
@@ -218,17 +216,17 @@ impl<'de> FormatParser<'de> for JsonParser<'de> {
     /// that a peek answered before, only then. A refusal sticks, until a point that is kept is restored.
     fn peek_event<'t>(&mut self) -> Result<Option<ParseEvent<'de>>, ParseError<'t>>
         ensures steps { IsStep StandsAt self.old peek (answer_of_event result) self.new }
-        ensures moves { Moves Complains self.old peek (answer_of_event result) self.new }
+        ensures moves { Moves self.old peek (answer_of_event result) self.new }
         ensures within { AnswerWithin self.new.buffer (answer_of_event result) }
         ensures lowers { ahead self.new ≤ ahead self.old }
         ensures onward { GoesOn self.old self.new }
         ensures next { IfOk result (λ o. IfSome o (λ e. ShowsNext self.old (event_of e) self.new)) }
         ensures end { IfOk result (λ o. IfNone o (IsOver self.old self.new)) }
     {
-        self.fill()?;
-        match self.standing.peek(self.alloc) {
+        self.unrefused()?;
+        match self.standing.peek(self.alloc, self.input, self.mode) {
             Ok(event) => Ok(event),
-            Err(_) => Err(self.refuse_growth()),
+            Err(refused) => Err(self.refuse(refused)),
         }
     }
 
@@ -248,7 +246,7 @@ impl<'de> FormatParser<'de> for JsonParser<'de> {
         ensures steps { (given : List RustEvent) × (buf.new.items ≡ buf.old.items ++ given)
             × IsStep StandsAt self.old (events limit) (answer_of_events given result) self.new }
         ensures moves { (given : List RustEvent) × (buf.new.items ≡ buf.old.items ++ given)
-            × Moves Complains self.old (events limit) (answer_of_events given result) self.new
+            × Moves self.old (events limit) (answer_of_events given result) self.new
             × AnswerWithin self.new.buffer (answer_of_events given result) }
         ensures lowers { ahead self.new ≤ ahead self.old }
         ensures onward { GoesOn self.old self.new }
@@ -277,17 +275,15 @@ impl<'de> FormatParser<'de> for JsonParser<'de> {
     /// Both change nothing and don't stick. A refusal that sticks already is repeated.
     fn save<'t>(&mut self) -> Result<SavePoint, ParseError<'t>>
         ensures steps { IsStep StandsAt self.old save (answer_of_save result) self.new }
-        ensures moves { Moves Complains self.old save (answer_of_save result) self.new }
+        ensures moves { Moves self.old save (answer_of_save result) self.new }
         ensures within { AnswerWithin self.new.buffer (answer_of_save result) }
         ensures input { SameInput self.old self.new }
         ensures lowers { ahead self.new ≤ ahead self.old }
-        ensures point { IfOk result (λ p. (p.0 ≡ suc self.old.counter) × (self.new ≡ with_kept self.old)) }
-        ensures own_number { IfOk result (λ p. found p.0 self.old.kept ≡ None) }
+        ensures point { IfOk result (λ p. (p.0 ≡ suc self.old.cursor.counter) × (self.new ≡ with_kept self.old)) }
+        ensures own_number { IfOk result (λ p. found p.0 self.old.cursor.kept ≡ None) }
         ensures unchanged { IfErr result (λ _. self.new ≡ self.old) }
     {
-        if let Some(refused) = self.refusal {
-            return Err(ParseError::from(refused));
-        }
+        self.unrefused()?;
         let Some(number) = self.counter.checked_add(1) else {
             return Err(ParseError::from(Refused::save_limit(self.standing.span())));
         };
@@ -304,10 +300,10 @@ impl<'de> FormatParser<'de> for JsonParser<'de> {
     /// stay. A point that is not kept changes nothing. It does not allocate.
     fn restore(&mut self, point: SavePoint)
         ensures steps { IsStep StandsAt self.old (restore point.0) restored self.new }
-        ensures moves { Moves Complains self.old (restore point.0) restored self.new }
+        ensures moves { Moves self.old (restore point.0) restored self.new }
         ensures input { SameInput self.old self.new }
-        ensures points { self.new.kept ≡ without point.0 self.old.kept }
-        ensures counter { self.new.counter ≡ self.old.counter }
+        ensures points { self.new.cursor.kept ≡ without point.0 self.old.cursor.kept }
+        ensures counter { self.new.cursor.counter ≡ self.old.cursor.counter }
     {
         if let Some(standing) = bring_back(&mut self.points, point.0) {
             self.standing = standing;
@@ -319,7 +315,7 @@ impl<'de> FormatParser<'de> for JsonParser<'de> {
     /// another event its own. Before the first event the span is 0+0. It is always there.
     fn current_span(&self) -> Option<Span>
         ensures steps { IsStep StandsAt self.now span (answer_of_span result) self.now }
-        ensures told { answer_of_span result ≡ spans (Some (span_of self.now.standing)) }
+        ensures told { answer_of_span result ≡ spans (Some (span_of self.now)) }
         ensures within { AnswerWithin self.now.buffer (answer_of_span result) }
         ensures given { IsSome result }
     {

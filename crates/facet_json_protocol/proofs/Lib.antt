@@ -4,9 +4,11 @@ pub mod InputIsAnswered
 pub mod MoveIsStep
 pub mod MoveLaws
 pub mod MovesNext
+pub mod PointsHold
 pub mod RefusalRepeats
 pub mod RestoreBringsBack
 pub mod Rows
 pub mod Spans
 pub mod StandsOnWalk
+pub mod StepLaws
 pub mod TrustedAgrees

@@ -1,116 +1,185 @@
 -- What a move takes of what comes: the next event, the next events, or the end.
 use Rattle.std.proofs.Common.{◌≡◌, ℕ, zero, suc, ◌<◌, List, [], ◌∷◌, map, length, None, Some, refl, sym, ap, ◌∙◌, arith}
 use Rattle.std.specs.Prelude.{Ok, Result}
-use Rattle.facet_format.specs.Span.{Span}
 use Rattle.facet_format.specs.Complaint.{Refusal}
 use Rattle.facet_format.specs.Event.{Event, Passed}
-use Rattle.facet_format.specs.Cursor.{next, peek, events, Answer, event, batch}
-use Rattle.facet_json_token.specs.Token.{Token}
-use Rattle.facet_json_document.specs.Future.{Future, gives, finished, events_before}
-use Rattle.facet_json_protocol.specs.Now.{Now, future_of}
-use Rattle.facet_json_protocol.specs.Move.{Passes, no_events, one_event, with_standing, Moves, repeats, passes, passes_without_memory, passes_the_end, passes_nothing, peeks, peeks_without_memory, peeks_at_the_end, peeks_at_nothing, gives_none, gives_all, gives_to_the_end, gives_up, gives_without_memory}
+use Rattle.facet_format.specs.Cursor.{next, peek, events, Answer, event, batch, an_event, the_end, Cursor, Comes, no_event, one_event, repeats, passes, passes_the_end, peeks, peeks_at_the_end, gives_none, gives, gives_up, gives_without_memory, spot_after, Spot}
+use Rattle.facet_json_token.specs.Gap.{Mode}
+use Rattle.facet_json_document.specs.Future.{Future, gives as gives_first, finished, stuck, events_before}
+use Rattle.facet_json_document.specs.InputPlace.{Standing, past, future_at}
+use Rattle.facet_json_document.proofs.PastEvents.{past-comes}
+use Rattle.facet_json_protocol.specs.Now.{Now, future_of, first_of, on_input}
+use Rattle.facet_json_protocol.specs.Move.{Moves}
 use Rattle.facet_json_protocol.specs.Next.{first_then, PassesNext, ShowsNext, PassesAll, IsOver}
+use Rattle.facet_json_protocol.proofs.MoveLaws.{with_cursor, StepOf, by_step}
 
--- Events that are passed one after another came so.
-pub Passes-comes : {before after : Span} {future rest : Future} {given : List Event} → Passes before future given after rest →
-    (passed : List Passed) × (map (λ p. p.event) passed ≡ given) × (future ≡ events_before passed rest)
-Passes-comes (no_events last future) = ([], refl, refl)
-Passes-comes (one_event before after p future rest others more) =
-    let (passed, same, comes) = Passes-comes more in
-    (p ∷ passed, ap (λ es. p.event ∷ es) same, ap (gives p) comes)
+-- ---- what comes at a place
+
+first-gives : (f : Future) (p : Passed) → first_of f ≡ an_event p → (rest : Future) × (f ≡ gives_first p rest)
+first-gives (gives_first q rest) p e = let same : q ≡ p = cc in (rest, ap (λ x. gives_first x rest) same)
+first-gives finished p e = cc
+first-gives (stuck place rest) p e = cc
+
+first-over : (f : Future) → first_of f ≡ the_end → f ≡ finished
+first-over finished e = refl
+first-over (gives_first q rest) e = cc
+first-over (stuck place rest) e = cc
+
+-- Where an event comes, what comes at the place after it comes behind it.
+pub event-comes : (buffer : List ℕ) (mode : Mode) (s : Standing) (p : Passed) → first_of (future_at buffer mode s) ≡ an_event p →
+    future_at buffer mode s ≡ gives_first p (future_at buffer mode (past p s))
+event-comes buffer mode s p e =
+    let (rest, is) = first-gives (future_at buffer mode s) p e in
+    is ∙ ap (gives_first p) (sym (past-comes buffer mode s p rest is))
+
+-- Where the end comes, nothing does.
+pub end-comes : (buffer : List ℕ) (mode : Mode) (s : Standing) → first_of (future_at buffer mode s) ≡ the_end →
+    future_at buffer mode s ≡ finished
+end-comes buffer mode s e = first-over (future_at buffer mode s) e
+
+-- Events that come one after another are what comes before the place after them.
+pub Comes-before : (buffer : List ℕ) (mode : Mode) {s after : Standing} {given : List Event} →
+    Comes (on_input buffer mode) s given after → (passed : List Passed) × (map (λ p. p.event) passed ≡ given)
+    × (future_at buffer mode s ≡ events_before passed (future_at buffer mode after))
+Comes-before buffer mode (no_event place) = ([], refl, refl)
+Comes-before buffer mode (one_event place after p others e more) =
+    let (passed, same, comes) = Comes-before buffer mode more in
+    (p ∷ passed, ap (λ es. p.event ∷ es) same, event-comes buffer mode place p e ∙ ap (gives_first p) comes)
+
+-- ---- steps
 
 none-passed : (now : Now) {given : List Event} → [] ≡ given → PassesAll now given now
 none-passed now e = record { passed = []; events = e; comes = refl }
 
-all-passed : (old new : Now) {before after : Span} {given es : List Event} {rest : Future} → Passes before (future_of old) es after rest →
-    future_of new ≡ rest → es ≡ given → PassesAll old given new
-all-passed old new all shown same =
-    let (passed, events_are, comes) = Passes-comes all in
-    record { passed = passed; events = events_are ∙ same; comes = comes ∙ ap (events_before passed) (sym shown) }
+-- The spot after events is at the place after them.
+pub spot_after-place : {given : List Event} (buffer : List ℕ) (mode : Mode) (spot : Spot Standing) {after : Standing} →
+    Comes (on_input buffer mode) spot.place given after → (spot_after given after spot).place ≡ after
+spot_after-place buffer mode spot (no_event place) = refl
+spot_after-place buffer mode spot (one_event place after p others e more) = refl
 
-module _ (complains : List ℕ → Token → Refusal → Type 0) where
-  -- An event that is answered came next.
-  pub next-passes : (old new : Now) (e : Event) (answer : Answer) → answer ≡ event (Ok (Some e)) →
-      Moves complains old next answer new → PassesNext old e new
-  next-passes old new e answer is (repeats r call a f g) = cc
-  next-passes old new e answer is (passes p future s none goes shows) =
+all-passed : (now : Now) (d : Cursor Standing) (after : Standing) {es given : List Event} →
+    Comes (on_input now.buffer now.mode) now.cursor.spot.place es after → d.spot ≡ spot_after es after now.cursor.spot →
+    es ≡ given → PassesAll now given (with_cursor now d)
+all-passed now d after all spot same =
+    let (passed, events_are, comes) = Comes-before now.buffer now.mode all in
+    let there : d.spot.place ≡ after = ap (λ x. x.place) spot ∙ spot_after-place now.buffer now.mode now.cursor.spot all in
+    record {
+      passed = passed;
+      events = events_are ∙ same;
+      comes = comes ∙ ap (λ s. events_before passed (future_at now.buffer now.mode s)) (sym there);
+    }
+
+module _ (now : Now) where
+  next_passes : (d : Cursor Standing) (e : Event) (answer : Answer) → answer ≡ event (Ok (Some e)) →
+      StepOf now next answer d → PassesNext now e (with_cursor now d)
+  next_passes d e answer is (repeats r call a f g) = cc
+  next_passes d e answer is (passes p none goes) =
       let same : p.event ≡ e = cc in
+      let s = now.cursor.spot.place in
+      let rest = future_at now.buffer now.mode (past p s) in
       record {
         last = p.last;
-        comes = goes ∙ ap (gives p) (sym shows.comes) ∙ ap (λ x. first_then x p.last (future_of (with_standing old s))) same;
+        comes = event-comes now.buffer now.mode s p goes ∙ ap (λ x. first_then x p.last rest) same;
         free = none;
       }
-  next-passes old new e answer is (passes_without_memory p future s none goes takes off like) = cc
-  next-passes old new e answer is (passes_the_end s none f like) = cc
-  next-passes old new e answer is (passes_nothing place rest r s none f stops like) = cc
+  next_passes d e answer is _ = cc
 
-  -- Where the end is answered, nothing comes.
-  pub next-over : (old new : Now) (answer : Answer) → answer ≡ event (Ok None) → Moves complains old next answer new → IsOver old new
-  next-over old new answer is (repeats r call a f g) = cc
-  next-over old new answer is (passes p future s none goes shows) = cc
-  next-over old new answer is (passes_without_memory p future s none goes takes off like) = cc
-  next-over old new answer is (passes_the_end s none f like) = record { over = f; stays = like.comes ∙ f; free = none }
-  next-over old new answer is (passes_nothing place rest r s none f stops like) = cc
+  next_over : (d : Cursor Standing) (answer : Answer) → answer ≡ event (Ok None) →
+      StepOf now next answer d → IsOver now (with_cursor now d)
+  next_over d answer is (repeats r call a f g) = cc
+  next_over d answer is (passes_the_end none f) =
+      let over = end-comes now.buffer now.mode now.cursor.spot.place f in record { over = over; stays = over; free = none }
+  next_over d answer is _ = cc
 
-  -- An event that a peek answers comes next, and stays.
-  pub peek-shows : (old new : Now) (e : Event) (answer : Answer) → answer ≡ event (Ok (Some e)) →
-      Moves complains old peek answer new → ShowsNext old e new
-  peek-shows old new e answer is (repeats r call a f g) = cc
-  peek-shows old new e answer is (peeks p future s none goes shows) =
+  peek_shows : (d : Cursor Standing) (e : Event) (answer : Answer) → answer ≡ event (Ok (Some e)) →
+      StepOf now peek answer d → ShowsNext now e (with_cursor now d)
+  peek_shows d e answer is (repeats r call a f g) = cc
+  peek_shows d e answer is (peeks p none goes) =
       let same : p.event ≡ e = cc in
+      let s = now.cursor.spot.place in
+      let rest = future_at now.buffer now.mode (past p s) in
       record {
         last = p.last;
-        rest = future;
-        comes = goes ∙ ap (λ x. first_then x p.last future) same;
-        stays = shows.comes ∙ sym goes;
+        rest = rest;
+        comes = event-comes now.buffer now.mode s p goes ∙ ap (λ x. first_then x p.last rest) same;
+        stays = refl;
         free = none;
       }
-  peek-shows old new e answer is (peeks_without_memory p future s none goes takes like) = cc
-  peek-shows old new e answer is (peeks_at_the_end s none f like) = cc
-  peek-shows old new e answer is (peeks_at_nothing place rest r s none f stops like) = cc
+  peek_shows d e answer is _ = cc
 
-  -- Where a peek answers the end, nothing comes.
-  pub peek-over : (old new : Now) (answer : Answer) → answer ≡ event (Ok None) → Moves complains old peek answer new → IsOver old new
-  peek-over old new answer is (repeats r call a f g) = cc
-  peek-over old new answer is (peeks p future s none goes shows) = cc
-  peek-over old new answer is (peeks_without_memory p future s none goes takes like) = cc
-  peek-over old new answer is (peeks_at_the_end s none f like) = record { over = f; stays = like.comes ∙ f; free = none }
-  peek-over old new answer is (peeks_at_nothing place rest r s none f stops like) = cc
+  peek_over : (d : Cursor Standing) (answer : Answer) → answer ≡ event (Ok None) →
+      StepOf now peek answer d → IsOver now (with_cursor now d)
+  peek_over d answer is (repeats r call a f g) = cc
+  peek_over d answer is (peeks_at_the_end none f) =
+      let over = end-comes now.buffer now.mode now.cursor.spot.place f in record { over = over; stays = over; free = none }
+  peek_over d answer is _ = cc
 
-  -- Events that are given came next.
-  pub events-pass : (old new : Now) (limit : ℕ) (given : List Event) (result : Result ℕ Refusal) (answer : Answer) →
-      answer ≡ batch given result → Moves complains old (events limit) answer new → PassesAll old given new
-  events-pass old new zero given result answer is (repeats r call a f g) = cc
-  events-pass old new (suc k) given result answer is (repeats r call a f g) = let none : [] ≡ given = cc in none-passed old none
-  events-pass old new limit given result answer is (gives_none) = let none : [] ≡ given = cc in none-passed old none
-  events-pass old new limit given result answer is (gives_all k es last future s none all n shows) =
-      let same : es ≡ given = cc in all-passed old _ all shows.comes same
-  events-pass old new limit given result answer is (gives_to_the_end k n es last s none all count le shows) =
-      let same : es ≡ given = cc in all-passed old _ all shows.comes same
-  events-pass old new limit given result answer is (gives_up k es last place rest r s none all le stops shows) =
-      let same : es ≡ given = cc in all-passed old _ all shows.comes same
-  events-pass old new limit given result answer is (gives_without_memory k es last p future s none all le shows) =
-      let same : es ≡ given = cc in all-passed old _ all shows.comes same
+  events_pass : (d : Cursor Standing) (limit : ℕ) (given : List Event) (result : Result ℕ Refusal) (answer : Answer) →
+      answer ≡ batch given result → StepOf now (events limit) answer d → PassesAll now given (with_cursor now d)
+  events_pass d zero given result answer is (repeats r call a f g) = cc
+  events_pass d (suc k) given result answer is (repeats r call a f g) = let none : [] ≡ given = cc in none-passed now none
+  events_pass d limit given result answer is gives_none = let none : [] ≡ given = cc in none-passed now none
+  events_pass d limit given result answer is (gives k n es place none all count le over) =
+      let same : es ≡ given = cc in all-passed now d place all refl same
+  events_pass d limit given result answer is (gives_without_memory k es place p spot none all le more there) =
+      let same : es ≡ given = cc in all-passed now d place all there same
+  events_pass d limit given result answer is (gives_up k es place r none all le stops so) =
+      let same : es ≡ given = cc in all-passed now d place all refl same
 
-  -- They are as many as is answered.
-  pub events-count : (old new : Now) (limit n : ℕ) (given : List Event) (answer : Answer) → answer ≡ batch given (Ok n) →
-      Moves complains old (events limit) answer new → n ≡ length given
-  events-count old new zero n given answer is (repeats r call a f g) = cc
-  events-count old new (suc k) n given answer is (repeats r call a f g) = cc
-  events-count old new limit n given answer is (gives_none) = let none : [] ≡ given = cc in let zero_is : zero ≡ n = cc in rw (← none) (sym zero_is)
-  events-count old new limit n given answer is (gives_all k es last future s none all count shows) = cc
-  events-count old new limit n given answer is (gives_to_the_end k m es last s none all count le shows) = cc
-  events-count old new limit n given answer is (gives_up k es last place rest r s none all le stops shows) = cc
-  events-count old new limit n given answer is (gives_without_memory k es last p future s none all le shows) = cc
+  events_count : (d : Cursor Standing) (limit n : ℕ) (given : List Event) (answer : Answer) → answer ≡ batch given (Ok n) →
+      StepOf now (events limit) answer d → n ≡ length given
+  events_count d zero n given answer is (repeats r call a f g) = cc
+  events_count d (suc k) n given answer is (repeats r call a f g) = cc
+  events_count d limit n given answer is gives_none =
+      let none : [] ≡ given = cc in let zero_is : zero ≡ n = cc in rw (← none) (sym zero_is)
+  events_count d limit n given answer is (gives k m es place none all count le over) = cc
+  events_count d limit n given answer is (gives_without_memory k es place p spot none all le more there) = cc
+  events_count d limit n given answer is (gives_up k es place r none all le stops so) = cc
 
-  -- Where they are fewer than were asked for, nothing comes afterwards.
-  pub events-over : (old new : Now) (limit n : ℕ) (given : List Event) (answer : Answer) → answer ≡ batch given (Ok n) →
-      Moves complains old (events limit) answer new → n < limit → future_of new ≡ finished
-  events-over old new zero n given answer is (repeats r call a f g) less = cc
-  events-over old new (suc k) n given answer is (repeats r call a f g) less = cc
-  events-over old new limit n given answer is (gives_none) less = absurd (omega (arith, less))
-  events-over old new limit n given answer is (gives_all k es last future s none all count shows) less =
-      let same : suc k ≡ n = cc in absurd (omega (arith, same, less))
-  events-over old new limit n given answer is (gives_to_the_end k m es last s none all count le shows) less = shows.comes
-  events-over old new limit n given answer is (gives_up k es last place rest r s none all le stops shows) less = cc
-  events-over old new limit n given answer is (gives_without_memory k es last p future s none all le shows) less = cc
+  events_over : (d : Cursor Standing) (limit n : ℕ) (given : List Event) (answer : Answer) → answer ≡ batch given (Ok n) →
+      StepOf now (events limit) answer d → n < limit →
+      future_of (with_cursor now d) ≡ finished
+  events_over d zero n given answer is (repeats r call a f g) less = cc
+  events_over d (suc k) n given answer is (repeats r call a f g) less = cc
+  events_over d limit n given answer is gives_none less = absurd (omega (arith, less))
+  events_over d limit n given answer is (gives k m es place none all count le over) less =
+      let same : m ≡ n = cc in
+      let there = spot_after-place now.buffer now.mode now.cursor.spot all in
+      rw there (end-comes now.buffer now.mode place (over (omega (arith, same, less))))
+  events_over d limit n given answer is (gives_without_memory k es place p spot none all le more there) less = cc
+  events_over d limit n given answer is (gives_up k es place r none all le stops so) less = cc
+
+-- ---- moves
+
+-- An event that is answered came next.
+pub next-passes : (old new : Now) (e : Event) → Moves old next (event (Ok (Some e))) new → PassesNext old e new
+next-passes old new e move = by_step (PassesNext old e) old new move (λ d step. next_passes old d e _ refl step)
+
+-- Where the end is answered, nothing comes.
+pub next-over : (old new : Now) → Moves old next (event (Ok None)) new → IsOver old new
+next-over old new move = by_step (IsOver old) old new move (λ d step. next_over old d _ refl step)
+
+-- An event that a peek answers comes next, and stays.
+pub peek-shows : (old new : Now) (e : Event) → Moves old peek (event (Ok (Some e))) new → ShowsNext old e new
+peek-shows old new e move = by_step (ShowsNext old e) old new move (λ d step. peek_shows old d e _ refl step)
+
+-- Where a peek answers the end, nothing comes.
+pub peek-over : (old new : Now) → Moves old peek (event (Ok None)) new → IsOver old new
+peek-over old new move = by_step (IsOver old) old new move (λ d step. peek_over old d _ refl step)
+
+-- Events that are given came next.
+pub events-pass : (old new : Now) (limit : ℕ) (given : List Event) (result : Result ℕ Refusal) →
+    Moves old (events limit) (batch given result) new → PassesAll old given new
+events-pass old new limit given result move =
+    by_step (PassesAll old given) old new move (λ d step. events_pass old d limit given result _ refl step)
+
+-- They are as many as is answered.
+pub events-count : (old new : Now) (limit n : ℕ) (given : List Event) → Moves old (events limit) (batch given (Ok n)) new →
+    n ≡ length given
+events-count old new limit n given move = events_count old new.cursor limit n given _ refl move.step
+
+-- Where they are fewer than were asked for, nothing comes afterwards.
+pub events-over : (old new : Now) (limit n : ℕ) (given : List Event) → Moves old (events limit) (batch given (Ok n)) new →
+    n < limit → future_of new ≡ finished
+events-over old new limit n given move less =
+    by_step (λ x. future_of x ≡ finished) old new move (λ d step. events_over old d limit n given _ refl step less)

@@ -1,15 +1,16 @@
 -- A refused parser on every input: it repeats its refusal, and nothing changes, until a point that is kept is restored.
 use Rattle.std.proofs.Common.{◌≡◌, ℕ, zero, suc, List, [], Some, None, refl, sym, ap, ◌∙◌, subst}
 use Rattle.std.specs.Prelude.{Err}
-use Rattle.facet_json_token.specs.Token.{Token}
 use Rattle.facet_format.specs.Complaint.{Refusal}
 use Rattle.facet_format.specs.Kept.{found}
-use Rattle.facet_format.specs.Cursor.{Call, next, peek, events, save, restore, span, Answer, event, batch, saved, repeated}
-use Rattle.facet_json_protocol.specs.Now.{Now}
-use Rattle.facet_json_protocol.specs.Move.{Moves, repeats, passes, passes_without_memory, passes_the_end, passes_nothing, peeks, peeks_without_memory, peeks_at_the_end, peeks_at_nothing, gives_none, gives_all, gives_to_the_end, gives_up, gives_without_memory, saves, saves_at_the_limit, saves_without_memory, restores, restores_nothing, tells, MovesAll, no_calls, one_call}
+use Rattle.facet_format.specs.Cursor.{Call, next, peek, events, save, restore, span, Answer, event, batch, saved, World, Cursor, Step, repeats, passes, passes_without_memory, passes_the_end, passes_nothing, peeks, peeks_without_memory, peeks_at_the_end, peeks_at_nothing, gives_none, gives, gives_up, gives_without_memory, saves, saves_at_the_limit, saves_without_memory, restores, restores_nothing, tells, Run, no_calls, one_call, repeated}
+use Rattle.facet_json_document.specs.InputPlace.{Standing}
+use Rattle.facet_json_protocol.specs.Now.{Now, on_input}
+use Rattle.facet_json_protocol.specs.Move.{Moves, MovesAll}
 use Rattle.facet_json_protocol.specs.CallLaws.{refusal_in, RestoresNone, no_call, another, AllRepeat}
 use Rattle.facet_json_protocol.specs.CallLaws as laws
-use Rattle.facet_json_protocol.proofs.MoveLaws.{moves-repeats, moves-refused, moves-unknown}
+use Rattle.facet_json_protocol.proofs.StepLaws.{step-repeats, step-refused, step-unknown}
+use Rattle.facet_json_protocol.proofs.MoveLaws.{same_cursor-is}
 
 -- A repeated refusal is the one that is repeated.
 repeats-same : (q r : Refusal) (call : Call) (answer : Answer) → repeated q call ≡ Some answer → refusal_in answer ≡ Some r → q ≡ r
@@ -21,46 +22,56 @@ repeats-same q r save answer e f = let same : saved (Err q) ≡ answer = cc in c
 repeats-same q r (restore point) answer e f = cc
 repeats-same q r span answer e f = cc
 
-module _ (complains : List ℕ → Token → Refusal → Type 0) where
-  -- A call for events that is refused leaves the parser refused so.
-  pub refused-sticks : (now new : Now) {call : Call} {answer : Answer} (r : Refusal) → Moves complains now call answer new →
-      refusal_in answer ≡ Some r → new.refusal ≡ Some r
-  refused-sticks now new r (repeats q call answer e a) f = e ∙ ap Some (repeats-same q r call answer a f)
-  refused-sticks now new r (passes p future s none comes shows) f = cc
-  refused-sticks now new r (passes_without_memory p future s none comes takes off like) f = f
-  refused-sticks now new r (passes_the_end s none e like) f = cc
-  refused-sticks now new r (passes_nothing place rest q s none e stops like) f = f
-  refused-sticks now new r (peeks p future s none comes shows) f = cc
-  refused-sticks now new r (peeks_without_memory p future s none comes takes like) f = f
-  refused-sticks now new r (peeks_at_the_end s none e like) f = cc
-  refused-sticks now new r (peeks_at_nothing place rest q s none e stops like) f = f
-  refused-sticks now new r gives_none f = cc
-  refused-sticks now new r (gives_all k given last future s none all n shows) f = cc
-  refused-sticks now new r (gives_to_the_end k n given last s none all count le shows) f = cc
-  refused-sticks now new r (gives_up k given last place rest q s none all le stops shows) f = f
-  refused-sticks now new r (gives_without_memory k given last p future s none all le shows) f = f
-  refused-sticks now new r (saves none h) f = cc
-  refused-sticks now new r (saves_at_the_limit none e) f = cc
-  refused-sticks now new r (saves_without_memory none h) f = cc
-  refused-sticks now new r (restores point s e) f = cc
-  refused-sticks now new r (restores_nothing point e) f = cc
-  refused-sticks now new r tells f = cc
+-- A call for events that is refused leaves the cursor refused so.
+step-sticks : {P : Type 0} (w : World P) (c d : Cursor P) {call : Call} {answer : Answer} (r : Refusal) → Step w c call answer d →
+    refusal_in answer ≡ Some r → d.refusal ≡ Some r
+step-sticks w c d r (repeats q call answer e a) f = e ∙ ap Some (repeats-same q r call answer a f)
+step-sticks w c d r (passes p none comes) f = cc
+step-sticks w c d r (passes_without_memory p none comes takes off) f = f
+step-sticks w c d r (passes_the_end none e) f = cc
+step-sticks w c d r (passes_nothing q none e so) f = f
+step-sticks w c d r (peeks p none comes) f = cc
+step-sticks w c d r (peeks_without_memory p none comes takes) f = f
+step-sticks w c d r (peeks_at_the_end none e) f = cc
+step-sticks w c d r (peeks_at_nothing q none e so) f = f
+step-sticks w c d r gives_none f = cc
+step-sticks w c d r (gives k n given place none all count le over) f = cc
+step-sticks w c d r (gives_without_memory k given place p spot none all le more there) f = f
+step-sticks w c d r (gives_up k given place q none all le stops so) f = f
+step-sticks w c d r (saves none h) f = cc
+step-sticks w c d r (saves_at_the_limit none e) f = cc
+step-sticks w c d r (saves_without_memory none h) f = cc
+step-sticks w c d r (restores point s e) f = cc
+step-sticks w c d r (restores_nothing point e) f = cc
+step-sticks w c d r tells f = cc
 
-  -- A call that restores no kept point leaves a refused parser as it is.
-  refused-stays : (now new : Now) (r : Refusal) (call : Call) (answer : Answer) → now.refusal ≡ Some r →
-      ((point : ℕ) → call ≡ restore point → found point now.kept ≡ None) → Moves complains now call answer new → new ≡ now
-  refused-stays now new r next answer f none move = moves-refused complains now new r next answer move refl f
-  refused-stays now new r peek answer f none move = moves-refused complains now new r peek answer move refl f
-  refused-stays now new r (events n) answer f none move = moves-refused complains now new r (events n) answer move refl f
-  refused-stays now new r save answer f none move = moves-refused complains now new r save answer move refl f
-  refused-stays now new r (restore point) answer f none move = (moves-unknown complains now point new answer (none point refl) move).1
-  refused-stays now new r span answer f none move = moves-refused complains now new r span answer move refl f
+module _ (w : World Standing) where
+  -- A call that restores no kept point leaves a refused cursor as it is.
+  step-stays : (c d : Cursor Standing) (r : Refusal) (call : Call) (answer : Answer) → c.refusal ≡ Some r →
+      ((point : ℕ) → call ≡ restore point → found point c.kept ≡ None) → Step w c call answer d → d ≡ c
+  step-stays c d r next answer f none step = step-refused w c d r next answer step refl f
+  step-stays c d r peek answer f none step = step-refused w c d r peek answer step refl f
+  step-stays c d r (events n) answer f none step = step-refused w c d r (events n) answer step refl f
+  step-stays c d r save answer f none step = step-refused w c d r save answer step refl f
+  step-stays c d r (restore point) answer f none step = (step-unknown w c point d answer (none point refl) step).1
+  step-stays c d r span answer f none step = step-refused w c d r span answer step refl f
 
-  -- A refused parser repeats its refusal, and stays as it is, by all calls that restore no kept point.
-  pub all-repeat : {now new : Now} {calls : List Call} {answers : List Answer} (r : Refusal) → now.refusal ≡ Some r →
-      RestoresNone now.kept calls → MovesAll complains now calls answers new → AllRepeat r calls answers × (new ≡ now)
-  all-repeat r f no_call (no_calls now) = (laws.no_call, refl)
-  all-repeat r f (another _ _ none others) (one_call now between new call answer calls answers move more) =
-      let same = refused-stays now between r call answer f none move in
-      let rest = all-repeat r (ap (λ n. n.refusal) same ∙ f) (subst (λ n. RestoresNone n.kept calls) (sym same) others) more in
-      (laws.one_call call answer calls answers (λ told e. (moves-repeats complains now between r call answer told move f e).0) rest.0, rest.1 ∙ same)
+  -- A refused cursor repeats its refusal, and stays as it is, by all calls that restore no kept point.
+  run-repeats : {c d : Cursor Standing} {calls : List Call} {answers : List Answer} (r : Refusal) → c.refusal ≡ Some r →
+      RestoresNone c.kept calls → Run w c calls answers d → AllRepeat r calls answers × (d ≡ c)
+  run-repeats r f no_call (no_calls c) = (laws.no_call, refl)
+  run-repeats r f (another _ _ none others) (one_call c between d call answer calls answers step more) =
+      let same = step-stays c between r call answer f none step in
+      let rest = run-repeats r (ap (λ n. n.refusal) same ∙ f) (subst (λ n. RestoresNone n.kept calls) (sym same) others) more in
+      let here : (told : Answer) → repeated r call ≡ Some told → answer ≡ told =
+      λ told e. (step-repeats w c between r call answer told step f e).0 in
+      (laws.one_call call answer calls answers here rest.0, rest.1 ∙ same)
+
+-- Once a call for events is refused, the parser repeats that refusal and stays as it is.
+pub refused-repeats : (old stopped new : Now) (call : Call) (answer : Answer) (r : Refusal) (calls : List Call)
+    (answers : List Answer) → Moves old call answer stopped → refusal_in answer ≡ Some r → RestoresNone stopped.cursor.kept calls →
+    MovesAll stopped calls answers new → AllRepeat r calls answers × (new ≡ stopped)
+refused-repeats old stopped new call answer r calls answers move refused none all =
+    let sticks = step-sticks (on_input old.buffer old.mode) old.cursor stopped.cursor r move.step refused in
+    let (repeat, same) = run-repeats (on_input stopped.buffer stopped.mode) r sticks none all.run in
+    (repeat, same_cursor-is stopped new all.input same)

@@ -1,113 +1,117 @@
--- Points on every input: a point that was saved stays what it is until it is restored, and its restore brings back where the parser stood.
+-- Points on every input: a saved point stays what it is until it is restored, and its restore brings back where the parser stood.
 use Rattle.std.proofs.Common.{◌≡◌, ◌≢◌, ℕ, suc, ◌≤◌, List, Some, None, refl, sym, ap, subst, ◌∙◌, arith}
 use Rattle.std.specs.Prelude.{Result, Ok, Err, MatchResult}
 use Rattle.facet_json_token.specs.Gap.{Mode}
-use Rattle.facet_json_token.specs.Token.{Token}
 use Rattle.facet_format.specs.Complaint.{Refusal, refusal_at, save_limit}
 use Rattle.facet_format.specs.Kept.{found, with_point}
-use Rattle.facet_format.specs.Cursor.{Call, save, restore, Answer, saved, no_memory_at}
-use Rattle.facet_json_protocol.specs.Now.{Standing, Now, fresh, span_of, SameInput}
-use Rattle.facet_json_protocol.specs.Move.{with_kept, Moves, repeats, saves, saves_at_the_limit, saves_without_memory, restores, MovesAll, no_calls, one_call}
+use Rattle.facet_format.specs.Cursor.{Call, save, restore, Answer, saved, World, Spot, Cursor, Step, repeats, saves, saves_at_the_limit, saves_without_memory, restores, Run, no_calls, one_call, no_memory_at, back_at}
+use Rattle.facet_json_document.specs.InputPlace.{Standing}
+use Rattle.facet_json_protocol.specs.Now.{Now, fresh, on_input, span_of, SameInput}
+use Rattle.facet_json_protocol.specs.Move.{Moves, MovesAll, with_kept}
 use Rattle.facet_json_protocol.specs.CallLaws.{NoPoint, no_number, no_memory, NeverRestored, no_call, another, IsBack}
 use Rattle.facet_format.proofs.KeptLaws.{AreUpTo, found-new, found-other, found-kept, found-used, up_to-new, up_to-used}
-use Rattle.facet_json_protocol.proofs.MoveLaws.{moves-input, moves-saved, moves-restored, all-input}
+use Rattle.facet_json_protocol.proofs.StepLaws.{step-saved, step-restored}
+use Rattle.facet_json_protocol.proofs.MoveLaws.{with_cursor, StepOf, by_step}
 
--- A point with this standing is kept, and its number is not greater than the counter.
-pub record IsKept (now : Now) (point : ℕ) (s : Standing) : Type 0 where
-  pub there : found point now.kept ≡ Some s
-  pub numbered : point ≤ now.counter
+-- A point with this spot is kept, and its number is not greater than the counter.
+record IsKept {P : Type 0} (c : Cursor P) (point : ℕ) (s : Spot P) : Type 0 where
+  there : found point c.kept ≡ Some s
+  numbered : point ≤ c.counter
 
--- A new parser's points have no number.
-pub fresh-up_to : (buffer : List ℕ) (mode : Mode) → AreUpTo (fresh buffer mode).counter (fresh buffer mode).kept
-fresh-up_to buffer mode number less = refl
-
-module _ (complains : List ℕ → Token → Refusal → Type 0) where
+module _ {P : Type 0} (w : World P) where
   -- Points are numbered up to the counter.
-  pub moves-up_to : (now new : Now) {call : Call} {answer : Answer} → Moves complains now call answer new →
-      AreUpTo now.counter now.kept → AreUpTo new.counter new.kept
-  moves-up_to now new (saves none h) up = up_to-new now.counter now.standing now.kept up
-  moves-up_to now new (restores point s e) up = up_to-used now.counter point now.kept up
-  moves-up_to now new _ up = up
-
-  -- A point is kept by every call but its restore.
-  pub moves-keep : (now : Now) (point : ℕ) (s : Standing) {new : Now} {call : Call} {answer : Answer} →
-      (call ≡ restore point → ⊥) → Moves complains now call answer new → IsKept now point s → IsKept new point s
-  moves-keep now point s other (saves none h) kept =
-      let less : point ≢ suc now.counter = λ e. absurd (omega (arith, kept.numbered, e)) in
-      record {
-        there = found-other point (suc now.counter) now.standing now.kept less ∙ kept.there;
-        numbered = omega (arith, kept.numbered);
-      }
-  moves-keep now point s other (restores q t e) kept =
-      let differs : point ≢ q = λ same. other (ap restore (sym same)) in
-      record { there = found-kept point q now.kept differs ∙ kept.there; numbered = kept.numbered }
-  moves-keep now point s other _ kept = record { there = kept.there; numbered = kept.numbered }
-
-  -- So it is by all calls that don't restore it.
-  pub all-keep : (point : ℕ) (s : Standing) {now new : Now} {calls : List Call} {answers : List Answer} →
-      NeverRestored point calls → MovesAll complains now calls answers new → IsKept now point s → IsKept new point s
-  all-keep point s no_call (no_calls now) kept = kept
-  all-keep point s (another _ _ other others) (one_call now between new call answer calls answers move more) kept =
-      all-keep point s others more (moves-keep now point s other move kept)
-
-  -- A point that a save answered keeps where the parser stood.
-  saved-kept : (now new : Now) (point : ℕ) (answer : Answer) → found point now.kept ≡ None → answer ≡ saved (Ok point) →
-      Moves complains now save answer new → IsKept new point now.standing
-  saved-kept now new point answer none a move =
-      let known = moves-saved complains now new point answer a move in
-      let new_is = known.2 in
-      let number_is = known.1 in
-      let free : found (suc now.counter) now.kept ≡ None = subst (λ n. found n now.kept ≡ None) number_is none in
-      let fits : found (suc now.counter) (with_point (suc now.counter) now.standing now.kept) ≡ Some now.standing =
-      found-new (suc now.counter) now.standing now.kept free in
-      rw (new_is, number_is) (record { there = fits; numbered = omega arith })
+  step-up_to : (c d : Cursor P) {call : Call} {answer : Answer} → Step w c call answer d → AreUpTo c.counter c.kept →
+      AreUpTo d.counter d.kept
+  step-up_to c d (saves none h) up = up_to-new c.counter c.spot c.kept up
+  step-up_to c d (restores point s e) up = up_to-used c.counter point c.kept up
+  step-up_to c d _ up = up
 
   -- So they are by all calls.
-  pub all-up_to : {now new : Now} {calls : List Call} {answers : List Answer} → MovesAll complains now calls answers new →
-      AreUpTo now.counter now.kept → AreUpTo new.counter new.kept
-  all-up_to (no_calls now) up = up
-  all-up_to (one_call now between new call answer calls answers move more) up = all-up_to more (moves-up_to now between move up)
+  run-up_to : {c d : Cursor P} {calls : List Call} {answers : List Answer} → Run w c calls answers d → AreUpTo c.counter c.kept →
+      AreUpTo d.counter d.kept
+  run-up_to (no_calls c) up = up
+  run-up_to (one_call c between d call answer calls answers step more) up = run-up_to more (step-up_to c between step up)
 
-  -- The restore of a kept point brings back where the parser stood, with no refusal, and uses the point up.
-  pub restored-back : (at_save before new : Now) (point : ℕ) (answer : Answer) → SameInput at_save before →
-      IsKept before point at_save.standing → Moves complains before (restore point) answer new → IsBack at_save before new point
-  restored-back at_save before new point answer input kept move =
-      let new_is = (moves-restored complains before point at_save.standing new answer kept.there move).1 in
-      rw new_is (record {
-        input = record { buffer = input.buffer; mode = input.mode };
-        standing = refl;
-        unrefused = refl;
-        counter = refl;
-        used_up = found-used point before.kept;
-        others = λ other differs. found-kept other point before.kept differs;
-      })
+  -- A point is kept by every call but its restore.
+  step-keeps : (c : Cursor P) (point : ℕ) (s : Spot P) {d : Cursor P} {call : Call} {answer : Answer} → (call ≡ restore point → ⊥) →
+      Step w c call answer d → IsKept c point s → IsKept d point s
+  step-keeps c point s other (saves none h) kept =
+      let less : point ≢ suc c.counter = λ e. absurd (omega (arith, kept.numbered, e)) in
+      record {
+        there = found-other point (suc c.counter) c.spot c.kept less ∙ kept.there;
+        numbered = omega (arith, kept.numbered);
+      }
+  step-keeps c point s other (restores q t e) kept =
+      let differs : point ≢ q = λ same. other (ap restore (sym same)) in
+      record { there = found-kept point q c.kept differs ∙ kept.there; numbered = kept.numbered }
+  step-keeps c point s other _ kept = record { there = kept.there; numbered = kept.numbered }
 
-  -- After a save that answered a point and calls that don't restore it, its restore goes back to where the parser stood.
-  pub saved-back : (at_save behind before new : Now) (point : ℕ) (told answer : Answer) {calls : List Call} {answers : List Answer} →
-      found point at_save.kept ≡ None → told ≡ saved (Ok point) → Moves complains at_save save told behind →
-      NeverRestored point calls → MovesAll complains behind calls answers before → Moves complains before (restore point) answer new →
-      IsBack at_save before new point
-  saved-back at_save behind before new point told answer none t saving never between restoring =
-      let first = moves-input complains at_save behind saving in
-      let others = all-input complains between in
-      restored-back at_save before new point answer (record { buffer = others.buffer ∙ first.0; mode = others.mode ∙ first.1 })
-      (all-keep point at_save.standing never between (saved-kept at_save behind point told none t saving)) restoring
+  -- So it is by all calls that don't restore it.
+  run-keeps : (point : ℕ) (s : Spot P) {c d : Cursor P} {calls : List Call} {answers : List Answer} → NeverRestored point calls →
+      Run w c calls answers d → IsKept c point s → IsKept d point s
+  run-keeps point s no_call (no_calls c) kept = kept
+  run-keeps point s (another _ _ other others) (one_call c between d call answer calls answers step more) kept =
+      run-keeps point s {c = between} {d = d} others more (step-keeps c point s other step kept)
 
-  -- A save of a parser that is not refused is numbered, or there is a reason.
-  pub moves-numbered : (now new : Now) (result : Result ℕ Refusal) (answer : Answer) → answer ≡ saved result → now.refusal ≡ None →
-      Moves complains now save answer new →
-      MatchResult result (λ n. (n ≡ suc now.counter) × (new ≡ with_kept now)) (λ r. NoPoint now r × (new ≡ now))
-  moves-numbered now new result answer a free (repeats r call _ e f) = cc
-  moves-numbered now new (Ok n) answer a free (saves none h) = (cc, refl)
-  moves-numbered now new (Ok n) answer a free (saves_at_the_limit none e) = cc
-  moves-numbered now new (Ok n) answer a free (saves_without_memory none h) = cc
-  moves-numbered now new (Err r) answer a free (saves none h) = cc
-  moves-numbered now new (Err r) answer a free (saves_at_the_limit none e) =
-      let same : r ≡ refusal_at save_limit (span_of now.standing) = cc in rw same (no_number e, refl)
-  moves-numbered now new (Err r) answer a free (saves_without_memory none h) =
-      let same : r ≡ no_memory_at (span_of now.standing) = cc in rw same (no_memory h, refl)
+  -- A point that a save answered keeps where the cursor stood.
+  saved-kept : (c d : Cursor P) (point : ℕ) → found point c.kept ≡ None → Step w c save (saved (Ok point)) d → IsKept d point c.spot
+  saved-kept c d point none step =
+      let (free, number_is, new_is) = step-saved w c d point _ refl step in
+      let unused : found (suc c.counter) c.kept ≡ None = subst (λ n. found n c.kept ≡ None) number_is none in
+      let fits : found (suc c.counter) (with_point (suc c.counter) c.spot c.kept) ≡ Some c.spot =
+      found-new (suc c.counter) c.spot c.kept unused in
+      rw (new_is, number_is) (record { there = fits; numbered = omega arith })
+
+-- The restore of a kept point brings back where the parser stood, with no refusal, and uses the point up.
+restored-back : (at_save before new : Now) (point : ℕ) (answer : Answer) → SameInput at_save before →
+    IsKept before.cursor point at_save.cursor.spot → Moves before (restore point) answer new → IsBack at_save before new point
+restored-back at_save before new point answer input kept move =
+    let new_is : new.cursor ≡ back_at before.cursor point at_save.cursor.spot =
+    (step-restored (on_input before.buffer before.mode) before.cursor point at_save.cursor.spot new.cursor answer kept.there
+    move.step).1 in
+    record {
+      input = record { buffer = move.input.buffer ∙ input.buffer; mode = move.input.mode ∙ input.mode };
+      spot = ap (λ c. c.spot) new_is;
+      unrefused = ap (λ c. c.refusal) new_is;
+      counter = ap (λ c. c.counter) new_is;
+      used_up = ap (λ c. found point c.kept) new_is ∙ found-used point before.cursor.kept;
+      others = λ other differs. ap (λ c. found other c.kept) new_is ∙ found-kept other point before.cursor.kept differs;
+    }
+
+-- After a save that answered a point and calls that don't restore it, its restore goes back to where the parser stood.
+pub saved-back : (at_save behind before new : Now) (point : ℕ) (calls : List Call) (answers : List Answer) (answer : Answer) →
+    found point at_save.cursor.kept ≡ None → Moves at_save save (saved (Ok point)) behind → NeverRestored point calls →
+    MovesAll behind calls answers before → Moves before (restore point) answer new → IsBack at_save before new point
+saved-back at_save behind before new point calls answers answer none saving never between restoring =
+    let kept = saved-kept (on_input at_save.buffer at_save.mode) at_save.cursor behind.cursor point none saving.step in
+    restored-back at_save before new point answer
+    (record { buffer = between.input.buffer ∙ saving.input.buffer; mode = between.input.mode ∙ saving.input.mode })
+    (run-keeps (on_input behind.buffer behind.mode) point at_save.cursor.spot never between.run kept) restoring
+
+-- A save that is not refused keeps where the parser stands, or there is a reason.
+abbrev IsNumbered : Now → Result ℕ Refusal → Now → Type 0
+IsNumbered now result new =
+    MatchResult result (λ n. (n ≡ suc now.cursor.counter) × (new ≡ with_kept now)) (λ r. NoPoint now r × (new ≡ now))
+
+step-numbered : (now : Now) (d : Cursor Standing) (result : Result ℕ Refusal) (answer : Answer) → answer ≡ saved result →
+    now.cursor.refusal ≡ None → StepOf now save answer d → IsNumbered now result (with_cursor now d)
+step-numbered now d result answer a free (repeats r call _ e f) = cc
+step-numbered now d (Ok n) answer a free (saves none h) = (cc, refl)
+step-numbered now d (Ok n) answer a free (saves_at_the_limit none e) = cc
+step-numbered now d (Ok n) answer a free (saves_without_memory none h) = cc
+step-numbered now d (Err r) answer a free (saves none h) = cc
+step-numbered now d (Err r) answer a free (saves_at_the_limit none e) =
+    let same : r ≡ refusal_at save_limit (span_of now) = cc in rw same (no_number e, refl)
+step-numbered now d (Err r) answer a free (saves_without_memory none h) =
+    let same : r ≡ no_memory_at (span_of now) = cc in rw same (no_memory h, refl)
+
+pub moves-numbered : (now new : Now) (result : Result ℕ Refusal) → now.cursor.refusal ≡ None → Moves now save (saved result) new →
+    MatchResult result (λ n. (n ≡ suc now.cursor.counter) × (new ≡ with_kept now)) (λ r. NoPoint now r × (new ≡ now))
+moves-numbered now new result free move =
+    by_step (IsNumbered now result) now new move (λ d step. step-numbered now d result _ refl free step)
 
 -- After whatever calls of a new parser no point has the next number.
-pub numbers-new : (complains : List ℕ → Token → Refusal → Type 0) (buffer : List ℕ) (mode : Mode) (now : Now) {calls : List Call}
-    {answers : List Answer} → MovesAll complains (fresh buffer mode) calls answers now → found (suc now.counter) now.kept ≡ None
-numbers-new complains buffer mode now all = all-up_to complains all (fresh-up_to buffer mode) (suc now.counter) (omega arith)
+pub numbers-new : (buffer : List ℕ) (mode : Mode) (now : Now) (calls : List Call) (answers : List Answer) →
+    MovesAll (fresh buffer mode) calls answers now → found (suc now.cursor.counter) now.cursor.kept ≡ None
+numbers-new buffer mode now calls answers all =
+    run-up_to (on_input buffer mode) all.run (λ number less. refl) (suc now.cursor.counter) (omega arith)

@@ -1,2 +1,3 @@
 pub mod AnswersWithin
+pub mod BytesAhead
 pub mod EventsWithin

@@ -4,10 +4,10 @@ use Rattle.facet_json_token.specs.Gap.{Mode}
 use Rattle.facet_format.specs.Complaint.{Refusal, refusal_at, save_limit}
 use Rattle.facet_format.specs.Event.{Event}
 use Rattle.facet_format.specs.Kept.{found}
-use Rattle.facet_format.specs.Cursor.{Call, next, peek, save, restore, Answer, event, batch, saved, greatest, no_memory_at, repeated}
-use Rattle.facet_json_document.specs.Refusal.{Complains}
+use Rattle.facet_format.specs.Cursor.{Call, next, peek, save, restore, Spot, Answer, event, batch, saved, greatest, no_memory_at, repeated}
 use Rattle.facet_format.specs.Standing.{IsStep}
-use Rattle.facet_json_protocol.specs.Now.{Standing, Now, fresh, span_of, SameInput, StandsAt}
+use Rattle.facet_json_document.specs.InputPlace.{Standing}
+use Rattle.facet_json_protocol.specs.Now.{Now, fresh, span_of, SameInput, StandsAt}
 use Rattle.facet_json_protocol.specs.Move.{Moves, MovesAll, with_kept}
 use Rattle.facet_json_protocol.specs.Alone.{AllNext}
 
@@ -15,15 +15,15 @@ use Rattle.facet_json_protocol.specs.Alone.{AllNext}
 
 -- Each call is one step of the cursor, wherever the parser stands on a walk.
 abbrev pub MoveIsStep : Type 0
-MoveIsStep = (old new : Now) (call : Call) (answer : Answer) → Moves Complains old call answer new →
+MoveIsStep = (old new : Now) (call : Call) (answer : Answer) → Moves old call answer new →
     IsStep StandsAt old call answer new
 
 -- ---- a look ahead
 
 -- After a peek that answers an event, the next event is that one.
 abbrev pub PeekIsNext : Type 0
-PeekIsNext = (old between new : Now) (e : Event) (answer : Answer) → Moves Complains old peek (event (Ok (Some e))) between →
-    Moves Complains between next answer new → answer ≡ event (Ok (Some e))
+PeekIsNext = (old between new : Now) (e : Event) (answer : Answer) → Moves old peek (event (Ok (Some e))) between →
+    Moves between next answer new → answer ≡ event (Ok (Some e))
 
 -- ---- refusals
 
@@ -34,7 +34,7 @@ refusal_in (batch given (Err r)) = Some r
 refusal_in _ = None
 
 -- None of the calls restores one of these points.
-pub data RestoresNone (kept : List (ℕ × Standing)) : List Call → Type 0 where
+pub data RestoresNone (kept : List (ℕ × Spot Standing)) : List Call → Type 0 where
   no_call : RestoresNone kept []
   another : (call : Call) (calls : List Call) → ((point : ℕ) → call ≡ restore point → found point kept ≡ None) →
       RestoresNone kept calls → RestoresNone kept (call ∷ calls)
@@ -49,22 +49,22 @@ pub data AllRepeat (r : Refusal) : List Call → List Answer → Type 0 where
 -- Once a call for events is refused, that refusal is repeated, and nothing changes, until a point that is kept is restored.
 abbrev pub RefusalRepeats : Type 0
 RefusalRepeats = (old stopped new : Now) (call : Call) (answer : Answer) (r : Refusal) (calls : List Call) (answers : List Answer) →
-    Moves Complains old call answer stopped → refusal_in answer ≡ Some r → RestoresNone stopped.kept calls →
-    MovesAll Complains stopped calls answers new → AllRepeat r calls answers × (new ≡ stopped)
+    Moves old call answer stopped → refusal_in answer ≡ Some r → RestoresNone stopped.cursor.kept calls →
+    MovesAll stopped calls answers new → AllRepeat r calls answers × (new ≡ stopped)
 
 -- ---- points
 
 -- why a save answers no point, where the parser is not refused
 pub data NoPoint (now : Now) : Refusal → Type 0 where
-  no_number : now.counter ≡ greatest → NoPoint now (refusal_at save_limit (span_of now.standing))
-  no_memory : now.counter < greatest → NoPoint now (no_memory_at (span_of now.standing))
+  no_number : now.cursor.counter ≡ greatest → NoPoint now (refusal_at save_limit (span_of now))
+  no_memory : now.cursor.counter < greatest → NoPoint now (no_memory_at (span_of now))
 
 -- A save of a parser that is not refused keeps where it stands under the next number; or it changes nothing, for lack of a number or of
 -- memory.
 abbrev pub SaveIsNumbered : Type 0
-SaveIsNumbered = (old new : Now) (answer : Result ℕ Refusal) → old.refusal ≡ None → Moves Complains old save (saved answer) new →
+SaveIsNumbered = (old new : Now) (answer : Result ℕ Refusal) → old.cursor.refusal ≡ None → Moves old save (saved answer) new →
     MatchResult answer
-    (λ n. (n ≡ suc old.counter) × (new ≡ with_kept old))
+    (λ n. (n ≡ suc old.cursor.counter) × (new ≡ with_kept old))
     (λ r. NoPoint old r × (new ≡ old))
 
 -- None of the calls restores the point.
@@ -77,29 +77,29 @@ pub data NeverRestored (point : ℕ) : List Call → Type 0 where
 -- it is not refused; and the point is used up, while the others stay.
 pub record IsBack (at_save before new : Now) (point : ℕ) : Type 0 where
   pub input : SameInput at_save new
-  pub standing : new.standing ≡ at_save.standing
-  pub unrefused : new.refusal ≡ None
-  pub counter : new.counter ≡ before.counter
-  pub used_up : found point new.kept ≡ None
-  pub others : (other : ℕ) → other ≢ point → found other new.kept ≡ found other before.kept
+  pub spot : new.cursor.spot ≡ at_save.cursor.spot
+  pub unrefused : new.cursor.refusal ≡ None
+  pub counter : new.cursor.counter ≡ before.cursor.counter
+  pub used_up : found point new.cursor.kept ≡ None
+  pub others : (other : ℕ) → other ≢ point → found other new.cursor.kept ≡ found other before.cursor.kept
 
 -- After a save that answers a point under a number that no other has, and any calls that don't restore the point, its restore brings
 -- the parser back.
 abbrev pub RestoreBringsBack : Type 0
 RestoreBringsBack = (at_save behind before new : Now) (point : ℕ) (calls : List Call) (answers : List Answer) (answer : Answer) →
-    found point at_save.kept ≡ None → Moves Complains at_save save (saved (Ok point)) behind → NeverRestored point calls →
-    MovesAll Complains behind calls answers before → Moves Complains before (restore point) answer new →
+    found point at_save.cursor.kept ≡ None → Moves at_save save (saved (Ok point)) behind → NeverRestored point calls →
+    MovesAll behind calls answers before → Moves before (restore point) answer new →
     IsBack at_save before new point
 
 -- Whatever calls a new parser answered, no point has the next number.
 abbrev pub NumbersAreNew : Type 0
 NumbersAreNew = (buffer : List ℕ) (mode : Mode) (now : Now) (calls : List Call) (answers : List Answer) →
-    MovesAll Complains (fresh buffer mode) calls answers now → found (suc now.counter) now.kept ≡ None
+    MovesAll (fresh buffer mode) calls answers now → found (suc now.cursor.counter) now.cursor.kept ≡ None
 
 -- A restore of a point that is not kept changes nothing.
 abbrev pub UnknownChangesNothing : Type 0
-UnknownChangesNothing = (old new : Now) (point : ℕ) (answer : Answer) → found point old.kept ≡ None →
-    Moves Complains old (restore point) answer new → new ≡ old
+UnknownChangesNothing = (old new : Now) (point : ℕ) (answer : Answer) → found point old.cursor.kept ≡ None →
+    Moves old (restore point) answer new → new ≡ old
 
 -- ---- the end
 
@@ -112,4 +112,4 @@ pub data Ends : List Answer → Type 0 where
 -- A new parser that is asked for the next event more often than its input has bytes answers the end or a refusal.
 abbrev pub EndsInTime : Type 0
 EndsInTime = (buffer : List ℕ) (mode : Mode) (new : Now) (calls : List Call) (answers : List Answer) → AllNext calls →
-    length buffer < length calls → MovesAll Complains (fresh buffer mode) calls answers new → Ends answers
+    length buffer < length calls → MovesAll (fresh buffer mode) calls answers new → Ends answers

@@ -6,7 +6,7 @@ use Rattle.facet_json_token.specs.Gap.{Mode}
 use Rattle.facet_format.specs.Span.{span_at}
 use Rattle.facet_format.specs.Complaint.{Refusal}
 use Rattle.facet_format.specs.Event.{Passed}
-use Rattle.facet_format.specs.Cursor.{Call, Answer, Cursor, start, Run}
+use Rattle.facet_format.specs.Cursor.{Call, Answer, on_walk, Cursor, start, Run}
 use Rattle.facet_json_document.specs.Node.{Node}
 use Rattle.facet_json_document.specs.Tree.{Tree}
 use Rattle.facet_json_document.specs.Meaning.{meaning}
@@ -21,7 +21,7 @@ use Rattle.facet_json_protocol.specs.Alone.{AllNext, AnswersAlone}
 
 -- A new parser of the input answers the calls so, and is then this.
 abbrev pub NewAnswers : List ℕ → Mode → List Call → List Answer → Now → Type 0
-NewAnswers buffer mode calls answers new = MovesAll Complains (fresh buffer mode) calls answers new
+NewAnswers buffer mode calls answers new = MovesAll (fresh buffer mode) calls answers new
 
 -- The input has this document alone. Every list of calls is answered by a run of the cursor from its start on the document's walk,
 -- and the parser then stands where that cursor does.
@@ -31,7 +31,7 @@ pub record AnswersDocument (buffer : List ℕ) (mode : Mode) : Type 0 where
   pub document : IsDocument buffer mode node value
   pub only : (other : Node) (meant : Tree) → IsDocument buffer mode other meant → (other ≡ node) × (meant ≡ value)
   pub run : (calls : List Call) (answers : List Answer) (new : Now) → NewAnswers buffer mode calls answers new →
-      (c : Cursor) × Run (walk (meaning buffer) node) start calls answers c × StandsAt new (walk (meaning buffer) node) c
+      (c : Cursor ℕ) × Run (on_walk (walk (meaning buffer) node)) start calls answers c × StandsAt new (walk (meaning buffer) node) c
 
 -- The input has no document. Its longest prefix that begins one gives these events alone, after which it may be refused; and where
 -- only the next event is asked for, these events are answered, and then one refusal of what stands after that prefix.

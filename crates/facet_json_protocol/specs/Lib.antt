@@ -5,4 +5,4 @@ pub mod Move
 pub mod Next
 pub mod Now
 pub mod ParserLaws
-pub mod Sound
+pub mod Within

@@ -13,7 +13,7 @@ first_then given last future = gives (record { event = given; last = last }) fut
 pub record PassesNext (old : Now) (given : Event) (new : Now) : Type 0 where
   pub last : Span
   pub comes : future_of old ≡ first_then given last (future_of new)
-  pub free : new.refusal ≡ None
+  pub free : new.cursor.refusal ≡ None
 
 -- The event comes next, and the same comes afterwards. The parser is not refused.
 pub record ShowsNext (old : Now) (shown : Event) (new : Now) : Type 0 where
@@ -21,7 +21,7 @@ pub record ShowsNext (old : Now) (shown : Event) (new : Now) : Type 0 where
   pub rest : Future
   pub comes : future_of old ≡ first_then shown last rest
   pub stays : future_of new ≡ future_of old
-  pub free : new.refusal ≡ None
+  pub free : new.cursor.refusal ≡ None
 
 -- The events came next, in this order, and are passed.
 pub record PassesAll (old : Now) (given : List Event) (new : Now) : Type 0 where
@@ -33,4 +33,4 @@ pub record PassesAll (old : Now) (given : List Event) (new : Now) : Type 0 where
 pub record IsOver (old new : Now) : Type 0 where
   pub over : future_of old ≡ finished
   pub stays : future_of new ≡ finished
-  pub free : new.refusal ≡ None
+  pub free : new.cursor.refusal ≡ None

@@ -1,94 +1,56 @@
 -- What a parser is as a value, on any input, and where it stands on a document's walk.
-use Rattle.std.specs.Prelude.{◌≡◌, ◌≤◌, ℕ, ◌-◌, Bool, true, false, List, [], ◌∷◌, length, drop, Option, Some, None}
-use Rattle.facet_format.specs.Span.{Span, stop, span_at}
-use Rattle.facet_json_token.specs.Gap.{Mode}
-use Rattle.facet_json_token.specs.Tokens.{tokens_from}
-use Rattle.facet_json_document.specs.Meaning.{meaning}
-use Rattle.facet_json_document.specs.Place.{root}
+use Rattle.std.specs.Prelude.{◌≡◌, ◌≤◌, ℕ, ◌-◌, List, length, drop}
+use Rattle.facet_format.specs.Span.{Span, stop}
 use Rattle.facet_format.specs.Complaint.{Refusal}
-use Rattle.facet_format.specs.Event.{ContainerKind, Passed}
-use Rattle.facet_format.specs.Cursor.{Spot, Cursor, last_of}
-use Rattle.facet_json_document.specs.Future.{Future, gives, finished, events_before, Stage, within, reads}
-
--- what a point keeps
-pub record Standing : Type 0 where
-  -- where the tokens go on
-  pub position : ℕ
-  -- the open containers, the innermost first
-  pub stack : List ContainerKind
-  pub stage : Stage
-  -- an event that is read already, but not passed
-  pub held : Option Passed
-  -- whether a peek answered it
-  pub shown : Bool
-  -- the last token that an event passed
-  pub last : Span
+use Rattle.facet_format.specs.Event.{Passed}
+use Rattle.facet_format.specs.Cursor.{Coming, an_event, the_end, a_refusal, World, Cursor, start_at, current_span, last_of}
+use Rattle.facet_format.specs.Alike.{CursorsAlike}
+use Rattle.facet_json_token.specs.Gap.{Mode}
+use Rattle.facet_json_document.specs.Meaning.{meaning}
+use Rattle.facet_json_document.specs.Refusal.{IsStuck, Complains}
+use Rattle.facet_json_document.specs.Future.{Future, gives, finished, stuck, events_before}
+use Rattle.facet_json_document.specs.InputPlace.{Standing, first_standing, past, future_at}
 
 pub record Now : Type 0 where
   pub buffer : List ℕ
   pub mode : Mode
-  pub standing : Standing
-  -- what the last refused call was refused with
-  pub refusal : Option Refusal
-  pub kept : List (ℕ × Standing)
-  -- the number of the last point
-  pub counter : ℕ
-
-abbrev pub first_standing : Standing
-first_standing = record {
-  position = 0;
-  stack = [];
-  stage = within root;
-  held = None;
-  shown = false;
-  last = span_at 0 0;
-}
+  pub cursor : Cursor Standing
 
 -- a parser that has read nothing
 abbrev pub fresh : List ℕ → Mode → Now
-fresh buffer mode = record {
-  buffer = buffer;
-  mode = mode;
-  standing = first_standing;
-  refusal = None;
-  kept = [];
-  counter = 0;
-}
+fresh buffer mode = record { buffer = buffer; mode = mode; cursor = start_at first_standing }
 
 -- ---- what comes
 
--- an event that is held comes first
-abbrev pub held_before : Option Passed → Future → Future
-held_before None future = future
-held_before (Some p) future = gives p future
-
--- what is given out from the standing on
-abbrev pub future_at : List ℕ → Mode → Standing → Future
-future_at buffer mode s =
-    held_before s.held (reads (meaning buffer) s.stack s.stage (tokens_from buffer mode s.position))
-
 abbrev pub future_of : Now → Future
-future_of now = future_at now.buffer now.mode now.standing
+future_of now = future_at now.buffer now.mode now.cursor.spot.place
 
--- a peek answered the event that is held
-abbrev pub is_shown : Option Passed → Bool → Bool
-is_shown None shown = false
-is_shown (Some p) shown = shown
+abbrev pub first_of : Future → Coming
+first_of (gives p future) = an_event p
+first_of finished = the_end
+first_of (stuck place rest) = a_refusal
 
-abbrev pub is_peeked : Standing → Bool
-is_peeked s = is_shown s.held s.shown
+-- Where no document goes on, it may be refused so.
+abbrev pub RefusedAt : List ℕ → Future → Refusal → Type 0
+RefusedAt buffer (stuck place rest) refusal = IsStuck buffer (meaning buffer) Complains place rest refusal
+RefusedAt buffer _ refusal = ⊥
 
--- the last token of the event that is shown, else of the one that was passed
-abbrev pub last_shown : Option Passed → Bool → Span → Span
-last_shown (Some p) true last = p.last
-last_shown _ _ last = last
+-- an input's places
+abbrev pub on_input : List ℕ → Mode → World Standing
+on_input buffer mode = record {
+  comes = λ s. first_of (future_at buffer mode s);
+  refuses = λ s refusal. RefusedAt buffer (future_at buffer mode s) refusal;
+  past = past;
+  last = λ s. s.last;
+}
 
-abbrev pub span_of : Standing → Span
-span_of s = last_shown s.held s.shown s.last
+-- the last token that was read, also of an event that was peeked at
+abbrev pub span_of : Now → Span
+span_of now = current_span (on_input now.buffer now.mode) now.cursor.spot
 
 -- how many bytes stand after the last token that an event passed
 abbrev pub ahead : Now → ℕ
-ahead now = length now.buffer - stop now.standing.last
+ahead now = length now.buffer - stop now.cursor.spot.place.last
 
 -- ---- what a call leaves
 
@@ -99,8 +61,8 @@ pub record SameInput (old new : Now) : Type 0 where
 
 -- The same points are kept, and the next one will have the same number.
 pub record SamePoints (old new : Now) : Type 0 where
-  pub kept : new.kept ≡ old.kept
-  pub counter : new.counter ≡ old.counter
+  pub kept : new.cursor.kept ≡ old.cursor.kept
+  pub counter : new.cursor.counter ≡ old.cursor.counter
 
 -- The input, the mode and the points stay, and no more bytes are ahead.
 pub record GoesOn (old new : Now) : Type 0 where
@@ -110,23 +72,12 @@ pub record GoesOn (old new : Now) : Type 0 where
 
 -- ---- where it stands on a document's walk
 
--- The standing is the spot on the walk.
-pub record StandsOn (buffer : List ℕ) (mode : Mode) (w : List Passed) (s : Standing) (spot : Spot) : Type 0 where
-  pub place_within : spot.place ≤ length w
-  pub comes : future_at buffer mode s ≡ events_before (drop spot.place w) finished
-  pub peeked : is_peeked s ≡ spot.peeked
-  pub last : s.last ≡ last_of w spot.place
-
--- The same points are kept, and each is where the other is.
-pub data KeptAlike (buffer : List ℕ) (mode : Mode) (w : List Passed) : List (ℕ × Standing) → List (ℕ × Spot) → Type 0 where
-  none_kept : KeptAlike buffer mode w [] []
-  one_kept : (point : ℕ) (s : Standing) (spot : Spot) (standings : List (ℕ × Standing)) (spots : List (ℕ × Spot)) →
-      StandsOn buffer mode w s spot → KeptAlike buffer mode w standings spots →
-      KeptAlike buffer mode w ((point, s) ∷ standings) ((point, spot) ∷ spots)
+-- The standing is the place on the walk: the same events come, after the same token.
+pub record StandsOn (buffer : List ℕ) (mode : Mode) (w : List Passed) (s : Standing) (place : ℕ) : Type 0 where
+  pub place_within : place ≤ length w
+  pub comes : future_at buffer mode s ≡ events_before (drop place w) finished
+  pub last : s.last ≡ last_of w place
 
 -- The parser stands where the cursor stands on the walk.
-pub record StandsAt (now : Now) (w : List Passed) (c : Cursor) : Type 0 where
-  pub standing : StandsOn now.buffer now.mode w now.standing c.spot
-  pub refusal : now.refusal ≡ c.refusal
-  pub kept : KeptAlike now.buffer now.mode w now.kept c.kept
-  pub counter : now.counter ≡ c.counter
+abbrev pub StandsAt : Now → List Passed → Cursor ℕ → Type 0
+StandsAt now w c = CursorsAlike (StandsOn now.buffer now.mode w) now.cursor c

@@ -39,11 +39,11 @@ pub record GivenAlone (buffer : List ℕ) (mode : Mode) (complains : List ℕ �
 abbrev pub AloneIsGiven : Type 0
 AloneIsGiven = (buffer : List ℕ) (mode : Mode) (new : Now) (calls : List Call) (answers : List Answer) →
     ((node : Node) (value : Tree) → IsDocument buffer mode node value → ⊥) → AllNext calls →
-    MovesAll Complains (fresh buffer mode) calls answers new → GivenAlone buffer mode Complains answers
+    MovesAll (fresh buffer mode) calls answers new → GivenAlone buffer mode Complains answers
 
 -- Two new parsers of an input with a document answer the same calls alike, up to the first out of memory in either. A trusted parser and
 -- one that checks are both new ones.
 abbrev pub TrustedAgrees : Type 0
 TrustedAgrees = (buffer : List ℕ) (mode : Mode) (node : Node) (value : Tree) (calls : List Call) (these those : List Answer)
-    (trusted checking : Now) → IsDocument buffer mode node value → MovesAll Complains (fresh buffer mode) calls these trusted →
-    MovesAll Complains (fresh buffer mode) calls those checking → AgreeToLack these those
+    (trusted checking : Now) → IsDocument buffer mode node value → MovesAll (fresh buffer mode) calls these trusted →
+    MovesAll (fresh buffer mode) calls those checking → AgreeToLack these those

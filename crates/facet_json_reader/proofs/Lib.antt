@@ -2,6 +2,5 @@ pub mod ColonAfterKey
 pub mod EventsAtTurns
 pub mod MeaninglessTokens
 pub mod PastSeparators
-pub mod RefusalsWithin
 pub mod ScannedTokens
 pub mod TokenMeanings

@@ -1,5 +1,5 @@
 -- What the reader of events and its answers stand for in the definitions.
-use Rattle.std.specs.Prelude.{◌≡◌, ◌≤◌, ◌<◌, ◌⊎◌, ℕ, true, List, Option, Some, None, Result, Ok, Err, IsSome, length}
+use Rattle.std.specs.Prelude.{◌≡◌, ◌≤◌, ◌<◌, ◌⊎◌, ℕ, true, List, ◌∷◌, Option, Some, None, Result, Ok, Err, IsSome, length}
 use Rattle.std.specs.declared.alloc.Global.{Global}
 use Rattle.std.specs.declared.borrow.CowStr.{CowStr}
 use Rattle.facet_format.specs.declared.span.Span.{Span as RustSpan}
@@ -14,7 +14,8 @@ use Rattle.facet_json_reader.specs.declared.reader.Held.{Held}
 use Rattle.facet_json_reader.specs.declared.reader.Reader.{Reader}
 use Rattle.facet_format.specs.Complaint.{Refusal}
 use Rattle.facet_format.specs.Cursor.{no_memory_at}
-use Rattle.facet_format.specs.Event.{Passed, takes_memory, is_made}
+use Rattle.facet_format.specs.Event.{ContainerKind, object, array, EventKind, Passed, takes_memory, is_made}
+use Rattle.facet_format.specs.Event as event
 use Rattle.facet_format.specs.HeldText.{text_of}
 use Rattle.facet_format.specs.Span.{Span, stop}
 use Rattle.facet_format.specs.Views.{span_of, event_of, scalar_value_of}
@@ -26,6 +27,7 @@ use Rattle.facet_json_document.specs.Future.{Future, gives, finished, stuck, Sta
 use Rattle.facet_json_document.specs.Meaning.{meaning, meaning_of}
 use Rattle.facet_json_document.specs.Place.{Place, after_key, kind_name}
 use Rattle.facet_json_document.specs.Refusal.{needs_meaning, IsStuck, Complains}
+use Rattle.facet_json_document.specs.InputPlace.{Standing, future_at}
 use Rattle.facet_json_document.specs.Walk.{scalar_of}
 use Rattle.facet_json_place.specs.Views.{place_of, turn_of, name_text, refused_of}
 use Rattle.facet_json_reader.specs.TokenViews.{IsTextOf, IsUnmade, IsMeaningless}
@@ -39,23 +41,36 @@ stage_of stages.Over = over
 abbrev pub passed_of : Held → Passed
 passed_of h = record { event = event_of h.event; last = span_of h.last }
 
+-- where the reader stands
+abbrev pub standing_of : Reader → Standing
+standing_of r = record { last = span_of r.last; stack = r.contexts; stage = stage_of r.stage }
+
+-- the open containers, with that of an event that opens one
+abbrev pub with_opened : EventKind → List ContainerKind → List ContainerKind
+with_opened (event.struct_start kind) stack = object ∷ stack
+with_opened (event.sequence_start kind) stack = array ∷ stack
+with_opened _ stack = stack
+
+-- what is given out from an offset on, at a stage within these containers
+abbrev pub comes_at : List ℕ → Mode → List ContainerKind → Stage → ℕ → Future
+comes_at buffer mode stack stage position = reads (meaning buffer) stack stage (tokens_from buffer mode position)
+
 -- what is given out from where the reader stands on
 abbrev pub coming : List ℕ → Mode → Reader → Future
-coming buffer mode r = reads (meaning buffer) r.contexts (stage_of r.stage) (tokens_from buffer mode r.position)
+coming buffer mode r = future_at buffer mode (standing_of r)
 
 -- ---- tokens
 
--- This token of the buffer is next, and this is its turn where the reader stands.
-pub record IsTurn (buffer : List ℕ) (mode : Mode) (r : Reader) (t : SpannedToken) (turn : RustTurn) : Type 0 where
-  pub place : Place
-  pub is_place : stage_of r.stage ≡ within place
+-- This token of the buffer is next after the offset, and this is its turn at the place, within these containers.
+pub record IsTurn (buffer : List ℕ) (mode : Mode) (stack : List ContainerKind) (place : Place) (position : ℕ) (t : SpannedToken)
+    (turn : RustTurn) : Type 0 where
   pub kind : Kind
   pub is_kind : kind_of t.token ≡ Some kind
-  pub past : r.position < stop (span_of t.span)
+  pub past : position < stop (span_of t.span)
   pub ends : stop (span_of t.span) ≤ length buffer
-  pub tokens : tokens_from buffer mode r.position
+  pub tokens : tokens_from buffer mode position
       ≡ next (record { kind = kind; span = span_of t.span }) (tokens_from buffer mode (stop (span_of t.span)))
-  pub turns : place_turn r.contexts place kind ≡ turn_of r.contexts turn
+  pub turns : place_turn stack place kind ≡ turn_of stack turn
 
 -- The tokens don't go on with a document at the place, and are refused so.
 abbrev pub StopsAt : List ℕ → Place → Tokens → Refusal → Type 0
@@ -104,28 +119,17 @@ pub data IsRefusedBefore (buffer : List ℕ) (last : Span) : Future → Refusal 
   at_a_stop : (place : Place) (rest : Tokens) (refusal : Refusal) → StopsAt buffer place rest refusal →
       IsRefusedBefore buffer last (stuck place rest) refusal
 
--- The next event is given, and stands within what is passed.
-pub record GivesHeld (buffer : List ℕ) (mode : Mode) (old new : Reader) (h : Held) : Type 0 where
-  pub comes : coming buffer mode old ≡ gives (passed_of h) (coming buffer mode new)
-  pub past : old.position < new.position
-  pub ends : new.position ≡ stop (span_of h.last)
-  pub event_ends : stop (span_of h.event.span) ≤ new.position
-  pub within_input : new.position ≤ length buffer
+-- The event comes next.
+abbrev pub GivesHeld : Future → Held → Type 0
+GivesHeld future h = (rest : Future) × (future ≡ gives (passed_of h) rest)
 
--- The reader is refused so, and what comes is as it was.
-pub record RefusesNext (buffer : List ℕ) (mode : Mode) (old new : Reader) (last : Span) (refusal : Refusal) : Type 0 where
-  pub unchanged : coming buffer mode new ≡ coming buffer mode old
-  pub refused : IsRefusedBefore buffer last (coming buffer mode old) refusal
+-- Where this comes, the next event is given, or refused.
+abbrev pub Answers : List ℕ → Span → Future → Result Held Refused → Type 0
+Answers buffer last future (Ok h) = GivesHeld future h
+Answers buffer last future (Err e) = IsRefusedBefore buffer last future (refused_of e)
 
--- the next event is given, or refused where the reader stands
-abbrev pub Answers : List ℕ → Mode → Reader → Reader → Span → Result Held Refused → Type 0
-Answers buffer mode old new last (Ok h) = GivesHeld buffer mode old new h
-Answers buffer mode old new last (Err r) =
-    RefusesNext buffer mode old new last (refused_of r) × (new.position ≡ old.position)
-
--- the same, or the document has ended
-abbrev pub Advances : List ℕ → Mode → Reader → Reader → Span → Result (Option Held) Refused → Type 0
-Advances buffer mode old new last (Ok None) =
-    (coming buffer mode old ≡ finished) × (coming buffer mode new ≡ finished)
-Advances buffer mode old new last (Ok (Some h)) = GivesHeld buffer mode old new h
-Advances buffer mode old new last (Err r) = RefusesNext buffer mode old new last (refused_of r)
+-- Where the reader stands, the document has ended, or the next event is given, or refused.
+abbrev pub IsUpcoming : List ℕ → Mode → Reader → Result (Option Held) Refused → Type 0
+IsUpcoming buffer mode r (Ok None) = coming buffer mode r ≡ finished
+IsUpcoming buffer mode r (Ok (Some h)) = GivesHeld (coming buffer mode r) h
+IsUpcoming buffer mode r (Err e) = IsRefusedBefore buffer (span_of r.last) (coming buffer mode r) (refused_of e)

@@ -1,17 +1,19 @@
 //! Reads the next event of a document, token by token.
 
-ghost use Rattle.std.specs.Prelude.{◌≡◌, ◌≤◌, ◌<◌, ◌^◌, ℕ, true, false, List, [], Some, length, IfOk, IfErr, IfSome};
+ghost use Rattle.std.specs.Prelude.{◌≡◌, ◌≤◌, ℕ, true, false, List, Some, length, IfOk, IfErr, IfSome, MatchResult};
+ghost use Rattle.facet_format.specs.Event.{ContainerKind as SpecContainer, takes_memory};
 ghost use Rattle.facet_format.specs.Span.{stop, span_at};
 ghost use Rattle.facet_format.specs.Views.{span_of, event_of, event_kind_of};
 ghost use Rattle.facet_json_token.specs.Gap.{Mode as SpecMode};
 ghost use Rattle.facet_json_token.specs.Token.{Kind};
 ghost use Rattle.facet_json_token.specs.Tokens.{Tokens, ended, next};
 ghost use Rattle.facet_json_token.specs.Views.{kind_of, mode_of};
-ghost use Rattle.facet_json_document.specs.Future.{after_value, within};
-ghost use Rattle.facet_json_document.specs.Place.{Place as SpecPlace, root, expected_at, goes_on};
+ghost use Rattle.facet_json_document.specs.Future.{after_value, around, within};
+ghost use Rattle.facet_json_document.specs.Place.{Place as SpecPlace, expected_at, goes_on};
+ghost use Rattle.facet_json_document.specs.InputPlace.{first_standing, past};
 ghost use Rattle.facet_json_place.specs.Views.{place_of, expected_text, refused_of, opening, closing, opened, is_text};
 ghost use Rattle.facet_json_reader.specs.TokenViews.{CanBeRead, IsMeaningless};
-ghost use Rattle.facet_json_reader.specs.Views.{stage_of, passed_of, StopsAt, IsNamed, IsTurn, IsValueOf, IsNameOf, IsColonAt, GivesHeld, Answers, Advances};
+ghost use Rattle.facet_json_reader.specs.Views.{stage_of, passed_of, standing_of, with_opened, comes_at, StopsAt, IsNamed, IsTurn, IsValueOf, IsNameOf, IsColonAt, Answers, IsUpcoming};
 
 use crate::materialized::{materialize, string_text};
 use facet_format::{
@@ -43,7 +45,7 @@ impl Stage {
     }
 
     /// Where a value has ended that stands in these containers.
-    fn behind_value(contexts: &Contexts) -> Stage
+    fn after_value(contexts: &Contexts) -> Stage
         ensures { stage_of result ≡ after_value contexts.now }
     {
         match contexts.innermost() {
@@ -78,8 +80,8 @@ impl<'de> Held<'de> {
 /// Where the tokens go on, in which containers.
 #[derive(Debug, Drop)]
 pub struct Reader {
-    /// The offset of the bytes that are not read yet.
-    pub position: usize,
+    /// The last token that was passed: the tokens go on at its end.
+    pub last: Span,
     /// The open containers.
     pub contexts: Contexts,
     /// What stands before, within the innermost one.
@@ -89,12 +91,10 @@ pub struct Reader {
 impl Reader {
     /// Before the root.
     pub fn new(alloc: Global) -> Reader
-        ensures position { result.position ≡ 0 }
-        ensures contexts { result.contexts ≡ [] }
-        ensures stage { stage_of result.stage ≡ within root }
+        ensures { standing_of result ≡ first_standing }
     {
         Reader {
-            position: 0,
+            last: Span::new(0, 0),
             contexts: Contexts::new(alloc),
             stage: Stage::Within(Place::Root),
         }
@@ -105,124 +105,83 @@ impl Reader {
         ensures { IfOk result (λ r. r ≡ self.now) }
     {
         Ok(Reader {
-            position: self.position,
+            last: self.last,
             contexts: self.contexts.copy(alloc)?,
             stage: self.stage,
         })
     }
 
-    /// Reads the next event, or answers that the document has ended. A refusal leaves what comes as it is; a separator
-    /// before it may be passed. It allocates for an opening bracket and for a text that is no slice of the input: where memory
-    /// runs out, the refusal names `last`, the last token that an event passed.
-    pub fn advance<'de>(
-        &mut self,
+    /// Reads the next event, or answers that the document has ended. It passes nothing. It allocates for a text that is no
+    /// slice of the input: where memory runs out, the refusal names the last token that was passed.
+    pub fn upcoming<'de>(
+        &self,
         alloc: Global,
         input: &'de [u8],
         mode: Mode,
-        last: Span,
     ) -> Result<Option<Held<'de>>, Refused>
-        requires within { self.old.position ≤ length input.now }
-        ensures within { self.new.position ≤ length input.now }
-        ensures forward { self.old.position ≤ self.new.position }
-        ensures range { IfErr result (λ e. stop (span_of last) ≤ length input.now
-            → stop (span_of e.span) ≤ length input.now) }
-        ensures read { Advances input.now (mode_of mode) self.old self.new (span_of last) result }
+        requires within { stop (span_of self.now.last) ≤ length input.now }
+        ensures { IsUpcoming input.now (mode_of mode) self.now result }
     {
+        let Stage::Within(mut place) = self.stage else {
+            return Ok(None);
+        };
+        let mut position = self.last.end();
         loop {
-            let place = match self.stage {
-                Stage::Within(place) => place,
-                Stage::Over => return Ok(None),
-            };
-            let token = cut(input, self.position, mode)?;
+            let token = cut(input, position, mode)?;
             match place.turn(&token.token) {
                 Turn::Stops => return Err(stopped(alloc, input, place, &token)),
                 Turn::Passes(next) => {
-                    self.position = token.span.end();
-                    self.stage = Stage::Within(next);
+                    position = token.span.end();
+                    place = next;
                 }
-                Turn::Opens(kind) => return Ok(Some(self.open(&token, kind, last)?)),
-                Turn::Closes(kind) => return Ok(Some(self.close(&token, kind))),
-                Turn::Scalar => return Ok(Some(self.scalar(alloc, input, &token, last)?)),
-                Turn::Names => return Ok(Some(self.key(alloc, input, mode, &token, last)?)),
+                Turn::Opens(kind) => return Ok(Some(event(opening(kind), token.span, token.span))),
+                Turn::Closes(kind) => return Ok(Some(event(closing(kind), token.span, token.span))),
+                Turn::Scalar => return Ok(Some(scalar(alloc, input, &token, self.last)?)),
+                Turn::Names => return Ok(Some(key(alloc, input, mode, &token, self.last)?)),
             }
         }
     }
 
-    /// Takes a bracket that opens a container of this kind.
-    fn open<'de>(
-        &mut self,
-        token: &SpannedToken,
-        kind: ContainerKind,
-        last: Span,
-    ) -> Result<Held<'de>, Refused>
-        requires { stop (span_of token.now.span) < 2 ^ 64 }
-        ensures { (buffer : List ℕ) (mode : SpecMode) → IsTurn buffer mode self.old token.now (Turn.Opens kind)
-            → Answers buffer mode self.old self.new (span_of last) result }
+    /// Opens the container that an event opens, before the event is passed. It allocates for that alone; without memory
+    /// nothing changes.
+    pub fn open(&mut self, held: &Held<'_>) -> Result<(), AllocError>
+        ensures last { self.new.last ≡ self.old.last }
+        ensures stage { self.new.stage ≡ self.old.stage }
+        ensures contexts { MatchResult result
+            (λ _. self.new.contexts ≡ with_opened (event_kind_of held.now.event.kind) self.old.contexts)
+            (λ _. (self.new.contexts ≡ self.old.contexts) × (takes_memory (event_kind_of held.now.event.kind) ≡ true)) }
     {
-        match self.contexts.push(kind) {
-            Ok(()) => {}
-            Err(_) => return Err(Refused::out_of_memory(last)),
+        match &held.event.kind {
+            ParseEventKind::StructStart(_) => self.contexts.push(ContainerKind::Object),
+            ParseEventKind::SequenceStart(_) => self.contexts.push(ContainerKind::Array),
+            _ => Ok(()),
         }
-        self.stage = Stage::inside(kind);
-        self.position = token.span.end();
-        Ok(event(opening(kind), token.span, token.span))
     }
 
-    /// Takes a bracket that closes the innermost container.
-    fn close<'de>(&mut self, token: &SpannedToken, kind: ContainerKind) -> Held<'de>
-        requires { stop (span_of token.now.span) < 2 ^ 64 }
-        ensures { (buffer : List ℕ) (mode : SpecMode) → IsTurn buffer mode self.old token.now (Turn.Closes kind)
-            → GivesHeld buffer mode self.old self.new result }
+    /// Passes an event whose container, if it opens one, is open already.
+    pub fn pass(&mut self, held: &Held<'_>)
+        ensures { (stack : List SpecContainer) → self.old.contexts ≡ with_opened (event_kind_of held.now.event.kind) stack
+            → standing_of self.new ≡ past (passed_of held.now) (record (standing_of self.old) { stack = stack }) }
+    {
+        match &held.event.kind {
+            ParseEventKind::StructStart(_) => self.stage = Stage::inside(ContainerKind::Object),
+            ParseEventKind::SequenceStart(_) => self.stage = Stage::inside(ContainerKind::Array),
+            ParseEventKind::StructEnd => self.close(),
+            ParseEventKind::SequenceEnd => self.close(),
+            ParseEventKind::FieldKey(_) => self.stage = Stage::Within(Place::AfterColon),
+            ParseEventKind::Scalar(_) => self.stage = Stage::after_value(&self.contexts),
+        }
+        self.last = held.last;
+    }
+
+    /// Closes the innermost container.
+    fn close(&mut self)
+        ensures last { self.new.last ≡ self.old.last }
+        ensures contexts { self.new.contexts ≡ around self.old.contexts }
+        ensures stage { stage_of self.new.stage ≡ after_value (around self.old.contexts) }
     {
         self.contexts.pop();
-        self.stage = Stage::behind_value(&self.contexts);
-        self.position = token.span.end();
-        event(closing(kind), token.span, token.span)
-    }
-
-    /// Takes a scalar.
-    fn scalar<'de>(
-        &mut self,
-        alloc: Global,
-        input: &'de [u8],
-        token: &SpannedToken,
-        last: Span,
-    ) -> Result<Held<'de>, Refused>
-        requires token { CanBeRead input.now token.now.span token.now.token }
-        requires fits { stop (span_of token.now.span) < 2 ^ 64 }
-        ensures { (mode : SpecMode) → IsTurn input.now mode self.old token.now Turn.Scalar
-            → Answers input.now mode self.old self.new (span_of last) result }
-    {
-        let value = scalar_value(alloc, input, token, last)?;
-        self.stage = Stage::behind_value(&self.contexts);
-        self.position = token.span.end();
-        Ok(event(ParseEventKind::Scalar(value), token.span, token.span))
-    }
-
-    /// Takes a key's string and its colon.
-    fn key<'de>(
-        &mut self,
-        alloc: Global,
-        input: &'de [u8],
-        mode: Mode,
-        token: &SpannedToken,
-        last: Span,
-    ) -> Result<Held<'de>, Refused>
-        requires token { CanBeRead input.now token.now.span token.now.token }
-        requires string { is_text token.now.token ≡ true }
-        requires within { stop (span_of token.now.span) ≤ length input.now }
-        ensures { IsTurn input.now (mode_of mode) self.old token.now Turn.Names
-            → Answers input.now (mode_of mode) self.old self.new (span_of last) result }
-    {
-        let name = name_of_key(alloc, input, token)?;
-        let mark = colon(alloc, input, token.span.end(), mode)?;
-        let Some(name) = name else {
-            return Err(Refused::out_of_memory(last));
-        };
-        self.stage = Stage::Within(Place::AfterColon);
-        self.position = mark.end();
-        let key = FieldKey::new(name, FieldLocationHint::KeyValue);
-        Ok(event(ParseEventKind::FieldKey(key), token.span, mark))
+        self.stage = Stage::after_value(&self.contexts);
     }
 }
 
@@ -255,6 +214,46 @@ fn event<'de>(kind: ParseEventKind<'de>, span: Span, last: Span) -> Held<'de>
         event: ParseEvent::new(kind, span),
         last,
     }
+}
+
+/// A scalar's event.
+fn scalar<'de>(
+    alloc: Global,
+    input: &'de [u8],
+    token: &SpannedToken,
+    last: Span,
+) -> Result<Held<'de>, Refused>
+    requires { CanBeRead input.now token.now.span token.now.token }
+    ensures { (mode : SpecMode) (stack : List SpecContainer) (place : SpecPlace) (position : ℕ)
+        → IsTurn input.now mode stack place position token.now Turn.Scalar
+        → Answers input.now (span_of last) (comes_at input.now mode stack (within place) position) result }
+{
+    let value = scalar_value(alloc, input, token, last)?;
+    Ok(event(ParseEventKind::Scalar(value), token.span, token.span))
+}
+
+/// The event of a key's string and its colon.
+fn key<'de>(
+    alloc: Global,
+    input: &'de [u8],
+    mode: Mode,
+    token: &SpannedToken,
+    last: Span,
+) -> Result<Held<'de>, Refused>
+    requires token { CanBeRead input.now token.now.span token.now.token }
+    requires string { is_text token.now.token ≡ true }
+    requires within { stop (span_of token.now.span) ≤ length input.now }
+    ensures { (stack : List SpecContainer) (place : SpecPlace) (position : ℕ)
+        → IsTurn input.now (mode_of mode) stack place position token.now Turn.Names
+        → Answers input.now (span_of last) (comes_at input.now (mode_of mode) stack (within place) position) result }
+{
+    let name = name_of_key(alloc, input, token)?;
+    let mark = colon(alloc, input, token.span.end(), mode)?;
+    let Some(name) = name else {
+        return Err(Refused::out_of_memory(last));
+    };
+    let key = FieldKey::new(name, FieldLocationHint::KeyValue);
+    Ok(event(ParseEventKind::FieldKey(key), token.span, mark))
 }
 
 /// The value of a scalar.

@@ -1,36 +1,11 @@
 -- The tokens from a position on are what is cut from there on, each where the one before ends.
-use Rattle.std.proofs.Common.{◌≡◌, ℕ, ◌≤◌, List, length, inl, inr, refl, sym, ap, ◌∙◌, arith}
-use Rattle.std.proofs.lemmas.Bool.{cases_lt}
+use Rattle.std.proofs.Common.{◌≡◌, ℕ, List, refl, sym, ap, ◌∙◌}
 use Rattle.facet_json_token.specs.Gap.{Mode}
-use Rattle.facet_json_token.specs.Token.{Token}
 use Rattle.facet_format.specs.Span.{stop}
 use Rattle.facet_json_token.specs.Cut.{Cut, nothing_left, token, fault, cut}
 use Rattle.facet_json_token.specs.Tokens.{Tokens, ended, refused, next, AreCuts, tokens_from}
 use Rattle.facet_json_token.specs.Laws.{TokensAreCuts}
-use Rattle.facet_json_token.proofs.TokensSteps.{cut-end, tokens_from-token, tokens_from-fault, tokens_from-nothing}
-
--- Where a token is cut, the position lies within the buffer.
-token_within : (buffer : List ℕ) (position : ℕ) (mode : Mode) (t : Token) → cut buffer position mode ≡ token t →
-    position ≤ length buffer
-token_within buffer position mode t e =
-    elim (cases_lt position (length buffer)) [
-      | inl h ↦ omega arith
-      | inr h ↦ let none : cut buffer position mode ≡ nothing_left = cut-end buffer position mode h in cc
-    ]
-
--- the tokens by what is cut first
-abbrev by_first : List ℕ → Mode → Cut → Tokens
-by_first buffer mode nothing_left = ended
-by_first buffer mode (fault f) = refused f
-by_first buffer mode (token t) = next t (tokens_from buffer mode (stop t.span))
-
--- What is cut first says what the tokens are.
-tokens_by_first : (buffer : List ℕ) (mode : Mode) (position : ℕ) (c : Cut) → cut buffer position mode ≡ c →
-    tokens_from buffer mode position ≡ by_first buffer mode c
-tokens_by_first buffer mode position nothing_left e = tokens_from-nothing buffer position mode e
-tokens_by_first buffer mode position (fault f) e = tokens_from-fault buffer position mode f e
-tokens_by_first buffer mode position (token t) e =
-    tokens_from-token buffer position mode t (token_within buffer position mode t e) e
+use Rattle.facet_json_token.proofs.TokensSteps.{tokens_from-fault, tokens_from-nothing, by_first, tokens_by_first}
 
 -- What is cut from a position on are the tokens.
 cuts_are_tokens : (buffer : List ℕ) (mode : Mode) (position : ℕ) (these : Tokens) → AreCuts buffer mode position these →

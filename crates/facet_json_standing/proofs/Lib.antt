@@ -1,2 +1,4 @@
+pub mod KeptSpots
 pub mod PointsByPlace
-pub mod StandingFills
+pub mod StandingSteps
+pub mod UnopenedContainers

@@ -1,3 +1,4 @@
 pub mod Fill
 pub mod Ready
+pub mod Steps
 pub mod Views

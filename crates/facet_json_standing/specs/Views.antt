@@ -1,36 +1,41 @@
 -- What a parser's standing and its points stand for in the definitions.
 use Rattle.std.specs.Prelude.{ℕ, List, map, Option}
 use Rattle.std.specs.Option.{option_map}
-use Rattle.facet_format.specs.Views.{span_of}
 use Rattle.facet_json_standing.specs.declared.standing.Standing.{Standing as RustStanding}
 use Rattle.facet_json_standing.specs.declared.points.Point.{Point}
 use Rattle.facet_json_token.specs.declared.mode.Mode.{Mode}
-use Rattle.facet_json_token.specs.Views.{mode_of}
 use Rattle.facet_json_place.specs.declared.refusal.Refused.{Refused}
-use Rattle.facet_json_protocol.specs.Now.{Standing, Now}
+use Rattle.facet_format.specs.Complaint.{Refusal}
+use Rattle.facet_format.specs.Cursor.{Spot, Cursor}
+use Rattle.facet_json_token.specs.Views.{mode_of}
+use Rattle.facet_json_document.specs.InputPlace.{Standing}
+use Rattle.facet_json_protocol.specs.Now.{Now}
 use Rattle.facet_json_place.specs.Views.{refused_of}
-use Rattle.facet_json_reader.specs.Views.{stage_of, passed_of}
+use Rattle.facet_json_reader.specs.Views.{passed_of, standing_of}
+use Rattle.facet_json_standing.specs.Fill.{Filling, spot_of}
 
-abbrev pub standing_of : RustStanding → Standing
-standing_of s = record {
-  position = s.reader.position;
-  stack = s.reader.contexts;
-  stage = stage_of s.reader.stage;
-  held = option_map passed_of s.held;
-  shown = s.shown;
-  last = span_of s.last;
+abbrev pub filling_of : RustStanding → Filling
+filling_of s = record { reader = standing_of s.reader; held = option_map passed_of s.held; shown = s.shown }
+
+abbrev pub point_of : Point → ℕ × Filling
+point_of p = (p.number, filling_of p.standing)
+
+-- the spot that is kept under the point's number
+abbrev pub kept_spot : ℕ × Filling → ℕ × Spot Standing
+kept_spot point = (point.0, spot_of point.1)
+
+abbrev pub cursor_of : Filling → Option Refusal → List (ℕ × Filling) → ℕ → Cursor Standing
+cursor_of f refusal points counter = record {
+  spot = spot_of f;
+  refusal = refusal;
+  kept = map kept_spot points;
+  counter = counter;
 }
-
-abbrev pub point_of : Point → ℕ × Standing
-point_of p = (p.number, standing_of p.standing)
 
 -- what a parser with these fields is
 abbrev pub now_of : List ℕ → Mode → RustStanding → Option Refused → List Point → ℕ → Now
 now_of input mode standing refusal points counter = record {
   buffer = input;
   mode = mode_of mode;
-  standing = standing_of standing;
-  refusal = option_map refused_of refusal;
-  kept = map point_of points;
-  counter = counter;
+  cursor = cursor_of (filling_of standing) (option_map refused_of refusal) (map point_of points) counter;
 }

@@ -1,11 +1,12 @@
 //! The points that a parser keeps, each under its number, the last one last.
 
-ghost use Rattle.std.specs.Prelude.{◌≡◌, ◌≢◌, ◌<◌, ℕ, Some, None, map, length, slice_index_or, MatchOption, MatchResult};
+ghost use Rattle.std.specs.Prelude.{◌≡◌, ◌≢◌, ◌<◌, ℕ, List, Some, None, map, length, slice_index_or, MatchOption, MatchResult};
 ghost use Rattle.std.specs.List.{All};
 ghost use Rattle.facet_json_standing.specs.declared.points.Point.{Point as RustPoint};
 ghost use Rattle.facet_format.specs.Kept.{found, without, with_point};
 ghost use Rattle.facet_json_standing.specs.Ready.{ArePoints};
-ghost use Rattle.facet_json_standing.specs.Views.{standing_of, point_of};
+ghost use Rattle.facet_json_standing.specs.Views.{filling_of, point_of};
+ghost use Rattle.facet_json_token.specs.Gap.{Mode};
 
 use crate::standing::Standing;
 use std::alloc::{AllocError, Global};
@@ -27,7 +28,7 @@ pub fn keep<'de>(
     standing: &Standing<'de>,
 ) -> Result<(), AllocError>
     ensures { MatchResult result
-        (λ _. map point_of points.new.items ≡ with_point number (standing_of standing.now) (map point_of points.old.items))
+        (λ _. map point_of points.new.items ≡ with_point number (filling_of standing.now) (map point_of points.old.items))
         (λ _. points.new.items ≡ points.old.items) }
 {
     let standing = standing.copy(alloc)?;
@@ -47,8 +48,8 @@ fn place_of(points: &[Point<'_>], number: u64) -> Option<usize>
 pub fn bring_back<'de>(points: &mut Vec<Point<'de>>, number: u64) -> Option<Standing<'de>>
     ensures { MatchOption result
         ((found number (map point_of points.old.items) ≡ None) × (points.new.items ≡ points.old.items))
-        (λ s. (bytes counter : ℕ) → ArePoints bytes counter (map point_of points.old.items)
-        → (found number (map point_of points.old.items) ≡ Some (standing_of s))
+        (λ s. (buffer : List ℕ) (mode : Mode) (counter : ℕ) → ArePoints buffer mode counter (map point_of points.old.items)
+        → (found number (map point_of points.old.items) ≡ Some (filling_of s))
         × (map point_of points.new.items ≡ without number (map point_of points.old.items))) }
 {
     let at = place_of(points, number)?;

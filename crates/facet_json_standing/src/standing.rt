@@ -1,95 +1,181 @@
-//! Where a parser stands: before the bytes that are not read, with an event that is read but not passed.
+//! Where a parser stands: after the last token that was passed, with an event that is read but not passed.
 
-ghost use Rattle.std.specs.Prelude.{◌≡◌, ◌≤◌, Some, None, length, IfOk, MatchOption, MatchResult};
-ghost use Rattle.facet_format.specs.Views.{event_of};
-ghost use Rattle.facet_format.specs.Views as format_views;
+ghost use Rattle.std.specs.Prelude.{◌≡◌, ◌≤◌, ℕ, List, None, length, IfOk, MatchOption, MatchResult};
+ghost use Rattle.std.specs.Prelude.{Ok, Err, OnSome, ◌<◌};
+ghost use Rattle.std.specs.Option.{option_map};
+ghost use Rattle.std.specs.VecDeque.{deque_len, deque_capacity};
+ghost use Rattle.facet_json_standing.specs.Ready.{IsSound};
+ghost use Rattle.facet_json_standing.specs.Steps.{PassesOne, ShowsOne, QueuesOne};
+ghost use Rattle.facet_format.specs.Cursor.{current_span};
+ghost use Rattle.facet_format.specs.Span.{stop};
+ghost use Rattle.facet_format.specs.Views.{event_of, span_of};
+ghost use Rattle.facet_json_token.specs.Gap.{Mode as SpecMode};
 ghost use Rattle.facet_json_token.specs.Views.{mode_of};
-ghost use Rattle.facet_json_protocol.specs.Now.{first_standing, span_of};
-ghost use Rattle.facet_json_standing.specs.Fill.{Fills, Takes, Lends, Withholds};
+ghost use Rattle.facet_json_document.specs.Future.{finished};
+ghost use Rattle.facet_json_document.specs.InputPlace.{future_at};
+ghost use Rattle.facet_json_protocol.specs.Now.{on_input};
 ghost use Rattle.facet_json_place.specs.Views.{refused_of};
-ghost use Rattle.facet_json_standing.specs.Views.{standing_of};
+ghost use Rattle.facet_json_reader.specs.Views.{IsRefusedBefore};
+ghost use Rattle.facet_json_standing.specs.Fill.{first_filling, place_of, spot_of, IsFilled, Takes, Lends, Withholds};
+ghost use Rattle.facet_json_standing.specs.Views.{filling_of};
 
 use facet_format::{ParseEvent, Span};
 use facet_json_place::Refused;
 use facet_json_reader::{Held, Reader};
 use facet_json_token::Mode;
 use std::alloc::{AllocError, Global};
+use std::collections::VecDeque;
 
 /// What a save keeps.
 #[derive(Debug, Drop)]
 pub struct Standing<'de> {
     /// Where the tokens go on.
     pub reader: Reader,
-    /// An event that is read, but not passed.
+    /// An event that is read, but not passed. Its container, if it opens one, is open in the reader.
     pub held: Option<Held<'de>>,
     /// Whether a peek answered it.
     pub shown: bool,
-    /// The last token that an event passed.
-    pub last: Span,
 }
 
 impl<'de> Standing<'de> {
     /// Before the document.
     pub fn new(alloc: Global) -> Standing<'de>
-        ensures { standing_of result ≡ first_standing }
+        ensures { filling_of result ≡ first_filling }
     {
         Standing {
             reader: Reader::new(alloc),
             held: None,
             shown: false,
-            last: Span::new(0, 0),
         }
     }
 
     /// The last token that was read: of the event that a peek answered, else of the one that was passed.
     pub fn span(&self) -> Span
-        ensures { format_views.span_of result ≡ span_of (standing_of self.now) }
+        ensures { (buffer : List ℕ) (mode : SpecMode) → IsFilled buffer mode (filling_of self.now)
+            → span_of result ≡ current_span (on_input buffer mode) (spot_of (filling_of self.now)) }
     {
         match &self.held {
             Some(held) if self.shown => held.last,
-            _ => self.last,
+            _ => self.reader.last,
         }
     }
 
-    /// Reads the next event, where none is held.
-    pub fn fill(&mut self, alloc: Global, input: &'de [u8], mode: Mode) -> Result<(), Refused>
-        requires within { self.old.reader.position ≤ length input.now }
-        ensures within { self.new.reader.position ≤ length input.now }
-        ensures forward { self.old.reader.position ≤ self.new.reader.position }
-        ensures last { self.new.last ≡ self.old.last }
+    /// Passes the next event and answers it, or `None` after the document's last one.
+    pub fn next(
+        &mut self,
+        alloc: Global,
+        input: &'de [u8],
+        mode: Mode,
+    ) -> Result<Option<ParseEvent<'de>>, Refused>
+        requires sound { IsSound input.now (mode_of mode) (filling_of self.old) }
+        ensures sound { IsSound input.now (mode_of mode) (filling_of self.new) }
+        ensures passed { MatchResult result
+            (λ o. PassesOne (on_input input.now (mode_of mode)) (spot_of (filling_of self.old)) (Ok (option_map event_of o))
+            (spot_of (filling_of self.new)))
+            (λ r. PassesOne (on_input input.now (mode_of mode)) (spot_of (filling_of self.old)) (Err (refused_of r))
+            (spot_of (filling_of self.new))) }
+    {
+        self.fill(alloc, input, mode)?;
+        Ok(self.take())
+    }
+
+    /// Answers a copy of the next event, which stays the next one, or `None` after the document's last one.
+    pub fn peek(
+        &mut self,
+        alloc: Global,
+        input: &'de [u8],
+        mode: Mode,
+    ) -> Result<Option<ParseEvent<'de>>, Refused>
+        requires sound { IsSound input.now (mode_of mode) (filling_of self.old) }
+        ensures sound { IsSound input.now (mode_of mode) (filling_of self.new) }
+        ensures shown { MatchResult result
+            (λ o. ShowsOne (on_input input.now (mode_of mode)) (spot_of (filling_of self.old)) (Ok (option_map event_of o))
+            (spot_of (filling_of self.new)))
+            (λ r. ShowsOne (on_input input.now (mode_of mode)) (spot_of (filling_of self.old)) (Err (refused_of r))
+            (spot_of (filling_of self.new))) }
+    {
+        self.fill(alloc, input, mode)?;
+        match self.lend(alloc) {
+            Ok(event) => Ok(event),
+            Err(_) => Err(Refused::out_of_memory(self.span())),
+        }
+    }
+
+    /// Passes the next event and answers it, once the queue has room for it.
+    pub fn next_with_room(
+        &mut self,
+        alloc: Global,
+        input: &'de [u8],
+        mode: Mode,
+        queue: &mut VecDeque<ParseEvent<'de>>,
+    ) -> Result<Option<ParseEvent<'de>>, Refused>
+        requires sound { IsSound input.now (mode_of mode) (filling_of self.old) }
+        ensures sound { IsSound input.now (mode_of mode) (filling_of self.new) }
+        ensures items { queue.new.items ≡ queue.old.items }
+        ensures room { IfOk result (λ o. OnSome o (deque_len queue.new < deque_capacity queue.new)) }
+        ensures passed { MatchResult result
+            (λ o. QueuesOne (on_input input.now (mode_of mode)) (spot_of (filling_of self.old)) (Ok (option_map event_of o))
+            (spot_of (filling_of self.new)))
+            (λ r. QueuesOne (on_input input.now (mode_of mode)) (spot_of (filling_of self.old)) (Err (refused_of r))
+            (spot_of (filling_of self.new))) }
+    {
+        self.fill(alloc, input, mode)?;
+        if self.held.is_none() {
+            return Ok(None);
+        }
+        match queue.reserve(1) {
+            Ok(()) => Ok(self.take()),
+            Err(_) => Err(Refused::out_of_memory(self.span())),
+        }
+    }
+
+    /// Reads the next event, where none is held, and opens its container. Where it is refused, nothing changes.
+    fn fill(&mut self, alloc: Global, input: &'de [u8], mode: Mode) -> Result<(), Refused>
+        requires within { stop (span_of self.old.reader.last) ≤ length input.now }
+        requires held { IsFilled input.now (mode_of mode) (filling_of self.old) }
+        ensures held { IsFilled input.now (mode_of mode) (filling_of self.new) }
+        ensures spot { spot_of (filling_of self.new) ≡ spot_of (filling_of self.old) }
         ensures filled { MatchResult result
-            (λ _. Fills input.now (mode_of mode) (standing_of self.old) None (standing_of self.new))
-            (λ r. Fills input.now (mode_of mode) (standing_of self.old) (Some (refused_of r)) (standing_of self.new)) }
+            (λ _. (filling_of self.new).held ≡ None
+            → future_at input.now (mode_of mode) (place_of (filling_of self.new)) ≡ finished)
+            (λ r. ((filling_of self.old).held ≡ None)
+            × IsRefusedBefore input.now (place_of (filling_of self.old)).last
+            (future_at input.now (mode_of mode) (place_of (filling_of self.old))) (refused_of r)) }
     {
         if self.held.is_some() {
             return Ok(());
         }
+        let Some(held) = self.reader.upcoming(alloc, input, mode)? else {
+            return Ok(());
+        };
+        match self.reader.open(&held) {
+            Ok(()) => {}
+            Err(_) => return Err(Refused::out_of_memory(self.reader.last)),
+        }
+        self.held = Some(held);
         self.shown = false;
-        self.held = self.reader.advance(alloc, input, mode, self.last)?;
         Ok(())
     }
 
     /// Passes the event that is held.
-    pub fn take(&mut self) -> Option<ParseEvent<'de>>
-        ensures reader { self.new.reader ≡ self.old.reader }
-        ensures taken { MatchOption result
-            ((standing_of self.new ≡ standing_of self.old) × ((standing_of self.old).held ≡ None))
-            (λ e. Takes (standing_of self.old) (event_of e) (standing_of self.new)) }
+    fn take(&mut self) -> Option<ParseEvent<'de>>
+        ensures { MatchOption result
+            ((filling_of self.new ≡ filling_of self.old) × ((filling_of self.old).held ≡ None))
+            (λ e. Takes (filling_of self.old) (event_of e) (filling_of self.new)) }
     {
         let held = self.held.take()?;
         self.shown = false;
-        self.last = held.last;
+        self.reader.pass(&held);
         Some(held.event)
     }
 
     /// A copy of the event that is held, which is shown from then on. Without memory for it nothing changes.
-    pub fn peek(&mut self, alloc: Global) -> Result<Option<ParseEvent<'de>>, AllocError>
-        ensures reader { self.new.reader ≡ self.old.reader }
-        ensures shown { MatchResult result
+    fn lend(&mut self, alloc: Global) -> Result<Option<ParseEvent<'de>>, AllocError>
+        ensures { MatchResult result
             (λ shown. MatchOption shown
-            ((standing_of self.new ≡ standing_of self.old) × ((standing_of self.old).held ≡ None))
-            (λ e. Lends (standing_of self.old) (event_of e) (standing_of self.new)))
-            (λ _. Withholds (standing_of self.old) (standing_of self.new)) }
+            ((filling_of self.new ≡ filling_of self.old) × ((filling_of self.old).held ≡ None))
+            (λ e. Lends (filling_of self.old) (event_of e) (filling_of self.new)))
+            (λ _. Withholds (filling_of self.old) (filling_of self.new)) }
     {
         let Some(held) = &self.held else {
             return Ok(None);
@@ -101,7 +187,7 @@ impl<'de> Standing<'de> {
 
     /// The same standing.
     pub fn copy(&self, alloc: Global) -> Result<Standing<'de>, AllocError>
-        ensures { IfOk result (λ s. standing_of s ≡ standing_of self.now) }
+        ensures { IfOk result (λ s. filling_of s ≡ filling_of self.now) }
     {
         let held = match &self.held {
             Some(held) => Some(held.copy(alloc)?),
@@ -111,7 +197,6 @@ impl<'de> Standing<'de> {
             reader: self.reader.copy(alloc)?,
             held,
             shown: self.shown,
-            last: self.last,
         })
     }
 }

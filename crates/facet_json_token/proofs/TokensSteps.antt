@@ -1,5 +1,6 @@
 -- The tokens from a position on, by what is cut there.
-use Rattle.std.proofs.Common.{◌≡◌, ℕ, zero, suc, ◌+◌, ◌-◌, ◌≤◌, List, [], ◌∷◌, length, drop, refl, sym, ap, ◌∙◌, arith, length-drop}
+use Rattle.std.proofs.Common.{◌≡◌, ℕ, zero, suc, ◌+◌, ◌-◌, ◌≤◌, List, [], ◌∷◌, length, drop, inl, inr, refl, sym, ap, ◌∙◌, arith, length-drop}
+use Rattle.std.proofs.lemmas.Bool.{cases_lt}
 use Rattle.std.proofs.lemmas.List.{drop-drop, drop_all}
 use Rattle.facet_json_token.specs.Gap.{Mode}
 use Rattle.facet_json_token.specs.Token.{Token, Fault}
@@ -92,3 +93,41 @@ ended_at buffer mode position (b ∷ left) e =
 pub tokens_from-nothing : (buffer : List ℕ) (position : ℕ) (mode : Mode) → cut buffer position mode ≡ nothing_left →
     tokens_from buffer mode position ≡ ended
 tokens_from-nothing buffer position mode e = ended_at buffer mode position (drop position buffer) e
+
+-- ---- by what is cut first
+
+-- Where a token is cut, the position lies within the buffer.
+token_within : (buffer : List ℕ) (position : ℕ) (mode : Mode) (t : Token) → cut buffer position mode ≡ token t →
+    position ≤ length buffer
+token_within buffer position mode t e =
+    elim (cases_lt position (length buffer)) [
+      | inl h ↦ omega arith
+      | inr h ↦ let none : cut buffer position mode ≡ nothing_left = cut-end buffer position mode h in cc
+    ]
+
+-- the tokens by what is cut first
+abbrev pub by_first : List ℕ → Mode → Cut → Tokens
+by_first buffer mode nothing_left = ended
+by_first buffer mode (fault f) = refused f
+by_first buffer mode (token t) = next t (tokens_from buffer mode (stop t.span))
+
+-- What is cut first says what the tokens are.
+pub tokens_by_first : (buffer : List ℕ) (mode : Mode) (position : ℕ) (c : Cut) → cut buffer position mode ≡ c →
+    tokens_from buffer mode position ≡ by_first buffer mode c
+tokens_by_first buffer mode position nothing_left e = tokens_from-nothing buffer position mode e
+tokens_by_first buffer mode position (fault f) e = tokens_from-fault buffer position mode f e
+tokens_by_first buffer mode position (token t) e =
+    tokens_from-token buffer position mode t (token_within buffer position mode t e) e
+
+-- The tokens after the first are those from its end on.
+after_first : (buffer : List ℕ) (mode : Mode) (c : Cut) (t : Token) (others : Tokens) → by_first buffer mode c ≡ next t others →
+    tokens_from buffer mode (stop t.span) ≡ others
+after_first buffer mode (token u) t others e = cc
+after_first buffer mode nothing_left t others e = cc
+after_first buffer mode (fault f) t others e = cc
+
+pub tokens_from-others : (buffer : List ℕ) (mode : Mode) (position : ℕ) (t : Token) (others : Tokens) →
+    tokens_from buffer mode position ≡ next t others → tokens_from buffer mode (stop t.span) ≡ others
+tokens_from-others buffer mode position t others e =
+    let c = cut buffer position mode in
+    after_first buffer mode c t others (sym (tokens_by_first buffer mode position c refl) ∙ e)

@@ -34,7 +34,7 @@ pub data GivesNone (now : Now) (refusal : Refusal) : Type 0 where
 
 -- The parser is not refused, and no more bytes are ahead of it.
 pub record WentOn (old new : Now) : Type 0 where
-  pub free : new.refusal ≡ None
+  pub free : new.cursor.refusal ≡ None
   pub onward : ahead new ≤ ahead old
 
 -- What was read is what the events tell, where they tell something, and they don't break off within it.
@@ -87,7 +87,7 @@ pub record BeganValue (old : Now) (t : Tree) (new : Now) : Type 0 where
   pub passed : Passed
   pub comes : future_of old ≡ gives passed (future_of new)
   pub begun : HasBegun passed.event.kind t
-  pub free : new.refusal ≡ None
+  pub free : new.cursor.refusal ≡ None
 
 -- The parser gave a key, and an event with which its value begins so.
 pub record BeganMember (old : Now) (key : List ℕ) (t : Tree) (new : Now) : Type 0 where
@@ -104,7 +104,7 @@ pub record PassedEnd (kind : EventKind) (old new : Now) : Type 0 where
   pub passed : Passed
   pub comes : future_of old ≡ gives passed (future_of new)
   pub ends : passed.event.kind ≡ kind
-  pub free : new.refusal ≡ None
+  pub free : new.cursor.refusal ≡ None
 
 -- an event's kind tells that a key of these bytes comes
 pub record IsKey (kind : EventKind) (key : List ℕ) : Type 0 where

@@ -1,72 +1,92 @@
--- What comes from a position on lies after it, in order and within the buffer.
-use Rattle.std.proofs.Common.{◌≡◌, ℕ, ◌≤◌, Bool, true, false, List, length, refl, arith}
+-- On every input: what comes at a place within it lies within it, and so does a refusal there.
+use Rattle.std.proofs.Common.{◌≡◌, ℕ, ◌+◌, ◌≤◌, Bool, true, false, List, length, refl, subst, sym, arith}
+use Rattle.facet_format.specs.Span.{stop}
+use Rattle.facet_format.specs.Complaint.{Refusal}
+use Rattle.facet_format.specs.Event.{Event}
+use Rattle.facet_format.specs.Cursor.{Spot, Comes, no_event, one_event, last_seen, current_span, spot_after}
 use Rattle.facet_json_token.specs.Gap.{Mode}
 use Rattle.facet_json_token.specs.Token.{Token}
-use Rattle.facet_format.specs.Span.{stop}
-use Rattle.facet_json_token.specs.Tokens.{Tokens, ended, refused, next, tokens_from}
-use Rattle.facet_json_document.specs.Meaning.{Meaning}
-use Rattle.facet_json_document.specs.Place.{Place, after_colon, is_colon}
-use Rattle.facet_format.specs.Event.{ContainerKind}
-use Rattle.facet_json_document.specs.Walk.{event_at, scalar_event, key_event}
-use Rattle.facet_json_document.specs.Future.{Future, Stage, within, over, Turn, stops, passes, says, says_scalar, names, turn, reads, reads_colon}
-use Rattle.facet_json_protocol.specs.Sound.{InOrder, at_a_token, IsSound, sound_event, sound_end, sound_stuck}
-use Rattle.facet_json_document.proofs.TokensInOrder.{in_order-weaker, tokens-in_order}
-use Rattle.facet_json_document.proofs.WalkComes.{follows, reads-turn}
+use Rattle.facet_json_token.specs.Tokens.{Tokens}
+use Rattle.facet_json_decode.proofs.FaultLaws.{fault-in_buffer}
+use Rattle.facet_json_document.specs.Meaning.{meaning}
+use Rattle.facet_json_document.specs.Place.{Place}
+use Rattle.facet_json_document.specs.Refusal.{IsStuck, at_end, at_fault, meaningless, misplaced, Complains, of_number, of_plain_string, of_escaped_string}
+use Rattle.facet_json_document.specs.Order.{InOrder, at_a_fault, at_a_token}
+use Rattle.facet_json_document.specs.Future.{Future, gives, finished, stuck}
+use Rattle.facet_json_document.specs.InputPlace.{Standing, future_at}
+use Rattle.facet_json_document.proofs.PastEvents.{comes-within, stuck-in_order}
+use Rattle.facet_json_protocol.specs.Now.{first_of, RefusedAt, on_input}
+use Rattle.facet_json_protocol.specs.Within.{StandsWithin, RefusalWithin, EventsWithin}
+use Rattle.facet_json_protocol.specs.Within as within
+use Rattle.facet_json_protocol.proofs.MovesNext.{event-comes, spot_after-place}
 
--- What comes after an offset comes after smaller ones.
-pub sound-weaker : (buffer : List ℕ) (future : Future) (from less : ℕ) → less ≤ from → IsSound buffer from future → IsSound buffer less future
-sound-weaker buffer _ from less h (sound_event _ p future b e w more) = sound_event less p future (omega arith) e w more
-sound-weaker buffer _ from less h (sound_end _) = sound_end less
-sound-weaker buffer _ from less h (sound_stuck _ place rest o) = sound_stuck less place rest (in_order-weaker buffer rest from less h o)
+-- ---- refusals
 
-module _ (buffer : List ℕ) (m : Meaning) where
-  -- From wherever tokens in order are read, what comes is sound.
-  abbrev SoundFrom : Tokens → Type 0
-  SoundFrom ts = (stack : List ContainerKind) (stage : Stage) (from : ℕ) → InOrder buffer from ts →
-      IsSound buffer from (reads m stack stage ts)
+-- A token of the buffer without a meaning is refused with a span within the buffer.
+complains-within : (buffer : List ℕ) (t : Token) (r : Refusal) → stop t.span ≤ length buffer → Complains buffer t r →
+    RefusalWithin buffer r
+complains-within buffer t r w (of_number k e) = rw e w
+complains-within buffer t r w (of_plain_string start finish k e) = rw e w
+complains-within buffer t r w (of_escaped_string start finish f k is e) = rw e (fault-in_buffer buffer start finish f is)
 
-  -- the same after a key, which ends there
-  abbrev SoundBehindKey : Tokens → Type 0
-  SoundBehindKey ts = (stack : List ContainerKind) (key : Token) → InOrder buffer (stop key.span) ts →
-      IsSound buffer (stop key.span) (reads_colon m stack key ts)
+stuck-within : (buffer : List ℕ) (place : Place) (rest : Tokens) (r : Refusal) (from : ℕ) →
+    IsStuck buffer (meaning buffer) Complains place rest r → InOrder buffer from rest → RefusalWithin buffer r
+stuck-within buffer place _ r from (at_end _) o = omega arith
+stuck-within buffer place _ r from (at_fault _ f) (at_a_fault _ _ w) = w
+stuck-within buffer place _ r from (meaningless _ t rest _ k n q) (at_a_token _ _ _ b w more) = complains-within buffer t r w q
+stuck-within buffer place _ r from (misplaced _ t rest k n) (at_a_token _ _ _ b w more) = w
 
-  turn-sound : (stack : List ContainerKind) (place : Place) (t : Token) (ts : Tokens) (way : Turn) (from : ℕ) → SoundFrom ts →
-      SoundBehindKey ts → InOrder buffer from (next t ts) → IsSound buffer from (follows m place t stack ts way)
-  turn-sound stack place t ts stops from h g o = sound_stuck from place (next t ts) o
-  turn-sound stack place t ts (passes others stage) from h g (at_a_token _ _ _ b w more) =
-      sound-weaker buffer _ (stop t.span) from (omega arith) (h others stage (stop t.span) more)
-  turn-sound stack place t ts (says kind others stage) from h g (at_a_token _ _ _ b w more) =
-      sound_event from (event_at kind t) _ b (omega arith) w (h others stage (stop t.span) more)
-  turn-sound stack place t ts (says_scalar others stage) from h g (at_a_token _ _ _ b w more) =
-      sound_event from (scalar_event m t) _ b (omega arith) w (h others stage (stop t.span) more)
-  turn-sound stack place t ts names from h g (at_a_token _ _ _ b w more) =
-      sound-weaker buffer _ (stop t.span) from (omega arith) (g stack t more)
+module _ (buffer : List ℕ) (mode : Mode) where
+  refused_by : (s : Standing) (f : Future) (r : Refusal) → future_at buffer mode s ≡ f → StandsWithin buffer s →
+      RefusedAt buffer f r → RefusalWithin buffer r
+  refused_by s (stuck place rest) r e w so =
+      stuck-within buffer place rest r (stop s.last) so (stuck-in_order buffer mode s place rest w e)
+  refused_by s (gives p rest) r e w so = absurd so
+  refused_by s finished r e w so = absurd so
 
-  mark-sound : (stack : List ContainerKind) (key mark : Token) (ts : Tokens) (b : Bool) → SoundFrom ts → is_colon mark.kind ≡ b →
-      InOrder buffer (stop key.span) (next mark ts) → IsSound buffer (stop key.span) (reads_colon m stack key (next mark ts))
-  unfolding reads_colon
-  mark-sound stack key mark ts false h c o = rw (c, reads_colon) (sound_stuck _ _ (next mark ts) o)
-  mark-sound stack key mark ts true h c (at_a_token _ _ _ b w more) =
-      rw (c, reads_colon) (sound_event (stop key.span) (key_event m key mark) _ b (omega arith) w (h stack (within after_colon) (stop mark.span) more))
+  -- A refusal at a place within the buffer lies within it.
+  pub refused-within : (s : Standing) (r : Refusal) → StandsWithin buffer s → RefusedAt buffer (future_at buffer mode s) r →
+      RefusalWithin buffer r
+  refused-within s r w so = refused_by s (future_at buffer mode s) r refl w so
 
-  mutual
-    unfolding reads
+  -- ---- the current span
 
-    -- What is read from tokens in order is sound.
-    pub reads-sound : (ts : Tokens) → SoundFrom ts
-    reads-sound ts stack over from o = sound_end from
-    reads-sound ended stack (within place) from o = sound_stuck from place ended o
-    reads-sound (refused f) stack (within place) from o = sound_stuck from place (refused f) o
-    reads-sound (next t ts) stack (within place) from o =
-        rw (reads-turn m stack place t ts (turn m stack place t) refl) (turn-sound stack place t ts (turn m stack place t) from (reads-sound ts) (colon-sound ts) o)
+  seen_by : (peeked : Bool) (s : Standing) (f : Future) → future_at buffer mode s ≡ f → StandsWithin buffer s →
+      stop (last_seen peeked (first_of f) s.last) ≤ length buffer
+  seen_by true s (gives p rest) e w = (comes-within buffer mode s p rest w e).2
+  seen_by true s finished e w = w
+  seen_by true s (stuck place rest) e w = w
+  seen_by false s f e w = w
 
-    colon-sound : (ts : Tokens) → SoundBehindKey ts
-    colon-sound ended stack key o = sound_stuck _ _ ended o
-    colon-sound (refused f) stack key o = sound_stuck _ _ (refused f) o
-    colon-sound (next mark ts) stack key o = mark-sound stack key mark ts (is_colon mark.kind) (reads-sound ts) refl o
+  -- The current span lies within the buffer.
+  pub span-within : (spot : Spot Standing) → StandsWithin buffer spot.place →
+      stop (current_span (on_input buffer mode) spot) ≤ length buffer
+  span-within spot w = seen_by spot.peeked spot.place (future_at buffer mode spot.place) refl w
 
--- What comes from a position on is sound.
-pub position-sound : (buffer : List ℕ) (mode : Mode) (m : Meaning) (stack : List ContainerKind) (stage : Stage) (position : ℕ) →
-    position ≤ length buffer → IsSound buffer position (reads m stack stage (tokens_from buffer mode position))
-position-sound buffer mode m stack stage position h =
-    reads-sound buffer m (tokens_from buffer mode position) stack stage position (tokens-in_order buffer mode position h)
+  -- ---- events
+
+  -- These events lie within the buffer, and the place after them is as many bytes further on at least.
+  pub record GivenWithin (s : Standing) (given : List Event) (after : Standing) : Type 0 where
+    pub events : EventsWithin buffer given
+    pub stands : StandsWithin buffer after
+    pub further : length given + stop s.last ≤ stop after.last
+
+  -- So do events that come.
+  pub given-within : {s after : Standing} {given : List Event} → Comes (on_input buffer mode) s given after →
+      StandsWithin buffer s → GivenWithin s given after
+  given-within (no_event place) w = record { events = within.no_events; stands = w; further = omega arith }
+  given-within (one_event place after p others e more) w =
+      let (behind, inside, ends) = comes-within buffer mode place p _ w (event-comes buffer mode place p e) in
+      let rest = given-within more ends in
+      record {
+        events = within.one_event p.event others (omega (arith, inside, ends)) rest.events;
+        stands = rest.stands;
+        further = omega (arith, behind, rest.further);
+      }
+
+  -- The spot after them is within the buffer.
+  pub spot_after-within : (spot : Spot Standing) {after : Standing} {given : List Event} →
+      Comes (on_input buffer mode) spot.place given after → StandsWithin buffer spot.place →
+      StandsWithin buffer (spot_after given after spot).place
+  spot_after-within spot all w =
+      subst (StandsWithin buffer) (sym (spot_after-place buffer mode spot all)) (given-within all w).stands

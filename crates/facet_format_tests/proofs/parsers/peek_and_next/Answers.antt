@@ -1,7 +1,7 @@
 use Rattle.std.proofs.Common.{Option, None, Ok, Err, ap}
 use Rattle.std.proofs.lemmas.Option.{same_Some}
 use Rattle.facet_format.specs.Event.{Event}
-use Rattle.facet_format.specs.Cursor.{Answer, event, batch, saved, restored, spans}
+use Rattle.facet_format.specs.Cursor.{Answer, event, batch, saved, restored, spans, on_walk}
 use Rattle.facet_format.proofs.CursorSteps.{peek-next}
 use Rattle.facet_format_tests.proofs.parsers.peek_and_next.Goals as goal
 
@@ -18,4 +18,4 @@ pub returns-in-Ok-Some-next_event-clause-alike : goal.returns-in-Ok-Some-next_ev
 returns-in-Ok-Some-next_event-clause-alike g c w from stands =
     let peeked = rw c.in-Ok-Some.field-0-is at c.in-Ok-Some.ensures.steps w from stands in
     let passed = rw c.in-Ok-Some-next_event.field-0-is at c.in-Ok-Some-next_event.ensures.steps w peeked.0 peeked.2 in
-    same_Some _ _ (ap event_in (peek-next w from peeked.0 passed.0 _ _ peeked.1 passed.1))
+    same_Some _ _ (ap event_in (peek-next (on_walk w) from peeked.0 passed.0 _ _ peeked.1 passed.1))

@@ -1,10 +1,11 @@
-use Rattle.facet_json_protocol.specs.Move.{no_calls}
-use Rattle.facet_json_core.proofs.CallsInOrder.{made-none, made-one_more, made-within, made-all, made-run, made-input}
+use Rattle.facet_format.specs.Cursor.{no_calls}
+use Rattle.std.proofs.Common.{refl}
+use Rattle.facet_json_core.proofs.CallsInOrder.{made-none, made-one_more, made-within, made-all, made-run}
 use Rattle.facet_json_core.proofs.script.drive.Goals as goal
 
 pub loop-call-init : goal.loop-call-init
 loop-call-init c = record {
-  moves = rw c.in_ok-answers.ensures.items (no_calls _);
+  moves = rw c.in_ok-answers.ensures.items (record { input = record { buffer = refl; mode = refl }; run = no_calls _ });
   within = made-none _ _ c.in_ok-answers.ensures.items;
   len = c.in_ok-answers.ensures.len;
   room = c.in_ok-answers.ensures.capacity;
@@ -23,4 +24,4 @@ returns-clause-run c =
     made-run _ _ _ _ (made-all _ _ _ _ _ c.loop-call-test.false c.loop-call.invariant.moves)
 
 pub returns-clause-input : goal.returns-clause-input
-returns-clause-input c = made-input _ _ _ _ c.loop-call.invariant.moves
+returns-clause-input c = c.loop-call.invariant.moves.input

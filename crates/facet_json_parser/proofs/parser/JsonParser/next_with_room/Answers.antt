@@ -1,24 +1,42 @@
-use Rattle.std.proofs.Common.{◌∙◌, refl, ap, not}
+use Rattle.std.proofs.Common.{refl}
+use Rattle.std.specs.Option.{option_map}
 use Rattle.std.proofs.lemmas.Result.{err_from_is_err_and}
-use Rattle.facet_json_standing.specs.Views.{standing_of}
-use Rattle.facet_json_standing.specs.Fill.{gives_refusal}
-use Rattle.facet_json_parser.proofs.AnswersAreMoves.{room-ended, room-taken, room-lacked}
+use Rattle.facet_format.specs.Views.{event_of}
+use Rattle.facet_json_place.specs.Views.{refused_of}
+use Rattle.facet_json_standing.specs.Fill.{spot_of}
+use Rattle.facet_json_standing.specs.Views.{filling_of}
+use Rattle.facet_json_parser.proofs.EventsInBatch.{queue-answers, queue-refused, queue-repeats}
+use Rattle.facet_json_parser.proofs.ParserWithin.{ready-within, queue-refusal_within}
 use Rattle.facet_json_parser.proofs.parser.JsonParser.next_with_room.Goals as goal
 
-pub returns-in_err-fill-clause-event : goal.returns-in_err-fill-clause-event
-returns-in_err-fill-clause-event c =
+pub returns-in_err-unrefused-clause-event : goal.returns-in_err-unrefused-clause-event
+returns-in_err-unrefused-clause-event c =
     let p = err_from_is_err_and c.from_residual.result c.from_residual.ensures.1 in
-    rw (p.1, p.2) (gives_refusal _ _ c.in_err-fill.ensures.filled)
+    rw (p.1, p.2) (queue-repeats c.args.self.now _ c.in_err-unrefused.ensures)
 
-pub returns-then-is_none-clause-event : goal.returns-then-is_none-clause-event
-returns-then-is_none-clause-event c =
-    room-ended _ _ _ c.self.inside.standing.held c.self.view_is refl (c.is_none.ensures ∙ ap not c.if-is_none.true) c.in_ok-fill.ensures.filled
+pub returns-in_err-unrefused-clause-within : goal.returns-in_err-unrefused-clause-within
+returns-in_err-unrefused-clause-within c = ready-within _ _ _ _ _ _ _ _ c.self.invariant refl c.self.view_is
+
+pub refuse-requires : goal.refuse-requires
+refuse-requires c =
+    let known = ready-within _ _ _ _ _ _ _ c.args.self.now c.self.invariant refl c.self.view_is in
+    record {
+      within = queue-refusal_within _ c.args.self.now (refused_of c.in-Err.refused) (spot_of (filling_of c.next_with_room.new.self)) c.self.view_is
+          c.in_ok-unrefused.ensures known c.in-Err.ensures.passed;
+    }
 
 pub returns-in-Ok-clause-event : goal.returns-in-Ok-clause-event
 returns-in-Ok-clause-event c =
-    room-taken _ _ _ c.take.result (standing_of c.take.new.self) c.in_ok-fill.ensures.filled c.self.view_is c.take.ensures.taken
+    queue-answers _ c.args.self.now (option_map event_of c.in-Ok.event) (spot_of (filling_of c.next_with_room.new.self)) c.self.view_is c.in_ok-unrefused.ensures
+    c.in-Ok.ensures.passed
+
+pub returns-in-Ok-clause-within : goal.returns-in-Ok-clause-within
+returns-in-Ok-clause-within c = ready-within _ _ _ _ _ _ _ _ c.self.invariant refl c.self.view_is
 
 pub returns-in-Err-clause-event : goal.returns-in-Err-clause-event
 returns-in-Err-clause-event c =
-    room-lacked _ _ _ _ _ c.self.inside.standing.held c.in_ok-fill.ensures.filled c.self.view_is refl (c.is_none.ensures ∙ ap not c.if-is_none.false)
-    c.refuse_growth.ensures.error c.refuse_growth.ensures.kept
+    queue-refused _ c.args.self.now _ (refused_of c.in-Err.refused) _ (spot_of (filling_of c.next_with_room.new.self)) c.self.view_is c.in_ok-unrefused.ensures
+    c.in-Err.ensures.passed c.refuse.ensures.kept c.refuse.ensures.error
+
+pub returns-in-Err-clause-within : goal.returns-in-Err-clause-within
+returns-in-Err-clause-within c = ready-within _ _ _ _ _ _ _ _ c.self.invariant refl c.self.view_is

@@ -1,8 +1,7 @@
 use Rattle.std.proofs.Common.{◌≡◌, ◌<◌, [], ◌∷◌, ◌++◌, ◌∙◌, refl, ap, subst, arith}
 use Rattle.std.proofs.lemmas.Result.{err_from_is_err_and}
-use Rattle.facet_json_protocol.specs.Sound.{NowSound}
-use Rattle.facet_json_parser.proofs.EventsInBatch.{none-given, event-given, given-none, given-more, given-end, given-refused, given-full, given-sound, given-pass, given-pass_refused}
-use Rattle.facet_json_document.specs.Refusal.{Complains}
+use Rattle.facet_json_protocol.specs.Within.{NowWithin}
+use Rattle.facet_json_parser.proofs.EventsInBatch.{none-given, event-given, given-none, given-more, given-end, given-refused, given-full, given-within, given-pass, given-pass_refused}
 use Rattle.facet_json_protocol.proofs.MoveIsStep.{move-steps}
 use Rattle.facet_json_protocol.proofs.MovesNext.{events-over}
 use Rattle.facet_json_parser.proofs.ParserWithin.{batch-within, batch-goes_on, batch-lowers}
@@ -17,7 +16,7 @@ loop-count-init c = record {
 pub returns-in_err-event : goal.returns-in_err-event
 returns-in_err-event c =
     let p = err_from_is_err_and c.from_residual.result c.from_residual.ensures.1 in
-    let known = given-sound _ _ _ _ _ c.loop-count.invariant.so_far c.loop-count.invariant.known c.in_err-event.ensures.sound in
+    let known = given-within _ _ _ _ _ c.loop-count.invariant.so_far c.loop-count.invariant.known c.in_err-event.ensures.within in
     let g = given-refused _ _ _ _ _ _ _ _ _ c.loop-count.invariant.so_far c.in_err-event.ensures.items c.loop-count-test.true c.in_err-event.ensures.event in
     let move = g.2 in
     rw (p.1, p.2) (let gone = batch-goes_on _ _ _ _ (λ _. known) move in record {
@@ -32,7 +31,7 @@ returns-in_err-event c =
 
 pub returns-in_default : goal.returns-in_default
 returns-in_default c =
-    let known = given-sound _ _ _ _ _ c.loop-count.invariant.so_far c.loop-count.invariant.known c.in_ok-event.ensures.sound in
+    let known = given-within _ _ _ _ _ c.loop-count.invariant.so_far c.loop-count.invariant.known c.in_ok-event.ensures.within in
     let g = given-end _ _ _ _ _ _ _ _ c.loop-count.invariant.so_far c.in_ok-event.ensures.items c.loop-count-test.true
     (none-given _ _ _ c.in_default.not-Some c.in_ok-event.ensures.event) in
     let move = g.2 in
@@ -43,20 +42,20 @@ returns-in_default c =
       onward = gone;
       shorter = batch-lowers _ _ _ _ _ (λ _. known) move;
       next = given-pass _ _ _ _ _ _ g;
-      end = events-over Complains _ _ _ _ _ _ refl move;
+      end = events-over _ _ _ _ _ move;
     }
 
 pub loop-count-preserved : goal.loop-count-preserved
 loop-count-preserved c = record {
   so_far = given-more _ _ _ _ _ _ c.in-Some.event _ c.loop-count.invariant.so_far (c.push_back_reserved.ensures.items ∙ ap (λ xs. xs ++ c.in-Some.event ∷ []) c.in_ok-event.ensures.items)
       (event-given _ _ _ _ c.in-Some.is c.in_ok-event.ensures.event);
-  known = λ _. given-sound _ _ _ _ _ c.loop-count.invariant.so_far c.loop-count.invariant.known c.in_ok-event.ensures.sound;
+  known = λ _. given-within _ _ _ _ _ c.loop-count.invariant.so_far c.loop-count.invariant.known c.in_ok-event.ensures.within;
 }
 
 pub returns : goal.returns
 returns c =
     let full : c.loop-count.count ≡ c.args.limit = omega (arith, c.loop-count-test.false, c.loop-count.auto.count-end) in
-    let known : 0 < c.args.limit → NowSound c.args.self.now = subst (λ n. 0 < n → NowSound c.args.self.now) full c.loop-count.invariant.known in
+    let known : 0 < c.args.limit → NowWithin c.args.self.now = subst (λ n. 0 < n → NowWithin c.args.self.now) full c.loop-count.invariant.known in
     let g = given-full _ _ _ _ _ _ c.loop-count.invariant.so_far full in
     let move = g.2 in
     let gone = batch-goes_on _ _ _ _ known move in record {
@@ -66,5 +65,5 @@ returns c =
       onward = gone;
       shorter = batch-lowers _ _ _ _ _ known move;
       next = given-pass _ _ _ _ _ _ g;
-      end = events-over Complains _ _ _ _ _ _ refl move;
+      end = events-over _ _ _ _ _ move;
     }

@@ -1,23 +1,38 @@
 use Rattle.std.proofs.Common.{refl}
+use Rattle.std.specs.Option.{option_map}
 use Rattle.std.proofs.lemmas.Result.{err_from_is_err_and}
-use Rattle.facet_json_standing.specs.Views.{standing_of}
+use Rattle.facet_format.specs.Views.{event_of}
+use Rattle.facet_json_place.specs.Views.{refused_of}
 use Rattle.facet_json_protocol.proofs.MoveIsStep.{move-steps}
-use Rattle.facet_json_parser.proofs.AnswersAreMoves.{peek-refused, peek-answers, peek-fails, event-shows, no-event-over}
-use Rattle.facet_json_parser.proofs.ParserWithin.{answer-within, goes-on}
+use Rattle.facet_json_protocol.proofs.Spans.BytesAhead.{moves-goes_on}
+use Rattle.facet_json_standing.specs.Fill.{spot_of}
+use Rattle.facet_json_standing.specs.Views.{filling_of}
+use Rattle.facet_json_parser.proofs.AnswersAreMoves.{peek-repeats, peek-answers, peek-refused, event-shows, no-event-over}
+use Rattle.facet_json_parser.proofs.ParserWithin.{ready-within, answer-within, peek-refusal_within}
 use Rattle.facet_json_parser.proofs.parser.JsonParserFormatParser.peek_event.Goals as goal
 
-pub returns-in_err-fill : goal.returns-in_err-fill
-returns-in_err-fill c =
+pub returns-in_err-unrefused : goal.returns-in_err-unrefused
+returns-in_err-unrefused c =
     let p = err_from_is_err_and c.from_residual.result c.from_residual.ensures.1 in
-    let known = c.in_err-fill.ensures.sound in
-    let move = peek-refused _ _ _ c.in_err-fill.ensures.filled in
-    rw (p.1, p.2) (let gone = goes-on _ _ known refl move in record { steps = move-steps _ _ _ _ move; lowers = gone.onward; moves = move; within = answer-within _ _ known move; onward = gone; next = tt; end = tt })
+    let known = ready-within _ _ _ _ _ _ _ c.args.self.now c.self.invariant refl c.self.view_is in
+    let move = peek-repeats c.args.self.now _ c.in_err-unrefused.ensures in
+    let gone = moves-goes_on _ known _ refl move in
+    rw (p.1, p.2) (record { steps = move-steps _ _ _ _ move; lowers = gone.onward; moves = move; within = answer-within _ _ known move; onward = gone; next = tt; end = tt })
+
+pub refuse-requires : goal.refuse-requires
+refuse-requires c =
+    let known = ready-within _ _ _ _ _ _ _ c.args.self.now c.self.invariant refl c.self.view_is in
+    record {
+      within = peek-refusal_within _ c.args.self.now (refused_of c.in-Err.refused) (spot_of (filling_of c.peek.new.self)) c.self.view_is
+          c.in_ok-unrefused.ensures known c.in-Err.ensures.shown;
+    }
 
 pub returns-in-Ok : goal.returns-in-Ok
 returns-in-Ok c =
-    let known = c.in_ok-fill.ensures.sound in
-    let move = peek-answers _ _ _ _ (standing_of c.peek.new.self) c.in_ok-fill.ensures.filled c.self.view_is c.in-Ok.ensures.shown in
-    let gone = goes-on _ _ known refl move in record {
+    let known = ready-within _ _ _ _ _ _ _ c.args.self.now c.self.invariant refl c.self.view_is in
+    let move = peek-answers _ c.args.self.now (option_map event_of c.in-Ok.event) (spot_of (filling_of c.peek.new.self)) c.self.view_is
+    c.in_ok-unrefused.ensures c.in-Ok.ensures.shown in
+    let gone = moves-goes_on _ known _ refl move in record {
       steps = move-steps _ _ _ _ move;
       lowers = gone.onward;
       moves = move;
@@ -29,7 +44,8 @@ returns-in-Ok c =
 
 pub returns-in-Err : goal.returns-in-Err
 returns-in-Err c =
-    let known = c.in_ok-fill.ensures.sound in
-    let move = peek-fails _ _ _ _ (standing_of c.peek.new.self) _ c.in_ok-fill.ensures.filled c.self.view_is c.in-Err.ensures.shown
-    c.refuse_growth.ensures.error c.refuse_growth.ensures.kept in
-    let gone = goes-on _ _ known refl move in record { steps = move-steps _ _ _ _ move; lowers = gone.onward; moves = move; within = answer-within _ _ known move; onward = gone; next = tt; end = tt }
+    let known = ready-within _ _ _ _ _ _ _ c.args.self.now c.self.invariant refl c.self.view_is in
+    let move = peek-refused _ c.args.self.now _ (refused_of c.in-Err.refused) _ (spot_of (filling_of c.peek.new.self)) c.self.view_is
+    c.in_ok-unrefused.ensures c.in-Err.ensures.shown c.refuse.ensures.kept c.refuse.ensures.error in
+    let gone = moves-goes_on _ known _ refl move in
+    (record { steps = move-steps _ _ _ _ move; lowers = gone.onward; moves = move; within = answer-within _ _ known move; onward = gone; next = tt; end = tt })

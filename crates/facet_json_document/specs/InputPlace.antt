@@ -1,0 +1,28 @@
+-- Where a reader stands in an input, and what comes there (RFC 8259, sections 2 to 5).
+use Rattle.std.specs.Prelude.{ℕ, List, []}
+use Rattle.facet_format.specs.Span.{Span, stop, span_at}
+use Rattle.facet_format.specs.Event.{ContainerKind, Passed}
+use Rattle.facet_json_token.specs.Gap.{Mode}
+use Rattle.facet_json_token.specs.Tokens.{tokens_from}
+use Rattle.facet_json_document.specs.Meaning.{meaning}
+use Rattle.facet_json_document.specs.Place.{root}
+use Rattle.facet_json_document.specs.Future.{Future, Stage, within, reads, stack_after, stage_after}
+
+pub record Standing : Type 0 where
+  -- the last token that an event passed: the tokens go on at its end
+  pub last : Span
+  -- the open containers, the innermost first
+  pub stack : List ContainerKind
+  pub stage : Stage
+
+-- before the root
+abbrev pub first_standing : Standing
+first_standing = record { last = span_at 0 0; stack = []; stage = within root }
+
+-- after an event
+abbrev pub past : Passed → Standing → Standing
+past p s = record { last = p.last; stack = stack_after p.event.kind s.stack; stage = stage_after p.event.kind s.stack }
+
+-- what is given out from the standing on
+abbrev pub future_at : List ℕ → Mode → Standing → Future
+future_at buffer mode s = reads (meaning buffer) s.stack s.stage (tokens_from buffer mode (stop s.last))
