@@ -1,6 +1,7 @@
 //! What parsers tell of an input: each mode, trusted and checking parsers, and each way to ask tell the same.
 
 use crate::shown::{Telling, push, push_answer};
+use facet_format::FormatParser;
 use facet_json::scanner::Mode;
 use facet_json::{from_slice, from_slice_jsonc};
 use facet_json_core::{Answer, Call, JsonParser, drive};
@@ -17,6 +18,10 @@ pub enum Way<'a> {
     ByPeekAndNext,
     /// The same, all at once.
     ByEvents,
+    /// How many of the first so many events come, one at a time, and then the next one and the span.
+    FirstByNext(usize),
+    /// The same, all at once.
+    FirstByEvents(usize),
     /// The answers to these calls.
     ByCalls(&'a [Call]),
     /// The tree.
@@ -29,6 +34,8 @@ impl Way<'_> {
             Way::ByNext => "by next",
             Way::ByPeekAndNext => "by peek and next",
             Way::ByEvents => "by events",
+            Way::FirstByNext(_) => "the first by next",
+            Way::FirstByEvents(_) => "the first by events",
             Way::ByCalls(_) => "by calls",
             Way::Tree => "as a tree",
         }
@@ -151,6 +158,8 @@ fn ask(
         Way::ByNext => tell_by_next(alloc, parser, input.len(), told),
         Way::ByPeekAndNext => tell_by_peek_and_next(alloc, parser, input.len(), told),
         Way::ByEvents => tell_by_events(alloc, parser, input.len(), told),
+        Way::FirstByNext(count) => tell_first_by_next(alloc, parser, count, told),
+        Way::FirstByEvents(count) => tell_first_by_events(alloc, parser, count, told),
         Way::ByCalls(calls) => push_answers(alloc, parser, calls, Telling::All, told),
         Way::Tree => push_tree(alloc, mode, input, told),
     }
@@ -178,7 +187,7 @@ fn trusting<'de>(alloc: Global, mode: Mode, text: &'de str) -> JsonParser<'de> {
 }
 
 /// A parser that checks its strings.
-fn checking<'de>(alloc: Global, mode: Mode, input: &'de [u8]) -> JsonParser<'de> {
+pub fn checking<'de>(alloc: Global, mode: Mode, input: &'de [u8]) -> JsonParser<'de> {
     match mode {
         Mode::Plain => JsonParser::new(alloc, input),
         Mode::Jsonc => JsonParser::new_jsonc(alloc, input),
@@ -265,6 +274,56 @@ fn tell_by_events(
 ) -> Result<(), AllocError> {
     let calls = [Call::Events(len), Call::Events(0), Call::Next, Call::Span];
     push_answers(alloc, parser, &calls, Telling::New, told)
+}
+
+/// How many of the first so many events come, and then the next one and the span.
+fn tell_first_by_next(
+    alloc: Global,
+    parser: &mut JsonParser<'_>,
+    count: usize,
+    told: &mut String,
+) -> Result<(), AllocError> {
+    let mut come = 0_usize;
+    for _ in 0..count {
+        if matches!(parser.next_event(), Ok(Some(_))) {
+            come = come.saturating_add(1);
+        }
+    }
+    tell_rest(alloc, parser, come, told)
+}
+
+/// The same, all at once.
+fn tell_first_by_events(
+    alloc: Global,
+    parser: &mut JsonParser<'_>,
+    count: usize,
+    told: &mut String,
+) -> Result<(), AllocError> {
+    let come = come_at_once(alloc, parser, count)?;
+    tell_rest(alloc, parser, come, told)
+}
+
+/// How many of the first so many events come all at once; none where the answer has other than it says.
+fn come_at_once(
+    alloc: Global,
+    parser: &mut JsonParser<'_>,
+    count: usize,
+) -> Result<usize, AllocError> {
+    match drive(alloc, parser, &[Call::Events(count)])?.first() {
+        Some(Answer::Events(events, Ok(come))) if events.len() == *come => Ok(*come),
+        _ => Ok(0),
+    }
+}
+
+/// That so many events came, and then the next one and the span.
+fn tell_rest(
+    alloc: Global,
+    parser: &mut JsonParser<'_>,
+    come: usize,
+    told: &mut String,
+) -> Result<(), AllocError> {
+    write!(told, "{come} events")?;
+    push_answers(alloc, parser, &[Call::Next, Call::Span], Telling::All, told)
 }
 
 /// Appends the tree or the refusal.

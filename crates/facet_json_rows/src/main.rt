@@ -2,10 +2,19 @@
 #![tactic(auto)]
 
 mod compared;
+mod counted;
+mod decoded;
+mod derived;
 mod faults;
+mod long;
+mod numbers;
+mod pieces;
+mod prefixes;
 mod printf;
 mod row;
 mod shown;
+mod tokens;
+mod trees;
 
 use std::alloc::Global;
 use std::io;

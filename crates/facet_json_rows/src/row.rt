@@ -1,8 +1,17 @@
 //! Rows, and the commands in them.
 
 use crate::compared::{Way, compare};
+use crate::counted::answer_count;
+use crate::decoded::{answer_decode, answer_repeated};
+use crate::derived::answer_derived;
 use crate::faults::{Case, FaultyReader, write_untold};
+use crate::long::answer_long;
+use crate::numbers::answer_number;
+use crate::pieces::answer_short_texts;
+use crate::prefixes::answer_prefixes;
 use crate::printf::printed;
+use crate::tokens::{answer_scanner, answer_tokens};
+use crate::trees::{answer_equal, answer_write};
 use facet_json::Span;
 use facet_json::scanner::Mode;
 use facet_json_command::outcome::{OUT_OF_MEMORY, Outcome};
@@ -71,12 +80,63 @@ fn answer_command<W: Write>(
         Some(Command::Ended) => answer_ended(rest, writer),
         Some(Command::Parser) => answer_parser(alloc, rest, input, writer),
         Some(Command::Tree) => compare(alloc, modes(rest), &[Way::Tree], input, writer),
-        None => writeln!(writer, "NO COMMAND"),
+        None => answer_part(alloc, name, rest, input, writer),
+    }
+}
+
+/// Writes what a command prints that asks a part of the library.
+fn answer_part<W: Write>(
+    alloc: Global,
+    name: &str,
+    words: &str,
+    input: &[u8],
+    writer: &mut W,
+) -> io::Result<()> {
+    match name {
+        "tokens" => answer_tokens(words, input, writer),
+        "short_texts" => answer_short_texts(input, writer),
+        "decode" => answer_decode(alloc, words, input, writer),
+        "number" => answer_number(words, input, writer),
+        "count" => answer_count(alloc, input, writer),
+        "derived" => answer_derived(alloc, words, writer),
+        _ => answer_text(
+            alloc,
+            name,
+            words,
+            str::from_utf8(input).unwrap_or(""),
+            writer,
+        ),
+    }
+}
+
+/// Writes what a command prints that reads a text.
+fn answer_text<W: Write>(
+    alloc: Global,
+    name: &str,
+    words: &str,
+    text: &str,
+    writer: &mut W,
+) -> io::Result<()> {
+    match name {
+        "scanner" => answer_scanner(words, text, writer),
+        "decode_repeated" => answer_repeated(alloc, words, text, writer),
+        "repeat" => answer_long(alloc, words, text, writer),
+        "equal" => answer_equal(alloc, text, writer),
+        "write" => answer_write(alloc, text, writer),
+        _ => writeln!(writer, "NO COMMAND"),
+    }
+}
+
+/// The range that the words name, `START..END`; where there are none, all of so many bytes.
+pub fn range(words: &str, len: usize) -> Option<(usize, usize)> {
+    match words.split_once("..") {
+        Some((start, end)) => Some((start.parse().ok()?, end.parse().ok()?)),
+        None => Some((0, len)),
     }
 }
 
 /// The first word, and what stands after the blank that ends it.
-fn first_word(text: &str) -> (&str, &str) {
+pub fn first_word(text: &str) -> (&str, &str) {
     text.split_once(' ').unwrap_or((text, ""))
 }
 
@@ -161,7 +221,7 @@ fn arguments(alloc: Global, words: &str) -> Result<Vec<String>, AllocError> {
 }
 
 /// Writes the text, and a line feed where its last line lacks one.
-fn write_lines<W: Write>(text: &[u8], writer: &mut W) -> io::Result<()> {
+pub fn write_lines<W: Write>(text: &[u8], writer: &mut W) -> io::Result<()> {
     writer.write_all(text)?;
     if text.is_empty() || text.ends_with(b"\n") {
         return Ok(());
@@ -169,8 +229,8 @@ fn write_lines<W: Write>(text: &[u8], writer: &mut W) -> io::Result<()> {
     writeln!(writer)
 }
 
-/// Writes what parsers of the input tell: `MODES all` or `MODES SCRIPT`.
-fn answer_parser<W: Write>(
+/// Writes what parsers of the input tell: `MODES all`, `MODES prefixes`, `MODES first COUNT` or `MODES SCRIPT`.
+pub fn answer_parser<W: Write>(
     alloc: Global,
     words: &str,
     input: &[u8],
@@ -178,11 +238,27 @@ fn answer_parser<W: Write>(
 ) -> io::Result<()> {
     let (word, asked) = first_word(words);
     let modes = modes(word);
-    if asked == "all" {
-        compare(alloc, modes, &ALL_EVENTS, input, writer)
-    } else {
-        answer_script(alloc, modes, asked, input, writer)
+    match asked {
+        "all" => compare(alloc, modes, &ALL_EVENTS, input, writer),
+        "prefixes" => answer_prefixes(alloc, input, writer),
+        _ => match asked.strip_prefix("first ") {
+            Some(count) => answer_first(alloc, modes, count, input, writer),
+            None => answer_script(alloc, modes, asked, input, writer),
+        },
     }
+}
+
+/// Writes how many of the first events come, and what comes then.
+fn answer_first<W: Write>(
+    alloc: Global,
+    modes: &[Mode],
+    count: &str,
+    input: &[u8],
+    writer: &mut W,
+) -> io::Result<()> {
+    let count = count.parse().unwrap_or(0);
+    let ways = [Way::FirstByNext(count), Way::FirstByEvents(count)];
+    compare(alloc, modes, &ways, input, writer)
 }
 
 /// The ways to ask for all events.
@@ -209,7 +285,7 @@ fn answer_script<W: Write>(
 }
 
 /// The modes of this name.
-fn modes(word: &str) -> &'static [Mode] {
+pub fn modes(word: &str) -> &'static [Mode] {
     match word {
         "plain" => &[Mode::Plain],
         "jsonc" => &[Mode::Jsonc],

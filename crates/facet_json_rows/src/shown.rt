@@ -97,7 +97,7 @@ fn kind_shown(alloc: Global, kind: &ParseEventKind<'_>) -> Result<String, AllocE
     }
 }
 
-fn error_shown(alloc: Global, error: &ParseError<'_>) -> Result<String, AllocError> {
+pub fn error_shown(alloc: Global, error: &ParseError<'_>) -> Result<String, AllocError> {
     format!(in alloc;
         "refused {:?} {}+{}",
         error.kind, error.span.offset, error.span.len

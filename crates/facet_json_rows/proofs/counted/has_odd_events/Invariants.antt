@@ -1,5 +1,5 @@
 use Rattle.facet_json_core.specs.Now.{ahead}
-use Rattle.facet_json_core_tests.proofs.readers.has_odd_events.Given as goal
+use Rattle.facet_json_rows.proofs.counted.has_odd_events.Given as goal
 
 abbrev pub decreases-loop-event : goal.decreases-loop-event
 decreases-loop-event l = ahead l.parser

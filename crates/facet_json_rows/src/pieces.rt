@@ -1,8 +1,10 @@
 //! Whatever the pieces in which an input comes, a scanner returns what is cut of the whole.
 
-use facet_format::Span;
-use facet_json_scan::{Mode, ScanResult, Scanner, Token, cut};
-use std::process::Abort;
+use crate::tokens::passed;
+use facet_json::Span;
+use facet_json::scanner::{Mode, ScanResult, Scanner, Token, cut};
+use std::io;
+use std::io::Write;
 
 /// What a call came to.
 #[derive(Clone, Copy)]
@@ -22,9 +24,9 @@ fn compare(scanned: &ScanResult, input: &[u8], start: usize, mode: Mode) -> Outc
     if start > input.len() || *scanned != cut(input, start, mode) {
         return Outcome::Differs;
     }
-    match scanned {
-        Ok(found) if found.token != Token::Eof => Outcome::Token(found.span.end()),
-        _ => Outcome::Ends,
+    match passed(scanned) {
+        Some(end) => Outcome::Token(end),
+        None => Outcome::Ends,
     }
 }
 
@@ -68,12 +70,16 @@ fn next(scanner: &mut Scanner, input: &[u8], len: usize, start: usize, mode: Mod
     }
 }
 
-/// Whether the scanner returns what is cut of the whole input, of which `first` bytes come and then `step` at a time.
-fn agrees(scanner: &mut Scanner, input: &[u8], mode: Mode, first: usize, step: usize) -> bool {
+/// Whether a scanner returns what is cut of the whole input, of which `first` bytes come and then `step` at a time.
+fn agrees(input: &[u8], mode: Mode, first: usize, step: usize) -> bool {
+    let mut scanner = match mode {
+        Mode::Plain => Scanner::new(),
+        Mode::Jsonc => Scanner::new_with_comments(),
+    };
     let mut start = 0;
     let mut len = first;
-    for _ in 0..64 {
-        match next(scanner, input, len, start, mode) {
+    for _ in 0..=input.len().saturating_mul(2) {
+        match next(&mut scanner, input, len, start, mode) {
             Outcome::Waits => len = len.saturating_add(step).min(input.len()),
             Outcome::Token(end) => start = end,
             Outcome::Ends => return true,
@@ -83,78 +89,44 @@ fn agrees(scanner: &mut Scanner, input: &[u8], mode: Mode, first: usize, step: u
     false
 }
 
-/// The same in both languages.
+/// Whether scanners of both modes do.
 fn both_agree(input: &[u8], first: usize, step: usize) -> bool {
-    agrees(&mut Scanner::new(), input, Mode::Plain, first, step)
-        && agrees(
-            &mut Scanner::new_with_comments(),
-            input,
-            Mode::Jsonc,
-            first,
-            step,
-        )
+    agrees(input, Mode::Plain, first, step) && agrees(input, Mode::Jsonc, first, step)
 }
 
-/// Feeds an input byte by byte.
-fn feed_bytes(rt: &impl Abort, input: &[u8]) {
-    assert!(rt; both_agree(input, 0, 1), "{input:?}");
-}
-
-/// Feeds an input byte by byte and in each two pieces.
-fn feed_pieces(rt: &impl Abort, input: &[u8]) {
-    feed_bytes(rt, input);
-    for first in 0..input.len() {
-        assert!(rt; both_agree(input, first, input.len()), "{input:?} {first}");
+/// Whether they do byte by byte, and in each two pieces.
+fn agree(input: &[u8]) -> bool {
+    for first in 0..=input.len() {
+        if !both_agree(input, first, input.len()) {
+            return false;
+        }
     }
+    both_agree(input, 0, 1)
 }
 
-#[test]
-fn short_inputs(rt: HostRuntime) {
-    let bytes = b"-01.e+\"\\[,/*\nt ";
+/// Writes the input where scanners find other tokens of its pieces.
+pub fn write_other_pieces<W: Write>(input: &[u8], writer: &mut W) -> io::Result<()> {
+    if agree(input) {
+        return Ok(());
+    }
+    writeln!(writer, "DIFFERS: in pieces, {input:?}")
+}
+
+/// Writes each text of one to four of the bytes of whose pieces scanners find other tokens, and how many texts there are.
+pub fn answer_short_texts<W: Write>(bytes: &[u8], writer: &mut W) -> io::Result<()> {
+    let mut count = 0_usize;
     for a in bytes {
-        feed_pieces(&rt, &[*a]);
+        write_other_pieces(&[*a], writer)?;
         for b in bytes {
-            feed_pieces(&rt, &[*a, *b]);
+            write_other_pieces(&[*a, *b], writer)?;
             for c in bytes {
-                feed_pieces(&rt, &[*a, *b, *c]);
+                write_other_pieces(&[*a, *b, *c], writer)?;
                 for d in bytes {
-                    feed_bytes(&rt, &[*a, *b, *c, *d]);
+                    write_other_pieces(&[*a, *b, *c, *d], writer)?;
+                    count = count.saturating_add(1);
                 }
             }
         }
     }
-}
-
-#[test]
-fn numbers(rt: HostRuntime) {
-    let bytes = b"-0.e+,";
-    for a in bytes {
-        for b in bytes {
-            for c in bytes {
-                for d in bytes {
-                    feed_pieces(&rt, &[*a, *b, *c, *d]);
-                }
-            }
-        }
-    }
-}
-
-static LONGER: [&str; 10] = [
-    "-12.50e+10,",
-    "007.E-3]",
-    "1.2.3",
-    "1e5.2",
-    "12e+-3 4E5e6 7-8",
-    "-.e- --1",
-    "{\"k\\\\\":[1.5e3,-2]}",
-    "[\"a\\\"\",true,null,false]",
-    "/* a **/1.5//x\n2e3/*",
-    "truefalsenull nul",
-];
-
-#[test]
-fn longer_inputs(rt: HostRuntime) {
-    for input in &LONGER {
-        feed_pieces(&rt, input.as_bytes());
-    }
+    writeln!(writer, "{count} texts of four bytes")
 }

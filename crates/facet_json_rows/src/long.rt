@@ -1,0 +1,37 @@
+//! Long inputs.
+
+use crate::numbers::answer_number;
+use crate::row::{answer_parser, first_word};
+use std::alloc::{AllocError, Global};
+use std::io;
+use std::io::Write;
+
+/// Writes what a command prints of a long input, `COUNT COUNT | COMMAND`: the parts of the text before and behind its `|`, each
+/// repeated so often.
+pub fn answer_long<W: Write>(
+    alloc: Global,
+    words: &str,
+    text: &str,
+    writer: &mut W,
+) -> io::Result<()> {
+    let (counts, command) = words.split_once(" | ").unwrap_or((words, ""));
+    let input = repeated(alloc, counts, text)?;
+    let (name, words) = first_word(command);
+    match name {
+        "number" => answer_number(words, input.as_bytes(), writer),
+        "parser" => answer_parser(alloc, words, input.as_bytes(), writer),
+        _ => writeln!(writer, "NO COMMAND"),
+    }
+}
+
+/// The parts of the text before and behind the `|`, each as often as its count says.
+fn repeated(alloc: Global, counts: &str, text: &str) -> Result<String, AllocError> {
+    let (part, behind) = text.split_once('|').unwrap_or((text, ""));
+    let (count, count_behind) = first_word(counts);
+    let mut input = part.repeat(alloc, count.parse().unwrap_or(0))?;
+    let count_behind: usize = count_behind.parse().unwrap_or(0);
+    for _ in 0..count_behind {
+        input.push_str(behind)?;
+    }
+    Ok(input)
+}
