@@ -1,16 +1,30 @@
 //! Trees that are equal, and trees as text.
 
-use crate::row::write_lines;
-use facet_json::{Tree, from_slice, to_vec};
+use crate::row::{first_word, write_lines};
+use facet_json::{Decimal, Tree, from_slice, to_vec};
 use std::alloc::Global;
 use std::io;
 use std::io::Write;
 
-/// The tree of the text, or of `i64 N` the leaf of this number with a sign.
+/// The tree of the text; of `i64 N` the leaf of this number with a sign, and of `literal N` that of this decimal, not copied.
 fn tree_of(alloc: Global, text: &str) -> Option<Tree> {
-    match text.strip_prefix("i64 ") {
-        Some(digits) => Some(Tree::I64(digits.parse().ok()?)),
-        None => from_slice(alloc, text.as_bytes()).ok(),
+    match first_word(text) {
+        ("i64", digits) => Some(Tree::I64(digits.parse().ok()?)),
+        ("literal", digits) => Some(Tree::Decimal(Decimal::new(literal(digits)?)?)),
+        _ => from_slice(alloc, text.as_bytes()).ok(),
+    }
+}
+
+/// The same text, as it stands here.
+fn literal(text: &str) -> Option<&'static str> {
+    match text {
+        "1." => Some("1."),
+        "-.5" => Some("-.5"),
+        "5e-05" => Some("5e-05"),
+        "0.0" => Some("0.0"),
+        "1.0" => Some("1.0"),
+        "1.00" => Some("1.00"),
+        _ => None,
     }
 }
 
