@@ -1,8 +1,4 @@
-pub mod Cuts
-pub mod Calls
-pub mod Operands
 pub mod Printing
 pub mod Listing
-pub mod OneCommand
 pub mod Endings
 pub mod Unasked

@@ -11,8 +11,8 @@ use Rattle.facet_json_protocol.specs.Now.{Now, fresh}
 use Rattle.facet_json_protocol.specs.Move.{Moves, MovesAll}
 use Rattle.facet_json_protocol.proofs.MoveLaws.{moves-one_more}
 use Rattle.facet_json_command.specs.Lines.{event_line}
-use Rattle.facet_json_command.specs.declared.outcome.Outcome.{Outcome}
-use Rattle.facet_json_command.specs.declared.outcome.Outcome.TheVariants.{Done, Refused, Io, Usage}
+use Rattle.facet_json_command_line.specs.declared.outcome.Outcome.{Outcome}
+use Rattle.facet_json_command_line.specs.declared.outcome.Outcome.TheVariants.{Done, Refused, Io, Usage}
 use Rattle.facet_json_command.specs.Run.{Grows, Stops, AreListed, Lists}
 use Rattle.facet_json_command.proofs.Printing.{appends_nothing, appends_both, appends_keeps, grows_both}
 

@@ -16,10 +16,11 @@ use Rattle.facet_format.specs.Event.{Event}
 use Rattle.facet_format.specs.Cursor.{Call, next, Answer, event}
 use Rattle.facet_json_document.specs.Text.{default_options, text}
 use Rattle.facet_format.specs.Views.{span_of}
-use Rattle.facet_json_command.specs.Arguments.{Command, fmt, events, drive}
+use Rattle.facet_json_command_line.specs.Arguments.{Command, fmt, events, drive}
 use Rattle.facet_json_command.specs.Lines.{event_line, answer_lines}
-use Rattle.facet_json_command.specs.declared.outcome.Outcome.{Outcome}
-use Rattle.facet_json_command.specs.declared.outcome.Outcome.TheVariants.{Done, Refused, Io, Usage}
+use Rattle.facet_json_command_line.specs.declared.outcome.Outcome.{Outcome}
+use Rattle.facet_json_command_line.specs.declared.outcome.Outcome.TheVariants.{Done, Refused, Io, Usage}
+pub use Rattle.facet_json_command_line.specs.Outcome.{IsFailure}
 
 abbrev pub HasDocument : Mode → List ℕ → Type 0
 HasDocument mode input = (root : Node) × (value : Tree) × IsDocument input mode root value
@@ -37,13 +38,6 @@ pub record IsRefusedSo (mode : Mode) (input : List ℕ) (code : ℕ) (span : Opt
   pub refuses : Refuses input mode refusal
   pub has_code : code ≡ code_of refusal.complaint
   pub has_span : option_map span_of span ≡ refusal.span
-
--- An answer that says nothing of the input: out of memory, which is code 9, or a read or a write that failed.
-abbrev pub IsFailure : Outcome → Type 0
-IsFailure Done = ⊥
-IsFailure (Refused code span) = code ≡ 9
-IsFailure Io = Unit {0}
-IsFailure Usage = ⊥
 
 -- An answer in place of the text.
 abbrev pub IsRefusal : Mode → List ℕ → Outcome → Type 0

@@ -11,12 +11,12 @@ ghost use Rattle.facet_json_core.specs.ScriptViews.{answer_of};
 ghost use Rattle.facet_json_document.specs.Quoted.{quoted as quoted_text};
 ghost use Rattle.facet_json_document.specs.Text.{default_options, text as tree_text};
 ghost use Rattle.facet_json.specs.Views.{tree_view};
-ghost use Rattle.facet_json_command.specs.declared.outcome.Outcome.TheVariants as outcome;
+ghost use Rattle.facet_json_command_line.specs.declared.outcome.Outcome.TheVariants as outcome;
 ghost use Rattle.facet_json_command.specs.Lines.{head_text, place_line, value_line, scalar_line, event_line, refusal_line, count_line, next_line, answer_lines};
 ghost use Rattle.facet_json_command.specs.Views.{count_of};
 ghost use Rattle.facet_json_command.specs.Run.{Prints};
 
-use crate::outcome::{OUT_OF_MEMORY, Outcome};
+use facet_json_command_line::outcome::{OUT_OF_MEMORY, Outcome};
 use facet_format::{ParseError, ParseEvent, ParseEventKind, SavePoint, ScalarValue, Span};
 use facet_json::{Tree, to_vec};
 use facet_json_core::Answer;

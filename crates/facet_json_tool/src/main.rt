@@ -4,7 +4,7 @@
 
 ghost use Rattle.std.specs.Prelude.{◌≡◌, ◌⊎◌, None, IfErr};
 ghost use Rattle.std.specs.IoError.{error_kind};
-ghost use Rattle.facet_json_command.specs.declared.outcome.Outcome.TheVariants as outcome;
+ghost use Rattle.facet_json_command_line.specs.declared.outcome.Outcome.TheVariants as outcome;
 ghost use Rattle.facet_json_command.specs.Run.{IsFailure};
 
 use facet_json_command::outcome::{OUT_OF_MEMORY, Outcome, failure};

@@ -1,5 +1,0 @@
-use Rattle.std.proofs.Common.{rules}
-use Rattle.facet_json_command.proofs.outcome.failure.Goals as goal
-
-pub returns-else-eq-clause-memory : goal.returns-else-eq-clause-memory
-returns-else-eq-clause-memory c = search rules

@@ -1,5 +1,0 @@
-use Rattle.std.proofs.Common.{rules}
-use Rattle.facet_json_command.proofs.report.status.Goals as goal
-
-pub returns-in-Refused : goal.returns-in-Refused
-returns-in-Refused c = search rules

@@ -1,0 +1,4 @@
+pub mod Cuts
+pub mod Calls
+pub mod Operands
+pub mod OneCommand

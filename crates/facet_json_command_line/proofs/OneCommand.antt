@@ -1,0 +1,104 @@
+-- Arguments ask for one thing at most.
+use Rattle.std.proofs.Common.{◌≡◌, ◌≢◌, ℕ, ◌+◌, ◌*◌, ◌==◌, cond, List, [], ◌∷◌, get_or, drop, codes, refl, sym, ap, subst, ◌∙◌, arith}
+use Rattle.std.specs.Str.Parse.{digits_value}
+use Rattle.facet_format.specs.Cursor.{Call, next, peek, events, save, restore, span}
+use Rattle.facet_json_token.specs.Gap.{Mode}
+use Rattle.facet_json_command_line.specs.Script.{comma, IsWordOf, IsScript, one_word, word_first}
+use Rattle.facet_json_command_line.specs.Arguments.{Command, fmt, events as list, drive, AreWords, AreArguments, AskFor}
+use Rattle.facet_json_command_line.proofs.Cuts.{same_tail, one_cut, has_byte}
+use Rattle.facet_json_command_line.proofs.Calls.{word_lacks}
+use Rattle.facet_json_command_line.proofs.Operands.{name_is, one_reading}
+
+-- ---- a script
+
+-- the call whose word this is, by its first two bytes
+abbrev read_word : List ℕ → Call
+read_word word =
+    let mark = get_or word 0 0 * 256 + get_or word 1 0 in
+    cond (mark == 110 * 256 + 101) next
+    (cond (mark == 112 * 256 + 101) peek
+    (cond (mark == 101 * 256 + 118) (events (digits_value 10 (drop 7 word)))
+    (cond (mark == 115 * 256 + 97) save
+    (cond (mark == 114 * 256 + 101) (restore (digits_value 10 (drop 8 word))) span))))
+
+word_read : (call : Call) (word : List ℕ) → IsWordOf call word → read_word word ≡ call
+word_read next word is = rw is refl
+word_read peek word is = rw is refl
+word_read (events limit) word is = rw is.1 (ap events is.2.value)
+word_read save word is = rw is refl
+word_read (restore point) word is = rw is.1 (ap restore is.2.value)
+word_read span word is = rw is refl
+
+one_call_of : (call other : Call) (word : List ℕ) → IsWordOf call word → IsWordOf other word → call ≡ other
+one_call_of call other word is is' = sym (word_read call word is) ∙ word_read other word is'
+
+one_script : (text : List ℕ) (calls others : List Call) → IsScript text calls → IsScript text others → calls ≡ others
+one_script _ _ _ (one_word text call is) (one_word text' other is') = ap (λ c. c ∷ []) (one_call_of call other text is is')
+one_script _ _ _ (one_word text call is) (word_first text' word rest other others cut is' more) =
+    absurd (has_byte comma word rest (rw cut at (word_lacks call text is)))
+one_script _ _ _ (word_first text word rest call calls cut is more) (one_word text' other is') =
+    absurd (has_byte comma word rest (rw cut at (word_lacks other text is')))
+one_script _ _ _ (word_first text word rest call calls cut is more) (word_first text' word' rest' other others cut' is' more') =
+    let same = one_cut comma word rest word' rest' (word_lacks call word is) (word_lacks other word' is') (sym cut ∙ cut') in
+    let first = one_call_of call other word' (subst (IsWordOf call) same.0 is) is' in
+    let others_are = one_script rest' calls others (subst (λ t. IsScript t calls) same.1 more) more' in
+    ap (λ c. c ∷ calls) first ∙ ap (λ l. other ∷ l) others_are
+
+-- ---- arguments
+
+arguments_once : (args : List (List ℕ)) (name other : List ℕ) (mode mode' : Mode) (operands operands' : List (List ℕ)) →
+    AreArguments args name mode operands → AreArguments args other mode' operands' →
+    (name ≡ other) × (mode ≡ mode') × (operands ≡ operands')
+arguments_once args name other mode mode' operands operands' first second =
+    let same = sym first.1 ∙ second.1 in
+    let words = subst (AreWords mode operands) (same_tail name other first.0 second.0 same) first.2 in
+    let reading = one_reading mode mode' operands operands' second.0 words second.2 in
+    (name_is name other first.0 second.0 same, reading.0, reading.1)
+
+differ : (xs ys : List ℕ) → get_or xs 0 0 ≢ get_or ys 0 0 → xs ≡ ys → ⊥
+differ xs ys other same = other (ap (λ l. get_or l 0 0) same)
+
+fmt_once : (args : List (List ℕ)) (mode other : Mode) → AskFor (fmt mode) args → AskFor (fmt other) args → mode ≡ other
+fmt_once args mode other first second =
+    (arguments_once args (codes "fmt") (codes "fmt") mode other [] [] first second).1
+
+events_once : (args : List (List ℕ)) (mode other : Mode) → AskFor (list mode) args → AskFor (list other) args → mode ≡ other
+events_once args mode other first second =
+    (arguments_once args (codes "events") (codes "events") mode other [] [] first second).1
+
+drive_once : (args : List (List ℕ)) (mode other : Mode) (calls others : List Call) → AskFor (drive mode calls) args →
+    AskFor (drive other others) args → (mode ≡ other) × (calls ≡ others)
+drive_once args mode other calls others first second =
+    let same = arguments_once args (codes "drive") (codes "drive") mode other (first.0 ∷ []) (second.0 ∷ []) first.1 second.1 in
+    let script = name_is first.0 second.0 [] [] same.2 in
+    (same.1, one_script second.0 calls others (subst (λ t. IsScript t calls) script first.2) second.2)
+
+fmt_is_not_events : (args : List (List ℕ)) (mode other : Mode) → AskFor (fmt mode) args → AskFor (list other) args → ⊥
+fmt_is_not_events args mode other first second =
+    differ (codes "fmt") (codes "events") (λ e. absurd (omega (arith, e)))
+    (arguments_once args (codes "fmt") (codes "events") mode other [] [] first second).0
+
+fmt_is_not_drive : (args : List (List ℕ)) (mode other : Mode) (calls : List Call) → AskFor (fmt mode) args →
+    AskFor (drive other calls) args → ⊥
+fmt_is_not_drive args mode other calls first second =
+    differ (codes "fmt") (codes "drive") (λ e. absurd (omega (arith, e)))
+    (arguments_once args (codes "fmt") (codes "drive") mode other [] (second.0 ∷ []) first second.1).0
+
+events_is_not_drive : (args : List (List ℕ)) (mode other : Mode) (calls : List Call) → AskFor (list mode) args →
+    AskFor (drive other calls) args → ⊥
+events_is_not_drive args mode other calls first second =
+    differ (codes "events") (codes "drive") (λ e. absurd (omega (arith, e)))
+    (arguments_once args (codes "events") (codes "drive") mode other [] (second.0 ∷ []) first second.1).0
+
+pub one_command : (args : List (List ℕ)) (command other : Command) → AskFor command args → AskFor other args → command ≡ other
+one_command args (fmt mode) (fmt other) first second = ap fmt (fmt_once args mode other first second)
+one_command args (fmt mode) (list other) first second = absurd (fmt_is_not_events args mode other first second)
+one_command args (fmt mode) (drive other calls) first second = absurd (fmt_is_not_drive args mode other calls first second)
+one_command args (list mode) (fmt other) first second = absurd (fmt_is_not_events args other mode second first)
+one_command args (list mode) (list other) first second = ap list (events_once args mode other first second)
+one_command args (list mode) (drive other calls) first second = absurd (events_is_not_drive args mode other calls first second)
+one_command args (drive mode calls) (fmt other) first second = absurd (fmt_is_not_drive args other mode calls second first)
+one_command args (drive mode calls) (list other) first second = absurd (events_is_not_drive args other mode calls second first)
+one_command args (drive mode calls) (drive other others) first second =
+    let same = drive_once args mode other calls others first second in
+    ap (λ m. drive m calls) same.0 ∙ ap (drive other) same.1

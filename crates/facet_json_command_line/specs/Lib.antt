@@ -1,0 +1,5 @@
+pub mod Outcome
+pub mod Script
+pub mod Arguments
+pub mod Views
+pub mod Report

@@ -1,0 +1,129 @@
+//! What the arguments after the program's name ask for.
+
+ghost use Rattle.std.specs.Prelude.{◌≡◌, ◌≤◌, ◌⊎◌, ℕ, List, [], ◌∷◌, ◌++◌, length, None, IfOk, IfErr, MatchOption, MatchResult};
+ghost use Rattle.facet_json_token.specs.Gap.{Mode as SpecMode};
+ghost use Rattle.facet_json_token.specs.Views.{mode_of};
+ghost use Rattle.facet_json_command_line.specs.declared.outcome.Outcome.TheVariants as outcome;
+ghost use Rattle.facet_json_command_line.specs.Arguments.{AreWords, AskFor, AskForNothing};
+ghost use Rattle.facet_json_command_line.specs.Views.{words_of, command_view, operands_of};
+
+use crate::outcome::Outcome;
+use crate::script::parse_script;
+use facet_json_core::Call;
+use facet_json_token::Mode;
+use std::alloc::Global;
+
+/// What the program is asked to do.
+#[derive(Drop)]
+pub enum Command {
+    /// Write the document of the input anew.
+    Fmt {
+        /// How the input is read.
+        mode: Mode,
+    },
+    /// Print the events of the input's document.
+    Events {
+        /// How the input is read.
+        mode: Mode,
+    },
+    /// Make these calls of a parser of the input, and print their answers.
+    Drive {
+        /// How the input is read.
+        mode: Mode,
+        /// The calls.
+        calls: Vec<Call>,
+    },
+}
+
+/// The option by which the input may have comments.
+const COMMENTS: &str = "--jsonc";
+
+/// The words after the command's name.
+#[derive(Clone, Copy)]
+struct Words<'a> {
+    mode: Mode,
+    operand: Option<&'a str>,
+}
+
+impl<'a> Words<'a> {
+    /// These words, and then one more, where it may stand there: the option once, and one other word.
+    fn with(self, word: &'a str) -> Option<Words<'a>>
+        ensures { (front : List (List ℕ)) → AreWords (mode_of self.entry.mode) (operands_of self.entry.operand) front → MatchOption result
+            ((mode : SpecMode) (operands rest : List (List ℕ)) → length operands ≤ 1 → ¬ AreWords mode operands (front ++ (word.now ∷ rest)))
+            (λ w. AreWords (mode_of w.mode) (operands_of w.operand) (front ++ (word.now ∷ []))) }
+    {
+        if word == COMMENTS {
+            return match self.mode {
+                Mode::Plain => Some(Words {
+                    mode: Mode::Jsonc,
+                    operand: self.operand,
+                }),
+                Mode::Jsonc => None,
+            };
+        }
+        match self.operand {
+            None => Some(Words {
+                mode: self.mode,
+                operand: Some(word),
+            }),
+            Some(_) => None,
+        }
+    }
+}
+
+/// The command that the arguments ask for.
+pub fn command_of(alloc: Global, args: &[String]) -> Result<Command, Outcome>
+    ensures asked { IfOk result (λ c. AskFor (command_view c) (words_of args.now)) }
+    ensures refused { IfErr result (λ o. (o ≡ outcome.Refused 9 None)
+        ⊎ ((o ≡ outcome.Usage) × AskForNothing (words_of args.now))) }
+{
+    let Some((name, rest)) = args.split_first() else {
+        return Err(Outcome::Usage);
+    };
+    match words_behind(rest) {
+        Some(words) => named(alloc, name.as_str(), words),
+        None => Err(Outcome::Usage),
+    }
+}
+
+/// The command of this name with these words.
+fn named(alloc: Global, name: &str, words: Words<'_>) -> Result<Command, Outcome>
+    ensures { (rest : List (List ℕ)) → AreWords (mode_of words.entry.mode) (operands_of words.entry.operand) rest → MatchResult result
+        (λ c. AskFor (command_view c) (name.now ∷ rest))
+        (λ o. (o ≡ outcome.Refused 9 None) ⊎ ((o ≡ outcome.Usage) × AskForNothing (name.now ∷ rest))) }
+{
+    let mode = words.mode;
+    match words.operand {
+        None => match name {
+            "fmt" => Ok(Command::Fmt { mode }),
+            "events" => Ok(Command::Events { mode }),
+            _ => Err(Outcome::Usage),
+        },
+        Some(script) => match name {
+            "drive" => match parse_script(alloc, script) {
+                Ok(calls) => Ok(Command::Drive { mode, calls }),
+                Err(outcome) => Err(outcome),
+            },
+            _ => Err(Outcome::Usage),
+        },
+    }
+}
+
+/// The words after the command's name, where they are the option, once at most, and one other word at most.
+fn words_behind(words: &[String]) -> Option<Words<'_>>
+    ensures { MatchOption result
+        ((mode : SpecMode) (operands : List (List ℕ)) → length operands ≤ 1 → ¬ AreWords mode operands (words_of words.now))
+        (λ w. AreWords (mode_of w.mode) (operands_of w.operand) (words_of words.now)) }
+{
+    let mut taken = Words {
+        mode: Mode::Plain,
+        operand: None,
+    };
+    for word in words {
+        let Some(more) = taken.with(word.as_str()) else {
+            return None;
+        };
+        taken = more;
+    }
+    Some(taken)
+}

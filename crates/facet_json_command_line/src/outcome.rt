@@ -1,0 +1,39 @@
+//! How a run of the program ends.
+
+ghost use Rattle.std.specs.Prelude.{◌≡◌, None};
+ghost use Rattle.std.specs.IoError.{error_kind};
+ghost use Rattle.facet_json_command_line.specs.declared.outcome.Outcome.TheVariants as outcome;
+ghost use Rattle.facet_json_command_line.specs.Outcome.{IsFailure};
+
+use facet_format::Span;
+use std::io;
+use std::io::ErrorKind;
+
+/// How a run of the program ended.
+#[derive(Debug, Clone, Copy, PartialEq, Eq)]
+pub enum Outcome {
+    /// All of the answer is written.
+    Done,
+    /// The input was refused, or a growth was: the code of the refusal, and the bytes of the input that it is about,
+    /// where they are known.
+    Refused(u8, Option<Span>),
+    /// A read or a write failed.
+    Io,
+    /// The program has no command for these arguments.
+    Usage,
+}
+
+/// A growth was refused, which has no place in the input.
+pub const OUT_OF_MEMORY: Outcome = Outcome::Refused(9, None);
+
+/// How a call of the system that failed is answered. A growth that was refused in the midst of it is out of memory.
+pub fn failure(error: &io::Error) -> Outcome
+    ensures memory { error_kind error.now ≡ ErrorKind.OutOfMemory → result ≡ outcome.Refused 9 None }
+    ensures failed { IsFailure result }
+{
+    if error.kind() == ErrorKind::OutOfMemory {
+        OUT_OF_MEMORY
+    } else {
+        Outcome::Io
+    }
+}
