@@ -8,6 +8,7 @@ ghost use Rattle.facet_format.specs.Bytes.{is_digit};
 ghost use Rattle.facet_format.specs.Event.{borrowed, owned, bytes_of, is_owned};
 ghost use Rattle.facet_format.specs.Number.{number, is_number, float, decimal, has_value, ArePartsOf};
 
+use crate::event::copy_text;
 use crate::numeral::{NumberHint, Parts, number_parts};
 use std::alloc::{AllocError, Global};
 use std::borrow::CowStr;
@@ -90,13 +91,8 @@ impl<'a> Decimal<'a> {
     pub fn clone(&self, alloc: Global) -> Result<Decimal<'a>, AllocError>
         ensures { MatchResult result (λ d. d ≡ self.now) (λ _. is_owned self.now ≡ true) }
     {
-        match &self.0 {
-            CowStr::Borrowed(text) => Ok(Decimal(CowStr::Borrowed(*text))),
-            CowStr::Owned(text) => Ok(Decimal(CowStr::Owned(String::from_str(
-                alloc,
-                text.as_str(),
-            )?))),
-        }
+        let text = copy_text(&self.0, alloc)?;
+        Ok(Decimal(text))
     }
 
     /// The same text in memory of its own, or the value back where there is no memory for it: only a borrowed one takes any.

@@ -1,7 +1,7 @@
 //! Events, in which a document is read: a parser gives them one by one.
 
-ghost use Rattle.std.specs.Prelude.{◌≡◌, true, MatchResult};
-ghost use Rattle.facet_format.specs.Event.{is_owned, is_made, holds_made};
+ghost use Rattle.std.specs.Prelude.{◌≡◌, true, IfOk, MatchResult};
+ghost use Rattle.facet_format.specs.Event.{owned, is_owned, is_made, holds_made};
 ghost use Rattle.facet_format.specs.HeldText.{text_of};
 ghost use Rattle.facet_format.specs.Views.{scalar_value_of, event_kind_of, event_of, span_of};
 
@@ -50,8 +50,9 @@ impl<'a> FieldKey<'a> {
             (λ copy. text_of copy.name ≡ text_of self.now.name)
             (λ _. is_owned (text_of self.now.name) ≡ true) }
     {
+        let name = copy_text(&self.name, alloc)?;
         Ok(FieldKey {
-            name: copy_text(&self.name, alloc)?,
+            name,
             hint: self.hint,
         })
     }
@@ -181,13 +182,20 @@ impl<'a> ParseEvent<'a> {
 pub struct SavePoint(pub u64);
 
 /// The same text: a borrowed one stays borrowed, an owned one is copied.
-fn copy_text<'a>(text: &CowStr<'a>, alloc: Global) -> Result<CowStr<'a>, AllocError>
+pub(crate) fn copy_text<'a>(text: &CowStr<'a>, alloc: Global) -> Result<CowStr<'a>, AllocError>
     ensures { MatchResult result
         (λ copy. text_of copy ≡ text_of text.now)
         (λ _. is_owned (text_of text.now) ≡ true) }
 {
     match text {
         CowStr::Borrowed(borrowed) => Ok(CowStr::Borrowed(*borrowed)),
-        CowStr::Owned(owned) => Ok(CowStr::Owned(String::from_str(alloc, owned.as_str())?)),
+        CowStr::Owned(owned) => copied(owned.as_str(), alloc),
     }
+}
+
+/// The text in memory of its own.
+pub(crate) fn copied<'a>(text: &str, alloc: Global) -> Result<CowStr<'a>, AllocError>
+    ensures { IfOk result (λ copy. text_of copy ≡ owned text.now) }
+{
+    Ok(CowStr::Owned(String::from_str(alloc, text)?))
 }

@@ -1,5 +1,4 @@
-use Rattle.std.proofs.Common.{rules}
 use Rattle.facet_format.proofs.decimal.DecimalPartialEq.eq.Goals as goal
 
 pub returns : goal.returns
-returns c = search rules
+returns c = cc

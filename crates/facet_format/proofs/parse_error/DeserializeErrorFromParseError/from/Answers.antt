@@ -1,5 +1,5 @@
-use Rattle.std.proofs.Common.{rules}
+use Rattle.std.proofs.Common.{refl}
 use Rattle.facet_format.proofs.parse_error.DeserializeErrorFromParseError.from.Goals as goal
 
 pub returns : goal.returns
-returns c = search rules
+returns c = refl
