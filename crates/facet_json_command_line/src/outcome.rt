@@ -1,6 +1,6 @@
 //! How a run of the program ends.
 
-ghost use Rattle.std.specs.Prelude.{◌≡◌, None};
+ghost use Rattle.std.specs.Prelude.{◌≡◌, ◌⊎◌, None};
 ghost use Rattle.std.specs.IoError.{error_kind};
 ghost use Rattle.facet_json_command_line.specs.declared.outcome.Outcome.TheVariants as outcome;
 ghost use Rattle.facet_json_command_line.specs.Outcome.{IsFailure};
@@ -35,5 +35,17 @@ pub fn failure(error: &io::Error) -> Outcome
         OUT_OF_MEMORY
     } else {
         Outcome::Io
+    }
+}
+
+/// How it is answered that the arguments can't be had. One that is not text is wrong usage, and out of memory is none.
+pub fn without_arguments(error: &io::Error) -> Outcome
+    ensures usage { error_kind error.now ≡ ErrorKind.InvalidData → result ≡ outcome.Usage }
+    ensures memory { error_kind error.now ≡ ErrorKind.OutOfMemory → result ≡ outcome.Refused 9 None }
+    ensures ends { (result ≡ outcome.Usage) ⊎ IsFailure result }
+{
+    match error.kind() {
+        ErrorKind::InvalidData => Outcome::Usage,
+        _ => failure(error),
     }
 }

@@ -2,17 +2,16 @@
 //! standard output.
 #![tactic(auto)]
 
-ghost use Rattle.std.specs.Prelude.{◌≡◌, ◌⊎◌, None, IfErr};
-ghost use Rattle.std.specs.IoError.{error_kind};
+ghost use Rattle.std.specs.Prelude.{◌≡◌, ◌⊎◌, IfErr};
 ghost use Rattle.facet_json_command_line.specs.declared.outcome.Outcome.TheVariants as outcome;
 ghost use Rattle.facet_json_command.specs.Run.{IsFailure};
 
-use facet_json_command::outcome::{OUT_OF_MEMORY, Outcome, failure};
+use facet_json_command::outcome::{OUT_OF_MEMORY, Outcome, failure, without_arguments};
 use facet_json_command::report::{status, write_line};
 use facet_json_command::run::run;
-use std::io::{BufWriter, ErrorKind};
+use std::env;
+use std::io::BufWriter;
 use std::process::ExitCode;
-use std::{env, io};
 
 /// The arguments after the program's name.
 fn given_words(rt: &HostRuntime) -> Result<Vec<String>, Outcome>
@@ -21,18 +20,6 @@ fn given_words(rt: &HostRuntime) -> Result<Vec<String>, Outcome>
     match env::args(rt) {
         Ok(args) => args.skip(1).collect(rt.alloc()).map_err(|_| OUT_OF_MEMORY),
         Err(error) => Err(without_arguments(&error)),
-    }
-}
-
-/// How it is answered that the arguments can't be had. One that is not text is wrong usage, and out of memory is none.
-fn without_arguments(error: &io::Error) -> Outcome
-    ensures usage { error_kind error.now ≡ ErrorKind.InvalidData → result ≡ outcome.Usage }
-    ensures memory { error_kind error.now ≡ ErrorKind.OutOfMemory → result ≡ outcome.Refused 9 None }
-    ensures ends { (result ≡ outcome.Usage) ⊎ IsFailure result }
-{
-    match error.kind() {
-        ErrorKind::InvalidData => Outcome::Usage,
-        _ => failure(error),
     }
 }
 
