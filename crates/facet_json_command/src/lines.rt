@@ -16,9 +16,9 @@ ghost use Rattle.facet_json_command.specs.Lines.{head_text, place_line, value_li
 ghost use Rattle.facet_json_command.specs.Views.{count_of};
 ghost use Rattle.facet_json_command.specs.Run.{Prints};
 
-use facet_json_command_line::outcome::{OUT_OF_MEMORY, Outcome};
 use facet_format::{ParseError, ParseEvent, ParseEventKind, SavePoint, ScalarValue, Span};
 use facet_json::{Tree, to_vec};
+use facet_json_command_line::outcome::{OUT_OF_MEMORY, Outcome};
 use facet_json_core::Answer;
 use std::alloc::Global;
 use std::borrow::CowStr;

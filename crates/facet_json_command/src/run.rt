@@ -24,12 +24,12 @@ ghost use Rattle.facet_json_command.specs.Views.{words_of, command_view};
 ghost use Rattle.facet_json_command.specs.Lines.{answer_lines};
 ghost use Rattle.facet_json_command.specs.Run.{HasDocument, IsReformatted, IsFailure, IsRefusal, Formats, Grows, Prints, Lists, Drives, Answers, ForFmt, ForDrive, outcome_of};
 
-use facet_json_command_line::arguments::{Command, command_of};
 use crate::lines::{text_of_tree, write_answer, write_event};
-use facet_json_command_line::outcome::{OUT_OF_MEMORY, Outcome, failure};
 use facet_format::{DeserializeError, FormatParser};
 use facet_json::scanner::Mode;
 use facet_json::{Tree, from_slice, from_slice_jsonc};
+use facet_json_command_line::arguments::{Command, command_of};
+use facet_json_command_line::outcome::{OUT_OF_MEMORY, Outcome, failure};
 use facet_json_core::{Answer, Call, JsonParser, drive};
 use std::alloc::{AllocError, Global};
 use std::io::{Read, Write};
