@@ -5,8 +5,7 @@ use Rattle.facet_format.specs.Event.{ContainerKind, struct_start, sequence_start
 use Rattle.facet_json_token.specs.Tokens.{Tokens}
 use Rattle.facet_json_document.specs.Tree.{Tree}
 use Rattle.facet_json_document.specs.Place.{Place}
-use Rattle.facet_json_document.specs.Meaning.{meaning}
-use Rattle.facet_json_document.specs.Refusal.{IsStuck, Complains}
+use Rattle.facet_json_document.specs.Refusal.{IsStuck}
 use Rattle.facet_json_document.specs.Future.{Future, gives, stuck}
 use Rattle.facet_json_protocol.specs.Now.{Now, ahead, future_of}
 use Rattle.facet_json.specs.Inner.Told.{tree_of_scalar, opens}
@@ -55,8 +54,8 @@ none-stops now r _ place rest e (is_stuck here left g s) none =
     let both : stuck here left ≡ stuck place rest = sym g ∙ e in
     let at : here ≡ place = cc in
     let in_front_of : left ≡ rest = cc in
-    inr (subst (λ p. IsStuck now.buffer (meaning now.buffer) Complains p rest r) at
-    (subst (λ ts. IsStuck now.buffer (meaning now.buffer) Complains here ts r) in_front_of s))
+    inr (subst (λ p. IsStuck now.buffer p rest r) at
+    (subst (λ ts. IsStuck now.buffer here ts r) in_front_of s))
 
 -- Where the first event is refused, a value, items or members are unread.
 pub none-value : (now : Now) (r : Refusal) → GivesNone now r → IsValueUnread now.buffer (future_of now) r

@@ -5,7 +5,7 @@ use Rattle.facet_format.specs.Event.{ContainerKind}
 use Rattle.facet_json_token.specs.Token.{Kind, Token}
 use Rattle.facet_json_token.specs.Token as token
 use Rattle.facet_json_token.specs.Tokens.{Tokens}
-use Rattle.facet_json_document.specs.Meaning.{Meaning}
+use Rattle.facet_json_document.specs.Meaning.{Meaning, meaning}
 use Rattle.facet_json_document.specs.Place.{Place, after_key, is_colon}
 use Rattle.facet_json_document.specs.Refusal.{needs_meaning, IsStuck, at_end, at_fault, meaningless, misplaced}
 use Rattle.facet_json_document.specs.Future.{stuck, within, Turn, stops, turn, unless_meaningless, is_meaningless, reads, reads_colon}
@@ -16,10 +16,13 @@ still_stops : (b : Bool) (other : Turn) → other ≡ stops → unless_meaningle
 still_stops true other e = refl
 still_stops false other e = e
 
-module _ (buffer : List ℕ) (m : Meaning) (complains : List ℕ → Token → Refusal → Type 0) where
+module _ (buffer : List ℕ) where
+  abbrev m : Meaning
+  m = meaning buffer
+
   -- Where the tokens are refused at a place, nothing comes.
   pub stuck-reads : (stack : List ContainerKind) (place : Place) (ts : Tokens) (r : Refusal) →
-      IsStuck buffer m complains place ts r → reads m stack (within place) ts ≡ stuck place ts
+      IsStuck buffer place ts r → reads m stack (within place) ts ≡ stuck place ts
   unfolding reads
   stuck-reads stack place _ _ (at_end _) = refl
   stuck-reads stack place _ _ (at_fault _ f) = refl
@@ -30,7 +33,7 @@ module _ (buffer : List ℕ) (m : Meaning) (complains : List ℕ → Token → R
 
   -- Nor does it after a key, where its colon is missing.
   pub stuck-reads_colon : (stack : List ContainerKind) (key : Token) (ts : Tokens) (r : Refusal) →
-      IsStuck buffer m complains after_key ts r → reads_colon m stack key ts ≡ stuck after_key ts
+      IsStuck buffer after_key ts r → reads_colon m stack key ts ≡ stuck after_key ts
   unfolding reads_colon
   stuck-reads_colon stack key _ _ (at_end _) = refl
   stuck-reads_colon stack key _ _ (at_fault _ f) = refl

@@ -5,7 +5,7 @@ use Rattle.facet_json_token.specs.Token.{Kind, Token, Fault}
 use Rattle.facet_json_token.specs.Token as token
 use Rattle.facet_json_token.specs.Tokens.{Tokens, ended, refused, next}
 use Rattle.facet_json_decode.specs.Fault.{Fault as TextFault, FirstFault, fault_refusal}
-use Rattle.facet_json_document.specs.Meaning.{Meaning}
+use Rattle.facet_json_document.specs.Meaning.{meaning}
 use Rattle.facet_json_document.specs.Place.{Place, goes_on, expected_at, complaint_at_end, complaint_of_fault, kind_name}
 use Rattle.facet_format.specs.Complaint.{Complaint, unexpected_char, unexpected_token, invalid_utf8, Refusal, refusal_at}
 
@@ -18,20 +18,6 @@ abbrev pub needs_meaning : Kind → Bool
 needs_meaning (token.string start finish has_escapes) = true
 needs_meaning (token.number start finish hint) = true
 needs_meaning _ = false
-
--- At the place the tokens don't go on with a document, and are refused so. A string or number without a meaning has a refusal of
--- its own, whatever the place.
-pub data IsStuck (buffer : List ℕ) (m : Meaning) (complains : List ℕ → Token → Refusal → Type 0) : Place → Tokens → Refusal →
-    Type 0 where
-  at_end : (place : Place) →
-      IsStuck buffer m complains place ended (refusal_at (complaint_at_end place) (span_at (length buffer) 0))
-  at_fault : (place : Place) (f : Fault) →
-      IsStuck buffer m complains place (refused f) (refusal_at (complaint_of_fault f.kind) f.span)
-  meaningless : (place : Place) (t : Token) (rest : Tokens) (refusal : Refusal) → needs_meaning t.kind ≡ true →
-      m t ≡ None → complains buffer t refusal → IsStuck buffer m complains place (next t rest) refusal
-  misplaced : (place : Place) (t : Token) (rest : Tokens) → (needs_meaning t.kind ≡ true → IsSome (m t)) →
-      goes_on place t.kind ≡ false →
-      IsStuck buffer m complains place (next t rest) (refusal_at (unexpected_token (kind_name buffer t.kind) (expected_at place t.kind)) t.span)
 
 -- ---- how strings and numbers are refused
 
@@ -47,3 +33,18 @@ pub data Complains (buffer : List ℕ) (t : Token) (refusal : Refusal) : Type 0 
       refusal ≡ refusal_at invalid_utf8 t.span → Complains buffer t refusal
   of_escaped_string : (start finish : ℕ) (f : TextFault) → t.kind ≡ token.string start finish true →
       FirstFault (slice_range buffer start finish) f → refusal ≡ fault_refusal start f → Complains buffer t refusal
+
+-- ---- places where no document goes on
+
+-- At the place the tokens don't go on with a document, and are refused so. A string or number without a meaning has a refusal of
+-- its own, whatever the place.
+pub data IsStuck (buffer : List ℕ) : Place → Tokens → Refusal → Type 0 where
+  at_end : (place : Place) →
+      IsStuck buffer place ended (refusal_at (complaint_at_end place) (span_at (length buffer) 0))
+  at_fault : (place : Place) (f : Fault) →
+      IsStuck buffer place (refused f) (refusal_at (complaint_of_fault f.kind) f.span)
+  meaningless : (place : Place) (t : Token) (rest : Tokens) (refusal : Refusal) → needs_meaning t.kind ≡ true →
+      meaning buffer t ≡ None → Complains buffer t refusal → IsStuck buffer place (next t rest) refusal
+  misplaced : (place : Place) (t : Token) (rest : Tokens) → (needs_meaning t.kind ≡ true → IsSome (meaning buffer t)) →
+      goes_on place t.kind ≡ false →
+      IsStuck buffer place (next t rest) (refusal_at (unexpected_token (kind_name buffer t.kind) (expected_at place t.kind)) t.span)

@@ -2,10 +2,9 @@
 use Rattle.std.proofs.Common.{◌≡◌, ℕ, List, [], ◌∷◌, refl, sym, ap, ◌∙◌, subst}
 use Rattle.facet_format.specs.Complaint.{Refusal}
 use Rattle.facet_format.specs.Event.{Passed}
-use Rattle.facet_json_token.specs.Token.{Token}
 use Rattle.facet_json_token.specs.Tokens.{Tokens}
 use Rattle.facet_json_document.specs.Future.{Future, finished, stuck, events_before, within}
-use Rattle.facet_json_document.specs.Meaning.{Meaning, meaning}
+use Rattle.facet_json_document.specs.Meaning.{meaning}
 use Rattle.facet_json_document.specs.Place.{Place, after_key}
 use Rattle.facet_json_document.specs.Refusal.{IsStuck}
 use Rattle.facet_json_document.specs.Walk.{walk}
@@ -15,15 +14,14 @@ use Rattle.facet_json_prefix.specs.EventLaws.{RefusedHasNone}
 use Rattle.facet_json_prefix.proofs.LongestPrefix.{IsReadAt, at_stage, at_key, begun-leads, tail-finished}
 
 -- What is read where no document goes on is stuck there.
-read-stuck : {buffer : List ℕ} {m : Meaning} {complains : List ℕ → Token → Refusal → Type 0} {future : Future} {place : Place} {ts : Tokens}
-    {refusal : Refusal} → IsReadAt m future (within place) ts → IsStuck buffer m complains place ts refusal →
-    future ≡ stuck place ts
-read-stuck {buffer = buffer} {m = m} {complains = complains} {place = place} {ts = ts} {refusal = refusal} (at_stage stack f) s =
-    f ∙ stuck-reads buffer m complains stack place ts refusal s
-read-stuck {buffer = buffer} {m = m} {complains = complains} {place = place} {ts = ts} {refusal = refusal} (at_key stack key here f) s =
+read-stuck : {buffer : List ℕ} {future : Future} {place : Place} {ts : Tokens} {refusal : Refusal} →
+    IsReadAt (meaning buffer) future (within place) ts → IsStuck buffer place ts refusal → future ≡ stuck place ts
+read-stuck {buffer = buffer} {place = place} {ts = ts} {refusal = refusal} (at_stage stack f) s =
+    f ∙ stuck-reads buffer stack place ts refusal s
+read-stuck {buffer = buffer} {place = place} {ts = ts} {refusal = refusal} (at_key stack key here f) s =
     let same : place ≡ after_key = cc in
-    let there = subst (λ p. IsStuck buffer m complains p ts refusal) same s in
-    f ∙ stuck-reads_colon buffer m complains stack key ts refusal there ∙ sym (ap (λ p. stuck p ts) same)
+    let there = subst (λ p. IsStuck buffer p ts refusal) same s in
+    f ∙ stuck-reads_colon buffer stack key ts refusal there ∙ sym (ap (λ p. stuck p ts) same)
 
 -- What is stuck doesn't finish.
 stuck-unfinished : (here : Place) (rest : Tokens) (more : List Passed) → stuck here rest ≡ events_before more finished → ⊥

@@ -102,18 +102,45 @@ place-stops stack after_item token.array_end h e = cc
 place-stops stack after_item _ h e = refl
 
 -- Some refusal is allowed there.
-abbrev pub IsRefusable : List ℕ → Meaning → (List ℕ → Token → Refusal → Type 0) → Place → Tokens → Type 0
-IsRefusable buffer m complains place ts = (r : Refusal) × IsStuck buffer m complains place ts r
+abbrev pub IsRefusable : List ℕ → Place → Tokens → Type 0
+IsRefusable buffer place ts = (r : Refusal) × IsStuck buffer place ts r
 
--- Each string or number without a meaning is refused in some way.
-abbrev pub ComplainsAlways : List ℕ → Meaning → (List ℕ → Token → Refusal → Type 0) → Type 0
-ComplainsAlways buffer m complains = (t : Token) → needs_meaning t.kind ≡ true → m t ≡ None → (r : Refusal) × complains buffer t r
+-- ---- the refusals of strings and numbers
 
-module _ (buffer : List ℕ) (m : Meaning) (complains : List ℕ → Token → Refusal → Type 0) (always : ComplainsAlways buffer m complains) where
+text-faults : (buffer : List ℕ) (t : Token) (start finish : ℕ) → t.kind ≡ token.string start finish true →
+    option_map text (decoded (slice_range buffer start finish)) ≡ None → HasTextOrFault (slice_range buffer start finish) →
+    (r : Refusal) × Complains buffer t r
+text-faults buffer t start finish e none has = elim has.one_of_them [
+  | inl found ↦
+      let is : decoded (slice_range buffer start finish) ≡ Some found.0 = decoded-decodes _ found.0 found.1 in
+      let some : option_map text (decoded (slice_range buffer start finish)) ≡ Some (text found.0) = ap (option_map text) is in
+      absurd (cc)
+  | inr fault ↦ (_, of_escaped_string start finish fault.0 e fault.1 refl)
+]
+
+complains-by : (buffer : List ℕ) (t : Token) (kind : Kind) → t.kind ≡ kind → needs_meaning kind ≡ true →
+    meaning_of buffer kind ≡ None → (r : Refusal) × Complains buffer t r
+complains-by buffer t (token.string start finish true) e n none =
+    text-faults buffer t start finish e none (text_or_fault (slice_range buffer start finish))
+complains-by buffer t (token.string start finish false) e n none = (_, of_plain_string start finish e refl)
+complains-by buffer t (token.number start finish hint) e n none = (_, of_number (rw e refl) refl)
+complains-by buffer t _ e n none = cc
+
+-- Whatever a buffer holds, its strings and numbers without a meaning are refused in some way.
+complains-always : (buffer : List ℕ) (t : Token) → needs_meaning t.kind ≡ true → meaning buffer t ≡ None →
+    (r : Refusal) × Complains buffer t r
+complains-always buffer t needs none = complains-by buffer t t.kind refl needs none
+
+-- ---- what is stuck
+
+module _ (buffer : List ℕ) where
+  abbrev m : Meaning
+  m = meaning buffer
+
   without_by : (t : Token) (rest : Tokens) (place : Place) (needs : Bool) (o : Option Tree) → needs_meaning t.kind ≡ needs →
-      m t ≡ o → (needs && is_none o) ≡ true → IsRefusable buffer m complains place (next t rest)
+      m t ≡ o → (needs && is_none o) ≡ true → IsRefusable buffer place (next t rest)
   without_by t rest place true None n e h =
-      let r = always t n e in
+      let r = complains-always buffer t n e in
       (r.0, meaningless place t rest r.0 n e r.1)
   without_by t rest place true (Some value) n e h = cc
   without_by t rest place false o n e h = cc
@@ -127,14 +154,14 @@ module _ (buffer : List ℕ) (m : Meaning) (complains : List ℕ → Token → R
   -- A token where the turn is to stop.
   stops_by : (stack : List ContainerKind) (place : Place) (t : Token) (rest : Tokens) (b : Bool) → is_meaningless m t ≡ b →
       IsNoKey (within place) → unless_meaningless b (place_turn stack place t.kind) ≡ stops →
-      IsRefusable buffer m complains place (next t rest)
+      IsRefusable buffer place (next t rest)
   stops_by stack place t rest true e h s = without_by t rest place (needs_meaning t.kind) (m t) refl refl e
   stops_by stack place t rest false e h s =
       (_, misplaced place t rest (sensible_by t (needs_meaning t.kind) (m t) refl refl e) (place-stops stack place t.kind h s))
 
   -- A token after a key that is no colon.
   no_colon_by : (t : Token) (rest : Tokens) (b : Bool) → is_meaningless m t ≡ b → is_colon t.kind ≡ false →
-      IsRefusable buffer m complains after_key (next t rest)
+      IsRefusable buffer after_key (next t rest)
   no_colon_by t rest true e c = without_by t rest after_key (needs_meaning t.kind) (m t) refl refl e
   no_colon_by t rest false e c =
       (_, misplaced after_key t rest (sensible_by t (needs_meaning t.kind) (m t) refl refl e) c)
@@ -142,25 +169,25 @@ module _ (buffer : List ℕ) (m : Meaning) (complains : List ℕ → Token → R
   -- Wherever these tokens are stuck at the end, some refusal is allowed.
   abbrev Halts : Tokens → Type 0
   Halts ts = (stack : List ContainerKind) (stage : Stage) (events : List Passed) (here : Place) (rest : Tokens) → IsNoKey stage →
-      reads m stack stage ts ≡ events_before events (stuck here rest) → IsRefusable buffer m complains here rest
+      reads m stack stage ts ≡ events_before events (stuck here rest) → IsRefusable buffer here rest
 
   -- the same after a key
   abbrev HaltsBehindKey : Tokens → Type 0
   HaltsBehindKey ts = (stack : List ContainerKind) (key : Token) (events : List Passed) (here : Place) (rest : Tokens) →
-      reads_colon m stack key ts ≡ events_before events (stuck here rest) → IsRefusable buffer m complains here rest
+      reads_colon m stack key ts ≡ events_before events (stuck here rest) → IsRefusable buffer here rest
 
   -- What is stuck at one place is stuck at no other.
-  there : (place here : Place) (ts rest : Tokens) → stuck place ts ≡ stuck here rest → IsRefusable buffer m complains place ts →
-      IsRefusable buffer m complains here rest
+  there : (place here : Place) (ts rest : Tokens) → stuck place ts ≡ stuck here rest → IsRefusable buffer place ts →
+      IsRefusable buffer here rest
   there place here ts rest e r =
       let places : place ≡ here = cc in
       let fronts : ts ≡ rest = cc in
       rw (places, fronts) at r
 
   turn-halts : (stack : List ContainerKind) (place : Place) (t : Token) (ts : Tokens) (way : Turn) → Halts ts → HaltsBehindKey ts →
-      LeadsOn way → (way ≡ stops → IsRefusable buffer m complains place (next t ts)) → (events : List Passed) (here : Place)
+      LeadsOn way → (way ≡ stops → IsRefusable buffer place (next t ts)) → (events : List Passed) (here : Place)
       (rest : Tokens) → follows m place t stack ts way ≡ events_before events (stuck here rest) →
-      IsRefusable buffer m complains here rest
+      IsRefusable buffer here rest
   turn-halts stack place t ts stops h g on r [] here rest e = there place here (next t ts) rest e (r refl)
   turn-halts stack place t ts stops h g on r (p ∷ events) here rest e = cc
   turn-halts stack place t ts (passes others stage) h g on r events here rest e = h others stage events here rest on e
@@ -176,7 +203,7 @@ module _ (buffer : List ℕ) (m : Meaning) (complains : List ℕ → Token → R
 
   mark-halts : (stack : List ContainerKind) (key mark : Token) (ts : Tokens) (b : Bool) → Halts ts → is_colon mark.kind ≡ b →
       (events : List Passed) (here : Place) (rest : Tokens) →
-      reads_colon m stack key (next mark ts) ≡ events_before events (stuck here rest) → IsRefusable buffer m complains here rest
+      reads_colon m stack key (next mark ts) ≡ events_before events (stuck here rest) → IsRefusable buffer here rest
   unfolding reads_colon
   mark-halts stack key mark ts false h c [] here rest e =
       let same : stuck after_key (next mark ts) ≡ stuck here rest = rw (c, reads_colon) at e in
@@ -215,36 +242,11 @@ module _ (buffer : List ℕ) (m : Meaning) (complains : List ℕ → Token → R
     colon-halts (next mark ts) stack key events here rest e =
         mark-halts stack key mark ts (is_colon mark.kind) (stuck-halts ts) refl events here rest e
 
--- ---- the refusals of strings and numbers
-
-text-faults : (buffer : List ℕ) (t : Token) (start finish : ℕ) → t.kind ≡ token.string start finish true →
-    option_map text (decoded (slice_range buffer start finish)) ≡ None → HasTextOrFault (slice_range buffer start finish) →
-    (r : Refusal) × Complains buffer t r
-text-faults buffer t start finish e none has = elim has.one_of_them [
-  | inl found ↦
-      let is : decoded (slice_range buffer start finish) ≡ Some found.0 = decoded-decodes _ found.0 found.1 in
-      let some : option_map text (decoded (slice_range buffer start finish)) ≡ Some (text found.0) = ap (option_map text) is in
-      absurd (cc)
-  | inr fault ↦ (_, of_escaped_string start finish fault.0 e fault.1 refl)
-]
-
-complains-by : (buffer : List ℕ) (t : Token) (kind : Kind) → t.kind ≡ kind → needs_meaning kind ≡ true →
-    meaning_of buffer kind ≡ None → (r : Refusal) × Complains buffer t r
-complains-by buffer t (token.string start finish true) e n none =
-    text-faults buffer t start finish e none (text_or_fault (slice_range buffer start finish))
-complains-by buffer t (token.string start finish false) e n none = (_, of_plain_string start finish e refl)
-complains-by buffer t (token.number start finish hint) e n none = (_, of_number (rw e refl) refl)
-complains-by buffer t _ e n none = cc
-
--- Whatever a buffer holds, its strings and numbers without a meaning are refused in some way.
-complains-always : (buffer : List ℕ) → ComplainsAlways buffer (meaning buffer) Complains
-complains-always buffer t needs none = complains-by buffer t t.kind refl needs none
-
 -- Where a longest prefix comes and then nothing, some refusal is allowed after it.
 pub prefix-refuses : (buffer : List ℕ) (mode : Mode) (events : List Passed) (here : Place) (rest : Tokens) →
     LongestPrefix (meaning buffer) (tokens buffer mode) events here rest →
     reads (meaning buffer) [] (within root) (tokens buffer mode) ≡ events_before events (stuck here rest) →
-    (r : Refusal) × RefusesAfter buffer mode Complains events r
+    (r : Refusal) × RefusesAfter buffer mode events r
 prefix-refuses buffer mode events here rest front e =
-    let found = stuck-halts buffer (meaning buffer) Complains (complains-always buffer) (tokens buffer mode) [] (within root) events here rest tt e in
+    let found = stuck-halts buffer (tokens buffer mode) [] (within root) events here rest tt e in
     (found.0, record { here = here; rest = rest; front = front; stuck = found.1 })

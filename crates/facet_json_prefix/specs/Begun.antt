@@ -70,9 +70,8 @@ pub record LongestPrefix (m : Meaning) (ts : Tokens) (events : List Passed) (her
       count rest ≤ count left
 
 -- Where the input has no document, these events are given, and then it is refused so, by what stands after the longest prefix.
-pub record RefusesAfter (buffer : List ℕ) (mode : Mode) (complains : List ℕ → Token → Refusal → Type 0) (events : List Passed)
-    (refusal : Refusal) : Type 0 where
+pub record RefusesAfter (buffer : List ℕ) (mode : Mode) (events : List Passed) (refusal : Refusal) : Type 0 where
   pub here : Place
   pub rest : Tokens
   pub front : LongestPrefix (meaning buffer) (tokens buffer mode) events here rest
-  pub stuck : IsStuck buffer (meaning buffer) complains here rest refusal
+  pub stuck : IsStuck buffer here rest refusal

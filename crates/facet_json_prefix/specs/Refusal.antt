@@ -10,4 +10,4 @@ pub use Rattle.facet_json_document.specs.Refusal.{number_complaint, Complains, o
 -- The input is refused so in the mode.
 pub record Refuses (buffer : List ℕ) (mode : Mode) (refusal : Refusal) : Type 0 where
   pub events : List Passed
-  pub after : RefusesAfter buffer mode Complains events refusal
+  pub after : RefusesAfter buffer mode events refusal

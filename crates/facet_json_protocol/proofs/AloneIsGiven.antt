@@ -10,7 +10,7 @@ use Rattle.facet_json_document.specs.Meaning.{meaning}
 use Rattle.facet_json_document.specs.Document.{IsDocument}
 use Rattle.facet_json_document.specs.Place.{Place, root}
 use Rattle.facet_format.specs.Complaint.{Refusal}
-use Rattle.facet_json_document.specs.Refusal.{IsStuck, Complains}
+use Rattle.facet_json_document.specs.Refusal.{IsStuck}
 use Rattle.facet_format.specs.Event.{Passed, takes_memory}
 use Rattle.facet_format.specs.Cursor.{Coming, Cursor, World, last_seen, current_span, at_spot, unpeeked, Call, next, Answer, event, no_memory_at, Step, repeats, passes, passes_without_memory, passes_the_end, passes_nothing, Run, no_calls, one_call}
 use Rattle.facet_json_document.specs.Future.{gives, stuck, events_before, within, reads}
@@ -51,7 +51,7 @@ module _ {P : Type 0} (w : World P) where
       rw same (one_refused answers (all-refused {c = between} r both.1 only more))
 
 module _ (buffer : List ℕ) (mode : Mode) (refuses : Refusal → Type 0) (here : Place) (rest : Tokens)
-    (may : (r : Refusal) → IsStuck buffer (meaning buffer) Complains here rest r → refuses r) where
+    (may : (r : Refusal) → IsStuck buffer here rest r → refuses r) where
   -- These events come at the cursor's place, which is after this last token, and then no document goes on.
   record ComesAlone (c : Cursor Standing) (last : Span) (events : List Passed) : Type 0 where
     pub free : c.refusal ≡ None
@@ -108,15 +108,15 @@ pub prefix-alone : (buffer : List ℕ) (mode : Mode) (events : List Passed) (her
     {calls : List Call} {answers : List Answer} → LongestPrefix (meaning buffer) (tokens buffer mode) events here rest →
     reads (meaning buffer) [] (within root) (tokens buffer mode) ≡ events_before events (stuck here rest) → AllNext calls →
     MovesAll (fresh buffer mode) calls answers new →
-    AnswersAlone (RefusesAfter buffer mode Complains events) (span_at 0 0) events answers
+    AnswersAlone (RefusesAfter buffer mode events) (span_at 0 0) events answers
 prefix-alone buffer mode events here rest front e only moves =
-    answers-alone buffer mode (RefusesAfter buffer mode Complains events) here rest
+    answers-alone buffer mode (RefusesAfter buffer mode events) here rest
     (λ r stops. record { here = here; rest = rest; front = front; stuck = stops }) (span_at 0 0) events
     (record { free = refl; last_is = refl; comes = e }) only moves.run
 
 given_by : (buffer : List ℕ) (mode : Mode) {new : Now} {calls : List Call} {answers : List Answer} → RootComes buffer mode →
     ((node : Node) (value : Tree) → IsDocument buffer mode node value → ⊥) → AllNext calls →
-    MovesAll (fresh buffer mode) calls answers new → GivenAlone buffer mode Complains answers
+    MovesAll (fresh buffer mode) calls answers new → GivenAlone buffer mode answers
 given_by buffer mode (document_comes node value d e) none only moves = absurd (none node value d)
 given_by buffer mode (prefix_comes events here rest front e) none only moves = record {
   events = events;
@@ -129,5 +129,5 @@ given_by buffer mode (prefix_comes events here rest front e) none only moves = r
 -- Where there is no document, what the longest prefix gives is answered, and then one refusal.
 pub given-alone : (buffer : List ℕ) (mode : Mode) {new : Now} {calls : List Call} {answers : List Answer} →
     ((node : Node) (value : Tree) → IsDocument buffer mode node value → ⊥) → AllNext calls →
-    MovesAll (fresh buffer mode) calls answers new → GivenAlone buffer mode Complains answers
+    MovesAll (fresh buffer mode) calls answers new → GivenAlone buffer mode answers
 given-alone buffer mode none only moves = given_by buffer mode (input-comes buffer mode) none only moves

@@ -11,7 +11,6 @@ use Rattle.facet_json_document.specs.Node.{Node}
 use Rattle.facet_json_document.specs.Tree.{Tree}
 use Rattle.facet_json_document.specs.Meaning.{meaning}
 use Rattle.facet_json_document.specs.Document.{IsDocument}
-use Rattle.facet_json_document.specs.Refusal.{Complains}
 use Rattle.facet_json_document.specs.Walk.{walk}
 use Rattle.facet_json_prefix.specs.Begun.{RefusesAfter}
 use Rattle.facet_json_prefix.specs.EventLaws.{IsGiven}
@@ -42,9 +41,9 @@ pub record AnswersPrefix (buffer : List ℕ) (mode : Mode) : Type 0 where
   pub only : (others : List Passed) → IsGiven buffer mode others → others ≡ events
   -- some refusal is possible
   pub refusal : Refusal
-  pub refused : RefusesAfter buffer mode Complains events refusal
+  pub refused : RefusesAfter buffer mode events refusal
   pub alone : (calls : List Call) (answers : List Answer) (new : Now) → AllNext calls → NewAnswers buffer mode calls answers new →
-      AnswersAlone (RefusesAfter buffer mode Complains events) (span_at 0 0) events answers
+      AnswersAlone (RefusesAfter buffer mode events) (span_at 0 0) events answers
 
 -- The input is of the one kind or of the other.
 pub data Answered (buffer : List ℕ) (mode : Mode) : Type 0 where

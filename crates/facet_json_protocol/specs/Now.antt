@@ -6,8 +6,7 @@ use Rattle.facet_format.specs.Event.{Passed}
 use Rattle.facet_format.specs.Cursor.{Coming, an_event, the_end, a_refusal, World, Cursor, start_at, current_span, last_of}
 use Rattle.facet_format.specs.Alike.{CursorsAlike}
 use Rattle.facet_json_token.specs.Gap.{Mode}
-use Rattle.facet_json_document.specs.Meaning.{meaning}
-use Rattle.facet_json_document.specs.Refusal.{IsStuck, Complains}
+use Rattle.facet_json_document.specs.Refusal.{IsStuck}
 use Rattle.facet_json_document.specs.Future.{Future, gives, finished, stuck, events_before}
 use Rattle.facet_json_document.specs.InputPlace.{Standing, first_standing, past, future_at}
 
@@ -32,7 +31,7 @@ first_of (stuck place rest) = a_refusal
 
 -- Where no document goes on, it may be refused so.
 abbrev pub RefusedAt : List ℕ → Future → Refusal → Type 0
-RefusedAt buffer (stuck place rest) refusal = IsStuck buffer (meaning buffer) Complains place rest refusal
+RefusedAt buffer (stuck place rest) refusal = IsStuck buffer place rest refusal
 RefusedAt buffer _ refusal = ⊥
 
 -- an input's places

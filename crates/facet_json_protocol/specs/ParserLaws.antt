@@ -2,9 +2,7 @@
 use Rattle.std.specs.Prelude.{ℕ, List}
 use Rattle.facet_format.specs.Span.{span_at}
 use Rattle.facet_json_token.specs.Gap.{Mode}
-use Rattle.facet_json_token.specs.Token.{Token}
 use Rattle.facet_json_token.specs.Tokens.{Tokens, tokens}
-use Rattle.facet_format.specs.Complaint.{Refusal}
 use Rattle.facet_format.specs.Event.{Passed}
 use Rattle.facet_format.specs.Cursor.{Call, Answer, start}
 use Rattle.facet_format.specs.Agree.{AgreeToLack}
@@ -13,7 +11,6 @@ use Rattle.facet_json_document.specs.Tree.{Tree}
 use Rattle.facet_json_document.specs.Meaning.{meaning}
 use Rattle.facet_json_document.specs.Document.{IsDocument}
 use Rattle.facet_json_document.specs.Place.{Place}
-use Rattle.facet_json_document.specs.Refusal.{Complains}
 use Rattle.facet_json_document.specs.Walk.{walk}
 use Rattle.facet_json_protocol.specs.Now.{Now, fresh, StandsAt}
 use Rattle.facet_json_protocol.specs.Move.{MovesAll}
@@ -26,12 +23,12 @@ NewStands = (buffer : List ℕ) (mode : Mode) (node : Node) (value : Tree) → I
     StandsAt (fresh buffer mode) (walk (meaning buffer) node) start
 
 -- What a new parser answers by the next event alone, where there is no document.
-pub record GivenAlone (buffer : List ℕ) (mode : Mode) (complains : List ℕ → Token → Refusal → Type 0) (answers : List Answer) : Type 0 where
+pub record GivenAlone (buffer : List ℕ) (mode : Mode) (answers : List Answer) : Type 0 where
   pub events : List Passed
   pub here : Place
   pub rest : Tokens
   pub front : LongestPrefix (meaning buffer) (tokens buffer mode) events here rest
-  pub alone : AnswersAlone (RefusesAfter buffer mode complains events) (span_at 0 0) events answers
+  pub alone : AnswersAlone (RefusesAfter buffer mode events) (span_at 0 0) events answers
 
 -- Where the input has no document, a new parser that is asked for the next event alone answers what the longest prefix gives, one
 -- event a call, and from then on one refusal of what stands after that prefix; or, in place of an event that allocates, out of memory
@@ -39,7 +36,7 @@ pub record GivenAlone (buffer : List ℕ) (mode : Mode) (complains : List ℕ �
 abbrev pub AloneIsGiven : Type 0
 AloneIsGiven = (buffer : List ℕ) (mode : Mode) (new : Now) (calls : List Call) (answers : List Answer) →
     ((node : Node) (value : Tree) → IsDocument buffer mode node value → ⊥) → AllNext calls →
-    MovesAll (fresh buffer mode) calls answers new → GivenAlone buffer mode Complains answers
+    MovesAll (fresh buffer mode) calls answers new → GivenAlone buffer mode answers
 
 -- Two new parsers of an input with a document answer the same calls alike, up to the first out of memory in either. A trusted parser and
 -- one that checks are both new ones.

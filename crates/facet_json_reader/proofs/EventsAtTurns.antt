@@ -20,7 +20,7 @@ use Rattle.facet_json_token.specs.Tokens.{Tokens, tokens_from}
 use Rattle.facet_json_document.specs.Future.{Future, gives, Stage, within, after_value, Turn, passes, says, says_scalar, names, place_turn, turn, unless_meaningless, reads, reads_colon}
 use Rattle.facet_json_document.specs.Meaning.{meaning, meaning_of, text_of as text_in}
 use Rattle.facet_json_document.specs.Place.{Place, after_key, after_colon}
-use Rattle.facet_json_document.specs.Refusal.{needs_meaning, meaningless, Complains}
+use Rattle.facet_json_document.specs.Refusal.{needs_meaning, meaningless}
 use Rattle.facet_json_document.specs.Tree.{Tree}
 use Rattle.facet_json_document.specs.Tree as tree
 use Rattle.facet_json_document.specs.Walk.{event_at, scalar_event, key_event, scalar_of, name_of}
@@ -65,7 +65,7 @@ module _ (buffer : List ℕ) (mode : Mode) (stack : List ContainerKind) (place :
       StopsAt buffer place ts refusal → IsRefusedBefore buffer last here refusal
   stops-refused last ts refusal is stops =
       let comes = ap (reads (meaning buffer) stack (within place)) is
-      ∙ stuck-reads buffer (meaning buffer) Complains stack place ts refusal stops in
+      ∙ stuck-reads buffer stack place ts refusal stops in
       subst (λ f. IsRefusedBefore buffer last f refusal) (sym comes) (at_a_stop place ts refusal stops)
 
 module _ (buffer : List ℕ) (mode : Mode) (stack : List ContainerKind) (place : Place) (position : ℕ) (t : SpannedToken) where
@@ -194,5 +194,5 @@ module _ (buffer : List ℕ) (mode : Mode) (stack : List ContainerKind) (place :
   pub key-stopped : (last : Span) (refusal : Refusal) (is : Turns turns.Names) → IsSome (meaning_of buffer is.kind) →
       StopsAt buffer after_key rest refusal → IsRefusedBefore buffer last all refusal
   key-stopped last refusal is some stops =
-      let comes = names_comes is some ∙ stuck-reads_colon buffer (meaning buffer) Complains stack (whole is.kind) rest refusal stops in
+      let comes = names_comes is some ∙ stuck-reads_colon buffer stack (whole is.kind) rest refusal stops in
       subst (λ f. IsRefusedBefore buffer last f refusal) (sym comes) (at_a_stop after_key rest refusal stops)

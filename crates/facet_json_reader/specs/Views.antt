@@ -26,7 +26,7 @@ use Rattle.facet_json_token.specs.Views.{kind_of}
 use Rattle.facet_json_document.specs.Future.{Future, gives, finished, stuck, Stage, within, over, place_turn, reads}
 use Rattle.facet_json_document.specs.Meaning.{meaning, meaning_of}
 use Rattle.facet_json_document.specs.Place.{Place, after_key, kind_name}
-use Rattle.facet_json_document.specs.Refusal.{needs_meaning, IsStuck, Complains}
+use Rattle.facet_json_document.specs.Refusal.{needs_meaning, IsStuck}
 use Rattle.facet_json_document.specs.InputPlace.{Standing, future_at}
 use Rattle.facet_json_document.specs.Walk.{scalar_of}
 use Rattle.facet_json_place.specs.Views.{place_of, turn_of, name_text, refused_of}
@@ -74,7 +74,7 @@ pub record IsTurn (buffer : List ℕ) (mode : Mode) (stack : List ContainerKind)
 
 -- The tokens don't go on with a document at the place, and are refused so.
 abbrev pub StopsAt : List ℕ → Place → Tokens → Refusal → Type 0
-StopsAt buffer place ts refusal = IsStuck buffer (meaning buffer) Complains place ts refusal
+StopsAt buffer place ts refusal = IsStuck buffer place ts refusal
 
 -- A token of this kind has this name in a refusal, and a meaning where it needs one.
 pub record IsNamed (buffer : List ℕ) (kind : Kind) (name : Name) : Type 0 where

@@ -3,9 +3,8 @@ use Rattle.std.specs.Prelude.{◌≡◌, ◌≤◌, ◌⊎◌, ℕ, false, List,
 use Rattle.facet_format.specs.Complaint.{Refusal, out_of_memory}
 use Rattle.facet_format.specs.Event.{EventKind, ContainerKind, Scalar, scalar, Text, bytes_of, field_key, struct_start, sequence_start, Passed}
 use Rattle.facet_json_token.specs.Tokens.{Tokens}
-use Rattle.facet_json_document.specs.Meaning.{meaning}
 use Rattle.facet_json_document.specs.Place.{Place}
-use Rattle.facet_json_document.specs.Refusal.{IsStuck, Complains}
+use Rattle.facet_json_document.specs.Refusal.{IsStuck}
 use Rattle.facet_json_document.specs.Tree.{Tree, Trees, no_trees, Pairs, no_pairs, list, pairs}
 use Rattle.facet_json_document.specs.Future.{Future, gives, finished, stuck}
 use Rattle.facet_json_protocol.specs.Now.{Now, ahead, future_of}
@@ -19,7 +18,7 @@ LacksMemory refusal = refusal.complaint ≡ out_of_memory
 
 -- Memory ran out, or no document goes on with the tokens at the place, and it is refused so.
 abbrev pub StopsAt : List ℕ → Place → Tokens → Refusal → Type 0
-StopsAt buffer place rest refusal = LacksMemory refusal ⊎ IsStuck buffer (meaning buffer) Complains place rest refusal
+StopsAt buffer place rest refusal = LacksMemory refusal ⊎ IsStuck buffer place rest refusal
 
 -- ---- one event
 
@@ -28,7 +27,7 @@ pub data GivesNone (now : Now) (refusal : Refusal) : Type 0 where
   lacks_memory : LacksMemory refusal → GivesNone now refusal
   at_the_end : future_of now ≡ finished → GivesNone now refusal
   is_stuck : (place : Place) (rest : Tokens) → future_of now ≡ stuck place rest →
-      IsStuck now.buffer (meaning now.buffer) Complains place rest refusal → GivesNone now refusal
+      IsStuck now.buffer place rest refusal → GivesNone now refusal
 
 -- ---- values
 

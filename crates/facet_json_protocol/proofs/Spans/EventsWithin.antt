@@ -30,7 +30,7 @@ complains-within buffer t r w (of_plain_string start finish k e) = rw e w
 complains-within buffer t r w (of_escaped_string start finish f k is e) = rw e (fault-in_buffer buffer start finish f is)
 
 stuck-within : (buffer : List ℕ) (place : Place) (rest : Tokens) (r : Refusal) (from : ℕ) →
-    IsStuck buffer (meaning buffer) Complains place rest r → InOrder buffer from rest → RefusalWithin buffer r
+    IsStuck buffer place rest r → InOrder buffer from rest → RefusalWithin buffer r
 stuck-within buffer place _ r from (at_end _) o = omega arith
 stuck-within buffer place _ r from (at_fault _ f) (at_a_fault _ _ w) = w
 stuck-within buffer place _ r from (meaningless _ t rest _ k n q) (at_a_token _ _ _ b w more) = complains-within buffer t r w q
