@@ -2,4 +2,4 @@
 pub use Rattle.facet_json_token.specs.Views.{mode_of, kind_of, with_span, token_answer, fault_answer, scanned, scan_complaint, scan_refusal}
 pub use Rattle.facet_json_decode.specs.Views.{decode_refusal, has_backslash, IsItsText, TellsFirstFault, RefusesContent, whole_refused}
 pub use Rattle.facet_json_number.specs.Views.{number_of, is_made_number, number_refusal}
-pub use Rattle.facet_json_scanner.specs.Views.{part_of, state_of, pending_of, cut_answer, token_answered, fault_answered, answered, span_answered, NamesWithin, IndicesWithin, position_after, stands_last, PieceHere, PieceWithin, FoundHere, FoundFrom, FoundWithin, RefusedAt, RefusedThere}
+pub use Rattle.facet_json_scanner.specs.Views.{cut_answer, token_answered, fault_answered, answered, span_answered, NamesWithin, IndicesWithin, stands_last}

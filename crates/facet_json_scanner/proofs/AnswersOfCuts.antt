@@ -18,7 +18,8 @@ use Rattle.facet_json_token.specs.Open.{IsBeginning}
 use Rattle.facet_json_token.specs.Token.{Kind, string, number}
 use Rattle.facet_json_scanner.specs.Scanner.{ended, answer_for}
 use Rattle.facet_json_token.specs.Views.{scanned, token_answer as token_scanned, fault_answer as fault_scanned}
-use Rattle.facet_json_scanner.specs.Views.{answered, token_answered, fault_answered, span_answered, NamesWithin, IndicesWithin, FoundHere}
+use Rattle.facet_json_scanner.specs.Views.{answered, token_answered, fault_answered, span_answered, NamesWithin, IndicesWithin}
+use Rattle.facet_json_scanner.specs.Inner.Found.{FoundHere}
 use Rattle.facet_format.specs.Views.{span_of}
 use Rattle.facet_json_scanner.specs.declared.scanner.token.Found.TheVariants as found
 use Rattle.facet_json_token.proofs.CutBounds.{KindFits, CutFits, here_fits}

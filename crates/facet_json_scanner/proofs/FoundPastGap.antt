@@ -7,7 +7,7 @@ use Rattle.facet_json_token.specs.Gap.{Mode, whole, growing, piece_len, gap_len}
 use Rattle.facet_json_token.specs.Cut.{cut, cut_here, past_gap}
 use Rattle.facet_json_token.specs.Open.{IsBeginning, IsOpen}
 use Rattle.facet_json_scanner.specs.Scanner.{Describes, answer_for, past_growing_gap}
-use Rattle.facet_json_scanner.specs.Views.{FoundHere, FoundFrom, state_of}
+use Rattle.facet_json_scanner.specs.Inner.Found.{FoundHere, FoundFrom, state_of}
 use Rattle.facet_json_token.proofs.GapSteps.{past_gap-piece}
 use Rattle.facet_json_token.proofs.Gaps.{gap_len-none, gap_len-piece}
 use Rattle.facet_json_scanner.proofs.GrowthOfGap.{piece_len-keeps}

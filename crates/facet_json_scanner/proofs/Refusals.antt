@@ -24,7 +24,8 @@ use Rattle.facet_json_token.proofs.Starts.{start_of-number}
 use Rattle.facet_json_scanner.specs.declared.scanner.token.Found.{Found}
 use Rattle.facet_json_scanner.specs.declared.scanner.token.Found.TheVariants as found
 use Rattle.facet_json_scanner.specs.Scanner.{needs_more, answer_for, idle, stands_after, past_growing_gap, Gives}
-use Rattle.facet_json_scanner.specs.Views.{answered, fault_answered, position_after, FoundFrom, RefusedAt, RefusedThere}
+use Rattle.facet_json_scanner.specs.Views.{answered, fault_answered}
+use Rattle.facet_json_scanner.specs.Inner.Found.{position_after, FoundFrom, RefusedAt, RefusedThere}
 use Rattle.facet_json_scanner.proofs.AnswersOfCuts.{found-here}
 use Rattle.facet_json_scanner.proofs.FoundPastGap.{growing_gap-none, same_gap, found-no_gap}
 use Rattle.facet_json_scanner.proofs.GrowthOfGap.{piece_len-keeps}

@@ -1,3 +1,4 @@
+pub mod Inner
 pub mod Laws
 pub mod Scanner
 pub mod Views

@@ -9,7 +9,8 @@ ghost use Rattle.facet_json_token.specs.Cut as spec_cut;
 ghost use Rattle.facet_json_scanner.specs.Scanner.{answer_for, idle, nothing_pending, scanner_at, first_of, first_byte_of, stands_at_end, Describes, GoesOnFrom, Gives};
 ghost use Rattle.facet_json_scanner.specs.Scanner as spec_scanner;
 ghost use Rattle.facet_json_token.specs.Views.{mode_of};
-ghost use Rattle.facet_json_scanner.specs.Views.{state_of, pending_of, answered, span_answered, IndicesWithin, position_after, stands_last, FoundFrom, FoundWithin, RefusedThere, PieceHere, PieceWithin};
+ghost use Rattle.facet_json_scanner.specs.Views.{answered, span_answered, IndicesWithin, stands_last};
+ghost use Rattle.facet_json_scanner.specs.Inner.Found.{state_of, pending_of, position_after, FoundFrom, FoundWithin, RefusedThere, PieceHere, PieceWithin};
 
 mod gap;
 mod pending;
@@ -45,7 +46,7 @@ pub struct Scanner {
 impl Model for Scanner {
     ghost use Rattle.std.specs.Prelude.{◌<◌, IfSome};
     ghost use Rattle.facet_json_token.specs.Views.{mode_of};
-    ghost use Rattle.facet_json_scanner.specs.Views.{pending_of};
+    ghost use Rattle.facet_json_scanner.specs.Inner.Found.{pending_of};
     ghost use Rattle.facet_json_scanner.specs.Scanner as spec;
 
     ghost Value = { spec.Scanner };

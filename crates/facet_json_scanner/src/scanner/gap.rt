@@ -6,7 +6,7 @@ ghost use Rattle.facet_format.specs.Bytes as bytes;
 ghost use Rattle.facet_json_token.specs.Gap.{jsonc};
 ghost use Rattle.facet_json_scanner.specs.Scanner.{in_line, in_block, Describes};
 ghost use Rattle.facet_json_token.specs.Views.{mode_of};
-ghost use Rattle.facet_json_scanner.specs.Views.{PieceHere, PieceWithin};
+ghost use Rattle.facet_json_scanner.specs.Inner.Found.{PieceHere, PieceWithin};
 
 use crate::scanner::pending::State;
 use facet_json_token::Mode;

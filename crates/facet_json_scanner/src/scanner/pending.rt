@@ -3,7 +3,7 @@
 ghost use Rattle.std.specs.Prelude.{◌≡◌, MatchOption};
 ghost use Rattle.facet_format.specs.Bytes as bytes;
 ghost use Rattle.facet_json_scanner.specs.Scanner.{part_hint, GoesOnWith, EndsBefore};
-ghost use Rattle.facet_json_scanner.specs.Views.{part_of};
+ghost use Rattle.facet_json_scanner.specs.Inner.Found.{part_of};
 ghost use Rattle.facet_format.specs.Views.{hint_of};
 
 use facet_format::numeral::NumberHint;

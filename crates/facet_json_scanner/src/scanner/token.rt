@@ -11,7 +11,8 @@ ghost use Rattle.facet_json_token.specs.Open.{IsBeginning};
 ghost use Rattle.facet_json_scanner.specs.Scanner.{in_text, ended, EndsIn, Describes};
 ghost use Rattle.facet_format.specs.Number.{parts, parts_len, parts_hint, is_bare};
 ghost use Rattle.facet_json_token.specs.Views.{mode_of, kind_of, scanned};
-ghost use Rattle.facet_json_scanner.specs.Views.{part_of, answered, span_answered, IndicesWithin, FoundHere, FoundFrom, FoundWithin, RefusedAt, RefusedThere};
+ghost use Rattle.facet_json_scanner.specs.Views.{answered, span_answered, IndicesWithin};
+ghost use Rattle.facet_json_scanner.specs.Inner.Found.{part_of, FoundHere, FoundFrom, FoundWithin, RefusedAt, RefusedThere};
 
 use crate::scanner::gap::{Piece, piece_from};
 use crate::scanner::pending::{Part, State};

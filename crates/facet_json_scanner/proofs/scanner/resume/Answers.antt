@@ -3,7 +3,7 @@ use Rattle.std.proofs.Common.{rules, drop, ap, ◌∙◌, subst, arith}
 use Rattle.facet_json_token.specs.Gap.{growing, piece_len}
 use Rattle.facet_json_scanner.specs.Scanner.{Describes}
 use Rattle.facet_json_token.specs.Views.{mode_of}
-use Rattle.facet_json_scanner.specs.Views.{state_of, part_of}
+use Rattle.facet_json_scanner.specs.Inner.Found.{state_of, part_of}
 use Rattle.facet_json_scanner.proofs.Segments.{between, between-rest}
 use Rattle.facet_json_scanner.proofs.FoundPastGap.{found-no_gap}
 use Rattle.facet_json_scanner.proofs.NoPiece.{text_no_piece, number_no_piece}

@@ -2,7 +2,8 @@
 use Rattle.std.proofs.Common.{rules, ◌≡◌, length, drop, IfErr, sym, ap, subst}
 use Rattle.facet_json_scanner.specs.Scanner.{GoesOnFrom, Describes, idle, waiting, past_growing_gap, Gives}
 use Rattle.facet_json_token.specs.Views.{mode_of}
-use Rattle.facet_json_scanner.specs.Views.{state_of, answered, position_after}
+use Rattle.facet_json_scanner.specs.Views.{answered}
+use Rattle.facet_json_scanner.specs.Inner.Found.{state_of, position_after}
 use Rattle.facet_json_scanner.proofs.OpenNeedsMore.{gives-open}
 use Rattle.facet_json_scanner.proofs.Refusals.{more-no_refusal, gives-refused}
 use Rattle.facet_json_scanner.proofs.scanner.Scanner.next_token.Goals as goal

@@ -4,7 +4,7 @@ use Rattle.std.proofs.lemmas.Option.{slice_get-get_or}
 use Rattle.facet_format.specs.Number.{parts}
 use Rattle.facet_json_token.specs.Cut.{nothing_left}
 use Rattle.facet_json_scanner.specs.Scanner.{EndsIn, Describes}
-use Rattle.facet_json_scanner.specs.Views.{part_of}
+use Rattle.facet_json_scanner.specs.Inner.Found.{part_of}
 use Rattle.facet_json_scanner.proofs.AnswersOfCuts.{found-here}
 use Rattle.facet_json_token.proofs.FirstBytes.{cut_here-something}
 use Rattle.facet_json_token.proofs.Offsets.{slice_get-from_read, drop-at_byte}

@@ -1,7 +1,7 @@
 -- What was read of the number ends in the part.
 use Rattle.std.proofs.Common.{◌-◌, ◌≤◌, ◌<◌, length}
 use Rattle.facet_json_scanner.specs.Scanner.{EndsIn}
-use Rattle.facet_json_scanner.specs.Views.{part_of}
+use Rattle.facet_json_scanner.specs.Inner.Found.{part_of}
 use Rattle.facet_json_scanner.proofs.Segments.{between}
 use Rattle.facet_json_scanner.proofs.scanner.token.number_from.Given as goal
 

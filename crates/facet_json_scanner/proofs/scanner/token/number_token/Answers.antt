@@ -7,7 +7,7 @@ use Rattle.facet_json_token.specs.Gap.{plain}
 use Rattle.facet_json_token.specs.Token.{number}
 use Rattle.facet_format.specs.Views.{hint_of}
 use Rattle.facet_json_token.specs.Cut.{token_at}
-use Rattle.facet_json_scanner.specs.Views.{part_of}
+use Rattle.facet_json_scanner.specs.Inner.Found.{part_of}
 use Rattle.facet_json_scanner.proofs.AnswersOfCuts.{answered-ends, number-answered}
 use Rattle.facet_json_token.proofs.NumberCuts.{number_at}
 use Rattle.facet_json_scanner.proofs.PendingNumber.{number-token}

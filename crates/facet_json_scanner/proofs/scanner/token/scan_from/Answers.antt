@@ -1,7 +1,7 @@
 -- A piece more leaves what is found as it is, and where the gap ends it is found.
 use Rattle.std.proofs.Common.{refl}
 use Rattle.facet_json_token.specs.Views.{mode_of}
-use Rattle.facet_json_scanner.specs.Views.{state_of}
+use Rattle.facet_json_scanner.specs.Inner.Found.{state_of}
 use Rattle.facet_json_scanner.specs.declared.scanner.token.Found.TheVariants as found
 use Rattle.facet_json_scanner.proofs.FoundPastGap.{found-no_gap, found-piece}
 use Rattle.facet_json_scanner.proofs.NoPiece.{open_no_piece}

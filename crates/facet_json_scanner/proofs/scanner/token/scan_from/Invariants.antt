@@ -2,7 +2,7 @@
 use Rattle.std.proofs.Common.{◌-◌, ◌≤◌, length}
 use Rattle.facet_json_scanner.specs.declared.scanner.token.Found.{Found}
 use Rattle.facet_json_token.specs.Views.{mode_of}
-use Rattle.facet_json_scanner.specs.Views.{FoundFrom}
+use Rattle.facet_json_scanner.specs.Inner.Found.{FoundFrom}
 use Rattle.facet_json_scanner.proofs.scanner.token.scan_from.Given as goal
 
 abbrev pub invariant-loop-end : goal.invariant-loop-end
