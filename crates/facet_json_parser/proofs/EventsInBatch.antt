@@ -17,6 +17,7 @@ use Rattle.facet_json_protocol.specs.Now.{Now, on_input, SameInput}
 use Rattle.facet_json_protocol.specs.Move.{Moves}
 use Rattle.facet_json_protocol.specs.Next.{PassesAll}
 use Rattle.facet_json_protocol.specs.Within.{NowWithin}
+use Rattle.facet_json_protocol.proofs.StepLaws.{Comes-one_more}
 use Rattle.facet_json_protocol.proofs.MovesNext.{events-pass, events-count}
 use Rattle.facet_json_protocol.proofs.MoveLaws.{with_cursor, same_cursor-is}
 use Rattle.facet_json_parser.proofs.AnswersAreMoves.{step-moves}
@@ -30,13 +31,6 @@ module _ {P : Type 0} (w : World P) where
 
   -- ---- one more event
 
-  -- One more event comes.
-  comes-more : {a b : P} {given : List Event} (p : Passed) → Comes w a given b → w.comes b ≡ an_event p →
-      Comes w a (given ++ p.event ∷ []) (w.past p b)
-  comes-more p (no_event place) next = one_event place (w.past p place) p [] next (no_event _)
-  comes-more p (one_event place after q others first more) next =
-      one_event place (w.past p after) q (others ++ p.event ∷ []) first (comes-more p more next)
-
   length-more : (given : List Event) (e : Event) → 1 ≤ length (given ++ e ∷ [])
   length-more [] e = omega arith
   length-more (f ∷ given) e = omega arith
@@ -49,7 +43,7 @@ module _ {P : Type 0} (w : World P) where
   next-given : (old : Cursor P) (given : List Event) (place : P) (e : Event) (s : Spot P) → old.refusal ≡ None →
       Comes w old.spot.place given place → QueuesOne w (unpeeked place) (Ok (Some e)) s → Batch old (given ++ e ∷ []) (at_spot old s)
   next-given old given place _ _ none comes (queues p up) =
-      some_given (given ++ p.event ∷ []) (w.past p place) (length-more given p.event) none (comes-more p comes up)
+      some_given (given ++ p.event ∷ []) (w.past p place) (length-more given p.event) none (Comes-one_more w p comes up)
 
   pub batch-more : (old cur new : Cursor P) (given : List Event) (e : Event) → Batch old given cur → QueuesNext w cur (Ok (Some e)) new →
       Batch old (given ++ e ∷ []) new

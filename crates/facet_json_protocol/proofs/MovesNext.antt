@@ -15,7 +15,7 @@ use Rattle.facet_json_protocol.proofs.MoveLaws.{with_cursor, StepOf, by_step}
 
 -- ---- what comes at a place
 
-first-gives : (f : Future) (p : Passed) → first_of f ≡ an_event p → (rest : Future) × (f ≡ gives_first p rest)
+pub first-gives : (f : Future) (p : Passed) → first_of f ≡ an_event p → (rest : Future) × (f ≡ gives_first p rest)
 first-gives (gives_first q rest) p e = let same : q ≡ p = cc in (rest, ap (λ x. gives_first x rest) same)
 first-gives finished p e = cc
 first-gives (stuck place rest) p e = cc

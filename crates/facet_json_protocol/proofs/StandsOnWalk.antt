@@ -16,6 +16,7 @@ use Rattle.facet_json_document.proofs.WalkComes.{document-comes}
 use Rattle.facet_json_protocol.specs.Now.{fresh, first_of, on_input, StandsOn, StandsAt}
 use Rattle.facet_format.proofs.StepsAlike.{WorldsAlike}
 use Rattle.facet_json_document.proofs.PastEvents.{past-comes}
+use Rattle.facet_json_protocol.proofs.MovesNext.{first-gives}
 
 -- ---- at the start
 
@@ -63,14 +64,6 @@ first-there (q ∷ w) (suc i) = first-there w i
 never-refused : (o : Option Passed) → event_or_end o ≡ a_refusal → ⊥
 never-refused None e = cc
 never-refused (Some p) e = cc
-
--- Where an event comes first, this comes after it.
-first-gives : (f : Future) (p : Passed) → first_of f ≡ an_event p → (rest : Future) × (f ≡ gives p rest)
-first-gives (gives q rest) p e =
-    let same : q ≡ p = cc in
-    (rest, ap (λ x. gives x rest) same)
-first-gives finished p e = cc
-first-gives (stuck at rest) p e = cc
 
 -- Where an input's place is one on a walk, they are alike from there on.
 pub input-on_walk : (buffer : List ℕ) (mode : Mode) (w : List Passed) →
