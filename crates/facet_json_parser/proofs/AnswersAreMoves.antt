@@ -1,5 +1,5 @@
 -- What a call of a parser answers is a move.
-use Rattle.std.proofs.Common.{◌≡◌, ℕ, suc, ◌<◌, List, Option, Some, None, refl, sym, subst, ◌∙◌}
+use Rattle.std.proofs.Common.{◌≡◌, ℕ, suc, ◌<◌, List, Option, Some, None, refl, subst}
 use Rattle.std.specs.Prelude.{Ok, Err, IfSome, IfNone}
 use Rattle.std.specs.Option.{option_map}
 use Rattle.facet_format.specs.declared.event.ParseEvent.{ParseEvent}

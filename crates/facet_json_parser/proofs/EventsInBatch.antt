@@ -8,8 +8,8 @@ use Rattle.facet_format.specs.declared.event.ParseEvent.{ParseEvent}
 use Rattle.facet_format.specs.declared.parse_error.ParseError.{ParseError}
 use Rattle.facet_format.specs.Views.{event_of, parse_refusal, answer_of_events}
 use Rattle.facet_format.specs.Complaint.{Refusal}
-use Rattle.facet_format.specs.Event.{Event, Passed}
-use Rattle.facet_format.specs.Cursor.{World, an_event, the_end, a_refusal, Spot, unpeeked, Comes, no_event, one_event, spot_after, current_span, no_memory_at, Cursor, at_spot, refused_at, events, batch, Step, repeats, gives_none, gives, gives_without_memory, gives_up}
+use Rattle.facet_format.specs.Event.{Event}
+use Rattle.facet_format.specs.Cursor.{World, Spot, unpeeked, Comes, no_event, one_event, spot_after, Cursor, at_spot, refused_at, events, batch, Step, repeats, gives_none, gives, gives_without_memory, gives_up}
 use Rattle.facet_json_standing.specs.Steps.{QueuesOne, queues, queues_the_end, queues_without_memory, queues_nothing, QueuesNext, answers, refuses, QueuesNow}
 use Rattle.facet_json_standing.specs.Steps as steps
 use Rattle.facet_json_document.specs.InputPlace.{Standing}

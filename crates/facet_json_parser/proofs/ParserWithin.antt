@@ -13,7 +13,7 @@ use Rattle.facet_format.specs.Cursor.{Call, next, events, save, restore, Spot, C
 use Rattle.facet_format.specs.Span.{Span}
 use Rattle.facet_json_token.specs.Gap.{Mode}
 use Rattle.facet_json_document.specs.InputPlace.{Standing}
-use Rattle.facet_json_protocol.specs.Now.{Now, fresh, on_input, span_of, ahead, SameInput, GoesOn}
+use Rattle.facet_json_protocol.specs.Now.{Now, on_input, span_of, ahead, GoesOn}
 use Rattle.facet_json_protocol.specs.Move.{Moves}
 use Rattle.facet_json_protocol.specs.Within.{StandsWithin, RefusalWithin, NowWithin, AnswerWithin, no_events}
 use Rattle.facet_json_protocol.proofs.MoveLaws.{with_cursor, same_cursor-is}

@@ -10,7 +10,7 @@ use Rattle.facet_json_document.specs.Tree.{Tree}
 use Rattle.facet_json_document.specs.Meaning.{meaning}
 use Rattle.facet_json_document.specs.Document.{IsDocument}
 use Rattle.facet_json_document.specs.Walk.{walk}
-use Rattle.facet_json_document.specs.Future.{Future, gives, finished, stuck, events_before}
+use Rattle.facet_json_document.specs.Future.{Future, gives, finished, events_before}
 use Rattle.facet_json_document.specs.InputPlace.{Standing, past, future_at}
 use Rattle.facet_json_document.proofs.WalkComes.{document-comes}
 use Rattle.facet_json_protocol.specs.Now.{fresh, first_of, on_input, StandsOn, StandsAt}

@@ -1,22 +1,22 @@
 -- What a standing gives, once the next event is read, leads from its spot as a call does, and leaves it sound.
-use Rattle.std.proofs.Common.{◌≡◌, ℕ, Bool, true, false, List, length, Option, Some, None, refl, sym, ap, subst, ◌∙◌}
-use Rattle.std.specs.Prelude.{Result, Ok, Err, IfSome, MatchOption, is_some}
+use Rattle.std.proofs.Common.{◌≡◌, ℕ, Bool, true, false, List, Option, Some, None, refl, sym, ap, subst}
+use Rattle.std.specs.Prelude.{Ok, Err, IfSome, MatchOption, is_some}
 use Rattle.std.specs.Option.{option_map}
 use Rattle.std.proofs.lemmas.Option.{same_Some}
 use Rattle.facet_format.specs.declared.event.ParseEvent.{ParseEvent}
 use Rattle.facet_format.specs.Complaint.{Refusal}
-use Rattle.facet_format.specs.Cursor.{World, an_event, the_end, a_refusal, Spot, unpeeked, peeked_at, last_seen, current_span, no_memory_at}
-use Rattle.facet_format.specs.Event.{EventKind, field_key, scalar, Event, Passed, holds_made, takes_memory, peek_takes_memory}
+use Rattle.facet_format.specs.Cursor.{World, an_event, Spot, unpeeked, peeked_at, current_span, no_memory_at}
+use Rattle.facet_format.specs.Event.{EventKind, field_key, scalar, Event, Passed, holds_made, peek_takes_memory}
 use Rattle.facet_format.specs.Views.{event_of}
 use Rattle.facet_json_token.specs.Gap.{Mode}
-use Rattle.facet_json_document.specs.Future.{Future, gives, finished, stuck}
+use Rattle.facet_json_document.specs.Future.{Future, gives, finished}
 use Rattle.facet_json_document.specs.InputPlace.{Standing, past, future_at}
 use Rattle.facet_json_document.proofs.PastEvents.{comes-within}
 use Rattle.facet_json_protocol.specs.Now.{first_of, on_input}
 use Rattle.facet_json_protocol.specs.Within.{StandsWithin}
 use Rattle.facet_json_reader.specs.declared.reader.Held.{Held}
 use Rattle.facet_json_reader.specs.Views.{passed_of, IsRefusedBefore, without_memory, at_a_stop}
-use Rattle.facet_json_standing.specs.Fill.{Filling, place_of, spot_of, is_shown, HoldsNext, IsFilled, filling_past, Takes, Lends, Withholds}
+use Rattle.facet_json_standing.specs.Fill.{Filling, place_of, spot_of, HoldsNext, IsFilled, filling_past, Takes, Lends, Withholds}
 use Rattle.facet_json_standing.specs.Ready.{IsSound}
 use Rattle.facet_json_standing.specs.Steps.{PassesOne, passes, passes_the_end, passes_without_memory, passes_nothing, ShowsOne, shows, shows_the_end, shows_without_memory, shows_nothing, QueuesOne, queues, queues_the_end, queues_without_memory, queues_nothing}
 
