@@ -16,11 +16,11 @@ stuck-there now r finished e so = absurd so
 stuck-there now r (stuck place rest) e so = is_stuck place rest e so
 
 refused-step : (old : Now) (d : Cursor Standing) (r : Refusal) (answer : Answer) → old.cursor.refusal ≡ None → answer ≡ event (Err r) →
-    Step (on_input old.buffer old.mode) old.cursor next answer d → GivesNone old r
+    Step (on_input old.buffer old.language) old.cursor next answer d → GivesNone old r
 refused-step old d r answer free is (repeats s call _ f a) = cc
 refused-step old d r answer free is (passes p none up) = cc
 refused-step old d r answer free is (passes_without_memory p none up takes off) =
-    let same : no_memory_at (current_span (on_input old.buffer old.mode) old.cursor.spot) ≡ r = cc in
+    let same : no_memory_at (current_span (on_input old.buffer old.language) old.cursor.spot) ≡ r = cc in
     lacks_memory (ap (λ (x : Refusal). x.complaint) (sym same))
 refused-step old d r answer free is (passes_the_end none up) = cc
 refused-step old d r answer free is (passes_nothing q none up so) =

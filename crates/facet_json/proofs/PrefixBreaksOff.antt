@@ -1,10 +1,10 @@
 -- What a begun document gives begins a value, and breaks off before its end.
+use Rattle.std.specs.Prelude.{ℕ, List}
 use Rattle.std.proofs.Common.{◌≡◌, ℕ, List, refl, sym, ap, ◌∙◌, subst}
 use Rattle.facet_format.specs.Event.{Passed, array, object}
 use Rattle.facet_json_token.specs.Token.{Token}
 use Rattle.facet_json_token.specs.Tokens.{Tokens}
 use Rattle.facet_json_document.specs.Tree.{Tree}
-use Rattle.facet_json_document.specs.Meaning.{meaning}
 use Rattle.facet_json_document.specs.Place.{Place}
 use Rattle.facet_json_document.specs.Walk.{key_event, walk}
 use Rattle.facet_json_document.specs.Future.{gives, stuck, events_before, Stage, within, over}
@@ -29,14 +29,14 @@ module _ (here : Place) (rest : Tokens) where
 
   -- A member whose value is begun, of an object.
   member-breaks : (buffer : List ℕ) (key mark : Token) (after stage : Stage) (events : List Passed) → ValueBegun here rest after stage events →
-      BreaksMembers here rest (gives (key_event (meaning buffer) key mark) (events_before events (stuck here rest)))
+      BreaksMembers here rest (gives (key_event buffer key mark) (events_before events (stuck here rest)))
   member-breaks buffer key mark after stage events (is_broken b) = told.in_member _ _ _ refl b
   member-breaks buffer key mark after stage events (is_whole value e t) = told.past_member _ _ _ _ value refl t told.in_key
 
 module _ (buffer : List ℕ) where
   mutual
     value-begun : {place here : Place} {after stage : Stage} {ts rest : Tokens} {events : List Passed} →
-        Begun (meaning buffer) place after ts events stage rest → stage ≡ within here → ValueBegun here rest after stage events
+        Begun buffer place after ts events stage rest → stage ≡ within here → ValueBegun here rest after stage events
     value-begun {here = here} (nothing place after ts) e =
         let same : place ≡ here = cc in
         is_broken in_front
@@ -48,16 +48,16 @@ module _ (buffer : List ℕ) where
         is_broken (told.in_object _ _ object refl (object-breaks b e))
 
     list-breaks : {here : Place} {stage : Stage} {ts rest : Tokens} {events : List Passed} →
-        ListBegun (meaning buffer) ts events stage rest → stage ≡ within here →
+        ListBegun buffer ts events stage rest → stage ≡ within here →
         BreaksItems here rest (events_before events (stuck here rest))
     list-breaks {here = here} (begins_item ts rest events stage b) e = item-breaks here rest _ stage events (value-begun b e)
     list-breaks {here = here} (past_item ts others rest node value separator events total stage s t k b a) e =
         let behind = events_before events (stuck here rest) in
-        let parts = sym (ap (λ es. events_before es (stuck here rest)) a ∙ events_before-append (walk (meaning buffer) node) events (stuck here rest)) in
+        let parts = sym (ap (λ es. events_before es (stuck here rest)) a ∙ events_before-append (walk buffer node) events (stuck here rest)) in
         subst (λ f. BreaksItems here rest f) parts (told.past_item _ behind value (walk-tells buffer node value behind t) (list-breaks b e))
 
     object-breaks : {here : Place} {stage : Stage} {ts rest : Tokens} {events : List Passed} →
-        ObjectBegun (meaning buffer) ts events stage rest → stage ≡ within here →
+        ObjectBegun buffer ts events stage rest → stage ≡ within here →
         BreaksMembers here rest (events_before events (stuck here rest))
     object-breaks (no_key ts) e = told.in_key
     object-breaks (key_alone key rest name k n) e = told.in_key
@@ -65,8 +65,8 @@ module _ (buffer : List ℕ) where
         member-breaks here rest buffer key mark _ stage events (value-begun b e)
     object-breaks {here = here} (past_member key mark ts others rest name node value separator events total stage k n c s t q b a) e =
         let behind = events_before events (stuck here rest) in
-        let first = key_event (meaning buffer) key mark in
-        let parts = sym (ap (λ es. events_before es (stuck here rest)) a ∙ ap (gives first) (events_before-append (walk (meaning buffer) node) events (stuck here rest))) in
+        let first = key_event buffer key mark in
+        let parts = sym (ap (λ es. events_before es (stuck here rest)) a ∙ ap (gives first) (events_before-append (walk buffer node) events (stuck here rest))) in
         subst (λ f. BreaksMembers here rest f) parts
         (told.past_member first _ behind _ value refl (walk-tells buffer node value behind t) (object-breaks b e))
 
@@ -77,5 +77,5 @@ module _ (buffer : List ℕ) where
 
   -- What a begun document gives breaks off within it.
   pub begun-breaks : {here : Place} {ts rest : Tokens} {events : List Passed} →
-      BegunDocument (meaning buffer) ts events (within here) rest → Breaks here rest (events_before events (stuck here rest))
+      BegunDocument buffer ts events (within here) rest → Breaks here rest (events_before events (stuck here rest))
   begun-breaks {here = here} {rest = rest} {events = events} b = root-breaks here rest events (value-begun b refl)

@@ -1,4 +1,5 @@
 -- The walk of a value tells its tree.
+use Rattle.std.specs.Prelude.{ℕ, List}
 use Rattle.std.proofs.Common.{◌≡◌, ℕ, true, false, List, [], ◌∷◌, Option, Some, None, refl, sym, ap, ◌∙◌, subst}
 use Rattle.std.specs.Option.{option_map}
 use Rattle.std.specs.Fmt.{decimal, signed_decimal}
@@ -82,68 +83,64 @@ module _ (buffer : List ℕ) where
     unfolding walk tree_of
 
     -- The walk of a value tells its tree, whatever comes after.
-    pub walk-tells : (n : Node) (value : Tree) (rest : Future) → tree_of (meaning buffer) n ≡ Some value →
-        Tells (events_before (walk (meaning buffer) n) rest) value rest
-    walk-tells (scalar t) value rest e = a_scalar (scalar_event (meaning buffer) t) rest _ value refl (scalar-told t value e)
+    pub walk-tells : (n : Node) (value : Tree) (rest : Future) → tree_of buffer n ≡ Some value →
+        Tells (events_before (walk buffer n) rest) value rest
+    walk-tells (scalar t) value rest e = a_scalar (scalar_event buffer t) rest _ value refl (scalar-told t value e)
     walk-tells (node.array first last nodes) value rest e =
-        let m = meaning buffer in
-        let values = list_meant (trees_of m nodes) value e in
+        let values = list_meant (trees_of buffer nodes) value e in
         let made : Some (trees.list values.0) ≡ Some value = sym (ap (option_map trees.list) values.1) ∙ e in
         let same : trees.list values.0 ≡ value = cc in
         let end = event_at sequence_end last in
         let start = event_at (sequence_start array) first in
-        let inside = sym (events_before-append (walk_items m nodes) (end ∷ []) rest) in
-        subst (λ v. Tells (events_before (walk m (node.array first last nodes)) rest) v rest) same
+        let inside = sym (events_before-append (walk_items buffer nodes) (end ∷ []) rest) in
+        subst (λ v. Tells (events_before (walk buffer (node.array first last nodes)) rest) v rest) same
         (subst (λ f. Tells (gives start f) (trees.list values.0) rest) inside
         (a_list start _ rest array values.0 refl (items-tell nodes values.0 end rest refl values.1)))
     walk-tells (node.object first last members) value rest e =
-        let m = meaning buffer in
-        let values = object_meant (pairs_of m members) value e in
+        let values = object_meant (pairs_of buffer members) value e in
         let made : Some (trees.pairs values.0) ≡ Some value = sym (ap (option_map trees.pairs) values.1) ∙ e in
         let same : trees.pairs values.0 ≡ value = cc in
         let end = event_at struct_end last in
         let start = event_at (struct_start object) first in
-        let inside = sym (events_before-append (walk_members m members) (end ∷ []) rest) in
-        subst (λ v. Tells (events_before (walk m (node.object first last members)) rest) v rest) same
+        let inside = sym (events_before-append (walk_members buffer members) (end ∷ []) rest) in
+        subst (λ v. Tells (events_before (walk buffer (node.object first last members)) rest) v rest) same
         (subst (λ f. Tells (gives start f) (trees.pairs values.0) rest) inside
         (an_object start _ rest object values.0 refl (members-tell members values.0 end rest refl values.1)))
 
     items-tell : (nodes : Nodes) (values : Trees) (last : Passed) (rest : Future) → last.event.kind ≡ sequence_end →
-        trees_of (meaning buffer) nodes ≡ Some values →
-        TellsItems (events_before (walk_items (meaning buffer) nodes) (gives last rest)) values rest
+        trees_of buffer nodes ≡ Some values →
+        TellsItems (events_before (walk_items buffer nodes) (gives last rest)) values rest
     items-tell no_nodes values last rest k e =
         let same : no_trees ≡ values = cc in
         subst (λ v. TellsItems (gives last rest) v rest) same (no_item last rest k)
     items-tell (item n nodes) values last rest k e =
-        let m = meaning buffer in
-        let has = item_meant m n nodes values e in
+        let has = item_meant buffer n nodes values e in
         let made : Some (tree has.0 has.1) ≡ Some values =
-        sym (ap (λ o. put_item o (trees_of m nodes)) has.2 ∙ ap (put_item (Some has.0)) has.3) ∙ e in
+        sym (ap (λ o. put_item o (trees_of buffer nodes)) has.2 ∙ ap (put_item (Some has.0)) has.3) ∙ e in
         let same : tree has.0 has.1 ≡ values = cc in
-        let others = events_before (walk_items m nodes) (gives last rest) in
-        let parts = sym (events_before-append (walk m n) (walk_items m nodes) (gives last rest)) in
-        subst (λ v. TellsItems (events_before (walk_items m (item n nodes)) (gives last rest)) v rest) same
+        let others = events_before (walk_items buffer nodes) (gives last rest) in
+        let parts = sym (events_before-append (walk buffer n) (walk_items buffer nodes) (gives last rest)) in
+        subst (λ v. TellsItems (events_before (walk_items buffer (item n nodes)) (gives last rest)) v rest) same
         (subst (λ f. TellsItems f (tree has.0 has.1) rest) parts
         (one_item _ others rest has.0 has.1 (walk-tells n has.0 others has.2) (items-tell nodes has.1 last rest k has.3)))
 
     members-tell : (members : Members) (values : Pairs) (last : Passed) (rest : Future) → last.event.kind ≡ struct_end →
-        pairs_of (meaning buffer) members ≡ Some values →
-        TellsMembers (events_before (walk_members (meaning buffer) members) (gives last rest)) values rest
+        pairs_of buffer members ≡ Some values →
+        TellsMembers (events_before (walk_members buffer members) (gives last rest)) values rest
     members-tell no_members values last rest k e =
         let same : no_pairs ≡ values = cc in
         subst (λ v. TellsMembers (gives last rest) v rest) same (no_member last rest k)
     members-tell (member key mark n members) values last rest k e =
-        let m = meaning buffer in
-        let has = member_meant m key mark n members values e in
+        let has = member_meant buffer key mark n members values e in
         let made : Some (pair has.0 has.1 has.2) ≡ Some values =
-        sym (ap (λ o. put_pair o (tree_of m n) (pairs_of m members)) has.3 ∙ ap (λ o. put_pair (Some has.0) o (pairs_of m members)) has.4
+        sym (ap (λ o. put_pair o (tree_of buffer n) (pairs_of buffer members)) has.3 ∙ ap (λ o. put_pair (Some has.0) o (pairs_of buffer members)) has.4
         ∙ ap (put_pair (Some has.0) (Some has.1)) has.5) ∙ e in
         let same : pair has.0 has.1 has.2 ≡ values = cc in
-        let others = events_before (walk_members m members) (gives last rest) in
-        let parts = sym (events_before-append (walk m n) (walk_members m members) (gives last rest)) in
+        let others = events_before (walk_members buffer members) (gives last rest) in
+        let parts = sym (events_before-append (walk buffer n) (walk_members buffer members) (gives last rest)) in
         let named = key-named key has.0 has.3 in
-        subst (λ v. TellsMembers (events_before (walk_members m (member key mark n members)) (gives last rest)) v rest) same
-        (subst (λ b. TellsMembers (events_before (walk_members m (member key mark n members)) (gives last rest)) (pair b has.1 has.2) rest) named
-        (one_member (key_event m key mark) _ others rest _ has.1 has.2 refl
+        subst (λ v. TellsMembers (events_before (walk_members buffer (member key mark n members)) (gives last rest)) v rest) same
+        (subst (λ b. TellsMembers (events_before (walk_members buffer (member key mark n members)) (gives last rest)) (pair b has.1 has.2) rest) named
+        (one_member (key_event buffer key mark) _ others rest _ has.1 has.2 refl
         (subst (λ f. Tells f has.1 others) parts (walk-tells n has.1 others has.4))
         (members-tell members has.2 last rest k has.5)))

@@ -24,6 +24,9 @@ pub use Rattle.facet_json_document.specs.Tree
 pub use Rattle.facet_json_document.specs.Meaning
 pub use Rattle.facet_json_document.specs.Document
 pub use Rattle.facet_json_document.specs.Order
+pub use Rattle.facet_json_document.specs.Language
+pub use Rattle.facet_json_document.specs.Run
+pub use Rattle.facet_json_document.specs.RunLaws
 pub use Rattle.facet_json_document.specs.Walk
 pub use Rattle.facet_json_document.specs.Place
 pub use Rattle.facet_json_document.specs.Future
@@ -50,5 +53,4 @@ pub use Rattle.facet_json_scan.specs.Laws as ScanLaws
 pub use Rattle.facet_json_document.specs.Laws as DocumentLaws
 pub mod Inner
 pub mod Same
-pub mod SameLaws
 pub mod Views

@@ -13,7 +13,7 @@ pub use facet_format::{
     ContainerKind, Decimal, DeserializeError, DeserializeErrorKind, FieldKey, FieldLocationHint,
     FormatParser, ParseError, ParseEvent, ParseEventKind, SavePoint, ScalarValue, Span,
 };
-pub use facet_json_core::{Answer, Call, JsonParser, MaterializedToken, TokenKind, drive};
+pub use facet_json_core::{Answer, Call, JsonParser, MaterializedToken, RawJson, TokenKind, drive};
 pub use reader::{from_slice, from_slice_jsonc};
 pub use ser_error::JsonSerializeError;
 pub use tree::Tree;

@@ -4,7 +4,7 @@ ghost use Rattle.std.specs.Cmp.{on_per, on_equiv, partial_equiv_from_equiv};
 ghost use Rattle.std.specs.Ordering.{on};
 ghost use Rattle.facet_json.specs.Same.{same_tree};
 ghost use Rattle.facet_json.specs.Views.{tree_view, trees_view, pairs_view};
-ghost use Rattle.facet_json.specs.SameLaws.{same_tree-equivalence};
+ghost use Rattle.facet_json.specs.Inner.SameLaws.{same_tree-equivalence};
 
 use facet_format::Decimal;
 

@@ -30,7 +30,7 @@ pub none_so_far : (mode : Mode) (input : List ℕ) (held : Option (List ℕ)) (p
     AreSoFar mode input held held parser
 none_so_far mode input held parser is = record {
   given = [];
-  moves = rw is (record { input = record { buffer = refl; mode = refl }; run = no_calls _ });
+  moves = rw is (record { input = record { buffer = refl; language = refl }; run = no_calls _ });
   printed = appends_nothing held;
 }
 

@@ -8,7 +8,6 @@ use Rattle.facet_json_core.specs.declared.script.Answer.{Answer}
 use Rattle.facet_format.specs.Event.{Passed}
 use Rattle.facet_format.specs.Cursor as cursor
 use Rattle.facet_format.specs.Cursor.{on_walk, Cursor, Run}
-use Rattle.facet_json_document.specs.Refusal.{Complains}
 use Rattle.facet_json_protocol.specs.Now.{Now, StandsAt}
 use Rattle.facet_json_protocol.specs.Move.{Moves, MovesAll}
 use Rattle.facet_json_protocol.specs.Within.{AnswerWithin}

@@ -3,7 +3,10 @@ pub use Rattle.facet_json_document.specs.Tree
 pub use Rattle.facet_json_document.specs.Meaning
 pub use Rattle.facet_json_document.specs.Document
 pub use Rattle.facet_json_document.specs.Order
+pub use Rattle.facet_json_document.specs.Language
 pub use Rattle.facet_json_document.specs.Laws
+pub use Rattle.facet_json_document.specs.Run
+pub use Rattle.facet_json_document.specs.RunLaws
 pub use Rattle.facet_json_document.specs.Walk
 pub use Rattle.facet_json_document.specs.Place
 pub use Rattle.facet_json_document.specs.Future

@@ -1,10 +1,13 @@
 //! What the definitions of documents and parsers mean, in the subject's own words: each law is the contract of a function
 //! without effect.
 
-pub use facet_json_document::laws::{one_document, one_spelling, plain_is_jsonc};
+pub use facet_json_document::laws::{
+    no_run_breaks_off, one_break, one_document, one_run, one_spelling, plain_is_jsonc,
+    runs_or_breaks_off, spelled_is_run,
+};
 pub use facet_json_prefix::laws::{
     begun_is_front, begun_is_prefix, front_gives_walk, front_is_begun, input_comes, one_given,
-    prefix_gives_walk, prefix_is_begun, refused_has_none,
+    prefix_gives_walk, prefix_is_begun, refused_has_none, refused_in_one_way,
 };
 pub use facet_json_protocol::laws::{
     alone_is_given, ends_in_time, headline, move_is_step, new_stands, numbers_are_new,

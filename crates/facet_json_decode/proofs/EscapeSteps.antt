@@ -9,7 +9,8 @@ use Rattle.facet_format.specs.Complaint.{Complaint, refusal_at}
 use Rattle.facet_format.specs.Span.{span_at}
 use Rattle.facet_format.specs.Views.{span_of}
 use Rattle.facet_json_decode.specs.Decode.{short_escape, code_unit, is_high_surrogate, is_low_surrogate, low_at, unit_of, unit_at, short_of, escape_at, piece_at}
-use Rattle.facet_json_decode.specs.Fault.{fault_at, fault_of, ends_in_escape, ends_in_digits, no_character, digits_fault, unit_fault}
+use Rattle.facet_json_decode.specs.Fault.{fault_at, ends_in_escape, ends_in_digits, no_character}
+use Rattle.facet_json_decode.specs.Inner.FirstFault.{fault_of, digits_fault, unit_fault}
 use Rattle.facet_json_decode.proofs.DecodeLaws.{escape_at-short_of, escape_at-unit_of}
 
 -- Nothing is found at a backslash that is the last byte.

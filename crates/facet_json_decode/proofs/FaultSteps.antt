@@ -14,7 +14,8 @@ use Rattle.facet_format.specs.Span.{span_at}
 use Rattle.facet_json_token.specs.declared.token.ScanError.{ScanError}
 use Rattle.facet_json_token.specs.Views.{scan_refusal}
 use Rattle.facet_json_decode.specs.Decode.{Decodes, empty, piece, piece_at, decoded}
-use Rattle.facet_json_decode.specs.Fault.{Fault, fault_at, fault_after, no_character, not_utf8, FirstFault, here, after, fault_of, fault_complaint, fault_refusal}
+use Rattle.facet_json_decode.specs.Fault.{Fault, fault_at, fault_after, no_character, not_utf8, FirstFault, here, after, fault_complaint, fault_refusal}
+use Rattle.facet_json_decode.specs.Inner.FirstFault.{fault_of}
 use Rattle.facet_json_decode.specs.Inner.Run.{StopsBeingText}
 use Rattle.facet_json_decode.specs.Views.{TellsFirstFault}
 use Rattle.facet_json_decode.proofs.DecodeLaws.{decodes-decoded}

@@ -1,7 +1,7 @@
 -- The laws of strings' contents. Each is the contract of a function of the module `laws` of `facet_json_scan`.
 use Rattle.std.specs.Prelude.{ℕ, ◌≡◌, ◌≤◌, ◌+◌, ◌↔◌, ◌⊎◌, List, length, Some}
 use Rattle.facet_json_decode.specs.Decode.{Decodes, decoded}
-use Rattle.facet_json_decode.specs.Fault.{Fault, FirstFault, first_fault}
+use Rattle.facet_json_decode.specs.Fault.{Fault, FirstFault}
 
 -- The text that is computed is the one text that the content stands for.
 abbrev pub DecodedIsDecodes : Type 0
@@ -16,7 +16,3 @@ pub record HasTextOrFault (content : List ℕ) : Type 0 where
 
 abbrev pub TextOrFault : Type 0
 TextOrFault = (content : List ℕ) → HasTextOrFault content
-
--- The fault that is computed is the first one of the content.
-abbrev pub FirstFaultIsFound : Type 0
-FirstFaultIsFound = (content : List ℕ) (f : Fault) → (first_fault content ≡ Some f) ↔ FirstFault content f

@@ -1,11 +1,13 @@
 pub mod EventsInOrder
+pub mod InOrder
 pub mod PastEvents
 pub mod Rows
+pub mod Runs
 pub mod Spelled
 pub mod Spelling
 pub mod StuckComes
+pub mod StuckOnce
 pub mod TokensInOrder
 pub mod TreesOfParts
-pub mod TurnsStop
 pub mod WalkComes
 pub mod Writing

@@ -1,77 +1,33 @@
 -- After an event comes what came after it: the place after it is known from the event alone. The event lies within the input.
+use Rattle.std.specs.Prelude.{ℕ, List}
 use Rattle.std.proofs.Common.{◌≡◌, ℕ, ◌<◌, ◌≤◌, Bool, true, false, List, length, refl, sym, subst, ◌∙◌}
 use Rattle.facet_format.specs.Span.{stop}
 use Rattle.facet_format.specs.Event.{ContainerKind, Passed}
 use Rattle.facet_json_token.specs.Gap.{Mode}
-use Rattle.facet_json_token.specs.Token.{Kind, Token}
-use Rattle.facet_json_token.specs.Token as token
+use Rattle.facet_json_token.specs.Token.{Token}
 use Rattle.facet_json_token.specs.Tokens.{Tokens, ended, refused, next, tokens_from}
 use Rattle.facet_json_token.proofs.TokensSteps.{tokens_from-others}
-use Rattle.facet_json_document.specs.Meaning.{Meaning, meaning}
-use Rattle.facet_json_document.specs.Place.{Place, root, before_key, after_key, after_colon, after_member, before_item, after_item, is_colon}
-use Rattle.facet_json_document.specs.Order.{InOrder}
+use Rattle.facet_json_document.specs.Language.{Language, gaps}
+use Rattle.facet_json_document.specs.Place.{Place, after_key, after_colon, Turn, stops, passes, says, says_scalar, names, goes_on}
+use Rattle.facet_json_document.proofs.InOrder.{InOrder}
 use Rattle.facet_json_document.specs.Walk.{event_at, scalar_event, key_event}
-use Rattle.facet_json_document.specs.Future.{Future, gives, stuck, Stage, within, over, after_value, stack_after, stage_after, Turn, stops, passes, says, says_scalar, names, value_turn, place_turn, is_meaningless, unless_meaningless, turn, reads, reads_colon}
+use Rattle.facet_json_document.specs.Future.{Future, gives, stuck, Stage, within, over, stack_after, stage_after, turn, reads, reads_colon}
 use Rattle.facet_json_document.specs.InputPlace.{Standing, past, future_at}
 use Rattle.facet_json_document.proofs.WalkComes.{follows, reads-turn}
 use Rattle.facet_json_document.proofs.EventsInOrder.{IsSound, sound_event, sound_stuck, position-sound}
 
--- ---- one token
+-- ---- what the tokens give
 
--- A turn that gives an event leads to the place after it, and one that gives none leaves the open containers.
-abbrev LeadsPast : List ContainerKind → Turn → Type 0
-LeadsPast stack stops = Unit {0}
-LeadsPast stack (passes others stage) = others ≡ stack
-LeadsPast stack (says kind others stage) = (others ≡ stack_after kind stack) × (stage ≡ stage_after kind stack)
-LeadsPast stack (says_scalar others stage) = (others ≡ stack) × (stage ≡ after_value stack)
-LeadsPast stack names = Unit {0}
-
-value_leads : (stack : List ContainerKind) (kind : Kind) → LeadsPast stack (value_turn stack kind)
-value_leads stack token.object_start = (refl, refl)
-value_leads stack token.array_start = (refl, refl)
-value_leads stack token.null = (refl, refl)
-value_leads stack token.true_literal = (refl, refl)
-value_leads stack token.false_literal = (refl, refl)
-value_leads stack (token.string start finish has_escapes) = (refl, refl)
-value_leads stack (token.number start finish hint) = (refl, refl)
-value_leads stack _ = tt
-
-place_leads : (stack : List ContainerKind) (place : Place) (kind : Kind) → LeadsPast stack (place_turn stack place kind)
-place_leads stack root kind = value_leads stack kind
-place_leads stack before_key token.object_end = (refl, refl)
-place_leads stack before_key (token.string start finish has_escapes) = tt
-place_leads stack before_key _ = tt
-place_leads stack after_key kind = tt
-place_leads stack after_colon kind = value_leads stack kind
-place_leads stack after_member token.comma = refl
-place_leads stack after_member token.object_end = (refl, refl)
-place_leads stack after_member _ = tt
-place_leads stack before_item token.array_end = (refl, refl)
-place_leads stack before_item kind = value_leads stack kind
-place_leads stack after_item token.comma = refl
-place_leads stack after_item token.array_end = (refl, refl)
-place_leads stack after_item _ = tt
-
-unless_leads : (b : Bool) (stack : List ContainerKind) (way : Turn) → LeadsPast stack way →
-    LeadsPast stack (unless_meaningless b way)
-unless_leads true stack way leads = tt
-unless_leads false stack way leads = leads
-
-turn-leads : (m : Meaning) (stack : List ContainerKind) (place : Place) (t : Token) → LeadsPast stack (turn m stack place t)
-turn-leads m stack place t = unless_leads (is_meaningless m t) stack _ (place_leads stack place t.kind)
-
--- ---- all tokens
-
-module _ (buffer : List ℕ) (mode : Mode) (m : Meaning) where
+module _ (buffer : List ℕ) (mode : Mode) where
   -- This comes after the event, within these containers.
   abbrev ComesPast : List ContainerKind → Passed → Future → Type 0
   ComesPast stack p rest =
-      reads m (stack_after p.event.kind stack) (stage_after p.event.kind stack) (tokens_from buffer mode (stop p.last)) ≡ rest
+      reads buffer (stack_after p.event.kind stack) (stage_after p.event.kind stack) (tokens_from buffer mode (stop p.last)) ≡ rest
 
   -- What stands first among the tokens from a position on has this after it.
   abbrev PastTokens : Tokens → Type 0
   PastTokens ts = (stack : List ContainerKind) (stage : Stage) (from : ℕ) (p : Passed) (rest : Future) →
-      tokens_from buffer mode from ≡ ts → reads m stack stage ts ≡ gives p rest → ComesPast stack p rest
+      tokens_from buffer mode from ≡ ts → reads buffer stack stage ts ≡ gives p rest → ComesPast stack p rest
 
   -- An event comes, and this after it.
   event_past : (stack : List ContainerKind) (q p : Passed) (future rest : Future) → gives q future ≡ gives p rest →
@@ -82,35 +38,32 @@ module _ (buffer : List ℕ) (mode : Mode) (m : Meaning) where
       subst (λ x. ComesPast stack x rest) same (there ∙ after)
 
   turn_past : (stack : List ContainerKind) (place : Place) (t : Token) (ts : Tokens) (way : Turn) (p : Passed) (rest : Future) →
-      PastTokens ts → (reads_colon m stack t ts ≡ gives p rest → ComesPast stack p rest) → LeadsPast stack way →
-      tokens_from buffer mode (stop t.span) ≡ ts → follows m place t stack ts way ≡ gives p rest → ComesPast stack p rest
-  turn_past stack place t ts stops p rest h g leads from e = cc
-  turn_past stack place t ts (passes others stage) p rest h g leads from e =
-      let same : reads m stack stage ts ≡ gives p rest = rw (← leads) e in h stack stage (stop t.span) p rest from same
-  turn_past stack place t ts (says kind others stage) p rest h g leads from e =
-      event_past stack (event_at kind t) p _ rest e (rw (leads.0, leads.1, from) refl)
-  turn_past stack place t ts (says_scalar others stage) p rest h g leads from e =
-      event_past stack (scalar_event m t) p _ rest e (rw (leads.0, leads.1, from) refl)
-  turn_past stack place t ts names p rest h g leads from e = g e
+      PastTokens ts → (reads_colon buffer stack t ts ≡ gives p rest → ComesPast stack p rest) →
+      tokens_from buffer mode (stop t.span) ≡ ts → follows buffer place t stack ts way ≡ gives p rest → ComesPast stack p rest
+  turn_past stack place t ts stops p rest h g from e = cc
+  turn_past stack place t ts (passes other) p rest h g from e = h stack (within other) (stop t.span) p rest from e
+  turn_past stack place t ts (says kind) p rest h g from e = event_past stack (event_at kind t) p _ rest e (rw from refl)
+  turn_past stack place t ts says_scalar p rest h g from e = event_past stack (scalar_event buffer t) p _ rest e (rw from refl)
+  turn_past stack place t ts names p rest h g from e = g e
 
   mark_past : (stack : List ContainerKind) (key mark : Token) (ts : Tokens) (b : Bool) (p : Passed) (rest : Future) →
-      is_colon mark.kind ≡ b → tokens_from buffer mode (stop mark.span) ≡ ts →
-      reads_colon m stack key (next mark ts) ≡ gives p rest → ComesPast stack p rest
+      goes_on after_key mark.kind ≡ b → tokens_from buffer mode (stop mark.span) ≡ ts →
+      reads_colon buffer stack key (next mark ts) ≡ gives p rest → ComesPast stack p rest
   unfolding reads_colon
   mark_past stack key mark ts false p rest c from e =
-      let none : reads_colon m stack key (next mark ts) ≡ stuck after_key (next mark ts) = rw (c, reads_colon) refl in cc
+      let none : reads_colon buffer stack key (next mark ts) ≡ stuck after_key (next mark ts) = rw (c, reads_colon) refl in cc
   mark_past stack key mark ts true p rest c from e =
-      let after = reads m stack (within after_colon) ts in
-      let some : reads_colon m stack key (next mark ts) ≡ gives (key_event m key mark) after = rw (c, reads_colon) refl in
-      event_past stack (key_event m key mark) p _ rest (sym some ∙ e) (rw from refl)
+      let after = reads buffer stack (within after_colon) ts in
+      let some : reads_colon buffer stack key (next mark ts) ≡ gives (key_event buffer key mark) after = rw (c, reads_colon) refl in
+      event_past stack (key_event buffer key mark) p _ rest (sym some ∙ e) (rw from refl)
 
   colon_past : (ts : Tokens) (stack : List ContainerKind) (key : Token) (from : ℕ) (p : Passed) (rest : Future) →
-      tokens_from buffer mode from ≡ ts → reads_colon m stack key ts ≡ gives p rest → ComesPast stack p rest
+      tokens_from buffer mode from ≡ ts → reads_colon buffer stack key ts ≡ gives p rest → ComesPast stack p rest
   unfolding reads_colon
   colon_past ended stack key from p rest at e = cc
   colon_past (refused f) stack key from p rest at e = cc
   colon_past (next mark ts) stack key from p rest at e =
-      mark_past stack key mark ts (is_colon mark.kind) p rest refl (tokens_from-others buffer mode from mark ts at) e
+      mark_past stack key mark ts (goes_on after_key mark.kind) p rest refl (tokens_from-others buffer mode from mark ts at) e
 
   tokens_past_event : (ts : Tokens) → PastTokens ts
   unfolding reads
@@ -118,41 +71,41 @@ module _ (buffer : List ℕ) (mode : Mode) (m : Meaning) where
   tokens_past_event ended stack (within place) from p rest at e = cc
   tokens_past_event (refused f) stack (within place) from p rest at e = cc
   tokens_past_event (next t ts) stack (within place) from p rest at e =
-      let way = turn m stack place t in
+      let way = turn buffer place t in
       let others = tokens_from-others buffer mode from t ts at in
       turn_past stack place t ts way p rest (tokens_past_event ts) (colon_past ts stack t (stop t.span) p rest others)
-      (turn-leads m stack place t) others (sym (reads-turn m stack place t ts way refl) ∙ e)
+      others (sym (reads-turn buffer stack place t ts way refl) ∙ e)
 
 -- ---- from a place of an input
 
 -- After an event comes what comes at the place after it.
-pub past-comes : (buffer : List ℕ) (mode : Mode) (s : Standing) (p : Passed) (rest : Future) →
-    future_at buffer mode s ≡ gives p rest → future_at buffer mode (past p s) ≡ rest
-past-comes buffer mode s p rest e =
+pub past-comes : (buffer : List ℕ) (language : Language) (s : Standing) (p : Passed) (rest : Future) →
+    future_at buffer language s ≡ gives p rest → future_at buffer language (past p s) ≡ rest
+past-comes buffer language s p rest e =
     let at = stop s.last in
-    tokens_past_event buffer mode (meaning buffer) (tokens_from buffer mode at) s.stack s.stage at p rest refl e
+    tokens_past_event buffer (gaps language) (tokens_from buffer (gaps language) at) s.stack s.stage at p rest refl e
 
 -- What comes from a place within the input lies after it.
-comes_in_order : (buffer : List ℕ) (mode : Mode) (s : Standing) (future : Future) → stop s.last ≤ length buffer →
-    future_at buffer mode s ≡ future → IsSound buffer (stop s.last) future
-comes_in_order buffer mode s future w e =
-    subst (IsSound buffer (stop s.last)) e (position-sound buffer mode (meaning buffer) s.stack s.stage (stop s.last) w)
+comes_in_order : (buffer : List ℕ) (language : Language) (s : Standing) (future : Future) → stop s.last ≤ length buffer →
+    future_at buffer language s ≡ future → IsSound buffer (stop s.last) future
+comes_in_order buffer language s future w e =
+    subst (IsSound buffer (stop s.last)) e (position-sound buffer (gaps language) s.stack s.stage (stop s.last) w)
 
 event_within : (buffer : List ℕ) (from : ℕ) (p : Passed) (rest : Future) → IsSound buffer from (gives p rest) →
     (from < stop p.last) × (stop p.event.span ≤ stop p.last) × (stop p.last ≤ length buffer)
 event_within buffer from p rest (sound_event _ _ _ b e w more) = (b, e, w)
 
 -- So an event lies within the input, after the last token before it.
-pub comes-within : (buffer : List ℕ) (mode : Mode) (s : Standing) (p : Passed) (rest : Future) → stop s.last ≤ length buffer →
-    future_at buffer mode s ≡ gives p rest →
+pub comes-within : (buffer : List ℕ) (language : Language) (s : Standing) (p : Passed) (rest : Future) → stop s.last ≤ length buffer →
+    future_at buffer language s ≡ gives p rest →
     (stop s.last < stop p.last) × (stop p.event.span ≤ stop p.last) × (stop p.last ≤ length buffer)
-comes-within buffer mode s p rest w e = event_within buffer (stop s.last) p rest (comes_in_order buffer mode s _ w e)
+comes-within buffer language s p rest w e = event_within buffer (stop s.last) p rest (comes_in_order buffer language s _ w e)
 
 stuck_in_order : (buffer : List ℕ) (from : ℕ) (place : Place) (rest : Tokens) → IsSound buffer from (stuck place rest) →
     InOrder buffer from rest
 stuck_in_order buffer from place rest (sound_stuck _ _ _ o) = o
 
 -- The tokens with which no document goes on are in order, and lie after the last token before them.
-pub stuck-in_order : (buffer : List ℕ) (mode : Mode) (s : Standing) (place : Place) (rest : Tokens) → stop s.last ≤ length buffer →
-    future_at buffer mode s ≡ stuck place rest → InOrder buffer (stop s.last) rest
-stuck-in_order buffer mode s place rest w e = stuck_in_order buffer (stop s.last) place rest (comes_in_order buffer mode s _ w e)
+pub stuck-in_order : (buffer : List ℕ) (language : Language) (s : Standing) (place : Place) (rest : Tokens) → stop s.last ≤ length buffer →
+    future_at buffer language s ≡ stuck place rest → InOrder buffer (stop s.last) rest
+stuck-in_order buffer language s place rest w e = stuck_in_order buffer (stop s.last) place rest (comes_in_order buffer language s _ w e)

@@ -1,3 +1,4 @@
 pub mod DocumentRows
 pub mod QuotedRows
+pub mod RunRows
 pub mod TextRows

@@ -7,7 +7,7 @@ use Rattle.facet_json_token.specs.Token as token
 use Rattle.facet_json_token.specs.Tokens.{Tokens, ended, refused, next, tokens}
 use Rattle.facet_json_document.specs.Node.{Node, scalar, array, object, Nodes, no_nodes, item, Members, no_members, member}
 use Rattle.facet_json_document.specs.Tree.{Tree}
-use Rattle.facet_json_document.specs.Meaning.{Meaning, meaning, tree_of}
+use Rattle.facet_json_document.specs.Meaning.{tree_of}
 use Rattle.facet_json_document.specs.Order.{count}
 
 -- a value at the start of the tokens, and what follows it
@@ -118,12 +118,12 @@ unfoldable pub spelled : Tokens → Option (Node × Tokens)
 spelled ts = node_within (count ts) ts
 
 -- the value that a prefix of the tokens spells, with its tree by the meaning of its tokens
-unfoldable pub read_by : Meaning → Tokens → Option (Node × Tree)
-read_by m ts = option_and_then (λ r. option_map (λ value. (r.0, value)) (tree_of m r.0)) (spelled ts)
+unfoldable pub read_by : List ℕ → Tokens → Option (Node × Tree)
+read_by buffer ts = option_and_then (λ r. option_map (λ value. (r.0, value)) (tree_of buffer r.0)) (spelled ts)
 
 -- the document of the input, with its tree
 abbrev pub document : List ℕ → Mode → Option (Node × Tree)
-document buffer mode = read_by (meaning buffer) (tokens buffer mode)
+document buffer mode = read_by buffer (tokens buffer mode)
 
 -- the value, where no token and no fault follows it
 abbrev pub if_ended : Node → Tokens → Option Node
@@ -134,5 +134,5 @@ if_ended root (next t rest) = None
 -- the plain document that all of the text is, with its tree
 unfoldable pub whole_document : List ℕ → Option (Node × Tree)
 whole_document buffer =
-    option_and_then (λ root. option_map (λ value. (root, value)) (tree_of (meaning buffer) root))
+    option_and_then (λ root. option_map (λ value. (root, value)) (tree_of buffer root))
     (option_and_then (λ r. if_ended r.0 r.1) (spelled (tokens buffer plain)))

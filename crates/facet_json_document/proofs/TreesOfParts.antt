@@ -1,11 +1,12 @@
 -- A list or an object with a meaning: so have its items, its keys and its values.
+use Rattle.std.specs.Prelude.{ℕ, List}
 use Rattle.std.proofs.Common.{◌≡◌, ℕ, List, Option, Some, None, refl}
 use Rattle.std.specs.Option.{option_map}
 use Rattle.facet_json_token.specs.Token.{Token}
 use Rattle.facet_json_document.specs.Node.{Node, Nodes, item, Members, member}
 use Rattle.facet_json_document.specs.Tree.{Tree, Trees, Pairs}
 use Rattle.facet_json_document.specs.Tree as tree
-use Rattle.facet_json_document.specs.Meaning.{Meaning, tree_of, trees_of, pairs_of, text_of, put_item, put_pair}
+use Rattle.facet_json_document.specs.Meaning.{tree_of, trees_of, pairs_of, text_of, put_item, put_pair, meaning}
 
 -- the first item's tree and the others'
 put_item_meant : (a : Option Tree) (b : Option Trees) (all : Trees) → put_item a b ≡ Some all →
@@ -33,14 +34,14 @@ object_meant None value e = cc
 object_meant (Some values) value e = (values, refl)
 
 -- Items with a meaning: the first, and the others.
-pub item_meant : (m : Meaning) (node : Node) (nodes : Nodes) (all : Trees) → trees_of m (item node nodes) ≡ Some all →
-    (value : Tree) × (values : Trees) × (tree_of m node ≡ Some value) × (trees_of m nodes ≡ Some values)
+pub item_meant : (buffer : List ℕ) (node : Node) (nodes : Nodes) (all : Trees) → trees_of buffer (item node nodes) ≡ Some all →
+    (value : Tree) × (values : Trees) × (tree_of buffer node ≡ Some value) × (trees_of buffer nodes ≡ Some values)
 unfolding trees_of
-item_meant m node nodes all e = put_item_meant (tree_of m node) (trees_of m nodes) all e
+item_meant buffer node nodes all e = put_item_meant (tree_of buffer node) (trees_of buffer nodes) all e
 
 -- Members with a meaning: the key's name, the value, and the others.
-pub member_meant : (m : Meaning) (key mark : Token) (node : Node) (members : Members) (all : Pairs) →
-    pairs_of m (member key mark node members) ≡ Some all →
-    (name : List ℕ) × (value : Tree) × (values : Pairs) × (text_of (m key) ≡ Some name) × (tree_of m node ≡ Some value) × (pairs_of m members ≡ Some values)
+pub member_meant : (buffer : List ℕ) (key mark : Token) (node : Node) (members : Members) (all : Pairs) →
+    pairs_of buffer (member key mark node members) ≡ Some all →
+    (name : List ℕ) × (value : Tree) × (values : Pairs) × (text_of (meaning buffer key) ≡ Some name) × (tree_of buffer node ≡ Some value) × (pairs_of buffer members ≡ Some values)
 unfolding pairs_of
-member_meant m key mark node members all e = put_pair_meant (text_of (m key)) (tree_of m node) (pairs_of m members) all e
+member_meant buffer key mark node members all e = put_pair_meant (text_of (meaning buffer key)) (tree_of buffer node) (pairs_of buffer members) all e

@@ -1,4 +1,5 @@
 -- What comes, token by token; and that from the prefix of a value on its walk comes.
+use Rattle.std.specs.Prelude.{ℕ, List}
 use Rattle.std.proofs.Common.{◌≡◌, ℕ, true, false, List, [], ◌∷◌, ◌++◌, Option, Some, None, refl, sym, ap, ◌∙◌}
 use Rattle.std.proofs.Math.Bool.{and-false}
 use Rattle.facet_json_token.specs.Token.{Kind, Token, Fault}
@@ -6,13 +7,13 @@ use Rattle.facet_json_token.specs.Token as token
 use Rattle.facet_json_token.specs.Tokens.{Tokens, ended, refused, next, tokens}
 use Rattle.facet_json_document.specs.Node.{Node, Nodes, no_nodes, Members, no_members, is_scalar, is_string, Spells, one_token, brackets, braces, SpellsItems, closed, item_and_comma, last_item, SpellsMembers, ended_members, member_and_comma, last_member}
 use Rattle.facet_json_document.specs.Tree.{Tree, Trees, Pairs}
-use Rattle.facet_json_document.specs.Meaning.{Meaning, tree_of, trees_of, pairs_of, text_of, meaning}
-use Rattle.facet_json_document.specs.Place.{Place, root, before_key, after_key, after_colon, after_member, before_item, after_item, is_colon, goes_on, begins_value}
+use Rattle.facet_json_document.specs.Meaning.{tree_of, trees_of, pairs_of, text_of, meaning}
+use Rattle.facet_json_document.specs.Place.{Place, root, before_key, after_key, after_colon, after_member, before_item, after_item, Turn, stops, passes, says, says_scalar, names, place_turn, leads_on, goes_on}
 use Rattle.facet_json_document.specs.Refusal.{needs_meaning}
 use Rattle.facet_format.specs.Event.{ContainerKind, object, array, Passed}
 use Rattle.facet_format.specs.Event as event
 use Rattle.facet_json_document.specs.Walk.{event_at, scalar_event, key_event, walk, walk_items, walk_members}
-use Rattle.facet_json_document.specs.Future.{Future, gives, stuck, events_before, within, after_value, Turn, stops, passes, says, says_scalar, names, value_turn, place_turn, is_meaningless, turn, reads, reads_colon, finished}
+use Rattle.facet_json_document.specs.Future.{Future, gives, stuck, events_before, within, after_value, stack_after, stage_after, is_meaningless, turn, reads, reads_colon, finished}
 use Rattle.facet_json_token.specs.Gap.{Mode}
 use Rattle.facet_json_document.specs.Document.{IsDocument}
 use Rattle.facet_json_document.specs.Place as place
@@ -30,138 +31,134 @@ pub events_before-append : (a b : List Passed) (f : Future) →
 events_before-append [] b f = refl
 events_before-append (p ∷ a) b f = ap (gives p) (events_before-append a b f)
 
-module _ (m : Meaning) where
+-- With a token with which no document goes on its turn is to stop.
+pub nowhere-stops : (way : Turn) → leads_on way ≡ false → way ≡ stops
+nowhere-stops stops e = refl
+nowhere-stops _ e = cc
+
+module _ (buffer : List ℕ) where
   -- ---- one token
 
   -- what follows by the turn of a token
   abbrev pub follows : Place → Token → List ContainerKind → Tokens → Turn → Future
   follows place t stack rest stops = stuck place (next t rest)
-  follows place t stack rest (passes others stage) = reads m others stage rest
-  follows place t stack rest (says kind others stage) = gives (event_at kind t) (reads m others stage rest)
-  follows place t stack rest (says_scalar others stage) = gives (scalar_event m t) (reads m others stage rest)
-  follows place t stack rest names = reads_colon m stack t rest
+  follows place t stack rest (passes other) = reads buffer stack (within other) rest
+  follows place t stack rest (says kind) =
+      gives (event_at kind t) (reads buffer (stack_after kind stack) (stage_after kind stack) rest)
+  follows place t stack rest says_scalar = gives (scalar_event buffer t) (reads buffer stack (after_value stack) rest)
+  follows place t stack rest names = reads_colon buffer stack t rest
 
   -- Where a token stands, its turn says what comes.
   pub reads-turn : (stack : List ContainerKind) (place : Place) (t : Token) (rest : Tokens) (way : Turn) →
-      turn m stack place t ≡ way → reads m stack (within place) (next t rest) ≡ follows place t stack rest way
+      turn buffer place t ≡ way → reads buffer stack (within place) (next t rest) ≡ follows place t stack rest way
   unfolding reads
   reads-turn stack place t rest stops e = rw (e, reads) refl
-  reads-turn stack place t rest (passes others stage) e = rw (e, reads) refl
-  reads-turn stack place t rest (says kind others stage) e = rw (e, reads) refl
-  reads-turn stack place t rest (says_scalar others stage) e = rw (e, reads) refl
+  reads-turn stack place t rest (passes other) e = rw (e, reads) refl
+  reads-turn stack place t rest (says kind) e = rw (e, reads) refl
+  reads-turn stack place t rest says_scalar e = rw (e, reads) refl
   reads-turn stack place t rest names e = rw (e, reads) refl
 
   -- A token that needs no meaning is judged by its place.
-  pub turn-plain : (stack : List ContainerKind) (place : Place) (t : Token) (kind : Kind) → t.kind ≡ kind →
-      needs_meaning kind ≡ false → turn m stack place t ≡ place_turn stack place kind
-  turn-plain stack place t kind e n = rw (e, n) refl
+  pub turn-plain : (place : Place) (t : Token) (kind : Kind) → t.kind ≡ kind → needs_meaning kind ≡ false →
+      turn buffer place t ≡ place_turn place kind
+  turn-plain place t kind e n = rw (e, n) refl
 
   -- So is one with a meaning.
-  pub turn-meant : (stack : List ContainerKind) (place : Place) (t : Token) (value : Tree) → m t ≡ Some value →
-      turn m stack place t ≡ place_turn stack place t.kind
-  turn-meant stack place t value e = rw (e, and-false) refl
+  pub turn-meant : (place : Place) (t : Token) (value : Tree) → meaning buffer t ≡ Some value →
+      turn buffer place t ≡ place_turn place t.kind
+  turn-meant place t value e = rw (e, and-false) refl
 
   -- ---- where a value may stand
 
   -- A scalar gives its event at each of these places.
-  scalar_here : (stack : List ContainerKind) (place : Place) (kind : Kind) → TakesValue place → is_scalar kind ≡ true →
-      place_turn stack place kind ≡ says_scalar stack (after_value stack)
-  scalar_here stack _ token.null at_root e = refl
-  scalar_here stack _ token.null behind_colon e = refl
-  scalar_here stack _ token.null of_list e = refl
-  scalar_here stack _ token.true_literal at_root e = refl
-  scalar_here stack _ token.true_literal behind_colon e = refl
-  scalar_here stack _ token.true_literal of_list e = refl
-  scalar_here stack _ token.false_literal at_root e = refl
-  scalar_here stack _ token.false_literal behind_colon e = refl
-  scalar_here stack _ token.false_literal of_list e = refl
-  scalar_here stack _ (token.string start finish has_escapes) at_root e = refl
-  scalar_here stack _ (token.string start finish has_escapes) behind_colon e = refl
-  scalar_here stack _ (token.string start finish has_escapes) of_list e = refl
-  scalar_here stack _ (token.number start finish hint) at_root e = refl
-  scalar_here stack _ (token.number start finish hint) behind_colon e = refl
-  scalar_here stack _ (token.number start finish hint) of_list e = refl
-  scalar_here stack place _ at e = cc
+  scalar_here : (place : Place) (kind : Kind) → TakesValue place → is_scalar kind ≡ true → place_turn place kind ≡ says_scalar
+  scalar_here _ token.object_start at e = cc
+  scalar_here _ token.object_end at e = cc
+  scalar_here _ token.array_start at e = cc
+  scalar_here _ token.array_end at e = cc
+  scalar_here _ token.colon at e = cc
+  scalar_here _ token.comma at e = cc
+  scalar_here _ _ at_root e = refl
+  scalar_here _ _ behind_colon e = refl
+  scalar_here _ _ of_list e = refl
 
   -- So does a bracket that opens a list.
-  array_here : (stack : List ContainerKind) (place : Place) → TakesValue place →
-      place_turn stack place token.array_start ≡ says (event.sequence_start array) (array ∷ stack) (within before_item)
-  array_here stack _ at_root = refl
-  array_here stack _ behind_colon = refl
-  array_here stack _ of_list = refl
+  array_here : (place : Place) → TakesValue place → place_turn place token.array_start ≡ says (event.sequence_start array)
+  array_here _ at_root = refl
+  array_here _ behind_colon = refl
+  array_here _ of_list = refl
 
   -- So does one that opens an object.
-  object_here : (stack : List ContainerKind) (place : Place) → TakesValue place →
-      place_turn stack place token.object_start ≡ says (event.struct_start object) (object ∷ stack) (within before_key)
-  object_here stack _ at_root = refl
-  object_here stack _ behind_colon = refl
-  object_here stack _ of_list = refl
+  object_here : (place : Place) → TakesValue place → place_turn place token.object_start ≡ says (event.struct_start object)
+  object_here _ at_root = refl
+  object_here _ behind_colon = refl
+  object_here _ of_list = refl
 
   -- ---- each token at its place
 
   -- A scalar with a meaning.
   pub reads-scalar : (stack : List ContainerKind) (place : Place) (t : Token) (rest : Tokens) (value : Tree) →
-      TakesValue place → is_scalar t.kind ≡ true → m t ≡ Some value →
-      reads m stack (within place) (next t rest) ≡ gives (scalar_event m t) (reads m stack (after_value stack) rest)
+      TakesValue place → is_scalar t.kind ≡ true → meaning buffer t ≡ Some value →
+      reads buffer stack (within place) (next t rest) ≡ gives (scalar_event buffer t) (reads buffer stack (after_value stack) rest)
   reads-scalar stack place t rest value at k e =
-      reads-turn stack place t rest _ (turn-meant stack place t value e ∙ scalar_here stack place t.kind at k)
+      reads-turn stack place t rest _ (turn-meant place t value e ∙ scalar_here place t.kind at k)
 
   -- A bracket that opens a list.
   pub reads-array : (stack : List ContainerKind) (place : Place) (t : Token) (rest : Tokens) → TakesValue place →
       t.kind ≡ token.array_start →
-      reads m stack (within place) (next t rest) ≡ gives (event_at (event.sequence_start array) t) (reads m (array ∷ stack) (within before_item) rest)
+      reads buffer stack (within place) (next t rest) ≡ gives (event_at (event.sequence_start array) t) (reads buffer (array ∷ stack) (within before_item) rest)
   reads-array stack place t rest at k =
-      reads-turn stack place t rest _ (turn-plain stack place t _ k refl ∙ array_here stack place at)
+      reads-turn stack place t rest _ (turn-plain place t _ k refl ∙ array_here place at)
 
   -- A brace that opens an object.
   pub reads-object : (stack : List ContainerKind) (place : Place) (t : Token) (rest : Tokens) → TakesValue place →
       t.kind ≡ token.object_start →
-      reads m stack (within place) (next t rest) ≡ gives (event_at (event.struct_start object) t) (reads m (object ∷ stack) (within before_key) rest)
+      reads buffer stack (within place) (next t rest) ≡ gives (event_at (event.struct_start object) t) (reads buffer (object ∷ stack) (within before_key) rest)
   reads-object stack place t rest at k =
-      reads-turn stack place t rest _ (turn-plain stack place t _ k refl ∙ object_here stack place at)
+      reads-turn stack place t rest _ (turn-plain place t _ k refl ∙ object_here place at)
 
   -- A comma after an item gives nothing.
   pub reads-item_comma : (stack : List ContainerKind) (t : Token) (rest : Tokens) → t.kind ≡ token.comma →
-      reads m stack (within after_item) (next t rest) ≡ reads m stack (within before_item) rest
-  reads-item_comma stack t rest k = reads-turn stack after_item t rest _ (turn-plain stack after_item t _ k refl)
+      reads buffer stack (within after_item) (next t rest) ≡ reads buffer stack (within before_item) rest
+  reads-item_comma stack t rest k = reads-turn stack after_item t rest _ (turn-plain after_item t _ k refl)
 
   -- Nor does one after a member.
   pub reads-member_comma : (stack : List ContainerKind) (t : Token) (rest : Tokens) → t.kind ≡ token.comma →
-      reads m stack (within after_member) (next t rest) ≡ reads m stack (within before_key) rest
+      reads buffer stack (within after_member) (next t rest) ≡ reads buffer stack (within before_key) rest
   reads-member_comma stack t rest k =
-      reads-turn stack after_member t rest _ (turn-plain stack after_member t _ k refl)
+      reads-turn stack after_member t rest _ (turn-plain after_member t _ k refl)
 
   -- A bracket that closes a list, after an item.
   pub reads-item_end : (kind : ContainerKind) (stack : List ContainerKind) (t : Token) (rest : Tokens) →
       t.kind ≡ token.array_end →
-      reads m (kind ∷ stack) (within after_item) (next t rest) ≡ gives (event_at event.sequence_end t) (reads m stack (after_value stack) rest)
+      reads buffer (kind ∷ stack) (within after_item) (next t rest) ≡ gives (event_at event.sequence_end t) (reads buffer stack (after_value stack) rest)
   reads-item_end kind stack t rest k =
-      reads-turn (kind ∷ stack) after_item t rest _ (turn-plain (kind ∷ stack) after_item t _ k refl)
+      reads-turn (kind ∷ stack) after_item t rest _ (turn-plain after_item t _ k refl)
 
   -- The same before an item.
   pub reads-list_end : (kind : ContainerKind) (stack : List ContainerKind) (t : Token) (rest : Tokens) →
       t.kind ≡ token.array_end →
-      reads m (kind ∷ stack) (within before_item) (next t rest) ≡ gives (event_at event.sequence_end t) (reads m stack (after_value stack) rest)
+      reads buffer (kind ∷ stack) (within before_item) (next t rest) ≡ gives (event_at event.sequence_end t) (reads buffer stack (after_value stack) rest)
   reads-list_end kind stack t rest k =
-      reads-turn (kind ∷ stack) before_item t rest _ (turn-plain (kind ∷ stack) before_item t _ k refl)
+      reads-turn (kind ∷ stack) before_item t rest _ (turn-plain before_item t _ k refl)
 
   -- A brace that closes an object, after a member.
   pub reads-member_end : (kind : ContainerKind) (stack : List ContainerKind) (t : Token) (rest : Tokens) →
       t.kind ≡ token.object_end →
-      reads m (kind ∷ stack) (within after_member) (next t rest) ≡ gives (event_at event.struct_end t) (reads m stack (after_value stack) rest)
+      reads buffer (kind ∷ stack) (within after_member) (next t rest) ≡ gives (event_at event.struct_end t) (reads buffer stack (after_value stack) rest)
   reads-member_end kind stack t rest k =
-      reads-turn (kind ∷ stack) after_member t rest _ (turn-plain (kind ∷ stack) after_member t _ k refl)
+      reads-turn (kind ∷ stack) after_member t rest _ (turn-plain after_member t _ k refl)
 
   -- The same before a key.
   pub reads-object_end : (kind : ContainerKind) (stack : List ContainerKind) (t : Token) (rest : Tokens) →
       t.kind ≡ token.object_end →
-      reads m (kind ∷ stack) (within before_key) (next t rest) ≡ gives (event_at event.struct_end t) (reads m stack (after_value stack) rest)
+      reads buffer (kind ∷ stack) (within before_key) (next t rest) ≡ gives (event_at event.struct_end t) (reads buffer stack (after_value stack) rest)
   reads-object_end kind stack t rest k =
-      reads-turn (kind ∷ stack) before_key t rest _ (turn-plain (kind ∷ stack) before_key t _ k refl)
+      reads-turn (kind ∷ stack) before_key t rest _ (turn-plain before_key t _ k refl)
 
-  key_here : (stack : List ContainerKind) (kind : Kind) → is_string kind ≡ true → place_turn stack before_key kind ≡ names
-  key_here stack (token.string start finish has_escapes) e = refl
-  key_here stack _ e = cc
+  key_here : (kind : Kind) → is_string kind ≡ true → place_turn before_key kind ≡ names
+  key_here (token.string start finish has_escapes) e = refl
+  key_here _ e = cc
 
   -- What has a text has a meaning.
   text_of-some : (o : Option Tree) (name : List ℕ) → text_of o ≡ Some name → (value : Tree) × (o ≡ Some value)
@@ -170,158 +167,130 @@ module _ (m : Meaning) where
 
   -- A key: its colon has to follow.
   pub reads-names : (stack : List ContainerKind) (key : Token) (rest : Tokens) (name : List ℕ) → is_string key.kind ≡ true →
-      text_of (m key) ≡ Some name → reads m stack (within before_key) (next key rest) ≡ reads_colon m stack key rest
+      text_of (meaning buffer key) ≡ Some name → reads buffer stack (within before_key) (next key rest) ≡ reads_colon buffer stack key rest
   reads-names stack key rest name k n =
-      let meant = text_of-some (m key) name n in
-      reads-turn stack before_key key rest names (turn-meant stack before_key key meant.0 meant.1 ∙ key_here stack key.kind k)
+      let meant = text_of-some (meaning buffer key) name n in
+      reads-turn stack before_key key rest names (turn-meant before_key key meant.0 meant.1 ∙ key_here key.kind k)
 
   -- A key and its colon.
   pub reads-key : (stack : List ContainerKind) (key mark : Token) (rest : Tokens) (name : List ℕ) →
-      is_string key.kind ≡ true → text_of (m key) ≡ Some name → mark.kind ≡ token.colon →
-      reads m stack (within before_key) (next key (next mark rest)) ≡ gives (key_event m key mark) (reads m stack (within after_colon) rest)
+      is_string key.kind ≡ true → text_of (meaning buffer key) ≡ Some name → mark.kind ≡ token.colon →
+      reads buffer stack (within before_key) (next key (next mark rest)) ≡ gives (key_event buffer key mark) (reads buffer stack (within after_colon) rest)
   unfolding reads
   reads-key stack key mark rest name k n c = reads-names stack key (next mark rest) name k n ∙ rw (c, reads_colon) refl
 
   -- ---- tokens that are stuck
 
   -- The turn of a token with a meaning is its place's.
-  pub turn-sensible : (stack : List ContainerKind) (place : Place) (t : Token) → is_meaningless m t ≡ false →
-      turn m stack place t ≡ place_turn stack place t.kind
-  turn-sensible stack place t e = rw e refl
+  pub turn-sensible : (place : Place) (t : Token) → is_meaningless buffer t ≡ false →
+      turn buffer place t ≡ place_turn place t.kind
+  turn-sensible place t e = rw e refl
 
   -- A string or number without a meaning is stuck.
   pub reads-meaningless : (stack : List ContainerKind) (place : Place) (t : Token) (rest : Tokens) →
-      is_meaningless m t ≡ true → reads m stack (within place) (next t rest) ≡ stuck place (next t rest)
+      is_meaningless buffer t ≡ true → reads buffer stack (within place) (next t rest) ≡ stuck place (next t rest)
   reads-meaningless stack place t rest e = reads-turn stack place t rest stops (rw e refl)
 
   -- So is a token with which no document goes on at the place.
-  pub reads-stops : (stack : List ContainerKind) (place : Place) (t : Token) (rest : Tokens) → is_meaningless m t ≡ false →
-      place_turn stack place t.kind ≡ stops → reads m stack (within place) (next t rest) ≡ stuck place (next t rest)
-  reads-stops stack place t rest e k = reads-turn stack place t rest stops (turn-sensible stack place t e ∙ k)
+  pub reads-stops : (stack : List ContainerKind) (place : Place) (t : Token) (rest : Tokens) → is_meaningless buffer t ≡ false →
+      place_turn place t.kind ≡ stops → reads buffer stack (within place) (next t rest) ≡ stuck place (next t rest)
+  reads-stops stack place t rest e k = reads-turn stack place t rest stops (turn-sensible place t e ∙ k)
 
   -- So is the end.
-  pub reads-ended : (stack : List ContainerKind) (place : Place) → reads m stack (within place) ended ≡ stuck place ended
+  pub reads-ended : (stack : List ContainerKind) (place : Place) → reads buffer stack (within place) ended ≡ stuck place ended
   unfolding reads
   reads-ended stack place = refl
 
   -- So is a fault.
   pub reads-refused : (stack : List ContainerKind) (place : Place) (f : Fault) →
-      reads m stack (within place) (refused f) ≡ stuck place (refused f)
+      reads buffer stack (within place) (refused f) ≡ stuck place (refused f)
   unfolding reads
   reads-refused stack place f = refl
-
-  no_value_turn : (stack : List ContainerKind) (kind : Kind) → begins_value kind ≡ false → value_turn stack kind ≡ stops
-  no_value_turn stack token.object_end e = refl
-  no_value_turn stack token.array_end e = refl
-  no_value_turn stack token.colon e = refl
-  no_value_turn stack token.comma e = refl
-  no_value_turn stack _ e = cc
-
-  -- With a token with which no document goes on at the place its turn is to stop.
-  pub turn-misplaced : (stack : List ContainerKind) (place : Place) (kind : Kind) → goes_on place kind ≡ false →
-      place_turn stack place kind ≡ stops
-  turn-misplaced stack root kind e = no_value_turn stack kind e
-  turn-misplaced stack before_key token.object_end e = cc
-  turn-misplaced stack before_key (token.string start finish has_escapes) e = cc
-  turn-misplaced stack before_key _ e = refl
-  turn-misplaced stack after_key kind e = refl
-  turn-misplaced stack after_colon kind e = no_value_turn stack kind e
-  turn-misplaced stack after_member token.comma e = cc
-  turn-misplaced stack after_member token.object_end e = cc
-  turn-misplaced stack after_member _ e = refl
-  turn-misplaced stack before_item token.array_end e = cc
-  turn-misplaced stack before_item token.object_end e = refl
-  turn-misplaced stack before_item token.colon e = refl
-  turn-misplaced stack before_item token.comma e = refl
-  turn-misplaced stack before_item _ e = cc
-  turn-misplaced stack after_item token.comma e = cc
-  turn-misplaced stack after_item token.array_end e = cc
-  turn-misplaced stack after_item _ e = refl
 
   -- ---- after a key
 
   -- After a key the end is stuck.
-  pub colon-ended : (stack : List ContainerKind) (key : Token) → reads_colon m stack key ended ≡ stuck after_key ended
+  pub colon-ended : (stack : List ContainerKind) (key : Token) → reads_colon buffer stack key ended ≡ stuck after_key ended
   unfolding reads_colon
   colon-ended stack key = refl
 
   -- So is a fault.
   pub colon-refused : (stack : List ContainerKind) (key : Token) (f : Fault) →
-      reads_colon m stack key (refused f) ≡ stuck after_key (refused f)
+      reads_colon buffer stack key (refused f) ≡ stuck after_key (refused f)
   unfolding reads_colon
   colon-refused stack key f = refl
 
   -- So is a token other than a colon.
-  pub colon-missing : (stack : List ContainerKind) (key mark : Token) (rest : Tokens) → is_colon mark.kind ≡ false →
-      reads_colon m stack key (next mark rest) ≡ stuck after_key (next mark rest)
+  pub colon-missing : (stack : List ContainerKind) (key mark : Token) (rest : Tokens) → goes_on after_key mark.kind ≡ false →
+      reads_colon buffer stack key (next mark rest) ≡ stuck after_key (next mark rest)
   unfolding reads_colon
   colon-missing stack key mark rest c = rw (c, reads_colon) refl
 
 -- ---- whole values
 
-module _ (m : Meaning) where
+module _ (buffer : List ℕ) where
   mutual
     unfolding tree_of walk
 
     -- From the prefix of a value on its walk comes, then what comes after a value.
-    pub walk-comes : {ts rest : Tokens} {node : Node} (value : Tree) → Spells ts node rest → tree_of m node ≡ Some value →
+    pub walk-comes : {ts rest : Tokens} {node : Node} (value : Tree) → Spells ts node rest → tree_of buffer node ≡ Some value →
         (stack : List ContainerKind) (place : Place) → TakesValue place →
-        reads m stack (within place) ts ≡ events_before (walk m node) (reads m stack (after_value stack) rest)
-    walk-comes value (one_token t rest k) e stack place at = reads-scalar m stack place t rest value at k e
+        reads buffer stack (within place) ts ≡ events_before (walk buffer node) (reads buffer stack (after_value stack) rest)
+    walk-comes value (one_token t rest k) e stack place at = reads-scalar buffer stack place t rest value at k e
     walk-comes value (brackets first last inner rest nodes k s) e stack place at =
-        let values = list_meant (trees_of m nodes) value e in
+        let values = list_meant (trees_of buffer nodes) value e in
         let start = event_at (event.sequence_start array) first in
         let end = event_at event.sequence_end last in
-        let behind = reads m stack (after_value stack) rest in
-        reads-array m stack place first inner at k
+        let behind = reads buffer stack (after_value stack) rest in
+        reads-array buffer stack place first inner at k
         ∙ ap (gives start) (items-come values.0 s values.1 stack)
-        ∙ ap (gives start) (sym (events_before-append (walk_items m nodes) (end ∷ []) behind))
+        ∙ ap (gives start) (sym (events_before-append (walk_items buffer nodes) (end ∷ []) behind))
     walk-comes value (braces first last inner rest members k s) e stack place at =
-        let values = object_meant (pairs_of m members) value e in
+        let values = object_meant (pairs_of buffer members) value e in
         let start = event_at (event.struct_start object) first in
         let end = event_at event.struct_end last in
-        let behind = reads m stack (after_value stack) rest in
-        reads-object m stack place first inner at k
+        let behind = reads buffer stack (after_value stack) rest in
+        reads-object buffer stack place first inner at k
         ∙ ap (gives start) (members-come values.0 s values.1 stack)
-        ∙ ap (gives start) (sym (events_before-append (walk_members m members) (end ∷ []) behind))
+        ∙ ap (gives start) (sym (events_before-append (walk_members buffer members) (end ∷ []) behind))
 
     -- From after a bracket or a comma of a list on its items come, then its end.
     pub items-come : {ts rest : Tokens} {nodes : Nodes} {last : Token} (values : Trees) → SpellsItems ts nodes last rest →
-        trees_of m nodes ≡ Some values → (stack : List ContainerKind) →
-        reads m (array ∷ stack) (within before_item) ts ≡ events_before (walk_items m nodes) (gives (event_at event.sequence_end last) (reads m stack (after_value stack) rest))
-    items-come values (closed last rest k) e stack = reads-list_end m array stack last rest k
+        trees_of buffer nodes ≡ Some values → (stack : List ContainerKind) →
+        reads buffer (array ∷ stack) (within before_item) ts ≡ events_before (walk_items buffer nodes) (gives (event_at event.sequence_end last) (reads buffer stack (after_value stack) rest))
+    items-come values (closed last rest k) e stack = reads-list_end buffer array stack last rest k
     items-come values (item_and_comma ts others rest node nodes separator last s k more) e stack =
-        let all = item_meant m node nodes values e in
+        let all = item_meant buffer node nodes values e in
         walk-comes all.0 s all.2 (array ∷ stack) before_item of_list
-        ∙ ap (events_before (walk m node)) (reads-item_comma m (array ∷ stack) separator others k ∙ items-come all.1 more all.3 stack)
-        ∙ sym (events_before-append (walk m node) (walk_items m nodes) _)
+        ∙ ap (events_before (walk buffer node)) (reads-item_comma buffer (array ∷ stack) separator others k ∙ items-come all.1 more all.3 stack)
+        ∙ sym (events_before-append (walk buffer node) (walk_items buffer nodes) _)
     items-come values (last_item ts rest node last s k) e stack =
-        let all = item_meant m node no_nodes values e in
+        let all = item_meant buffer node no_nodes values e in
         walk-comes all.0 s all.2 (array ∷ stack) before_item of_list
-        ∙ ap (events_before (walk m node)) (reads-item_end m array stack last rest k)
-        ∙ sym (events_before-append (walk m node) [] _)
+        ∙ ap (events_before (walk buffer node)) (reads-item_end buffer array stack last rest k)
+        ∙ sym (events_before-append (walk buffer node) [] _)
 
     -- From after a brace or a comma of an object on its members come, then its end.
     pub members-come : {ts rest : Tokens} {members : Members} {last : Token} (values : Pairs) →
-        SpellsMembers ts members last rest → pairs_of m members ≡ Some values → (stack : List ContainerKind) →
-        reads m (object ∷ stack) (within before_key) ts ≡ events_before (walk_members m members) (gives (event_at event.struct_end last) (reads m stack (after_value stack) rest))
-    members-come values (ended_members last rest k) e stack = reads-object_end m object stack last rest k
+        SpellsMembers ts members last rest → pairs_of buffer members ≡ Some values → (stack : List ContainerKind) →
+        reads buffer (object ∷ stack) (within before_key) ts ≡ events_before (walk_members buffer members) (gives (event_at event.struct_end last) (reads buffer stack (after_value stack) rest))
+    members-come values (ended_members last rest k) e stack = reads-object_end buffer object stack last rest k
     members-come values (member_and_comma ts others rest key mark node members separator last i c s k more) e stack =
-        let all = member_meant m key mark node members values e in
-        reads-key m (object ∷ stack) key mark ts all.0 i all.3 c
-        ∙ ap (gives (key_event m key mark)) (walk-comes all.1 s all.4 (object ∷ stack) after_colon behind_colon
-        ∙ ap (events_before (walk m node)) (reads-member_comma m (object ∷ stack) separator others k ∙ members-come all.2 more all.5 stack)
-        ∙ sym (events_before-append (walk m node) (walk_members m members) _))
+        let all = member_meant buffer key mark node members values e in
+        reads-key buffer (object ∷ stack) key mark ts all.0 i all.3 c
+        ∙ ap (gives (key_event buffer key mark)) (walk-comes all.1 s all.4 (object ∷ stack) after_colon behind_colon
+        ∙ ap (events_before (walk buffer node)) (reads-member_comma buffer (object ∷ stack) separator others k ∙ members-come all.2 more all.5 stack)
+        ∙ sym (events_before-append (walk buffer node) (walk_members buffer members) _))
     members-come values (last_member ts rest key mark node last i c s k) e stack =
-        let all = member_meant m key mark node no_members values e in
-        reads-key m (object ∷ stack) key mark ts all.0 i all.3 c
-        ∙ ap (gives (key_event m key mark)) (walk-comes all.1 s all.4 (object ∷ stack) after_colon behind_colon
-        ∙ ap (events_before (walk m node)) (reads-member_end m object stack last rest k)
-        ∙ sym (events_before-append (walk m node) [] _))
+        let all = member_meant buffer key mark node no_members values e in
+        reads-key buffer (object ∷ stack) key mark ts all.0 i all.3 c
+        ∙ ap (gives (key_event buffer key mark)) (walk-comes all.1 s all.4 (object ∷ stack) after_colon behind_colon
+        ∙ ap (events_before (walk buffer node)) (reads-member_end buffer object stack last rest k)
+        ∙ sym (events_before-append (walk buffer node) [] _))
 
 -- At the root of a document its walk comes, then the end.
 pub document-comes : (buffer : List ℕ) (mode : Mode) (node : Node) (value : Tree) → IsDocument buffer mode node value →
-    reads (meaning buffer) [] (within place.root) (tokens buffer mode) ≡ events_before (walk (meaning buffer) node) finished
+    reads buffer [] (within place.root) (tokens buffer mode) ≡ events_before (walk buffer node) finished
 unfolding reads
 document-comes buffer mode node value d =
-    walk-comes (meaning buffer) value d.reads.spells d.reads.has_tree [] place.root at_root
+    walk-comes buffer value d.reads.spells d.reads.has_tree [] place.root at_root

@@ -2,9 +2,8 @@
 use Rattle.std.specs.Prelude.{ℕ, List, []}
 use Rattle.facet_format.specs.Span.{Span, stop, span_at}
 use Rattle.facet_format.specs.Event.{ContainerKind, Passed}
-use Rattle.facet_json_token.specs.Gap.{Mode}
 use Rattle.facet_json_token.specs.Tokens.{tokens_from}
-use Rattle.facet_json_document.specs.Meaning.{meaning}
+use Rattle.facet_json_document.specs.Language.{Language, gaps}
 use Rattle.facet_json_document.specs.Place.{root}
 use Rattle.facet_json_document.specs.Future.{Future, Stage, within, reads, stack_after, stage_after}
 
@@ -24,5 +23,5 @@ abbrev pub past : Passed → Standing → Standing
 past p s = record { last = p.last; stack = stack_after p.event.kind s.stack; stage = stage_after p.event.kind s.stack }
 
 -- what is given out from the standing on
-abbrev pub future_at : List ℕ → Mode → Standing → Future
-future_at buffer mode s = reads (meaning buffer) s.stack s.stage (tokens_from buffer mode (stop s.last))
+abbrev pub future_at : List ℕ → Language → Standing → Future
+future_at buffer language s = reads buffer s.stack s.stage (tokens_from buffer (gaps language) (stop s.last))

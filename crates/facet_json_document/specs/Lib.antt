@@ -1,6 +1,8 @@
 pub mod Document
 pub mod Future
+pub mod Inner
 pub mod InputPlace
+pub mod Language
 pub mod Laws
 pub mod Meaning
 pub mod Node
@@ -8,6 +10,8 @@ pub mod Order
 pub mod Place
 pub mod Quoted
 pub mod Refusal
+pub mod Run
+pub mod RunLaws
 pub mod Text
 pub mod TextLaws
 pub mod Tree

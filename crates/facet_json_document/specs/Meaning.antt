@@ -2,7 +2,7 @@
 use Rattle.std.specs.Prelude.{ℕ, true, false, List, Option, Some, None, slice_range}
 use Rattle.std.specs.Option.{option_map, option_and_then}
 use Rattle.std.specs.Fmt.{decimal, signed_decimal}
-use Rattle.facet_format.specs.Number.{Number, Hint}
+use Rattle.facet_format.specs.Number.{Number}
 use Rattle.facet_format.specs.Number as numbers
 use Rattle.facet_json_decode.specs.Decode.{decoded}
 use Rattle.facet_json_token.specs.Token.{Kind, Token}
@@ -12,10 +12,6 @@ use Rattle.facet_json_document.specs.Tree.{Tree, null, bool, i64, u64, text, lis
 use Rattle.facet_json_document.specs.Tree as trees
 
 -- ---- what a token stands for
-
--- what a scalar's token, also a key's, stands for, where it has a meaning
-abbrev pub Meaning : Type 0
-Meaning = Token → Option Tree
 
 -- whole numbers past 64 bits are read as the text of their digits
 abbrev pub tree_of_number : Number → Tree
@@ -38,8 +34,8 @@ meaning_of buffer token.array_end = None
 meaning_of buffer token.colon = None
 meaning_of buffer token.comma = None
 
--- what the tokens of a buffer stand for
-abbrev pub meaning : List ℕ → Meaning
+-- what a scalar's token of the buffer, also a key's, stands for, where it has a meaning
+abbrev pub meaning : List ℕ → Token → Option Tree
 meaning buffer t = meaning_of buffer t.kind
 
 -- ---- the tree of a node
@@ -56,15 +52,15 @@ put_pair key value others = option_and_then (λ k. option_and_then (λ t. option
 
 -- the tree of a node, where all its scalars and keys have a meaning
 unfoldable mutual
-  pub tree_of : Meaning → Node → Option Tree
-  tree_of m (scalar t) = m t
-  tree_of m (array first last nodes) = option_map list (trees_of m nodes)
-  tree_of m (object first last members) = option_map pairs (pairs_of m members)
+  pub tree_of : List ℕ → Node → Option Tree
+  tree_of buffer (scalar t) = meaning buffer t
+  tree_of buffer (array first last nodes) = option_map list (trees_of buffer nodes)
+  tree_of buffer (object first last members) = option_map pairs (pairs_of buffer members)
 
-  pub trees_of : Meaning → Nodes → Option Trees
-  trees_of m no_nodes = Some no_trees
-  trees_of m (item node nodes) = put_item (tree_of m node) (trees_of m nodes)
+  pub trees_of : List ℕ → Nodes → Option Trees
+  trees_of buffer no_nodes = Some no_trees
+  trees_of buffer (item node nodes) = put_item (tree_of buffer node) (trees_of buffer nodes)
 
-  pub pairs_of : Meaning → Members → Option Pairs
-  pairs_of m no_members = Some no_pairs
-  pairs_of m (member key mark node members) = put_pair (text_of (m key)) (tree_of m node) (pairs_of m members)
+  pub pairs_of : List ℕ → Members → Option Pairs
+  pairs_of buffer no_members = Some no_pairs
+  pairs_of buffer (member key mark node members) = put_pair (text_of (meaning buffer key)) (tree_of buffer node) (pairs_of buffer members)

@@ -1,9 +1,11 @@
 -- Where a reader stands in a document that is not whole yet, what goes on there, and what else is refused with (RFC 8259, sections 2 to 5).
-use Rattle.std.specs.Prelude.{ℕ, Bool, true, false, List, Option, Some, None, codes, slice_range}
+use Rattle.std.specs.Prelude.{ℕ, Bool, true, false, cond, List, Option, Some, None, codes, slice_range}
 use Rattle.facet_format.specs.Number.{Number}
 use Rattle.facet_format.specs.Number as numbers
+use Rattle.facet_format.specs.Event.{object, array, EventKind}
+use Rattle.facet_format.specs.Event as event
 use Rattle.facet_format.specs.Complaint.{Complaint, unexpected_char, unexpected_eof, unexpected_token}
-use Rattle.facet_json_token.specs.Token.{Kind, Token, Fault, FaultKind}
+use Rattle.facet_json_token.specs.Token.{Kind, FaultKind}
 use Rattle.facet_json_token.specs.Token as token
 use Rattle.facet_json_document.specs.Node.{is_scalar, is_string}
 
@@ -19,43 +21,46 @@ pub data Place : Type 0 where
   before_item : Place
   after_item : Place
 
--- a scalar or an opening bracket
-abbrev pub begins_value : Kind → Bool
-begins_value token.object_start = true
-begins_value token.array_start = true
-begins_value kind = is_scalar kind
+-- what a token is to a document at a place
+pub data Turn : Type 0 where
+  -- no document goes on with it
+  stops : Turn
+  -- it gives no event, and this place follows
+  passes : Place → Turn
+  -- it gives an event
+  says : EventKind → Turn
+  -- it is a scalar
+  says_scalar : Turn
+  -- it is a key, whose event is given with its colon
+  names : Turn
 
-abbrev pub is_colon : Kind → Bool
-is_colon token.colon = true
-is_colon _ = false
+-- where a value may stand
+abbrev pub value_turn : Kind → Turn
+value_turn token.object_start = says (event.struct_start object)
+value_turn token.array_start = says (event.sequence_start array)
+value_turn kind = cond (is_scalar kind) says_scalar stops
 
-abbrev pub goes_on_member : Kind → Bool
-goes_on_member token.comma = true
-goes_on_member token.object_end = true
-goes_on_member _ = false
+abbrev pub place_turn : Place → Kind → Turn
+place_turn root kind = value_turn kind
+place_turn before_key token.object_end = says event.struct_end
+place_turn before_key kind = cond (is_string kind) names stops
+place_turn after_key token.colon = passes after_colon
+place_turn after_colon kind = value_turn kind
+place_turn after_member token.comma = passes before_key
+place_turn after_member token.object_end = says event.struct_end
+place_turn before_item token.array_end = says event.sequence_end
+place_turn before_item kind = value_turn kind
+place_turn after_item token.comma = passes before_item
+place_turn after_item token.array_end = says event.sequence_end
+place_turn _ _ = stops
 
-abbrev pub goes_on_item : Kind → Bool
-goes_on_item token.comma = true
-goes_on_item token.array_end = true
-goes_on_item _ = false
-
-abbrev pub begins_key : Kind → Bool
-begins_key token.object_end = true
-begins_key kind = is_string kind
-
-abbrev pub begins_item : Kind → Bool
-begins_item token.array_end = true
-begins_item kind = begins_value kind
+abbrev pub leads_on : Turn → Bool
+leads_on stops = false
+leads_on _ = true
 
 -- whether a document may go on at the place with such a token
 abbrev pub goes_on : Place → Kind → Bool
-goes_on root kind = begins_value kind
-goes_on before_key kind = begins_key kind
-goes_on after_key kind = is_colon kind
-goes_on after_colon kind = begins_value kind
-goes_on after_member kind = goes_on_member kind
-goes_on before_item kind = begins_item kind
-goes_on after_item kind = goes_on_item kind
+goes_on place kind = leads_on (place_turn place kind)
 
 -- ---- refusals
 

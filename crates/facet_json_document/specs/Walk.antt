@@ -5,7 +5,7 @@ use Rattle.facet_json_token.specs.Token as token
 use Rattle.facet_json_document.specs.Node.{Node, scalar, array, object, Nodes, no_nodes, item, Members, no_members, member}
 use Rattle.facet_json_document.specs.Tree.{Tree}
 use Rattle.facet_json_document.specs.Tree as tree
-use Rattle.facet_json_document.specs.Meaning.{Meaning, text_of}
+use Rattle.facet_json_document.specs.Meaning.{text_of, meaning}
 use Rattle.facet_format.specs.Event.{Text, Scalar, EventKind, Passed}
 use Rattle.facet_format.specs.Event as event
 
@@ -41,30 +41,30 @@ name_of kind (Some bytes) = text_by kind bytes
 abbrev pub event_at : EventKind → Token → Passed
 event_at kind t = record { event = record { kind = kind; span = t.span }; last = t.span }
 
-abbrev pub scalar_event : Meaning → Token → Passed
-scalar_event m t = event_at (event.scalar (scalar_of t.kind (m t))) t
+abbrev pub scalar_event : List ℕ → Token → Passed
+scalar_event buffer t = event_at (event.scalar (scalar_of t.kind (meaning buffer t))) t
 
 -- the event of a key and its colon
-abbrev pub key_event : Meaning → Token → Token → Passed
-key_event m key mark = record {
-  event = record { kind = event.field_key (name_of key.kind (text_of (m key))); span = key.span };
+abbrev pub key_event : List ℕ → Token → Token → Passed
+key_event buffer key mark = record {
+  event = record { kind = event.field_key (name_of key.kind (text_of (meaning buffer key))); span = key.span };
   last = mark.span;
 }
 
 -- ---- the walk
 
 unfoldable mutual
-  pub walk : Meaning → Node → List Passed
-  walk m (scalar t) = scalar_event m t ∷ []
-  walk m (array first last nodes) =
-      event_at (event.sequence_start event.array) first ∷ walk_items m nodes ++ event_at event.sequence_end last ∷ []
-  walk m (object first last members) =
-      event_at (event.struct_start event.object) first ∷ walk_members m members ++ event_at event.struct_end last ∷ []
+  pub walk : List ℕ → Node → List Passed
+  walk buffer (scalar t) = scalar_event buffer t ∷ []
+  walk buffer (array first last nodes) =
+      event_at (event.sequence_start event.array) first ∷ walk_items buffer nodes ++ event_at event.sequence_end last ∷ []
+  walk buffer (object first last members) =
+      event_at (event.struct_start event.object) first ∷ walk_members buffer members ++ event_at event.struct_end last ∷ []
 
-  pub walk_items : Meaning → Nodes → List Passed
-  walk_items m no_nodes = []
-  walk_items m (item node nodes) = walk m node ++ walk_items m nodes
+  pub walk_items : List ℕ → Nodes → List Passed
+  walk_items buffer no_nodes = []
+  walk_items buffer (item node nodes) = walk buffer node ++ walk_items buffer nodes
 
-  pub walk_members : Meaning → Members → List Passed
-  walk_members m no_members = []
-  walk_members m (member key mark node members) = key_event m key mark ∷ walk m node ++ walk_members m members
+  pub walk_members : List ℕ → Members → List Passed
+  walk_members buffer no_members = []
+  walk_members buffer (member key mark node members) = key_event buffer key mark ∷ walk buffer node ++ walk_members buffer members

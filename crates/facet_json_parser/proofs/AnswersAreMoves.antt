@@ -7,7 +7,7 @@ use Rattle.facet_format.specs.Views.{event_of}
 use Rattle.facet_format.specs.Complaint.{Refusal, refusal_at, save_limit}
 use Rattle.facet_format.specs.Event.{Event}
 use Rattle.facet_format.specs.Kept.{found, without, with_point}
-use Rattle.facet_format.specs.Cursor.{Call, Answer, event, saved, restored, spans, next, peek, save, restore, span, World, Spot, Cursor, at_spot, refused_at, current_span, greatest, no_memory_at, Step, repeats, saves, saves_at_the_limit, saves_without_memory, restores, restores_nothing, tells}
+use Rattle.facet_format.specs.Cursor.{Call, Answer, event, saved, restored, spans, next, peek, save, restore, span, World, Spot, Cursor, at_spot, refused_at, greatest, no_memory_at, Step, repeats, saves, saves_at_the_limit, saves_without_memory, restores, restores_nothing, tells}
 use Rattle.facet_format.specs.Cursor as cursor
 use Rattle.facet_json_document.specs.InputPlace.{Standing}
 use Rattle.facet_json_protocol.specs.Now.{Now, on_input, span_of}
@@ -44,9 +44,9 @@ module _ {P : Type 0} (w : World P) where
 
 -- A step from where a parser stands is a move of it.
 pub step-moves : (made now : Now) (c : Cursor Standing) (call : Call) (answer : Answer) → made ≡ now →
-    Step (on_input made.buffer made.mode) made.cursor call answer c → Moves now call answer (with_cursor made c)
+    Step (on_input made.buffer made.language) made.cursor call answer c → Moves now call answer (with_cursor made c)
 step-moves made now c call answer e step =
-    subst (λ x. Moves x call answer (with_cursor made c)) e (record { input = record { buffer = refl; mode = refl }; step = step })
+    subst (λ x. Moves x call answer (with_cursor made c)) e (record { input = record { buffer = refl; language = refl }; step = step })
 
 -- A refusal that was kept is repeated.
 pub next-repeats : (now : Now) (r : Refusal) → now.cursor.refusal ≡ Some r → Moves now next (event (Err r)) now
@@ -63,28 +63,28 @@ none-made : (made now : Now) → made ≡ now → now.cursor.refusal ≡ None �
 none-made made now e none = rw e none
 
 pub next-answers : (made now : Now) (o : Option Event) (t : Spot Standing) → made ≡ now → now.cursor.refusal ≡ None →
-    PassesOne (on_input made.buffer made.mode) made.cursor.spot (Ok o) t →
+    PassesOne (on_input made.buffer made.language) made.cursor.spot (Ok o) t →
     Moves now next (event (Ok o)) (with_cursor made (at_spot made.cursor t))
 next-answers made now o t e none one =
-    step-moves made now _ next _ e (passes-step (on_input made.buffer made.mode) made.cursor o t (none-made made now e none) one)
+    step-moves made now _ next _ e (passes-step (on_input made.buffer made.language) made.cursor o t (none-made made now e none) one)
 
 pub next-refused : (made now new : Now) (r q : Refusal) (t : Spot Standing) → made ≡ now → now.cursor.refusal ≡ None →
-    PassesOne (on_input made.buffer made.mode) made.cursor.spot (Err r) t → new ≡ with_cursor made (refused_at made.cursor t r) → q ≡ r →
+    PassesOne (on_input made.buffer made.language) made.cursor.spot (Err r) t → new ≡ with_cursor made (refused_at made.cursor t r) → q ≡ r →
     Moves now next (event (Err q)) new
 next-refused made now new r q t e none one after same =
-    rw (same, after) (step-moves made now _ next _ e (passes-refused (on_input made.buffer made.mode) made.cursor r t (none-made made now e none) one))
+    rw (same, after) (step-moves made now _ next _ e (passes-refused (on_input made.buffer made.language) made.cursor r t (none-made made now e none) one))
 
 pub peek-answers : (made now : Now) (o : Option Event) (t : Spot Standing) → made ≡ now → now.cursor.refusal ≡ None →
-    ShowsOne (on_input made.buffer made.mode) made.cursor.spot (Ok o) t →
+    ShowsOne (on_input made.buffer made.language) made.cursor.spot (Ok o) t →
     Moves now peek (event (Ok o)) (with_cursor made (at_spot made.cursor t))
 peek-answers made now o t e none one =
-    step-moves made now _ peek _ e (shows-step (on_input made.buffer made.mode) made.cursor o t (none-made made now e none) one)
+    step-moves made now _ peek _ e (shows-step (on_input made.buffer made.language) made.cursor o t (none-made made now e none) one)
 
 pub peek-refused : (made now new : Now) (r q : Refusal) (t : Spot Standing) → made ≡ now → now.cursor.refusal ≡ None →
-    ShowsOne (on_input made.buffer made.mode) made.cursor.spot (Err r) t → new ≡ with_cursor made (refused_at made.cursor t r) → q ≡ r →
+    ShowsOne (on_input made.buffer made.language) made.cursor.spot (Err r) t → new ≡ with_cursor made (refused_at made.cursor t r) → q ≡ r →
     Moves now peek (event (Err q)) new
 peek-refused made now new r q t e none one after same =
-    rw (same, after) (step-moves made now _ peek _ e (shows-refused (on_input made.buffer made.mode) made.cursor r t (none-made made now e none) one))
+    rw (same, after) (step-moves made now _ peek _ e (shows-refused (on_input made.buffer made.language) made.cursor r t (none-made made now e none) one))
 
 -- ---- points
 

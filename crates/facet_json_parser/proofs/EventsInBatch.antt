@@ -110,74 +110,74 @@ module _ {P : Type 0} (w : World P) where
 
 -- These events were given so far.
 abbrev pub GivenSoFar : Now → List Event → Now → Type 0
-GivenSoFar old given cur = SameInput old cur × Batch (on_input old.buffer old.mode) old.cursor given cur.cursor
+GivenSoFar old given cur = SameInput old cur × Batch (on_input old.buffer old.language) old.cursor given cur.cursor
 
 -- A step over the input of one parser is one over that of another with the same input.
 same-world : (old cur : Now) (answer : Result (Option Event) Refusal) (c d : Cursor Standing) → SameInput old cur →
-    QueuesNext (on_input cur.buffer cur.mode) c answer d → QueuesNext (on_input old.buffer old.mode) c answer d
-same-world old cur answer c d same step = rw (← same.buffer, ← same.mode) step
+    QueuesNext (on_input cur.buffer cur.language) c answer d → QueuesNext (on_input old.buffer old.language) c answer d
+same-world old cur answer c d same step = rw (← same.buffer, ← same.language) step
 
 through : (old cur new : Now) → SameInput old cur → SameInput cur new → SameInput old new
-through old cur new first second = record { buffer = second.buffer ∙ first.buffer; mode = second.mode ∙ first.mode }
+through old cur new first second = record { buffer = second.buffer ∙ first.buffer; language = second.language ∙ first.language }
 
 more-of : (old cur new : Now) (given : List Event) (e : Event) → GivenSoFar old given cur → QueuesNow cur (Ok (Some e)) new →
     GivenSoFar old (given ++ e ∷ []) new
 more-of old cur new given e (same, b) one =
-    (through old cur new same one.input, batch-more (on_input old.buffer old.mode) old.cursor cur.cursor new.cursor given e b (same-world old cur _ _ _ same one.step))
+    (through old cur new same one.input, batch-more (on_input old.buffer old.language) old.cursor cur.cursor new.cursor given e b (same-world old cur _ _ _ same one.step))
 
 end-of : (old cur new : Now) (given : List Event) (k : ℕ) → length given ≤ k → GivenSoFar old given cur → QueuesNow cur (Ok None) new →
     Moves old (events (suc k)) (batch given (Ok (length given))) new
 end-of old cur new given k le (same, b) one = record {
   input = through old cur new same one.input;
-  step = batch-end (on_input old.buffer old.mode) old.cursor cur.cursor new.cursor given k le b (same-world old cur _ _ _ same one.step);
+  step = batch-end (on_input old.buffer old.language) old.cursor cur.cursor new.cursor given k le b (same-world old cur _ _ _ same one.step);
 }
 
 refused-of : (old cur new : Now) (given : List Event) (k : ℕ) (r : Refusal) → length given ≤ k → GivenSoFar old given cur →
     QueuesNow cur (Err r) new → Moves old (events (suc k)) (batch given (Err r)) new
 refused-of old cur new given k r le (same, b) one = record {
   input = through old cur new same one.input;
-  step = batch-refused (on_input old.buffer old.mode) old.cursor cur.cursor new.cursor given k r le b (same-world old cur _ _ _ same one.step);
+  step = batch-refused (on_input old.buffer old.language) old.cursor cur.cursor new.cursor given k r le b (same-world old cur _ _ _ same one.step);
 }
 
 full-of : (old cur : Now) (given : List Event) (limit : ℕ) → GivenSoFar old given cur → length given ≡ limit →
     Moves old (events limit) (batch given (Ok limit)) cur
 full-of old cur given limit (same, b) e =
-    record { input = same; step = batch-full (on_input old.buffer old.mode) old.cursor cur.cursor given limit b e }
+    record { input = same; step = batch-full (on_input old.buffer old.language) old.cursor cur.cursor given limit b e }
 
 -- A refusal of the first event that is asked for is one of the call.
 pub queue-refuses : (made now new : Now) (r : Refusal) (t : Spot Standing) → made ≡ now → now.cursor.refusal ≡ None →
-    QueuesOne (on_input made.buffer made.mode) made.cursor.spot (Err r) t → new ≡ with_cursor made (refused_at made.cursor t r) →
+    QueuesOne (on_input made.buffer made.language) made.cursor.spot (Err r) t → new ≡ with_cursor made (refused_at made.cursor t r) →
     Moves now (events 1) (batch [] (Err r)) new
 queue-refuses made now new r t e none one after =
     let free : made.cursor.refusal ≡ None = rw e none in
-    rw after (step-moves made now _ (events 1) (batch [] (Err r)) e (refused-first (on_input made.buffer made.mode) made.cursor 0 r t free one))
+    rw after (step-moves made now _ (events 1) (batch [] (Err r)) e (refused-first (on_input made.buffer made.language) made.cursor 0 r t free one))
 
 -- The next event of a parser, once there is room for it.
 pub queue-answers : (made now : Now) (o : Option Event) (t : Spot Standing) → made ≡ now → now.cursor.refusal ≡ None →
-    QueuesOne (on_input made.buffer made.mode) made.cursor.spot (Ok o) t → QueuesNow now (Ok o) (with_cursor made (at_spot made.cursor t))
+    QueuesOne (on_input made.buffer made.language) made.cursor.spot (Ok o) t → QueuesNow now (Ok o) (with_cursor made (at_spot made.cursor t))
 queue-answers made now o t e none one =
     let free : made.cursor.refusal ≡ None = rw e none in
     subst (λ x. QueuesNow x (Ok o) (with_cursor made (at_spot made.cursor t))) e
-    (record { input = record { buffer = refl; mode = refl }; step = answers o t free one })
+    (record { input = record { buffer = refl; language = refl }; step = answers o t free one })
 
 pub queue-refused : (made now new : Now) (r q : Refusal) (t : Spot Standing) → made ≡ now → now.cursor.refusal ≡ None →
-    QueuesOne (on_input made.buffer made.mode) made.cursor.spot (Err r) t → new ≡ with_cursor made (refused_at made.cursor t r) → q ≡ r →
+    QueuesOne (on_input made.buffer made.language) made.cursor.spot (Err r) t → new ≡ with_cursor made (refused_at made.cursor t r) → q ≡ r →
     QueuesNow now (Err q) new
 queue-refused made now new r q t e none one after same =
     let free : made.cursor.refusal ≡ None = rw e none in
     rw (same, after) (subst (λ x. QueuesNow x (Err r) (with_cursor made (refused_at made.cursor t r))) e
-    (record { input = record { buffer = refl; mode = refl }; step = refuses r t free one }))
+    (record { input = record { buffer = refl; language = refl }; step = refuses r t free one }))
 
 -- A refusal that was kept is repeated.
 pub queue-repeats : (now : Now) (r : Refusal) → now.cursor.refusal ≡ Some r → QueuesNow now (Err r) now
-queue-repeats now r e = record { input = record { buffer = refl; mode = refl }; step = steps.repeats r e }
+queue-repeats now r e = record { input = record { buffer = refl; language = refl }; step = steps.repeats r e }
 
 -- ---- over the code's events
 
 -- No event is given yet.
 pub given-none : (items : List ParseEvent) (old : Now) →
     (given : List ParseEvent) × (items ≡ items ++ given) × (length given ≡ 0) × GivenSoFar old (map event_of given) old
-given-none items old = ([], rw append-nil refl, refl, (record { buffer = refl; mode = refl }, nothing_yet))
+given-none items old = ([], rw append-nil refl, refl, (record { buffer = refl; language = refl }, nothing_yet))
 
 pub none-given : (cur new : Now) (o : Option ParseEvent) → ((e : ParseEvent) → o ≡ Some e → ⊥) →
     QueuesNow cur (Ok (option_map event_of o)) new → QueuesNow cur (Ok None) new
@@ -251,7 +251,7 @@ given-pass_refused start now old new limit r (given, items, move) =
 -- ---- what holds of every parser
 
 within-by : (old cur : Now) (given : List Event) (d : Cursor Standing) → SameInput old cur → cur.cursor ≡ d →
-    Batch (on_input old.buffer old.mode) old.cursor given d → (0 < length given → NowWithin old) → NowWithin cur → NowWithin old
+    Batch (on_input old.buffer old.language) old.cursor given d → (0 < length given → NowWithin old) → NowWithin cur → NowWithin old
 within-by old cur _ _ same e (nothing_yet) known here = subst NowWithin (same_cursor-is old cur same e) here
 within-by old cur given _ same e (some_given _ place h none comes) known here = known (omega (arith, h))
 

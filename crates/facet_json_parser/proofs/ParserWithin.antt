@@ -11,7 +11,7 @@ use Rattle.facet_format.specs.Event.{Event}
 use Rattle.facet_format.specs.Kept.{found, without}
 use Rattle.facet_format.specs.Cursor.{Call, next, events, save, restore, Spot, Cursor, refused_at, Answer, event, batch, spans, Step, gives_none}
 use Rattle.facet_format.specs.Span.{Span}
-use Rattle.facet_json_token.specs.Gap.{Mode}
+use Rattle.facet_json_document.specs.Language.{Language}
 use Rattle.facet_json_document.specs.InputPlace.{Standing}
 use Rattle.facet_json_protocol.specs.Now.{Now, on_input, span_of, ahead, GoesOn}
 use Rattle.facet_json_protocol.specs.Move.{Moves}
@@ -31,32 +31,32 @@ use Rattle.facet_json_parser.proofs.EventsInBatch.{queue-refuses}
 -- ---- what holds of every parser
 
 -- It holds of a new one.
-pub first-ready : (buffer : List ℕ) (mode : Mode) (f : Filling) (kept : List (ℕ × Filling)) → f ≡ first_filling → kept ≡ [] →
-    IsReady buffer mode f None kept 0
-first-ready buffer mode f kept e g =
+pub first-ready : (buffer : List ℕ) (language : Language) (f : Filling) (kept : List (ℕ × Filling)) → f ≡ first_filling → kept ≡ [] →
+    IsReady buffer language f None kept 0
+first-ready buffer language f kept e g =
     rw (e, g) (record { stands = record { within = omega arith; filled = tt }; refused = tt; keeps = tt; counter_fits = omega arith })
 
 -- It holds with another standing.
-pub stands-ready : (buffer : List ℕ) (mode : Mode) (f g : Filling) (refusal : Option Refusal) (points : List (ℕ × Filling)) (counter : ℕ) →
-    IsReady buffer mode f refusal points counter → IsSound buffer mode g → IsReady buffer mode g refusal points counter
-stands-ready buffer mode f g refusal points counter ready good =
+pub stands-ready : (buffer : List ℕ) (language : Language) (f g : Filling) (refusal : Option Refusal) (points : List (ℕ × Filling)) (counter : ℕ) →
+    IsReady buffer language f refusal points counter → IsSound buffer language g → IsReady buffer language g refusal points counter
+stands-ready buffer language f g refusal points counter ready good =
     record { stands = good; refused = ready.refused; keeps = ready.keeps; counter_fits = ready.counter_fits }
 
-points-within : (buffer : List ℕ) (mode : Mode) (counter : ℕ) (points : List (ℕ × Filling)) → ArePoints buffer mode counter points →
+points-within : (buffer : List ℕ) (language : Language) (counter : ℕ) (points : List (ℕ × Filling)) → ArePoints buffer language counter points →
     All (λ point. StandsWithin buffer point.1.place) (map kept_spot points)
-points-within buffer mode counter [] are = All-nil (λ p. StandsWithin buffer p.1.place)
-points-within buffer mode counter (point ∷ points) are =
+points-within buffer language counter [] are = All-nil (λ p. StandsWithin buffer p.1.place)
+points-within buffer language counter (point ∷ points) are =
     All-cons (λ p. StandsWithin buffer p.1.place) (kept_spot point) (map kept_spot points) are.0.within
-    (points-within buffer mode counter points are.3)
+    (points-within buffer language counter points are.3)
 
 -- What it keeps lies within the input.
-pub ready-within : (buffer : List ℕ) (mode : Mode) (f : Filling) (refusal : Option Refusal) (points : List (ℕ × Filling)) (counter : ℕ)
-    (made now : Now) → IsReady buffer mode f refusal points counter →
-    made ≡ record { buffer = buffer; mode = mode; cursor = cursor_of f refusal points counter } → made ≡ now → NowWithin now
-ready-within buffer mode f refusal points counter made now ready is e =
+pub ready-within : (buffer : List ℕ) (language : Language) (f : Filling) (refusal : Option Refusal) (points : List (ℕ × Filling)) (counter : ℕ)
+    (made now : Now) → IsReady buffer language f refusal points counter →
+    made ≡ record { buffer = buffer; language = language; cursor = cursor_of f refusal points counter } → made ≡ now → NowWithin now
+ready-within buffer language f refusal points counter made now ready is e =
     subst NowWithin e (rw is (record {
       standing = ready.stands.within;
-      kept = points-within buffer mode counter points ready.keeps;
+      kept = points-within buffer language counter points ready.keeps;
       refusal = ready.refused;
     }))
 
@@ -84,7 +84,7 @@ told-within made now s e good same = rw (same, e) (current-within now good)
 -- ---- a batch
 
 -- Asked for no events, it answers none, and nothing changes.
-zero-steps : (now : Now) (c : Cursor Standing) (answer : Answer) → Step (on_input now.buffer now.mode) now.cursor (events 0) answer c →
+zero-steps : (now : Now) (c : Cursor Standing) (answer : Answer) → Step (on_input now.buffer now.language) now.cursor (events 0) answer c →
     (answer ≡ batch [] (Ok 0)) × (c ≡ now.cursor)
 zero-steps now c answer (Step.repeats r call _ e f) = cc
 zero-steps now _ _ gives_none = (refl, refl)
@@ -105,7 +105,7 @@ pub batch-goes_on : (old new : Now) (limit : ℕ) (answer : Answer) → (0 < lim
 batch-goes_on old new zero answer known move =
     let none = events-zero old new answer move in
     subst (GoesOn old) (sym none.1) (record {
-      input = record { buffer = refl; mode = refl };
+      input = record { buffer = refl; language = refl };
       points = record { kept = refl; counter = refl };
       onward = omega arith;
     })
@@ -123,7 +123,7 @@ batch-lowers old new (suc k) n given known move = events-lower old (known (omega
 -- ---- a restore
 
 restored-uses : (now : Now) (point : ℕ) (c : Cursor Standing) (answer : Answer) →
-    Step (on_input now.buffer now.mode) now.cursor (restore point) answer c →
+    Step (on_input now.buffer now.language) now.cursor (restore point) answer c →
     (c.kept ≡ without point now.cursor.kept) × (c.counter ≡ now.cursor.counter)
 restored-uses now point c answer (Step.repeats r call _ e f) = cc
 restored-uses now point _ _ (Step.restores _ s f) = (refl, refl)
@@ -137,28 +137,28 @@ restore-uses old point new move = restored-uses old point new.cursor _ move.step
 -- ---- what a refusal says
 
 pub next-refusal_within : (made now : Now) (r : Refusal) (t : Spot Standing) → made ≡ now → now.cursor.refusal ≡ None → NowWithin now →
-    PassesOne (on_input made.buffer made.mode) made.cursor.spot (Err r) t → RefusalWithin made.buffer r
+    PassesOne (on_input made.buffer made.language) made.cursor.spot (Err r) t → RefusalWithin made.buffer r
 next-refusal_within made now r t e none good one =
     answer-within now (with_cursor made (refused_at made.cursor t r)) good (next-refused made now _ r r t e none one refl refl)
 
 pub peek-refusal_within : (made now : Now) (r : Refusal) (t : Spot Standing) → made ≡ now → now.cursor.refusal ≡ None → NowWithin now →
-    ShowsOne (on_input made.buffer made.mode) made.cursor.spot (Err r) t → RefusalWithin made.buffer r
+    ShowsOne (on_input made.buffer made.language) made.cursor.spot (Err r) t → RefusalWithin made.buffer r
 peek-refusal_within made now r t e none good one =
     answer-within now (with_cursor made (refused_at made.cursor t r)) good (peek-refused made now _ r r t e none one refl refl)
 
 pub queue-refusal_within : (made now : Now) (r : Refusal) (t : Spot Standing) → made ≡ now → now.cursor.refusal ≡ None → NowWithin now →
-    QueuesOne (on_input made.buffer made.mode) made.cursor.spot (Err r) t → RefusalWithin made.buffer r
+    QueuesOne (on_input made.buffer made.language) made.cursor.spot (Err r) t → RefusalWithin made.buffer r
 queue-refusal_within made now r t e none good one =
     (answer-within now (with_cursor made (refused_at made.cursor t r)) good (queue-refuses made now _ r t e none one refl)).1
 
 -- ---- a save
 
 -- No point has the next number.
-pub number-new : (buffer : List ℕ) (mode : Mode) (f : Filling) (refusal : Option Refusal) (points : List (ℕ × Filling)) (counter n : ℕ)
-    (made now : Now) → IsReady buffer mode f refusal points counter →
-    made ≡ record { buffer = buffer; mode = mode; cursor = cursor_of f refusal points counter } → made ≡ now → n ≡ suc counter →
+pub number-new : (buffer : List ℕ) (language : Language) (f : Filling) (refusal : Option Refusal) (points : List (ℕ × Filling)) (counter n : ℕ)
+    (made now : Now) → IsReady buffer language f refusal points counter →
+    made ≡ record { buffer = buffer; language = language; cursor = cursor_of f refusal points counter } → made ≡ now → n ≡ suc counter →
     found n now.cursor.kept ≡ None
-number-new buffer mode f refusal points counter n made now ready is e same =
-    let missing = above-missing buffer mode counter n points ready.keeps (omega (arith, same)) in
+number-new buffer language f refusal points counter n made now ready is e same =
+    let missing = above-missing buffer language counter n points ready.keeps (omega (arith, same)) in
     let none : found n (map kept_spot points) ≡ None = found-spot n points ∙ ap (option_map spot_of) missing in
     subst (λ x. found n x.cursor.kept ≡ None) e (rw is none)

@@ -19,7 +19,7 @@ ghost use Rattle.facet_json_protocol.specs.Within.{RefusalWithin, NowWithin, Ans
 ghost use Rattle.facet_json_standing.specs.Steps.{QueuesNow};
 
 use facet_format::{FormatParser, ParseError, ParseEvent, SavePoint, Span};
-use facet_json_place::Refused;
+use facet_json_place::{Language, Refused};
 use facet_json_standing::{Point, Standing, bring_back, keep};
 use facet_json_token::Mode;
 use std::alloc::Global;
@@ -52,7 +52,7 @@ use std::marker::Model;
 pub struct JsonParser<'de> {
     alloc: Global,
     input: &'de [u8],
-    mode: Mode,
+    language: Language,
     standing: Standing<'de>,
     refusal: Option<Refused>,
     points: Vec<Point<'de>>,
@@ -62,17 +62,16 @@ pub struct JsonParser<'de> {
 impl<'de> Model for JsonParser<'de> {
     ghost use Rattle.std.specs.Prelude.{map};
     ghost use Rattle.std.specs.Option.{option_map};
-    ghost use Rattle.facet_json_token.specs.Views.{mode_of};
     ghost use Rattle.facet_json_protocol.specs.Now.{Now};
-    ghost use Rattle.facet_json_place.specs.Views.{refused_of};
+    ghost use Rattle.facet_json_place.specs.Views.{language_of, refused_of};
     ghost use Rattle.facet_json_standing.specs.Ready.{IsReady};
     ghost use Rattle.facet_json_standing.specs.Views.{filling_of, point_of, now_of};
 
     ghost Value = { Now };
 
-    ghost view = { λ p. now_of p.input.now p.mode p.standing p.refusal p.points.items p.counter };
+    ghost view = { λ p. now_of p.input.now p.language p.standing p.refusal p.points.items p.counter };
 
-    ghost invariant = { λ p. IsReady p.input.now (mode_of p.mode) (filling_of p.standing) (option_map refused_of p.refusal)
+    ghost invariant = { λ p. IsReady p.input.now (language_of p.language) (filling_of p.standing) (option_map refused_of p.refusal)
         (map point_of p.points.items) p.counter };
 }
 
@@ -117,7 +116,7 @@ impl<'de> JsonParser<'de> {
         JsonParser {
             alloc,
             input,
-            mode,
+            language: Language::Lenient(mode),
             standing: Standing::new(alloc),
             refusal: None,
             points: Vec::new(alloc),
@@ -163,7 +162,7 @@ impl<'de> JsonParser<'de> {
         self.unrefused()?;
         match self
             .standing
-            .next_with_room(self.alloc, self.input, self.mode, queue)
+            .next_with_room(self.alloc, self.input, self.language, queue)
         {
             Ok(event) => Ok(event),
             Err(refused) => Err(self.refuse(refused)),
@@ -202,8 +201,8 @@ impl<'de> FormatParser<'de> for JsonParser<'de> {
         ensures end { IfOk result (λ o. IfNone o (IsOver self.old self.new)) }
     {
         self.unrefused()?;
-        match self.standing.next(self.alloc, self.input, self.mode) {
-            Ok(event) => Ok(event),
+        match self.standing.next(self.alloc, self.input, self.language) {
+            Ok(passed) => Ok(passed),
             Err(refused) => Err(self.refuse(refused)),
         }
     }
@@ -224,8 +223,8 @@ impl<'de> FormatParser<'de> for JsonParser<'de> {
         ensures end { IfOk result (λ o. IfNone o (IsOver self.old self.new)) }
     {
         self.unrefused()?;
-        match self.standing.peek(self.alloc, self.input, self.mode) {
-            Ok(event) => Ok(event),
+        match self.standing.peek(self.alloc, self.input, self.language) {
+            Ok(shown) => Ok(shown),
             Err(refused) => Err(self.refuse(refused)),
         }
     }

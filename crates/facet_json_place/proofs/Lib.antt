@@ -1,2 +1,3 @@
-pub mod FaultTexts
+pub mod PackedKinds
+pub mod ScannedTokens
 pub mod TurnsAtPlaces

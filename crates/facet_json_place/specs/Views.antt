@@ -4,9 +4,6 @@ use Rattle.facet_format.specs.declared.event.ContainerKind.{ContainerKind as Rus
 use Rattle.facet_format.specs.declared.event.ContainerKind.TheVariants as containers
 use Rattle.facet_json_token.specs.declared.token.Token.{Token as RustToken}
 use Rattle.facet_json_token.specs.declared.token.Token.TheVariants as code
-use Rattle.facet_json_token.specs.declared.token.ScanErrorKind.{ScanErrorKind}
-use Rattle.facet_json_token.specs.declared.token.ScanErrorKind.TheVariants as scan
-use Rattle.facet_json_token.specs.declared.token.ScanError.{ScanError}
 use Rattle.facet_json_place.specs.declared.refusal.Expected.{Expected}
 use Rattle.facet_json_place.specs.declared.refusal.Expected.TheVariants as expected
 use Rattle.facet_json_place.specs.declared.refusal.Name.{Name}
@@ -14,6 +11,8 @@ use Rattle.facet_json_place.specs.declared.refusal.Name.TheVariants as names
 use Rattle.facet_json_place.specs.declared.refusal.Why.{Why}
 use Rattle.facet_json_place.specs.declared.refusal.Why.TheVariants as why
 use Rattle.facet_json_place.specs.declared.refusal.Refused.{Refused}
+use Rattle.facet_json_place.specs.declared.language.Language.{Language as RustLanguage}
+use Rattle.facet_json_place.specs.declared.language.Language.TheVariants as languages
 use Rattle.facet_json_place.specs.declared.place.Place.{Place as RustPlace}
 use Rattle.facet_json_place.specs.declared.place.Place.TheVariants as places
 use Rattle.facet_json_place.specs.declared.place.Turn.{Turn as RustTurn}
@@ -23,12 +22,11 @@ use Rattle.facet_format.specs.Complaint as complaint
 use Rattle.facet_format.specs.Event.{ContainerKind, object, array, EventKind}
 use Rattle.facet_format.specs.Event as event
 use Rattle.facet_format.specs.Views.{span_of, container_of}
-use Rattle.facet_json_token.specs.Token.{Kind, in_string, in_number, in_literal, in_block_comment}
-use Rattle.facet_json_token.specs.Views.{scan_complaint, scan_refusal}
-use Rattle.facet_json_document.specs.Place.{Place}
+use Rattle.facet_json_token.specs.Token.{Kind}
+use Rattle.facet_json_token.specs.Views.{mode_of}
+use Rattle.facet_json_document.specs.Language.{Language, lenient}
+use Rattle.facet_json_document.specs.Place.{Place, Turn, stops, passes, says, says_scalar, place_turn}
 use Rattle.facet_json_document.specs.Place as place
-use Rattle.facet_json_document.specs.Future.{Turn, Stage, within, after_value, place_turn, closing_turn}
-use Rattle.facet_json_document.specs.Future as future
 
 -- ---- refusals
 
@@ -40,12 +38,8 @@ expected_text expected.Colon = codes "':'"
 expected_text expected.CommaOrObjectEnd = codes "',' or '}'"
 expected_text expected.ValueOrArrayEnd = codes "value or ']'"
 expected_text expected.CommaOrArrayEnd = codes "',' or ']'"
-expected_text expected.InString = codes "in string"
-expected_text expected.InNumber = codes "in number"
-expected_text expected.InLiteral = codes "in literal"
-expected_text expected.InBlockComment = codes "in block comment"
-expected_text expected.InEscapeSequence = codes "in escape sequence"
-expected_text expected.InUnicodeEscape = codes "in unicode escape"
+expected_text expected.ObjectEnd = codes "'}'"
+expected_text expected.ArrayEnd = codes "']'"
 
 -- how a refusal calls a token
 abbrev pub name_text : Name → List ℕ
@@ -65,9 +59,12 @@ name_text names.U128 = codes "U128"
 name_text names.I128 = codes "I128"
 name_text names.Decimal = codes "Decimal"
 name_text names.Eof = codes "Eof"
+name_text names.ClosingBrace = codes "'}'"
+name_text names.ClosingBracket = codes "']'"
 
 abbrev pub why_of : Why → Complaint
 why_of (why.Char c) = complaint.unexpected_char c (codes "valid JSON token")
+why_of (why.Inside text) = complaint.unexpected_eof text.now
 why_of (why.End e) = complaint.unexpected_eof (expected_text e)
 why_of (why.Token got e) = complaint.unexpected_token (name_text got) (expected_text e)
 why_of why.InvalidUtf8 = complaint.invalid_utf8
@@ -77,27 +74,10 @@ why_of why.SaveLimit = complaint.save_limit
 abbrev pub refused_of : Refused → Refusal
 refused_of r = complaint.refusal_at (why_of r.why) (span_of r.span)
 
--- the texts that say what the input ends inside of, where a token is cut or a string's content is decoded
-pub data IsEndText : List ℕ → Type 0 where
-  a_string : IsEndText in_string
-  a_number : IsEndText in_number
-  a_literal : IsEndText in_literal
-  a_comment : IsEndText in_block_comment
-  an_escape : IsEndText (codes "in escape sequence")
-  digits : IsEndText (codes "in unicode escape")
+-- ---- the language
 
--- A scan that is refused at an end says one of them.
-abbrev pub SaysEndText : ScanErrorKind → Type 0
-SaysEndText (scan.UnexpectedEof text) = IsEndText text.now
-SaysEndText _ = Unit {0}
-
--- A refused scan is passed on as it is.
-abbrev pub IsWhy : ScanErrorKind → Complaint → Type 0
-IsWhy kind c = SaysEndText kind → c ≡ scan_complaint kind
-
--- The same, over the scan's bytes.
-abbrev pub IsPassedOn : ScanError → Refusal → Type 0
-IsPassedOn e r = SaysEndText e.kind → r ≡ scan_refusal e
+abbrev pub language_of : RustLanguage → Language
+language_of (languages.Lenient mode) = lenient (mode_of mode)
 
 -- ---- places
 
@@ -114,28 +94,23 @@ abbrev pub opening : RustContainerKind → EventKind
 opening containers.Object = event.struct_start object
 opening containers.Array = event.sequence_start array
 
--- after that bracket
-abbrev pub opened : RustContainerKind → Stage
-opened containers.Object = within place.before_key
-opened containers.Array = within place.before_item
-
 -- the event of a bracket that closes a container
 abbrev pub closing : RustContainerKind → EventKind
 closing containers.Object = event.struct_end
 closing containers.Array = event.sequence_end
 
-abbrev pub turn_of : List ContainerKind → RustTurn → Turn
-turn_of stack turns.Stops = future.stops
-turn_of stack (turns.Passes p) = future.passes stack (within (place_of p))
-turn_of stack (turns.Opens kind) = future.says (opening kind) (container_of kind ∷ stack) (opened kind)
-turn_of stack (turns.Closes kind) = closing_turn (closing kind) stack
-turn_of stack turns.Scalar = future.says_scalar stack (after_value stack)
-turn_of stack turns.Names = future.names
+abbrev pub turn_of : RustTurn → Turn
+turn_of turns.Stops = stops
+turn_of (turns.Passes p) = passes (place_of p)
+turn_of (turns.Opens kind) = says (opening kind)
+turn_of (turns.Closes kind) = says (closing kind)
+turn_of turns.Scalar = says_scalar
+turn_of turns.Names = place.names
 
--- what follows at a place from a token of this kind, where one stands
-abbrev pub turn_by : List ContainerKind → Place → Option Kind → Turn
-turn_by stack p None = future.stops
-turn_by stack p (Some kind) = place_turn stack p kind
+-- what a token of this kind is at a place, where one stands
+abbrev pub turn_by : Place → Option Kind → Turn
+turn_by p None = stops
+turn_by p (Some kind) = place_turn p kind
 
 -- a string's token
 abbrev pub is_text : RustToken → Bool

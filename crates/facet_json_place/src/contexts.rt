@@ -1,7 +1,8 @@
 //! The open containers of a document, the innermost first.
 
-ghost use Rattle.std.specs.Prelude.{◌≡◌, [], ◌∷◌, List, Option, MatchResult, IfOk};
+ghost use Rattle.std.specs.Prelude.{◌≡◌, ◌<◌, [], ◌∷◌, List, Option, MatchResult, IfOk};
 ghost use Rattle.facet_json_document.specs.Future.{around};
+ghost use Rattle.facet_json_place.specs.Packed.{kind_in};
 ghost use Rattle.facet_json_place.specs.Views.{innermost_of};
 ghost use Rattle.facet_format.specs.Views.{container_of};
 
@@ -9,21 +10,28 @@ use facet_format::ContainerKind;
 use std::alloc::{AllocError, Global};
 use std::marker::Model;
 
-/// The kinds of the containers that are open, the innermost first.
+/// The kinds of the containers that are open, the innermost first: a bit each, 1 for an object and 0 for an array, in words of
+/// 64 bits. So many containers take `(depth + 63) / 64` words, and the innermost word stands in a field of its own.
 #[derive(Debug, Drop)]
 pub struct Contexts {
-    /// The outermost first.
-    kinds: Vec<ContainerKind>,
+    /// How many containers are open.
+    depth: usize,
+    /// The bits of the innermost 1 to 64 of them, as many as leave whole words for the others. The innermost one's is the lowest.
+    word: u64,
+    /// The words of the others, the outermost first, 64 containers each.
+    others: Vec<u64>,
 }
 
 impl Model for Contexts {
-    ghost use Rattle.std.specs.Prelude.{List, map, reverse};
+    ghost use Rattle.std.specs.Prelude.{List, ◌∷◌, reverse};
     ghost use Rattle.facet_format.specs.Event.{ContainerKind as SpecContainer};
-    ghost use Rattle.facet_format.specs.Views.{container_of};
+    ghost use Rattle.facet_json_place.specs.Packed.{kinds_in, IsPacked};
 
     ghost Value = { List SpecContainer };
 
-    ghost view = { λ c. reverse (map container_of c.kinds.items) };
+    ghost view = { λ c. kinds_in c.depth (c.word ∷ reverse c.others.items) };
+
+    ghost invariant = { λ c. IsPacked c.depth c.word c.others.items };
 }
 
 impl Contexts {
@@ -32,7 +40,9 @@ impl Contexts {
         ensures { result ≡ [] }
     {
         Contexts {
-            kinds: Vec::new(alloc),
+            depth: 0,
+            word: 0,
+            others: Vec::new(alloc),
         }
     }
 
@@ -40,21 +50,48 @@ impl Contexts {
     pub fn push(&mut self, kind: ContainerKind) -> Result<(), AllocError>
         ensures { MatchResult result (λ _. self.new ≡ container_of kind ∷ self.old) (λ _. self.new ≡ self.old) }
     {
-        Ok(self.kinds.push(kind)?)
+        let Some(depth) = self.depth.checked_add(1) else {
+            return Err(AllocError);
+        };
+        if self.depth % 64 != 0 {
+            self.word = 2 * self.word + bit_of(kind);
+        } else {
+            if self.depth != 0 {
+                self.others.push(self.word)?;
+            }
+            self.word = bit_of(kind);
+        }
+        self.depth = depth;
+        Ok(())
     }
 
     /// Closes the innermost container.
     pub fn pop(&mut self)
         ensures { self.new ≡ around self.old }
     {
-        self.kinds.pop();
+        if self.depth == 0 {
+            return;
+        }
+        self.depth -= 1;
+        if self.depth % 64 == 0 {
+            self.word = self.others.pop().unwrap_or(0);
+        } else {
+            self.word /= 2;
+        }
     }
 
     /// The kind of the innermost container.
     pub fn innermost(&self) -> Option<ContainerKind>
         ensures { innermost_of result self.now }
     {
-        self.kinds.last().copied()
+        if self.depth == 0 {
+            return None;
+        }
+        if self.word % 2 == 1 {
+            Some(ContainerKind::Object)
+        } else {
+            Some(ContainerKind::Array)
+        }
     }
 
     /// The same containers.
@@ -62,7 +99,20 @@ impl Contexts {
         ensures { IfOk result (λ c. c ≡ self.now) }
     {
         Ok(Contexts {
-            kinds: Vec::from_slice(alloc, self.kinds.as_slice())?,
+            depth: self.depth,
+            word: self.word,
+            others: Vec::from_slice(alloc, self.others.as_slice())?,
         })
+    }
+}
+
+/// The bit of a kind.
+fn bit_of(kind: ContainerKind) -> u64
+    ensures bit { result < 2 }
+    ensures kind { kind_in result ≡ container_of kind }
+{
+    match kind {
+        ContainerKind::Object => 1,
+        ContainerKind::Array => 0,
     }
 }

@@ -1,7 +1,6 @@
 //! Where a parser stands in a document, and what follows from a token there.
 
-ghost use Rattle.std.specs.Prelude.{◌≡◌, true, List, Some};
-ghost use Rattle.facet_format.specs.Event.{ContainerKind as SpecContainer};
+ghost use Rattle.std.specs.Prelude.{◌≡◌, true, Some};
 ghost use Rattle.facet_json_token.specs.Token.{Kind};
 ghost use Rattle.facet_json_token.specs.Views.{kind_of};
 ghost use Rattle.facet_json_document.specs.Place.{root, after_colon, before_key, after_member, before_item, after_item, complaint_at_end, expected_at};
@@ -75,7 +74,7 @@ impl Place {
 
     /// What follows from a token at this place.
     pub fn turn(self, token: &Token) -> Turn
-        ensures turn { (stack : List SpecContainer) → turn_of stack result ≡ turn_by stack (place_of self) (kind_of token.now) }
+        ensures turn { turn_of result ≡ turn_by (place_of self) (kind_of token.now) }
         ensures names { result ≡ Turn.Names → is_text token.now ≡ true }
     {
         match self {
@@ -101,8 +100,8 @@ fn expected_item(token: &Token) -> Expected
 
 /// The turn of a token where a value may stand.
 fn value_turn(token: &Token) -> Turn
-    ensures root { (stack : List SpecContainer) → turn_of stack result ≡ turn_by stack root (kind_of token.now) }
-    ensures colon { (stack : List SpecContainer) → turn_of stack result ≡ turn_by stack after_colon (kind_of token.now) }
+    ensures root { turn_of result ≡ turn_by root (kind_of token.now) }
+    ensures colon { turn_of result ≡ turn_by after_colon (kind_of token.now) }
     ensures names { result ≡ Turn.Names → is_text token.now ≡ true }
 {
     match token {
@@ -119,7 +118,7 @@ fn value_turn(token: &Token) -> Turn
 
 /// The turn of a token after `{`, or after a comma in an object.
 fn key_turn(token: &Token) -> Turn
-    ensures turn { (stack : List SpecContainer) → turn_of stack result ≡ turn_by stack before_key (kind_of token.now) }
+    ensures turn { turn_of result ≡ turn_by before_key (kind_of token.now) }
     ensures names { result ≡ Turn.Names → is_text token.now ≡ true }
 {
     match token {
@@ -131,7 +130,7 @@ fn key_turn(token: &Token) -> Turn
 
 /// The turn of a token after a member.
 fn member_turn(token: &Token) -> Turn
-    ensures turn { (stack : List SpecContainer) → turn_of stack result ≡ turn_by stack after_member (kind_of token.now) }
+    ensures turn { turn_of result ≡ turn_by after_member (kind_of token.now) }
     ensures names { result ≡ Turn.Names → is_text token.now ≡ true }
 {
     match token {
@@ -143,7 +142,7 @@ fn member_turn(token: &Token) -> Turn
 
 /// The turn of a token after `[`, or after a comma in an array.
 fn first_item_turn(token: &Token) -> Turn
-    ensures turn { (stack : List SpecContainer) → turn_of stack result ≡ turn_by stack before_item (kind_of token.now) }
+    ensures turn { turn_of result ≡ turn_by before_item (kind_of token.now) }
     ensures names { result ≡ Turn.Names → is_text token.now ≡ true }
 {
     match token {
@@ -154,7 +153,7 @@ fn first_item_turn(token: &Token) -> Turn
 
 /// The turn of a token after an item.
 fn item_turn(token: &Token) -> Turn
-    ensures turn { (stack : List SpecContainer) → turn_of stack result ≡ turn_by stack after_item (kind_of token.now) }
+    ensures turn { turn_of result ≡ turn_by after_item (kind_of token.now) }
     ensures names { result ≡ Turn.Names → is_text token.now ≡ true }
 {
     match token {

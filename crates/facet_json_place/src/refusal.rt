@@ -4,12 +4,13 @@ ghost use Rattle.std.specs.Prelude.{◌≡◌};
 ghost use Rattle.facet_format.specs.Complaint.{refusal_at, save_limit};
 ghost use Rattle.facet_format.specs.Cursor.{no_memory_at};
 ghost use Rattle.facet_format.specs.Views.{complaint_of, span_of, parse_refusal};
-ghost use Rattle.facet_json_place.specs.Views.{expected_text, name_text, why_of, refused_of, IsEndText, IsWhy, IsPassedOn};
+ghost use Rattle.facet_json_place.specs.Views.{expected_text, name_text, why_of, refused_of};
+ghost use Rattle.facet_json_token.specs.Views.{scan_complaint, scan_refusal};
 
 use facet_format::{DeserializeErrorKind, ParseError, Span};
 use facet_json_token::{ScanError, ScanErrorKind};
 
-/// What is expected where a document doesn't go on, or what the input ends inside of.
+/// What is expected where a document doesn't go on.
 #[derive(Debug, Clone, Copy, PartialEq, Eq)]
 pub enum Expected {
     /// A value.
@@ -24,18 +25,10 @@ pub enum Expected {
     ValueOrArrayEnd,
     /// A comma, or the end of an array.
     CommaOrArrayEnd,
-    /// The end of a string.
-    InString,
-    /// The digits of a number.
-    InNumber,
-    /// The letters of a literal.
-    InLiteral,
-    /// The end of a comment.
-    InBlockComment,
-    /// What a backslash escapes.
-    InEscapeSequence,
-    /// The digits of an escape.
-    InUnicodeEscape,
+    /// The end of an object.
+    ObjectEnd,
+    /// The end of an array.
+    ArrayEnd,
 }
 
 impl Expected {
@@ -50,26 +43,8 @@ impl Expected {
             Expected::CommaOrObjectEnd => "',' or '}'",
             Expected::ValueOrArrayEnd => "value or ']'",
             Expected::CommaOrArrayEnd => "',' or ']'",
-            Expected::InString => "in string",
-            Expected::InNumber => "in number",
-            Expected::InLiteral => "in literal",
-            Expected::InBlockComment => "in block comment",
-            Expected::InEscapeSequence => "in escape sequence",
-            Expected::InUnicodeEscape => "in unicode escape",
-        }
-    }
-
-    /// What the input ends inside of, by the text in which a scan or a decoder says so. They have no others.
-    fn inside(text: &str) -> Expected
-        ensures { IsEndText text.now → expected_text result ≡ text.now }
-    {
-        match text {
-            "in string" => Expected::InString,
-            "in number" => Expected::InNumber,
-            "in literal" => Expected::InLiteral,
-            "in block comment" => Expected::InBlockComment,
-            "in escape sequence" => Expected::InEscapeSequence,
-            _ => Expected::InUnicodeEscape,
+            Expected::ObjectEnd => "'}'",
+            Expected::ArrayEnd => "']'",
         }
     }
 }
@@ -109,6 +84,10 @@ pub enum Name {
     Decimal,
     /// The end of the input.
     Eof,
+    /// `}`, where nothing but brackets is looked at.
+    ClosingBrace,
+    /// `]`, where nothing but brackets is looked at.
+    ClosingBracket,
 }
 
 impl Name {
@@ -133,6 +112,8 @@ impl Name {
             Name::I128 => "I128",
             Name::Decimal => "Decimal",
             Name::Eof => "Eof",
+            Name::ClosingBrace => "'}'",
+            Name::ClosingBracket => "']'",
         }
     }
 }
@@ -142,6 +123,8 @@ impl Name {
 pub enum Why {
     /// No token goes on with this character.
     Char(char),
+    /// The input ends inside of what the text names.
+    Inside(&'static str),
     /// The input ends, where this is expected.
     End(Expected),
     /// A token with which no document goes on.
@@ -169,6 +152,7 @@ impl Why {
                 ch,
                 expected: "valid JSON token",
             },
+            Why::Inside(expected) => DeserializeErrorKind::UnexpectedEof { expected },
             Why::End(expected) => DeserializeErrorKind::UnexpectedEof {
                 expected: expected.text(),
             },
@@ -226,19 +210,19 @@ impl From<Refused> for ParseError<'_> {
 }
 
 impl From<ScanErrorKind> for Why {
-    ghost from_gives = { λ scan why. IsWhy scan (why_of why) };
+    ghost from_gives = { λ scan why. why_of why ≡ scan_complaint scan };
 
     fn from(kind: ScanErrorKind) -> Self {
         match kind {
             ScanErrorKind::UnexpectedChar(ch) => Why::Char(ch),
-            ScanErrorKind::UnexpectedEof(text) => Why::End(Expected::inside(text)),
+            ScanErrorKind::UnexpectedEof(text) => Why::Inside(text),
             ScanErrorKind::InvalidUtf8 => Why::InvalidUtf8,
         }
     }
 }
 
 impl From<ScanError> for Refused {
-    ghost from_gives = { λ scan refused. IsPassedOn scan (refused_of refused) };
+    ghost from_gives = { λ scan refused. refused_of refused ≡ scan_refusal scan };
 
     fn from(error: ScanError) -> Self {
         Refused {

@@ -3,5 +3,6 @@ pub mod LongestPrefix
 pub mod OwnTokens
 pub mod PrefixGivesWalk
 pub mod RefusedHasNone
+pub mod RefusedOnce
 pub mod SomeRefusal
 pub mod ValueOrPrefix

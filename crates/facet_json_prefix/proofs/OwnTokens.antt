@@ -1,12 +1,11 @@
 -- The own tokens of a spelling: whatever follows them they spell the same, and the events of its walk end in them.
 use Rattle.std.proofs.Common.{◌≡◌, List, [], ◌∷◌, ◌++◌, refl, sym, ap, ◌∙◌, arith}
-use Rattle.std.specs.Prelude.{All, Contains}
+use Rattle.std.specs.Prelude.{ℕ, List, All, Contains}
 use Rattle.std.proofs.lemmas.List.Elements.{All-nil, All-cons, All-append, All-weaker, Contains-append_left, Contains-append_right}
 use Rattle.facet_format.specs.Event.{EventKind, Passed}
 use Rattle.facet_json_token.specs.Token.{Token}
 use Rattle.facet_json_token.specs.Tokens.{Tokens, next}
 use Rattle.facet_json_document.specs.Node.{Node, Nodes, Members, Spells, one_token, brackets, braces, SpellsItems, closed, item_and_comma, last_item, SpellsMembers, ended_members, member_and_comma, last_member}
-use Rattle.facet_json_document.specs.Meaning.{Meaning}
 use Rattle.facet_json_document.specs.Walk.{event_at, key_event, walk, walk_items, walk_members}
 use Rattle.facet_json_prefix.specs.Begun.{tokens_before}
 use Rattle.facet_json_prefix.specs.EventLaws.{EndsAmong}
@@ -49,10 +48,10 @@ ends-first t ts kind events h =
     All-cons (EndsAmong (t ∷ ts)) (event_at kind t) events (t, first-in t ts, refl) (ends-right (t ∷ []) ts events h)
 
 -- The event of a key, and others.
-pub ends-key : (m : Meaning) (key mark : Token) (ts : List Token) (events : List Passed) → All (EndsAmong ts) events →
-    All (EndsAmong (key ∷ mark ∷ ts)) (key_event m key mark ∷ events)
-ends-key m key mark ts events h =
-    All-cons (EndsAmong (key ∷ mark ∷ ts)) (key_event m key mark) events (mark, (1, omega arith, refl), refl)
+pub ends-key : (buffer : List ℕ) (key mark : Token) (ts : List Token) (events : List Passed) → All (EndsAmong ts) events →
+    All (EndsAmong (key ∷ mark ∷ ts)) (key_event buffer key mark ∷ events)
+ends-key buffer key mark ts events h =
+    All-cons (EndsAmong (key ∷ mark ∷ ts)) (key_event buffer key mark) events (mark, (1, omega arith, refl), refl)
     (ends-right (key ∷ mark ∷ []) ts events h)
 
 -- Others, and the event of one token.
@@ -63,26 +62,26 @@ ends-last ts last kind events c h =
 
 -- ---- a spelling's own tokens
 
-module _ (m : Meaning) where
+module _ (buffer : List ℕ) where
   -- The tokens before the rest are these, and whatever else follows them, they spell the same.
   pub record SpelledBy (ts : Tokens) (node : Node) (rest : Tokens) : Type 0 where
     pub own : List Token
     pub here : ts ≡ tokens_before own rest
     pub anywhere : (other : Tokens) → Spells (tokens_before own other) node other
-    pub ends : All (EndsAmong own) (walk m node)
+    pub ends : All (EndsAmong own) (walk buffer node)
 
   record ItemsBy (ts : Tokens) (nodes : Nodes) (last : Token) (rest : Tokens) : Type 0 where
     own : List Token
     here : ts ≡ tokens_before own rest
     anywhere : (other : Tokens) → SpellsItems (tokens_before own other) nodes last other
-    ends : All (EndsAmong own) (walk_items m nodes)
+    ends : All (EndsAmong own) (walk_items buffer nodes)
     closes : Contains own last
 
   record MembersBy (ts : Tokens) (members : Members) (last : Token) (rest : Tokens) : Type 0 where
     own : List Token
     here : ts ≡ tokens_before own rest
     anywhere : (other : Tokens) → SpellsMembers (tokens_before own other) members last other
-    ends : All (EndsAmong own) (walk_members m members)
+    ends : All (EndsAmong own) (walk_members buffer members)
     closes : Contains own last
 
   mutual
@@ -101,7 +100,7 @@ module _ (m : Meaning) where
           own = first ∷ by.own;
           here = ap (next first) by.here;
           anywhere = λ other. brackets first last (tokens_before by.own other) other nodes k (by.anywhere other);
-          ends = ends-first first by.own _ _ (ends-last by.own last _ (walk_items m nodes) by.closes by.ends);
+          ends = ends-first first by.own _ _ (ends-last by.own last _ (walk_items buffer nodes) by.closes by.ends);
         }
     spelled_by (braces first last inner rest ms k s) =
         let by = members_by s in
@@ -109,7 +108,7 @@ module _ (m : Meaning) where
           own = first ∷ by.own;
           here = ap (next first) by.here;
           anywhere = λ other. braces first last (tokens_before by.own other) other ms k (by.anywhere other);
-          ends = ends-first first by.own _ _ (ends-last by.own last _ (walk_members m ms) by.closes by.ends);
+          ends = ends-first first by.own _ _ (ends-last by.own last _ (walk_members buffer ms) by.closes by.ends);
         }
 
     items_by : {ts rest : Tokens} {nodes : Nodes} {last : Token} → SpellsItems ts nodes last rest → ItemsBy ts nodes last rest
@@ -127,7 +126,7 @@ module _ (m : Meaning) where
           own = by.own ++ separator ∷ behind.own;
           here = by.here ∙ ap (λ r. tokens_before by.own (next separator r)) behind.here ∙ sym (before-append by.own (separator ∷ behind.own) rest);
           anywhere = λ other. rw (before-append by.own (separator ∷ behind.own) other) (item_and_comma (tokens_before by.own (next separator (tokens_before behind.own other))) (tokens_before behind.own other) other node nodes separator last (by.anywhere (next separator (tokens_before behind.own other))) k (behind.anywhere other));
-          ends = ends-join by.own behind.own separator (walk m node) (walk_items m nodes) by.ends behind.ends;
+          ends = ends-join by.own behind.own separator (walk buffer node) (walk_items buffer nodes) by.ends behind.ends;
           closes = later-in by.own behind.own separator last behind.closes;
         }
     items_by (last_item ts rest node last s k) =
@@ -136,7 +135,7 @@ module _ (m : Meaning) where
           own = by.own ++ last ∷ [];
           here = by.here ∙ sym (before-append by.own (last ∷ []) rest);
           anywhere = λ other. rw (before-append by.own (last ∷ []) other) (last_item (tokens_before by.own (next last other)) other node last (by.anywhere (next last other)) k);
-          ends = ends-join by.own [] last (walk m node) [] by.ends (All-nil (EndsAmong []));
+          ends = ends-join by.own [] last (walk buffer node) [] by.ends (All-nil (EndsAmong []));
           closes = Contains-append_right by.own (last ∷ []) last (first-in last []);
         }
 
@@ -157,7 +156,7 @@ module _ (m : Meaning) where
           own = key ∷ mark ∷ inner;
           here = ap (λ r. next key (next mark r)) (by.here ∙ ap (λ r. tokens_before by.own (next separator r)) behind.here ∙ sym (before-append by.own (separator ∷ behind.own) rest));
           anywhere = λ other. rw (before-append by.own (separator ∷ behind.own) other) (member_and_comma (tokens_before by.own (next separator (tokens_before behind.own other))) (tokens_before behind.own other) other key mark node ms separator last i c (by.anywhere (next separator (tokens_before behind.own other))) k (behind.anywhere other));
-          ends = ends-key m key mark inner _ (ends-join by.own behind.own separator (walk m node) (walk_members m ms) by.ends behind.ends);
+          ends = ends-key buffer key mark inner _ (ends-join by.own behind.own separator (walk buffer node) (walk_members buffer ms) by.ends behind.ends);
           closes = Contains-append_right (key ∷ mark ∷ []) inner last (later-in by.own behind.own separator last behind.closes);
         }
     members_by (last_member ts rest key mark node last i c s k) =
@@ -167,6 +166,6 @@ module _ (m : Meaning) where
           own = key ∷ mark ∷ inner;
           here = ap (λ r. next key (next mark r)) (by.here ∙ sym (before-append by.own (last ∷ []) rest));
           anywhere = λ other. rw (before-append by.own (last ∷ []) other) (last_member (tokens_before by.own (next last other)) other key mark node last i c (by.anywhere (next last other)) k);
-          ends = ends-key m key mark inner _ (ends-join by.own [] last (walk m node) [] by.ends (All-nil (EndsAmong [])));
+          ends = ends-key buffer key mark inner _ (ends-join by.own [] last (walk buffer node) [] by.ends (All-nil (EndsAmong [])));
           closes = Contains-append_right (key ∷ mark ∷ []) inner last (Contains-append_right by.own (last ∷ []) last (first-in last []));
         }

@@ -1,15 +1,14 @@
 -- A prefix gives those events of a walk whose last tokens are its own.
 use Rattle.std.proofs.Common.{◌≡◌, ℕ, ◌<◌, ◌≤◌, Bool, true, false, List, [], ◌∷◌, refl, sym, ap, subst, arith}
-use Rattle.std.specs.Prelude.{All}
+use Rattle.std.specs.Prelude.{ℕ, List, All}
 use Rattle.std.proofs.lemmas.List.Elements.{All-nil, All-cons, All-weaker, All-contains}
 use Rattle.facet_format.specs.Event.{ContainerKind, Passed}
 use Rattle.facet_format.specs.Span.{stop}
 use Rattle.facet_json_token.specs.Token.{Token}
 use Rattle.facet_json_token.specs.Tokens.{Tokens, ended, refused, next}
-use Rattle.facet_json_document.specs.Future.{Future, gives, finished, stuck, events_before, Stage, within, over, Turn, stops, passes, says, says_scalar, names, turn, reads, reads_colon}
-use Rattle.facet_json_document.specs.Meaning.{Meaning, meaning}
-use Rattle.facet_json_document.specs.Order.{InOrder, at_a_token}
-use Rattle.facet_json_document.specs.Place.{Place, after_colon, is_colon}
+use Rattle.facet_json_document.specs.Future.{Future, gives, finished, stuck, events_before, Stage, within, over, after_value, stack_after, stage_after, turn, reads, reads_colon}
+use Rattle.facet_json_document.proofs.InOrder.{InOrder, at_a_token}
+use Rattle.facet_json_document.specs.Place.{Place, after_key, after_colon, Turn, stops, passes, says, says_scalar, names, goes_on}
 use Rattle.facet_json_document.specs.Order.{count}
 use Rattle.facet_json_document.specs.Walk.{event_at, scalar_event, key_event}
 use Rattle.facet_json_document.proofs.TokensInOrder.{tokens-in_order}
@@ -18,7 +17,7 @@ use Rattle.facet_json_prefix.specs.Begun.{tokens_before}
 use Rattle.facet_json_prefix.specs.EventLaws.{EndsAmong, PrefixGivesWalk}
 use Rattle.facet_json_prefix.proofs.BegunIsPrefix.{begun-completes, before-suffix}
 use Rattle.facet_json_prefix.proofs.ValueOrPrefix.{suffix-count}
-use Rattle.facet_json_prefix.proofs.LongestPrefix.{IsReadAt, at_stage, at_key, is_meaning, front-walk}
+use Rattle.facet_json_prefix.proofs.LongestPrefix.{IsReadAt, at_stage, at_key, front-walk}
 
 -- ---- tokens before others
 
@@ -72,35 +71,36 @@ later-events from [] l = All-nil (λ p. from < stop p.last)
 later-events from (p ∷ events) (one_later _ _ b more) =
     All-cons (λ q. from < stop q.last) p events b (later-events from events more)
 
-module _ (buffer : List ℕ) (m : Meaning) where
+module _ (buffer : List ℕ) where
   -- What is read from tokens in order after an offset comes after it.
   abbrev LaterFrom : Tokens → Type 0
   LaterFrom ts = (stack : List ContainerKind) (stage : Stage) (from : ℕ) → InOrder buffer from ts →
-      IsLater from (reads m stack stage ts)
+      IsLater from (reads buffer stack stage ts)
 
   -- the same after a key
   abbrev LaterAfterKey : Tokens → Type 0
   LaterAfterKey ts = (stack : List ContainerKind) (key : Token) (from : ℕ) → InOrder buffer from ts →
-      IsLater from (reads_colon m stack key ts)
+      IsLater from (reads_colon buffer stack key ts)
 
   turn-later : (stack : List ContainerKind) (place : Place) (t : Token) (ts : Tokens) (way : Turn) (from : ℕ) → LaterFrom ts →
-      LaterAfterKey ts → InOrder buffer from (next t ts) → IsLater from (follows m place t stack ts way)
+      LaterAfterKey ts → InOrder buffer from (next t ts) → IsLater from (follows buffer place t stack ts way)
   turn-later stack place t ts stops from h g o = stuck_later place (next t ts)
-  turn-later stack place t ts (passes others stage) from h g (at_a_token _ _ _ b w more) =
-      later-weaker (stop t.span) from _ (omega arith) (h others stage (stop t.span) more)
-  turn-later stack place t ts (says kind others stage) from h g (at_a_token _ _ _ b w more) =
-      one_later (event_at kind t) _ b (later-weaker (stop t.span) from _ (omega arith) (h others stage (stop t.span) more))
-  turn-later stack place t ts (says_scalar others stage) from h g (at_a_token _ _ _ b w more) =
-      one_later (scalar_event m t) _ b (later-weaker (stop t.span) from _ (omega arith) (h others stage (stop t.span) more))
+  turn-later stack place t ts (passes other) from h g (at_a_token _ _ _ b w more) =
+      later-weaker (stop t.span) from _ (omega arith) (h stack (within other) (stop t.span) more)
+  turn-later stack place t ts (says kind) from h g (at_a_token _ _ _ b w more) =
+      let rest = h (stack_after kind stack) (stage_after kind stack) (stop t.span) more in
+      one_later (event_at kind t) _ b (later-weaker (stop t.span) from _ (omega arith) rest)
+  turn-later stack place t ts says_scalar from h g (at_a_token _ _ _ b w more) =
+      one_later (scalar_event buffer t) _ b (later-weaker (stop t.span) from _ (omega arith) (h stack (after_value stack) (stop t.span) more))
   turn-later stack place t ts names from h g (at_a_token _ _ _ b w more) =
       later-weaker (stop t.span) from _ (omega arith) (g stack t (stop t.span) more)
 
   mark-later : (stack : List ContainerKind) (key mark : Token) (ts : Tokens) (b : Bool) (from : ℕ) → LaterFrom ts →
-      is_colon mark.kind ≡ b → InOrder buffer from (next mark ts) → IsLater from (reads_colon m stack key (next mark ts))
+      goes_on after_key mark.kind ≡ b → InOrder buffer from (next mark ts) → IsLater from (reads_colon buffer stack key (next mark ts))
   unfolding reads_colon
   mark-later stack key mark ts false from h c o = rw (c, reads_colon) (stuck_later _ (next mark ts))
   mark-later stack key mark ts true from h c (at_a_token _ _ _ b w more) =
-      rw (c, reads_colon) (one_later (key_event m key mark) _ b (later-weaker (stop mark.span) from _ (omega arith) (h stack (within after_colon) (stop mark.span) more)))
+      rw (c, reads_colon) (one_later (key_event buffer key mark) _ b (later-weaker (stop mark.span) from _ (omega arith) (h stack (within after_colon) (stop mark.span) more)))
 
   mutual
     unfolding reads
@@ -110,15 +110,15 @@ module _ (buffer : List ℕ) (m : Meaning) where
     reads-later ended stack (within place) from o = stuck_later place ended
     reads-later (refused f) stack (within place) from o = stuck_later place (refused f)
     reads-later (next t ts) stack (within place) from o =
-        rw (reads-turn m stack place t ts (turn m stack place t) refl) (turn-later stack place t ts (turn m stack place t) from (reads-later ts) (colon-later ts) o)
+        rw (reads-turn buffer stack place t ts (turn buffer place t) refl) (turn-later stack place t ts (turn buffer place t) from (reads-later ts) (colon-later ts) o)
 
     colon-later : (ts : Tokens) → LaterAfterKey ts
     colon-later ended stack key from o = stuck_later _ ended
     colon-later (refused f) stack key from o = stuck_later _ (refused f)
-    colon-later (next mark ts) stack key from o = mark-later stack key mark ts (is_colon mark.kind) from (reads-later ts) refl o
+    colon-later (next mark ts) stack key from o = mark-later stack key mark ts (goes_on after_key mark.kind) from (reads-later ts) refl o
 
   -- What is read from a place on comes after the offset.
-  read-later : (future : Future) (here : Stage) (ts : Tokens) (from : ℕ) → InOrder buffer from ts → IsReadAt m future here ts →
+  read-later : (future : Future) (here : Stage) (ts : Tokens) (from : ℕ) → InOrder buffer from ts → IsReadAt buffer future here ts →
       IsLater from future
   read-later future here ts from o (at_stage stack f) = subst (IsLater from) (sym f) (reads-later ts stack here from o)
   read-later future here ts from o (at_key stack key k f) = subst (IsLater from) (sym f) (colon-later ts stack key from o)
@@ -134,9 +134,8 @@ ends-elsewhere front end events own later =
 
 pub prefix_gives_walk : PrefixGivesWalk
 prefix_gives_walk buffer mode front mid rest node value events here b s t =
-    let m = meaning buffer in
-    let found = front-walk m (tokens_before front mid) mid rest node value events here b s t in
-    let c = begun-completes m (is_meaning buffer) b in
+    let found = front-walk buffer (tokens_before front mid) mid rest node value events here b s t in
+    let c = begun-completes buffer b in
     let own = sym (before-same front c.front mid c.here) in (
       found.0,
       found.1,
@@ -144,5 +143,5 @@ prefix_gives_walk buffer mode front mid rest node value events here b s t =
       λ e.
           (let order = end_by buffer 0 front mid (subst (InOrder buffer 0) e (tokens-in_order buffer mode 0 (omega arith))) in
           ends-elsewhere front order.end found.0 order.own
-          (later-events order.end found.0 (read-later buffer m (events_before found.0 finished) here mid order.end order.behind found.2))),
+          (later-events order.end found.0 (read-later buffer (events_before found.0 finished) here mid order.end order.behind found.2))),
     )

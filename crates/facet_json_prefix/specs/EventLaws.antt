@@ -5,7 +5,7 @@ use Rattle.facet_json_token.specs.Token.{Token}
 use Rattle.facet_json_token.specs.Tokens.{Tokens, tokens}
 use Rattle.facet_json_document.specs.Node.{Node, Spells}
 use Rattle.facet_json_document.specs.Tree.{Tree}
-use Rattle.facet_json_document.specs.Meaning.{meaning, tree_of}
+use Rattle.facet_json_document.specs.Meaning.{tree_of}
 use Rattle.facet_json_document.specs.Document.{IsDocument}
 use Rattle.facet_json_document.specs.Place.{Place, root}
 use Rattle.facet_format.specs.Event.{Passed}
@@ -18,17 +18,17 @@ use Rattle.facet_json_prefix.specs.Refusal.{Refuses}
 -- Tokens that begin a document are a prefix of the spelling of some value with a meaning, whatever follows that.
 abbrev pub BegunIsPrefix : Type 0
 BegunIsPrefix = (buffer : List ℕ) (ts rest : Tokens) (events : List Passed) (here : Stage) →
-    BegunDocument (meaning buffer) ts events here rest →
+    BegunDocument buffer ts events here rest →
     (front : List Token) × (back : List Token) × (node : Node) × (value : Tree) × (ts ≡ tokens_before front rest)
     × ((other : Tokens) → Spells (tokens_before front (tokens_before back other)) node other)
-    × (tree_of (meaning buffer) node ≡ Some value)
+    × (tree_of buffer node ≡ Some value)
 
 -- A prefix of the spelling of a value with a meaning begins a document.
 abbrev pub PrefixIsBegun : Type 0
 PrefixIsBegun = (buffer : List ℕ) (front back : List Token) (other : Tokens) (node : Node) (value : Tree) →
-    Spells (tokens_before front (tokens_before back other)) node other → tree_of (meaning buffer) node ≡ Some value →
+    Spells (tokens_before front (tokens_before back other)) node other → tree_of buffer node ≡ Some value →
     (events : List Passed) × (here : Stage)
-    × BegunDocument (meaning buffer) (tokens_before front (tokens_before back other)) events here (tokens_before back other)
+    × BegunDocument buffer (tokens_before front (tokens_before back other)) events here (tokens_before back other)
 
 -- The event's last token is one of these.
 abbrev pub EndsAmong : List Token → Passed → Type 0
@@ -38,29 +38,26 @@ EndsAmong ts p = (t : Token) × Contains ts t × (p.last ≡ t.span)
 -- of the other events, in the tokens of an input, are not.
 abbrev pub PrefixGivesWalk : Type 0
 PrefixGivesWalk = (buffer : List ℕ) (mode : Mode) (front : List Token) (mid rest : Tokens) (node : Node) (value : Tree)
-    (events : List Passed) (here : Stage) → BegunDocument (meaning buffer) (tokens_before front mid) events here mid →
-    Spells (tokens_before front mid) node rest → tree_of (meaning buffer) node ≡ Some value →
-    (more : List Passed) × (walk (meaning buffer) node ≡ events ++ more) × All (EndsAmong front) events
+    (events : List Passed) (here : Stage) → BegunDocument buffer (tokens_before front mid) events here mid →
+    Spells (tokens_before front mid) node rest → tree_of buffer node ≡ Some value →
+    (more : List Passed) × (walk buffer node ≡ events ++ more) × All (EndsAmong front) events
     × (tokens buffer mode ≡ tokens_before front mid → All (λ p. EndsAmong front p → ⊥) more)
 
--- what the longest prefix of an input gives
-abbrev pub IsGiven : List ℕ → Mode → List Passed → Type 0
-IsGiven buffer mode events = (here : Place) × (rest : Tokens) × LongestPrefix (meaning buffer) (tokens buffer mode) events here rest
-
--- An input without a document has a longest prefix, and all longest prefixes give the same events.
+-- An input without a document has one longest prefix: all give the same events, and lead to the same place, before the same tokens.
 abbrev pub OneGiven : Type 0
 OneGiven = (buffer : List ℕ) (mode : Mode) → ((node : Node) (value : Tree) → IsDocument buffer mode node value → ⊥) →
-    (events : List Passed) × IsGiven buffer mode events
-    × ((others : List Passed) → IsGiven buffer mode others → others ≡ events)
+    (events : List Passed) × (here : Place) × (rest : Tokens) × LongestPrefix buffer (tokens buffer mode) events here rest
+    × ((others : List Passed) (there : Place) (left : Tokens) →
+    LongestPrefix buffer (tokens buffer mode) others there left → (others ≡ events) × (there ≡ here) × (left ≡ rest))
 
 -- What comes from the root of an input on: the walk of its document, or what the longest prefix gives, after which nothing goes on.
 pub data RootComes (buffer : List ℕ) (mode : Mode) : Type 0 where
   document_comes : (node : Node) (value : Tree) → IsDocument buffer mode node value →
-      reads (meaning buffer) [] (within root) (tokens buffer mode) ≡ events_before (walk (meaning buffer) node) finished →
+      reads buffer [] (within root) (tokens buffer mode) ≡ events_before (walk buffer node) finished →
       RootComes buffer mode
   prefix_comes : (events : List Passed) (here : Place) (rest : Tokens) →
-      LongestPrefix (meaning buffer) (tokens buffer mode) events here rest →
-      reads (meaning buffer) [] (within root) (tokens buffer mode) ≡ events_before events (stuck here rest) → RootComes buffer mode
+      LongestPrefix buffer (tokens buffer mode) events here rest →
+      reads buffer [] (within root) (tokens buffer mode) ≡ events_before events (stuck here rest) → RootComes buffer mode
 
 -- Each input has a document, whose walk comes, or a longest prefix after which nothing comes.
 abbrev pub InputComes : Type 0
@@ -70,3 +67,7 @@ InputComes = (buffer : List ℕ) (mode : Mode) → RootComes buffer mode
 abbrev pub RefusedHasNone : Type 0
 RefusedHasNone = (buffer : List ℕ) (mode : Mode) (refusal : Refusal) (root : Node) (value : Tree) → Refuses buffer mode refusal →
     IsDocument buffer mode root value → ⊥
+
+-- An input is refused in one way at most.
+abbrev pub RefusedInOneWay : Type 0
+RefusedInOneWay = (buffer : List ℕ) (mode : Mode) (r s : Refusal) → Refuses buffer mode r → Refuses buffer mode s → r ≡ s

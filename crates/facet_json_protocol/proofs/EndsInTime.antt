@@ -37,12 +37,12 @@ first-ends now between answers good (one (Ok (Some e))) move more =
 
 -- Of more calls than there are bytes ahead one is answered with the end or a refusal.
 ahead-ends : (now : Now) (d : Cursor Standing) (calls : List Call) (answers : List Answer) → NowWithin now → AllNext calls →
-    ahead now < length calls → Run (on_input now.buffer now.mode) now.cursor calls answers d → Ends answers
+    ahead now < length calls → Run (on_input now.buffer now.language) now.cursor calls answers d → Ends answers
 ahead-ends now d _ _ good no_call h run = absurd (omega (arith, h))
 ahead-ends now d _ _ good (one_next _ only) h (one_call c between _ call answer calls answers step more) =
     let later = with_cursor now between in
-    let move : Moves now next answer later = record { input = record { buffer = refl; mode = refl }; step = step } in
-    first-ends now later answers good (answers-next (on_input now.buffer now.mode) now.cursor between step) move
+    let move : Moves now next answer later = record { input = record { buffer = refl; language = refl }; step = step } in
+    first-ends now later answers good (answers-next (on_input now.buffer now.language) now.cursor between step) move
     (λ less. ahead-ends later d calls answers (moves-within now good later move).parser only (omega (arith, less, h)) more)
 
 -- So it is of a new parser, and of more calls than the input has bytes.

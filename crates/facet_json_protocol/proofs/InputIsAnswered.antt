@@ -1,37 +1,18 @@
 -- The headline: an input has a document, whose walk a cursor goes along, or a longest prefix, after which it is refused.
-use Rattle.std.proofs.Common.{◌≡◌, ℕ, List, [], ◌∷◌, sym, ◌∙◌}
+use Rattle.std.proofs.Common.{ℕ, List}
 use Rattle.facet_json_token.specs.Gap.{Mode}
-use Rattle.facet_json_token.specs.Tokens.{Tokens, tokens}
-use Rattle.facet_format.specs.Event.{Passed}
-use Rattle.facet_json_document.specs.Node.{Node}
-use Rattle.facet_json_document.specs.Tree.{Tree}
-use Rattle.facet_json_document.specs.Meaning.{meaning}
-use Rattle.facet_json_document.specs.Document.{IsDocument}
-use Rattle.facet_json_document.specs.Place.{Place, root}
-use Rattle.facet_json_document.specs.Walk.{walk}
-use Rattle.facet_json_document.specs.Future.{finished, stuck, events_before, within, reads}
+use Rattle.facet_json_token.specs.Tokens.{tokens}
 use Rattle.facet_json_document.proofs.Spelling.OneSpelling.{one_document}
-use Rattle.facet_json_document.proofs.WalkComes.{document-comes}
 use Rattle.facet_json_prefix.specs.EventLaws.{RootComes, document_comes, prefix_comes}
-use Rattle.facet_json_prefix.proofs.LongestPrefix.{input-comes, longest-once, tail-finished}
+use Rattle.facet_json_prefix.specs.Refusal.{Refuses}
+use Rattle.facet_json_prefix.proofs.LongestPrefix.{input-comes, longest-once}
+use Rattle.facet_json_prefix.proofs.RefusedHasNone.{refused-comes, refused_has_none}
+use Rattle.facet_json_prefix.proofs.RefusedOnce.{refused_in_one_way}
 use Rattle.facet_json_prefix.proofs.SomeRefusal.{prefix-refuses}
 use Rattle.facet_json_protocol.specs.Headline.{Answered, with_document, without_document, Headline}
+use Rattle.facet_json_protocol.specs.ParserLaws.{AloneIsGiven}
 use Rattle.facet_json_protocol.proofs.MoveIsStep.{document-run}
 use Rattle.facet_json_protocol.proofs.AloneIsGiven.{prefix-alone}
-
--- On a walk nothing is stuck.
-never-stuck : (w : List Passed) (at : Place) (rest : Tokens) → events_before w finished ≡ stuck at rest → ⊥
-never-stuck [] at rest e = cc
-never-stuck (p ∷ w) at rest e = cc
-
--- Where what comes is stuck after some events, no document stands.
-stuck-none : (buffer : List ℕ) (mode : Mode) (events : List Passed) (here : Place) (rest : Tokens) →
-    reads (meaning buffer) [] (within root) (tokens buffer mode) ≡ events_before events (stuck here rest) →
-    (node : Node) (value : Tree) → IsDocument buffer mode node value → ⊥
-stuck-none buffer mode events here rest e node value d =
-    let walked = document-comes buffer mode node value d in
-    let left = tail-finished events (walk (meaning buffer) node) (stuck here rest) (sym e ∙ walked) in
-    never-stuck left.0 here rest (sym left.2)
 
 answered-by : (buffer : List ℕ) (mode : Mode) → RootComes buffer mode → Answered buffer mode
 answered-by buffer mode (document_comes node value d e) = with_document (record {
@@ -42,18 +23,27 @@ answered-by buffer mode (document_comes node value d e) = with_document (record 
   run = λ calls answers new moves. document-run buffer mode node value d moves;
 })
 answered-by buffer mode (prefix_comes events here rest front e) =
-    let ts = tokens buffer mode in
     let some = prefix-refuses buffer mode events here rest front e in
+    let is : Refuses buffer mode some.0 = record { events = events; after = some.1 } in
     without_document (record {
-      no_document = stuck-none buffer mode events here rest e;
+      no_document = λ node value d. refused_has_none buffer mode some.0 node value is d;
       events = events;
-      given = (here, rest, front);
-      only = λ others given. longest-once (meaning buffer) ts events others here given.0 rest given.1 front.begun e given.2;
       refusal = some.0;
       refused = some.1;
-      alone = λ calls answers new only moves. prefix-alone buffer mode events here rest front e only moves;
+      only = λ others there left.
+          longest-once buffer (tokens buffer mode) events others some.1.here there some.1.rest left
+          some.1.front.begun (refused-comes some.1);
+      refused_only = λ other may. refused_in_one_way buffer mode other some.0 may is;
+      alone = λ calls answers new only moves. prefix-alone buffer mode some.1 only moves;
     })
 
 -- Each input is answered as one with a document, or as one without.
 pub input-answered : Headline
 input-answered buffer mode = answered-by buffer mode (input-comes buffer mode)
+
+-- Where there is no document, it is answered as one without.
+pub alone_is_given : AloneIsGiven
+alone_is_given buffer mode none = elim (input-answered buffer mode) [
+  | with_document d ↦ absurd (none d.node d.value d.document)
+  | without_document p ↦ p
+]

@@ -4,7 +4,7 @@ use Rattle.std.specs.Prelude.{Ok, Result}
 use Rattle.facet_format.specs.Complaint.{Refusal}
 use Rattle.facet_format.specs.Event.{Event, Passed}
 use Rattle.facet_format.specs.Cursor.{next, peek, events, Answer, event, batch, an_event, the_end, Cursor, Comes, no_event, one_event, repeats, passes, passes_the_end, peeks, peeks_at_the_end, gives_none, gives, gives_up, gives_without_memory, spot_after, Spot}
-use Rattle.facet_json_token.specs.Gap.{Mode}
+use Rattle.facet_json_document.specs.Language.{Language}
 use Rattle.facet_json_document.specs.Future.{Future, gives as gives_first, finished, stuck, events_before}
 use Rattle.facet_json_document.specs.InputPlace.{Standing, past, future_at}
 use Rattle.facet_json_document.proofs.PastEvents.{past-comes}
@@ -26,25 +26,25 @@ first-over (gives_first q rest) e = cc
 first-over (stuck place rest) e = cc
 
 -- Where an event comes, what comes at the place after it comes behind it.
-pub event-comes : (buffer : List ℕ) (mode : Mode) (s : Standing) (p : Passed) → first_of (future_at buffer mode s) ≡ an_event p →
-    future_at buffer mode s ≡ gives_first p (future_at buffer mode (past p s))
-event-comes buffer mode s p e =
-    let (rest, is) = first-gives (future_at buffer mode s) p e in
-    is ∙ ap (gives_first p) (sym (past-comes buffer mode s p rest is))
+pub event-comes : (buffer : List ℕ) (language : Language) (s : Standing) (p : Passed) → first_of (future_at buffer language s) ≡ an_event p →
+    future_at buffer language s ≡ gives_first p (future_at buffer language (past p s))
+event-comes buffer language s p e =
+    let (rest, is) = first-gives (future_at buffer language s) p e in
+    is ∙ ap (gives_first p) (sym (past-comes buffer language s p rest is))
 
 -- Where the end comes, nothing does.
-pub end-comes : (buffer : List ℕ) (mode : Mode) (s : Standing) → first_of (future_at buffer mode s) ≡ the_end →
-    future_at buffer mode s ≡ finished
-end-comes buffer mode s e = first-over (future_at buffer mode s) e
+pub end-comes : (buffer : List ℕ) (language : Language) (s : Standing) → first_of (future_at buffer language s) ≡ the_end →
+    future_at buffer language s ≡ finished
+end-comes buffer language s e = first-over (future_at buffer language s) e
 
 -- Events that come one after another are what comes before the place after them.
-pub Comes-before : (buffer : List ℕ) (mode : Mode) {s after : Standing} {given : List Event} →
-    Comes (on_input buffer mode) s given after → (passed : List Passed) × (map (λ p. p.event) passed ≡ given)
-    × (future_at buffer mode s ≡ events_before passed (future_at buffer mode after))
-Comes-before buffer mode (no_event place) = ([], refl, refl)
-Comes-before buffer mode (one_event place after p others e more) =
-    let (passed, same, comes) = Comes-before buffer mode more in
-    (p ∷ passed, ap (λ es. p.event ∷ es) same, event-comes buffer mode place p e ∙ ap (gives_first p) comes)
+pub Comes-before : (buffer : List ℕ) (language : Language) {s after : Standing} {given : List Event} →
+    Comes (on_input buffer language) s given after → (passed : List Passed) × (map (λ p. p.event) passed ≡ given)
+    × (future_at buffer language s ≡ events_before passed (future_at buffer language after))
+Comes-before buffer language (no_event place) = ([], refl, refl)
+Comes-before buffer language (one_event place after p others e more) =
+    let (passed, same, comes) = Comes-before buffer language more in
+    (p ∷ passed, ap (λ es. p.event ∷ es) same, event-comes buffer language place p e ∙ ap (gives_first p) comes)
 
 -- ---- steps
 
@@ -52,21 +52,21 @@ none-passed : (now : Now) {given : List Event} → [] ≡ given → PassesAll no
 none-passed now e = record { passed = []; events = e; comes = refl }
 
 -- The spot after events is at the place after them.
-pub spot_after-place : {given : List Event} (buffer : List ℕ) (mode : Mode) (spot : Spot Standing) {after : Standing} →
-    Comes (on_input buffer mode) spot.place given after → (spot_after given after spot).place ≡ after
-spot_after-place buffer mode spot (no_event place) = refl
-spot_after-place buffer mode spot (one_event place after p others e more) = refl
+pub spot_after-place : {given : List Event} (buffer : List ℕ) (language : Language) (spot : Spot Standing) {after : Standing} →
+    Comes (on_input buffer language) spot.place given after → (spot_after given after spot).place ≡ after
+spot_after-place buffer language spot (no_event place) = refl
+spot_after-place buffer language spot (one_event place after p others e more) = refl
 
 all-passed : (now : Now) (d : Cursor Standing) (after : Standing) {es given : List Event} →
-    Comes (on_input now.buffer now.mode) now.cursor.spot.place es after → d.spot ≡ spot_after es after now.cursor.spot →
+    Comes (on_input now.buffer now.language) now.cursor.spot.place es after → d.spot ≡ spot_after es after now.cursor.spot →
     es ≡ given → PassesAll now given (with_cursor now d)
 all-passed now d after all spot same =
-    let (passed, events_are, comes) = Comes-before now.buffer now.mode all in
-    let there : d.spot.place ≡ after = ap (λ x. x.place) spot ∙ spot_after-place now.buffer now.mode now.cursor.spot all in
+    let (passed, events_are, comes) = Comes-before now.buffer now.language all in
+    let there : d.spot.place ≡ after = ap (λ x. x.place) spot ∙ spot_after-place now.buffer now.language now.cursor.spot all in
     record {
       passed = passed;
       events = events_are ∙ same;
-      comes = comes ∙ ap (λ s. events_before passed (future_at now.buffer now.mode s)) (sym there);
+      comes = comes ∙ ap (λ s. events_before passed (future_at now.buffer now.language s)) (sym there);
     }
 
 module _ (now : Now) where
@@ -76,10 +76,10 @@ module _ (now : Now) where
   next_passes d e answer is (passes p none goes) =
       let same : p.event ≡ e = cc in
       let s = now.cursor.spot.place in
-      let rest = future_at now.buffer now.mode (past p s) in
+      let rest = future_at now.buffer now.language (past p s) in
       record {
         last = p.last;
-        comes = event-comes now.buffer now.mode s p goes ∙ ap (λ x. first_then x p.last rest) same;
+        comes = event-comes now.buffer now.language s p goes ∙ ap (λ x. first_then x p.last rest) same;
         free = none;
       }
   next_passes d e answer is _ = cc
@@ -88,7 +88,7 @@ module _ (now : Now) where
       StepOf now next answer d → IsOver now (with_cursor now d)
   next_over d answer is (repeats r call a f g) = cc
   next_over d answer is (passes_the_end none f) =
-      let over = end-comes now.buffer now.mode now.cursor.spot.place f in record { over = over; stays = over; free = none }
+      let over = end-comes now.buffer now.language now.cursor.spot.place f in record { over = over; stays = over; free = none }
   next_over d answer is _ = cc
 
   peek_shows : (d : Cursor Standing) (e : Event) (answer : Answer) → answer ≡ event (Ok (Some e)) →
@@ -97,11 +97,11 @@ module _ (now : Now) where
   peek_shows d e answer is (peeks p none goes) =
       let same : p.event ≡ e = cc in
       let s = now.cursor.spot.place in
-      let rest = future_at now.buffer now.mode (past p s) in
+      let rest = future_at now.buffer now.language (past p s) in
       record {
         last = p.last;
         rest = rest;
-        comes = event-comes now.buffer now.mode s p goes ∙ ap (λ x. first_then x p.last rest) same;
+        comes = event-comes now.buffer now.language s p goes ∙ ap (λ x. first_then x p.last rest) same;
         stays = refl;
         free = none;
       }
@@ -111,7 +111,7 @@ module _ (now : Now) where
       StepOf now peek answer d → IsOver now (with_cursor now d)
   peek_over d answer is (repeats r call a f g) = cc
   peek_over d answer is (peeks_at_the_end none f) =
-      let over = end-comes now.buffer now.mode now.cursor.spot.place f in record { over = over; stays = over; free = none }
+      let over = end-comes now.buffer now.language now.cursor.spot.place f in record { over = over; stays = over; free = none }
   peek_over d answer is _ = cc
 
   events_pass : (d : Cursor Standing) (limit : ℕ) (given : List Event) (result : Result ℕ Refusal) (answer : Answer) →
@@ -144,8 +144,8 @@ module _ (now : Now) where
   events_over d limit n given answer is gives_none less = absurd (omega (arith, less))
   events_over d limit n given answer is (gives k m es place none all count le over) less =
       let same : m ≡ n = cc in
-      let there = spot_after-place now.buffer now.mode now.cursor.spot all in
-      rw there (end-comes now.buffer now.mode place (over (omega (arith, same, less))))
+      let there = spot_after-place now.buffer now.language now.cursor.spot all in
+      rw there (end-comes now.buffer now.language place (over (omega (arith, same, less))))
   events_over d limit n given answer is (gives_without_memory k es place p spot none all le more there) less = cc
   events_over d limit n given answer is (gives_up k es place r none all le stops so) less = cc
 

@@ -72,6 +72,6 @@ pub refused-repeats : (old stopped new : Now) (call : Call) (answer : Answer) (r
     (answers : List Answer) → Moves old call answer stopped → refusal_in answer ≡ Some r → RestoresNone stopped.cursor.kept calls →
     MovesAll stopped calls answers new → AllRepeat r calls answers × (new ≡ stopped)
 refused-repeats old stopped new call answer r calls answers move refused none all =
-    let sticks = step-sticks (on_input old.buffer old.mode) old.cursor stopped.cursor r move.step refused in
-    let (repeat, same) = run-repeats (on_input stopped.buffer stopped.mode) r sticks none all.run in
+    let sticks = step-sticks (on_input old.buffer old.language) old.cursor stopped.cursor r move.step refused in
+    let (repeat, same) = run-repeats (on_input stopped.buffer stopped.language) r sticks none all.run in
     (repeat, same_cursor-is stopped new all.input same)

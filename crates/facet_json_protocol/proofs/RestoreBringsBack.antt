@@ -2,6 +2,7 @@
 use Rattle.std.proofs.Common.{◌≡◌, ◌≢◌, ℕ, suc, ◌≤◌, List, Some, None, refl, sym, ap, subst, ◌∙◌, arith}
 use Rattle.std.specs.Prelude.{Result, Ok, Err, MatchResult}
 use Rattle.facet_json_token.specs.Gap.{Mode}
+use Rattle.facet_json_document.specs.Language.{lenient}
 use Rattle.facet_format.specs.Complaint.{Refusal, refusal_at, save_limit}
 use Rattle.facet_format.specs.Kept.{found, with_point}
 use Rattle.facet_format.specs.Cursor.{Call, save, restore, Answer, saved, World, Spot, Cursor, Step, repeats, saves, saves_at_the_limit, saves_without_memory, restores, Run, no_calls, one_call, no_memory_at, back_at}
@@ -67,10 +68,10 @@ restored-back : (at_save before new : Now) (point : ℕ) (answer : Answer) → S
     IsKept before.cursor point at_save.cursor.spot → Moves before (restore point) answer new → IsBack at_save before new point
 restored-back at_save before new point answer input kept move =
     let new_is : new.cursor ≡ back_at before.cursor point at_save.cursor.spot =
-    (step-restored (on_input before.buffer before.mode) before.cursor point at_save.cursor.spot new.cursor answer kept.there
+    (step-restored (on_input before.buffer before.language) before.cursor point at_save.cursor.spot new.cursor answer kept.there
     move.step).1 in
     record {
-      input = record { buffer = move.input.buffer ∙ input.buffer; mode = move.input.mode ∙ input.mode };
+      input = record { buffer = move.input.buffer ∙ input.buffer; language = move.input.language ∙ input.language };
       spot = ap (λ c. c.spot) new_is;
       unrefused = ap (λ c. c.refusal) new_is;
       counter = ap (λ c. c.counter) new_is;
@@ -83,10 +84,10 @@ pub saved-back : (at_save behind before new : Now) (point : ℕ) (calls : List C
     found point at_save.cursor.kept ≡ None → Moves at_save save (saved (Ok point)) behind → NeverRestored point calls →
     MovesAll behind calls answers before → Moves before (restore point) answer new → IsBack at_save before new point
 saved-back at_save behind before new point calls answers answer none saving never between restoring =
-    let kept = saved-kept (on_input at_save.buffer at_save.mode) at_save.cursor behind.cursor point none saving.step in
+    let kept = saved-kept (on_input at_save.buffer at_save.language) at_save.cursor behind.cursor point none saving.step in
     restored-back at_save before new point answer
-    (record { buffer = between.input.buffer ∙ saving.input.buffer; mode = between.input.mode ∙ saving.input.mode })
-    (run-keeps (on_input behind.buffer behind.mode) point at_save.cursor.spot never between.run kept) restoring
+    (record { buffer = between.input.buffer ∙ saving.input.buffer; language = between.input.language ∙ saving.input.language })
+    (run-keeps (on_input behind.buffer behind.language) point at_save.cursor.spot never between.run kept) restoring
 
 -- A save that is not refused keeps where the parser stands, or there is a reason.
 abbrev IsNumbered : Now → Result ℕ Refusal → Now → Type 0
@@ -114,4 +115,4 @@ moves-numbered now new result free move =
 pub numbers-new : (buffer : List ℕ) (mode : Mode) (now : Now) (calls : List Call) (answers : List Answer) →
     MovesAll (fresh buffer mode) calls answers now → found (suc now.cursor.counter) now.cursor.kept ≡ None
 numbers-new buffer mode now calls answers all =
-    run-up_to (on_input buffer mode) all.run (λ number less. refl) (suc now.cursor.counter) (omega arith)
+    run-up_to (on_input buffer (lenient mode)) all.run (λ number less. refl) (suc now.cursor.counter) (omega arith)

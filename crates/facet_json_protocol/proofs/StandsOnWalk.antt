@@ -1,13 +1,13 @@
 -- Where a parser stands on a document's walk: at its start when it is new, and where an input's place is a place on the walk.
 use Rattle.std.proofs.Common.{◌≡◌, ℕ, zero, suc, ◌≤◌, List, [], ◌∷◌, length, drop, Option, Some, None, refl, sym, ap, ◌∙◌, arith}
-use Rattle.std.specs.Prelude.{slice_get}
+use Rattle.std.specs.Prelude.{ℕ, List, slice_get}
 use Rattle.facet_json_token.specs.Gap.{Mode}
+use Rattle.facet_json_document.specs.Language.{Language}
 use Rattle.facet_format.specs.Event.{Passed}
 use Rattle.facet_format.specs.Alike.{none_kept}
 use Rattle.facet_format.specs.Cursor.{an_event, a_refusal, event_or_end, on_walk, start}
 use Rattle.facet_json_document.specs.Node.{Node}
 use Rattle.facet_json_document.specs.Tree.{Tree}
-use Rattle.facet_json_document.specs.Meaning.{meaning}
 use Rattle.facet_json_document.specs.Document.{IsDocument}
 use Rattle.facet_json_document.specs.Walk.{walk}
 use Rattle.facet_json_document.specs.Future.{Future, gives, finished, events_before}
@@ -22,7 +22,7 @@ use Rattle.facet_json_protocol.proofs.MovesNext.{first-gives}
 
 -- A new parser stands where the cursor starts.
 pub fresh-stands : (buffer : List ℕ) (mode : Mode) (root : Node) (value : Tree) → IsDocument buffer mode root value →
-    StandsAt (fresh buffer mode) (walk (meaning buffer) root) start
+    StandsAt (fresh buffer mode) (walk buffer root) start
 fresh-stands buffer mode root value d = record {
   spot = record {
     place = record { place_within = omega arith; comes = document-comes buffer mode root value d; last = refl };
@@ -66,9 +66,9 @@ never-refused None e = cc
 never-refused (Some p) e = cc
 
 -- Where an input's place is one on a walk, they are alike from there on.
-pub input-on_walk : (buffer : List ℕ) (mode : Mode) (w : List Passed) →
-    WorldsAlike (on_input buffer mode) (on_walk w) (StandsOn buffer mode w)
-input-on_walk buffer mode w = record {
+pub input-on_walk : (buffer : List ℕ) (language : Language) (w : List Passed) →
+    WorldsAlike (on_input buffer language) (on_walk w) (StandsOn buffer language w)
+input-on_walk buffer language w = record {
   comes = λ s place on. ap first_of on.comes ∙ first-there w place;
   refuses = λ s place r on comes may.
       absurd (never-refused (slice_get w place) (sym (ap first_of on.comes ∙ first-there w place) ∙ comes));
@@ -76,14 +76,14 @@ input-on_walk buffer mode w = record {
   last = λ s place on. on.last;
 }
   where
-    passed : (s : Standing) (place : ℕ) (p : Passed) → StandsOn buffer mode w s place →
-        first_of (future_at buffer mode s) ≡ an_event p → StandsOn buffer mode w (past p s) (suc place)
+    passed : (s : Standing) (place : ℕ) (p : Passed) → StandsOn buffer language w s place →
+        first_of (future_at buffer language s) ≡ an_event p → StandsOn buffer language w (past p s) (suc place)
     passed s place p on comes =
-        let first = first-gives (future_at buffer mode s) p comes in
+        let first = first-gives (future_at buffer language s) p comes in
         let there = comes-event w place p first.0 (sym on.comes ∙ first.1) in
         let same = there.there in
         record {
           place_within = there.place_within;
-          comes = past-comes buffer mode s p first.0 first.1 ∙ there.behind;
+          comes = past-comes buffer language s p first.0 first.1 ∙ there.behind;
           last = rw same refl;
         }

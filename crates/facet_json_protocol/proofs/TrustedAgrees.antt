@@ -1,24 +1,23 @@
--- Two new parsers of a document answer alike.
-use Rattle.std.proofs.Common.{ℕ, List}
-use Rattle.facet_json_token.specs.Gap.{Mode}
-use Rattle.facet_format.specs.Cursor.{Call, Answer, on_walk, start}
-use Rattle.facet_format.specs.Agree.{AgreeToLack}
-use Rattle.facet_json_document.specs.Node.{Node}
-use Rattle.facet_json_document.specs.Tree.{Tree}
-use Rattle.facet_json_document.specs.Meaning.{meaning}
-use Rattle.facet_json_document.specs.Document.{IsDocument}
-use Rattle.facet_json_document.specs.Walk.{walk}
-use Rattle.facet_json_protocol.specs.Now.{Now, fresh}
-use Rattle.facet_json_protocol.specs.Move.{MovesAll}
-use Rattle.facet_json_protocol.proofs.MoveIsStep.{document-run}
+-- Two new parsers of an input answer alike.
+use Rattle.std.proofs.Common.{◌≡◌, ℕ, List}
+use Rattle.facet_format.specs.Complaint.{Refusal}
+use Rattle.facet_json_document.specs.Language.{lenient}
+use Rattle.facet_json_document.specs.Future.{Future, gives, finished, stuck}
+use Rattle.facet_json_document.specs.InputPlace.{first_standing, future_at}
+use Rattle.facet_json_document.proofs.StuckOnce.{stuck-once}
+use Rattle.facet_format.specs.Cursor.{start_at}
 use Rattle.facet_format.proofs.CursorAgrees.{runs-agree}
+use Rattle.facet_json_protocol.specs.Now.{on_input, RefusedAt}
+use Rattle.facet_json_protocol.specs.ParserLaws.{TrustedAgrees}
 
--- Both are runs of one cursor from its start.
-pub new-agree : (buffer : List ℕ) (mode : Mode) (node : Node) (value : Tree) (calls : List Call) (these those : List Answer)
-    (trusted checking : Now) → IsDocument buffer mode node value → MovesAll (fresh buffer mode) calls these trusted →
-    MovesAll (fresh buffer mode) calls those checking → AgreeToLack these those
-new-agree buffer mode node value calls these those trusted checking d first second =
-    let w = walk (meaning buffer) node in
-    let run = document-run buffer mode node value d first in
-    let other = document-run buffer mode node value d second in
-    runs-agree (on_walk w) (λ place r q none more. absurd none) start run.0 other.0 calls these those run.1 other.1
+-- At a place one refusal comes.
+refused-once : (buffer : List ℕ) (future : Future) (r q : Refusal) → RefusedAt buffer future r → RefusedAt buffer future q → r ≡ q
+refused-once buffer (gives p future) r q first second = absurd first
+refused-once buffer finished r q first second = absurd first
+refused-once buffer (stuck place rest) r q first second = stuck-once buffer place rest r q first second
+
+-- Both are runs of one cursor over the input's places.
+pub new-agree : TrustedAgrees
+new-agree buffer mode calls these those trusted checking first second =
+    runs-agree (on_input buffer (lenient mode)) (λ place. refused-once buffer (future_at buffer (lenient mode) place)) (start_at first_standing)
+    trusted.cursor checking.cursor calls these those first.run second.run

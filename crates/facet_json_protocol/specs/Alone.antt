@@ -15,14 +15,13 @@ pub data AllRefused (r : Refusal) : List Answer → Type 0 where
   no_answer : AllRefused r []
   one_refused : (answers : List Answer) → AllRefused r answers → AllRefused r (event (Err r) ∷ answers)
 
--- One event an answer, and after all of them one such refusal again and again; or, in place of an event that allocates, out
--- of memory from then on, at the last token of the event before. `last` is the last token before these events.
-pub data AnswersAlone (refuses : Refusal → Type 0) : Span → List Passed → List Answer → Type 0 where
-  not_asked : (last : Span) (events : List Passed) → AnswersAlone refuses last events []
+-- One event an answer, and after all of them this refusal again and again; or, in place of an event that allocates, out of
+-- memory from then on, at the last token of the event before. `last` is the last token before these events.
+pub data AnswersAlone (refusal : Refusal) : Span → List Passed → List Answer → Type 0 where
+  not_asked : (last : Span) (events : List Passed) → AnswersAlone refusal last events []
   one_event : (last : Span) (p : Passed) (events : List Passed) (answers : List Answer) →
-      AnswersAlone refuses p.last events answers →
-      AnswersAlone refuses last (p ∷ events) (event (Ok (Some p.event)) ∷ answers)
-  refused : (last : Span) (r : Refusal) (answers : List Answer) → refuses r → AllRefused r answers →
-      AnswersAlone refuses last [] (event (Err r) ∷ answers)
+      AnswersAlone refusal p.last events answers →
+      AnswersAlone refusal last (p ∷ events) (event (Ok (Some p.event)) ∷ answers)
+  refused : (last : Span) (answers : List Answer) → AllRefused refusal answers → AnswersAlone refusal last [] answers
   wants_memory : (last : Span) (p : Passed) (events : List Passed) (answers : List Answer) → takes_memory p.event.kind ≡ true →
-      AllRefused (no_memory_at last) answers → AnswersAlone refuses last (p ∷ events) (event (Err (no_memory_at last)) ∷ answers)
+      AllRefused (no_memory_at last) answers → AnswersAlone refusal last (p ∷ events) answers

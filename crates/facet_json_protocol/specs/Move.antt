@@ -7,12 +7,12 @@ use Rattle.facet_json_protocol.specs.Now.{Now, SameInput, on_input}
 -- The call may be answered so, and leaves the parser so.
 pub record Moves (old : Now) (call : Call) (answer : Answer) (new : Now) : Type 0 where
   pub input : SameInput old new
-  pub step : Step (on_input old.buffer old.mode) old.cursor call answer new.cursor
+  pub step : Step (on_input old.buffer old.language) old.cursor call answer new.cursor
 
 -- All calls in order are answered so.
 pub record MovesAll (old : Now) (calls : List Call) (answers : List Answer) (new : Now) : Type 0 where
   pub input : SameInput old new
-  pub run : Run (on_input old.buffer old.mode) old.cursor calls answers new.cursor
+  pub run : Run (on_input old.buffer old.language) old.cursor calls answers new.cursor
 
 -- with one more point
 abbrev pub with_kept : Now → Now

@@ -6,23 +6,24 @@ use Rattle.facet_format.specs.Event.{Passed}
 use Rattle.facet_format.specs.Cursor.{Coming, an_event, the_end, a_refusal, World, Cursor, start_at, current_span, last_of}
 use Rattle.facet_format.specs.Alike.{CursorsAlike}
 use Rattle.facet_json_token.specs.Gap.{Mode}
+use Rattle.facet_json_document.specs.Language.{Language, lenient}
 use Rattle.facet_json_document.specs.Refusal.{IsStuck}
 use Rattle.facet_json_document.specs.Future.{Future, gives, finished, stuck, events_before}
 use Rattle.facet_json_document.specs.InputPlace.{Standing, first_standing, past, future_at}
 
 pub record Now : Type 0 where
   pub buffer : List ℕ
-  pub mode : Mode
+  pub language : Language
   pub cursor : Cursor Standing
 
--- a parser that has read nothing
+-- a lenient parser that has read nothing
 abbrev pub fresh : List ℕ → Mode → Now
-fresh buffer mode = record { buffer = buffer; mode = mode; cursor = start_at first_standing }
+fresh buffer mode = record { buffer = buffer; language = lenient mode; cursor = start_at first_standing }
 
 -- ---- what comes
 
 abbrev pub future_of : Now → Future
-future_of now = future_at now.buffer now.mode now.cursor.spot.place
+future_of now = future_at now.buffer now.language now.cursor.spot.place
 
 abbrev pub first_of : Future → Coming
 first_of (gives p future) = an_event p
@@ -35,17 +36,17 @@ RefusedAt buffer (stuck place rest) refusal = IsStuck buffer place rest refusal
 RefusedAt buffer _ refusal = ⊥
 
 -- an input's places
-abbrev pub on_input : List ℕ → Mode → World Standing
-on_input buffer mode = record {
-  comes = λ s. first_of (future_at buffer mode s);
-  refuses = λ s refusal. RefusedAt buffer (future_at buffer mode s) refusal;
+abbrev pub on_input : List ℕ → Language → World Standing
+on_input buffer language = record {
+  comes = λ s. first_of (future_at buffer language s);
+  refuses = λ s refusal. RefusedAt buffer (future_at buffer language s) refusal;
   past = past;
   last = λ s. s.last;
 }
 
 -- the last token that was read, also of an event that was peeked at
 abbrev pub span_of : Now → Span
-span_of now = current_span (on_input now.buffer now.mode) now.cursor.spot
+span_of now = current_span (on_input now.buffer now.language) now.cursor.spot
 
 -- how many bytes stand after the last token that an event passed
 abbrev pub ahead : Now → ℕ
@@ -53,17 +54,17 @@ ahead now = length now.buffer - stop now.cursor.spot.place.last
 
 -- ---- what a call leaves
 
--- The input is the same, read in the same mode.
+-- The input is the same, read in the same language.
 pub record SameInput (old new : Now) : Type 0 where
   pub buffer : new.buffer ≡ old.buffer
-  pub mode : new.mode ≡ old.mode
+  pub language : new.language ≡ old.language
 
 -- The same points are kept, and the next one will have the same number.
 pub record SamePoints (old new : Now) : Type 0 where
   pub kept : new.cursor.kept ≡ old.cursor.kept
   pub counter : new.cursor.counter ≡ old.cursor.counter
 
--- The input, the mode and the points stay, and no more bytes are ahead.
+-- The input, the language and the points stay, and no more bytes are ahead.
 pub record GoesOn (old new : Now) : Type 0 where
   pub input : SameInput old new
   pub points : SamePoints old new
@@ -72,11 +73,11 @@ pub record GoesOn (old new : Now) : Type 0 where
 -- ---- where it stands on a document's walk
 
 -- The standing is the place on the walk: the same events come, after the same token.
-pub record StandsOn (buffer : List ℕ) (mode : Mode) (w : List Passed) (s : Standing) (place : ℕ) : Type 0 where
+pub record StandsOn (buffer : List ℕ) (language : Language) (w : List Passed) (s : Standing) (place : ℕ) : Type 0 where
   pub place_within : place ≤ length w
-  pub comes : future_at buffer mode s ≡ events_before (drop place w) finished
+  pub comes : future_at buffer language s ≡ events_before (drop place w) finished
   pub last : s.last ≡ last_of w place
 
 -- The parser stands where the cursor stands on the walk.
 abbrev pub StandsAt : Now → List Passed → Cursor ℕ → Type 0
-StandsAt now w c = CursorsAlike (StandsOn now.buffer now.mode w) now.cursor c
+StandsAt now w c = CursorsAlike (StandsOn now.buffer now.language w) now.cursor c

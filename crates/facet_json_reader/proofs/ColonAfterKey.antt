@@ -13,22 +13,22 @@ use Rattle.facet_json_token.specs.Gap.{Mode}
 use Rattle.facet_json_token.specs.Token.{Kind, colon}
 use Rattle.facet_json_token.specs.Tokens.{Tokens, next, tokens_from}
 use Rattle.facet_json_token.specs.Views.{kind_of, scanned}
-use Rattle.facet_json_document.specs.Place.{after_key, is_colon}
+use Rattle.facet_json_document.specs.Place.{after_key, goes_on}
 use Rattle.facet_json_document.specs.Refusal.{at_end}
 use Rattle.facet_json_reader.specs.Views.{IsColon, StopsAt}
-use Rattle.facet_json_reader.proofs.ScannedTokens.{IsCut, ends, stands, is_cut}
+use Rattle.facet_json_place.proofs.ScannedTokens.{IsCut, ends, stands, is_cut}
 
 -- Another token than a colon is none.
-no_colon : (t : RustToken) (kind : Kind) → (t ≡ code.Colon → ⊥) → kind_of t ≡ Some kind → is_colon kind ≡ false
+no_colon : (t : RustToken) (kind : Kind) → (t ≡ code.Colon → ⊥) → kind_of t ≡ Some kind → goes_on after_key kind ≡ false
 no_colon code.Colon kind isnt k = absurd (isnt refl)
 no_colon code.Eof kind isnt k = cc
 no_colon (code.NeedMore n) kind isnt k = cc
-no_colon _ kind isnt k = subst (λ x. is_colon x ≡ false) (same_Some _ _ k) refl
+no_colon _ kind isnt k = subst (λ x. goes_on after_key x ≡ false) (same_Some _ _ k) refl
 
 module _ (buffer : List ℕ) (position : ℕ) (mode : Mode) (t : SpannedToken) where
   colon_by : IsCut buffer position mode t → t.token ≡ code.Colon → IsColon buffer mode position (span_of t.span)
   colon_by (ends is_end none) is = let wrong : code.Eof ≡ code.Colon = sym is_end ∙ is in cc
-  colon_by (stands s readable) is =
+  colon_by (stands s) is =
       let k : Some colon ≡ Some s.kind = subst (λ (u : RustToken). kind_of u ≡ Some s.kind) is s.is_kind in
       let kind_is = same_Some _ _ k in
       record { past = s.past; ends = s.within; tokens = rw (← kind_is) at s.tokens }
@@ -41,7 +41,7 @@ module _ (buffer : List ℕ) (position : ℕ) (mode : Mode) (t : SpannedToken) w
   ended_by : IsCut buffer position mode t → t.token ≡ code.Eof → span_of t.span ≡ span_at (length buffer) 0 →
       StopsAt buffer after_key (tokens_from buffer mode position) (refusal_at (unexpected_token (codes "Eof") (codes "':'")) (span_of t.span))
   ended_by (ends is_end none) is s = rw (none, s) (at_end after_key)
-  ended_by (stands scans readable) is s =
+  ended_by (stands scans) is s =
       let none = subst (λ (u : RustToken). kind_of u ≡ Some scans.kind) is scans.is_kind in cc
 
   -- The input ends.
@@ -51,17 +51,17 @@ module _ (buffer : List ℕ) (position : ℕ) (mode : Mode) (t : SpannedToken) w
   colon-ends p e is s = ended_by (is_cut buffer position mode t p e) is s
 
   other_by : IsCut buffer position mode t → (t.token ≡ code.Colon → ⊥) → (t.token ≡ code.Eof → ⊥) → (r : Refusal) →
-      ((kind : Kind) (rest : Tokens) → kind_of t.token ≡ Some kind → is_colon kind ≡ false →
+      ((kind : Kind) (rest : Tokens) → kind_of t.token ≡ Some kind → goes_on after_key kind ≡ false →
       StopsAt buffer after_key (next (record { kind = kind; span = span_of t.span }) rest) r) →
       StopsAt buffer after_key (tokens_from buffer mode position) r
   other_by (ends is_end none) no_mark no_end r stops = absurd (no_end is_end)
-  other_by (stands s readable) no_mark no_end r stops =
+  other_by (stands s) no_mark no_end r stops =
       let at = s.tokens in rw at (stops s.kind _ s.is_kind (no_colon t.token s.kind no_mark s.is_kind))
 
   -- Another token is next.
   pub colon-other : position ≤ length buffer → scanned (Ok t) ≡ Some (cut buffer position mode) →
       (t.token ≡ code.Colon → ⊥) → (t.token ≡ code.Eof → ⊥) → (r : Refusal) →
-      ((kind : Kind) (rest : Tokens) → kind_of t.token ≡ Some kind → is_colon kind ≡ false →
+      ((kind : Kind) (rest : Tokens) → kind_of t.token ≡ Some kind → goes_on after_key kind ≡ false →
       StopsAt buffer after_key (next (record { kind = kind; span = span_of t.span }) rest) r) →
       StopsAt buffer after_key (tokens_from buffer mode position) r
   colon-other p e no_mark no_end r stops = other_by (is_cut buffer position mode t p e) no_mark no_end r stops

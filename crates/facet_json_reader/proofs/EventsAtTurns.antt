@@ -1,6 +1,6 @@
 -- What comes where a reader stands at a token whose turn is known, and how it is refused there.
-use Rattle.std.proofs.Common.{◌≡◌, ◌∙◌, ℕ, ◌&&◌, Bool, true, false, List, Option, Some, None, refl, sym, ap, ap₂, subst, inl, inr}
-use Rattle.std.specs.Prelude.{◌⊎◌, IsSome, is_none, slice_range}
+use Rattle.std.proofs.Common.{◌≡◌, ◌∙◌, ℕ, ◌&&◌, Bool, true, false, cond, List, Option, Some, None, refl, sym, ap, ap₂, subst, inl, inr}
+use Rattle.std.specs.Prelude.{ℕ, List, ◌⊎◌, IsSome, is_none, slice_range}
 use Rattle.std.specs.Option.{option_map}
 use Rattle.facet_format.specs.declared.span.Span.{Span as RustSpan}
 use Rattle.facet_json_token.specs.declared.token.SpannedToken.{SpannedToken}
@@ -17,19 +17,19 @@ use Rattle.facet_json_token.specs.Gap.{Mode}
 use Rattle.facet_json_token.specs.Token.{Kind, Token, colon}
 use Rattle.facet_json_token.specs.Token as token
 use Rattle.facet_json_token.specs.Tokens.{Tokens, tokens_from}
-use Rattle.facet_json_document.specs.Future.{Future, gives, Stage, within, after_value, Turn, passes, says, says_scalar, names, place_turn, turn, unless_meaningless, reads, reads_colon}
-use Rattle.facet_json_document.specs.Meaning.{meaning, meaning_of, text_of as text_in}
-use Rattle.facet_json_document.specs.Place.{Place, after_key, after_colon}
+use Rattle.facet_json_document.specs.Future.{Future, gives, within, after_value, stack_after, stage_after, turn, reads, reads_colon}
+use Rattle.facet_json_document.specs.Meaning.{meaning_of, text_of as text_in}
+use Rattle.facet_json_document.specs.Place.{Place, after_key, after_colon, Turn, stops, passes, says, says_scalar, names, place_turn}
 use Rattle.facet_json_document.specs.Refusal.{needs_meaning, meaningless}
 use Rattle.facet_json_document.specs.Tree.{Tree}
 use Rattle.facet_json_document.specs.Tree as tree
-use Rattle.facet_json_document.specs.Walk.{event_at, scalar_event, key_event, scalar_of, name_of}
+use Rattle.facet_json_document.specs.Walk.{scalar_event, key_event, scalar_of, name_of}
 use Rattle.facet_json_place.specs.Views.{turn_of}
 use Rattle.facet_json_reader.specs.TokenViews.{IsTextOf, IsUnmade, IsMeaningless}
 use Rattle.facet_json_reader.specs.Views.{passed_of, comes_at, IsTurn, StopsAt, IsUnmadeScalar, IsColon, GivesHeld, IsRefusedBefore, without_memory, at_a_stop}
 use Rattle.facet_json_document.proofs.WalkComes.{follows, reads-turn, turn-plain}
 use Rattle.facet_json_document.proofs.StuckComes.{stuck-reads, stuck-reads_colon}
-use Rattle.facet_json_place.proofs.TurnsAtPlaces.{says-plain, passes-plain}
+use Rattle.facet_json_place.proofs.TurnsAtPlaces.{is_mark, mark-plain}
 
 -- ---- what needs a meaning and has it
 
@@ -63,10 +63,10 @@ module _ (buffer : List ℕ) (mode : Mode) (stack : List ContainerKind) (place :
   -- Tokens that are refused at the place.
   pub stops-refused : (last : Span) (ts : Tokens) (refusal : Refusal) → tokens_from buffer mode position ≡ ts →
       StopsAt buffer place ts refusal → IsRefusedBefore buffer last here refusal
-  stops-refused last ts refusal is stops =
-      let comes = ap (reads (meaning buffer) stack (within place)) is
-      ∙ stuck-reads buffer stack place ts refusal stops in
-      subst (λ f. IsRefusedBefore buffer last f refusal) (sym comes) (at_a_stop place ts refusal stops)
+  stops-refused last ts refusal is halts =
+      let comes = ap (reads buffer stack (within place)) is
+      ∙ stuck-reads buffer stack place ts refusal halts in
+      subst (λ f. IsRefusedBefore buffer last f refusal) (sym comes) (at_a_stop place ts refusal halts)
 
 module _ (buffer : List ℕ) (mode : Mode) (stack : List ContainerKind) (place : Place) (position : ℕ) (t : SpannedToken) where
   abbrev whole : Kind → Token
@@ -79,41 +79,41 @@ module _ (buffer : List ℕ) (mode : Mode) (stack : List ContainerKind) (place :
   all = here buffer mode stack place position
 
   abbrev Turns : RustTurn → Type 0
-  Turns w = IsTurn buffer mode stack place position t w
+  Turns w = IsTurn buffer mode place position t w
 
   -- ---- what comes
 
-  comes_by : (w : RustTurn) (is : Turns w) (way : Turn) → turn (meaning buffer) stack place (whole is.kind) ≡ way →
-      all ≡ follows (meaning buffer) place (whole is.kind) stack rest way
+  comes_by : (w : RustTurn) (is : Turns w) (way : Turn) → turn buffer place (whole is.kind) ≡ way →
+      all ≡ follows buffer place (whole is.kind) stack rest way
   comes_by w is way e =
-      ap (reads (meaning buffer) stack (within place)) is.tokens
-      ∙ reads-turn (meaning buffer) stack place (whole is.kind) rest way e
+      ap (reads buffer stack (within place)) is.tokens
+      ∙ reads-turn buffer stack place (whole is.kind) rest way e
 
-  says_comes : (w : RustTurn) (is : Turns w) (kind : EventKind) (others : List ContainerKind) (stage : Stage) →
-      turn_of stack w ≡ says kind others stage →
-      all ≡ gives (event_at kind (whole is.kind)) (reads (meaning buffer) others stage rest)
-  says_comes w is kind others stage e =
+  mark_comes : (w : RustTurn) (is : Turns w) (way : Turn) → turn_of w ≡ way → is_mark way ≡ true →
+      all ≡ follows buffer place (whole is.kind) stack rest way
+  mark_comes w is way e m =
       let turns = is.turns ∙ e in
-      comes_by w is (says kind others stage) (turn-plain (meaning buffer) stack place (whole is.kind) is.kind refl (says-plain stack place is.kind kind others stage turns) ∙ turns)
+      let plain = mark-plain place is.kind (ap is_mark turns ∙ m) in
+      comes_by w is way (turn-plain buffer place (whole is.kind) is.kind refl plain ∙ turns)
 
   meant : (w : RustTurn) (is : Turns w) → (needs_meaning is.kind ≡ true → IsSome (meaning_of buffer is.kind)) →
-      turn (meaning buffer) stack place (whole is.kind) ≡ turn_of stack w
+      turn buffer place (whole is.kind) ≡ turn_of w
   meant w is h =
-      ap (λ b. unless_meaningless b (place_turn stack place is.kind)) (judged (needs_meaning is.kind) (meaning_of buffer is.kind) h)
+      ap (λ b. cond b stops (place_turn place is.kind)) (judged (needs_meaning is.kind) (meaning_of buffer is.kind) h)
       ∙ is.turns
 
   scalar_comes : (is : Turns turns.Scalar) → (needs_meaning is.kind ≡ true → IsSome (meaning_of buffer is.kind)) →
-      all ≡ gives (scalar_event (meaning buffer) (whole is.kind)) (reads (meaning buffer) stack (after_value stack) rest)
-  scalar_comes is h = comes_by turns.Scalar is (says_scalar stack (after_value stack)) (meant turns.Scalar is h)
+      all ≡ gives (scalar_event buffer (whole is.kind)) (reads buffer stack (after_value stack) rest)
+  scalar_comes is h = comes_by turns.Scalar is says_scalar (meant turns.Scalar is h)
 
   names_comes : (is : Turns turns.Names) → IsSome (meaning_of buffer is.kind) →
-      all ≡ reads_colon (meaning buffer) stack (whole is.kind) rest
+      all ≡ reads_colon buffer stack (whole is.kind) rest
   names_comes is some = comes_by turns.Names is names (meant turns.Names is (λ n. some))
 
   colon_comes : (key : Token) (s : Span) → IsColon buffer mode (stop (span_of t.span)) s →
-      reads_colon (meaning buffer) stack key rest ≡ gives (key_event (meaning buffer) key (record { kind = colon; span = s })) (reads (meaning buffer) stack (within after_colon) (tokens_from buffer mode (stop s)))
+      reads_colon buffer stack key rest ≡ gives (key_event buffer key (record { kind = colon; span = s })) (reads buffer stack (within after_colon) (tokens_from buffer mode (stop s)))
   unfolding reads_colon
-  colon_comes key s c = ap (reads_colon (meaning buffer) stack key) c.tokens
+  colon_comes key s c = ap (reads_colon buffer stack key) c.tokens
 
   abbrev passed : EventKind → Span → Passed
   passed kind last = record { event = record { kind = kind; span = span_of t.span }; last = last }
@@ -125,19 +125,18 @@ module _ (buffer : List ℕ) (mode : Mode) (stack : List ContainerKind) (place :
   -- ---- an event is given
 
   -- A bracket that opens or closes a container gives its event.
-  pub says-given : (w : RustTurn) (kind : EventKind) (others : List ContainerKind) (stage : Stage) →
-      turn_of stack w ≡ says kind others stage → Turns w → (h : Held) →
+  pub says-given : (w : RustTurn) (kind : EventKind) → turn_of w ≡ says kind → Turns w → (h : Held) →
       event_of h.event ≡ record { kind = kind; span = span_of t.span } → span_of h.last ≡ span_of t.span → GivesHeld all h
-  says-given w kind others stage way is h e l =
-      let after = reads (meaning buffer) others stage rest in
-      (after, says_comes w is kind others stage way ∙ ap (λ p. gives p after) (as_held h kind (span_of t.span) e l))
+  says-given w kind way is h e l =
+      let after = reads buffer (stack_after kind stack) (stage_after kind stack) rest in
+      (after, mark_comes w is (says kind) way refl ∙ ap (λ p. gives p after) (as_held h kind (span_of t.span) e l))
 
   -- A scalar gives its event.
   pub scalar-given : (is : Turns turns.Scalar) (value : Scalar) → value ≡ scalar_of is.kind (meaning_of buffer is.kind) →
       (needs_meaning is.kind ≡ true → IsSome (meaning_of buffer is.kind)) → (h : Held) →
       event_of h.event ≡ record { kind = scalar value; span = span_of t.span } → span_of h.last ≡ span_of t.span → GivesHeld all h
   scalar-given is value v some h e l =
-      let after = reads (meaning buffer) stack (after_value stack) rest in
+      let after = reads buffer stack (after_value stack) rest in
       let event : Scalar → Event = λ x. record { kind = scalar x; span = span_of t.span } in
       (after, scalar_comes is some ∙ ap (λ p. gives p after) (as_held h _ (span_of t.span) (e ∙ ap event v) l))
 
@@ -149,16 +148,14 @@ module _ (buffer : List ℕ) (mode : Mode) (stack : List ContainerKind) (place :
       let means = text.means in
       let some : IsSome (meaning_of buffer is.kind) = rw means refl in
       let named : name_of is.kind (text_in (meaning_of buffer is.kind)) ≡ name = rw means (sym text.held) in
-      let first : key_event (meaning buffer) (whole is.kind) (record { kind = colon; span = span_of mark }) ≡ passed (field_key name) (span_of mark) = ap (λ n. passed (field_key n) (span_of mark)) named in
-      let after = reads (meaning buffer) stack (within after_colon) (tokens_from buffer mode (stop (span_of mark))) in
+      let first : key_event buffer (whole is.kind) (record { kind = colon; span = span_of mark }) ≡ passed (field_key name) (span_of mark) = ap (λ n. passed (field_key n) (span_of mark)) named in
+      let after = reads buffer stack (within after_colon) (tokens_from buffer mode (stop (span_of mark))) in
       (after, names_comes is some ∙ colon_comes (whole is.kind) (span_of mark) c ∙ ap (λ p. gives p after) (first ∙ as_held h _ (span_of mark) e l))
 
   -- A separator is passed, and gives nothing.
-  pub passes-comes : (w : RustTurn) (stage : Stage) → turn_of stack w ≡ passes stack stage → Turns w →
-      comes_at buffer mode stack stage (stop (span_of t.span)) ≡ all
-  passes-comes w stage way is =
-      let turns = is.turns ∙ way in
-      sym (comes_by w is (passes stack stage) (turn-plain (meaning buffer) stack place (whole is.kind) is.kind refl (passes-plain stack place is.kind stack stage turns) ∙ turns))
+  pub passes-comes : (w : RustTurn) (other : Place) → turn_of w ≡ passes other → Turns w →
+      comes_at buffer mode stack (within other) (stop (span_of t.span)) ≡ all
+  passes-comes w other way is = sym (mark_comes w is (passes other) way refl)
 
   -- ---- a refusal
 
@@ -193,6 +190,6 @@ module _ (buffer : List ℕ) (mode : Mode) (stack : List ContainerKind) (place :
   -- A key whose colon is missing.
   pub key-stopped : (last : Span) (refusal : Refusal) (is : Turns turns.Names) → IsSome (meaning_of buffer is.kind) →
       StopsAt buffer after_key rest refusal → IsRefusedBefore buffer last all refusal
-  key-stopped last refusal is some stops =
-      let comes = names_comes is some ∙ stuck-reads_colon buffer stack (whole is.kind) rest refusal stops in
-      subst (λ f. IsRefusedBefore buffer last f refusal) (sym comes) (at_a_stop after_key rest refusal stops)
+  key-stopped last refusal is some halts =
+      let comes = names_comes is some ∙ stuck-reads_colon buffer stack (whole is.kind) rest refusal halts in
+      subst (λ f. IsRefusedBefore buffer last f refusal) (sym comes) (at_a_stop after_key rest refusal halts)

@@ -1,4 +1,5 @@
 -- The token that is next at a place, the end after the root, and refusals after separators.
+use Rattle.std.specs.Prelude.{ℕ, List}
 use Rattle.std.proofs.Common.{◌≡◌, ◌≤◌, ◌∙◌, ℕ, false, List, length, Some, Ok, refl, sym, ap, subst}
 use Rattle.facet_json_token.specs.declared.token.Token.{Token as RustToken}
 use Rattle.facet_json_token.specs.declared.token.Token.TheVariants as code
@@ -17,66 +18,64 @@ use Rattle.facet_json_token.specs.Token.{Kind}
 use Rattle.facet_json_token.specs.Tokens.{Tokens, ended, next, tokens_from}
 use Rattle.facet_json_token.specs.Cut.{cut}
 use Rattle.facet_json_token.specs.Views.{kind_of, scanned}
-use Rattle.facet_json_document.specs.Future.{Future, finished, within, over, stops, reads}
-use Rattle.facet_json_document.specs.Meaning.{Meaning, meaning}
-use Rattle.facet_json_document.specs.Place.{goes_on}
+use Rattle.facet_json_document.specs.Future.{Future, finished, within, over, reads}
+use Rattle.facet_json_document.specs.Place.{stops, leads_on, goes_on}
 use Rattle.facet_json_place.specs.Views.{place_of, turn_of, turn_by}
 use Rattle.facet_json_reader.specs.Views.{stage_of, comes_at, coming, IsTurn, StopsAt, IsRefusedBefore}
 use Rattle.facet_json_reader.proofs.EventsAtTurns.{stops-refused}
-use Rattle.facet_json_reader.proofs.ScannedTokens.{IsCut, ends, stands, is_cut}
-use Rattle.facet_json_place.proofs.TurnsAtPlaces.{stops-stays}
+use Rattle.facet_json_place.proofs.ScannedTokens.{IsCut, ends, stands, is_cut}
 
 -- ---- the end
 
-over_reads : (m : Meaning) (stack : List ContainerKind) (ts : Tokens) → reads m stack over ts ≡ finished
+over_reads : (buffer : List ℕ) (stack : List ContainerKind) (ts : Tokens) → reads buffer stack over ts ≡ finished
 unfolding reads
-over_reads m stack ts = refl
+over_reads buffer stack ts = refl
 
 -- After the root nothing comes.
 pub over-finished : (buffer : List ℕ) (mode : Mode) (r : Reader) → r.stage ≡ stages.Over → coming buffer mode r ≡ finished
 over-finished buffer mode r e =
     ap (λ s. comes_at buffer mode r.contexts (stage_of s) (stop (span_of r.last))) e
-    ∙ over_reads (meaning buffer) r.contexts (tokens_from buffer mode (stop (span_of r.last)))
+    ∙ over_reads buffer r.contexts (tokens_from buffer mode (stop (span_of r.last)))
 
 -- ---- the next token
 
-module _ (buffer : List ℕ) (mode : Mode) (stack : List ContainerKind) (p : RustPlace) (position : ℕ) (t : SpannedToken) where
-  turn_by_cut : (w : RustTurn) → IsCut buffer position mode t → turn_of stack w ≡ turn_by stack (place_of p) (kind_of t.token) →
-      (turn_of stack w ≡ stops → ⊥) → IsTurn buffer mode stack (place_of p) position t w
+module _ (buffer : List ℕ) (mode : Mode) (p : RustPlace) (position : ℕ) (t : SpannedToken) where
+  turn_by_cut : (w : RustTurn) → IsCut buffer position mode t → turn_of w ≡ turn_by (place_of p) (kind_of t.token) →
+      (turn_of w ≡ stops → ⊥) → IsTurn buffer mode (place_of p) position t w
   turn_by_cut w (ends is_end none) e goes =
-      absurd (goes (e ∙ ap (λ (u : RustToken). turn_by stack (place_of p) (kind_of u)) is_end))
-  turn_by_cut w (stands s readable) e goes = record {
+      absurd (goes (e ∙ ap (λ (u : RustToken). turn_by (place_of p) (kind_of u)) is_end))
+  turn_by_cut w (stands s) e goes = record {
     kind = s.kind;
     is_kind = s.is_kind;
     past = s.past;
     ends = s.within;
     tokens = s.tokens;
-    turns = sym (e ∙ ap (turn_by stack (place_of p)) s.is_kind);
+    turns = sym (e ∙ ap (turn_by (place_of p)) s.is_kind);
   }
 
   -- A token that has a turn is next.
   pub is-turn : (w : RustTurn) → position ≤ length buffer → scanned (Ok t) ≡ Some (cut buffer position mode) →
-      turn_of stack w ≡ turn_by stack (place_of p) (kind_of t.token) → (turn_of stack w ≡ stops → ⊥) →
-      IsTurn buffer mode stack (place_of p) position t w
+      turn_of w ≡ turn_by (place_of p) (kind_of t.token) → (turn_of w ≡ stops → ⊥) →
+      IsTurn buffer mode (place_of p) position t w
   is-turn w h e turns goes = turn_by_cut w (is_cut buffer position mode t h e) turns goes
 
+module _ (buffer : List ℕ) (mode : Mode) (stack : List ContainerKind) (p : RustPlace) (position : ℕ) (t : SpannedToken) where
   stopped_by_cut : (last : Span) (refusal : Refusal) → IsCut buffer position mode t →
-      turn_of stack turns.Stops ≡ turn_by stack (place_of p) (kind_of t.token) →
+      turn_of turns.Stops ≡ turn_by (place_of p) (kind_of t.token) →
       (t.token ≡ code.Eof → StopsAt buffer (place_of p) ended refusal) →
       ((kind : Kind) (rest : Tokens) → kind_of t.token ≡ Some kind → goes_on (place_of p) kind ≡ false →
       StopsAt buffer (place_of p) (next (record { kind = kind; span = span_of t.span }) rest) refusal) →
       IsRefusedBefore buffer last (comes_at buffer mode stack (within (place_of p)) position) refusal
   stopped_by_cut last refusal (ends is_end none) e at_end at_token =
       stops-refused buffer mode stack (place_of p) position last ended refusal none (at_end is_end)
-  stopped_by_cut last refusal (stands s readable) e at_end at_token =
-      let turn_stops = sym (e ∙ ap (turn_by stack (place_of p)) s.is_kind) in
-      let never = stops-stays stack p s.kind turn_stops in
+  stopped_by_cut last refusal (stands s) e at_end at_token =
+      let never = ap leads_on (sym (e ∙ ap (turn_by (place_of p)) s.is_kind)) in
       stops-refused buffer mode stack (place_of p) position last _ refusal s.tokens (at_token s.kind _ s.is_kind never)
 
   -- A token without a turn, or the end, is refused.
   pub stopped-refused : (last : Span) (refusal : Refusal) → position ≤ length buffer →
       scanned (Ok t) ≡ Some (cut buffer position mode) →
-      turn_of stack turns.Stops ≡ turn_by stack (place_of p) (kind_of t.token) →
+      turn_of turns.Stops ≡ turn_by (place_of p) (kind_of t.token) →
       (t.token ≡ code.Eof → StopsAt buffer (place_of p) ended refusal) →
       ((kind : Kind) (rest : Tokens) → kind_of t.token ≡ Some kind → goes_on (place_of p) kind ≡ false →
       StopsAt buffer (place_of p) (next (record { kind = kind; span = span_of t.span }) rest) refusal) →

@@ -1,47 +1,27 @@
--- What an answer of the plain cut in code says of the tokens that are left, and of its own slices.
-use Rattle.std.proofs.Common.{◌≡◌, ℕ, ◌≤◌, ◌<◌, List, length, Some, Ok, Err, refl, sym, subst, arith}
+-- What an answer of the plain cut in code says of its own slices, and where it stops the reader.
+use Rattle.std.proofs.Common.{◌≡◌, ℕ, ◌≤◌, List, length, Some, Ok, Err, sym, subst, arith}
 use Rattle.std.proofs.lemmas.Option.{same_Some}
 use Rattle.facet_format.specs.declared.span.Span.{Span as RustSpan}
 use Rattle.facet_json_token.specs.declared.token.Token.{Token as RustToken}
 use Rattle.facet_json_token.specs.declared.token.Token.TheVariants as code
 use Rattle.facet_json_token.specs.declared.token.SpannedToken.{SpannedToken}
-use Rattle.facet_json_token.specs.declared.token.ScanErrorKind.{ScanErrorKind}
-use Rattle.facet_json_token.specs.declared.token.ScanErrorKind.TheVariants as scan
 use Rattle.facet_json_token.specs.declared.token.ScanError.{ScanError}
-use Rattle.facet_format.specs.Complaint.{Refusal, refusal_at}
+use Rattle.facet_format.specs.Complaint.{Refusal}
 use Rattle.facet_format.specs.Span.{stop}
 use Rattle.facet_format.specs.Views.{span_of, hint_of}
 use Rattle.facet_json_token.specs.Gap.{Mode}
-use Rattle.facet_json_token.specs.Token.{Kind, Token, Fault}
-use Rattle.facet_json_token.specs.Token as token
-use Rattle.facet_json_token.specs.Cut.{Cut, nothing_left, token as cut_token, fault, cut}
-use Rattle.facet_json_token.specs.Tokens.{ended, next, tokens_from}
-use Rattle.facet_json_token.specs.Views.{kind_of, token_answer, fault_answer, scanned, scan_complaint}
-use Rattle.facet_json_token.proofs.CutBounds.{TokenFits, KindFits, StringFits, NumberFits, cut-token_fits}
-use Rattle.facet_json_token.proofs.TokensSteps.{tokens_from-token, tokens_from-fault, tokens_from-nothing}
-use Rattle.facet_json_document.specs.Place.{Place, complaint_of_fault}
+use Rattle.facet_json_token.specs.Token.{Kind}
+use Rattle.facet_json_token.specs.Cut.{cut}
+use Rattle.facet_json_token.specs.Tokens.{tokens_from}
+use Rattle.facet_json_token.specs.Views.{kind_of, scanned, scan_refusal}
+use Rattle.facet_json_token.proofs.CutBounds.{KindFits, StringFits, NumberFits}
+use Rattle.facet_json_document.specs.Place.{Place}
 use Rattle.facet_json_document.specs.Refusal.{at_fault}
-use Rattle.facet_json_place.specs.Views.{SaysEndText, IsPassedOn}
+use Rattle.facet_json_place.proofs.ScannedTokens.{IsCut, ends, stands, is_cut, is_refused}
 use Rattle.facet_json_reader.specs.TokenViews.{CanBeRead}
 use Rattle.facet_json_reader.specs.Views.{StopsAt}
-use Rattle.facet_json_place.proofs.FaultTexts.{FaultSaysText, cut-says}
 
 -- ---- a token
-
--- The answer is the end, or a token of that kind.
-pub data TokenAnswer (s : RustSpan) (t : RustToken) : Cut → Type 0 where
-  the_end : t ≡ code.Eof → TokenAnswer s t nothing_left
-  a_token : (kind : Kind) → kind_of t ≡ Some kind →
-      TokenAnswer s t (cut_token (record { kind = kind; span = span_of s }))
-
-a_kind : (s : RustSpan) (t : RustToken) (kind : Kind) (c : Cut) → kind_of t ≡ Some kind →
-    cut_token (record { kind = kind; span = span_of s }) ≡ c → TokenAnswer s t c
-a_kind s t kind c k e = subst (TokenAnswer s t) e (a_token kind k)
-
-token_answer-is : (s : RustSpan) (t : RustToken) (c : Cut) → token_answer s t ≡ Some c → TokenAnswer s t c
-token_answer-is s code.Eof c e = subst (TokenAnswer s code.Eof) (same_Some _ _ e) (the_end refl)
-token_answer-is s (code.NeedMore n) c e = cc
-token_answer-is s t c e = a_kind s t _ c refl (same_Some _ _ e)
 
 -- Where the token's kind says the truth, its slices can be read.
 CanBeRead-fits : (buffer : List ℕ) (s : RustSpan) (t : RustToken) (kind : Kind) → stop (span_of s) ≤ length buffer →
@@ -62,43 +42,11 @@ CanBeRead-fits buffer s (code.Number a b h) kind w k f =
 CanBeRead-fits buffer s (code.NeedMore n) kind w k f = cc
 CanBeRead-fits buffer s _ kind w k f = tt
 
--- What is known of a token that is cut, and of what is left after it.
-pub record Scans (buffer : List ℕ) (position : ℕ) (mode : Mode) (t : SpannedToken) : Type 0 where
-  pub kind : Kind
-  pub is_kind : kind_of t.token ≡ Some kind
-  pub past : position < stop (span_of t.span)
-  pub within : stop (span_of t.span) ≤ length buffer
-  pub tokens : tokens_from buffer mode position
-      ≡ next (record { kind = kind; span = span_of t.span }) (tokens_from buffer mode (stop (span_of t.span)))
-
--- The cut says that the end is there, or a token.
-pub data IsCut (buffer : List ℕ) (position : ℕ) (mode : Mode) (t : SpannedToken) : Type 0 where
-  ends : t.token ≡ code.Eof → tokens_from buffer mode position ≡ ended → IsCut buffer position mode t
-  stands : Scans buffer position mode t → CanBeRead buffer t.span t.token → IsCut buffer position mode t
-
-cut_by : (buffer : List ℕ) (position : ℕ) (mode : Mode) (t : SpannedToken) (c : Cut) → position ≤ length buffer →
-    cut buffer position mode ≡ c → TokenAnswer t.span t.token c → IsCut buffer position mode t
-cut_by buffer position mode t _ p e (the_end is_end) = ends is_end (tokens_from-nothing buffer position mode e)
-cut_by buffer position mode t _ p e (a_token kind k) =
-    let whole : Token = record { kind = kind; span = span_of t.span } in
-    let fits : TokenFits buffer position whole = cut-token_fits buffer position mode whole p e in
-    stands (record {
-      kind = kind;
-      is_kind = k;
-      past = omega (arith, fits.behind, fits.some);
-      within = fits.within;
-      tokens = tokens_from-token buffer position mode whole p e;
-    }) (CanBeRead-fits buffer t.span t.token kind fits.within k fits.kind_fits)
-
-pub is_cut : (buffer : List ℕ) (position : ℕ) (mode : Mode) (t : SpannedToken) → position ≤ length buffer →
-    scanned (Ok t) ≡ Some (cut buffer position mode) → IsCut buffer position mode t
-is_cut buffer position mode t p e = cut_by buffer position mode t _ p refl (token_answer-is t.span t.token _ e)
-
 -- What is cut can be read.
 can_be : (buffer : List ℕ) (position : ℕ) (mode : Mode) (t : SpannedToken) → IsCut buffer position mode t →
     CanBeRead buffer t.span t.token
 can_be buffer position mode t (ends is_end none) = rw is_end tt
-can_be buffer position mode t (stands s readable) = readable
+can_be buffer position mode t (stands s) = CanBeRead-fits buffer t.span t.token s.kind s.within s.is_kind s.fits
 
 pub cut-readable : (buffer : List ℕ) (position : ℕ) (mode : Mode) (t : SpannedToken) → position ≤ length buffer →
     scanned (Ok t) ≡ Some (cut buffer position mode) → CanBeRead buffer t.span t.token
@@ -106,34 +54,9 @@ cut-readable buffer position mode t p e = can_be buffer position mode t (is_cut 
 
 -- ---- a fault
 
--- A fault, and how it is passed on.
-record FaultAnswer (e : ScanError) (c : Cut) : Type 0 where
-  what : Fault
-  is_fault : c ≡ fault what
-  passed_on : refusal_at (scan_complaint e.kind) (span_of e.span) ≡ refusal_at (complaint_of_fault what.kind) what.span
-  says : FaultSaysText what.kind → SaysEndText e.kind
-
-fault_answer-is : (s : RustSpan) (kind : ScanErrorKind) (c : Cut) → fault_answer s kind ≡ Some c →
-    FaultAnswer (record { kind = kind; span = s }) c
-fault_answer-is s (scan.UnexpectedChar ch) c e = record {
-  what = record { kind = token.unexpected_char ch; span = span_of s };
-  is_fault = sym (same_Some _ _ e);
-  passed_on = refl;
-  says = λ t. tt;
-}
-fault_answer-is s (scan.UnexpectedEof text) c e = record {
-  what = record { kind = token.unexpected_eof text.now; span = span_of s };
-  is_fault = sym (same_Some _ _ e);
-  passed_on = refl;
-  says = λ t. t;
-}
-fault_answer-is s scan.InvalidUtf8 c e = cc
-
 -- A fault stops the reader wherever it stands.
 pub fault-stops : (buffer : List ℕ) (position : ℕ) (mode : Mode) (e : ScanError) (place : Place) (r : Refusal) →
-    scanned (Err e) ≡ Some (cut buffer position mode) → IsPassedOn e r →
+    scanned (Err e) ≡ Some (cut buffer position mode) → r ≡ scan_refusal e →
     StopsAt buffer place (tokens_from buffer mode position) r
 fault-stops buffer position mode e place r h p =
-    let a : FaultAnswer e (cut buffer position mode) = fault_answer-is e.span e.kind _ h in
-    let is = a.says (cut-says buffer position mode a.what a.is_fault) in
-    rw (p is, a.passed_on, tokens_from-fault buffer position mode a.what a.is_fault) (at_fault place a.what)
+    let f = is_refused buffer position mode e h in rw (p, f.passed_on, f.tokens) (at_fault place f.what)

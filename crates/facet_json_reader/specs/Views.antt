@@ -23,11 +23,11 @@ use Rattle.facet_json_token.specs.Gap.{Mode}
 use Rattle.facet_json_token.specs.Token.{Kind, colon}
 use Rattle.facet_json_token.specs.Tokens.{Tokens, next, tokens_from}
 use Rattle.facet_json_token.specs.Views.{kind_of}
-use Rattle.facet_json_document.specs.Future.{Future, gives, finished, stuck, Stage, within, over, place_turn, reads}
-use Rattle.facet_json_document.specs.Meaning.{meaning, meaning_of}
-use Rattle.facet_json_document.specs.Place.{Place, after_key, kind_name}
+use Rattle.facet_json_document.specs.Future.{Future, gives, finished, stuck, Stage, within, over, reads}
+use Rattle.facet_json_document.specs.Meaning.{meaning_of}
+use Rattle.facet_json_document.specs.Place.{Place, after_key, place_turn, kind_name}
 use Rattle.facet_json_document.specs.Refusal.{needs_meaning, IsStuck}
-use Rattle.facet_json_document.specs.InputPlace.{Standing, future_at}
+use Rattle.facet_json_document.specs.InputPlace.{Standing}
 use Rattle.facet_json_document.specs.Walk.{scalar_of}
 use Rattle.facet_json_place.specs.Views.{place_of, turn_of, name_text, refused_of}
 use Rattle.facet_json_reader.specs.TokenViews.{IsTextOf, IsUnmade, IsMeaningless}
@@ -53,24 +53,23 @@ with_opened _ stack = stack
 
 -- what is given out from an offset on, at a stage within these containers
 abbrev pub comes_at : List ℕ → Mode → List ContainerKind → Stage → ℕ → Future
-comes_at buffer mode stack stage position = reads (meaning buffer) stack stage (tokens_from buffer mode position)
+comes_at buffer mode stack stage position = reads buffer stack stage (tokens_from buffer mode position)
 
 -- what is given out from where the reader stands on
 abbrev pub coming : List ℕ → Mode → Reader → Future
-coming buffer mode r = future_at buffer mode (standing_of r)
+coming buffer mode r = comes_at buffer mode r.contexts (stage_of r.stage) (stop (span_of r.last))
 
 -- ---- tokens
 
--- This token of the buffer is next after the offset, and this is its turn at the place, within these containers.
-pub record IsTurn (buffer : List ℕ) (mode : Mode) (stack : List ContainerKind) (place : Place) (position : ℕ) (t : SpannedToken)
-    (turn : RustTurn) : Type 0 where
+-- This token of the buffer is next after the offset, and this is its turn at the place.
+pub record IsTurn (buffer : List ℕ) (mode : Mode) (place : Place) (position : ℕ) (t : SpannedToken) (turn : RustTurn) : Type 0 where
   pub kind : Kind
   pub is_kind : kind_of t.token ≡ Some kind
   pub past : position < stop (span_of t.span)
   pub ends : stop (span_of t.span) ≤ length buffer
   pub tokens : tokens_from buffer mode position
       ≡ next (record { kind = kind; span = span_of t.span }) (tokens_from buffer mode (stop (span_of t.span)))
-  pub turns : place_turn stack place kind ≡ turn_of stack turn
+  pub turns : place_turn place kind ≡ turn_of turn
 
 -- The tokens don't go on with a document at the place, and are refused so.
 abbrev pub StopsAt : List ℕ → Place → Tokens → Refusal → Type 0

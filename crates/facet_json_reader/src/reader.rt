@@ -1,6 +1,6 @@
 //! Reads the next event of a document, token by token.
 
-ghost use Rattle.std.specs.Prelude.{◌≡◌, ◌≤◌, ℕ, true, false, List, Some, length, IfOk, IfErr, IfSome, MatchResult};
+ghost use Rattle.std.specs.Prelude.{◌≡◌, ◌≤◌, ℕ, true, false, [], List, Some, length, IfOk, IfErr, IfSome, MatchResult};
 ghost use Rattle.facet_format.specs.Event.{ContainerKind as SpecContainer, takes_memory};
 ghost use Rattle.facet_format.specs.Span.{stop, span_at};
 ghost use Rattle.facet_format.specs.Views.{span_of, event_of, event_kind_of};
@@ -8,10 +8,10 @@ ghost use Rattle.facet_json_token.specs.Gap.{Mode as SpecMode};
 ghost use Rattle.facet_json_token.specs.Token.{Kind};
 ghost use Rattle.facet_json_token.specs.Tokens.{Tokens, ended, next};
 ghost use Rattle.facet_json_token.specs.Views.{kind_of, mode_of};
-ghost use Rattle.facet_json_document.specs.Future.{after_value, around, within};
+ghost use Rattle.facet_json_document.specs.Future.{after_value, around, stage_after, within};
 ghost use Rattle.facet_json_document.specs.Place.{Place as SpecPlace, expected_at, goes_on};
 ghost use Rattle.facet_json_document.specs.InputPlace.{first_standing, past};
-ghost use Rattle.facet_json_place.specs.Views.{place_of, expected_text, refused_of, opening, closing, opened, is_text};
+ghost use Rattle.facet_json_place.specs.Views.{place_of, expected_text, refused_of, opening, closing, is_text};
 ghost use Rattle.facet_json_reader.specs.TokenViews.{CanBeRead, IsMeaningless};
 ghost use Rattle.facet_json_reader.specs.Views.{stage_of, passed_of, standing_of, with_opened, comes_at, StopsAt, IsNamed, IsTurn, IsValueOf, IsNameOf, IsColonAt, Answers, IsUpcoming};
 
@@ -36,7 +36,7 @@ pub enum Stage {
 impl Stage {
     /// After the bracket that opens a container.
     fn inside(kind: ContainerKind) -> Stage
-        ensures { stage_of result ≡ opened kind }
+        ensures { stage_of result ≡ stage_after (opening kind) [] }
     {
         match kind {
             ContainerKind::Object => Stage::Within(Place::BeforeKey),
@@ -225,7 +225,7 @@ fn scalar<'de>(
 ) -> Result<Held<'de>, Refused>
     requires { CanBeRead input.now token.now.span token.now.token }
     ensures { (mode : SpecMode) (stack : List SpecContainer) (place : SpecPlace) (position : ℕ)
-        → IsTurn input.now mode stack place position token.now Turn.Scalar
+        → IsTurn input.now mode place position token.now Turn.Scalar
         → Answers input.now (span_of last) (comes_at input.now mode stack (within place) position) result }
 {
     let value = scalar_value(alloc, input, token, last)?;
@@ -244,7 +244,7 @@ fn key<'de>(
     requires string { is_text token.now.token ≡ true }
     requires within { stop (span_of token.now.span) ≤ length input.now }
     ensures { (stack : List SpecContainer) (place : SpecPlace) (position : ℕ)
-        → IsTurn input.now (mode_of mode) stack place position token.now Turn.Names
+        → IsTurn input.now (mode_of mode) place position token.now Turn.Names
         → Answers input.now (span_of last) (comes_at input.now (mode_of mode) stack (within place) position) result }
 {
     let name = name_of_key(alloc, input, token)?;

@@ -6,7 +6,7 @@ use facet_json::JsonSerializeError;
 use facet_json::scanner::{
     DecodeError, Mode, ParsedNumber, ScanError, ScanErrorKind, SpannedToken, Token,
 };
-use facet_json_core::{Answer, Call, JsonParser, MaterializedToken, TokenKind};
+use facet_json_core::{Answer, Call, JsonParser, MaterializedToken, RawJson, TokenKind};
 use std::alloc::{AllocError, Global};
 use std::fmt::Debug;
 use std::io;
@@ -110,6 +110,7 @@ pub fn answer_derived<W: Write>(alloc: Global, words: &str, writer: &mut W) -> i
         "answer" => writeln!(writer, "{:?}", Answer::Restored),
         "kinds of refusals" => write_kinds(writer),
         "refused writing" => write_refused_writing(alloc, writer),
+        "raw text" => write_raw(alloc, writer),
         _ => writeln!(writer, "NO TYPES"),
     }
 }
@@ -199,4 +200,29 @@ fn write_refused_writing<W: Write>(alloc: Global, writer: &mut W) -> io::Result<
 
 fn write_coded<W: Write>(code: u8, shown: &str, writer: &mut W) -> io::Result<()> {
     writeln!(writer, "{code} {shown}")
+}
+
+/// Writes a raw text that is in memory of its own.
+fn write_raw<W: Write>(alloc: Global, writer: &mut W) -> io::Result<()> {
+    match RawJson::new("[1, 2]").into_owned(alloc) {
+        Ok(owned) => write_raw_again(alloc, owned, writer),
+        Err(_) => writeln!(writer, "OUT OF MEMORY"),
+    }
+}
+
+/// Writes a raw text that is asked once more to be in memory of its own.
+fn write_raw_again<W: Write>(alloc: Global, owned: RawJson<'_>, writer: &mut W) -> io::Result<()> {
+    match owned.into_owned(alloc) {
+        Ok(again) => write_raw_equal(&again, writer),
+        Err(_) => writeln!(writer, "OUT OF MEMORY"),
+    }
+}
+
+/// Writes the raw text, and whether it is unlike the same text or like another.
+fn write_raw_equal<W: Write>(raw: &RawJson<'_>, writer: &mut W) -> io::Result<()> {
+    if *raw == RawJson::new("[1, 2]") && *raw != RawJson::new("[1,2]") {
+        writeln!(writer, "{raw}")
+    } else {
+        writeln!(writer, "DIFFERS: {raw}")
+    }
 }

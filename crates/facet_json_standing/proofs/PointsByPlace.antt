@@ -9,7 +9,7 @@ use Rattle.facet_format.specs.Complaint.{Refusal}
 use Rattle.facet_format.specs.Cursor.{greatest}
 use Rattle.facet_format.specs.Kept.{found, without, with_point}
 use Rattle.facet_format.proofs.KeptLaws.{found-other, found-lost}
-use Rattle.facet_json_token.specs.Gap.{Mode}
+use Rattle.facet_json_document.specs.Language.{Language}
 use Rattle.facet_json_standing.specs.Fill.{Filling}
 use Rattle.facet_json_standing.specs.Ready.{IsSound, ArePoints, IsReady}
 use Rattle.facet_json_standing.specs.Views.{filling_of, point_of}
@@ -29,11 +29,11 @@ below-greatest counter h = omega (arith, h)
 pub next-number : (counter n : ℕ) → n ≡ counter + 1 → n ≡ suc counter
 next-number counter n e = omega (arith, e)
 
-module _ (buffer : List ℕ) (mode : Mode) where
+module _ (buffer : List ℕ) (language : Language) where
   -- ---- one more
 
-  up_to-new : (counter : ℕ) (f : Filling) (points : List (ℕ × Filling)) → IsSound buffer mode f →
-      ArePoints buffer mode counter points → ArePoints buffer mode (suc counter) (with_point (suc counter) f points)
+  up_to-new : (counter : ℕ) (f : Filling) (points : List (ℕ × Filling)) → IsSound buffer language f →
+      ArePoints buffer language counter points → ArePoints buffer language (suc counter) (with_point (suc counter) f points)
   up_to-new counter f [] s a = (s, omega arith, refl, tt)
   up_to-new counter f (point ∷ points) s a =
       let less : point.0 ≤ counter = a.1 in
@@ -42,8 +42,8 @@ module _ (buffer : List ℕ) (mode : Mode) where
 
   -- A parser that keeps where it stands under the next number is ready.
   pub new-ready : (f : Filling) (refusal : Option Refusal) (points kept : List (ℕ × Filling)) (counter n : ℕ) →
-      IsReady buffer mode f refusal points counter → counter < greatest → n ≡ suc counter → kept ≡ with_point n f points →
-      IsReady buffer mode f refusal kept n
+      IsReady buffer language f refusal points counter → counter < greatest → n ≡ suc counter → kept ≡ with_point n f points →
+      IsReady buffer language f refusal kept n
   new-ready f refusal points kept counter n r less same list =
       rw (list, same) (record {
         stands = r.stands;
@@ -55,7 +55,7 @@ module _ (buffer : List ℕ) (mode : Mode) where
   -- ---- the next number
 
   -- No point has a number above the counter.
-  pub above-missing : (counter number : ℕ) (points : List (ℕ × Filling)) → ArePoints buffer mode counter points → counter < number →
+  pub above-missing : (counter number : ℕ) (points : List (ℕ × Filling)) → ArePoints buffer language counter points → counter < number →
       found number points ≡ None
   above-missing counter number [] a h = refl
   above-missing counter number (point ∷ points) a h =
@@ -66,35 +66,35 @@ module _ (buffer : List ℕ) (mode : Mode) where
   -- ---- one taken out
 
   used_by : (same : Bool) (counter number : ℕ) (point : ℕ × Filling) (points : List (ℕ × Filling)) →
-      ArePoints buffer mode counter (point ∷ points) → ArePoints buffer mode counter (without number points) →
-      ArePoints buffer mode counter (cond same (without number points) (point ∷ without number points))
+      ArePoints buffer language counter (point ∷ points) → ArePoints buffer language counter (without number points) →
+      ArePoints buffer language counter (cond same (without number points) (point ∷ without number points))
   used_by true counter number point points a more = more
   used_by false counter number point points a more = (a.0, a.1, found-lost point.0 number points a.2, more)
 
   -- Without the points of a number the others stay.
-  points-without : (counter number : ℕ) (points : List (ℕ × Filling)) → ArePoints buffer mode counter points →
-      ArePoints buffer mode counter (without number points)
+  points-without : (counter number : ℕ) (points : List (ℕ × Filling)) → ArePoints buffer language counter points →
+      ArePoints buffer language counter (without number points)
   points-without counter number [] a = tt
   points-without counter number (point ∷ points) a =
       used_by (point.0 == number) counter number point points a (points-without counter number points a.3)
 
-  sound_by : (same : Bool) (point : ℕ × Filling) (f : Filling) (o : Option Filling) → IsSound buffer mode point.1 →
-      (o ≡ Some f → IsSound buffer mode f) → cond same (Some point.1) o ≡ Some f → IsSound buffer mode f
+  sound_by : (same : Bool) (point : ℕ × Filling) (f : Filling) (o : Option Filling) → IsSound buffer language point.1 →
+      (o ≡ Some f → IsSound buffer language f) → cond same (Some point.1) o ≡ Some f → IsSound buffer language f
   sound_by true point f o s more e =
-      let same : point.1 ≡ f = cc in subst (IsSound buffer mode) same s
+      let same : point.1 ≡ f = cc in subst (IsSound buffer language) same s
   sound_by false point f o s more e = more e
 
   -- What is kept is sound.
-  found-sound : (counter number : ℕ) (f : Filling) (points : List (ℕ × Filling)) → ArePoints buffer mode counter points →
-      found number points ≡ Some f → IsSound buffer mode f
+  found-sound : (counter number : ℕ) (f : Filling) (points : List (ℕ × Filling)) → ArePoints buffer language counter points →
+      found number points ≡ Some f → IsSound buffer language f
   found-sound counter number f [] a e = cc
   found-sound counter number f (point ∷ points) a e =
       sound_by (point.0 == number) point f (found number points) a.0 (found-sound counter number f points a.3) e
 
   -- A parser that is back at a kept point is ready.
   pub old-ready : (f : Filling) (refusal : Option Refusal) (points kept : List (ℕ × Filling)) (counter number : ℕ) (g : Filling) →
-      IsReady buffer mode f refusal points counter → found number points ≡ Some g → kept ≡ without number points →
-      IsReady buffer mode g None kept counter
+      IsReady buffer language f refusal points counter → found number points ≡ Some g → kept ≡ without number points →
+      IsReady buffer language g None kept counter
   old-ready f refusal points kept counter number g r here list =
       rw list (record {
         stands = found-sound counter number g points r.keeps here;
@@ -130,19 +130,19 @@ pub record IsTakenOut (number : ℕ) (points : List Point) (i : ℕ) (p : Point)
   pub here : found number (map point_of points) ≡ Some (filling_of p.standing)
   pub others : map point_of (remove points i) ≡ without number (map point_of points)
 
-pub point-taken : (buffer : List ℕ) (mode : Mode) (counter number : ℕ) (points : List Point) (i : ℕ) (d : Point) →
-    i < length points → (slice_index_or points i d).number ≡ number → ArePoints buffer mode counter (map point_of points) →
+pub point-taken : (buffer : List ℕ) (language : Language) (counter number : ℕ) (points : List Point) (i : ℕ) (d : Point) →
+    i < length points → (slice_index_or points i d).number ≡ number → ArePoints buffer language counter (map point_of points) →
     IsTakenOut number points i (slice_index_or points i d)
-point-taken buffer mode counter number [] i d h same a = absurd (omega (arith, h))
-point-taken buffer mode counter number (p ∷ points) zero d h same a =
+point-taken buffer language counter number [] i d h same a = absurd (omega (arith, h))
+point-taken buffer language counter number (p ∷ points) zero d h same a =
     let e : p.number ≡ number = same in
     let none : found number (map point_of points) ≡ None = subst (λ x. found x (map point_of points) ≡ None) e a.2 in
     record {
       here = rw (eq-eqb p.number number e) refl;
       others = rw (eq-eqb p.number number e) (sym (without-missing number (map point_of points) none));
     }
-point-taken buffer mode counter number (p ∷ points) (suc i) d h same a =
-    let more = point-taken buffer mode counter number points i d (omega (arith, h)) same a.3 in
+point-taken buffer language counter number (p ∷ points) (suc i) d h same a =
+    let more = point-taken buffer language counter number points i d (omega (arith, h)) same a.3 in
     let other : p.number ≢ number = λ e. absent (found number (map point_of points)) _
     (subst (λ x. found x (map point_of points) ≡ None) e a.2) more.here in
     record {

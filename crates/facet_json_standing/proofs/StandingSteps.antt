@@ -8,7 +8,7 @@ use Rattle.facet_format.specs.Complaint.{Refusal}
 use Rattle.facet_format.specs.Cursor.{World, an_event, Spot, unpeeked, peeked_at, current_span, no_memory_at}
 use Rattle.facet_format.specs.Event.{EventKind, field_key, scalar, Event, Passed, holds_made, peek_takes_memory}
 use Rattle.facet_format.specs.Views.{event_of}
-use Rattle.facet_json_token.specs.Gap.{Mode}
+use Rattle.facet_json_document.specs.Language.{Language}
 use Rattle.facet_json_document.specs.Future.{Future, gives, finished}
 use Rattle.facet_json_document.specs.InputPlace.{Standing, past, future_at}
 use Rattle.facet_json_document.proofs.PastEvents.{comes-within}
@@ -32,43 +32,43 @@ if-some : {A : Type 0} (F : A → Type 0) (o : Option A) (a : A) → IfSome o F 
 if-some F None a h e = cc
 if-some F (Some b) a h e = subst F (same_Some b a e) h
 
-module _ (buffer : List ℕ) (mode : Mode) where
+module _ (buffer : List ℕ) (language : Language) where
   abbrev w : World Standing
-  w = on_input buffer mode
+  w = on_input buffer language
 
   -- An event that is held comes.
-  holds-next : (f : Filling) (p : Passed) → IsFilled buffer mode f → f.held ≡ Some p → HoldsNext buffer mode f p
-  holds-next f p filled e = if-some (HoldsNext buffer mode f) f.held p filled e
+  holds-next : (f : Filling) (p : Passed) → IsFilled buffer language f → f.held ≡ Some p → HoldsNext buffer language f p
+  holds-next f p filled e = if-some (HoldsNext buffer language f) f.held p filled e
 
-  comes-first : (s : Standing) (p : Passed) (rest : Future) → future_at buffer mode s ≡ gives p rest → w.comes s ≡ an_event p
+  comes-first : (s : Standing) (p : Passed) (rest : Future) → future_at buffer language s ≡ gives p rest → w.comes s ≡ an_event p
   comes-first s p rest e = ap first_of e
 
-  held-first : (f : Filling) (p : Passed) → IsFilled buffer mode f → f.held ≡ Some p → w.comes (place_of f) ≡ an_event p
+  held-first : (f : Filling) (p : Passed) → IsFilled buffer language f → f.held ≡ Some p → w.comes (place_of f) ≡ an_event p
   held-first f p filled e =
       let next = holds-next f p filled e in comes-first (place_of f) p next.rest next.comes
 
   -- ---- the event that is held
 
   -- It is taken: after it the standing is past it.
-  taken-filling : (f g : Filling) (e : Event) (filled : IsFilled buffer mode f) (t : Takes f e g) → g ≡ filling_past t.p (place_of f).stack f
+  taken-filling : (f g : Filling) (e : Event) (filled : IsFilled buffer language f) (t : Takes f e g) → g ≡ filling_past t.p (place_of f).stack f
   taken-filling f g e filled t = t.new (place_of f).stack (holds-next f t.p filled t.held).opened
 
-  taken-spot : (f g : Filling) (e : Event) (filled : IsFilled buffer mode f) (t : Takes f e g) →
+  taken-spot : (f g : Filling) (e : Event) (filled : IsFilled buffer language f) (t : Takes f e g) →
       spot_of g ≡ unpeeked (past t.p (place_of f))
   taken-spot f g e filled t = rw (taken-filling f g e filled t) refl
 
-  pub taken-sound : (f g : Filling) (e : Event) → IsSound buffer mode f → Takes f e g → IsSound buffer mode g
+  pub taken-sound : (f g : Filling) (e : Event) → IsSound buffer language f → Takes f e g → IsSound buffer language g
   taken-sound f g e good t =
       let next = holds-next f t.p good.filled t.held in
-      let within = comes-within buffer mode (place_of f) t.p next.rest good.within next.comes in
+      let within = comes-within buffer language (place_of f) t.p next.rest good.within next.comes in
       rw (taken-filling f g e good.filled t) (record { within = within.2; filled = tt })
 
-  pub taken-passes : (f g : Filling) (e : Event) → IsFilled buffer mode f → Takes f e g →
+  pub taken-passes : (f g : Filling) (e : Event) → IsFilled buffer language f → Takes f e g →
       PassesOne w (spot_of f) (Ok (Some e)) (spot_of g)
   taken-passes f g e filled t =
       rw (taken-spot f g e filled t, t.event) (passes t.p (held-first f t.p filled t.held))
 
-  pub taken-queues : (f g : Filling) (e : Event) → IsFilled buffer mode f → Takes f e g →
+  pub taken-queues : (f g : Filling) (e : Event) → IsFilled buffer language f → Takes f e g →
       QueuesOne w (spot_of f) (Ok (Some e)) (spot_of g)
   taken-queues f g e filled t =
       rw (taken-spot f g e filled t, t.event) (queues t.p (held-first f t.p filled t.held))
@@ -78,32 +78,32 @@ module _ (buffer : List ℕ) (mode : Mode) where
 
   -- The event is held, shown or not.
   shown-filled : (reader : Standing) (held : Option Passed) (was is : Bool) →
-      IsFilled buffer mode (record { reader = reader; held = held; shown = was }) →
-      IsFilled buffer mode (record { reader = reader; held = held; shown = is })
+      IsFilled buffer language (record { reader = reader; held = held; shown = was }) →
+      IsFilled buffer language (record { reader = reader; held = held; shown = is })
   shown-filled reader None was is filled = tt
   shown-filled reader (Some p) was is filled = record { rest = filled.rest; comes = filled.comes; opened = filled.opened }
 
-  pub lent-sound : (f g : Filling) (e : Event) → IsSound buffer mode f → Lends f e g → IsSound buffer mode g
+  pub lent-sound : (f g : Filling) (e : Event) → IsSound buffer language f → Lends f e g → IsSound buffer language g
   lent-sound f g e good l = rw l.new (record { within = good.within; filled = shown-filled f.reader f.held f.shown true good.filled })
 
-  pub lent-shows : (f g : Filling) (e : Event) → IsFilled buffer mode f → Lends f e g →
+  pub lent-shows : (f g : Filling) (e : Event) → IsFilled buffer language f → Lends f e g →
       ShowsOne w (spot_of f) (Ok (Some e)) (spot_of g)
   lent-shows f g e filled l =
       rw (lent-spot f g e l, l.event) (shows l.p (held-first f l.p filled l.held))
 
-  pub withheld-shows : (f g : Filling) (r : Refusal) → IsFilled buffer mode f → Withholds f g →
-      (IsFilled buffer mode g → r ≡ no_memory_at (current_span w (spot_of g))) → ShowsOne w (spot_of f) (Err r) (spot_of g)
+  pub withheld-shows : (f g : Filling) (r : Refusal) → IsFilled buffer language f → Withholds f g →
+      (IsFilled buffer language g → r ≡ no_memory_at (current_span w (spot_of g))) → ShowsOne w (spot_of f) (Err r) (spot_of g)
   withheld-shows f g r filled x is =
       let same : r ≡ no_memory_at (current_span w (spot_of f)) = (rw x.new at is) filled in
       rw (x.new, same) (shows_without_memory x.p (held-first f x.p filled x.held) (copy-takes (spot_of f).peeked x.p.event.kind x.made))
 
   -- Where nothing is held, the end is there.
-  pub over-queues : (f : Filling) (held : Option Held) → is_some held ≡ false → (f.held ≡ None → future_at buffer mode (place_of f) ≡ finished) →
+  pub over-queues : (f : Filling) (held : Option Held) → is_some held ≡ false → (f.held ≡ None → future_at buffer language (place_of f) ≡ finished) →
       f.held ≡ option_map passed_of held → QueuesOne w (spot_of f) (Ok None) (spot_of f)
   over-queues f None e over is = queues_the_end (ap first_of (over is))
   over-queues f (Some h) e over is = cc
 
-  pub held-lacks_room : (f : Filling) (held : Option Held) (r : Refusal) → is_some held ≡ true → IsFilled buffer mode f →
+  pub held-lacks_room : (f : Filling) (held : Option Held) (r : Refusal) → is_some held ≡ true → IsFilled buffer language f →
       r ≡ no_memory_at (current_span w (spot_of f)) → f.held ≡ option_map passed_of held → QueuesOne w (spot_of f) (Err r) (spot_of f)
   held-lacks_room f None r e filled same is = cc
   held-lacks_room f (Some h) r e filled same is = rw same (queues_without_memory (passed_of h) (held-first f (passed_of h) filled is))
@@ -111,14 +111,14 @@ module _ (buffer : List ℕ) (mode : Mode) where
   -- ---- a refusal, where nothing is held
 
   -- What is refused so before this future, at a spot where no event was peeked at.
-  refused-passes_by : (s : Spot Standing) (future : Future) (r : Refusal) → future_at buffer mode s.place ≡ future → s.peeked ≡ false →
+  refused-passes_by : (s : Spot Standing) (future : Future) (r : Refusal) → future_at buffer language s.place ≡ future → s.peeked ≡ false →
       IsRefusedBefore buffer s.place.last future r → PassesOne w s (Err r) s
   refused-passes_by s _ _ e off (without_memory p rest takes) =
       let here : current_span w s ≡ s.place.last = rw off refl in
       subst (λ x. PassesOne w s (Err (no_memory_at x)) s) here (passes_without_memory p (ap first_of e) takes off)
   refused-passes_by s _ r e off (at_a_stop place rest _ so) = passes_nothing r (ap first_of e) (rw e so)
 
-  refused-shows_by : (s : Spot Standing) (future : Future) (r : Refusal) → future_at buffer mode s.place ≡ future → s.peeked ≡ false →
+  refused-shows_by : (s : Spot Standing) (future : Future) (r : Refusal) → future_at buffer language s.place ≡ future → s.peeked ≡ false →
       IsRefusedBefore buffer s.place.last future r → ShowsOne w s (Err r) s
   refused-shows_by s _ _ e off (without_memory p rest takes) =
       let here : current_span w s ≡ s.place.last = rw off refl in
@@ -126,7 +126,7 @@ module _ (buffer : List ℕ) (mode : Mode) where
       subst (λ x. ShowsOne w s (Err (no_memory_at x)) s) here (shows_without_memory p (ap first_of e) needs)
   refused-shows_by s _ r e off (at_a_stop place rest _ so) = shows_nothing r (ap first_of e) (rw e so)
 
-  refused-queues_by : (s : Spot Standing) (future : Future) (r : Refusal) → future_at buffer mode s.place ≡ future → s.peeked ≡ false →
+  refused-queues_by : (s : Spot Standing) (future : Future) (r : Refusal) → future_at buffer language s.place ≡ future → s.peeked ≡ false →
       IsRefusedBefore buffer s.place.last future r → QueuesOne w s (Err r) s
   refused-queues_by s _ _ e off (without_memory p rest takes) =
       let here : current_span w s ≡ s.place.last = rw off refl in
@@ -137,54 +137,54 @@ module _ (buffer : List ℕ) (mode : Mode) where
   unpeeked-where-none f e = rw e refl
 
   pub refused-passes : (f : Filling) (r : Refusal) → f.held ≡ None →
-      IsRefusedBefore buffer (place_of f).last (future_at buffer mode (place_of f)) r → PassesOne w (spot_of f) (Err r) (spot_of f)
+      IsRefusedBefore buffer (place_of f).last (future_at buffer language (place_of f)) r → PassesOne w (spot_of f) (Err r) (spot_of f)
   refused-passes f r e refused = refused-passes_by (spot_of f) _ r refl (unpeeked-where-none f e) refused
 
   pub refused-shows : (f : Filling) (r : Refusal) → f.held ≡ None →
-      IsRefusedBefore buffer (place_of f).last (future_at buffer mode (place_of f)) r → ShowsOne w (spot_of f) (Err r) (spot_of f)
+      IsRefusedBefore buffer (place_of f).last (future_at buffer language (place_of f)) r → ShowsOne w (spot_of f) (Err r) (spot_of f)
   refused-shows f r e refused = refused-shows_by (spot_of f) _ r refl (unpeeked-where-none f e) refused
 
   pub refused-queues : (f : Filling) (r : Refusal) → f.held ≡ None →
-      IsRefusedBefore buffer (place_of f).last (future_at buffer mode (place_of f)) r → QueuesOne w (spot_of f) (Err r) (spot_of f)
+      IsRefusedBefore buffer (place_of f).last (future_at buffer language (place_of f)) r → QueuesOne w (spot_of f) (Err r) (spot_of f)
   refused-queues f r e refused = refused-queues_by (spot_of f) _ r refl (unpeeked-where-none f e) refused
 
   -- ---- the code's answers
 
   -- The reading of the next event leaves it sound.
-  pub fills-sound : (f g : Filling) → IsSound buffer mode f → IsFilled buffer mode g → spot_of g ≡ spot_of f → IsSound buffer mode g
+  pub fills-sound : (f g : Filling) → IsSound buffer language f → IsFilled buffer language g → spot_of g ≡ spot_of f → IsSound buffer language g
   fills-sound f g good filled same = record {
     within = subst (λ (s : Spot Standing). StandsWithin buffer s.place) (sym same) good.within;
     filled = filled;
   }
 
   -- An event is taken, or none at the end.
-  pub take-sound : (f g : Filling) (o : Option ParseEvent) → IsSound buffer mode f →
-      MatchOption o ((g ≡ f) × (f.held ≡ None)) (λ e. Takes f (event_of e) g) → IsSound buffer mode g
+  pub take-sound : (f g : Filling) (o : Option ParseEvent) → IsSound buffer language f →
+      MatchOption o ((g ≡ f) × (f.held ≡ None)) (λ e. Takes f (event_of e) g) → IsSound buffer language g
   take-sound f g None good taken = rw taken.0 good
   take-sound f g (Some e) good taken = taken-sound f g (event_of e) good taken
 
-  pub take-passes : (f g : Filling) (o : Option ParseEvent) → IsFilled buffer mode f →
-      (f.held ≡ None → future_at buffer mode (place_of f) ≡ finished) →
+  pub take-passes : (f g : Filling) (o : Option ParseEvent) → IsFilled buffer language f →
+      (f.held ≡ None → future_at buffer language (place_of f) ≡ finished) →
       MatchOption o ((g ≡ f) × (f.held ≡ None)) (λ e. Takes f (event_of e) g) →
       PassesOne w (spot_of f) (Ok (option_map event_of o)) (spot_of g)
   take-passes f g None filled over taken = rw taken.0 (passes_the_end (ap first_of (over taken.1)))
   take-passes f g (Some e) filled over taken = taken-passes f g (event_of e) filled taken
 
-  pub take-queues : (f g : Filling) (o : Option ParseEvent) → IsFilled buffer mode f →
-      (f.held ≡ None → future_at buffer mode (place_of f) ≡ finished) →
+  pub take-queues : (f g : Filling) (o : Option ParseEvent) → IsFilled buffer language f →
+      (f.held ≡ None → future_at buffer language (place_of f) ≡ finished) →
       MatchOption o ((g ≡ f) × (f.held ≡ None)) (λ e. Takes f (event_of e) g) →
       QueuesOne w (spot_of f) (Ok (option_map event_of o)) (spot_of g)
   take-queues f g None filled over taken = rw taken.0 (queues_the_end (ap first_of (over taken.1)))
   take-queues f g (Some e) filled over taken = taken-queues f g (event_of e) filled taken
 
   -- An event is shown, or none at the end.
-  pub lend-sound : (f g : Filling) (o : Option ParseEvent) → IsSound buffer mode f →
-      MatchOption o ((g ≡ f) × (f.held ≡ None)) (λ e. Lends f (event_of e) g) → IsSound buffer mode g
+  pub lend-sound : (f g : Filling) (o : Option ParseEvent) → IsSound buffer language f →
+      MatchOption o ((g ≡ f) × (f.held ≡ None)) (λ e. Lends f (event_of e) g) → IsSound buffer language g
   lend-sound f g None good lent = rw lent.0 good
   lend-sound f g (Some e) good lent = lent-sound f g (event_of e) good lent
 
-  pub lend-shows : (f g : Filling) (o : Option ParseEvent) → IsFilled buffer mode f →
-      (f.held ≡ None → future_at buffer mode (place_of f) ≡ finished) →
+  pub lend-shows : (f g : Filling) (o : Option ParseEvent) → IsFilled buffer language f →
+      (f.held ≡ None → future_at buffer language (place_of f) ≡ finished) →
       MatchOption o ((g ≡ f) × (f.held ≡ None)) (λ e. Lends f (event_of e) g) →
       ShowsOne w (spot_of f) (Ok (option_map event_of o)) (spot_of g)
   lend-shows f g None filled over lent = rw lent.0 (shows_the_end (ap first_of (over lent.1)))

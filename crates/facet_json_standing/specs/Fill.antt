@@ -3,7 +3,7 @@
 use Rattle.std.specs.Prelude.{◌≡◌, ℕ, Bool, true, false, List, Option, Some, None, IfSome}
 use Rattle.facet_format.specs.Cursor.{Spot}
 use Rattle.facet_format.specs.Event.{ContainerKind, EventKind, struct_start, sequence_start, Event, Passed, holds_made}
-use Rattle.facet_json_token.specs.Gap.{Mode}
+use Rattle.facet_json_document.specs.Language.{Language}
 use Rattle.facet_json_document.specs.Future.{Future, gives, around}
 use Rattle.facet_json_document.specs.InputPlace.{Standing, first_standing, past, future_at}
 use Rattle.facet_json_reader.specs.Views.{with_opened}
@@ -47,14 +47,14 @@ abbrev pub spot_of : Filling → Spot Standing
 spot_of f = record { place = place_of f; peeked = is_shown f.held f.shown }
 
 -- The event comes at the place before it, and its container, if it opens one, is open already.
-pub record HoldsNext (buffer : List ℕ) (mode : Mode) (f : Filling) (p : Passed) : Type 0 where
+pub record HoldsNext (buffer : List ℕ) (language : Language) (f : Filling) (p : Passed) : Type 0 where
   pub rest : Future
-  pub comes : future_at buffer mode (place_of f) ≡ gives p rest
+  pub comes : future_at buffer language (place_of f) ≡ gives p rest
   pub opened : f.reader.stack ≡ with_opened p.event.kind (place_of f).stack
 
 -- An event that is held is the one that comes.
-abbrev pub IsFilled : List ℕ → Mode → Filling → Type 0
-IsFilled buffer mode f = IfSome f.held (HoldsNext buffer mode f)
+abbrev pub IsFilled : List ℕ → Language → Filling → Type 0
+IsFilled buffer language f = IfSome f.held (HoldsNext buffer language f)
 
 -- ---- what is done with the event
 

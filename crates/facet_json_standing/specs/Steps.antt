@@ -37,4 +37,4 @@ pub data QueuesNext {P : Type 0} (w : World P) (c : Cursor P) : Result (Option E
 -- The same of a parser.
 pub record QueuesNow (old : Now) (result : Result (Option Event) Refusal) (new : Now) : Type 0 where
   pub input : SameInput old new
-  pub step : QueuesNext (on_input old.buffer old.mode) old.cursor result new.cursor
+  pub step : QueuesNext (on_input old.buffer old.language) old.cursor result new.cursor

@@ -3,14 +3,13 @@ use Rattle.std.specs.Prelude.{ℕ, List, map, Option}
 use Rattle.std.specs.Option.{option_map}
 use Rattle.facet_json_standing.specs.declared.standing.Standing.{Standing as RustStanding}
 use Rattle.facet_json_standing.specs.declared.points.Point.{Point}
-use Rattle.facet_json_token.specs.declared.mode.Mode.{Mode}
+use Rattle.facet_json_place.specs.declared.language.Language.{Language}
 use Rattle.facet_json_place.specs.declared.refusal.Refused.{Refused}
 use Rattle.facet_format.specs.Complaint.{Refusal}
 use Rattle.facet_format.specs.Cursor.{Spot, Cursor}
-use Rattle.facet_json_token.specs.Views.{mode_of}
 use Rattle.facet_json_document.specs.InputPlace.{Standing}
 use Rattle.facet_json_protocol.specs.Now.{Now}
-use Rattle.facet_json_place.specs.Views.{refused_of}
+use Rattle.facet_json_place.specs.Views.{language_of, refused_of}
 use Rattle.facet_json_reader.specs.Views.{passed_of, standing_of}
 use Rattle.facet_json_standing.specs.Fill.{Filling, spot_of}
 
@@ -33,9 +32,9 @@ cursor_of f refusal points counter = record {
 }
 
 -- what a parser with these fields is
-abbrev pub now_of : List ℕ → Mode → RustStanding → Option Refused → List Point → ℕ → Now
-now_of input mode standing refusal points counter = record {
+abbrev pub now_of : List ℕ → Language → RustStanding → Option Refused → List Point → ℕ → Now
+now_of input language standing refusal points counter = record {
   buffer = input;
-  mode = mode_of mode;
+  language = language_of language;
   cursor = cursor_of (filling_of standing) (option_map refused_of refusal) (map point_of points) counter;
 }

@@ -6,7 +6,7 @@ ghost use Rattle.facet_json_standing.specs.declared.points.Point.{Point as RustP
 ghost use Rattle.facet_format.specs.Kept.{found, without, with_point};
 ghost use Rattle.facet_json_standing.specs.Ready.{ArePoints};
 ghost use Rattle.facet_json_standing.specs.Views.{filling_of, point_of};
-ghost use Rattle.facet_json_token.specs.Gap.{Mode};
+ghost use Rattle.facet_json_document.specs.Language.{Language};
 
 use crate::standing::Standing;
 use std::alloc::{AllocError, Global};
@@ -48,7 +48,7 @@ fn place_of(points: &[Point<'_>], number: u64) -> Option<usize>
 pub fn bring_back<'de>(points: &mut Vec<Point<'de>>, number: u64) -> Option<Standing<'de>>
     ensures { MatchOption result
         ((found number (map point_of points.old.items) ≡ None) × (points.new.items ≡ points.old.items))
-        (λ s. (buffer : List ℕ) (mode : Mode) (counter : ℕ) → ArePoints buffer mode counter (map point_of points.old.items)
+        (λ s. (buffer : List ℕ) (language : Language) (counter : ℕ) → ArePoints buffer language counter (map point_of points.old.items)
         → (found number (map point_of points.old.items) ≡ Some (filling_of s))
         × (map point_of points.new.items ≡ without number (map point_of points.old.items))) }
 {

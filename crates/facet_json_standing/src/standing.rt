@@ -9,20 +9,18 @@ ghost use Rattle.facet_json_standing.specs.Steps.{PassesOne, ShowsOne, QueuesOne
 ghost use Rattle.facet_format.specs.Cursor.{current_span};
 ghost use Rattle.facet_format.specs.Span.{stop};
 ghost use Rattle.facet_format.specs.Views.{event_of, span_of};
-ghost use Rattle.facet_json_token.specs.Gap.{Mode as SpecMode};
-ghost use Rattle.facet_json_token.specs.Views.{mode_of};
 ghost use Rattle.facet_json_document.specs.Future.{finished};
 ghost use Rattle.facet_json_document.specs.InputPlace.{future_at};
+ghost use Rattle.facet_json_document.specs.Language.{Language as SpecLanguage};
 ghost use Rattle.facet_json_protocol.specs.Now.{on_input};
-ghost use Rattle.facet_json_place.specs.Views.{refused_of};
+ghost use Rattle.facet_json_place.specs.Views.{language_of, refused_of};
 ghost use Rattle.facet_json_reader.specs.Views.{IsRefusedBefore};
 ghost use Rattle.facet_json_standing.specs.Fill.{first_filling, place_of, spot_of, IsFilled, Takes, Lends, Withholds};
 ghost use Rattle.facet_json_standing.specs.Views.{filling_of};
 
 use facet_format::{ParseEvent, Span};
-use facet_json_place::Refused;
+use facet_json_place::{Language, Refused};
 use facet_json_reader::{Held, Reader};
-use facet_json_token::Mode;
 use std::alloc::{AllocError, Global};
 use std::collections::VecDeque;
 
@@ -51,8 +49,8 @@ impl<'de> Standing<'de> {
 
     /// The last token that was read: of the event that a peek answered, else of the one that was passed.
     pub fn span(&self) -> Span
-        ensures { (buffer : List ℕ) (mode : SpecMode) → IsFilled buffer mode (filling_of self.now)
-            → span_of result ≡ current_span (on_input buffer mode) (spot_of (filling_of self.now)) }
+        ensures { (buffer : List ℕ) (language : SpecLanguage) → IsFilled buffer language (filling_of self.now)
+            → span_of result ≡ current_span (on_input buffer language) (spot_of (filling_of self.now)) }
     {
         match &self.held {
             Some(held) if self.shown => held.last,
@@ -65,17 +63,17 @@ impl<'de> Standing<'de> {
         &mut self,
         alloc: Global,
         input: &'de [u8],
-        mode: Mode,
+        language: Language,
     ) -> Result<Option<ParseEvent<'de>>, Refused>
-        requires sound { IsSound input.now (mode_of mode) (filling_of self.old) }
-        ensures sound { IsSound input.now (mode_of mode) (filling_of self.new) }
+        requires sound { IsSound input.now (language_of language) (filling_of self.old) }
+        ensures sound { IsSound input.now (language_of language) (filling_of self.new) }
         ensures passed { MatchResult result
-            (λ o. PassesOne (on_input input.now (mode_of mode)) (spot_of (filling_of self.old)) (Ok (option_map event_of o))
+            (λ o. PassesOne (on_input input.now (language_of language)) (spot_of (filling_of self.old)) (Ok (option_map event_of o))
             (spot_of (filling_of self.new)))
-            (λ r. PassesOne (on_input input.now (mode_of mode)) (spot_of (filling_of self.old)) (Err (refused_of r))
+            (λ r. PassesOne (on_input input.now (language_of language)) (spot_of (filling_of self.old)) (Err (refused_of r))
             (spot_of (filling_of self.new))) }
     {
-        self.fill(alloc, input, mode)?;
+        self.fill(alloc, input, language)?;
         Ok(self.take())
     }
 
@@ -84,17 +82,17 @@ impl<'de> Standing<'de> {
         &mut self,
         alloc: Global,
         input: &'de [u8],
-        mode: Mode,
+        language: Language,
     ) -> Result<Option<ParseEvent<'de>>, Refused>
-        requires sound { IsSound input.now (mode_of mode) (filling_of self.old) }
-        ensures sound { IsSound input.now (mode_of mode) (filling_of self.new) }
+        requires sound { IsSound input.now (language_of language) (filling_of self.old) }
+        ensures sound { IsSound input.now (language_of language) (filling_of self.new) }
         ensures shown { MatchResult result
-            (λ o. ShowsOne (on_input input.now (mode_of mode)) (spot_of (filling_of self.old)) (Ok (option_map event_of o))
+            (λ o. ShowsOne (on_input input.now (language_of language)) (spot_of (filling_of self.old)) (Ok (option_map event_of o))
             (spot_of (filling_of self.new)))
-            (λ r. ShowsOne (on_input input.now (mode_of mode)) (spot_of (filling_of self.old)) (Err (refused_of r))
+            (λ r. ShowsOne (on_input input.now (language_of language)) (spot_of (filling_of self.old)) (Err (refused_of r))
             (spot_of (filling_of self.new))) }
     {
-        self.fill(alloc, input, mode)?;
+        self.fill(alloc, input, language)?;
         match self.lend(alloc) {
             Ok(event) => Ok(event),
             Err(_) => Err(Refused::out_of_memory(self.span())),
@@ -106,20 +104,20 @@ impl<'de> Standing<'de> {
         &mut self,
         alloc: Global,
         input: &'de [u8],
-        mode: Mode,
+        language: Language,
         queue: &mut VecDeque<ParseEvent<'de>>,
     ) -> Result<Option<ParseEvent<'de>>, Refused>
-        requires sound { IsSound input.now (mode_of mode) (filling_of self.old) }
-        ensures sound { IsSound input.now (mode_of mode) (filling_of self.new) }
+        requires sound { IsSound input.now (language_of language) (filling_of self.old) }
+        ensures sound { IsSound input.now (language_of language) (filling_of self.new) }
         ensures items { queue.new.items ≡ queue.old.items }
         ensures room { IfOk result (λ o. OnSome o (deque_len queue.new < deque_capacity queue.new)) }
         ensures passed { MatchResult result
-            (λ o. QueuesOne (on_input input.now (mode_of mode)) (spot_of (filling_of self.old)) (Ok (option_map event_of o))
+            (λ o. QueuesOne (on_input input.now (language_of language)) (spot_of (filling_of self.old)) (Ok (option_map event_of o))
             (spot_of (filling_of self.new)))
-            (λ r. QueuesOne (on_input input.now (mode_of mode)) (spot_of (filling_of self.old)) (Err (refused_of r))
+            (λ r. QueuesOne (on_input input.now (language_of language)) (spot_of (filling_of self.old)) (Err (refused_of r))
             (spot_of (filling_of self.new))) }
     {
-        self.fill(alloc, input, mode)?;
+        self.fill(alloc, input, language)?;
         if self.held.is_none() {
             return Ok(None);
         }
@@ -130,22 +128,22 @@ impl<'de> Standing<'de> {
     }
 
     /// Reads the next event, where none is held, and opens its container. Where it is refused, nothing changes.
-    fn fill(&mut self, alloc: Global, input: &'de [u8], mode: Mode) -> Result<(), Refused>
+    fn fill(&mut self, alloc: Global, input: &'de [u8], language: Language) -> Result<(), Refused>
         requires within { stop (span_of self.old.reader.last) ≤ length input.now }
-        requires held { IsFilled input.now (mode_of mode) (filling_of self.old) }
-        ensures held { IsFilled input.now (mode_of mode) (filling_of self.new) }
+        requires held { IsFilled input.now (language_of language) (filling_of self.old) }
+        ensures held { IsFilled input.now (language_of language) (filling_of self.new) }
         ensures spot { spot_of (filling_of self.new) ≡ spot_of (filling_of self.old) }
         ensures filled { MatchResult result
             (λ _. (filling_of self.new).held ≡ None
-            → future_at input.now (mode_of mode) (place_of (filling_of self.new)) ≡ finished)
+            → future_at input.now (language_of language) (place_of (filling_of self.new)) ≡ finished)
             (λ r. ((filling_of self.old).held ≡ None)
             × IsRefusedBefore input.now (place_of (filling_of self.old)).last
-            (future_at input.now (mode_of mode) (place_of (filling_of self.old))) (refused_of r)) }
+            (future_at input.now (language_of language) (place_of (filling_of self.old))) (refused_of r)) }
     {
         if self.held.is_some() {
             return Ok(());
         }
-        let Some(held) = self.reader.upcoming(alloc, input, mode)? else {
+        let Some(held) = self.reader.upcoming(alloc, input, language.mode())? else {
             return Ok(());
         };
         match self.reader.open(&held) {

@@ -2,7 +2,7 @@
 use Rattle.std.specs.Prelude.{◌≡◌, ℕ, zero, suc, true, false, cond, ◌==◌, ◌&&◌, List, [], ◌∷◌, ◌++◌, length, Option, Some, None}
 use Rattle.facet_format.specs.Bytes.{is_space, slash, star, line_feed}
 
--- the language that is read: RFC 8259 with the lenient readings of docs/LANGUAGE.md, without comments or with them
+-- what may stand between tokens: white space alone, or comments too
 pub data Mode : Type 0 where
   plain : Mode
   jsonc : Mode

@@ -1,12 +1,12 @@
 -- Laws of gaps, tokens and growing buffers. Each is the contract of a function of the module `laws` of `facet_json_scan`.
-use Rattle.std.specs.Prelude.{ℕ, ◌≡◌, ◌≢◌, ◌≤◌, ◌↔◌, true, List, ◌++◌, length, take, drop}
+use Rattle.std.specs.Prelude.{ℕ, ◌≡◌, ◌≢◌, ◌≤◌, ◌↔◌, List, ◌++◌, length, take, drop}
 use Rattle.facet_json_token.specs.Gap.{Mode, Input, IsGap, gap_len}
 use Rattle.facet_format.specs.Span.{Span}
 use Rattle.facet_json_token.specs.Token.{Kind, FaultKind}
 use Rattle.facet_json_token.specs.Cut.{IsShape, nothing_left, fault, token_at, cut_here, past_gap, cut}
 use Rattle.facet_json_token.specs.Faults.{IsFault}
 use Rattle.facet_json_token.specs.Tokens.{Tokens, AreCuts, tokens_from}
-use Rattle.facet_json_token.specs.Open.{IsOpen, is_open}
+use Rattle.facet_json_token.specs.Open.{IsOpen}
 
 -- The gap at the start is a gap, and no longer prefix of the bytes is one.
 abbrev pub GapIsLongest : Type 0
@@ -47,7 +47,3 @@ TokensAreCuts = (buffer : List ℕ) (mode : Mode) (position : ℕ) (these : Toke
 abbrev pub CutStays : Type 0
 CutStays = (buffer more : List ℕ) (position : ℕ) (mode : Mode) → position ≤ length buffer → (IsOpen buffer position mode → ⊥) → cut buffer position mode ≢ nothing_left →
     cut (buffer ++ more) position mode ≡ cut buffer position mode
-
--- A buffer is tested to be open at a position exactly where it is.
-abbrev pub OpenIsTested : Type 0
-OpenIsTested = (buffer : List ℕ) (position : ℕ) (mode : Mode) → (is_open buffer position mode ≡ true) ↔ IsOpen buffer position mode

@@ -1,6 +1,7 @@
 pub mod Cut
 pub mod Faults
 pub mod Gap
+pub mod Inner
 pub mod Laws
 pub mod Open
 pub mod Token

@@ -7,7 +7,8 @@ ghost use Rattle.facet_format.specs.Bytes.{backslash, lower_u};
 ghost use Rattle.facet_format.specs.Complaint.{invalid_utf8, refusal_at};
 ghost use Rattle.facet_format.specs.Span.{span_at};
 ghost use Rattle.facet_json_decode.specs.Decode.{piece_at, short_of, short_escape as short_escape_of, code_unit as code_unit_of, is_high_surrogate as is_high_surrogate_of, is_low_surrogate as is_low_surrogate_of, low_at};
-ghost use Rattle.facet_json_decode.specs.Fault.{fault_at, fault_of, fault_refusal, pair_fault, no_character, not_digits};
+ghost use Rattle.facet_json_decode.specs.Fault.{fault_at, fault_refusal, no_character, not_digits};
+ghost use Rattle.facet_json_decode.specs.Inner.FirstFault.{fault_of, pair_fault};
 ghost use Rattle.facet_json_token.specs.Views.{scan_refusal};
 
 use facet_format::Span;

@@ -1,12 +1,12 @@
 -- Tokens spell one value at most.
+use Rattle.std.specs.Prelude.{ℕ, List}
 use Rattle.std.proofs.Common.{◌≡◌, true, false, refl, sym, ap}
 use Rattle.facet_json_token.specs.Token.{Kind, Token, object_start, array_start, array_end}
 use Rattle.facet_json_token.specs.Tokens.{Tokens, next}
 use Rattle.facet_json_document.specs.Node.{Node, Nodes, Members, is_scalar, Spells, one_token, brackets, braces, SpellsItems, closed, item_and_comma, last_item, SpellsMembers, ended_members, member_and_comma, last_member}
 use Rattle.facet_json_document.specs.Tree.{Tree}
-use Rattle.facet_json_document.specs.Meaning.{Meaning}
 use Rattle.facet_json_document.specs.Document.{Reads}
-use Rattle.facet_json_document.specs.Place.{begins_value}
+use Rattle.facet_json_document.specs.Place.{after_colon, goes_on}
 use Rattle.facet_json_document.specs.Laws.{OneSpelling, OneDocument}
 
 -- a token that begins a value, before others
@@ -14,10 +14,10 @@ pub record Starts (ts : Tokens) : Type 0 where
   pub first : Token
   pub others : Tokens
   pub here : ts ≡ next first others
-  pub begins : begins_value first.kind ≡ true
+  pub begins : goes_on after_colon first.kind ≡ true
 
 -- A scalar is a value.
-scalar_begins : (kind : Kind) → is_scalar kind ≡ true → begins_value kind ≡ true
+scalar_begins : (kind : Kind) → is_scalar kind ≡ true → goes_on after_colon kind ≡ true
 scalar_begins object_start e = refl
 scalar_begins array_start e = refl
 scalar_begins _ e = e
@@ -26,13 +26,13 @@ scalar_begins _ e = e
 pub Spells-starts : {ts r : Tokens} {a : Node} → Spells ts a r → Starts ts
 Spells-starts (one_token t rest e) = record { first = t; others = rest; here = refl; begins = scalar_begins t.kind e }
 Spells-starts (brackets first last inner rest nodes e h) =
-    record { first = first; others = inner; here = refl; begins = ap begins_value e }
+    record { first = first; others = inner; here = refl; begins = ap (goes_on after_colon) e }
 Spells-starts (braces first last inner rest ms e h) =
-    record { first = first; others = inner; here = refl; begins = ap begins_value e }
+    record { first = first; others = inner; here = refl; begins = ap (goes_on after_colon) e }
 
 -- No token that begins a value is one of another kind.
 not_first : {ts : Tokens} → Starts ts → (t : Token) (rest : Tokens) (kind : Kind) → t.kind ≡ kind →
-    begins_value kind ≡ false → ts ≡ next t rest → ⊥
+    goes_on after_colon kind ≡ false → ts ≡ next t rest → ⊥
 not_first s t rest kind e other same = let here = s.here in let begins = s.begins in cc
 
 mutual
@@ -112,9 +112,9 @@ pub one_spelling : OneSpelling
 one_spelling ts r s a b p q = node_once p q refl
 
 -- Tokens are read as one tree at most.
-one_reading : (m : Meaning) (ts r s : Tokens) (a b : Node) (v w : Tree) → Reads m ts a v r → Reads m ts b w s →
+one_reading : (buffer : List ℕ) (ts r s : Tokens) (a b : Node) (v w : Tree) → Reads buffer ts a v r → Reads buffer ts b w s →
     (a ≡ b) × (v ≡ w)
-one_reading m ts r s a b v w p q =
+one_reading buffer ts r s a b v w p q =
     let nodes = (one_spelling ts r s a b p.spells q.spells).0 in
     let first = p.has_tree in
     let second = q.has_tree in

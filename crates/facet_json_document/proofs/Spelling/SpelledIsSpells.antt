@@ -1,6 +1,6 @@
 -- The value that is computed from tokens is the one that they spell, and so is an input's document.
 use Rattle.std.proofs.Common.{◌≡◌, ◌↔◌, List, ℕ, zero, suc, ◌+◌, ◌≤◌, true, Option, Some, None, refl, sym, ap, ◌∙◌, subst, arith}
-use Rattle.std.specs.Prelude.{⊤}
+use Rattle.std.specs.Prelude.{ℕ, List, ⊤}
 use Rattle.std.specs.Option.{option_map, option_and_then}
 use Rattle.facet_json_token.specs.Gap.{Mode, plain}
 use Rattle.facet_json_token.specs.Token.{Kind, Token}
@@ -8,9 +8,9 @@ use Rattle.facet_json_token.specs.Token as token
 use Rattle.facet_json_token.specs.Tokens.{Tokens, ended, refused, next, tokens}
 use Rattle.facet_json_document.specs.Node.{Node, scalar, array, object, Nodes, item, Members, member, is_scalar, is_string, Spells, one_token, brackets, braces, SpellsItems, closed, item_and_comma, last_item, SpellsMembers, ended_members, member_and_comma, last_member}
 use Rattle.facet_json_document.specs.Tree.{Tree}
-use Rattle.facet_json_document.specs.Meaning.{Meaning, meaning, tree_of}
+use Rattle.facet_json_document.specs.Meaning.{tree_of}
 use Rattle.facet_json_document.specs.Document.{Reads, IsDocument, IsWholeDocument}
-use Rattle.facet_json_document.specs.Place.{begins_value}
+use Rattle.facet_json_document.specs.Place.{after_colon, goes_on}
 use Rattle.facet_json_document.specs.Order.{count}
 use Rattle.facet_json_document.proofs.Spelled.{ValueReader, ItemsReader, MembersReader, node_by, node_from, after_item_by, after_item_from, nodes_by, nodes_from, after_member_by, after_member_from, after_key_by, after_key_from, members_by, members_from, node_within, nodes_within, members_within, spelled, read_by, if_ended, document, whole_document}
 use Rattle.facet_json_document.proofs.Spelling.OneSpelling.{Starts, Spells-starts}
@@ -191,7 +191,7 @@ scalar_found nodes members t rest token.comma e = cc
 scalar_found nodes members t rest _ e = refl
 
 item_found : (node : ValueReader) (nodes : ItemsReader) (t : Token) (rest : Tokens) (kind : Kind) →
-    begins_value kind ≡ true → nodes_by node nodes t rest kind ≡ option_and_then (λ r. after_item_from nodes r.0 r.1)
+    goes_on after_colon kind ≡ true → nodes_by node nodes t rest kind ≡ option_and_then (λ r. after_item_from nodes r.0 r.1)
     (node (next t rest))
 item_found node nodes t rest token.array_end e = cc
 item_found node nodes t rest _ e = refl
@@ -274,79 +274,78 @@ spelled_is_spells ts rest node =
     (λ e. subst (IsValue ts) e (node_within-is (count ts) ts), λ s. node_within-found s (count ts) (omega arith))
 
 -- a node with its tree, where it has one
-abbrev with_tree : Meaning → Node × Tokens → Option (Node × Tree)
-with_tree m r = option_map (λ value. (r.0, value)) (tree_of m r.0)
+abbrev with_tree : List ℕ → Node × Tokens → Option (Node × Tree)
+with_tree buffer r = option_map (λ value. (r.0, value)) (tree_of buffer r.0)
 
-with_tree-reads : (m : Meaning) (ts : Tokens) (r : Node × Tokens) (root : Node) (value : Tree) (o : Option Tree) →
-    tree_of m r.0 ≡ o → option_map {U = Node × Tree} (λ v. (r.0, v)) o ≡ Some (root, value) → Spells ts r.0 r.1 →
-    Reads m ts root value r.1
-with_tree-reads m ts r root value None e h s = cc
-with_tree-reads m ts r root value (Some v) e h s =
+with_tree-reads : (buffer : List ℕ) (ts : Tokens) (r : Node × Tokens) (root : Node) (value : Tree) (o : Option Tree) →
+    tree_of buffer r.0 ≡ o → option_map {U = Node × Tree} (λ v. (r.0, v)) o ≡ Some (root, value) → Spells ts r.0 r.1 →
+    Reads buffer ts root value r.1
+with_tree-reads buffer ts r root value None e h s = cc
+with_tree-reads buffer ts r root value (Some v) e h s =
     let both : ◌≡◌ {A = Node × Tree} (r.0, v) (root, value) = cc in
     let same : r.0 ≡ root = ap (λ p. p.0) both in
     let tree_same : v ≡ value = ap (λ p. p.1) both in
     record {
       spells = subst (λ n. Spells ts n r.1) same s;
-      has_tree = subst (λ n. tree_of m n ≡ Some value) same (e ∙ ap Some tree_same);
+      has_tree = subst (λ n. tree_of buffer n ≡ Some value) same (e ∙ ap Some tree_same);
     }
 
-found-reads : (m : Meaning) (ts : Tokens) (root : Node) (value : Tree) (o : Option (Node × Tokens)) → IsValue ts o →
-    option_and_then (with_tree m) o ≡ Some (root, value) → (rest : Tokens) × Reads m ts root value rest
-found-reads m ts root value None h e = cc
-found-reads m ts root value (Some r) h e = (r.1, with_tree-reads m ts r root value (tree_of m r.0) refl e h)
+found-reads : (buffer : List ℕ) (ts : Tokens) (root : Node) (value : Tree) (o : Option (Node × Tokens)) → IsValue ts o →
+    option_and_then (with_tree buffer) o ≡ Some (root, value) → (rest : Tokens) × Reads buffer ts root value rest
+found-reads buffer ts root value None h e = cc
+found-reads buffer ts root value (Some r) h e = (r.1, with_tree-reads buffer ts r root value (tree_of buffer r.0) refl e h)
 
 -- What is computed is what is read, by whatever meaning.
-read_by-reads : (m : Meaning) (ts : Tokens) (root : Node) (value : Tree) → read_by m ts ≡ Some (root, value) →
-    (rest : Tokens) × Reads m ts root value rest
+read_by-reads : (buffer : List ℕ) (ts : Tokens) (root : Node) (value : Tree) → read_by buffer ts ≡ Some (root, value) →
+    (rest : Tokens) × Reads buffer ts root value rest
 unfolding read_by spelled
-read_by-reads m ts root value e = found-reads m ts root value (spelled ts) (node_within-is (count ts) ts) e
+read_by-reads buffer ts root value e = found-reads buffer ts root value (spelled ts) (node_within-is (count ts) ts) e
 
 -- What is read is what is computed.
-reads-read_by : (m : Meaning) (ts rest : Tokens) (root : Node) (value : Tree) → Reads m ts root value rest →
-    read_by m ts ≡ Some (root, value)
+reads-read_by : (buffer : List ℕ) (ts rest : Tokens) (root : Node) (value : Tree) → Reads buffer ts root value rest →
+    read_by buffer ts ≡ Some (root, value)
 unfolding read_by
-reads-read_by m ts rest root value r =
-    ap (option_and_then (with_tree m)) ((spelled_is_spells ts rest root).1 r.spells)
+reads-read_by buffer ts rest root value r =
+    ap (option_and_then (with_tree buffer)) ((spelled_is_spells ts rest root).1 r.spells)
     ∙ ap (option_map (λ v. (root, v))) r.has_tree
 
 -- The document that is computed is the one of the input.
 pub document_is_found : (buffer : List ℕ) (mode : Mode) (root : Node) (value : Tree) →
     (document buffer mode ≡ Some (root, value)) ↔ IsDocument buffer mode root value
 document_is_found buffer mode root value = (
-  λ e. (let r = read_by-reads (meaning buffer) (tokens buffer mode) root value e in record { rest = r.0; reads = r.1 }),
-  λ d. reads-read_by (meaning buffer) (tokens buffer mode) d.rest root value d.reads,
+  λ e. (let r = read_by-reads buffer (tokens buffer mode) root value e in record { rest = r.0; reads = r.1 }),
+  λ d. reads-read_by buffer (tokens buffer mode) d.rest root value d.reads,
 )
 
 -- a node with its tree, where it has one
-abbrev node_with_tree : Meaning → Node → Option (Node × Tree)
-node_with_tree m node = option_map (λ value. (node, value)) (tree_of m node)
+abbrev node_with_tree : List ℕ → Node → Option (Node × Tree)
+node_with_tree buffer node = option_map (λ value. (node, value)) (tree_of buffer node)
 
 -- A spelling that nothing follows is read with its tree.
-ended-reads : (m : Meaning) (ts rest : Tokens) (node root : Node) (value : Tree) → Spells ts node rest →
-    option_and_then (node_with_tree m) (if_ended node rest) ≡ Some (root, value) → Reads m ts root value ended
-ended-reads m ts ended node root value s e =
-    with_tree-reads m ts (node, ended) root value (tree_of m node) refl e s
-ended-reads m ts (refused f) node root value s e = cc
-ended-reads m ts (next t rest) node root value s e = cc
+ended-reads : (buffer : List ℕ) (ts rest : Tokens) (node root : Node) (value : Tree) → Spells ts node rest →
+    option_and_then (node_with_tree buffer) (if_ended node rest) ≡ Some (root, value) → Reads buffer ts root value ended
+ended-reads buffer ts ended node root value s e =
+    with_tree-reads buffer ts (node, ended) root value (tree_of buffer node) refl e s
+ended-reads buffer ts (refused f) node root value s e = cc
+ended-reads buffer ts (next t rest) node root value s e = cc
 
 -- What is computed as a whole document is read.
-whole-reads : (m : Meaning) (ts : Tokens) (root : Node) (value : Tree) (o : Option (Node × Tokens)) → IsValue ts o →
-    option_and_then (node_with_tree m) (option_and_then (λ r. if_ended r.0 r.1) o) ≡ Some (root, value) →
-    Reads m ts root value ended
-whole-reads m ts root value None h e = cc
-whole-reads m ts root value (Some r) h e = ended-reads m ts r.1 r.0 root value h e
+whole-reads : (buffer : List ℕ) (ts : Tokens) (root : Node) (value : Tree) (o : Option (Node × Tokens)) → IsValue ts o →
+    option_and_then (node_with_tree buffer) (option_and_then (λ r. if_ended r.0 r.1) o) ≡ Some (root, value) →
+    Reads buffer ts root value ended
+whole-reads buffer ts root value None h e = cc
+whole-reads buffer ts root value (Some r) h e = ended-reads buffer ts r.1 r.0 root value h e
 
 -- What is computed as the whole document of a text is the one plain document that all of it is.
 pub whole_document_is_found : (buffer : List ℕ) (root : Node) (value : Tree) →
     (whole_document buffer ≡ Some (root, value)) ↔ IsWholeDocument buffer root value
 unfolding whole_document spelled
 whole_document_is_found buffer root value =
-    let m = meaning buffer in
     let ts = tokens buffer plain in
     let found : whole_document buffer ≡ Some (root, value) → IsWholeDocument buffer root value =
-    λ e. record { reads = whole-reads m ts root value (spelled ts) (node_within-is (count ts) ts) e } in
+    λ e. record { reads = whole-reads buffer ts root value (spelled ts) (node_within-is (count ts) ts) e } in
     let finds : IsWholeDocument buffer root value → whole_document buffer ≡ Some (root, value) =
-    λ d. ap (λ o. option_and_then (node_with_tree m) (option_and_then (λ r. if_ended r.0 r.1) o))
+    λ d. ap (λ o. option_and_then (node_with_tree buffer) (option_and_then (λ r. if_ended r.0 r.1) o))
     ((spelled_is_spells ts ended root).1 d.reads.spells)
     ∙ ap (option_map (λ v. (root, v))) d.reads.has_tree in
     (found, finds)

@@ -1,6 +1,6 @@
 //! Laws about begun documents: prefixes of tokens with which some document begins, and what they give.
 
-ghost use Rattle.facet_json_prefix.specs.EventLaws.{BegunIsPrefix, PrefixIsBegun, PrefixGivesWalk, OneGiven, InputComes, RefusedHasNone};
+ghost use Rattle.facet_json_prefix.specs.EventLaws.{BegunIsPrefix, PrefixIsBegun, PrefixGivesWalk, OneGiven, InputComes, RefusedHasNone, RefusedInOneWay};
 
 /// Tokens that begin a document are a prefix of the spelling of some value, all of whose texts and numbers can be read.
 pub fn begun_is_prefix()
@@ -17,7 +17,8 @@ pub fn prefix_gives_walk()
     ensures { PrefixGivesWalk }
 {}
 
-/// An input without a document has a longest prefix that begins one, and what that gives is one list of events.
+/// An input without a document has one longest prefix that begins a document: it gives one list of events, and leads to one
+/// place, before the same tokens.
 pub fn one_given()
     ensures { OneGiven }
 {}
@@ -30,4 +31,9 @@ pub fn input_comes()
 /// An input that is refused has no document, in either mode.
 pub fn refused_has_none()
     ensures { RefusedHasNone }
+{}
+
+/// An input is refused in one way at most: after the same prefix, with the same kind, texts and span.
+pub fn refused_in_one_way()
+    ensures { RefusedInOneWay }
 {}

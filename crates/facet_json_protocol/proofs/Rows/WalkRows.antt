@@ -1,6 +1,6 @@
 -- Walks by computation: small inputs, and the events of each, with what is read after them.
 use Rattle.std.proofs.Common.{◌≡◌, ℕ, true, List, [], ◌∷◌, Option, Some, refl, codes}
-use Rattle.std.specs.Prelude.{pos, neg_ℤ}
+use Rattle.std.specs.Prelude.{ℕ, List, pos, neg_ℤ}
 use Rattle.std.specs.Option.{option_map}
 use Rattle.std.specs.Fmt.{digits}
 use lib.Utf8.{encode}
@@ -12,7 +12,7 @@ use Rattle.facet_json_token.specs.Tokens.{Tokens, tokens_past, tokens}
 use Rattle.facet_json_token.specs.Tokens as tokens
 use Rattle.facet_json_token.specs.Token as token
 use Rattle.facet_json_decode.specs.Decode.{short_escape, code_unit, utf8_at, unit_at, escape_at, piece_at, decoded_past}
-use Rattle.facet_json_document.specs.Meaning.{meaning, tree_of}
+use Rattle.facet_json_document.specs.Meaning.{tree_of}
 use Rattle.facet_json_document.proofs.Spelled.{node_within, spelled, document, read_by}
 use Rattle.facet_format.specs.Event.{EventKind, Passed, object, array, borrowed, owned, struct_start, struct_end, sequence_start, sequence_end, field_key, scalar, null, bool, i64, u64, decimal, text}
 use Rattle.facet_json_document.specs.Walk.{walk}
@@ -22,7 +22,7 @@ use Rattle.facet_json_protocol.specs.Now.{future_of, fresh}
 
 -- the walk of the input's document
 abbrev walk_of : List ℕ → Mode → Option (List Passed)
-walk_of input mode = option_map (λ d. walk (meaning input) d.0) (document input mode)
+walk_of input mode = option_map (λ d. walk input d.0) (document input mode)
 
 -- an event of one token, with its offset and length
 abbrev at : EventKind → ℕ → ℕ → Passed

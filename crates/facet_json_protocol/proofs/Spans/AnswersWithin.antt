@@ -65,8 +65,8 @@ module _ (now : Now) (good : NowWithin now) where
   -- ---- answers
 
   -- The current span lies within the input.
-  pub current-within : stop (current_span (on_input now.buffer now.mode) now.cursor.spot) ≤ length now.buffer
-  current-within = span-within now.buffer now.mode now.cursor.spot good.standing
+  pub current-within : stop (current_span (on_input now.buffer now.language) now.cursor.spot) ≤ length now.buffer
+  current-within = span-within now.buffer now.language now.cursor.spot good.standing
 
   refusal_within : (r : Refusal) → now.cursor.refusal ≡ Some r → RefusalWithin now.buffer r
   refusal_within r e = subst (λ o. IfSome o (RefusalWithin now.buffer)) e good.refusal
@@ -82,9 +82,9 @@ module _ (now : Now) (good : NowWithin now) where
   repeated_within r (restore point) answer e w = cc
   repeated_within r span answer e w = cc
 
-  stops_within : (r : Refusal) → RefusedAt now.buffer (future_at now.buffer now.mode now.cursor.spot.place) r →
+  stops_within : (r : Refusal) → RefusedAt now.buffer (future_at now.buffer now.language now.cursor.spot.place) r →
       RefusalWithin now.buffer r
-  stops_within r so = refused-within now.buffer now.mode now.cursor.spot.place r good.standing so
+  stops_within r so = refused-within now.buffer now.language now.cursor.spot.place r good.standing so
 
   -- ---- steps
 
@@ -96,21 +96,21 @@ module _ (now : Now) (good : NowWithin now) where
   refused_here r w = record { parser = refused_at-within now.cursor.spot r good.standing w; within = w }
 
   -- An event that comes, and the place after it.
-  event_comes : (p : Passed) → first_of (future_at now.buffer now.mode now.cursor.spot.place) ≡ an_event p →
+  event_comes : (p : Passed) → first_of (future_at now.buffer now.language now.cursor.spot.place) ≡ an_event p →
       (stop p.event.span ≤ length now.buffer) × (stop p.last ≤ length now.buffer)
   event_comes p e =
-      let (behind, inside, ends) = comes-within now.buffer now.mode now.cursor.spot.place p _ good.standing
-      (event-comes now.buffer now.mode now.cursor.spot.place p e) in
+      let (behind, inside, ends) = comes-within now.buffer now.language now.cursor.spot.place p _ good.standing
+      (event-comes now.buffer now.language now.cursor.spot.place p e) in
       (omega (arith, inside, ends), ends)
 
   batch_refused : (given : List Event) (spot : Spot Standing) (r : Refusal) (after : Standing) →
-      Comes (on_input now.buffer now.mode) now.cursor.spot.place given after → spot ≡ spot_after given after now.cursor.spot →
+      Comes (on_input now.buffer now.language) now.cursor.spot.place given after → spot ≡ spot_after given after now.cursor.spot →
       RefusalWithin now.buffer r → MovedWithin (with_cursor now (refused_at now.cursor spot r)) (batch given (Err r))
   batch_refused given spot r after all there w =
-      let here = spot_after-within now.buffer now.mode now.cursor.spot all good.standing in
+      let here = spot_after-within now.buffer now.language now.cursor.spot all good.standing in
       record {
         parser = refused_at-within spot r (rw there here) w;
-        within = ((given-within now.buffer now.mode all good.standing).events, w);
+        within = ((given-within now.buffer now.language all good.standing).events, w);
       }
 
   step_within : {call : Call} {answer : Answer} (d : Cursor Standing) → StepOf now call answer d →
@@ -128,15 +128,15 @@ module _ (now : Now) (good : NowWithin now) where
   step_within d (peeks_at_nothing r none e so) = refused_here r (stops_within r so)
   step_within d gives_none = unchanged _ (no_events, tt)
   step_within d (gives k n given after none all count le over) = record {
-    parser = settled-within _ (spot_after-within now.buffer now.mode now.cursor.spot all good.standing);
-    within = ((given-within now.buffer now.mode all good.standing).events, tt);
+    parser = settled-within _ (spot_after-within now.buffer now.language now.cursor.spot all good.standing);
+    within = ((given-within now.buffer now.language all good.standing).events, tt);
   }
   step_within d (gives_without_memory k given after p spot none all le more there) =
-      let here = spot_after-within now.buffer now.mode now.cursor.spot all good.standing in
-      batch_refused given spot _ after all there (span-within now.buffer now.mode spot (rw there here))
+      let here = spot_after-within now.buffer now.language now.cursor.spot all good.standing in
+      batch_refused given spot _ after all there (span-within now.buffer now.language spot (rw there here))
   step_within d (gives_up k given after r none all le stops so) =
-      let w = (given-within now.buffer now.mode all good.standing).stands in
-      batch_refused given _ r after all refl (refused-within now.buffer now.mode after r w so)
+      let w = (given-within now.buffer now.language all good.standing).stands in
+      batch_refused given _ r after all refl (refused-within now.buffer now.language after r w so)
   step_within d (saves none h) = record { parser = kept-within; within = tt }
   step_within d (saves_at_the_limit none e) = unchanged _ current-within
   step_within d (saves_without_memory none h) = unchanged _ current-within

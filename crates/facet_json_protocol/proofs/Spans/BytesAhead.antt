@@ -15,20 +15,20 @@ use Rattle.facet_json_protocol.proofs.MovesNext.{event-comes, spot_after-place}
 use Rattle.facet_json_protocol.proofs.Spans.EventsWithin.{given-within}
 
 module _ (now : Now) (good : NowWithin now) where
-  event_behind : (p : Passed) → first_of (future_at now.buffer now.mode now.cursor.spot.place) ≡ an_event p →
+  event_behind : (p : Passed) → first_of (future_at now.buffer now.language now.cursor.spot.place) ≡ an_event p →
       (stop now.cursor.spot.place.last < stop p.last) × (stop p.last ≤ length now.buffer)
   event_behind p e =
-      let (behind, inside, ends) = comes-within now.buffer now.mode now.cursor.spot.place p _ good.standing
-      (event-comes now.buffer now.mode now.cursor.spot.place p e) in
+      let (behind, inside, ends) = comes-within now.buffer now.language now.cursor.spot.place p _ good.standing
+      (event-comes now.buffer now.language now.cursor.spot.place p e) in
       (behind, ends)
 
   -- So many events are so many bytes further on.
-  batch_behind : (given : List Event) (after : Standing) → Comes (on_input now.buffer now.mode) now.cursor.spot.place given after →
+  batch_behind : (given : List Event) (after : Standing) → Comes (on_input now.buffer now.language) now.cursor.spot.place given after →
       (length given + stop now.cursor.spot.place.last ≤ stop (spot_after given after now.cursor.spot).place.last)
       × (stop (spot_after given after now.cursor.spot).place.last ≤ length now.buffer)
   batch_behind given after all =
-      let there = given-within now.buffer now.mode all good.standing in
-      rw (spot_after-place now.buffer now.mode now.cursor.spot all) (there.further, there.stands)
+      let there = given-within now.buffer now.language all good.standing in
+      rw (spot_after-place now.buffer now.language now.cursor.spot all) (there.further, there.stands)
 
   step_onward : {call : Call} {answer : Answer} (d : Cursor Standing) → StepOf now call answer d →
       ((point : ℕ) → call ≡ restore point → ⊥) → stop now.cursor.spot.place.last ≤ stop d.spot.place.last

@@ -6,7 +6,7 @@ ghost use Rattle.facet_json_protocol.specs.CallLaws.{MoveIsStep, PeekIsNext, Ref
 
 /// What a new parser of any input answers. Where the input has a document, it answers every list of calls as a cursor on the
 /// document's walk does from its start. Where it has none, it answers the next event alone with the events of the longest
-/// prefix that begins a document, and then with one refusal, never the end.
+/// prefix that begins a document, and then with the input's one refusal, never the end.
 pub fn headline()
     ensures { Headline }
 {}
@@ -17,13 +17,13 @@ pub fn new_stands()
 {}
 
 /// Where an input has no document, a new parser that is asked for the next event alone answers what the longest prefix
-/// that begins a document gives, and then one refusal, never the end.
+/// that begins a document gives, and then the input's one refusal, never the end.
 pub fn alone_is_given()
     ensures { AloneIsGiven }
 {}
 
-/// Two new parsers of an input with a document, one that is trusted and one that checks its strings, answer every list of
-/// calls alike, up to the first out of memory in either.
+/// Two new parsers of an input, one that is trusted and one that checks its strings, answer every list of calls alike, up to
+/// the first out of memory in either.
 pub fn trusted_agrees()
     ensures { TrustedAgrees }
 {}

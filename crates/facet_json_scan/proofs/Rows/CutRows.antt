@@ -8,7 +8,8 @@ use Rattle.facet_json_token.specs.Token.{Kind, Token, object_start, object_end, 
 use Rattle.facet_json_token.specs.Cut.{ArePieces, IsLiteral, nothing_left, start_of, token_at, fault_at, cut_here, cut}
 use Rattle.facet_format.specs.Span.{span_at}
 use Rattle.facet_json_token.specs.Tokens.{ended, refused, next, AreCuts, tokens_past, tokens}
-use Rattle.facet_json_token.specs.Open.{IsBeginning, IsOpen, is_beginning, is_open}
+use Rattle.facet_json_token.specs.Open.{IsBeginning, IsOpen}
+use Rattle.facet_json_token.specs.Inner.OpenTest.{is_beginning, is_open}
 use Rattle.facet_format.proofs.NumberLaws.{is_number-sound}
 use Rattle.facet_json_token.specs.Faults.{IsFault}
 use Rattle.facet_json_scan.proofs.OpenIsTested.{open_is_tested}

@@ -1,6 +1,7 @@
 //! What more bytes leave of what was cut.
 
-ghost use Rattle.facet_json_token.specs.Laws.{CutStays, OpenIsTested};
+ghost use Rattle.facet_json_token.specs.Laws.{CutStays};
+ghost use Rattle.facet_json_token.specs.Inner.OpenTest.{OpenIsTested};
 
 /// What is cut where the buffer isn't open, a token or a fault, is cut alike from every longer buffer with that prefix:
 /// bytes that come later don't change it.

@@ -5,7 +5,7 @@ use Rattle.facet_json_core.proofs.script.drive.Goals as goal
 
 pub loop-call-init : goal.loop-call-init
 loop-call-init c = record {
-  moves = rw c.in_ok-answers.ensures.items (record { input = record { buffer = refl; mode = refl }; run = no_calls _ });
+  moves = rw c.in_ok-answers.ensures.items (record { input = record { buffer = refl; language = refl }; run = no_calls _ });
   within = made-none _ _ c.in_ok-answers.ensures.items;
   len = c.in_ok-answers.ensures.len;
   room = c.in_ok-answers.ensures.capacity;

@@ -10,5 +10,5 @@ returns-in_err-at c =
 pub returns : goal.returns
 returns c =
     let there = rw c.deref.ensures.value at c.in_ok-at.ensures in
-    λ buffer mode counter a.
-    taken-out _ _ _ _ _ (point-taken buffer mode counter _ _ _ c.remove.result there.0 (there.1 c.remove.result) a) c.remove.ensures.value c.remove.ensures.items
+    λ buffer language counter a.
+    taken-out _ _ _ _ _ (point-taken buffer language counter _ _ _ c.remove.result there.0 (there.1 c.remove.result) a) c.remove.ensures.value c.remove.ensures.items

@@ -1,6 +1,6 @@
 use Rattle.std.specs.Bool.{one_answer}
 use Rattle.facet_json.specs.Same.{same_tree}
-use Rattle.facet_json.specs.SameLaws.{same_tree-decides}
+use Rattle.facet_json.specs.Inner.SameLaws.{same_tree-decides}
 use Rattle.facet_json.specs.Views.{tree_view}
 use Rattle.facet_json.proofs.tree.TreePartialEq.eq.Goals as goal
 

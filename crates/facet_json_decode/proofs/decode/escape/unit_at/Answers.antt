@@ -3,7 +3,8 @@ use Rattle.std.proofs.Common.{◌≡◌, ◌+◌, drop, Some, None, true, false,
 use Rattle.std.proofs.lemmas.Result.{err_from_is_err_and}
 use Rattle.facet_format.specs.Complaint.{unexpected_eof}
 use Rattle.facet_json_decode.specs.Decode.{piece_at, is_high_surrogate, low_at}
-use Rattle.facet_json_decode.specs.Fault.{fault_at, fault_of, pair_fault, no_character}
+use Rattle.facet_json_decode.specs.Fault.{fault_at, no_character}
+use Rattle.facet_json_decode.specs.Inner.FirstFault.{fault_of, pair_fault}
 use Rattle.facet_json_decode.proofs.EscapeSteps.{piece_at-cut, piece_at-unit, unit_of-scalar, unit_of-low, unit_of-high, told-over, fault_of-cut, fault_of-unit}
 use Rattle.facet_json_decode.proofs.decode.escape.unit_at.Goals as goal
 

@@ -30,7 +30,7 @@ refuse-requires c =
 pub returns-in-Ok : goal.returns-in-Ok
 returns-in-Ok c =
     let known = ready-within _ _ _ _ _ _ _ c.args.self.now c.self.invariant refl c.self.view_is in
-    let move = next-answers _ c.args.self.now (option_map event_of c.in-Ok.event) (spot_of (filling_of c.next.new.self)) c.self.view_is
+    let move = next-answers _ c.args.self.now (option_map event_of c.in-Ok.passed) (spot_of (filling_of c.next.new.self)) c.self.view_is
     c.in_ok-unrefused.ensures c.in-Ok.ensures.passed in
     let gone = moves-goes_on _ known _ refl move in record {
       steps = move-steps _ _ _ _ move;
@@ -38,9 +38,9 @@ returns-in-Ok c =
       moves = move;
       within = answer-within _ _ known move;
       onward = gone;
-      shorter = event-lowers _ _ c.in-Ok.event known move;
-      next = event-passes _ _ c.in-Ok.event move;
-      end = event-over _ _ c.in-Ok.event move;
+      shorter = event-lowers _ _ c.in-Ok.passed known move;
+      next = event-passes _ _ c.in-Ok.passed move;
+      end = event-over _ _ c.in-Ok.passed move;
     }
 
 pub returns-in-Err : goal.returns-in-Err

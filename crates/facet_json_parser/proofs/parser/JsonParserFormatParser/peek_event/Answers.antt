@@ -30,7 +30,7 @@ refuse-requires c =
 pub returns-in-Ok : goal.returns-in-Ok
 returns-in-Ok c =
     let known = ready-within _ _ _ _ _ _ _ c.args.self.now c.self.invariant refl c.self.view_is in
-    let move = peek-answers _ c.args.self.now (option_map event_of c.in-Ok.event) (spot_of (filling_of c.peek.new.self)) c.self.view_is
+    let move = peek-answers _ c.args.self.now (option_map event_of c.in-Ok.shown) (spot_of (filling_of c.peek.new.self)) c.self.view_is
     c.in_ok-unrefused.ensures c.in-Ok.ensures.shown in
     let gone = moves-goes_on _ known _ refl move in record {
       steps = move-steps _ _ _ _ move;
@@ -38,8 +38,8 @@ returns-in-Ok c =
       moves = move;
       within = answer-within _ _ known move;
       onward = gone;
-      next = event-shows _ _ c.in-Ok.event move;
-      end = no-event-over _ _ c.in-Ok.event move;
+      next = event-shows _ _ c.in-Ok.shown move;
+      end = no-event-over _ _ c.in-Ok.shown move;
     }
 
 pub returns-in-Err : goal.returns-in-Err

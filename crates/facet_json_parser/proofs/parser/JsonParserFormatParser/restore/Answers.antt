@@ -29,6 +29,6 @@ returns-in_default c =
     let i = c.self.inside in
     let none = found-spot c.args.point.0 (map point_of i.points.items) ∙ ap (option_map spot_of) c.in_default.ensures.0 in
     let move = restore-leaves _ c.args.self.now _ _ c.self.view_is
-    (ap (λ ps. now_of i.input.now i.mode i.standing i.refusal ps i.counter) c.in_default.ensures.1) none in
+    (ap (λ ps. now_of i.input.now i.language i.standing i.refusal ps i.counter) c.in_default.ensures.1) none in
     let used = restore-uses _ _ _ move in
     record { steps = move-steps _ _ _ _ move; moves = move; input = move.input; points = used.0; counter = used.1 }

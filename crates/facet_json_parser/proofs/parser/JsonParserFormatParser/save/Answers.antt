@@ -60,6 +60,6 @@ returns-in-Err c =
     let i = c.self.inside in
     let known = ready-within _ _ _ _ _ _ _ c.args.self.now c.self.invariant refl c.self.view_is in
     let told = c.span-in-Err.ensures _ _ c.self.invariant.stands.filled in
-    let move = save-fails _ c.args.self.now _ _ c.self.view_is (ap (λ ps. now_of i.input.now i.mode i.standing i.refusal ps i.counter) c.in-Err.ensures)
+    let move = save-fails _ c.args.self.now _ _ c.self.view_is (ap (λ ps. now_of i.input.now i.language i.standing i.refusal ps i.counter) c.in-Err.ensures)
     c.in_ok-unrefused.ensures (below-greatest i.counter c.in-Some.ensures.0) (c.from-in-Err.ensures ∙ c.out_of_memory.ensures ∙ ap no_memory_at told) in
     record { steps = move-steps _ _ _ _ move; moves = move; within = answer-within _ _ known move; input = move.input; lowers = save-onward _ _ known move; point = tt; own_number = tt; unchanged = moves-unsaved _ _ _ move }

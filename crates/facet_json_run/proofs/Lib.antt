@@ -1,0 +1,2 @@
+pub mod RefusedWithin
+pub mod RunSteps

@@ -1,0 +1,2 @@
+-- Definitions that serve rows and private contracts alone.
+pub mod OpenTest
