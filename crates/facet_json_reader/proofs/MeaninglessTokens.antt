@@ -4,7 +4,6 @@ use Rattle.std.specs.Prelude.{slice_range}
 use Rattle.std.specs.Option.{option_map}
 use Rattle.facet_format.specs.declared.span.Span.{Span as RustSpan}
 use Rattle.facet_json_token.specs.declared.token.ScanError.{ScanError}
-use Rattle.facet_json_token.specs.declared.token.ScanErrorKind.TheVariants as scan
 use Rattle.facet_json_token.specs.Views.{scan_refusal}
 use Rattle.facet_format.specs.Complaint.{Refusal, refusal_at, invalid_utf8}
 use Rattle.facet_format.specs.Views.{span_of}

@@ -7,7 +7,7 @@ use Rattle.facet_format.specs.Number.{Parts, parts, parts_len, parts_hint, is_ba
 use Rattle.facet_format.specs.Span.{Span, span_at}
 use Rattle.facet_json_token.specs.Gap.{Mode, plain, jsonc, whole, with_line_mark, through_line_end, piece_len}
 use Rattle.facet_json_token.specs.Token.{Kind, FaultKind, Fault, unexpected_char, unexpected_eof, in_string, in_literal, in_block_comment}
-use Rattle.facet_json_token.specs.Cut.{IsStructural, object_starts, object_ends, array_starts, array_ends, colon_stands, comma_stands, IsLiteral, Cut, nothing_left, token, fault, Start, punctuation, letter, opens_nothing, start_of, token_at, fault_at, common_len, cut_word, content_len, cut_text, cut_number, cut_slash, cut_by, cut_here, past_gap, cut}
+use Rattle.facet_json_token.specs.Cut.{IsStructural, object_starts, object_ends, array_starts, array_ends, colon_stands, comma_stands, IsLiteral, Cut, nothing_left, token, fault, Start, punctuation, opens_nothing, start_of, token_at, fault_at, common_len, cut_word, content_len, cut_text, cut_number, cut_slash, cut_by, cut_here, past_gap, cut}
 use Rattle.facet_json_token.specs.Faults.{BeginsToken, BeginsNoNumber, IsFault}
 use Rattle.facet_json_token.specs.Laws.{FaultIsCut, FaultIsUnique}
 use Rattle.facet_format.proofs.NumberLaws.{number_is_longest, parts_len-some}

@@ -16,7 +16,7 @@ use Rattle.facet_json_scanner.specs.declared.scanner.token.Found.TheVariants as 
 use Rattle.facet_json_scanner.specs.declared.scanner.gap.Piece.{Piece}
 use Rattle.facet_json_scanner.specs.declared.scanner.gap.Piece.TheVariants as piece
 use Rattle.facet_json_token.specs.Open.{IsBeginning, IsOpen}
-use Rattle.facet_json_scanner.specs.Scanner.{Part, in_digits, in_fraction, at_mark, in_exponent, State, in_text, in_word, in_number, after_slash, in_line, in_block, Pending, nothing_pending, pending_at, Answer, answer_for, Describes, past_growing_gap}
+use Rattle.facet_json_scanner.specs.Scanner.{Part, in_digits, in_fraction, at_mark, in_exponent, State, in_text, in_word, in_number, after_slash, in_line, in_block, Pending, nothing_pending, pending_at, answer_for, Describes, past_growing_gap}
 use Rattle.facet_json_scanner.specs.Views.{answered, span_answered, IndicesWithin}
 
 abbrev pub part_of : RustPart → Part
