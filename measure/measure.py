@@ -1,5 +1,6 @@
 #!/usr/bin/env python3
-"""Measures how the time of reading events grows with the input: measure.py METER, METER being the built program."""
+"""Measures how the time of reading grows with the input, by events, by one skip and by tokens: measure.py METER, METER being the built
+program."""
 import os
 import resource
 import subprocess
@@ -25,41 +26,56 @@ def short_items(size):
     return b"[" + items * (size // len(items)) + b"]"
 
 
+def long_text(size):
+    """One text without an escape."""
+    return b'"' + b"a" * (size - 2) + b'"'
+
+
+WAYS = ["nothing", "tokens", "scanner", "skip", "events"]
+
+
+def run_once(meter, way, path):
+    """The processor time of one run."""
+    before = resource.getrusage(resource.RUSAGE_CHILDREN)
+    with open(path, "rb") as document:
+        done = subprocess.run([meter, way], stdin=document, stdout=subprocess.PIPE, check=True)
+    if not done.stdout.endswith(b" counted\n"):
+        sys.exit(f"{path} was refused")
+    after = resource.getrusage(resource.RUSAGE_CHILDREN)
+    return after.ru_utime - before.ru_utime + after.ru_stime - before.ru_stime
+
+
 def seconds(meter, path):
-    """The processor time of the fastest of five runs."""
-    fastest = None
-    for _ in range(5):
-        before = resource.getrusage(resource.RUSAGE_CHILDREN)
-        with open(path, "rb") as document:
-            done = subprocess.run([meter], stdin=document, stdout=subprocess.PIPE, check=True)
-        if not done.stdout.endswith(b" events\n"):
-            sys.exit(f"{path} was refused")
-        after = resource.getrusage(resource.RUSAGE_CHILDREN)
-        spent = after.ru_utime - before.ru_utime + after.ru_stime - before.ru_stime
-        fastest = spent if fastest is None else min(fastest, spent)
-    return fastest
+    """The fastest processor time of each way, the ways taking turns."""
+    fastest = {}
+    for _ in range(RUNS):
+        for way in WAYS:
+            spent = run_once(meter, way, path)
+            fastest[way] = min(fastest.get(way, spent), spent)
+    return [fastest[way] for way in WAYS]
+
+
+RUNS = 7
 
 
 def main():
     meter = sys.argv[1]
-    sizes = [4 * MEBIBYTE, 16 * MEBIBYTE]
-    print("| Input | 4 MiB | 16 MiB | Ratio |")
-    print("|---|---|---|---|")
+    print("| Input | Size | Read alone | Tokens by `cut` | Tokens by a scanner | Skip | Events |")
+    print("|---|---|---|---|---|---|---|")
     with tempfile.TemporaryDirectory() as folder:
         path = os.path.join(folder, "input")
-        for make in (nested, escapes, short_items):
-            times = []
-            for size in sizes:
+        for make in (nested, long_text, escapes, short_items):
+            for size in (4 * MEBIBYTE, 16 * MEBIBYTE):
                 with open(path, "wb") as document:
                     document.write(make(size))
-                times.append(seconds(meter, path))
-            small, large = times
-            print(f"| {make.__doc__} | {small:.3f} s | {large:.3f} s | {large / small:.2f} |")
+                times = " | ".join(f"{spent:.3f} s" for spent in seconds(meter, path))
+                print(f"| {make.__doc__} | {size // MEBIBYTE} MiB | {times} |", flush=True)
         with open(path, "wb") as document:
             document.write(nested(200_000))
-        with open(path, "rb") as document:
-            done = subprocess.run(["bash", "-c", 'ulimit -s 512; exec "$0"', meter], stdin=document, stdout=subprocess.PIPE, check=False)
-        print(f"100,000 arrays one within the other, on a stack of 512 KiB: {done.stdout.decode().strip()}, status {done.returncode}")
+        for way in ("skip", "events"):
+            with open(path, "rb") as document:
+                done = subprocess.run(["bash", "-c", 'ulimit -s 512; exec "$0" "$1"', meter, way], stdin=document, stdout=subprocess.PIPE, check=False)
+            print(f"100,000 arrays one within the other by {way}, on a stack of 512 KiB: {done.stdout.decode().strip()}, status {done.returncode}")
 
 
 main()

@@ -6,9 +6,11 @@ use Rattle.std.proofs.lemmas.Option.{none-some, same_Some}
 use Rattle.facet_format.specs.Complaint.{Refusal, refusal_at, save_limit}
 use Rattle.facet_format.specs.Event.{Event, Passed}
 use Rattle.facet_format.specs.Kept.{found}
-use Rattle.facet_format.specs.Cursor.{Coming, an_event, the_end, a_refusal, World, Call, next, peek, events, save, restore, span, Answer, event, batch, saved, restored, spans, Spot, Cursor, Comes, Step, repeats, passes, passes_without_memory, passes_the_end, passes_nothing, peeks, peeks_without_memory, peeks_at_the_end, peeks_at_nothing, gives_none, gives, gives_without_memory, gives_up, saves, saves_at_the_limit, saves_without_memory, restores, restores_nothing, tells, repeated, current_span, unpeeked, peeked_at, spot_after, at_spot, refused_at, kept_here, back_at, greatest, Run, no_calls, one_call}
+use Rattle.facet_format.specs.Part.{Part, skip_of, capture_of}
+use Rattle.facet_format.specs.Cursor.{Coming, an_event, the_end, a_refusal, World, Call, next, peek, events, skip, capture, save, restore, span, Answer, event, batch, skipped, raw, saved, restored, spans, Spot, Cursor, Comes, Step, repeats, passes, passes_without_memory, passes_the_end, passes_nothing, peeks, peeks_without_memory, peeks_at_the_end, peeks_at_nothing, gives_none, gives, gives_without_memory, gives_up, skips, skips_without_memory, skips_nothing, captures, captures_without_memory, captures_nothing, saves, saves_at_the_limit, saves_without_memory, restores, restores_nothing, tells, repeated, current_span, unpeeked, peeked_at, spot_after, at_spot, refused_at, kept_here, back_at, greatest, Run, no_calls, one_call}
 use Rattle.facet_format.specs.Cursor as cursor
-use Rattle.facet_format.specs.Agree.{LacksMemory, no_event, no_more, no_point, Agree, lacks, other_lacks, is_one, AgreeToLack, no_answers, first_lacks, second_lacks, same_answer}
+use Rattle.facet_format.specs.Agree.{LacksMemory, no_event, no_more, no_skip, no_capture, no_point, Agree, lacks, other_lacks, is_one, AgreeToLack, no_answers, first_lacks, second_lacks, same_answer}
+use Rattle.facet_format.specs.Laws.{PassesUnread, by_skip, by_capture}
 use Rattle.facet_format.proofs.CursorSteps.{same-event}
 
 -- ---- what is met at a place
@@ -59,6 +61,14 @@ module _ {P : Type 0} (w : World P) where
   batch_by c given place (Ok n) = (batch given (Ok n), at_spot c (spot_after given place c.spot))
   batch_by c given place (Err r) = (batch given (Err r), refused_at c (spot_after given place c.spot) r)
 
+  abbrev skip_by : Cursor P → Result P Refusal → Outcome
+  skip_by c (Ok place) = (skipped (Ok tt), at_spot c (unpeeked place))
+  skip_by c (Err r) = (skipped (Err r), refused_at c c.spot r)
+
+  abbrev capture_by : Cursor P → Result (List ℕ × P) Refusal → Outcome
+  capture_by c (Ok found) = (raw (Ok (Some found.0)), at_spot c (unpeeked found.1))
+  capture_by c (Err r) = (raw (Err r), refused_at c c.spot r)
+
   abbrev save_by : Cursor P → Outcome
   save_by c =
       let full = saved (Err (refusal_at save_limit (current_span w c.spot))) in
@@ -80,6 +90,8 @@ module _ {P : Type 0} (w : World P) where
   IsFree c (events (suc k)) a d =
       (given : List Event) × (place : P) × (x : Result ℕ Refusal) × Comes w c.spot.place given place × Ends w k given place x ×
       Is a d (batch_by c given place x)
+  IsFree c skip a d = (part : Part P) × w.stands c.spot.place part × Is a d (skip_by c (skip_of part))
+  IsFree c capture a d = (part : Part P) × w.stands c.spot.place part × Is a d (capture_by c (capture_of w.bytes part))
   IsFree c save a d = Is a d (save_by c)
   IsFree c (restore point) a d = Is a d (restore_by c point (found point c.kept))
   IsFree c span a d = Is a d (spans (Some (current_span w c.spot)), c)
@@ -121,6 +133,12 @@ module _ {P : Type 0} (w : World P) (c : Cursor P) where
   step-shows (gives_without_memory k given place p spot none all le up is) = is_lack (no_more _ _ refl)
   step-shows (gives_up k given place r none all le up refuses) =
       unrefused (events (suc k)) none (given, place, Err r, all, ends_badly r le up refuses, (refl, refl))
+  step-shows (skips part place none stands leads) = unrefused skip none (part, stands, rw leads (refl, refl))
+  step-shows (skips_without_memory part none stands takes) = is_lack (no_skip _ refl)
+  step-shows (skips_nothing part r none stands stops) = unrefused skip none (part, stands, rw stops (refl, refl))
+  step-shows (captures part text place none stands leads) = unrefused capture none (part, stands, rw leads (refl, refl))
+  step-shows (captures_without_memory part none stands takes) = is_lack (no_capture _ refl)
+  step-shows (captures_nothing part r none stands stops) = unrefused capture none (part, stands, rw stops (refl, refl))
   step-shows (saves none less) =
       let other : c.counter ≢ greatest = λ e. absurd (omega (arith, e)) in
       unrefused save none (rw (ne_eqb c.counter greatest other) (refl, refl))
@@ -158,7 +176,8 @@ module _ {P : Type 0} (w : World P) where
       (λ less. ends (omega (arith, less))) in
       (rw (same, rest.0) refl, rest.1)
 
-module _ {P : Type 0} (w : World P) (only : (place : P) (r q : Refusal) → w.refuses place r → w.refuses place q → r ≡ q) where
+module _ {P : Type 0} (w : World P) (only : (place : P) (r q : Refusal) → w.refuses place r → w.refuses place q → r ≡ q)
+    (one : (place : P) (a b : Part P) → w.stands place a → w.stands place b → a ≡ b) where
   -- One thing is met at a place.
   one-met : (place : P) (x y : Met) → Meets w place x → Meets w place y → x ≡ y
   one-met place (Ok (Some p)) (Ok (Some q)) up up_too = ap (λ (e : Passed). Ok (Some e)) (same-event p q up up_too)
@@ -198,6 +217,10 @@ module _ {P : Type 0} (w : World P) (only : (place : P) (r q : Refusal) → w.re
       let there : Ends w k given place y = rw (same.0, same.1) ends_too in
       let end : x ≡ y = one-end ends there in
       agree_by is is_too (rw (same.0, same.1, end) refl)
+  free-agree c skip (part, stands, is) (other, stands_too, is_too) =
+      agree_by is is_too (ap (λ x. skip_by w c (skip_of x)) (one c.spot.place part other stands stands_too))
+  free-agree c capture (part, stands, is) (other, stands_too, is_too) =
+      agree_by is is_too (ap (λ x. capture_by w c (capture_of w.bytes x)) (one c.spot.place part other stands stands_too))
   free-agree c save is is_too = agree_by is is_too refl
   free-agree c (restore point) is is_too = agree_by is is_too refl
   free-agree c span is is_too = agree_by is is_too refl
@@ -217,6 +240,52 @@ module _ {P : Type 0} (w : World P) (only : (place : P) (r q : Refusal) → w.re
   pub step-agrees : (c d e : Cursor P) (call : Call) (a b : Answer) → Step w c call a d → Step w c call b e → Agree a b d e
   step-agrees c d e call a b first second = shown-agree c call (step-shows w c first) (step-shows w c second)
 
+-- ---- a skip or capture after a peek
+
+-- Two answers are one, out of memory aside.
+same_told : {a b : Answer} → a ≡ b → AgreeToLack (a ∷ []) (b ∷ [])
+same_told {a = a} e = rw (← e) (same_answer a [] [] no_answers)
+
+module _ {P : Type 0} (w : World P) (one : (place : P) (a b : Part P) → w.stands place a → w.stands place b → a ≡ b) where
+  -- What a skip answers doesn't depend on the cursor it is made at, but for where it is.
+  skip_answer : (c d : Cursor P) (x : Result P Refusal) → (skip_by w c x).0 ≡ (skip_by w d x).0
+  skip_answer c d (Ok place) = refl
+  skip_answer c d (Err r) = refl
+
+  capture_answer : (c d : Cursor P) (x : Result (List ℕ × P) Refusal) → (capture_by w c x).0 ≡ (capture_by w d x).0
+  capture_answer c d (Ok found) = refl
+  capture_answer c d (Err r) = refl
+
+  -- Free answers of two cursors at one place are one.
+  unread-answer : (c d e f : Cursor P) (call : Call) {a b : Answer} → PassesUnread call → c.spot.place ≡ d.spot.place →
+      IsFree w c call a e → IsFree w d call b f → a ≡ b
+  unread-answer c d e f _ by_skip here (part, stands, is) (other, stands_too, is_too) =
+      let same = one d.spot.place part other (rw (← here) stands) stands_too in
+      is.0 ∙ skip_answer c d (skip_of part) ∙ ap (λ x. (skip_by w d (skip_of x)).0) same ∙ sym is_too.0
+  unread-answer c d e f _ by_capture here (part, stands, is) (other, stands_too, is_too) =
+      let same = one d.spot.place part other (rw (← here) stands) stands_too in
+      is.0 ∙ capture_answer c d (capture_of w.bytes part) ∙ ap (λ x. (capture_by w d (capture_of w.bytes x)).0) same ∙ sym is_too.0
+
+  unread_agrees : (c d e f : Cursor P) (call : Call) {a b : Answer} → PassesUnread call → c.spot.place ≡ d.spot.place →
+      c.refusal ≡ None → d.refusal ≡ None → Shows w c call a e → Shows w d call b f → AgreeToLack (a ∷ []) (b ∷ [])
+  unread_agrees c d e f call by here none none_too (is_lack l) other = first_lacks _ _ [] [] l
+  unread_agrees c d e f call {a = a} by here none none_too (is_told t same) other =
+      absurd (none-some a (sym (ap (λ x. told x call) none) ∙ t))
+  unread_agrees c d e f call by here none none_too (is_free untold is) (is_lack l) = second_lacks _ _ [] [] l
+  unread_agrees c d e f call {b = b} by here none none_too (is_free untold is) (is_told t same) =
+      absurd (none-some b (sym (ap (λ x. told x call) none_too) ∙ t))
+  unread_agrees c d e f call by here none none_too (is_free untold is) (is_free untold_too is_too) =
+      same_told (unread-answer c d e f call by here is is_too)
+
+  -- After a peek that answers an event a skip or a capture answers what it answers without the peek.
+  pub peek-skip : (c peeked d e : Cursor P) (call : Call) (shown : Event) (answer a b : Answer) → PassesUnread call →
+      answer ≡ event (Ok (Some shown)) → Step w c peek answer peeked → Step w peeked call a d → Step w c call b e →
+      AgreeToLack (a ∷ []) (b ∷ [])
+  peek-skip c _ d e call shown answer a b by is (repeats r _ _ still tells_it) after before = cc
+  peek-skip c _ d e call shown answer a b by is (peeks p none up) after before =
+      unread_agrees _ c d e call by refl none none (step-shows w _ after) (step-shows w c before)
+  peek-skip c _ d e call shown answer a b by is _ after before = cc
+
 -- ---- runs
 
 runs_on : {P : Type 0} {a b : Answer} {d e : Cursor P} {these those : List Answer} → Agree a b d e →
@@ -226,11 +295,12 @@ runs_on {a = a} {b = b} {these = these} {those = those} (other_lacks l) more = s
 runs_on {a = a} {b = b} {these = these} {those = those} (is_one same left) more =
     subst (λ x. AgreeToLack (a ∷ these) (x ∷ those)) same (same_answer a these those (more left))
 
-module _ {P : Type 0} (w : World P) (only : (place : P) (r q : Refusal) → w.refuses place r → w.refuses place q → r ≡ q) where
+module _ {P : Type 0} (w : World P) (only : (place : P) (r q : Refusal) → w.refuses place r → w.refuses place q → r ≡ q)
+    (one : (place : P) (a b : Part P) → w.stands place a → w.stands place b → a ≡ b) where
   -- Two runs with the same calls agree up to the first out of memory.
   pub runs-agree : (c d e : Cursor P) (calls : List Call) (these those : List Answer) → Run w c calls these d →
       Run w c calls those e → AgreeToLack these those
   runs-agree c d e _ _ _ (no_calls _) (no_calls _) = no_answers
   runs-agree c d e _ _ _ (one_call _ behind _ call a calls these step more) (one_call _ other _ _ b _ those step_too more_too) =
-      runs_on (step-agrees w only c behind other call a b step step_too)
+      runs_on (step-agrees w only one c behind other call a b step step_too)
       (λ same. runs-agree behind d e calls these those more (subst (λ x. Run w x calls those e) (sym same) more_too))

@@ -1,11 +1,13 @@
 -- A step of a cursor in one world is a step in another one, where the places are alike.
 use Rattle.std.proofs.Common.{◌≡◌, ℕ, suc, ◌≤◌, Bool, true, false, cond, ◌==◌, List, [], ◌∷◌, length, Option, Some, None, refl, sym, ap, ◌∙◌, subst}
-use Rattle.std.specs.Prelude.{Ok, Err}
+use Rattle.std.specs.Prelude.{slice_range, Result, Ok, Err}
+use Rattle.std.specs.Str.{is_utf8}
 use Rattle.facet_format.specs.Complaint.{Refusal}
 use Rattle.facet_format.specs.Event.{Event, Passed, peek_takes_memory}
 use Rattle.facet_format.specs.Kept.{found, without, with_point}
-use Rattle.facet_format.specs.Cursor.{Coming, an_event, a_refusal, World, Spot, Cursor, Call, events, save, Answer, batch, saved, current_span, unpeeked, peeked_at, Comes, no_event, one_event, spot_after, at_spot, refused_at, kept_here, back_at, no_memory_at, Step, repeats, passes, passes_without_memory, passes_the_end, passes_nothing, peeks, peeks_without_memory, peeks_at_the_end, peeks_at_nothing, gives_none, gives, gives_without_memory, gives_up, saves, saves_at_the_limit, saves_without_memory, restores, restores_nothing, tells, Run, no_calls, one_call}
-use Rattle.facet_format.specs.Alike.{SpotsAlike, KeptAlike, none_kept, one_kept, CursorsAlike}
+use Rattle.facet_format.specs.Part.{Part, has_brackets, skip_of, captured, capture_of}
+use Rattle.facet_format.specs.Cursor.{Coming, an_event, a_refusal, World, Spot, Cursor, Call, events, save, Answer, batch, saved, current_span, unpeeked, peeked_at, Comes, no_event, one_event, spot_after, at_spot, refused_at, kept_here, back_at, no_memory_at, Step, repeats, passes, passes_without_memory, passes_the_end, passes_nothing, peeks, peeks_without_memory, peeks_at_the_end, peeks_at_nothing, gives_none, gives, gives_without_memory, gives_up, saves, saves_at_the_limit, saves_without_memory, skips, skips_without_memory, skips_nothing, captures, captures_without_memory, captures_nothing, restores, restores_nothing, tells, Run, no_calls, one_call}
+use Rattle.facet_format.specs.Alike.{SpotsAlike, KeptAlike, none_kept, one_kept, CursorsAlike, PartsAlike, same_value, same_key, same_closing, both_nothing}
 
 -- From places that are alike the same comes, and leads to places that are alike.
 pub record WorldsAlike {P Q : Type 0} (v : World P) (w : World Q) (like : P → Q → Type 0) : Type 0 where
@@ -13,6 +15,27 @@ pub record WorldsAlike {P Q : Type 0} (v : World P) (w : World Q) (like : P → 
   pub refuses : (p : P) (q : Q) (r : Refusal) → like p q → v.comes p ≡ a_refusal → v.refuses p r → w.refuses q r
   pub past : (p : P) (q : Q) (e : Passed) → like p q → v.comes p ≡ an_event e → like (v.past e p) (w.past e q)
   pub last : (p : P) (q : Q) → like p q → v.last p ≡ w.last q
+  pub bytes : (p : P) (q : Q) → like p q → v.bytes ≡ w.bytes
+  pub stands : (p : P) (q : Q) (part : Part P) → like p q → v.stands p part →
+      (other : Part Q) × w.stands q other × PartsAlike like part other
+
+-- ---- results
+
+abbrev value_of : {A : Type 0} → A → Result A Refusal → A
+value_of other (Ok a) = a
+value_of other (Err r) = other
+
+abbrev refusal_of : {A : Type 0} → Refusal → Result A Refusal → Refusal
+refusal_of other (Ok a) = other
+refusal_of other (Err r) = r
+
+-- One result has one value.
+same_Ok : {A : Type 0} (a b : A) → ◌≡◌ {A = Result A Refusal} (Ok a) (Ok b) → a ≡ b
+same_Ok a b e = ap (value_of a) e
+
+-- One result has one refusal.
+same_Err : {A : Type 0} (r q : Refusal) → ◌≡◌ {A = Result A Refusal} (Err r) (Err q) → r ≡ q
+same_Err {A = A} r q e = ap (refusal_of {A = A} r) e
 
 -- ---- kept points
 
@@ -82,6 +105,63 @@ module _ {P Q : Type 0} (like : P → Q → Type 0) where
       SpotsAlike like s t → CursorsAlike like (refused_at c s r) (refused_at d t r)
   refused r alike here = record { spot = here; refusal = refl; kept = alike.kept; counter = alike.counter }
 
+  -- ---- parts
+
+  -- A skip leads to places that are alike.
+  skips-alike : {part : Part P} {other : Part Q} {place : P} → PartsAlike like part other → skip_of part ≡ Ok place →
+      (q : Q) × (skip_of other ≡ Ok q) × like place q
+  skips-alike {place = place} (same_value brackets start finish p q here) e =
+      let same : p ≡ place = cc in (q, refl, subst (λ x. like x q) same here)
+  skips-alike {place = place} (same_key start p q here) e = let same : p ≡ place = cc in (q, refl, subst (λ x. like x q) same here)
+  skips-alike {place = place} (same_closing start p q here) e = let same : p ≡ place = cc in (q, refl, subst (λ x. like x q) same here)
+  skips-alike (both_nothing r) e = cc
+
+  -- What a skip is refused with is the same.
+  skip_refused-alike : {part : Part P} {other : Part Q} {r : Refusal} → PartsAlike like part other → skip_of part ≡ Err r →
+      skip_of other ≡ Err r
+  skip_refused-alike (same_value brackets start finish p q here) e = cc
+  skip_refused-alike (same_key start p q here) e = cc
+  skip_refused-alike (same_closing start p q here) e = cc
+  skip_refused-alike {r = r} (both_nothing q) e = ap (λ (x : Refusal). Err x) (same_Err q r e)
+
+  -- Both have brackets or neither has.
+  brackets-alike : {part : Part P} {other : Part Q} → PartsAlike like part other → has_brackets other ≡ has_brackets part
+  brackets-alike (same_value brackets start finish p q here) = refl
+  brackets-alike (same_key start p q here) = refl
+  brackets-alike (same_closing start p q here) = refl
+  brackets-alike (both_nothing r) = refl
+
+  captured_alike : (start finish : ℕ) (p place : P) (q : Q) (bytes text : List ℕ) (utf8 : Bool) → like p q →
+      captured start finish p bytes utf8 ≡ Ok (text, place) →
+      (x : Q) × (captured start finish q bytes utf8 ≡ Ok (text, x)) × like place x
+  captured_alike start finish p place q bytes text true here e =
+      let same = same_Ok (bytes, p) (text, place) e in
+      (q, ap (λ x. Ok (x.0, q)) same, subst (λ x. like x q) (ap (λ x. x.1) same) here)
+  captured_alike start finish p place q bytes text false here e = cc
+
+  -- A capture answers the same bytes, and leads to places that are alike.
+  captures-alike : (bytes : List ℕ) {part : Part P} {other : Part Q} {text : List ℕ} {place : P} → PartsAlike like part other →
+      capture_of bytes part ≡ Ok (text, place) → (q : Q) × (capture_of bytes other ≡ Ok (text, q)) × like place q
+  captures-alike bytes {text = text} {place = place} (same_value brackets start finish p q here) e =
+      let found = slice_range bytes start finish in captured_alike start finish p place q found text (is_utf8 found) here e
+  captures-alike bytes (same_key start p q here) e = cc
+  captures-alike bytes (same_closing start p q here) e = cc
+  captures-alike bytes (both_nothing r) e = cc
+
+  captured_refused : (start finish : ℕ) (p : P) (q : Q) (bytes : List ℕ) (utf8 : Bool) (r : Refusal) →
+      captured start finish p bytes utf8 ≡ Err r → captured start finish q bytes utf8 ≡ Err r
+  captured_refused start finish p q bytes true r e = cc
+  captured_refused start finish p q bytes false r e = ap (λ (x : Refusal). Err x) (same_Err _ r e)
+
+  -- What a capture is refused with is the same.
+  capture_refused-alike : (bytes : List ℕ) {part : Part P} {other : Part Q} {r : Refusal} → PartsAlike like part other →
+      capture_of bytes part ≡ Err r → capture_of bytes other ≡ Err r
+  capture_refused-alike bytes {r = r} (same_value brackets start finish p q here) e =
+      let found = slice_range bytes start finish in captured_refused start finish p q found (is_utf8 found) r e
+  capture_refused-alike bytes {r = r} (same_key start p q here) e = ap (λ (x : Refusal). Err x) (same_Err _ r e)
+  capture_refused-alike bytes {r = r} (same_closing start p q here) e = ap (λ (x : Refusal). Err x) (same_Err _ r e)
+  capture_refused-alike bytes {r = r} (both_nothing q) e = ap (λ (x : Refusal). Err x) (same_Err _ r e)
+
 -- ---- steps
 
 module _ {P Q : Type 0} (v : World P) (w : World Q) (like : P → Q → Type 0) (worlds : WorldsAlike v w like) where
@@ -111,6 +191,10 @@ module _ {P Q : Type 0} (v : World P) (w : World Q) (like : P → Q → Type 0) 
 
     free : c.refusal ≡ None → d.refusal ≡ None
     free none = sym alike.refusal ∙ none
+
+    -- The input is the same.
+    same_bytes : (other : Part Q) → capture_of w.bytes other ≡ capture_of v.bytes other
+    same_bytes other = ap (λ bytes. capture_of bytes other) (sym (worlds.bytes c.spot.place d.spot.place here))
 
     -- Where a batch ends for want of memory, it may end so for the other cursor.
     without_memory : (k : ℕ) (given : List Event) (place : P) (p : Passed) → c.refusal ≡ None → Comes v c.spot.place given place →
@@ -190,6 +274,48 @@ module _ {P Q : Type 0} (v : World P) (w : World Q) (like : P → Q → Type 0) 
         gives_up k given there.0 r (free alike none) there.1 le (comes-there there.2 comes)
             (worlds.refuses place there.0 r there.2 comes refuses),
         refused like r alike (after-alike like given there.2 alike.spot),
+      )
+  step-alike {c = c} {d = d} alike (skips part place none stands leads) =
+      let there = worlds.stands c.spot.place d.spot.place part (here alike) stands in
+      let to = skips-alike like there.2 leads in (
+        at_spot d (unpeeked to.0),
+        skips there.0 to.0 (free alike none) there.1 to.1,
+        settled like alike (record { place = to.2; peeked = refl }),
+      )
+  step-alike {c = c} {d = d} alike (skips_without_memory part none stands takes) =
+      let there = worlds.stands c.spot.place d.spot.place part (here alike) stands in
+      let r = no_memory_at (current_span w d.spot) in
+      rw (current alike) (
+        refused_at d d.spot r,
+        skips_without_memory there.0 (free alike none) there.1 (brackets-alike like there.2 ∙ takes),
+        refused like r alike alike.spot,
+      )
+  step-alike {c = c} {d = d} alike (skips_nothing part r none stands stops) =
+      let there = worlds.stands c.spot.place d.spot.place part (here alike) stands in (
+        refused_at d d.spot r,
+        skips_nothing there.0 r (free alike none) there.1 (skip_refused-alike like there.2 stops),
+        refused like r alike alike.spot,
+      )
+  step-alike {c = c} {d = d} alike (captures part text place none stands leads) =
+      let there = worlds.stands c.spot.place d.spot.place part (here alike) stands in
+      let to = captures-alike like v.bytes there.2 leads in (
+        at_spot d (unpeeked to.0),
+        captures there.0 text to.0 (free alike none) there.1 (same_bytes alike there.0 ∙ to.1),
+        settled like alike (record { place = to.2; peeked = refl }),
+      )
+  step-alike {c = c} {d = d} alike (captures_without_memory part none stands takes) =
+      let there = worlds.stands c.spot.place d.spot.place part (here alike) stands in
+      let r = no_memory_at (current_span w d.spot) in
+      rw (current alike) (
+        refused_at d d.spot r,
+        captures_without_memory there.0 (free alike none) there.1 (brackets-alike like there.2 ∙ takes),
+        refused like r alike alike.spot,
+      )
+  step-alike {c = c} {d = d} alike (captures_nothing part r none stands stops) =
+      let there = worlds.stands c.spot.place d.spot.place part (here alike) stands in (
+        refused_at d d.spot r,
+        captures_nothing there.0 r (free alike none) there.1 (same_bytes alike there.0 ∙ capture_refused-alike like v.bytes there.2 stops),
+        refused like r alike alike.spot,
       )
   step-alike {c = c} {d = d} alike (saves none less) =
       let same = alike.counter in

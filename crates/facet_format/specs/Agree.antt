@@ -2,12 +2,14 @@
 use Rattle.std.specs.Prelude.{◌≡◌, List, [], ◌∷◌, Err}
 use Rattle.facet_format.specs.Complaint.{Refusal, out_of_memory}
 use Rattle.facet_format.specs.Event.{Event}
-use Rattle.facet_format.specs.Cursor.{Answer, event, batch, saved, Cursor}
+use Rattle.facet_format.specs.Cursor.{Answer, event, batch, skipped, raw, saved, Cursor}
 
 -- The answer is a refusal for lack of memory.
 pub data LacksMemory : Answer → Type 0 where
   no_event : (r : Refusal) → r.complaint ≡ out_of_memory → LacksMemory (event (Err r))
   no_more : (given : List Event) (r : Refusal) → r.complaint ≡ out_of_memory → LacksMemory (batch given (Err r))
+  no_skip : (r : Refusal) → r.complaint ≡ out_of_memory → LacksMemory (skipped (Err r))
+  no_capture : (r : Refusal) → r.complaint ≡ out_of_memory → LacksMemory (raw (Err r))
   no_point : (r : Refusal) → r.complaint ≡ out_of_memory → LacksMemory (saved (Err r))
 
 -- One of two answers to a call is out of memory, or both are one answer, after which both cursors are one.

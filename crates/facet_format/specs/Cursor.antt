@@ -1,10 +1,12 @@
 -- A cursor, and what each call of a reader answers there. It stands at places: on a walk, a finished list of events, the place says how
--- many events are passed; in an input it says what is passed and what is open. Skips and captures are not among the calls yet.
+-- many events are passed; in an input it says what is passed and what is open.
 use Rattle.std.specs.Prelude.{◌≡◌, ◌<◌, ◌≤◌, ℕ, zero, suc, Bool, true, false, List, [], ◌∷◌, length, slice_get, Option, Some, None, Result, Ok, Err}
 use Rattle.facet_format.specs.Span.{Span, span_at}
 use Rattle.facet_format.specs.Complaint.{Refusal, refusal_at, out_of_memory, save_limit}
 use Rattle.facet_format.specs.Event.{Event, Passed, takes_memory, peek_takes_memory}
 use Rattle.facet_format.specs.Kept.{found, without, with_point}
+use Rattle.facet_format.specs.Part.{Part, has_brackets, skip_of, capture_of, part_at}
+pub use Rattle.facet_format.specs.Part.{Source, last_token, last_of}
 
 -- ---- calls
 
@@ -13,6 +15,8 @@ pub data Call : Type 0 where
   peek : Call
   -- up to so many events at once
   events : (limit : ℕ) → Call
+  skip : Call
+  capture : Call
   save : Call
   restore : (point : ℕ) → Call
   span : Call
@@ -22,6 +26,9 @@ pub data Answer : Type 0 where
   event : Result (Option Event) Refusal → Answer
   -- the events that were given out, with their number or the refusal after them
   batch : List Event → Result ℕ Refusal → Answer
+  skipped : Result (Unit {0}) Refusal → Answer
+  -- the bytes of the text that is captured
+  raw : Result (Option (List ℕ)) Refusal → Answer
   saved : Result ℕ Refusal → Answer
   restored : Answer
   spans : Option Span → Answer
@@ -44,28 +51,24 @@ pub record World (P : Type 0) : Type 1 where
   pub past : Passed → P → P
   -- the last token before a place
   pub last : P → Span
-
--- the last token of an event; before the first event, none
-abbrev pub last_token : Option Passed → Span
-last_token None = span_at 0 0
-last_token (Some p) = p.last
-
--- the last token of the first so many events
-abbrev pub last_of : List Passed → ℕ → Span
-last_of w zero = last_token None
-last_of w (suc n) = last_token (slice_get w n)
+  -- the input
+  pub bytes : List ℕ
+  -- This stands at a place, its text unread.
+  pub stands : P → Part P → Type 0
 
 abbrev pub event_or_end : Option Passed → Coming
 event_or_end None = the_end
 event_or_end (Some p) = an_event p
 
 -- the places on a walk: nothing is refused there
-abbrev pub on_walk : List Passed → World ℕ
+abbrev pub on_walk : Source → World ℕ
 on_walk w = record {
-  comes = λ place. event_or_end (slice_get w place);
+  comes = λ place. event_or_end (slice_get w.events place);
   refuses = λ place refusal. ⊥;
   past = λ p place. suc place;
-  last = last_of w;
+  last = last_of w.events;
+  bytes = w.bytes;
+  stands = λ place part. part ≡ part_at w place;
 }
 
 -- ---- the cursor
@@ -148,6 +151,8 @@ repeated r next = Some (event (Err r))
 repeated r peek = Some (event (Err r))
 repeated r (events zero) = None
 repeated r (events (suc k)) = Some (batch [] (Err r))
+repeated r skip = Some (skipped (Err r))
+repeated r capture = Some (raw (Err r))
 repeated r save = Some (saved (Err r))
 repeated r (restore point) = None
 repeated r span = None
@@ -187,6 +192,19 @@ pub data Step {P : Type 0} (w : World P) (c : Cursor P) : Call → Answer → Cu
   gives_up : (k : ℕ) (given : List Event) (place : P) (r : Refusal) → c.refusal ≡ None → Comes w c.spot.place given place →
       length given ≤ k → w.comes place ≡ a_refusal → w.refuses place r →
       Step w c (events (suc k)) (batch given (Err r)) (refused_at c (spot_after given place c.spot) r)
+  skips : (part : Part P) (place : P) → c.refusal ≡ None → w.stands c.spot.place part → skip_of part ≡ Ok place →
+      Step w c skip (skipped (Ok tt)) (at_spot c (unpeeked place))
+  -- Open brackets are remembered, and no more.
+  skips_without_memory : (part : Part P) → c.refusal ≡ None → w.stands c.spot.place part → has_brackets part ≡ true →
+      Step w c skip (skipped (Err (no_memory_at (current_span w c.spot)))) (refused_at c c.spot (no_memory_at (current_span w c.spot)))
+  skips_nothing : (part : Part P) (r : Refusal) → c.refusal ≡ None → w.stands c.spot.place part → skip_of part ≡ Err r →
+      Step w c skip (skipped (Err r)) (refused_at c c.spot r)
+  captures : (part : Part P) (text : List ℕ) (place : P) → c.refusal ≡ None → w.stands c.spot.place part →
+      capture_of w.bytes part ≡ Ok (text, place) → Step w c capture (raw (Ok (Some text))) (at_spot c (unpeeked place))
+  captures_without_memory : (part : Part P) → c.refusal ≡ None → w.stands c.spot.place part → has_brackets part ≡ true →
+      Step w c capture (raw (Err (no_memory_at (current_span w c.spot)))) (refused_at c c.spot (no_memory_at (current_span w c.spot)))
+  captures_nothing : (part : Part P) (r : Refusal) → c.refusal ≡ None → w.stands c.spot.place part →
+      capture_of w.bytes part ≡ Err r → Step w c capture (raw (Err r)) (refused_at c c.spot r)
   saves : c.refusal ≡ None → c.counter < greatest → Step w c save (saved (Ok (suc c.counter))) (kept_here c)
   -- a refused save changes nothing, and the refusal is not kept
   saves_at_the_limit : c.refusal ≡ None → c.counter ≡ greatest →

@@ -1,7 +1,7 @@
 -- What the definitions of numbers, refusals and cursors mean, in the subject's own words. Each law is the contract of a function of the module `laws`.
-use Rattle.std.specs.Prelude.{◌≡◌, ℕ, ◌≤◌, ◌↔◌, true, false, List, length, take}
-use Rattle.facet_format.specs.Event.{Passed}
-use Rattle.facet_format.specs.Cursor.{Cursor, Call, on_walk, Step, Run, Answer, next, peek}
+use Rattle.std.specs.Prelude.{◌≡◌, ℕ, ◌≤◌, ◌↔◌, true, false, List, [], ◌∷◌, length, take, Some, Ok}
+use Rattle.facet_format.specs.Cursor.{Source, Cursor, Call, on_walk, Step, Run, Answer, event, next, peek, skip, capture}
+use Rattle.facet_format.specs.Event.{Event}
 use Rattle.facet_format.specs.Agree.{Agree, AgreeToLack}
 use Rattle.facet_format.specs.Complaint.{out_of_memory}
 use Rattle.facet_format.specs.declared.error.DeserializeErrorKind.{DeserializeErrorKind}
@@ -26,15 +26,26 @@ MemoryIsItsKind = (kind : DeserializeErrorKind) → complaint_of kind ≡ out_of
 
 -- The call after a peek answers what the peek did.
 abbrev pub PeekIsNext : Type 0
-PeekIsNext = (w : List Passed) (c between last : Cursor ℕ) (shown answer : Answer) → Step (on_walk w) c peek shown between →
+PeekIsNext = (w : Source) (c between last : Cursor ℕ) (shown answer : Answer) → Step (on_walk w) c peek shown between →
     Step (on_walk w) between next answer last → shown ≡ answer
 
 -- A cursor answers a call in one way, and is then in one state, out of memory aside.
 abbrev pub StepsAgree : Type 0
-StepsAgree = (w : List Passed) (c d e : Cursor ℕ) (call : Call) (a b : Answer) → Step (on_walk w) c call a d →
+StepsAgree = (w : Source) (c d e : Cursor ℕ) (call : Call) (a b : Answer) → Step (on_walk w) c call a d →
     Step (on_walk w) c call b e → Agree a b d e
 
 -- Two runs of one cursor with the same calls give the same answers, up to the first out of memory in either.
 abbrev pub RunsAgree : Type 0
-RunsAgree = (w : List Passed) (c d e : Cursor ℕ) (calls : List Call) (these those : List Answer) → Run (on_walk w) c calls these d →
+RunsAgree = (w : Source) (c d e : Cursor ℕ) (calls : List Call) (these those : List Answer) → Run (on_walk w) c calls these d →
     Run (on_walk w) c calls those e → AgreeToLack these those
+
+-- A skip and a capture.
+pub data PassesUnread : Call → Type 0 where
+  by_skip : PassesUnread skip
+  by_capture : PassesUnread capture
+
+-- After a peek that answers an event, a skip and a capture answer what they answer without the peek, out of memory aside.
+abbrev pub PeekChangesNoSkip : Type 0
+PeekChangesNoSkip = (w : Source) (c peeked d e : Cursor ℕ) (call : Call) (shown : Event) (a b : Answer) → PassesUnread call →
+    Step (on_walk w) c peek (event (Ok (Some shown))) peeked → Step (on_walk w) peeked call a d → Step (on_walk w) c call b e →
+    AgreeToLack (a ∷ []) (b ∷ [])

@@ -8,6 +8,8 @@ pub mod HeldText
 pub mod Kept
 pub mod Laws
 pub mod Number
+pub mod Part
 pub mod Span
+pub mod SerializerCall
 pub mod Standing
 pub mod Views

@@ -1,5 +1,6 @@
 -- What the types of the code stand for in the definitions. This file and `HeldText` name types of the code.
 use Rattle.std.specs.Prelude.{ℕ, List, map, Option, Some, None, Result, Ok, Err}
+use Rattle.std.specs.Borrow.{Bor}
 use Rattle.std.specs.Option.{option_map}
 use Rattle.facet_format.specs.declared.span.Span.{Span as RustSpan}
 use Rattle.facet_format.specs.declared.numeral.NumberHint.{NumberHint}
@@ -98,6 +99,14 @@ answer_of_event (Err e) = cursor.event (Err (parse_refusal e))
 abbrev pub answer_of_events : List ParseEvent → Result ℕ ParseError → Answer
 answer_of_events given (Ok n) = cursor.batch (map event_of given) (Ok n)
 answer_of_events given (Err e) = cursor.batch (map event_of given) (Err (parse_refusal e))
+
+abbrev pub answer_of_skip : Result (Unit {0}) ParseError → Answer
+answer_of_skip (Ok nothing) = cursor.skipped (Ok tt)
+answer_of_skip (Err e) = cursor.skipped (Err (parse_refusal e))
+
+abbrev pub answer_of_capture : Result (Option (Bor (List ℕ))) ParseError → Answer
+answer_of_capture (Ok text) = cursor.raw (Ok (option_map (λ t. t.now) text))
+answer_of_capture (Err e) = cursor.raw (Err (parse_refusal e))
 
 abbrev pub answer_of_save : Result SavePoint ParseError → Answer
 answer_of_save (Ok point) = cursor.saved (Ok point.0)

@@ -1,7 +1,7 @@
 //! What the definitions of numbers, refusals and cursors mean, in the subject's own words: each law is the contract of a function
 //! without effect.
 
-ghost use Rattle.facet_format.specs.Laws.{NumberIsLongest, NumberIsTested, MemoryIsItsKind, PeekIsNext, StepsAgree, RunsAgree};
+ghost use Rattle.facet_format.specs.Laws.{NumberIsLongest, NumberIsTested, MemoryIsItsKind, PeekIsNext, PeekChangesNoSkip, StepsAgree, RunsAgree};
 
 /// Where more than a minus stands, the number at the start of the bytes is a number, and no longer prefix of them is one
 /// (RFC 8259, section 6).
@@ -23,6 +23,11 @@ pub fn memory_is_its_kind()
 /// them nowhere.
 pub fn peek_is_next()
     ensures { PeekIsNext }
+{}
+
+/// After a peek that answers an event, a skip and a capture answer what they answer without it, out of memory aside.
+pub fn peek_changes_no_skip()
+    ensures { PeekChangesNoSkip }
 {}
 
 /// A cursor answers a call in one way, and is then in one state, unless one of two answers is out of memory.

@@ -1,5 +1,5 @@
 //! What formats share: `Span`, events (`ParseEvent`), `Decimal`, how reading is refused (`DeserializeError`, `ParseError`), and
-//! `FormatParser`, the trait of parsers.
+//! `FormatParser` and `FormatSerializer`, the traits of parsers and of serializers.
 #![tactic(auto)]
 
 mod decimal;
@@ -9,6 +9,7 @@ pub mod laws;
 pub mod numeral;
 mod parse_error;
 mod parser;
+mod serializer;
 mod span;
 
 pub use decimal::Decimal;
@@ -18,4 +19,5 @@ pub use event::{
 };
 pub use parse_error::ParseError;
 pub use parser::FormatParser;
+pub use serializer::FormatSerializer;
 pub use span::Span;

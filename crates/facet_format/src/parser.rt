@@ -2,9 +2,9 @@
 
 ghost use Rattle.std.specs.Prelude.{◌≡◌, ◌+◌, ◌<◌, ◌≤◌, List, ◌++◌, IfOk, OnSome, IsSome};
 ghost use Rattle.facet_format.specs.declared.event.ParseEvent.{ParseEvent};
-ghost use Rattle.facet_format.specs.Cursor.{next, peek, events, save, restore, restored, span};
+ghost use Rattle.facet_format.specs.Cursor.{next, peek, events, skip, capture, save, restore, restored, span};
 ghost use Rattle.facet_format.specs.Standing.{IsStep};
-ghost use Rattle.facet_format.specs.Views.{answer_of_event, answer_of_events, answer_of_save, answer_of_span};
+ghost use Rattle.facet_format.specs.Views.{answer_of_event, answer_of_events, answer_of_skip, answer_of_capture, answer_of_save, answer_of_span};
 
 use crate::event::{ParseEvent, SavePoint};
 use crate::parse_error::ParseError;
@@ -16,14 +16,13 @@ use std::collections::VecDeque;
 /// On an input with a document it stands at a cursor on that document's walk, its list of events, and each call is one
 /// step of that cursor.
 pub trait FormatParser<'de> {
-    ghost use Rattle.std.specs.Prelude.{ℕ, List};
-    ghost use Rattle.facet_format.specs.Event.{Passed};
-    ghost use Rattle.facet_format.specs.Cursor.{Cursor};
+    ghost use Rattle.std.specs.Prelude.{ℕ};
+    ghost use Rattle.facet_format.specs.Cursor.{Source, Cursor};
 
-    /// It stands at this cursor on this walk.
-    ghost at: { Self → List Passed → Cursor ℕ → Type 0 };
+    /// It stands at this cursor on this walk in an input.
+    ghost at: { Self → Source → Cursor ℕ → Type 0 };
 
-    /// So much is ahead of it: each event that is passed lowers it.
+    /// So much is ahead of it: each event that is passed lowers it, and each skip and capture.
     ghost ahead: { Self → ℕ };
 
     /// The next event, or `None` at the document's end.
@@ -48,6 +47,19 @@ pub trait FormatParser<'de> {
             × IsStep at self.old (events limit) (answer_of_events given result) self.new }
         ensures lowers { ahead self.new ≤ ahead self.old }
         ensures shorter { IfOk result (λ n. ahead self.new + n ≤ ahead self.old) };
+
+    /// Passes the next value with all that it holds, or the next key or end, and decodes nothing.
+    fn skip_value<'t>(&mut self) -> Result<(), ParseError<'t>>
+        ensures steps { IsStep at self.old skip (answer_of_skip result) self.new }
+        ensures lowers { ahead self.new ≤ ahead self.old }
+        ensures shorter { IfOk result (λ _. ahead self.new < ahead self.old) };
+
+    /// Passes the next value with all that it holds, and answers its bytes as they stand in the input, where the parser has all
+    /// of it.
+    fn capture_raw<'t>(&mut self) -> Result<Option<&'de str>, ParseError<'t>>
+        ensures steps { IsStep at self.old capture (answer_of_capture result) self.new }
+        ensures lowers { ahead self.new ≤ ahead self.old }
+        ensures shorter { IfOk result (λ _. ahead self.new < ahead self.old) };
 
     /// Keeps where it stands, under a number of its own.
     fn save<'t>(&mut self) -> Result<SavePoint, ParseError<'t>>

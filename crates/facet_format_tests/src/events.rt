@@ -21,10 +21,14 @@ fn is_copied(alloc: Global, event: &ParseEvent<'_>) -> bool {
     }
 }
 
-/// Whether an event of this kind is copied, and the kind is shown so.
+/// Whether the event is copied, and its kind is shown so.
+fn is_kept(alloc: Global, event: &ParseEvent<'_>, shown: &str) -> bool {
+    is_copied(alloc, event) && shows(alloc, &event.kind, shown)
+}
+
+/// The same of an event of this kind.
 fn holds(alloc: Global, kind: ParseEventKind<'_>, shown: &str) -> bool {
-    let event = ParseEvent::new(kind, Span::new(3, 4));
-    is_copied(alloc, &event) && shows(alloc, &event.kind, shown)
+    is_kept(alloc, &ParseEvent::new(kind, Span::new(3, 4)), shown)
 }
 
 fn expect(rt: &impl Abort, alloc: Global, kind: ParseEventKind<'_>, shown: &str) {

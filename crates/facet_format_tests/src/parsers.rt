@@ -1,7 +1,7 @@
 //! Generic code over parsers is proved from the trait alone.
 
 ghost use Rattle.std.specs.Prelude.{◌≡◌, ◌+◌, ◌^◌, ◌<◌, ◌≤◌, ℕ, List, IfSome, IfOk};
-ghost use Rattle.facet_format.specs.Event.{Passed};
+ghost use Rattle.facet_format.specs.Part.{Source};
 ghost use Rattle.facet_format.specs.Cursor.{Cursor};
 ghost use Rattle.facet_format.specs.Views.{event_of};
 ghost use Rattle.facet_format.specs.declared.error.DeserializeErrorKind.TheVariants.{OutOfMemory};
@@ -17,9 +17,9 @@ use std::collections::VecDeque;
 fn peek_and_next<'de, P: FormatParser<'de>>(
     parser: &mut P,
 ) -> Option<(ParseEvent<'de>, ParseEvent<'de>)>
-    ensures alike { (w : List Passed) (c : Cursor ℕ) → P.at parser.old w c
+    ensures alike { (w : Source) (c : Cursor ℕ) → P.at parser.old w c
         → IfSome result (λ events. event_of events.0 ≡ event_of events.1) }
-    ensures stands { (w : List Passed) (c : Cursor ℕ) → P.at parser.old w c → (last : Cursor ℕ) × P.at parser.new w last }
+    ensures stands { (w : Source) (c : Cursor ℕ) → P.at parser.old w c → (last : Cursor ℕ) × P.at parser.new w last }
 {
     match parser.peek_event() {
         Ok(Some(shown)) => match parser.next_event() {
@@ -103,6 +103,20 @@ impl<'de> FormatParser<'de> for Nulls {
         Ok(0)
     }
 
+    fn skip_value<'t>(&mut self) -> Result<(), ParseError<'t>> {
+        if self.left == 0 {
+            let kind = DeserializeError::out_of_memory().kind;
+            return Err(ParseError::new(Span::new(0, 4), kind));
+        }
+        self.left -= 1;
+        Ok(())
+    }
+
+    fn capture_raw<'t>(&mut self) -> Result<Option<&'de str>, ParseError<'t>> {
+        self.skip_value()?;
+        Ok(Some("null"))
+    }
+
     fn save<'t>(&mut self) -> Result<SavePoint, ParseError<'t>> {
         Ok(SavePoint(1))
     }
@@ -132,6 +146,44 @@ fn three_events_come(rt: HostRuntime) {
     assert!(rt; counted(3) == Ok(3));
 }
 
+/// How many values are skipped before a refusal.
+fn skipped<'de, P: FormatParser<'de>>(parser: &mut P) -> usize
+    requires fits { P.ahead parser.old < 2 ^ 64 }
+{
+    let mut count = 0;
+    while parser.skip_value().is_ok() {
+        count += 1;
+    }
+    count
+}
+
+/// The raw text of the next value, where there is one.
+fn raw<'de, P: FormatParser<'de>>(parser: &mut P) -> Option<&'de str> {
+    parser.capture_raw().ok().flatten()
+}
+
+/// How many values are skipped where this many are left.
+fn skipped_of(left: usize) -> usize {
+    skipped(&mut Nulls { left })
+}
+
+/// The raw text of the first of so many values.
+fn raw_of(left: usize) -> Option<&'static str> {
+    raw(&mut Nulls { left })
+}
+
+#[test]
+fn values_are_skipped_until_a_refusal(rt: HostRuntime) {
+    assert!(rt; skipped_of(3) == 3);
+    assert!(rt; skipped_of(0) == 0);
+}
+
+#[test]
+fn raw_text_is_captured(rt: HostRuntime) {
+    assert!(rt; raw_of(1) == Some("null"));
+    assert!(rt; raw_of(0) == None);
+}
+
 /// Whether a peek shows what the next call gives.
 fn peek_shows_next(left: usize) -> bool {
     match peek_and_next(&mut Nulls { left }) {
@@ -147,12 +199,12 @@ fn a_peek_shows_the_next_event(rt: HostRuntime) {
 
 #[test]
 fn a_span_is_always_there(rt: HostRuntime) {
-    assert_eq!(rt; position(&Nulls { left: 4 }), 7);
-    assert_eq!(rt; position(&Nulls { left: usize::MAX }), usize::MAX);
+    assert!(rt; position(&Nulls { left: 4 }) == 7);
+    assert!(rt; position(&Nulls { left: usize::MAX }) == usize::MAX);
 }
 
 #[test]
 fn refused_growths_are_kind_9(rt: HostRuntime) {
-    assert_eq!(rt; code_of_growth(&Nulls { left: 4 }), 9);
-    assert_eq!(rt; DeserializeError::out_of_memory().kind.code(), 9);
+    assert!(rt; code_of_growth(&Nulls { left: 4 }) == 9);
+    assert!(rt; DeserializeError::out_of_memory().kind.code() == 9);
 }

@@ -9,9 +9,10 @@ use Rattle.facet_json_document.specs.Tree.{Tree, Trees, no_trees, tree}
 use Rattle.facet_json_document.specs.Place.{Place}
 use Rattle.facet_json_document.specs.Future.{Future, gives}
 use Rattle.facet_format.specs.Views.{event_kind_of}
-use Rattle.facet_json.specs.Views.{trees_of}
-use Rattle.facet_json.specs.Inner.Told.{TellsItems, BreaksItems}
-use Rattle.facet_json.specs.Inner.Reading.{IsValueRead, AreItemsRead, IsValueUnread, AreItemsUnread}
+use Rattle.facet_json_tree.specs.Views.{trees_of}
+use Rattle.facet_json_transcode.specs.Told.{TellsItems, BreaksItems}
+use Rattle.facet_json_transcode.specs.Reading.{IsValueRead, IsValueUnread}
+use Rattle.facet_json.specs.Inner.Reading.{AreItemsRead, AreItemsUnread}
 use Rattle.facet_json.proofs.FirstEventTells.{items-ended, items-first, items_end-whole, items-broken}
 
 -- trees before others

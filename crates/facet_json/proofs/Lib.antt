@@ -1,12 +1,5 @@
-pub mod CompactText
-pub mod DocumentFromRoot
-pub mod Escapes
 pub mod FirstEventTells
 pub mod ItemsRead
 pub mod MembersRead
-pub mod NextEventComes
-pub mod PrefixBreaksOff
 pub mod ReadingValues
-pub mod TreeViews
 pub mod ValuesBegin
-pub mod WalkTells

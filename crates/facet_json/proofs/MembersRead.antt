@@ -9,7 +9,7 @@ use Rattle.facet_format.specs.HeldText.{text_of}
 use Rattle.facet_format.specs.declared.event.FieldKey.{FieldKey}
 use Rattle.facet_format.specs.declared.event.ParseEventKind.{ParseEventKind}
 use Rattle.facet_format.specs.declared.event.ParseEventKind.TheVariants as kinds
-use Rattle.facet_json.specs.declared.tree.Tree.{Tree as RustTree}
+use Rattle.facet_json_tree.specs.declared.tree.Tree.{Tree as RustTree}
 use Rattle.facet_format.specs.Complaint.{Refusal}
 use Rattle.facet_format.specs.Event.{struct_end, field_key, Text, bytes_of, Passed}
 use Rattle.facet_json_token.specs.Tokens.{Tokens}
@@ -17,9 +17,10 @@ use Rattle.facet_json_document.specs.Tree.{Tree, Pairs, no_pairs, pair}
 use Rattle.facet_json_document.specs.Place.{Place}
 use Rattle.facet_json_document.specs.Future.{Future, gives}
 use Rattle.facet_format.specs.Views.{event_kind_of}
-use Rattle.facet_json.specs.Views.{pairs_view, tree_view}
-use Rattle.facet_json.specs.Inner.Told.{is_member, TellsMembers, BreaksMembers}
-use Rattle.facet_json.specs.Inner.Reading.{IsValueRead, AreMembersRead, IsValueUnread, AreMembersUnread}
+use Rattle.facet_json_tree.specs.Views.{pairs_view, tree_view}
+use Rattle.facet_json_transcode.specs.Told.{is_member, TellsMembers, BreaksMembers}
+use Rattle.facet_json_transcode.specs.Reading.{IsValueRead, IsValueUnread}
+use Rattle.facet_json.specs.Inner.Reading.{AreMembersRead, AreMembersUnread}
 use Rattle.facet_json.proofs.FirstEventTells.{members-ended, members-first, members-begin, members_broken-begin, members-broken}
 
 -- members before others

@@ -8,8 +8,9 @@ use Rattle.facet_json_document.specs.Place.{Place}
 use Rattle.facet_json_document.specs.Refusal.{IsStuck}
 use Rattle.facet_json_document.specs.Future.{Future, gives, stuck}
 use Rattle.facet_json_protocol.specs.Now.{Now, ahead, future_of}
-use Rattle.facet_json.specs.Inner.Told.{tree_of_scalar, opens}
-use Rattle.facet_json.specs.Inner.Reading.{WentOn, LacksMemory, StopsAt, GivesNone, lacks_memory, at_the_end, is_stuck, IsRead, IsUnread, IsValueRead, IsValueUnread, AreItemsUnread, AreMembersUnread}
+use Rattle.facet_json_transcode.specs.Told.{tree_of_scalar, opens}
+use Rattle.facet_json_transcode.specs.Reading.{LacksMemory, StopsAt, GivesNone, lacks_memory, at_the_end, is_stuck, IsRead, IsUnread, IsValueRead, IsValueUnread}
+use Rattle.facet_json.specs.Inner.Reading.{WentOn, AreItemsUnread, AreMembersUnread}
 use Rattle.facet_json.proofs.FirstEventTells.{broken-opens, scalar-told, list-told, object-told, list-broken, object-broken, HasFirst, has_first, HasFirstOr, first, none, told-has, items-has, members-has, broken-has, items_broken-has, members_broken-has}
 
 -- ---- refusals

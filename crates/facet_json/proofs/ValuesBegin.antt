@@ -10,8 +10,9 @@ use Rattle.facet_json_document.specs.Place.{Place}
 use Rattle.facet_json_document.specs.Future.{Future, gives}
 use Rattle.facet_json_protocol.specs.Now.{Now, future_of}
 use Rattle.facet_json_protocol.specs.Next.{PassesNext}
-use Rattle.facet_json.specs.Inner.Told.{tree_of_scalar, opens, begins}
-use Rattle.facet_json.specs.Inner.Reading.{LacksMemory, IsUnread, AreItemsRead, AreMembersRead, IsValueUnread, AreItemsUnread, AreMembersUnread, HasBegun, whole, a_list, an_object, IsRefused, begins_none, a_scalar, BeganValue, IsFilled, IsUnfilled}
+use Rattle.facet_json_transcode.specs.Told.{tree_of_scalar, opens, begins}
+use Rattle.facet_json_transcode.specs.Reading.{LacksMemory, IsUnread, IsValueUnread}
+use Rattle.facet_json.specs.Inner.Reading.{AreItemsRead, AreMembersRead, AreItemsUnread, AreMembersUnread, HasBegun, whole, a_list, an_object, IsRefused, begins_none, a_scalar, BeganValue, IsFilled, IsUnfilled}
 use Rattle.facet_json.proofs.FirstEventTells.{told-begins, broken-opens, list-told, object-told, list-broken, object-broken}
 use Rattle.facet_json.proofs.ReadingValues.{scalar-unread, list-unread, object-unread, unread-at}
 

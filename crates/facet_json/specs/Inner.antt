@@ -1,4 +1,2 @@
--- Definitions that serve private contracts alone, and the laws of `PartialEq` and `Eq`, whose proofs the language wants here.
+-- Definitions that serve private contracts alone.
 pub mod Reading
-pub mod SameLaws
-pub mod Told

@@ -6,6 +6,7 @@ pub use Rattle.facet_format.specs.Number
 pub use Rattle.facet_format.specs.Event
 pub use Rattle.facet_format.specs.HeldText
 pub use Rattle.facet_format.specs.Cursor
+pub use Rattle.facet_format.specs.Part
 pub use Rattle.facet_format.specs.Kept
 pub use Rattle.facet_format.specs.Standing
 pub use Rattle.facet_format.specs.Alike
@@ -31,9 +32,26 @@ pub use Rattle.facet_json_document.specs.Walk
 pub use Rattle.facet_json_document.specs.Place
 pub use Rattle.facet_json_document.specs.Future
 pub use Rattle.facet_json_document.specs.InputPlace
+pub use Rattle.facet_json_document.specs.StandsOn
+pub use Rattle.facet_json_document.specs.Unread
+pub use Rattle.facet_json_document.specs.UnreadLaws
 pub use Rattle.facet_json_document.specs.Quoted
 pub use Rattle.facet_json_document.specs.Text
 pub use Rattle.facet_json_document.specs.TextLaws
+pub use Rattle.facet_json_tree.specs.Content
+pub use Rattle.facet_json_tree.specs.Lookup
+pub use Rattle.facet_json_tree.specs.Same
+pub use Rattle.facet_json_tree.specs.Views
+pub use Rattle.facet_format.specs.SerializerCall
+pub use Rattle.facet_json_options.specs.Views as OptionsViews
+pub use Rattle.facet_json_serializer.specs.Serializer
+pub use Rattle.facet_json_serializer.specs.TreeCalls
+pub use Rattle.facet_json_serializer.specs.Views as SerializerViews
+pub use Rattle.facet_json_written.specs.AsRead
+pub use Rattle.facet_json_written.specs.ReadBack
+pub use Rattle.facet_json_written.specs.RfcText
+pub use Rattle.facet_json_written.specs.RfcLaws
+pub use Rattle.facet_json_write.specs.Write
 pub use Rattle.facet_json_prefix.specs.Begun
 pub use Rattle.facet_json_prefix.specs.EventLaws
 pub use Rattle.facet_json_prefix.specs.Refusal
@@ -44,13 +62,16 @@ pub use Rattle.facet_json_protocol.specs.Within
 pub use Rattle.facet_json_protocol.specs.Alone
 pub use Rattle.facet_json_protocol.specs.ParserLaws
 pub use Rattle.facet_json_protocol.specs.CallLaws
+pub use Rattle.facet_json_protocol.specs.SkipLaws
 pub use Rattle.facet_json_protocol.specs.Headline
 pub use Rattle.facet_json_core.specs.ScriptViews
+pub use Rattle.facet_json_transcode.specs.Told
+pub use Rattle.facet_json_transcode.specs.Reading
+pub use Rattle.facet_json_transcode.specs.Transcode
+pub use Rattle.facet_json_transcode.specs.Views as TranscodeViews
 pub use Rattle.facet_format.specs.Views as FormatViews
 pub use Rattle.facet_format.specs.Laws as FormatLaws
 pub use Rattle.facet_json_scan.specs.Views as ScanViews
 pub use Rattle.facet_json_scan.specs.Laws as ScanLaws
 pub use Rattle.facet_json_document.specs.Laws as DocumentLaws
 pub mod Inner
-pub mod Same
-pub mod Views

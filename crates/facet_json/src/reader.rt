@@ -3,7 +3,6 @@
 ghost use Rattle.std.specs.Prelude.{◌≡◌, ◌≤◌, ◌<◌, ◌+◌, ◌⊎◌, false, [], string_bytes, length, None, Some, IfOk, IfErr, IfSome, OnOk, MatchResult, MatchOption};
 ghost use Rattle.facet_format.specs.Complaint.{no_memory, out_of_memory};
 ghost use Rattle.facet_format.specs.Event.{bytes_of, sequence_end, struct_end};
-ghost use Rattle.facet_format.specs.Span.{stop};
 ghost use Rattle.facet_format.specs.Views.{event_of, refusal_of, scalar_value_of};
 ghost use Rattle.facet_json_token.specs.Gap.{plain, jsonc};
 ghost use Rattle.facet_json_document.specs.Node.{Node};
@@ -12,17 +11,18 @@ ghost use Rattle.facet_json_document.specs.Document.{IsDocument};
 ghost use Rattle.facet_json_document.specs.Future.{Future};
 ghost use Rattle.facet_json_prefix.specs.Refusal.{Refuses};
 ghost use Rattle.facet_json_protocol.specs.Now.{ahead, future_of};
-ghost use Rattle.facet_json_protocol.specs.Next.{PassesNext};
-ghost use Rattle.facet_json.specs.Inner.Told.{tree_of_scalar, is_member};
-ghost use Rattle.facet_json.specs.Inner.Reading.{GivesNone, LacksMemory, WentOn, IsValueRead, AreItemsRead, AreMembersRead, IsValueUnread, AreItemsUnread, AreMembersUnread, HasBegun, IsRefused, BeganValue, BeganMember, PassedEnd, IsKey, IsFilled, IsUnfilled};
-ghost use Rattle.facet_json.specs.Views.{tree_view, trees_view, pairs_view};
+ghost use Rattle.facet_json_transcode.specs.Told.{tree_of_scalar, is_member};
+ghost use Rattle.facet_json_transcode.specs.Reading.{LacksMemory, IsValueRead, IsValueUnread};
+ghost use Rattle.facet_json.specs.Inner.Reading.{WentOn, AreItemsRead, AreMembersRead, AreItemsUnread, AreMembersUnread, HasBegun, IsRefused, BeganValue, BeganMember, PassedEnd, IsKey, IsFilled, IsUnfilled};
+ghost use Rattle.facet_json_tree.specs.Views.{tree_view, trees_view, pairs_view};
 
-use crate::tree::Tree;
 use facet_format::{
     Decimal, DeserializeError, DeserializeErrorKind, FormatParser, ParseEvent, ParseEventKind,
     ScalarValue, Span,
 };
 use facet_json_core::JsonParser;
+use facet_json_transcode::next_of_value;
+use facet_json_tree::Tree;
 use std::alloc::Global;
 
 /// Reads the plain document that the bytes begin with (RFC 8259, sections 2 to 7, with lenient readings such as a trailing comma). What follows it is
@@ -32,6 +32,13 @@ use std::alloc::Global;
 /// from_slice(alloc, b"[1,]")     Ok: Tree::List of Tree::U64(1)
 /// from_slice(alloc, b"[1 2]")    Err: kind 3, UnexpectedToken { got: "U64", expected: "',' or ']'" }, span 3+1
 /// ```
+///
+/// # Depth
+///
+/// Reading recurses once for each array or object within another (RFC 8259, section 9, lets a reader limit their depth; this one
+/// sets none), and a program that runs out of the machine's stack ends at once. As measured and not as promised, a stack of 8 MiB
+/// held 11,300 of them and one of 2 MiB 2,800, at about 740 bytes each, and what the caller has on it comes off that. Where bytes
+/// come from strangers, count the containers that events open before reading, or use `transcode`: neither recurses.
 ///
 /// # Errors
 ///
@@ -53,6 +60,8 @@ pub fn from_slice<'t>(alloc: Global, input: &[u8]) -> Result<Tree, DeserializeEr
 /// ```text
 /// from_slice_jsonc(alloc, b"[1, /* one */]")    Ok: Tree::List of Tree::U64(1)
 /// ```
+///
+/// Recurses as [`from_slice`].
 ///
 /// # Errors
 ///
@@ -89,33 +98,6 @@ fn root<'t>(alloc: Global, parser: &mut JsonParser<'_>) -> Result<Tree, Deserial
     finish(alloc, parser, first)
 }
 
-/// The next event, where a value has not ended.
-fn next<'t, 'de>(parser: &mut JsonParser<'de>) -> Result<ParseEvent<'de>, DeserializeError<'t>>
-    requires free { parser.old.cursor.refusal ≡ None }
-    ensures same { parser.new.buffer ≡ parser.old.buffer }
-    ensures gave { IfOk result (λ e. PassesNext parser.old (event_of e) parser.new) }
-    ensures shorter { OnOk result (ahead parser.new < ahead parser.old) }
-    ensures event_within { IfOk result (λ e. stop (event_of e).span ≤ length parser.new.buffer) }
-    ensures refused { IfErr result (λ e. GivesNone parser.old (refusal_of e)) }
-    ensures within { IfErr result (λ e. IfSome e.span (λ s. s.offset + s.len ≤ length parser.new.buffer)) }
-{
-    match parser.next_event()? {
-        Some(event) => Ok(event),
-        None => Err(ended(parser)),
-    }
-}
-
-/// The refusal of a value where the parser is at the end.
-fn ended<'t>(parser: &JsonParser<'_>) -> DeserializeError<'t>
-    ensures { IfSome result.span (λ s. s.offset + s.len ≤ length parser.now.buffer) }
-{
-    let end = parser.current_span().unwrap().end();
-    DeserializeError {
-        kind: DeserializeErrorKind::UnexpectedEof { expected: "value" },
-        span: Some(Span::new(end, 0)),
-    }
-}
-
 /// The tree of the value before which the parser stands, its items or members still to be read. Passes its first event.
 fn begin_value<'t>(alloc: Global, parser: &mut JsonParser<'_>) -> Result<Tree, DeserializeError<'t>>
     requires free { parser.old.cursor.refusal ≡ None }
@@ -125,7 +107,7 @@ fn begin_value<'t>(alloc: Global, parser: &mut JsonParser<'_>) -> Result<Tree, D
     ensures refused { IfErr result (λ e. IsValueUnread parser.old.buffer (future_of parser.old) (refusal_of e)) }
     ensures within { IfErr result (λ e. IfSome e.span (λ s. s.offset + s.len ≤ length parser.new.buffer)) }
 {
-    begun(alloc, next(parser)?)
+    begun(alloc, next_of_value(parser)?)
 }
 
 /// The next item of a list, its own items or members still to be read. Nothing at the end of the list, which is passed.
@@ -140,7 +122,7 @@ fn begin_item<'t>(
     ensures refused { IfErr result (λ e. AreItemsUnread parser.old.buffer (future_of parser.old) (refusal_of e)) }
     ensures within { IfErr result (λ e. IfSome e.span (λ s. s.offset + s.len ≤ length parser.new.buffer)) }
 {
-    let first = next(parser)?;
+    let first = next_of_value(parser)?;
     if let ParseEventKind::SequenceEnd = first.kind {
         return Ok(None);
     }
@@ -159,7 +141,7 @@ fn begin_member<'t>(
     ensures refused { IfErr result (λ e. AreMembersUnread parser.old.buffer (future_of parser.old) (refusal_of e)) }
     ensures within { IfErr result (λ e. IfSome e.span (λ s. s.offset + s.len ≤ length parser.new.buffer)) }
 {
-    match member_key(alloc, next(parser)?)? {
+    match member_key(alloc, next_of_value(parser)?)? {
         Some(key) => Ok(Some((key, begin_value(alloc, parser)?))),
         None => Ok(None),
     }

@@ -9,8 +9,8 @@ use Rattle.facet_format.specs.Event as event
 use Rattle.facet_format.specs.Event.{Scalar, EventKind, Event, bytes_of}
 use Rattle.facet_format.specs.Cursor as answer
 use Rattle.facet_format.specs.Cursor.{Answer}
-use Rattle.facet_json_document.specs.Text.{bool_text}
-use Rattle.facet_json_document.specs.Quoted.{quoted}
+use Rattle.facet_json.specs.Text.{bool_text}
+use Rattle.facet_json.specs.Quoted.{quoted}
 
 -- a line of a name and of where it stands, as `StructEnd 7+1`
 abbrev pub place_line : List ℕ → Span → List ℕ
@@ -66,11 +66,20 @@ abbrev pub count_line : Result ℕ Refusal → List ℕ
 count_line (Ok n) = codes "events " ++ decimal n ++ codes "\n"
 count_line (Err r) = refusal_line r
 
+-- the line of a captured text, as `raw "[1]"`
+abbrev pub raw_line : Option (List ℕ) → List ℕ
+raw_line None = codes "None\n"
+raw_line (Some text) = codes "raw " ++ quoted text ++ codes "\n"
+
 -- the lines of an answer; of several events, one of each and then one of their number, or of the refusal after them
 abbrev pub answer_lines : Answer → List ℕ
 answer_lines (answer.event (Ok e)) = next_line e
 answer_lines (answer.event (Err r)) = refusal_line r
 answer_lines (answer.batch given count) = flat_map event_line given ++ count_line count
+answer_lines (answer.skipped (Ok done)) = codes "ok\n"
+answer_lines (answer.skipped (Err r)) = refusal_line r
+answer_lines (answer.raw (Ok text)) = raw_line text
+answer_lines (answer.raw (Err r)) = refusal_line r
 answer_lines (answer.saved (Ok n)) = codes "point " ++ decimal n ++ codes "\n"
 answer_lines (answer.saved (Err r)) = refusal_line r
 answer_lines answer.restored = codes "ok\n"

@@ -1,20 +1,20 @@
 -- What a run of the program owes.
-use Rattle.std.specs.Prelude.{◌≡◌, ℕ, ◌⊎◌, List, [], ◌∷◌, ◌++◌, map, Option, Some, None, Result, Ok, Err, IfSome}
+use Rattle.std.specs.Prelude.{◌≡◌, ℕ, ◌⊎◌, Bool, List, [], ◌∷◌, ◌++◌, map, Option, Some, None, Result, Ok, Err, IfSome}
 use Rattle.std.specs.Option.{option_map}
 use Rattle.std.specs.List.{flat_map}
 use Rattle.std.specs.Io.KnownBytes.{Appends}
 use Rattle.facet_format.specs.declared.span.Span.{Span}
-use Rattle.facet_json_token.specs.Gap.{Mode}
-use Rattle.facet_json_document.specs.Node.{Node}
-use Rattle.facet_json_document.specs.Tree.{Tree}
-use Rattle.facet_json_document.specs.Document.{IsDocument}
+use Rattle.facet_json.specs.Gap.{Mode}
+use Rattle.facet_json.specs.Node.{Node}
+use Rattle.facet_json.specs.Tree.{Tree}
+use Rattle.facet_json.specs.Document.{IsDocument}
 use Rattle.facet_format.specs.Complaint.{Refusal, code_of}
 use Rattle.facet_json.specs.Refusal.{Refuses}
-use Rattle.facet_json_protocol.specs.Now.{Now, fresh}
-use Rattle.facet_json_protocol.specs.Move.{MovesAll}
+use Rattle.facet_json.specs.Now.{Now, fresh}
+use Rattle.facet_json.specs.Move.{MovesAll}
 use Rattle.facet_format.specs.Event.{Event}
 use Rattle.facet_format.specs.Cursor.{Call, next, Answer, event}
-use Rattle.facet_json_document.specs.Text.{default_options, text}
+use Rattle.facet_json.specs.Text.{Options, default_options, text}
 use Rattle.facet_format.specs.Views.{span_of}
 use Rattle.facet_json_command_line.specs.Arguments.{Command, fmt, events, drive}
 use Rattle.facet_json_command.specs.Lines.{event_line, answer_lines}
@@ -25,12 +25,16 @@ pub use Rattle.facet_json_command_line.specs.Outcome.{IsFailure}
 abbrev pub HasDocument : Mode → List ℕ → Type 0
 HasDocument mode input = (root : Node) × (value : Tree) × IsDocument input mode root value
 
--- This is the compact text of the tree of the document that the input has.
-pub record IsReformatted (mode : Mode) (input output : List ℕ) : Type 0 where
+-- how the text is laid out: compact, or indented by two spaces
+abbrev pub layout : (pretty : Bool) → Options
+layout pretty = record default_options { pretty = pretty }
+
+-- This is the text, so laid out, of the tree of the document that the input has.
+pub record IsReformatted (mode : Mode) (pretty : Bool) (input output : List ℕ) : Type 0 where
   pub root : Node
   pub value : Tree
   pub document : IsDocument input mode root value
-  pub written : output ≡ text default_options 0 value
+  pub written : output ≡ text (layout pretty) 0 value
 
 -- The input is refused so, and with this code and these bytes.
 pub record IsRefusedSo (mode : Mode) (input : List ℕ) (code : ℕ) (span : Option Span) : Type 0 where
@@ -47,11 +51,11 @@ IsRefusal mode input Io = Unit {0}
 IsRefusal mode input Usage = ⊥
 
 -- What `fmt` answers to an input, where the writer held the bytes before and then holds those after.
-abbrev pub Formats : Mode → List ℕ → List ℕ → Option (List ℕ) → Outcome → Type 0
-Formats mode input before after Done = (output : List ℕ) × IsReformatted mode input output × (after ≡ Some (before ++ output))
-Formats mode input before after (Refused code span) = IsRefusal mode input (Refused code span) × (after ≡ Some before)
-Formats mode input before after Io = Unit {0}
-Formats mode input before after Usage = ⊥
+abbrev pub Formats : Mode → (pretty : Bool) → List ℕ → List ℕ → Option (List ℕ) → Outcome → Type 0
+Formats mode pretty input before after Done = (output : List ℕ) × IsReformatted mode pretty input output × (after ≡ Some (before ++ output))
+Formats mode pretty input before after (Refused code span) = IsRefusal mode input (Refused code span) × (after ≡ Some before)
+Formats mode pretty input before after Io = Unit {0}
+Formats mode pretty input before after Usage = ⊥
 
 -- The bytes that a writer is known to hold are still at the start of what it holds.
 abbrev pub Grows : Option (List ℕ) → Option (List ℕ) → Type 0
@@ -111,18 +115,18 @@ Drives mode calls input before after Usage = ⊥
 
 -- What a command answers to an input, where the writer held the known bytes before and then holds those after.
 abbrev pub Answers : Command → List ℕ → Option (List ℕ) → Option (List ℕ) → Outcome → Type 0
-Answers (fmt mode) input before after outcome = IfSome before (λ held. Formats mode input held after outcome)
+Answers (fmt mode pretty) input before after outcome = IfSome before (λ held. Formats mode pretty input held after outcome)
 Answers (events mode) input before after outcome = Lists mode input before after outcome
 Answers (drive mode calls) input before after outcome = IfSome before (λ held. Drives mode calls input held after outcome)
 
 -- where the command is `fmt`
 abbrev pub ForFmt : Command → (Mode → Type 0) → Type 0
-ForFmt (fmt mode) P = P mode
+ForFmt (fmt mode pretty) P = P mode
 ForFmt (events mode) P = Unit {0}
 ForFmt (drive mode calls) P = Unit {0}
 
 -- where the command is `drive`
 abbrev pub ForDrive : Command → Type 0 → Type 0
-ForDrive (fmt mode) P = Unit {0}
+ForDrive (fmt mode pretty) P = Unit {0}
 ForDrive (events mode) P = Unit {0}
 ForDrive (drive mode calls) P = P

@@ -1,25 +1,24 @@
 //! The lines that `events` and `drive` print.
 
-ghost use Rattle.std.specs.Prelude.{◌≡◌, ◌++◌, None, Ok, map, IfOk, IfErr, IfSome, OnOk, MatchResult};
+ghost use Rattle.std.specs.Prelude.{◌≡◌, ◌++◌, None, Some, Ok, codes, map, IfOk, IfErr, IfSome, OnOk, MatchResult};
 ghost use Rattle.std.specs.Io.KnownBytes.{Appends};
 ghost use Rattle.std.specs.List.{flat_map};
 ghost use Rattle.std.specs.Option.{option_map};
 ghost use Rattle.facet_format.specs.Event.{bytes_of};
 ghost use Rattle.facet_format.specs.HeldText.{text_of};
-ghost use Rattle.facet_format.specs.Views.{span_of, event_of, scalar_value_of, parse_refusal, answer_of_event, answer_of_save, answer_of_span};
-ghost use Rattle.facet_json_core.specs.ScriptViews.{answer_of};
-ghost use Rattle.facet_json_document.specs.Quoted.{quoted as quoted_text};
-ghost use Rattle.facet_json_document.specs.Text.{default_options, text as tree_text};
+ghost use Rattle.facet_format.specs.Views.{span_of, event_of, scalar_value_of, parse_refusal, answer_of_event, answer_of_skip, answer_of_capture, answer_of_save, answer_of_span};
+ghost use Rattle.facet_json.specs.ScriptViews.{answer_of};
+ghost use Rattle.facet_json.specs.Quoted.{quoted as quoted_text};
+ghost use Rattle.facet_json.specs.Text.{default_options, text as tree_text};
 ghost use Rattle.facet_json.specs.Views.{tree_view};
 ghost use Rattle.facet_json_command_line.specs.declared.outcome.Outcome.TheVariants as outcome;
-ghost use Rattle.facet_json_command.specs.Lines.{head_text, place_line, value_line, scalar_line, event_line, refusal_line, count_line, next_line, answer_lines};
+ghost use Rattle.facet_json_command.specs.Lines.{head_text, place_line, value_line, scalar_line, event_line, refusal_line, count_line, next_line, raw_line, answer_lines};
 ghost use Rattle.facet_json_command.specs.Views.{count_of};
 ghost use Rattle.facet_json_command.specs.Run.{Prints};
 
 use facet_format::{ParseError, ParseEvent, ParseEventKind, SavePoint, ScalarValue, Span};
-use facet_json::{Tree, to_vec};
+use facet_json::{Answer, Tree, to_vec};
 use facet_json_command_line::outcome::{OUT_OF_MEMORY, Outcome};
-use facet_json_core::Answer;
 use std::alloc::Global;
 use std::borrow::CowStr;
 use std::collections::VecDeque;
@@ -81,6 +80,8 @@ pub fn write_answer<W: Write>(
     match answer {
         Answer::Event(event) => write_given(alloc, event, writer),
         Answer::Events(events, count) => write_batch(alloc, events, count, writer),
+        Answer::Skipped(passed) => write_skipped(writer, passed),
+        Answer::Raw(text) => write_captured(alloc, writer, text),
         Answer::Saved(point) => write_point(writer, point),
         Answer::Restored => told(writeln!(writer, "ok")),
         Answer::Span(span) => write_span(writer, span),
@@ -112,6 +113,53 @@ fn write_point<W: Write>(
         Ok(SavePoint(point)) => told(writeln!(writer, "point {point}")),
         Err(error) => write_refusal(writer, error),
     }
+}
+
+/// Writes the line of a skip, or of the refusal in its place.
+fn write_skipped<W: Write>(
+    writer: &mut W,
+    passed: Result<(), ParseError<'_>>,
+) -> Result<(), Outcome>
+    ensures { Prints (W.contents writer.old) (W.contents writer.new) (answer_lines (answer_of_skip passed.entry)) result }
+{
+    match passed {
+        Ok(()) => told(writeln!(writer, "ok")),
+        Err(error) => write_refusal(writer, error),
+    }
+}
+
+/// Writes the line of a captured text, or of the refusal in its place.
+fn write_captured<W: Write>(
+    alloc: Global,
+    writer: &mut W,
+    text: Result<Option<&str>, ParseError<'_>>,
+) -> Result<(), Outcome>
+    ensures { Prints (W.contents writer.old) (W.contents writer.new) (answer_lines (answer_of_capture text.entry)) result }
+{
+    match text {
+        Ok(Some(text)) => write_raw(alloc, writer, text),
+        Ok(None) => told(writeln!(writer, "None")),
+        Err(error) => write_refusal(writer, error),
+    }
+}
+
+/// Writes the line of a raw text, between quotes.
+fn write_raw<W: Write>(alloc: Global, writer: &mut W, text: &str) -> Result<(), Outcome>
+    ensures { Prints (W.contents writer.old) (W.contents writer.new) (raw_line (Some text.now)) result }
+{
+    match quoted(alloc, CowStr::Borrowed(text)) {
+        Ok(quoted) => told(write_raw_pieces(writer, quoted.as_slice())),
+        Err(outcome) => Err(outcome),
+    }
+}
+
+/// Writes a line of some bytes, after what names a raw text.
+fn write_raw_pieces<W: Write>(writer: &mut W, bytes: &[u8]) -> io::Result<()>
+    ensures { OnOk result (Appends (W.contents writer.old) (W.contents writer.new) (codes "raw " ++ bytes.now ++ codes "\n")) }
+{
+    writer.write_all(b"raw ")?;
+    writer.write_all(bytes)?;
+    writer.write_all(b"\n")
 }
 
 /// Writes the line of the current span.
@@ -259,7 +307,7 @@ fn quoted(alloc: Global, text: CowStr<'_>) -> Result<Vec<u8>, Outcome>
 }
 
 /// The compact text of a tree.
-pub fn text_of_tree(alloc: Global, tree: &Tree) -> Result<Vec<u8>, Outcome>
+fn text_of_tree(alloc: Global, tree: &Tree) -> Result<Vec<u8>, Outcome>
     ensures text { IfOk result (λ v. v.items ≡ tree_text default_options 0 (tree_view tree.now)) }
     ensures refused { IfErr result (λ o. o ≡ outcome.Refused 9 None) }
 {

@@ -1,36 +1,32 @@
 //! What the program does, over any reader and writer.
 
-ghost use Rattle.std.specs.Prelude.{◌≡◌, ◌≢◌, ◌⊎◌, ℕ, List, Option, None, map, IfOk, IfErr, IfSome, MatchResult};
+ghost use Rattle.std.specs.Prelude.{◌≡◌, ◌≢◌, ◌⊎◌, ℕ, Bool, [], List, Option, None, Some, map, IfOk, IfErr, IfSome};
 ghost use Rattle.std.specs.List.{flat_map};
 ghost use Rattle.std.specs.Vec.Iter.{into_iter_items};
 ghost use Rattle.std.specs.Io.KnownBytes.{Appends, Keeps};
 ghost use Rattle.facet_format.specs.declared.span.Span.{Span as TheSpan};
-ghost use Rattle.facet_format.specs.Complaint.{out_of_memory};
 ghost use Rattle.facet_format.specs.Cursor.{Call as SpecCall};
-ghost use Rattle.facet_format.specs.Views.{refusal_of};
-ghost use Rattle.facet_json_token.specs.Gap.{Mode as SpecMode};
+ghost use Rattle.facet_json.specs.Gap.{Mode as SpecMode};
 ghost use Rattle.facet_json_token.specs.Views.{mode_of};
-ghost use Rattle.facet_json_document.specs.Node.{Node};
-ghost use Rattle.facet_json_document.specs.Tree.{Tree as SpecTree};
-ghost use Rattle.facet_json_document.specs.Document.{IsDocument};
-ghost use Rattle.facet_json.specs.Refusal.{Refuses};
-ghost use Rattle.facet_json_protocol.specs.Now.{Now, fresh};
-ghost use Rattle.facet_json_protocol.specs.Move.{MovesAll};
-ghost use Rattle.facet_json_core.specs.ScriptViews.{call_of, answer_of};
-ghost use Rattle.facet_json.specs.Views.{tree_view};
+ghost use Rattle.facet_json.specs.Now.{Now, fresh};
+ghost use Rattle.facet_json.specs.Move.{MovesAll};
+ghost use Rattle.facet_json.specs.ScriptViews.{call_of, answer_of};
+ghost use Rattle.facet_json.specs.Serializer.{Writing as SpecWriting};
+ghost use Rattle.facet_json.specs.TranscodeViews.{IsRefused, LacksMemory};
 ghost use Rattle.facet_json_command_line.specs.declared.outcome.Outcome.TheVariants as outcome;
 ghost use Rattle.facet_json_command_line.specs.Arguments.{Command as SpecCommand, AskFor, AskForNothing, fmt, drive as drives};
 ghost use Rattle.facet_json_command.specs.Views.{words_of, command_view};
 ghost use Rattle.facet_json_command.specs.Lines.{answer_lines};
-ghost use Rattle.facet_json_command.specs.Run.{HasDocument, IsReformatted, IsFailure, IsRefusal, Formats, Grows, Prints, Lists, Drives, Answers, ForFmt, ForDrive, outcome_of};
+ghost use Rattle.facet_json_command.specs.Run.{HasDocument, layout, IsReformatted, IsFailure, IsRefusal, Formats, Grows, Prints, Lists, Drives, Answers, ForFmt, ForDrive, outcome_of};
 
-use crate::lines::{text_of_tree, write_answer, write_event};
-use facet_format::{DeserializeError, FormatParser};
+use crate::lines::{write_answer, write_event};
+use facet_format::FormatParser;
 use facet_json::scanner::Mode;
-use facet_json::{Tree, from_slice, from_slice_jsonc};
+use facet_json::{
+    Answer, Call, JsonParser, JsonSerializer, SerializeOptions, TranscodeError, drive, transcode,
+};
 use facet_json_command_line::arguments::{Command, command_of};
 use facet_json_command_line::outcome::{OUT_OF_MEMORY, Outcome, failure};
-use facet_json_core::{Answer, Call, JsonParser, drive};
 use std::alloc::{AllocError, Global};
 use std::io::{Read, Write};
 use std::vec::IntoIter;
@@ -47,9 +43,9 @@ pub fn run<R: Read, W: Write>(
     ensures untouched { AskForNothing (words_of args.now) → (reader.new ≡ reader.old) × (writer.new ≡ writer.old) }
     ensures answer { (command : SpecCommand) → AskFor command (words_of args.now) → IfSome (R.remaining reader.old) (λ input.
         Answers command input (W.contents writer.old) (W.contents writer.new) result) }
-    ensures refused { (mode : SpecMode) (code : ℕ) (span : Option TheSpan) → AskFor (fmt mode) (words_of args.now)
+    ensures refused { (mode : SpecMode) (pretty : Bool) (code : ℕ) (span : Option TheSpan) → AskFor (fmt mode pretty) (words_of args.now)
         → result ≡ outcome.Refused code span → writer.new ≡ writer.old }
-    ensures only { (mode : SpecMode) → AskFor (fmt mode) (words_of args.now) → IfSome (R.remaining reader.old) (λ input.
+    ensures only { (mode : SpecMode) (pretty : Bool) → AskFor (fmt mode pretty) (words_of args.now) → IfSome (R.remaining reader.old) (λ input.
         HasDocument mode input → (result ≡ outcome.Done) ⊎ IsFailure result) }
     ensures driven { (mode : SpecMode) (calls : List SpecCall) → AskFor (drives mode calls) (words_of args.now)
         → (result ≡ outcome.Done) ⊎ IsFailure result }
@@ -79,7 +75,7 @@ fn obey<R: Read, W: Write>(
     ensures grows { result ≢ outcome.Io → Grows (W.contents writer.old) (W.contents writer.new) }
 {
     match command {
-        Command::Fmt { mode } => format(alloc, mode, reader, writer),
+        Command::Fmt { mode, pretty } => format(alloc, mode, pretty, reader, writer),
         Command::Events { mode } => print_events(alloc, mode, reader, writer),
         Command::Drive { mode, calls } => {
             print_answers(alloc, mode, calls.as_slice(), reader, writer)
@@ -88,31 +84,42 @@ fn obey<R: Read, W: Write>(
 }
 
 /// Reads all there is, and writes the document in it anew and nothing else.
-fn format<R: Read, W: Write>(alloc: Global, mode: Mode, reader: &mut R, writer: &mut W) -> Outcome
+fn format<R: Read, W: Write>(
+    alloc: Global,
+    mode: Mode,
+    pretty: bool,
+    reader: &mut R,
+    writer: &mut W,
+) -> Outcome
     ensures ends { result ≢ outcome.Usage }
     ensures refused { (code : ℕ) (span : Option TheSpan) → result ≡ outcome.Refused code span
         → writer.new ≡ writer.old }
     ensures answer { IfSome (R.remaining reader.old) (λ input. IfSome (W.contents writer.old)
-        (λ before. Formats (mode_of mode) input before (W.contents writer.new) result)) }
+        (λ before. Formats (mode_of mode) pretty input before (W.contents writer.new) result)) }
     ensures only { IfSome (R.remaining reader.old) (λ input. HasDocument (mode_of mode) input
         → (result ≡ outcome.Done) ⊎ IsFailure result) }
     ensures grows { result ≢ outcome.Io → Grows (W.contents writer.old) (W.contents writer.new) }
 {
-    match formatted(alloc, mode, reader) {
+    match formatted(alloc, mode, pretty, reader) {
         Ok(text) => write_text(writer, text.as_slice()),
         Err(refusal) => refusal,
     }
 }
 
 /// The document in all that the reader has, written anew.
-fn formatted<R: Read>(alloc: Global, mode: Mode, reader: &mut R) -> Result<Vec<u8>, Outcome>
+fn formatted<R: Read>(
+    alloc: Global,
+    mode: Mode,
+    pretty: bool,
+    reader: &mut R,
+) -> Result<Vec<u8>, Outcome>
     ensures ends { IfErr result (λ o. o ≢ outcome.Usage) }
-    ensures text { IfSome (R.remaining reader.old) (λ input. IfOk result (λ v. IsReformatted (mode_of mode) input v.items)) }
+    ensures text { IfSome (R.remaining reader.old) (λ input. IfOk result (λ v. IsReformatted (mode_of mode) pretty input v.items)) }
     ensures refused { IfSome (R.remaining reader.old) (λ input. IfErr result (λ o. IsRefusal (mode_of mode) input o)) }
     ensures only { IfSome (R.remaining reader.old) (λ input. HasDocument (mode_of mode) input → IfErr result IsFailure) }
 {
     let input = read_all(alloc, reader)?;
-    reformatted(alloc, mode, input.as_slice())
+    reformatted(alloc, mode, pretty, input.as_slice())
 }
 
 /// All that the reader has.
@@ -127,37 +134,51 @@ fn read_all<R: Read>(alloc: Global, reader: &mut R) -> Result<Vec<u8>, Outcome>
     }
 }
 
-/// The document that the input begins with, written anew.
-fn reformatted(alloc: Global, mode: Mode, input: &[u8]) -> Result<Vec<u8>, Outcome>
-    ensures text { IfOk result (λ v. IsReformatted (mode_of mode) input.now v.items) }
+/// The document that the input begins with, written anew: event by event, without a tree.
+fn reformatted(alloc: Global, mode: Mode, pretty: bool, input: &[u8]) -> Result<Vec<u8>, Outcome>
+    ensures text { IfOk result (λ v. IsReformatted (mode_of mode) pretty input.now v.items) }
     ensures refused { IfErr result (λ o. IsRefusal (mode_of mode) input.now o) }
     ensures only { HasDocument (mode_of mode) input.now → IfErr result IsFailure }
 {
-    match read_tree(alloc, mode, input) {
-        Ok(tree) => text_of_tree(alloc, &tree),
+    let mut parser = parser_of(alloc, mode, input);
+    let mut serializer = serializer_of(alloc, pretty);
+    match transcode(&mut parser, &mut serializer) {
+        Ok(()) => text_of(serializer),
         Err(error) => Err(refused(error)),
     }
 }
 
-/// How the refusal of a document ends the run.
-fn refused(error: DeserializeError<'_>) -> Outcome
-    ensures refused { (mode : SpecMode) (input : List ℕ)
-        → ((refusal_of error.entry).complaint ≡ out_of_memory) ⊎ Refuses input mode (refusal_of error.entry) → IsRefusal mode input result }
-    ensures failed { (refusal_of error.entry).complaint ≡ out_of_memory → IsFailure result }
+/// A serializer of a text so laid out, which has written nothing.
+fn serializer_of<'i>(alloc: Global, pretty: bool) -> JsonSerializer<'i>
+    ensures { result ≡ Some (record { options = layout pretty; stack = []; written = [] }) }
 {
-    Outcome::Refused(error.kind.code(), error.span)
+    let options = SerializeOptions::new();
+    if pretty {
+        JsonSerializer::with_options(alloc, options.pretty())
+    } else {
+        JsonSerializer::with_options(alloc, options)
+    }
 }
 
-/// The tree of the document that the input begins with.
-fn read_tree<'t>(alloc: Global, mode: Mode, input: &[u8]) -> Result<Tree, DeserializeError<'t>>
-    ensures document { IfOk result (λ t. (root : Node) × IsDocument input.now (mode_of mode) root (tree_view t)) }
-    ensures refused { IfErr result (λ e. ((refusal_of e).complaint ≡ out_of_memory) ⊎ Refuses input.now (mode_of mode) (refusal_of e)) }
-    ensures only { (root : Node) (value : SpecTree) → IsDocument input.now (mode_of mode) root value
-        → MatchResult result (λ t. tree_view t ≡ value) (λ e. (refusal_of e).complaint ≡ out_of_memory) }
+/// What the serializer has written.
+fn text_of(serializer: JsonSerializer<'_>) -> Result<Vec<u8>, Outcome>
+    ensures written { (w : SpecWriting) → serializer.entry ≡ Some w → IfOk result (λ v. v.items ≡ w.written) }
+    ensures refused { IfErr result (λ o. o ≡ outcome.Refused 9 None) }
 {
-    match mode {
-        Mode::Plain => from_slice(alloc, input),
-        Mode::Jsonc => from_slice_jsonc(alloc, input),
+    match serializer.finish() {
+        Ok(text) => Ok(text),
+        Err(_) => Err(OUT_OF_MEMORY),
+    }
+}
+
+/// How it ends the run that the document was not passed.
+fn refused(error: TranscodeError<'_>) -> Outcome
+    ensures refused { (mode : SpecMode) (input : List ℕ) → IsRefused input mode error.entry → IsRefusal mode input result }
+    ensures failed { LacksMemory error.entry → IsFailure result }
+{
+    match error {
+        TranscodeError::Read(error) => Outcome::Refused(error.kind.code(), error.span),
+        TranscodeError::Write(_) => OUT_OF_MEMORY,
     }
 }
 

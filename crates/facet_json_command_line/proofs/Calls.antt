@@ -3,7 +3,7 @@ use Rattle.std.proofs.Common.{◌≡◌, ◌≢◌, ℕ, ◌<◌, ◌⊎◌, Lis
 use Rattle.std.proofs.lemmas.List.{map-append, append_assoc}
 use Rattle.std.specs.Char.{digit_value}
 use Rattle.std.specs.Str.Parse.{AllDigits}
-use Rattle.facet_format.specs.Cursor.{Call, next, peek, events, save, restore, span}
+use Rattle.facet_format.specs.Cursor.{Call, next, peek, events, skip, capture, save, restore, span}
 use Rattle.facet_json_core.specs.declared.script.Call.{Call as RustCall}
 use Rattle.facet_json_core.specs.ScriptViews.{call_of}
 use Rattle.facet_json_command_line.specs.Script.{comma, IsNumbered, IsWordOf, IsScript, one_word, word_first}
@@ -26,6 +26,8 @@ pub word_lacks : (call : Call) (word : List ℕ) → IsWordOf call word → Lack
 word_lacks next word is = rw is (search rules)
 word_lacks peek word is = rw is (search rules)
 word_lacks (events limit) word is = numbered_lacks (codes "events:") word limit (search rules) is
+word_lacks skip word is = rw is (search rules)
+word_lacks capture word is = rw is (search rules)
 word_lacks save word is = rw is (search rules)
 word_lacks (restore point) word is = numbered_lacks (codes "restore:") word point (search rules) is
 word_lacks span word is = rw is (search rules)
@@ -61,25 +63,27 @@ restore_or_none word None no_events no_restore = λ number either.
 restore_or_none word (Some c) no_events is = is
 
 -- A word of no call
-no_call : (word : List ℕ) → word ≢ codes "next" → word ≢ codes "peek" → word ≢ codes "save" → word ≢ codes "span" →
+no_call : (word : List ℕ) → word ≢ codes "next" → word ≢ codes "peek" → word ≢ codes "skip" → word ≢ codes "capture" → word ≢ codes "save" → word ≢ codes "span" →
     ((number : ℕ) → ¬ (IsNumbered (codes "events:") word number ⊎ IsNumbered (codes "restore:") word number)) →
     (call : Call) → ¬ IsWordOf call word
-no_call word n p sa sp numbered next is = n is
-no_call word n p sa sp numbered peek is = p is
-no_call word n p sa sp numbered (events limit) is = numbered limit (inl is)
-no_call word n p sa sp numbered save is = sa is
-no_call word n p sa sp numbered (restore point) is = numbered point (inr is)
-no_call word n p sa sp numbered span is = sp is
+no_call word n p sk ca sa sp numbered next is = n is
+no_call word n p sk ca sa sp numbered peek is = p is
+no_call word n p sk ca sa sp numbered (events limit) is = numbered limit (inl is)
+no_call word n p sk ca sa sp numbered skip is = sk is
+no_call word n p sk ca sa sp numbered capture is = ca is
+no_call word n p sk ca sa sp numbered save is = sa is
+no_call word n p sk ca sa sp numbered (restore point) is = numbered point (inr is)
+no_call word n p sk ca sa sp numbered span is = sp is
 
 -- What the word with a number is, where it is none of the other words
 pub call_or_none : (word : List ℕ) (answer : Option RustCall) → word ≢ codes "next" → word ≢ codes "peek" →
-    word ≢ codes "save" → word ≢ codes "span" →
+    word ≢ codes "skip" → word ≢ codes "capture" → word ≢ codes "save" → word ≢ codes "span" →
     MatchOption answer
     ((number : ℕ) → ¬ (IsNumbered (codes "events:") word number ⊎ IsNumbered (codes "restore:") word number))
     (λ c. IsWordOf (call_of c) word) →
     MatchOption answer ((call : Call) → ¬ IsWordOf call word) (λ c. IsWordOf (call_of c) word)
-call_or_none word None n p sa sp numbered = no_call word n p sa sp numbered
-call_or_none word (Some c) n p sa sp is = is
+call_or_none word None n p sk ca sa sp numbered = no_call word n p sk ca sa sp numbered
+call_or_none word (Some c) n p sk ca sa sp is = is
 
 -- ---- the loop over the words: the calls so far, and what is left of the script
 

@@ -1,7 +1,7 @@
 -- Arguments ask for one thing at most.
-use Rattle.std.proofs.Common.{◌≡◌, ◌≢◌, ℕ, ◌+◌, ◌*◌, ◌==◌, cond, List, [], ◌∷◌, get_or, drop, codes, refl, sym, ap, subst, ◌∙◌, arith}
+use Rattle.std.proofs.Common.{◌≡◌, ◌≢◌, ℕ, ◌+◌, ◌*◌, ◌==◌, Bool, false, cond, List, [], ◌∷◌, get_or, drop, codes, refl, sym, ap, subst, ◌∙◌, arith}
 use Rattle.std.specs.Str.Parse.{digits_value}
-use Rattle.facet_format.specs.Cursor.{Call, next, peek, events, save, restore, span}
+use Rattle.facet_format.specs.Cursor.{Call, next, peek, events, skip, capture, save, restore, span}
 use Rattle.facet_json_token.specs.Gap.{Mode}
 use Rattle.facet_json_command_line.specs.Script.{comma, IsWordOf, IsScript, one_word, word_first}
 use Rattle.facet_json_command_line.specs.Arguments.{Command, fmt, events as list, drive, AreWords, AreArguments, AskFor}
@@ -18,13 +18,17 @@ read_word word =
     cond (mark == 110 * 256 + 101) next
     (cond (mark == 112 * 256 + 101) peek
     (cond (mark == 101 * 256 + 118) (events (digits_value 10 (drop 7 word)))
+    (cond (mark == 115 * 256 + 107) skip
+    (cond (mark == 99 * 256 + 97) capture
     (cond (mark == 115 * 256 + 97) save
-    (cond (mark == 114 * 256 + 101) (restore (digits_value 10 (drop 8 word))) span))))
+    (cond (mark == 114 * 256 + 101) (restore (digits_value 10 (drop 8 word))) span))))))
 
 word_read : (call : Call) (word : List ℕ) → IsWordOf call word → read_word word ≡ call
 word_read next word is = rw is refl
 word_read peek word is = rw is refl
 word_read (events limit) word is = rw is.1 (ap events is.2.value)
+word_read skip word is = rw is refl
+word_read capture word is = rw is refl
 word_read save word is = rw is refl
 word_read (restore point) word is = rw is.1 (ap restore is.2.value)
 word_read span word is = rw is refl
@@ -46,58 +50,60 @@ one_script _ _ _ (word_first text word rest call calls cut is more) (word_first 
 
 -- ---- arguments
 
-arguments_once : (args : List (List ℕ)) (name other : List ℕ) (mode mode' : Mode) (operands operands' : List (List ℕ)) →
-    AreArguments args name mode operands → AreArguments args other mode' operands' →
-    (name ≡ other) × (mode ≡ mode') × (operands ≡ operands')
-arguments_once args name other mode mode' operands operands' first second =
+arguments_once : (args : List (List ℕ)) (name other : List ℕ) (mode mode' : Mode) (pretty pretty' : Bool) (operands operands' : List (List ℕ)) →
+    AreArguments args name mode pretty operands → AreArguments args other mode' pretty' operands' →
+    (name ≡ other) × (mode ≡ mode') × (pretty ≡ pretty') × (operands ≡ operands')
+arguments_once args name other mode mode' pretty pretty' operands operands' first second =
     let same = sym first.1 ∙ second.1 in
-    let words = subst (AreWords mode operands) (same_tail name other first.0 second.0 same) first.2 in
-    let reading = one_reading mode mode' operands operands' second.0 words second.2 in
-    (name_is name other first.0 second.0 same, reading.0, reading.1)
+    let words = subst (AreWords mode pretty operands) (same_tail name other first.0 second.0 same) first.2 in
+    let reading = one_reading mode mode' pretty pretty' operands operands' second.0 words second.2 in
+    (name_is name other first.0 second.0 same, reading.0, reading.1, reading.2)
 
 differ : (xs ys : List ℕ) → get_or xs 0 0 ≢ get_or ys 0 0 → xs ≡ ys → ⊥
 differ xs ys other same = other (ap (λ l. get_or l 0 0) same)
 
-fmt_once : (args : List (List ℕ)) (mode other : Mode) → AskFor (fmt mode) args → AskFor (fmt other) args → mode ≡ other
-fmt_once args mode other first second =
-    (arguments_once args (codes "fmt") (codes "fmt") mode other [] [] first second).1
+fmt_once : (args : List (List ℕ)) (mode other : Mode) (pretty layout : Bool) → AskFor (fmt mode pretty) args → AskFor (fmt other layout) args →
+    (mode ≡ other) × (pretty ≡ layout)
+fmt_once args mode other pretty layout first second =
+    let same = arguments_once args (codes "fmt") (codes "fmt") mode other pretty layout [] [] first second in (same.1, same.2)
 
 events_once : (args : List (List ℕ)) (mode other : Mode) → AskFor (list mode) args → AskFor (list other) args → mode ≡ other
 events_once args mode other first second =
-    (arguments_once args (codes "events") (codes "events") mode other [] [] first second).1
+    (arguments_once args (codes "events") (codes "events") mode other false false [] [] first second).1
 
 drive_once : (args : List (List ℕ)) (mode other : Mode) (calls others : List Call) → AskFor (drive mode calls) args →
     AskFor (drive other others) args → (mode ≡ other) × (calls ≡ others)
 drive_once args mode other calls others first second =
-    let same = arguments_once args (codes "drive") (codes "drive") mode other (first.0 ∷ []) (second.0 ∷ []) first.1 second.1 in
-    let script = name_is first.0 second.0 [] [] same.2 in
+    let same = arguments_once args (codes "drive") (codes "drive") mode other false false (first.0 ∷ []) (second.0 ∷ []) first.1 second.1 in
+    let script = name_is first.0 second.0 [] [] same.3 in
     (same.1, one_script second.0 calls others (subst (λ t. IsScript t calls) script first.2) second.2)
 
-fmt_is_not_events : (args : List (List ℕ)) (mode other : Mode) → AskFor (fmt mode) args → AskFor (list other) args → ⊥
-fmt_is_not_events args mode other first second =
+fmt_is_not_events : (args : List (List ℕ)) (mode other : Mode) (pretty : Bool) → AskFor (fmt mode pretty) args → AskFor (list other) args → ⊥
+fmt_is_not_events args mode other pretty first second =
     differ (codes "fmt") (codes "events") (λ e. absurd (omega (arith, e)))
-    (arguments_once args (codes "fmt") (codes "events") mode other [] [] first second).0
+    (arguments_once args (codes "fmt") (codes "events") mode other pretty false [] [] first second).0
 
-fmt_is_not_drive : (args : List (List ℕ)) (mode other : Mode) (calls : List Call) → AskFor (fmt mode) args →
+fmt_is_not_drive : (args : List (List ℕ)) (mode other : Mode) (pretty : Bool) (calls : List Call) → AskFor (fmt mode pretty) args →
     AskFor (drive other calls) args → ⊥
-fmt_is_not_drive args mode other calls first second =
+fmt_is_not_drive args mode other pretty calls first second =
     differ (codes "fmt") (codes "drive") (λ e. absurd (omega (arith, e)))
-    (arguments_once args (codes "fmt") (codes "drive") mode other [] (second.0 ∷ []) first second.1).0
+    (arguments_once args (codes "fmt") (codes "drive") mode other pretty false [] (second.0 ∷ []) first second.1).0
 
 events_is_not_drive : (args : List (List ℕ)) (mode other : Mode) (calls : List Call) → AskFor (list mode) args →
     AskFor (drive other calls) args → ⊥
 events_is_not_drive args mode other calls first second =
     differ (codes "events") (codes "drive") (λ e. absurd (omega (arith, e)))
-    (arguments_once args (codes "events") (codes "drive") mode other [] (second.0 ∷ []) first second.1).0
+    (arguments_once args (codes "events") (codes "drive") mode other false false [] (second.0 ∷ []) first second.1).0
 
 pub one_command : (args : List (List ℕ)) (command other : Command) → AskFor command args → AskFor other args → command ≡ other
-one_command args (fmt mode) (fmt other) first second = ap fmt (fmt_once args mode other first second)
-one_command args (fmt mode) (list other) first second = absurd (fmt_is_not_events args mode other first second)
-one_command args (fmt mode) (drive other calls) first second = absurd (fmt_is_not_drive args mode other calls first second)
-one_command args (list mode) (fmt other) first second = absurd (fmt_is_not_events args other mode second first)
+one_command args (fmt mode pretty) (fmt other layout) first second =
+    let same = fmt_once args mode other pretty layout first second in ap (λ m. fmt m pretty) same.0 ∙ ap (fmt other) same.1
+one_command args (fmt mode pretty) (list other) first second = absurd (fmt_is_not_events args mode other pretty first second)
+one_command args (fmt mode pretty) (drive other calls) first second = absurd (fmt_is_not_drive args mode other pretty calls first second)
+one_command args (list mode) (fmt other layout) first second = absurd (fmt_is_not_events args other mode layout second first)
 one_command args (list mode) (list other) first second = ap list (events_once args mode other first second)
 one_command args (list mode) (drive other calls) first second = absurd (events_is_not_drive args mode other calls first second)
-one_command args (drive mode calls) (fmt other) first second = absurd (fmt_is_not_drive args other mode calls second first)
+one_command args (drive mode calls) (fmt other layout) first second = absurd (fmt_is_not_drive args other mode layout calls second first)
 one_command args (drive mode calls) (list other) first second = absurd (events_is_not_drive args other mode calls second first)
 one_command args (drive mode calls) (drive other others) first second =
     let same = drive_once args mode other calls others first second in

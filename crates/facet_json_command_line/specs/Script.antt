@@ -1,7 +1,7 @@
 -- The script of `drive`: the words of calls, separated by single commas, as `next,events:2,restore:1`.
 use Rattle.std.specs.Prelude.{◌≡◌, ◌<◌, ◌^◌, ℕ, List, [], ◌∷◌, ◌++◌, codes}
 use Rattle.std.specs.Str.Parse.{IsNumeral, digits_value}
-use Rattle.facet_format.specs.Cursor.{Call, next, peek, events, save, restore, span}
+use Rattle.facet_format.specs.Cursor.{Call, next, peek, events, skip, capture, save, restore, span}
 
 abbrev pub comma : ℕ
 comma = 44
@@ -21,6 +21,8 @@ abbrev pub IsWordOf : Call → List ℕ → Type 0
 IsWordOf next word = word ≡ codes "next"
 IsWordOf peek word = word ≡ codes "peek"
 IsWordOf (events limit) word = IsNumbered (codes "events:") word limit
+IsWordOf skip word = word ≡ codes "skip"
+IsWordOf capture word = word ≡ codes "capture"
 IsWordOf save word = word ≡ codes "save"
 IsWordOf (restore point) word = IsNumbered (codes "restore:") word point
 IsWordOf span word = word ≡ codes "span"

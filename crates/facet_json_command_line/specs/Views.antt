@@ -13,7 +13,7 @@ abbrev pub words_of : List (String Global) → List (List ℕ)
 words_of args = map string_bytes args
 
 abbrev pub command_view : RustCommand → Command
-command_view (commands.Fmt mode) = fmt (mode_of mode)
+command_view (commands.Fmt mode pretty) = fmt (mode_of mode) pretty
 command_view (commands.Events mode) = events (mode_of mode)
 command_view (commands.Drive mode calls) = drive (mode_of mode) (map call_of calls.items)
 

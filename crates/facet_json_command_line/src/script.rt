@@ -43,6 +43,8 @@ pub fn parse_call(word: &str) -> Option<Call>
     match word {
         "next" => Some(Call::Next),
         "peek" => Some(Call::Peek),
+        "skip" => Some(Call::Skip),
+        "capture" => Some(Call::Capture),
         "save" => Some(Call::Save),
         "span" => Some(Call::Span),
         _ => parse_numbered(word),

@@ -5,9 +5,8 @@ use Rattle.std.specs.List.{All}
 use Rattle.std.proofs.lemmas.List.Elements.{All-nil, All-push, All-same}
 use Rattle.facet_json_core.specs.declared.script.Call.{Call}
 use Rattle.facet_json_core.specs.declared.script.Answer.{Answer}
-use Rattle.facet_format.specs.Event.{Passed}
 use Rattle.facet_format.specs.Cursor as cursor
-use Rattle.facet_format.specs.Cursor.{on_walk, Cursor, Run}
+use Rattle.facet_format.specs.Cursor.{Source, on_walk, Cursor, Run}
 use Rattle.facet_json_protocol.specs.Now.{Now, StandsAt}
 use Rattle.facet_json_protocol.specs.Move.{Moves, MovesAll}
 use Rattle.facet_json_protocol.specs.Within.{AnswerWithin}
@@ -40,7 +39,7 @@ made-all old new calls i answers h all =
 -- On a document that is a run of the cursor.
 pub made-run : (old new : Now) (calls : List Call) (answers : List Answer) →
     MovesAll old (map call_of calls) (map answer_of answers) new →
-    (w : List Passed) (c : Cursor ℕ) → StandsAt old w c →
+    (w : Source) (c : Cursor ℕ) → StandsAt old w c →
     (d : Cursor ℕ) × Run (on_walk w) c (map call_of calls) (map answer_of answers) d × StandsAt new w d
 made-run old new calls answers all w c stands = moves-run old new w c stands all
 

@@ -11,6 +11,9 @@ pub use Rattle.facet_json_document.specs.Walk
 pub use Rattle.facet_json_document.specs.Place
 pub use Rattle.facet_json_document.specs.Future
 pub use Rattle.facet_json_document.specs.InputPlace
+pub use Rattle.facet_json_document.specs.StandsOn
+pub use Rattle.facet_json_document.specs.Unread
+pub use Rattle.facet_json_document.specs.UnreadLaws
 pub use Rattle.facet_json_prefix.specs.Begun
 pub use Rattle.facet_json_prefix.specs.EventLaws
 pub use Rattle.facet_json_prefix.specs.Refusal
@@ -21,5 +24,6 @@ pub use Rattle.facet_json_protocol.specs.Within
 pub use Rattle.facet_json_protocol.specs.Alone
 pub use Rattle.facet_json_protocol.specs.ParserLaws
 pub use Rattle.facet_json_protocol.specs.CallLaws
+pub use Rattle.facet_json_protocol.specs.SkipLaws
 pub use Rattle.facet_json_protocol.specs.Headline
 pub mod ScriptViews

@@ -1,16 +1,17 @@
-//! What the definitions of documents and parsers mean, in the subject's own words: each law is the contract of a function
+//! What the definitions of documents, parsers and serializers mean, in the subject's own words: each law is the contract of a function
 //! without effect.
 
 pub use facet_json_document::laws::{
-    no_run_breaks_off, one_break, one_document, one_run, one_spelling, plain_is_jsonc,
-    runs_or_breaks_off, spelled_is_run,
+    no_run_breaks_off, one_break, one_document, one_part, one_run, one_spelling, parts_on_walk,
+    parts_within, plain_is_jsonc, runs_or_breaks_off, spelled_is_run, walk_is_one_value,
 };
 pub use facet_json_prefix::laws::{
     begun_is_front, begun_is_prefix, front_gives_walk, front_is_begun, input_comes, one_given,
     prefix_gives_walk, prefix_is_begun, refused_has_none, refused_in_one_way,
 };
 pub use facet_json_protocol::laws::{
-    alone_is_given, ends_in_time, headline, move_is_step, new_stands, numbers_are_new,
-    peek_is_next, refusal_repeats, restore_brings_back, save_is_numbered, trusted_agrees,
-    unknown_changes_nothing,
+    alone_is_given, capture_passes_run, ends_in_time, headline, move_is_step, new_stands,
+    numbers_are_new, peek_is_next, refusal_repeats, restore_brings_back, save_is_numbered,
+    skip_passes_run, trusted_agrees, unknown_changes_nothing,
 };
+pub use facet_json_serializer::laws::{taken_in_order, tree_by_calls, tree_taken};

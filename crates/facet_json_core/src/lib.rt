@@ -1,12 +1,15 @@
 //! The parser of JSON documents by events, `JsonParser` (RFC 8259, with lenient readings, and JSONC comments), and `drive`,
-//! which makes a list of its calls; `RawJson`, JSON text that is kept as it stands. `laws` has what shows the definitions of
-//! documents and parsers right.
+//! which makes a list of its calls; the serializer, `JsonSerializer`, which writes call by call, and its options; `RawJson`,
+//! JSON text that is kept as it stands. `laws` has what shows the definitions of documents, parsers and serializers right.
 #![tactic(auto)]
 
 pub mod laws;
 mod script;
 
+pub use facet_format::FormatSerializer;
+pub use facet_json_options::{BytesFormat, HexBytesOptions, SerializeOptions};
 pub use facet_json_parser::JsonParser;
 pub use facet_json_raw::RawJson;
 pub use facet_json_reader::{MaterializedToken, TokenKind};
+pub use facet_json_serializer::{JsonSerializeError, JsonSerializer};
 pub use script::{Answer, Call, drive};

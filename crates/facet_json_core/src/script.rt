@@ -2,8 +2,7 @@
 
 ghost use Rattle.std.specs.Prelude.{◌≡◌, ◌+◌, ◌≤◌, ℕ, List, length, map, IfOk, IfErr};
 ghost use Rattle.std.specs.List.{All};
-ghost use Rattle.facet_format.specs.Event.{Passed};
-ghost use Rattle.facet_format.specs.Cursor.{on_walk, Cursor, Run};
+ghost use Rattle.facet_format.specs.Cursor.{Source, on_walk, Cursor, Run};
 ghost use Rattle.facet_json_protocol.specs.Now.{StandsAt, SameInput};
 ghost use Rattle.facet_json_protocol.specs.Move.{Moves, MovesAll};
 ghost use Rattle.facet_json_protocol.specs.Within.{AnswerWithin};
@@ -23,6 +22,10 @@ pub enum Call {
     Peek,
     /// `next_events`, up to so many.
     Events(usize),
+    /// `skip_value`
+    Skip,
+    /// `capture_raw`
+    Capture,
     /// `save`
     Save,
     /// `restore`, of the point with this number.
@@ -38,6 +41,10 @@ pub enum Answer<'de> {
     Event(Result<Option<ParseEvent<'de>>, ParseError<'static>>),
     /// Of `next_events`, with the events that were appended.
     Events(VecDeque<ParseEvent<'de>>, Result<usize, ParseError<'static>>),
+    /// Of `skip_value`.
+    Skipped(Result<(), ParseError<'static>>),
+    /// Of `capture_raw`.
+    Raw(Result<Option<&'de str>, ParseError<'static>>),
     /// Of `save`.
     Saved(Result<SavePoint, ParseError<'static>>),
     /// Of `restore`, which answers nothing.
@@ -60,6 +67,8 @@ impl Call {
                 let result = parser.next_events(&mut events, limit);
                 Answer::Events(events, result)
             }
+            Call::Skip => Answer::Skipped(parser.skip_value()),
+            Call::Capture => Answer::Raw(parser.capture_raw()),
             Call::Save => Answer::Saved(parser.save()),
             Call::Restore(point) => {
                 parser.restore(SavePoint(point));
@@ -88,7 +97,7 @@ pub fn drive<'de>(
     calls: &[Call],
 ) -> Result<Vec<Answer<'de>>, AllocError>
     ensures moves { IfOk result (λ answers. MovesAll parser.old (map call_of calls.now) (map answer_of answers.items) parser.new) }
-    ensures run { IfOk result (λ answers. (w : List Passed) (c : Cursor ℕ) → StandsAt parser.old w c
+    ensures run { IfOk result (λ answers. (w : Source) (c : Cursor ℕ) → StandsAt parser.old w c
         → (d : Cursor ℕ) × Run (on_walk w) c (map call_of calls.now) (map answer_of answers.items) d × StandsAt parser.new w d) }
     ensures within { IfOk result (λ answers. All (AnswerWithin parser.new.buffer) (map answer_of answers.items)) }
     ensures input { SameInput parser.old parser.new }

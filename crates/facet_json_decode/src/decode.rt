@@ -13,6 +13,7 @@ mod escape;
 mod unchecked;
 
 use escape::escape_at;
+use crate::window::windows_end;
 use facet_format::Span;
 use facet_json_token::{ScanError, ScanErrorKind};
 use std::alloc::{AllocError, Global};
@@ -149,7 +150,7 @@ fn run_end(buf: &[u8], at: usize, end: usize) -> usize
     ensures plain { has_backslash (slice_range buf.now at result) ≡ false }
     ensures stops { result < end → slice_index buf.now result ≡ backslash }
 {
-    let mut stop = at;
+    let mut stop = windows_end(buf, at, end);
     while stop < end {
         if buf[stop] == b'\\' {
             return stop;

@@ -3,6 +3,7 @@
 
 mod decode;
 mod refusal;
+mod window;
 
 pub use decode::{
     DecodeError, check_content, decode_string, decode_string_borrowed,

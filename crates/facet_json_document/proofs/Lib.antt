@@ -1,5 +1,6 @@
 pub mod EventsInOrder
 pub mod InOrder
+pub mod Parts
 pub mod PastEvents
 pub mod Rows
 pub mod Runs

@@ -71,7 +71,7 @@ module _ (buffer : List ℕ) where
   -- ---- where a value may stand
 
   -- A scalar gives its event at each of these places.
-  scalar_here : (place : Place) (kind : Kind) → TakesValue place → is_scalar kind ≡ true → place_turn place kind ≡ says_scalar
+  pub scalar_here : (place : Place) (kind : Kind) → TakesValue place → is_scalar kind ≡ true → place_turn place kind ≡ says_scalar
   scalar_here _ token.object_start at e = cc
   scalar_here _ token.object_end at e = cc
   scalar_here _ token.array_start at e = cc
@@ -83,13 +83,13 @@ module _ (buffer : List ℕ) where
   scalar_here _ _ of_list e = refl
 
   -- So does a bracket that opens a list.
-  array_here : (place : Place) → TakesValue place → place_turn place token.array_start ≡ says (event.sequence_start array)
+  pub array_here : (place : Place) → TakesValue place → place_turn place token.array_start ≡ says (event.sequence_start array)
   array_here _ at_root = refl
   array_here _ behind_colon = refl
   array_here _ of_list = refl
 
   -- So does one that opens an object.
-  object_here : (place : Place) → TakesValue place → place_turn place token.object_start ≡ says (event.struct_start object)
+  pub object_here : (place : Place) → TakesValue place → place_turn place token.object_start ≡ says (event.struct_start object)
   object_here _ at_root = refl
   object_here _ behind_colon = refl
   object_here _ of_list = refl
@@ -225,6 +225,12 @@ module _ (buffer : List ℕ) where
       reads_colon buffer stack key (next mark rest) ≡ stuck after_key (next mark rest)
   unfolding reads_colon
   colon-missing stack key mark rest c = rw (c, reads_colon) refl
+
+  -- A colon gives the key's event, and a value is to stand after it.
+  pub colon-stands : (stack : List ContainerKind) (key mark : Token) (rest : Tokens) → goes_on after_key mark.kind ≡ true →
+      reads_colon buffer stack key (next mark rest) ≡ gives (key_event buffer key mark) (reads buffer stack (within after_colon) rest)
+  unfolding reads_colon
+  colon-stands stack key mark rest c = rw (c, reads_colon) refl
 
 -- ---- whole values
 

@@ -12,7 +12,10 @@ pub mod Quoted
 pub mod Refusal
 pub mod Run
 pub mod RunLaws
+pub mod StandsOn
 pub mod Text
 pub mod TextLaws
 pub mod Tree
+pub mod Unread
+pub mod UnreadLaws
 pub mod Walk

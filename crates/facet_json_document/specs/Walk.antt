@@ -8,6 +8,7 @@ use Rattle.facet_json_document.specs.Tree as tree
 use Rattle.facet_json_document.specs.Meaning.{text_of, meaning}
 use Rattle.facet_format.specs.Event.{Text, Scalar, EventKind, Passed}
 use Rattle.facet_format.specs.Event as event
+use Rattle.facet_format.specs.Part.{Source}
 
 -- ---- the event of a token
 
@@ -68,3 +69,7 @@ unfoldable mutual
   pub walk_members : List ℕ → Members → List Passed
   walk_members buffer no_members = []
   walk_members buffer (member key mark node members) = key_event buffer key mark ∷ walk buffer node ++ walk_members buffer members
+
+-- the input, and the walk of the value in it
+abbrev pub source_of : List ℕ → Node → Source
+source_of buffer node = record { bytes = buffer; events = walk buffer node }

@@ -2,9 +2,13 @@
 #![tactic(auto)]
 
 pub mod events;
+pub mod log_filter;
 pub mod loops;
+pub mod messages;
 pub mod probing;
 pub mod reformat;
 pub mod scanning;
 pub mod tokens;
+pub mod transcoding;
 pub mod trees;
+pub mod writing;

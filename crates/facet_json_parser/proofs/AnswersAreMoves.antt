@@ -59,7 +59,7 @@ pub save-repeats : (now : Now) (r : Refusal) → now.cursor.refusal ≡ Some r �
 save-repeats now r e = step-moves now now now.cursor save _ refl (repeats r save (saved (Err r)) e refl)
 
 -- The refusal of a parser, made otherwise.
-none-made : (made now : Now) → made ≡ now → now.cursor.refusal ≡ None → made.cursor.refusal ≡ None
+pub none-made : (made now : Now) → made ≡ now → now.cursor.refusal ≡ None → made.cursor.refusal ≡ None
 none-made made now e none = rw e none
 
 pub next-answers : (made now : Now) (o : Option Event) (t : Spot Standing) → made ≡ now → now.cursor.refusal ≡ None →

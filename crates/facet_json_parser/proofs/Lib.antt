@@ -1,3 +1,4 @@
 pub mod AnswersAreMoves
 pub mod EventsInBatch
 pub mod ParserWithin
+pub mod PartsArePassed

@@ -4,10 +4,10 @@ ghost use Rattle.std.specs.Prelude.{◌≡◌, ◌≤◌, ◌+◌, suc, List, So
 ghost use Rattle.std.specs.Option.{option_map};
 ghost use Rattle.std.specs.VecDeque.{deque_len, deque_capacity};
 ghost use Rattle.facet_format.specs.declared.event.ParseEvent.{ParseEvent as RustEvent};
-ghost use Rattle.facet_format.specs.Cursor.{next, peek, events, save, restore, restored, span, spans, refused_at};
+ghost use Rattle.facet_format.specs.Cursor.{next, peek, events, skip, capture, save, restore, restored, span, spans, refused_at};
 ghost use Rattle.facet_format.specs.Kept.{found, without};
 ghost use Rattle.facet_format.specs.Standing.{IsStep};
-ghost use Rattle.facet_format.specs.Views.{event_of, parse_refusal, answer_of_event, answer_of_events, answer_of_save, answer_of_span};
+ghost use Rattle.facet_format.specs.Views.{event_of, parse_refusal, answer_of_event, answer_of_events, answer_of_skip, answer_of_capture, answer_of_save, answer_of_span};
 ghost use Rattle.facet_json_token.specs.Gap.{plain, jsonc};
 ghost use Rattle.facet_json_token.specs.Views.{mode_of};
 ghost use Rattle.facet_json_document.specs.Future.{finished};
@@ -40,14 +40,18 @@ use std::marker::Model;
 /// parser.save()                    Ok: SavePoint(1)
 /// parser.next_event()              Ok: SequenceStart(Array), span 5+1
 /// parser.restore(SavePoint(1))
+/// parser.save()                    Ok: SavePoint(2)
+/// parser.capture_raw()             Ok: Some of [1]
+/// parser.skip_value()              Ok: the end of the object is passed
+/// parser.restore(SavePoint(2))
 /// parser.next_events(&mut q, 9)    Ok: 4, and q has SequenceStart, Scalar of U64(1), SequenceEnd, StructEnd
 /// parser.next_event()              Ok: None
 /// ```
 ///
 /// # Errors
 ///
-/// A refusal of a call for events sticks: calls for events and saves repeat it, until a point that is kept is restored.
-/// A refused save changes nothing, and does not stick.
+/// A refusal of a call for events, of a skip or of a capture sticks: these calls and saves repeat it, until a point that is
+/// kept is restored. A refused save changes nothing, and does not stick.
 #[derive(Debug, Drop)]
 pub struct JsonParser<'de> {
     alloc: Global,
@@ -261,6 +265,63 @@ impl<'de> FormatParser<'de> for JsonParser<'de> {
             buf.push_back_reserved(event);
         }
         Ok(limit)
+    }
+
+    /// Passes the next value with all that it holds, or a key with its colon, or the end of a container, and decodes nothing:
+    /// tokens are cut and brackets matched, and no more. An event that was peeked at is passed with its value.
+    ///
+    /// # Errors
+    ///
+    /// No such part stands there; the span is that of the bytes that are wrong.
+    ///
+    /// - `UnexpectedChar`: no token begins or goes on so (RFC 8259, sections 2, 6 and 7).
+    /// - `UnexpectedEof`: the input ends. After the document's last event it is `value`, with an empty span after the last token.
+    /// - `UnexpectedToken`: no document goes on with this token, a bracket within the value closes another one, or the input
+    ///   ends after a key.
+    /// - `OutOfMemory`: no memory for the brackets that are open within the value, with the current span.
+    ///
+    /// A refusal sticks, until a point that is kept is restored.
+    fn skip_value<'t>(&mut self) -> Result<(), ParseError<'t>>
+        ensures steps { IsStep StandsAt self.old skip (answer_of_skip result) self.new }
+        ensures moves { Moves self.old skip (answer_of_skip result) self.new }
+        ensures within { AnswerWithin self.new.buffer (answer_of_skip result) }
+        ensures lowers { ahead self.new ≤ ahead self.old }
+        ensures onward { GoesOn self.old self.new }
+        ensures shorter { IfOk result (λ _. ahead self.new < ahead self.old) }
+    {
+        self.unrefused()?;
+        match self.standing.skip(self.alloc, self.input, self.language) {
+            Ok(()) => Ok(()),
+            Err(refused) => Err(self.refuse(refused)),
+        }
+    }
+
+    /// Passes the next value with all that it holds, as a skip does, and answers its bytes as they stand in the input, from its
+    /// first token to its last one. They are always there.
+    ///
+    /// # Errors
+    ///
+    /// As `skip_value` for a value, and `InvalidValue` for what is no raw text:
+    ///
+    /// - `unexpected field key in capture_raw`: a key stands there; with an empty span at its start.
+    /// - `unexpected end event in capture_raw`: the end of a container stands there; with an empty span at its start.
+    /// - `invalid UTF-8 in raw JSON`: the value's bytes are not UTF-8 (RFC 8259, section 8.1); with the value's span.
+    ///
+    /// A refusal sticks, until a point that is kept is restored.
+    fn capture_raw<'t>(&mut self) -> Result<Option<&'de str>, ParseError<'t>>
+        ensures steps { IsStep StandsAt self.old capture (answer_of_capture result) self.new }
+        ensures moves { Moves self.old capture (answer_of_capture result) self.new }
+        ensures within { AnswerWithin self.new.buffer (answer_of_capture result) }
+        ensures lowers { ahead self.new ≤ ahead self.old }
+        ensures onward { GoesOn self.old self.new }
+        ensures shorter { IfOk result (λ _. ahead self.new < ahead self.old) }
+        ensures given { IfOk result IsSome }
+    {
+        self.unrefused()?;
+        match self.standing.capture(self.alloc, self.input, self.language) {
+            Ok(text) => Ok(Some(text)),
+            Err(refused) => Err(self.refuse(refused)),
+        }
     }
 
     /// Keeps where it stands, an event that was peeked at included, under the next number: the first point has 1. Numbers

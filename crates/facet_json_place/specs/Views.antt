@@ -8,6 +8,8 @@ use Rattle.facet_json_place.specs.declared.refusal.Expected.{Expected}
 use Rattle.facet_json_place.specs.declared.refusal.Expected.TheVariants as expected
 use Rattle.facet_json_place.specs.declared.refusal.Name.{Name}
 use Rattle.facet_json_place.specs.declared.refusal.Name.TheVariants as names
+use Rattle.facet_json_place.specs.declared.refusal.NoRaw.{NoRaw}
+use Rattle.facet_json_place.specs.declared.refusal.NoRaw.TheVariants as no_raws
 use Rattle.facet_json_place.specs.declared.refusal.Why.{Why}
 use Rattle.facet_json_place.specs.declared.refusal.Why.TheVariants as why
 use Rattle.facet_json_place.specs.declared.refusal.Refused.{Refused}
@@ -58,9 +60,16 @@ name_text names.I64 = codes "I64"
 name_text names.U128 = codes "U128"
 name_text names.I128 = codes "I128"
 name_text names.Decimal = codes "Decimal"
+name_text names.Number = codes "Number"
 name_text names.Eof = codes "Eof"
 name_text names.ClosingBrace = codes "'}'"
 name_text names.ClosingBracket = codes "']'"
+
+-- why there is no raw text
+abbrev pub no_raw_text : NoRaw → List ℕ
+no_raw_text no_raws.Key = codes "unexpected field key in capture_raw"
+no_raw_text no_raws.End = codes "unexpected end event in capture_raw"
+no_raw_text no_raws.Text = codes "invalid UTF-8 in raw JSON"
 
 abbrev pub why_of : Why → Complaint
 why_of (why.Char c) = complaint.unexpected_char c (codes "valid JSON token")
@@ -68,6 +77,7 @@ why_of (why.Inside text) = complaint.unexpected_eof text.now
 why_of (why.End e) = complaint.unexpected_eof (expected_text e)
 why_of (why.Token got e) = complaint.unexpected_token (name_text got) (expected_text e)
 why_of why.InvalidUtf8 = complaint.invalid_utf8
+why_of (why.NoRaw n) = complaint.invalid_value (no_raw_text n)
 why_of why.OutOfMemory = complaint.out_of_memory
 why_of why.SaveLimit = complaint.save_limit
 

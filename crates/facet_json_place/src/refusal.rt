@@ -4,7 +4,7 @@ ghost use Rattle.std.specs.Prelude.{◌≡◌};
 ghost use Rattle.facet_format.specs.Complaint.{refusal_at, save_limit};
 ghost use Rattle.facet_format.specs.Cursor.{no_memory_at};
 ghost use Rattle.facet_format.specs.Views.{complaint_of, span_of, parse_refusal};
-ghost use Rattle.facet_json_place.specs.Views.{expected_text, name_text, why_of, refused_of};
+ghost use Rattle.facet_json_place.specs.Views.{expected_text, name_text, no_raw_text, why_of, refused_of};
 ghost use Rattle.facet_json_token.specs.Views.{scan_complaint, scan_refusal};
 
 use facet_format::{DeserializeErrorKind, ParseError, Span};
@@ -82,6 +82,8 @@ pub enum Name {
     I128,
     /// A number with a fraction or an exponent.
     Decimal,
+    /// A number whose value is not read.
+    Number,
     /// The end of the input.
     Eof,
     /// `}`, where nothing but brackets is looked at.
@@ -111,9 +113,34 @@ impl Name {
             Name::U128 => "U128",
             Name::I128 => "I128",
             Name::Decimal => "Decimal",
+            Name::Number => "Number",
             Name::Eof => "Eof",
             Name::ClosingBrace => "'}'",
             Name::ClosingBracket => "']'",
+        }
+    }
+}
+
+/// Why there is no raw text.
+#[derive(Debug, Clone, Copy, PartialEq, Eq)]
+pub enum NoRaw {
+    /// A key stands there.
+    Key,
+    /// A container ends there.
+    End,
+    /// The value's bytes are not UTF-8.
+    Text,
+}
+
+impl NoRaw {
+    /// The text that a refusal says.
+    fn text(self) -> &'static str
+        ensures { result.now ≡ no_raw_text self }
+    {
+        match self {
+            NoRaw::Key => "unexpected field key in capture_raw",
+            NoRaw::End => "unexpected end event in capture_raw",
+            NoRaw::Text => "invalid UTF-8 in raw JSON",
         }
     }
 }
@@ -136,6 +163,8 @@ pub enum Why {
     },
     /// Text that is not UTF-8.
     InvalidUtf8,
+    /// No raw text, for this.
+    NoRaw(NoRaw),
     /// A growth was refused.
     OutOfMemory,
     /// The counter of save points is at its end.
@@ -161,6 +190,9 @@ impl Why {
                 expected: expected.text(),
             },
             Why::InvalidUtf8 => DeserializeErrorKind::InvalidUtf8,
+            Why::NoRaw(no_raw) => DeserializeErrorKind::InvalidValue {
+                message: no_raw.text(),
+            },
             Why::OutOfMemory => DeserializeErrorKind::OutOfMemory,
             Why::SaveLimit => DeserializeErrorKind::SaveLimit,
         }

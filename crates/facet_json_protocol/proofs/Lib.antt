@@ -8,6 +8,7 @@ pub mod PointsHold
 pub mod RefusalRepeats
 pub mod RestoreBringsBack
 pub mod Rows
+pub mod RunsPassed
 pub mod Spans
 pub mod StandsOnWalk
 pub mod StepLaws

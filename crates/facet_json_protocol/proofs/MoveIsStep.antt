@@ -2,21 +2,20 @@
 use Rattle.std.specs.Prelude.{ℕ, List}
 use Rattle.std.proofs.Common.{ℕ, List}
 use Rattle.facet_json_token.specs.Gap.{Mode}
-use Rattle.facet_format.specs.Event.{Passed}
-use Rattle.facet_format.specs.Cursor.{Call, Answer, Cursor, on_walk, start, Run}
+use Rattle.facet_format.specs.Cursor.{Call, Answer, Source, Cursor, on_walk, start, Run}
 use Rattle.facet_format.specs.Standing.{IsStep}
 use Rattle.facet_format.specs.Alike.{CursorsAlike}
 use Rattle.facet_json_document.specs.Node.{Node}
 use Rattle.facet_json_document.specs.Tree.{Tree}
 use Rattle.facet_json_document.specs.Document.{IsDocument}
-use Rattle.facet_json_document.specs.Walk.{walk}
+use Rattle.facet_json_document.specs.Walk.{source_of}
 use Rattle.facet_json_protocol.specs.Now.{Now, fresh, SameInput, StandsOn, StandsAt}
 use Rattle.facet_json_protocol.specs.Move.{Moves, MovesAll}
 use Rattle.facet_json_protocol.proofs.StandsOnWalk.{fresh-stands, input-on_walk}
 use Rattle.facet_format.proofs.StepsAlike.{step-alike, run-alike}
 
 -- Where the input is the same, a parser stands where its places say.
-stands-still : (old new : Now) (w : List Passed) (d : Cursor ℕ) → SameInput old new →
+stands-still : (old new : Now) (w : Source) (d : Cursor ℕ) → SameInput old new →
     CursorsAlike (StandsOn old.buffer old.language w) new.cursor d → StandsAt new w d
 stands-still old new w d same on = rw (same.buffer, same.language) on
 
@@ -27,7 +26,7 @@ move-steps old new call answer move w c stands =
     (found.0, found.1, stands-still old new w found.0 move.input found.2)
 
 -- So are all moves of a list of calls a run of it.
-pub moves-run : (old new : Now) (w : List Passed) (c : Cursor ℕ) {calls : List Call} {answers : List Answer} → StandsAt old w c →
+pub moves-run : (old new : Now) (w : Source) (c : Cursor ℕ) {calls : List Call} {answers : List Answer} → StandsAt old w c →
     MovesAll old calls answers new → (d : Cursor ℕ) × Run (on_walk w) c calls answers d × StandsAt new w d
 moves-run old new w c stands moves =
     let found = run-alike _ (on_walk w) _ (input-on_walk old.buffer old.language w) stands moves.run in
@@ -36,6 +35,6 @@ moves-run old new w c stands moves =
 -- On a document a new parser answers every list of calls as the cursor does from its start.
 pub document-run : (buffer : List ℕ) (mode : Mode) (node : Node) (value : Tree) {new : Now} {calls : List Call}
     {answers : List Answer} → IsDocument buffer mode node value → MovesAll (fresh buffer mode) calls answers new →
-    (d : Cursor ℕ) × Run (on_walk (walk buffer node)) start calls answers d × StandsAt new (walk buffer node) d
+    (d : Cursor ℕ) × Run (on_walk (source_of buffer node)) start calls answers d × StandsAt new (source_of buffer node) d
 document-run buffer mode node value {new = new} d moves =
-    moves-run (fresh buffer mode) new (walk buffer node) start (fresh-stands buffer mode node value d) moves
+    moves-run (fresh buffer mode) new (source_of buffer node) start (fresh-stands buffer mode node value d) moves

@@ -1,31 +1,32 @@
 -- Where a parser stands on a document's walk: at its start when it is new, and where an input's place is a place on the walk.
-use Rattle.std.proofs.Common.{◌≡◌, ℕ, zero, suc, ◌≤◌, List, [], ◌∷◌, length, drop, Option, Some, None, refl, sym, ap, ◌∙◌, arith}
+use Rattle.std.proofs.Common.{◌≡◌, ℕ, zero, suc, List, [], ◌∷◌, drop, Option, Some, None, refl, sym, ap, ◌∙◌, arith}
 use Rattle.std.specs.Prelude.{ℕ, List, slice_get}
 use Rattle.facet_json_token.specs.Gap.{Mode}
 use Rattle.facet_json_document.specs.Language.{Language}
 use Rattle.facet_format.specs.Event.{Passed}
 use Rattle.facet_format.specs.Alike.{none_kept}
-use Rattle.facet_format.specs.Cursor.{an_event, a_refusal, event_or_end, on_walk, start}
+use Rattle.facet_format.specs.Cursor.{an_event, a_refusal, event_or_end, Source, on_walk, start}
 use Rattle.facet_json_document.specs.Node.{Node}
 use Rattle.facet_json_document.specs.Tree.{Tree}
 use Rattle.facet_json_document.specs.Document.{IsDocument}
-use Rattle.facet_json_document.specs.Walk.{walk}
-use Rattle.facet_json_document.specs.Future.{Future, gives, finished, events_before}
+use Rattle.facet_json_document.specs.Walk.{source_of}
+use Rattle.facet_json_document.specs.Future.{finished, events_before}
 use Rattle.facet_json_document.specs.InputPlace.{Standing, past, future_at}
 use Rattle.facet_json_document.proofs.WalkComes.{document-comes}
 use Rattle.facet_json_protocol.specs.Now.{fresh, first_of, on_input, StandsOn, StandsAt}
 use Rattle.facet_format.proofs.StepsAlike.{WorldsAlike}
-use Rattle.facet_json_document.proofs.PastEvents.{past-comes}
+use Rattle.facet_json_document.proofs.Parts.PartsOnWalk.{parts-on_walk}
+use Rattle.facet_json_document.proofs.Parts.PlacesOnWalk.{is-next}
 use Rattle.facet_json_protocol.proofs.MovesNext.{first-gives}
 
 -- ---- at the start
 
 -- A new parser stands where the cursor starts.
 pub fresh-stands : (buffer : List ℕ) (mode : Mode) (root : Node) (value : Tree) → IsDocument buffer mode root value →
-    StandsAt (fresh buffer mode) (walk buffer root) start
+    StandsAt (fresh buffer mode) (source_of buffer root) start
 fresh-stands buffer mode root value d = record {
   spot = record {
-    place = record { place_within = omega arith; comes = document-comes buffer mode root value d; last = refl };
+    place = record { bytes = refl; place_within = omega arith; comes = document-comes buffer mode root value d; last = refl };
     peeked = refl;
   };
   refusal = refl;
@@ -34,24 +35,6 @@ fresh-stands buffer mode root value d = record {
 }
 
 -- ---- what comes, and the place on the walk
-
--- The event is the one at this place of the walk, and this comes after it.
-record IsNext (w : List Passed) (place : ℕ) (p : Passed) (future : Future) : Type 0 where
-  pub there : slice_get w place ≡ Some p
-  pub behind : future ≡ events_before (drop (suc place) w) finished
-  pub place_within : suc place ≤ length w
-
--- The first event of what comes is the one at the place.
-comes-event : (w : List Passed) (i : ℕ) (p : Passed) (f : Future) → events_before (drop i w) finished ≡ gives p f →
-    IsNext w i p f
-comes-event [] zero p f e = cc
-comes-event [] (suc i) p f e = cc
-comes-event (q ∷ w) zero p f e =
-    let same : gives q (events_before w finished) ≡ gives p f = e in
-    record { there = cc; behind = cc; place_within = omega arith }
-comes-event (q ∷ w) (suc i) p f e =
-    let more = comes-event w i p f e in
-    record { there = more.there; behind = more.behind; place_within = omega (arith, more.place_within) }
 
 -- What comes first is the event at the place, or the end.
 first-there : (w : List Passed) (i : ℕ) → first_of (events_before (drop i w) finished) ≡ event_or_end (slice_get w i)
@@ -66,24 +49,20 @@ never-refused None e = cc
 never-refused (Some p) e = cc
 
 -- Where an input's place is one on a walk, they are alike from there on.
-pub input-on_walk : (buffer : List ℕ) (language : Language) (w : List Passed) →
+pub input-on_walk : (buffer : List ℕ) (language : Language) (w : Source) →
     WorldsAlike (on_input buffer language) (on_walk w) (StandsOn buffer language w)
 input-on_walk buffer language w = record {
-  comes = λ s place on. ap first_of on.comes ∙ first-there w place;
+  comes = λ s place on. ap first_of on.comes ∙ first-there w.events place;
   refuses = λ s place r on comes may.
-      absurd (never-refused (slice_get w place) (sym (ap first_of on.comes ∙ first-there w place) ∙ comes));
+      absurd (never-refused (slice_get w.events place) (sym (ap first_of on.comes ∙ first-there w.events place) ∙ comes));
   past = λ s place p on comes. passed s place p on comes;
   last = λ s place on. on.last;
+  bytes = λ s place on. on.bytes;
+  stands = λ s place part on stands. parts-on_walk buffer language w s place part on stands;
 }
   where
     passed : (s : Standing) (place : ℕ) (p : Passed) → StandsOn buffer language w s place →
         first_of (future_at buffer language s) ≡ an_event p → StandsOn buffer language w (past p s) (suc place)
     passed s place p on comes =
         let first = first-gives (future_at buffer language s) p comes in
-        let there = comes-event w place p first.0 (sym on.comes ∙ first.1) in
-        let same = there.there in
-        record {
-          place_within = there.place_within;
-          comes = past-comes buffer language s p first.0 first.1 ∙ there.behind;
-          last = rw same refl;
-        }
+        (is-next buffer language w s place on p first.0 first.1).after

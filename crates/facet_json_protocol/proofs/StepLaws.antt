@@ -4,7 +4,7 @@ use Rattle.std.specs.Prelude.{Ok, Err}
 use Rattle.facet_format.specs.Complaint.{Refusal}
 use Rattle.facet_format.specs.Event.{Event, Passed}
 use Rattle.facet_format.specs.Kept.{found}
-use Rattle.facet_format.specs.Cursor.{Call, next, peek, events, save, restore, span, Answer, event, saved, restored, World, Spot, Cursor, Comes, no_event, one_event, Step, repeats, passes, passes_without_memory, passes_the_end, passes_nothing, peeks, peeks_without_memory, peeks_at_the_end, peeks_at_nothing, gives_none, gives, gives_up, gives_without_memory, saves, saves_at_the_limit, saves_without_memory, restores, restores_nothing, tells, Run, no_calls, one_call, repeated, an_event, kept_here, back_at}
+use Rattle.facet_format.specs.Cursor.{Call, next, peek, events, skip, capture, save, restore, span, Answer, event, saved, restored, World, Spot, Cursor, Comes, no_event, one_event, Step, repeats, passes, passes_without_memory, passes_the_end, passes_nothing, peeks, peeks_without_memory, peeks_at_the_end, peeks_at_nothing, gives_none, gives, gives_up, gives_without_memory, skips, skips_without_memory, skips_nothing, captures, captures_without_memory, captures_nothing, saves, saves_at_the_limit, saves_without_memory, restores, restores_nothing, tells, Run, no_calls, one_call, repeated, an_event, kept_here, back_at}
 
 -- the call leaves the points as they are
 abbrev pub leaves_points : Call → Bool
@@ -50,6 +50,12 @@ module _ {P : Type 0} (w : World P) where
   step-repeats c d r call answer told (gives k n given place none all count le over) f t = cc
   step-repeats c d r call answer told (gives_without_memory k given place p spot none all le more there) f t = cc
   step-repeats c d r call answer told (gives_up k given place q none all le stops so) f t = cc
+  step-repeats c d r call answer told (skips part place none stands is) f t = cc
+  step-repeats c d r call answer told (skips_without_memory part none stands opens) f t = cc
+  step-repeats c d r call answer told (skips_nothing part q none stands is) f t = cc
+  step-repeats c d r call answer told (captures part text place none stands is) f t = cc
+  step-repeats c d r call answer told (captures_without_memory part none stands opens) f t = cc
+  step-repeats c d r call answer told (captures_nothing part q none stands is) f t = cc
   step-repeats c d r call answer told (saves none h) f t = cc
   step-repeats c d r call answer told (saves_at_the_limit none e) f t = cc
   step-repeats c d r call answer told (saves_without_memory none h) f t = cc
@@ -65,6 +71,8 @@ module _ {P : Type 0} (w : World P) where
   step-refused c d r (events zero) answer (repeats q _ _ e a) l f = refl
   step-refused c d r (events zero) answer gives_none l f = refl
   step-refused c d r (events (suc k)) answer step l f = (step-repeats c d r (events (suc k)) answer _ step f refl).1
+  step-refused c d r skip answer step l f = (step-repeats c d r skip answer _ step f refl).1
+  step-refused c d r capture answer step l f = (step-repeats c d r capture answer _ step f refl).1
   step-refused c d r save answer step l f = (step-repeats c d r save answer _ step f refl).1
   step-refused c d r (restore point) answer step l f = cc
   step-refused c d r span answer (repeats q _ _ e a) l f = refl

@@ -5,6 +5,7 @@ use Rattle.facet_json_document.specs.Language.{lenient}
 use Rattle.facet_json_document.specs.Future.{Future, gives, finished, stuck}
 use Rattle.facet_json_document.specs.InputPlace.{first_standing, future_at}
 use Rattle.facet_json_document.proofs.StuckOnce.{stuck-once}
+use Rattle.facet_json_document.proofs.Parts.OnePart.{one-part}
 use Rattle.facet_format.specs.Cursor.{start_at}
 use Rattle.facet_format.proofs.CursorAgrees.{runs-agree}
 use Rattle.facet_json_protocol.specs.Now.{on_input, RefusedAt}
@@ -19,5 +20,5 @@ refused-once buffer (stuck place rest) r q first second = stuck-once buffer plac
 -- Both are runs of one cursor over the input's places.
 pub new-agree : TrustedAgrees
 new-agree buffer mode calls these those trusted checking first second =
-    runs-agree (on_input buffer (lenient mode)) (λ place. refused-once buffer (future_at buffer (lenient mode) place)) (start_at first_standing)
-    trusted.cursor checking.cursor calls these those first.run second.run
+    runs-agree (on_input buffer (lenient mode)) (λ place. refused-once buffer (future_at buffer (lenient mode) place))
+    (one-part buffer (lenient mode)) (start_at first_standing) trusted.cursor checking.cursor calls these those first.run second.run

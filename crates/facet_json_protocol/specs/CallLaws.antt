@@ -4,7 +4,7 @@ use Rattle.facet_json_token.specs.Gap.{Mode}
 use Rattle.facet_format.specs.Complaint.{Refusal, refusal_at, save_limit}
 use Rattle.facet_format.specs.Event.{Event}
 use Rattle.facet_format.specs.Kept.{found}
-use Rattle.facet_format.specs.Cursor.{Call, next, peek, save, restore, Spot, Answer, event, batch, saved, greatest, no_memory_at, repeated}
+use Rattle.facet_format.specs.Cursor.{Call, next, peek, save, restore, Spot, Answer, event, batch, skipped, raw, saved, greatest, no_memory_at, repeated}
 use Rattle.facet_format.specs.Standing.{IsStep}
 use Rattle.facet_json_document.specs.InputPlace.{Standing}
 use Rattle.facet_json_protocol.specs.Now.{Now, fresh, span_of, SameInput, StandsAt}
@@ -27,10 +27,12 @@ PeekIsNext = (old between new : Now) (e : Event) (answer : Answer) → Moves old
 
 -- ---- refusals
 
--- what a call for events was refused with
+-- what a call for events, a skip or a capture was refused with
 abbrev pub refusal_in : Answer → Option Refusal
 refusal_in (event (Err r)) = Some r
 refusal_in (batch given (Err r)) = Some r
+refusal_in (skipped (Err r)) = Some r
+refusal_in (raw (Err r)) = Some r
 refusal_in _ = None
 
 -- None of the calls restores one of these points.
@@ -46,7 +48,7 @@ pub data AllRepeat (r : Refusal) : List Call → List Answer → Type 0 where
       ((told : Answer) → repeated r call ≡ Some told → answer ≡ told) → AllRepeat r calls answers →
       AllRepeat r (call ∷ calls) (answer ∷ answers)
 
--- Once a call for events is refused, that refusal is repeated, and nothing changes, until a point that is kept is restored.
+-- Once a call for events, a skip or a capture is refused, that refusal is repeated, and nothing changes, until a point that is kept is restored.
 abbrev pub RefusalRepeats : Type 0
 RefusalRepeats = (old stopped new : Now) (call : Call) (answer : Answer) (r : Refusal) (calls : List Call) (answers : List Answer) →
     Moves old call answer stopped → refusal_in answer ≡ Some r → RestoresNone stopped.cursor.kept calls →

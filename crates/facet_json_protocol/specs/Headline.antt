@@ -12,7 +12,7 @@ use Rattle.facet_json_document.specs.Node.{Node}
 use Rattle.facet_json_document.specs.Tree.{Tree}
 use Rattle.facet_json_document.specs.Document.{IsDocument}
 use Rattle.facet_json_document.specs.Place.{Place}
-use Rattle.facet_json_document.specs.Walk.{walk}
+use Rattle.facet_json_document.specs.Walk.{source_of}
 use Rattle.facet_json_prefix.specs.Begun.{LongestPrefix, RefusesAfter}
 use Rattle.facet_json_prefix.specs.Refusal.{Refuses}
 use Rattle.facet_json_protocol.specs.Now.{Now, fresh, StandsAt}
@@ -31,7 +31,7 @@ pub record AnswersDocument (buffer : List ℕ) (mode : Mode) : Type 0 where
   pub document : IsDocument buffer mode node value
   pub only : (other : Node) (meant : Tree) → IsDocument buffer mode other meant → (other ≡ node) × (meant ≡ value)
   pub run : (calls : List Call) (answers : List Answer) (new : Now) → NewAnswers buffer mode calls answers new →
-      (c : Cursor ℕ) × Run (on_walk (walk buffer node)) start calls answers c × StandsAt new (walk buffer node) c
+      (c : Cursor ℕ) × Run (on_walk (source_of buffer node)) start calls answers c × StandsAt new (source_of buffer node) c
 
 -- The input has no document. Its one longest prefix that begins one gives these events, and by what stands after it the input is
 -- refused so alone; and where only the next event is asked for, these events are answered, and then this refusal.

@@ -5,4 +5,5 @@ pub mod Move
 pub mod Next
 pub mod Now
 pub mod ParserLaws
+pub mod SkipLaws
 pub mod Within

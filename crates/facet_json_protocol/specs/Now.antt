@@ -1,15 +1,16 @@
 -- What a parser is as a value, on any input, and where it stands on a document's walk.
-use Rattle.std.specs.Prelude.{◌≡◌, ◌≤◌, ℕ, ◌-◌, List, length, drop}
+use Rattle.std.specs.Prelude.{◌≡◌, ◌≤◌, ℕ, ◌-◌, List, length}
 use Rattle.facet_format.specs.Span.{Span, stop}
 use Rattle.facet_format.specs.Complaint.{Refusal}
-use Rattle.facet_format.specs.Event.{Passed}
-use Rattle.facet_format.specs.Cursor.{Coming, an_event, the_end, a_refusal, World, Cursor, start_at, current_span, last_of}
+use Rattle.facet_format.specs.Cursor.{Coming, an_event, the_end, a_refusal, Source, World, Cursor, start_at, current_span}
 use Rattle.facet_format.specs.Alike.{CursorsAlike}
 use Rattle.facet_json_token.specs.Gap.{Mode}
 use Rattle.facet_json_document.specs.Language.{Language, lenient}
 use Rattle.facet_json_document.specs.Refusal.{IsStuck}
-use Rattle.facet_json_document.specs.Future.{Future, gives, finished, stuck, events_before}
+use Rattle.facet_json_document.specs.Future.{Future, gives, finished, stuck}
 use Rattle.facet_json_document.specs.InputPlace.{Standing, first_standing, past, future_at}
+use Rattle.facet_json_document.specs.Unread.{PartAt}
+pub use Rattle.facet_json_document.specs.StandsOn.{StandsOn}
 
 pub record Now : Type 0 where
   pub buffer : List ℕ
@@ -42,6 +43,8 @@ on_input buffer language = record {
   refuses = λ s refusal. RefusedAt buffer (future_at buffer language s) refusal;
   past = past;
   last = λ s. s.last;
+  bytes = buffer;
+  stands = PartAt buffer language;
 }
 
 -- the last token that was read, also of an event that was peeked at
@@ -72,12 +75,6 @@ pub record GoesOn (old new : Now) : Type 0 where
 
 -- ---- where it stands on a document's walk
 
--- The standing is the place on the walk: the same events come, after the same token.
-pub record StandsOn (buffer : List ℕ) (language : Language) (w : List Passed) (s : Standing) (place : ℕ) : Type 0 where
-  pub place_within : place ≤ length w
-  pub comes : future_at buffer language s ≡ events_before (drop place w) finished
-  pub last : s.last ≡ last_of w place
-
 -- The parser stands where the cursor stands on the walk.
-abbrev pub StandsAt : Now → List Passed → Cursor ℕ → Type 0
+abbrev pub StandsAt : Now → Source → Cursor ℕ → Type 0
 StandsAt now w c = CursorsAlike (StandsOn now.buffer now.language w) now.cursor c

@@ -6,7 +6,7 @@ use Rattle.facet_format.specs.Agree.{AgreeToLack}
 use Rattle.facet_json_document.specs.Node.{Node}
 use Rattle.facet_json_document.specs.Tree.{Tree}
 use Rattle.facet_json_document.specs.Document.{IsDocument}
-use Rattle.facet_json_document.specs.Walk.{walk}
+use Rattle.facet_json_document.specs.Walk.{source_of}
 use Rattle.facet_json_protocol.specs.Now.{Now, fresh, StandsAt}
 use Rattle.facet_json_protocol.specs.Move.{MovesAll}
 use Rattle.facet_json_protocol.specs.Headline.{AnswersPrefix}
@@ -14,7 +14,7 @@ use Rattle.facet_json_protocol.specs.Headline.{AnswersPrefix}
 -- A new parser of an input with a document stands where the cursor starts on the document's walk.
 abbrev pub NewStands : Type 0
 NewStands = (buffer : List ℕ) (mode : Mode) (node : Node) (value : Tree) → IsDocument buffer mode node value →
-    StandsAt (fresh buffer mode) (walk buffer node) start
+    StandsAt (fresh buffer mode) (source_of buffer node) start
 
 -- Where the input has no document, a new parser that is asked for the next event alone answers what the longest prefix gives, one
 -- event a call, and from then on the one refusal of what stands after that prefix; or, in place of an event that allocates, out of

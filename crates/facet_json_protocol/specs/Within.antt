@@ -4,7 +4,7 @@ use Rattle.std.specs.List.{All}
 use Rattle.facet_format.specs.Span.{stop}
 use Rattle.facet_format.specs.Complaint.{Refusal}
 use Rattle.facet_format.specs.Event.{Event}
-use Rattle.facet_format.specs.Cursor.{Answer, event, batch, saved, restored, spans}
+use Rattle.facet_format.specs.Cursor.{Answer, event, batch, skipped, raw, saved, restored, spans}
 use Rattle.facet_json_document.specs.InputPlace.{Standing}
 use Rattle.facet_json_protocol.specs.Now.{Now}
 
@@ -43,6 +43,8 @@ EventWithin buffer (Err refusal) = RefusalWithin buffer refusal
 abbrev pub AnswerWithin : List ℕ → Answer → Type 0
 AnswerWithin buffer (event result) = EventWithin buffer result
 AnswerWithin buffer (batch given result) = EventsWithin buffer given × ResultWithin buffer result
+AnswerWithin buffer (skipped result) = ResultWithin buffer result
+AnswerWithin buffer (raw result) = ResultWithin buffer result
 AnswerWithin buffer (saved result) = ResultWithin buffer result
 AnswerWithin buffer restored = ⊤
 AnswerWithin buffer (spans s) = IfSome s (λ x. stop x ≤ length buffer)

@@ -1,11 +1,11 @@
 //! Raw JSON text.
 
-ghost use Rattle.std.specs.Prelude.{◌≡◌, false, Some, MatchResult, nat_eq};
+ghost use Rattle.std.specs.Prelude.{◌≡◌, false, Some, MatchResult, codes, nat_eq};
 ghost use Rattle.std.proofs.Common.{rules};
 ghost use Rattle.std.specs.Cmp.Rules.{hashing};
 ghost use Rattle.std.specs.Cmp.{partial_equiv_from_equiv, on_per, on_equiv};
 ghost use Rattle.std.specs.Cmp.Lexicographic.{pointwise, nat_list_eq_equiv};
-ghost use Rattle.std.specs.Fmt.{styled_text};
+ghost use Rattle.std.specs.Fmt.{debug_str, debug_variant, styled_text};
 ghost use Rattle.std.specs.Hash as fed;
 ghost use Rattle.std.specs.String.{string_bytes};
 ghost use Rattle.facet_format.specs.Event.{borrowed, owned, bytes_of, is_owned};
@@ -134,5 +134,15 @@ impl<'a> fmt::Display for RawJson<'a> {
 
     fn fmt<W: fmt::Write>(&self, f: &mut fmt::Formatter<W>) -> fmt::Result {
         f.pad(self.as_str())
+    }
+}
+
+/// `RawJson("..")`, with the text between double quotes as the code would spell it. The contract says so of ASCII texts.
+impl<'a> fmt::Debug for RawJson<'a> {
+    ghost debug_output = { λ raw. debug_variant (codes "RawJson") (debug_str (bytes_of raw)) };
+
+    fn fmt<W: fmt::Write>(&self, f: &mut fmt::Formatter<W>) -> fmt::Result {
+        let text = self.as_str();
+        write!(f, "RawJson({text:?})")
     }
 }

@@ -45,7 +45,7 @@ impl Stage {
     }
 
     /// Where a value has ended that stands in these containers.
-    fn after_value(contexts: &Contexts) -> Stage
+    pub fn after_value(contexts: &Contexts) -> Stage
         ensures { stage_of result ≡ after_value contexts.now }
     {
         match contexts.innermost() {
@@ -175,7 +175,7 @@ impl Reader {
     }
 
     /// Closes the innermost container.
-    fn close(&mut self)
+    pub fn close(&mut self)
         ensures last { self.new.last ≡ self.old.last }
         ensures contexts { self.new.contexts ≡ around self.old.contexts }
         ensures stage { stage_of self.new.stage ≡ after_value (around self.old.contexts) }

@@ -1,13 +1,11 @@
 //! What parsers tell of an input: each mode, trusted and checking parsers, and each way to ask tell the same.
 
 use crate::shown::{Telling, push, push_answer};
+use crate::unread::{Unread, tell_parts};
 use facet_format::FormatParser;
 use facet_json::scanner::Mode;
-use facet_json::{from_slice, from_slice_jsonc};
-use facet_json_core::{Answer, Call, JsonParser, drive};
+use facet_json::{Answer, Call, JsonParser, drive, from_slice, from_slice_jsonc};
 use std::alloc::{AllocError, Global};
-use std::io;
-use std::io::Write;
 
 /// How an input is asked for what is in it.
 #[derive(Clone, Copy)]
@@ -24,6 +22,8 @@ pub enum Way<'a> {
     FirstByEvents(usize),
     /// The answers to these calls.
     ByCalls(&'a [Call]),
+    /// What a skip or a capture does at each event, or after a look at it.
+    ByUnread(Unread, bool),
     /// The tree.
     Tree,
 }
@@ -37,86 +37,88 @@ impl Way<'_> {
             Way::FirstByNext(_) => "the first by next",
             Way::FirstByEvents(_) => "the first by events",
             Way::ByCalls(_) => "by calls",
+            Way::ByUnread(_, false) => "unread",
+            Way::ByUnread(_, true) => "unread after a peek",
             Way::Tree => "as a tree",
         }
     }
 }
 
 /// Writes what is told of the input, and each other telling of it.
-pub fn compare<W: Write>(
+pub fn compare(
     alloc: Global,
     modes: &[Mode],
     ways: &[Way<'_>],
     input: &[u8],
-    writer: &mut W,
-) -> io::Result<()> {
+    written: &mut String,
+) -> Result<(), AllocError> {
     let ([mode, ..], [way, ..]) = (modes, ways) else {
-        return writeln!(writer, "NO MODE");
+        return writeln!(written, "NO MODE");
     };
     let told = told(alloc, *mode, false, *way, input)?;
-    write_told(alloc, modes, ways, input, told.as_str(), writer)
+    write_told(alloc, modes, ways, input, told.as_str(), written)
 }
 
 /// Writes this, which is told of the input, and each other telling of it.
-fn write_told<W: Write>(
+fn write_told(
     alloc: Global,
     modes: &[Mode],
     ways: &[Way<'_>],
     input: &[u8],
     told: &str,
-    writer: &mut W,
-) -> io::Result<()> {
-    writeln!(writer, "{told}")?;
+    written: &mut String,
+) -> Result<(), AllocError> {
+    writeln!(written, "{told}")?;
     for mode in modes {
-        write_differences(alloc, *mode, ways, input, told, writer)?;
+        write_differences(alloc, *mode, ways, input, told, written)?;
     }
     Ok(())
 }
 
 /// Writes what is told of the input in one mode, each time that it isn't this.
-fn write_differences<W: Write>(
+fn write_differences(
     alloc: Global,
     mode: Mode,
     ways: &[Way<'_>],
     input: &[u8],
     expected: &str,
-    writer: &mut W,
-) -> io::Result<()> {
+    written: &mut String,
+) -> Result<(), AllocError> {
     for way in ways {
-        write_difference(alloc, mode, false, *way, input, expected, writer)?;
-        write_difference(alloc, mode, true, *way, input, expected, writer)?;
+        write_difference(alloc, mode, false, *way, input, expected, written)?;
+        write_difference(alloc, mode, true, *way, input, expected, written)?;
     }
     Ok(())
 }
 
 /// Writes what is told of the input where it isn't this.
-fn write_difference<W: Write>(
+fn write_difference(
     alloc: Global,
     mode: Mode,
     is_trusted: bool,
     way: Way<'_>,
     input: &[u8],
     expected: &str,
-    writer: &mut W,
-) -> io::Result<()> {
+    written: &mut String,
+) -> Result<(), AllocError> {
     let told = told(alloc, mode, is_trusted, way, input)?;
     if told.as_str() == expected {
         Ok(())
     } else {
-        write_other(mode, is_trusted, way, told.as_str(), writer)
+        write_other(mode, is_trusted, way, told.as_str(), written)
     }
 }
 
 /// Writes another telling.
-fn write_other<W: Write>(
+fn write_other(
     mode: Mode,
     is_trusted: bool,
     way: Way<'_>,
     told: &str,
-    writer: &mut W,
-) -> io::Result<()> {
+    written: &mut String,
+) -> Result<(), AllocError> {
     let kind = if is_trusted { "trusted" } else { "checked" };
-    writeln!(writer, "DIFFERS: {mode:?}, {kind}, {}: {told}", way.name())
+    writeln!(written, "DIFFERS: {mode:?}, {kind}, {}: {told}", way.name())
 }
 
 /// What is told of the input.
@@ -161,6 +163,9 @@ fn ask(
         Way::FirstByNext(count) => tell_first_by_next(alloc, parser, count, told),
         Way::FirstByEvents(count) => tell_first_by_events(alloc, parser, count, told),
         Way::ByCalls(calls) => push_answers(alloc, parser, calls, Telling::All, told),
+        Way::ByUnread(call, is_peeked) => {
+            tell_parts(alloc, parser, call, is_peeked, input.len(), told)
+        }
         Way::Tree => push_tree(alloc, mode, input, told),
     }
 }
@@ -309,9 +314,15 @@ fn come_at_once(
     parser: &mut JsonParser<'_>,
     count: usize,
 ) -> Result<usize, AllocError> {
-    match drive(alloc, parser, &[Call::Events(count)])?.first() {
-        Some(Answer::Events(events, Ok(come))) if events.len() == *come => Ok(*come),
-        _ => Ok(0),
+    let answers = drive(alloc, parser, &[Call::Events(count)])?;
+    Ok(come_in(answers.as_slice()))
+}
+
+/// How many events the first answer has; none where it has other than it says.
+fn come_in(answers: &[Answer<'_>]) -> usize {
+    match answers.first() {
+        Some(Answer::Events(events, Ok(come))) if events.len() == *come => *come,
+        _ => 0,
     }
 }
 

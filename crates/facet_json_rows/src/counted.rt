@@ -1,14 +1,12 @@
 //! Readers over any parser, as users write them, and their calls with one of JSON.
 
-ghost use Rattle.facet_json_core.specs.Now.{ahead};
+ghost use Rattle.facet_json.specs.Now.{ahead};
 ghost use Rattle.std.specs.Prelude.{◌≡◌, ◌+◌, ◌^◌, ◌<◌, ◌≤◌, IfOk, length};
 
 use crate::shown::error_shown;
 use facet_format::{DeserializeError, FormatParser, ParseError};
-use facet_json_core::JsonParser;
-use std::alloc::Global;
-use std::io;
-use std::io::Write;
+use facet_json::JsonParser;
+use std::alloc::{AllocError, Global};
 
 /// How many events come: no more than what is passed of the input.
 fn count<'de, 't, P: FormatParser<'de>>(parser: &mut P) -> Result<usize, ParseError<'t>>
@@ -87,15 +85,15 @@ fn agrees_on(
 }
 
 /// Writes how many events a parser of the input has, or its refusal; and where the other readers differ.
-pub fn answer_count<W: Write>(alloc: Global, input: &[u8], writer: &mut W) -> io::Result<()> {
+pub fn answer_count(alloc: Global, input: &[u8], told: &mut String) -> Result<(), AllocError> {
     let counted = count_in(alloc, input);
     if !(agrees_on(alloc, input, Reader::CountRead, counted)
         && agrees_on(alloc, input, Reader::HasOddEvents, counted))
     {
-        return writeln!(writer, "DIFFERS: another reader");
+        return writeln!(told, "DIFFERS: another reader");
     }
     match counted {
-        Ok(count) => writeln!(writer, "{count} events"),
-        Err(error) => writeln!(writer, "{}", error_shown(alloc, &error)?),
+        Ok(count) => writeln!(told, "{count} events"),
+        Err(error) => writeln!(told, "{}", error_shown(alloc, &error)?),
     }
 }

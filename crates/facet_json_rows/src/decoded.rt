@@ -9,54 +9,52 @@ use facet_json::scanner::{
     decode_string_borrowed_unchecked, decode_string_owned, decode_string_owned_unchecked,
     decode_string_unchecked,
 };
-use std::alloc::Global;
+use std::alloc::{AllocError, Global};
 use std::borrow::CowStr;
-use std::io;
-use std::io::Write;
 
 /// Writes what `decode_string` makes of the content at this range of the buffer: as one with escapes, and then as one without.
 /// Where another decoder makes something else of it, there is a line for that.
-pub fn answer_decode<W: Write>(
+pub fn answer_decode(
     alloc: Global,
     words: &str,
     buffer: &[u8],
-    writer: &mut W,
-) -> io::Result<()> {
+    told: &mut String,
+) -> Result<(), AllocError> {
     match range(words, buffer.len()) {
         Some((start, end)) if start <= end && end <= buffer.len() => {
-            write_both(alloc, buffer, start, end, writer)
+            write_both(alloc, buffer, start, end, told)
         }
-        _ => writeln!(writer, "NO RANGE"),
+        _ => writeln!(told, "NO RANGE"),
     }
 }
 
-fn write_both<W: Write>(
+fn write_both(
     alloc: Global,
     buffer: &[u8],
     start: usize,
     end: usize,
-    writer: &mut W,
-) -> io::Result<()>
+    told: &mut String,
+) -> Result<(), AllocError>
     requires in_order { start ≤ end }
     requires in_range { end ≤ length buffer.now }
 {
-    write_decoded(&decode_string(alloc, buffer, start, end, true), writer)?;
-    write_decoded(&decode_string(alloc, buffer, start, end, false), writer)?;
+    write_decoded(&decode_string(alloc, buffer, start, end, true), told)?;
+    write_decoded(&decode_string(alloc, buffer, start, end, false), told)?;
     if agree(alloc, buffer, start, end) {
         return Ok(());
     }
-    writeln!(writer, "DIFFERS: another decoder")
+    writeln!(told, "DIFFERS: another decoder")
 }
 
-fn write_decoded<W: Write>(
+fn write_decoded(
     decoded: &Result<CowStr<'_>, DecodeError>,
-    writer: &mut W,
-) -> io::Result<()> {
+    told: &mut String,
+) -> Result<(), AllocError> {
     match decoded {
-        Ok(CowStr::Borrowed(text)) => writeln!(writer, "borrowed {text:?}"),
-        Ok(CowStr::Owned(text)) => writeln!(writer, "owned {text:?}"),
-        Err(DecodeError::Scan(error)) => write_refusal(error, writer),
-        Err(DecodeError::OutOfMemory) => writeln!(writer, "out of memory"),
+        Ok(CowStr::Borrowed(text)) => writeln!(told, "borrowed {text:?}"),
+        Ok(CowStr::Owned(text)) => writeln!(told, "owned {text:?}"),
+        Err(DecodeError::Scan(error)) => write_refusal(error, told),
+        Err(DecodeError::OutOfMemory) => writeln!(told, "out of memory"),
     }
 }
 
@@ -133,18 +131,18 @@ fn is_checked(checked: &Result<(), ScanError>, owned: &Result<String, DecodeErro
 }
 
 /// Writes whether the content before the `|`, repeated so often, is decoded to the text after it, repeated as often.
-pub fn answer_repeated<W: Write>(
+pub fn answer_repeated(
     alloc: Global,
     count: &str,
     input: &str,
-    writer: &mut W,
-) -> io::Result<()> {
+    told: &mut String,
+) -> Result<(), AllocError> {
     match (input.split_once('|'), count.parse()) {
         (Some((content, text)), Ok(count)) => {
             let holds = repeats(alloc, content, text, count);
-            writeln!(writer, "{holds}")
+            writeln!(told, "{holds}")
         }
-        _ => writeln!(writer, "NO COUNT"),
+        _ => writeln!(told, "NO COUNT"),
     }
 }
 

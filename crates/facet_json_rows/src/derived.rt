@@ -2,15 +2,14 @@
 
 use facet_format::numeral::NumberHint;
 use facet_format::{DeserializeErrorKind, Span};
-use facet_json::JsonSerializeError;
 use facet_json::scanner::{
     DecodeError, Mode, ParsedNumber, ScanError, ScanErrorKind, SpannedToken, Token,
 };
-use facet_json_core::{Answer, Call, JsonParser, MaterializedToken, RawJson, TokenKind};
+use facet_json::{
+    Answer, Call, JsonParser, JsonSerializeError, MaterializedToken, RawJson, TokenKind,
+};
 use std::alloc::{AllocError, Global};
 use std::fmt::Debug;
-use std::io;
-use std::io::Write;
 
 const SPAN: Span = Span { offset: 0, len: 1 };
 
@@ -74,53 +73,53 @@ fn is_copied<T: Clone + PartialEq + Drop>(value: &T, other: &T) -> bool {
 }
 
 /// Writes the value as it is shown, and whether it is unlike its copy or like another value.
-fn write_copied<T: Clone + PartialEq + Debug + Drop, W: Write>(
+fn write_copied<T: Clone + PartialEq + Debug + Drop>(
     value: &T,
     other: &T,
-    writer: &mut W,
-) -> io::Result<()> {
+    told: &mut String,
+) -> Result<(), AllocError> {
     if is_copied(value, other) {
-        writeln!(writer, "{value:?}")
+        writeln!(told, "{value:?}")
     } else {
-        writeln!(writer, "DIFFERS: {value:?}")
+        writeln!(told, "DIFFERS: {value:?}")
     }
 }
 
 /// Writes the value as it is shown, and whether it is unlike itself or like another value.
-fn write_equal<T: PartialEq + Debug, W: Write>(
+fn write_equal<T: PartialEq + Debug>(
     value: &T,
     other: &T,
-    writer: &mut W,
-) -> io::Result<()> {
+    told: &mut String,
+) -> Result<(), AllocError> {
     if value == value && value != other {
-        writeln!(writer, "{value:?}")
+        writeln!(told, "{value:?}")
     } else {
-        writeln!(writer, "DIFFERS: {value:?}")
+        writeln!(told, "DIFFERS: {value:?}")
     }
 }
 
 /// Writes values of the types of these words.
-pub fn answer_derived<W: Write>(alloc: Global, words: &str, writer: &mut W) -> io::Result<()> {
+pub fn answer_derived(alloc: Global, words: &str, told: &mut String) -> Result<(), AllocError> {
     match words {
-        "tokens" => write_tokens(writer),
-        "refused scans" => write_refused_scans(writer),
-        "numbers" => write_numbers(writer),
-        "calls" => write_calls(writer),
-        "parser" => write_parser(alloc, writer),
-        "answer" => writeln!(writer, "{:?}", Answer::Restored),
-        "kinds of refusals" => write_kinds(writer),
-        "refused writing" => write_refused_writing(alloc, writer),
-        "raw text" => write_raw(alloc, writer),
-        _ => writeln!(writer, "NO TYPES"),
+        "tokens" => write_tokens(told),
+        "refused scans" => write_refused_scans(told),
+        "numbers" => write_numbers(told),
+        "calls" => write_calls(told),
+        "parser" => write_parser(alloc, told),
+        "answer" => writeln!(told, "{:?}", Answer::Restored),
+        "kinds of refusals" => write_kinds(told),
+        "refused writing" => write_refused_writing(alloc, told),
+        "raw text" => write_raw(alloc, told),
+        _ => writeln!(told, "NO TYPES"),
     }
 }
 
-fn write_tokens<W: Write>(writer: &mut W) -> io::Result<()> {
-    write_copied(&Mode::Plain, &Mode::Jsonc, writer)?;
+fn write_tokens(told: &mut String) -> Result<(), AllocError> {
+    write_copied(&Mode::Plain, &Mode::Jsonc, told)?;
     for token in &TOKENS {
-        write_copied(token, &Token::Eof, writer)?;
+        write_copied(token, &Token::Eof, told)?;
     }
-    write_copied(&Token::Eof, &Token::Null, writer)?;
+    write_copied(&Token::Eof, &Token::Null, told)?;
     let comma = SpannedToken {
         token: Token::Comma,
         span: SPAN,
@@ -129,12 +128,12 @@ fn write_tokens<W: Write>(writer: &mut W) -> io::Result<()> {
         token: Token::Colon,
         span: SPAN,
     };
-    write_copied(&comma, &colon, writer)
+    write_copied(&comma, &colon, told)
 }
 
-fn write_refused_scans<W: Write>(writer: &mut W) -> io::Result<()> {
+fn write_refused_scans(told: &mut String) -> Result<(), AllocError> {
     for kind in &KINDS {
-        write_copied(kind, &ScanErrorKind::UnexpectedChar('y'), writer)?;
+        write_copied(kind, &ScanErrorKind::UnexpectedChar('y'), told)?;
     }
     let unexpected = ScanError {
         kind: ScanErrorKind::UnexpectedChar('x'),
@@ -144,85 +143,81 @@ fn write_refused_scans<W: Write>(writer: &mut W) -> io::Result<()> {
         kind: ScanErrorKind::InvalidUtf8,
         span: SPAN,
     };
-    write_copied(&unexpected, &invalid, writer)?;
-    write_equal(
-        &DecodeError::Scan(invalid),
-        &DecodeError::OutOfMemory,
-        writer,
-    )?;
-    writeln!(writer, "{:?}", DecodeError::OutOfMemory)
+    write_copied(&unexpected, &invalid, told)?;
+    write_equal(&DecodeError::Scan(invalid), &DecodeError::OutOfMemory, told)?;
+    writeln!(told, "{:?}", DecodeError::OutOfMemory)
 }
 
-fn write_numbers<W: Write>(writer: &mut W) -> io::Result<()> {
+fn write_numbers(told: &mut String) -> Result<(), AllocError> {
     let three = ParsedNumber::U64(3);
-    write_equal(&ParsedNumber::U64(1), &three, writer)?;
-    write_equal(&ParsedNumber::I64(-1), &three, writer)?;
-    write_equal(&ParsedNumber::U128(2), &three, writer)?;
-    write_equal(&ParsedNumber::I128(-2), &three, writer)
+    write_equal(&ParsedNumber::U64(1), &three, told)?;
+    write_equal(&ParsedNumber::I64(-1), &three, told)?;
+    write_equal(&ParsedNumber::U128(2), &three, told)?;
+    write_equal(&ParsedNumber::I128(-2), &three, told)
 }
 
-fn write_calls<W: Write>(writer: &mut W) -> io::Result<()> {
+fn write_calls(told: &mut String) -> Result<(), AllocError> {
     let token = MaterializedToken {
         kind: TokenKind::U64(7),
         span: SPAN,
     };
-    writeln!(writer, "{:?}", token.kind)?;
-    writeln!(writer, "{token:?}")?;
-    write_equal(&Call::Events(2), &Call::Events(3), writer)
+    writeln!(told, "{:?}", token.kind)?;
+    writeln!(told, "{token:?}")?;
+    write_equal(&Call::Events(2), &Call::Events(3), told)
 }
 
 /// Writes the name under which a parser is shown.
-fn write_parser<W: Write>(alloc: Global, writer: &mut W) -> io::Result<()> {
-    write_name(parser_shown(alloc)?.as_str(), writer)
+fn write_parser(alloc: Global, told: &mut String) -> Result<(), AllocError> {
+    write_name(parser_shown(alloc)?.as_str(), told)
 }
 
 fn parser_shown(alloc: Global) -> Result<String, AllocError> {
     format!(in alloc; "{:?}", JsonParser::new(alloc, b"[]"))
 }
 
-fn write_name<W: Write>(shown: &str, writer: &mut W) -> io::Result<()> {
+fn write_name(shown: &str, told: &mut String) -> Result<(), AllocError> {
     let (name, _) = shown.split_once(" {").unwrap_or(("", ""));
-    writeln!(writer, "{name}")
+    writeln!(told, "{name}")
 }
 
-fn write_kinds<W: Write>(writer: &mut W) -> io::Result<()> {
+fn write_kinds(told: &mut String) -> Result<(), AllocError> {
     for kind in &CODES {
-        writeln!(writer, "{} {kind:?}", kind.code())?;
+        writeln!(told, "{} {kind:?}", kind.code())?;
     }
     Ok(())
 }
 
-fn write_refused_writing<W: Write>(alloc: Global, writer: &mut W) -> io::Result<()> {
+fn write_refused_writing(alloc: Global, told: &mut String) -> Result<(), AllocError> {
     let error = JsonSerializeError::OutOfMemory;
     let code = error.code();
-    write_coded(code, error.to_string(alloc)?.as_str(), writer)
+    write_coded(code, error.to_string(alloc)?.as_str(), told)
 }
 
-fn write_coded<W: Write>(code: u8, shown: &str, writer: &mut W) -> io::Result<()> {
-    writeln!(writer, "{code} {shown}")
+fn write_coded(code: u8, shown: &str, told: &mut String) -> Result<(), AllocError> {
+    writeln!(told, "{code} {shown}")
 }
 
 /// Writes a raw text that is in memory of its own.
-fn write_raw<W: Write>(alloc: Global, writer: &mut W) -> io::Result<()> {
+fn write_raw(alloc: Global, told: &mut String) -> Result<(), AllocError> {
     match RawJson::new("[1, 2]").into_owned(alloc) {
-        Ok(owned) => write_raw_again(alloc, owned, writer),
-        Err(_) => writeln!(writer, "OUT OF MEMORY"),
+        Ok(owned) => write_raw_again(alloc, owned, told),
+        Err(_) => writeln!(told, "OUT OF MEMORY"),
     }
 }
 
 /// Writes a raw text that is asked once more to be in memory of its own.
-fn write_raw_again<W: Write>(alloc: Global, owned: RawJson<'_>, writer: &mut W) -> io::Result<()> {
+fn write_raw_again(alloc: Global, owned: RawJson<'_>, told: &mut String) -> Result<(), AllocError> {
     match owned.into_owned(alloc) {
-        Ok(again) => write_raw_equal(&again, writer),
-        Err(_) => writeln!(writer, "OUT OF MEMORY"),
+        Ok(again) => write_raw_equal(&again, told),
+        Err(_) => writeln!(told, "OUT OF MEMORY"),
     }
 }
 
 /// Writes the raw text, and whether it is unlike the same text or like another.
-fn write_raw_equal<W: Write>(raw: &RawJson<'_>, writer: &mut W) -> io::Result<()> {
+fn write_raw_equal(raw: &RawJson<'_>, told: &mut String) -> Result<(), AllocError> {
     if *raw == RawJson::new("[1, 2]") && *raw != RawJson::new("[1,2]") {
-        writeln!(writer, "{raw}")
+        writeln!(told, "{raw}")
     } else {
-        writeln!(writer, "DIFFERS: {raw}")
+        writeln!(told, "DIFFERS: {raw}")
     }
 }

@@ -2,7 +2,7 @@
 
 use facet_json_command::outcome::{OUT_OF_MEMORY, Outcome};
 use facet_json_command::run::run;
-use std::alloc::Global;
+use std::alloc::{AllocError, Global};
 use std::io;
 use std::io::{ErrorKind, Read, Write};
 
@@ -180,20 +180,20 @@ fn tells_of_writes(alloc: Global, case: &Case<'_>) -> bool {
 }
 
 /// Writes where a run does not tell of a failure.
-fn write_unless<W: Write>(is_told: bool, place: &str, writer: &mut W) -> io::Result<()> {
+fn write_unless(is_told: bool, place: &str, told: &mut String) -> Result<(), AllocError> {
     if is_told {
         Ok(())
     } else {
-        writeln!(writer, "DIFFERS: where {place}")
+        writeln!(told, "DIFFERS: where {place}")
     }
 }
 
 /// Writes which failures a run does not tell of.
-pub fn write_untold<W: Write>(alloc: Global, case: &Case<'_>, writer: &mut W) -> io::Result<()> {
+pub fn write_untold(alloc: Global, case: &Case<'_>, told: &mut String) -> Result<(), AllocError> {
     let is_told = tells_of_reads(alloc, case, ErrorKind::BrokenPipe, Outcome::Io);
-    write_unless(is_told, "a read fails", writer)?;
+    write_unless(is_told, "a read fails", told)?;
     let is_told = tells_of_reads(alloc, case, ErrorKind::OutOfMemory, OUT_OF_MEMORY);
-    write_unless(is_told, "a read is out of memory", writer)?;
+    write_unless(is_told, "a read is out of memory", told)?;
     let is_told = tells_of_writes(alloc, case);
-    write_unless(is_told, "a write fails or waits for a flush", writer)
+    write_unless(is_told, "a write fails or waits for a flush", told)
 }

@@ -3,24 +3,22 @@
 use crate::numbers::answer_number;
 use crate::row::{answer_parser, first_word};
 use std::alloc::{AllocError, Global};
-use std::io;
-use std::io::Write;
 
 /// Writes what a command prints of a long input, `COUNT COUNT | COMMAND`: the parts of the text before and behind its `|`, each
 /// repeated so often.
-pub fn answer_long<W: Write>(
+pub fn answer_long(
     alloc: Global,
     words: &str,
     text: &str,
-    writer: &mut W,
-) -> io::Result<()> {
+    told: &mut String,
+) -> Result<(), AllocError> {
     let (counts, command) = words.split_once(" | ").unwrap_or((words, ""));
     let input = repeated(alloc, counts, text)?;
     let (name, words) = first_word(command);
     match name {
-        "number" => answer_number(words, input.as_bytes(), writer),
-        "parser" => answer_parser(alloc, words, input.as_bytes(), writer),
-        _ => writeln!(writer, "NO COMMAND"),
+        "number" => answer_number(words, input.as_bytes(), told),
+        "parser" => answer_parser(alloc, words, input.as_bytes(), told),
+        _ => writeln!(told, "NO COMMAND"),
     }
 }
 

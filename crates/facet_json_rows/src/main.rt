@@ -15,32 +15,33 @@ mod row;
 mod shown;
 mod tokens;
 mod trees;
+mod unread;
 
-use std::alloc::Global;
+use std::alloc::{AllocError, Global};
 use std::io;
-use std::io::{BufWriter, ErrorKind, Read, Write};
+use std::io::{ErrorKind, Read, Write};
 
-/// Writes a line of the rows anew, and below a command line what it prints.
-fn answer_line<W: Write>(alloc: Global, line: &str, writer: &mut W) -> io::Result<()> {
+/// Tells a line of the rows again, and below a command line what it prints.
+fn answer_line(alloc: Global, line: &str, told: &mut String) -> Result<(), AllocError> {
     if line.is_empty() || line.starts_with('#') {
-        return writeln!(writer, "{line}");
+        return writeln!(told, "{line}");
     }
-    writeln!(writer, "$ {line}")?;
-    row::answer(alloc, line, writer)
+    writeln!(told, "$ {line}")?;
+    row::answer(alloc, line, told)
 }
 
-/// Writes each line of the rows anew, and below a command line what it prints.
-fn answer<W: Write>(alloc: Global, rows: &str, writer: &mut W) -> io::Result<()> {
+/// Tells each line of the rows again, and below a command line what it prints.
+fn answer(alloc: Global, rows: &str, told: &mut String) -> Result<(), AllocError> {
     for line in rows.lines() {
-        answer_line(alloc, line, writer)?;
+        answer_line(alloc, line, told)?;
     }
-    writer.flush()
+    Ok(())
 }
 
 /// Answers rows of bytes, which have to be a text.
-fn answer_bytes<W: Write>(alloc: Global, rows: &[u8], writer: &mut W) -> io::Result<()> {
+fn answer_bytes(alloc: Global, rows: &[u8], told: &mut String) -> io::Result<()> {
     match str::from_utf8(rows) {
-        Ok(rows) => answer(alloc, rows, writer),
+        Ok(rows) => Ok(answer(alloc, rows, told)?),
         Err(_) => Err(io::Error::from(ErrorKind::InvalidData)),
     }
 }
@@ -48,6 +49,7 @@ fn answer_bytes<W: Write>(alloc: Global, rows: &[u8], writer: &mut W) -> io::Res
 fn main(rt: HostRuntime) -> io::Result<()> {
     let mut rows = Vec::new(rt.alloc());
     rt.stdin().read_to_end(&mut rows)?;
-    let mut writer = BufWriter::new(rt.alloc(), rt.stdout())?;
-    answer_bytes(rt.alloc(), rows.as_slice(), &mut writer)
+    let mut told = String::new(rt.alloc());
+    answer_bytes(rt.alloc(), rows.as_slice(), &mut told)?;
+    rt.stdout().write_all(told.as_bytes())
 }

@@ -7,18 +7,16 @@ use crate::tokens::write_refusal;
 use facet_json::scanner::{
     NumberHint, ParsedNumber, ScanError, parse_number, parse_number_unchecked,
 };
-use std::alloc::Global;
-use std::io;
-use std::io::Write;
+use std::alloc::{AllocError, Global};
 
 /// Writes the number at a range of the buffer, or the refusal: `HINT` or `HINT START..END`.
-pub fn answer_number<W: Write>(words: &str, buffer: &[u8], writer: &mut W) -> io::Result<()> {
+pub fn answer_number(words: &str, buffer: &[u8], told: &mut String) -> Result<(), AllocError> {
     let (name, at) = first_word(words);
     match (hint(name), range(at, buffer.len())) {
         (Some(hint), Some((start, end))) if start <= end && end <= buffer.len() => {
-            write_number(buffer, start, end, hint, writer)
+            write_number(buffer, start, end, hint, told)
         }
-        _ => writeln!(writer, "NO NUMBER"),
+        _ => writeln!(told, "NO NUMBER"),
     }
 }
 
@@ -33,31 +31,31 @@ fn hint(name: &str) -> Option<NumberHint> {
 }
 
 /// Writes the number that is read, or the refusal; and where the reader of text that is known to be UTF-8 reads another.
-fn write_number<W: Write>(
+fn write_number(
     buffer: &[u8],
     start: usize,
     end: usize,
     hint: NumberHint,
-    writer: &mut W,
-) -> io::Result<()>
+    told: &mut String,
+) -> Result<(), AllocError>
     requires in_order { start ≤ end }
     requires in_range { end ≤ length buffer.now }
 {
     let read = parse_number(buffer, start, end, hint);
     if is_read_again(buffer, start, end, hint, &read) {
-        write_read(&read, writer)
+        write_read(&read, told)
     } else {
-        writeln!(writer, "DIFFERS: {read:?}")
+        writeln!(told, "DIFFERS: {read:?}")
     }
 }
 
-fn write_read<W: Write>(
+fn write_read(
     read: &Result<ParsedNumber<'_>, ScanError>,
-    writer: &mut W,
-) -> io::Result<()> {
+    told: &mut String,
+) -> Result<(), AllocError> {
     match read {
-        Ok(number) => writeln!(writer, "{number:?}"),
-        Err(error) => write_refusal(error, writer),
+        Ok(number) => writeln!(told, "{number:?}"),
+        Err(error) => write_refusal(error, told),
     }
 }
 

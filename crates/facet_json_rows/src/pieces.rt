@@ -3,8 +3,7 @@
 use crate::tokens::passed;
 use facet_json::Span;
 use facet_json::scanner::{Mode, ScanResult, Scanner, Token, cut};
-use std::io;
-use std::io::Write;
+use std::alloc::AllocError;
 
 /// What a call came to.
 #[derive(Clone, Copy)]
@@ -105,28 +104,28 @@ fn agree(input: &[u8]) -> bool {
 }
 
 /// Writes the input where scanners find other tokens of its pieces.
-pub fn write_other_pieces<W: Write>(input: &[u8], writer: &mut W) -> io::Result<()> {
+pub fn write_other_pieces(input: &[u8], told: &mut String) -> Result<(), AllocError> {
     if agree(input) {
         return Ok(());
     }
-    writeln!(writer, "DIFFERS: in pieces, {input:?}")
+    writeln!(told, "DIFFERS: in pieces, {input:?}")
 }
 
 /// Writes each text of one to four of the bytes of whose pieces scanners find other tokens, and how many texts there are.
-pub fn answer_short_texts<W: Write>(bytes: &[u8], writer: &mut W) -> io::Result<()> {
+pub fn answer_short_texts(bytes: &[u8], told: &mut String) -> Result<(), AllocError> {
     let mut count = 0_usize;
     for a in bytes {
-        write_other_pieces(&[*a], writer)?;
+        write_other_pieces(&[*a], told)?;
         for b in bytes {
-            write_other_pieces(&[*a, *b], writer)?;
+            write_other_pieces(&[*a, *b], told)?;
             for c in bytes {
-                write_other_pieces(&[*a, *b, *c], writer)?;
+                write_other_pieces(&[*a, *b, *c], told)?;
                 for d in bytes {
-                    write_other_pieces(&[*a, *b, *c, *d], writer)?;
+                    write_other_pieces(&[*a, *b, *c, *d], told)?;
                     count = count.saturating_add(1);
                 }
             }
         }
     }
-    writeln!(writer, "{count} texts of four bytes")
+    writeln!(told, "{count} texts of four bytes")
 }

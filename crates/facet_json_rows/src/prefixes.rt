@@ -2,17 +2,15 @@
 
 use crate::compared::checking;
 use facet_format::{FormatParser, ParseError, Span};
+use facet_json::JsonParser;
 use facet_json::scanner::Mode;
-use facet_json_core::JsonParser;
-use std::alloc::Global;
-use std::io;
-use std::io::Write;
+use std::alloc::{AllocError, Global};
 
 /// Writes whether parsers of both modes come to an end of each prefix of the input.
-pub fn answer_prefixes<W: Write>(alloc: Global, input: &[u8], writer: &mut W) -> io::Result<()> {
+pub fn answer_prefixes(alloc: Global, input: &[u8], told: &mut String) -> Result<(), AllocError> {
     match unread(alloc, input) {
-        None => writeln!(writer, "each prefix comes to its end"),
-        Some(len) => writeln!(writer, "DIFFERS: the first {len} bytes do not"),
+        None => writeln!(told, "each prefix comes to its end"),
+        Some(len) => writeln!(told, "DIFFERS: the first {len} bytes do not"),
     }
 }
 

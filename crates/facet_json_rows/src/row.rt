@@ -12,6 +12,7 @@ use crate::prefixes::answer_prefixes;
 use crate::printf::printed;
 use crate::tokens::{answer_scanner, answer_tokens};
 use crate::trees::{answer_equal, answer_write};
+use crate::unread::Unread;
 use facet_json::Span;
 use facet_json::scanner::Mode;
 use facet_json_command::outcome::{OUT_OF_MEMORY, Outcome};
@@ -19,17 +20,16 @@ use facet_json_command::report::{status, write_line};
 use facet_json_command::run::run;
 use facet_json_command::script::parse_script;
 use std::alloc::{AllocError, Global};
-use std::io;
-use std::io::{ErrorKind, Write};
+use std::io::ErrorKind;
 
 /// Writes what the row's command prints of the text between the quotes: `printf 'TEXT' | COMMAND`.
-pub fn answer<W: Write>(alloc: Global, row: &str, writer: &mut W) -> io::Result<()> {
+pub fn answer(alloc: Global, row: &str, told: &mut String) -> Result<(), AllocError> {
     let Some((text, command)) = parts(row) else {
-        return writeln!(writer, "NO ROW");
+        return writeln!(told, "NO ROW");
     };
     match printed(alloc, text)? {
-        Some(input) => answer_command(alloc, command, input.as_slice(), writer),
-        None => writeln!(writer, "NO TEXT"),
+        Some(input) => answer_command(alloc, command, input.as_slice(), told),
+        None => writeln!(told, "NO TEXT"),
     }
 }
 
@@ -67,63 +67,63 @@ fn parts(row: &str) -> Option<(&str, &str)> {
 }
 
 /// Writes what the command prints.
-fn answer_command<W: Write>(
+fn answer_command(
     alloc: Global,
     command: &str,
     input: &[u8],
-    writer: &mut W,
-) -> io::Result<()> {
+    told: &mut String,
+) -> Result<(), AllocError> {
     let (name, rest) = first_word(command);
     match command_of(name) {
-        Some(Command::Program) => answer_program(alloc, rest, input, writer),
-        Some(Command::Failed(kind)) => answer_failed(alloc, kind, rest, input, writer),
-        Some(Command::Ended) => answer_ended(rest, writer),
-        Some(Command::Parser) => answer_parser(alloc, rest, input, writer),
-        Some(Command::Tree) => compare(alloc, modes(rest), &[Way::Tree], input, writer),
-        None => answer_part(alloc, name, rest, input, writer),
+        Some(Command::Program) => answer_program(alloc, rest, input, told),
+        Some(Command::Failed(kind)) => answer_failed(alloc, kind, rest, input, told),
+        Some(Command::Ended) => answer_ended(alloc, rest, told),
+        Some(Command::Parser) => answer_parser(alloc, rest, input, told),
+        Some(Command::Tree) => compare(alloc, modes(rest), &[Way::Tree], input, told),
+        None => answer_part(alloc, name, rest, input, told),
     }
 }
 
 /// Writes what a command prints that asks a part of the library.
-fn answer_part<W: Write>(
+fn answer_part(
     alloc: Global,
     name: &str,
     words: &str,
     input: &[u8],
-    writer: &mut W,
-) -> io::Result<()> {
+    told: &mut String,
+) -> Result<(), AllocError> {
     match name {
-        "tokens" => answer_tokens(words, input, writer),
-        "short_texts" => answer_short_texts(input, writer),
-        "decode" => answer_decode(alloc, words, input, writer),
-        "number" => answer_number(words, input, writer),
-        "count" => answer_count(alloc, input, writer),
-        "derived" => answer_derived(alloc, words, writer),
+        "tokens" => answer_tokens(words, input, told),
+        "short_texts" => answer_short_texts(input, told),
+        "decode" => answer_decode(alloc, words, input, told),
+        "number" => answer_number(words, input, told),
+        "count" => answer_count(alloc, input, told),
+        "derived" => answer_derived(alloc, words, told),
         _ => answer_text(
             alloc,
             name,
             words,
             str::from_utf8(input).unwrap_or(""),
-            writer,
+            told,
         ),
     }
 }
 
 /// Writes what a command prints that reads a text.
-fn answer_text<W: Write>(
+fn answer_text(
     alloc: Global,
     name: &str,
     words: &str,
     text: &str,
-    writer: &mut W,
-) -> io::Result<()> {
+    told: &mut String,
+) -> Result<(), AllocError> {
     match name {
-        "scanner" => answer_scanner(words, text, writer),
-        "decode_repeated" => answer_repeated(alloc, words, text, writer),
-        "repeat" => answer_long(alloc, words, text, writer),
-        "equal" => answer_equal(alloc, text, writer),
-        "write" => answer_write(alloc, text, writer),
-        _ => writeln!(writer, "NO COMMAND"),
+        "scanner" => answer_scanner(words, text, told),
+        "decode_repeated" => answer_repeated(alloc, words, text, told),
+        "repeat" => answer_long(alloc, words, text, told),
+        "equal" => answer_equal(alloc, text, told),
+        "write" => answer_write(alloc, words, text, told),
+        _ => writeln!(told, "NO COMMAND"),
     }
 }
 
@@ -141,49 +141,49 @@ pub fn first_word(text: &str) -> (&str, &str) {
 }
 
 /// Writes what the program writes, and which failures of a reader or writer it does not tell of.
-fn answer_program<W: Write>(
+fn answer_program(
     alloc: Global,
     words: &str,
     input: &[u8],
-    writer: &mut W,
-) -> io::Result<()> {
+    told: &mut String,
+) -> Result<(), AllocError> {
     let args = arguments(alloc, words)?;
     let mut reader = input;
     let mut written = Vec::new(alloc);
     let outcome = run(alloc, args.as_slice(), &mut reader, &mut written);
-    write_end(outcome, written.as_slice(), writer)?;
+    write_end(alloc, outcome, written.as_slice(), told)?;
     let case = Case {
         args: args.as_slice(),
         input,
         outcome,
         written: written.as_slice(),
     };
-    write_untold(alloc, &case, writer)
+    write_untold(alloc, &case, told)
 }
 
 /// Writes what the program writes where a read fails once the first bytes are read.
-fn answer_failed<W: Write>(
+fn answer_failed(
     alloc: Global,
     kind: ErrorKind,
     command: &str,
     input: &[u8],
-    writer: &mut W,
-) -> io::Result<()> {
+    told: &mut String,
+) -> Result<(), AllocError> {
     let Some(words) = command.strip_prefix("facet_json_tool ") else {
-        return writeln!(writer, "NO COMMAND");
+        return writeln!(told, "NO COMMAND");
     };
     let args = arguments(alloc, words)?;
     let mut reader = FaultyReader::new(input, 1, kind);
     let mut written = Vec::new(alloc);
     let outcome = run(alloc, args.as_slice(), &mut reader, &mut written);
-    write_end(outcome, written.as_slice(), writer)
+    write_end(alloc, outcome, written.as_slice(), told)
 }
 
 /// Writes what the program writes at a run's end in this way.
-fn answer_ended<W: Write>(way: &str, writer: &mut W) -> io::Result<()> {
+fn answer_ended(alloc: Global, way: &str, told: &mut String) -> Result<(), AllocError> {
     match ended(way) {
-        Some(outcome) => write_end(outcome, b"", writer),
-        None => writeln!(writer, "NO END"),
+        Some(outcome) => write_end(alloc, outcome, b"", told),
+        None => writeln!(told, "NO END"),
     }
 }
 
@@ -200,12 +200,21 @@ fn ended(way: &str) -> Option<Outcome> {
 }
 
 /// Writes what the program wrote to its standard output, then its line for the standard error, and its status where that isn't 0.
-fn write_end<W: Write>(outcome: Outcome, written: &[u8], writer: &mut W) -> io::Result<()> {
-    write_lines(written, writer)?;
-    write_line(outcome, writer)?;
+fn write_end(
+    alloc: Global,
+    outcome: Outcome,
+    written: &[u8],
+    told: &mut String,
+) -> Result<(), AllocError> {
+    write_lines(written, told)?;
+    let mut line = Vec::new(alloc);
+    if write_line(outcome, &mut line).is_err() {
+        return writeln!(told, "NO LINE");
+    }
+    write_lines(line.as_slice(), told)?;
     match status(outcome) {
         0 => Ok(()),
-        status => writeln!(writer, "status {status}"),
+        status => writeln!(told, "status {status}"),
     }
 }
 
@@ -221,66 +230,74 @@ fn arguments(alloc: Global, words: &str) -> Result<Vec<String>, AllocError> {
 }
 
 /// Writes the text, and a line feed where its last line lacks one.
-pub fn write_lines<W: Write>(text: &[u8], writer: &mut W) -> io::Result<()> {
-    writer.write_all(text)?;
+pub fn write_lines(text: &[u8], told: &mut String) -> Result<(), AllocError> {
+    told.push_str(str::from_utf8(text).unwrap_or("NO TEXT"))?;
     if text.is_empty() || text.ends_with(b"\n") {
         return Ok(());
     }
-    writeln!(writer)
+    told.push('\n')
 }
 
-/// Writes what parsers of the input tell: `MODES all`, `MODES prefixes`, `MODES first COUNT` or `MODES SCRIPT`.
-pub fn answer_parser<W: Write>(
+/// Writes what parsers of the input tell: `MODES all`, `MODES skips`, `MODES captures`, `MODES prefixes`, `MODES first COUNT` or
+/// `MODES SCRIPT`.
+pub fn answer_parser(
     alloc: Global,
     words: &str,
     input: &[u8],
-    writer: &mut W,
-) -> io::Result<()> {
+    told: &mut String,
+) -> Result<(), AllocError> {
     let (word, asked) = first_word(words);
     let modes = modes(word);
     match asked {
-        "all" => compare(alloc, modes, &ALL_EVENTS, input, writer),
-        "prefixes" => answer_prefixes(alloc, input, writer),
+        "all" => compare(alloc, modes, &ALL_EVENTS, input, told),
+        "skips" => compare(alloc, modes, &ALL_SKIPS, input, told),
+        "captures" => compare(alloc, modes, &ALL_CAPTURES, input, told),
+        "prefixes" => answer_prefixes(alloc, input, told),
         _ => match asked.strip_prefix("first ") {
-            Some(count) => answer_first(alloc, modes, count, input, writer),
-            None => answer_script(alloc, modes, asked, input, writer),
+            Some(count) => answer_first(alloc, modes, count, input, told),
+            None => answer_script(alloc, modes, asked, input, told),
         },
     }
 }
 
 /// Writes how many of the first events come, and what comes then.
-fn answer_first<W: Write>(
+fn answer_first(
     alloc: Global,
     modes: &[Mode],
     count: &str,
     input: &[u8],
-    writer: &mut W,
-) -> io::Result<()> {
+    told: &mut String,
+) -> Result<(), AllocError> {
     let count = count.parse().unwrap_or(0);
     let ways = [Way::FirstByNext(count), Way::FirstByEvents(count)];
-    compare(alloc, modes, &ways, input, writer)
+    compare(alloc, modes, &ways, input, told)
 }
 
 /// The ways to ask for all events.
 static ALL_EVENTS: [Way<'static>; 3] = [Way::ByNext, Way::ByPeekAndNext, Way::ByEvents];
 
+/// The ways to skip each part, and to capture it.
+static ALL_SKIPS: [Way<'static>; 2] = [
+    Way::ByUnread(Unread::Skip, false),
+    Way::ByUnread(Unread::Skip, true),
+];
+
+static ALL_CAPTURES: [Way<'static>; 2] = [
+    Way::ByUnread(Unread::Capture, false),
+    Way::ByUnread(Unread::Capture, true),
+];
+
 /// Writes what parsers of the input answer to the script's calls.
-fn answer_script<W: Write>(
+fn answer_script(
     alloc: Global,
     modes: &[Mode],
     script: &str,
     input: &[u8],
-    writer: &mut W,
-) -> io::Result<()> {
+    told: &mut String,
+) -> Result<(), AllocError> {
     match parse_script(alloc, script) {
-        Ok(calls) => compare(
-            alloc,
-            modes,
-            &[Way::ByCalls(calls.as_slice())],
-            input,
-            writer,
-        ),
-        Err(_) => writeln!(writer, "NO SCRIPT"),
+        Ok(calls) => compare(alloc, modes, &[Way::ByCalls(calls.as_slice())], input, told),
+        Err(_) => writeln!(told, "NO SCRIPT"),
     }
 }
 

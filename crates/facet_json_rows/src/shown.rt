@@ -1,7 +1,7 @@
 //! Answers of a parser as texts, so that all that is told of an input is one line.
 
 use facet_format::{ParseError, ParseEvent, ParseEventKind};
-use facet_json_core::Answer;
+use facet_json::Answer;
 use std::alloc::{AllocError, Global};
 use std::collections::VecDeque;
 
@@ -71,10 +71,14 @@ fn answer_shown(alloc: Global, answer: &Answer<'_>) -> Result<String, AllocError
         Answer::Event(Ok(Some(event))) => event_shown(alloc, event),
         Answer::Event(Ok(None)) => "None".to_string(alloc),
         Answer::Events(_, Ok(count)) => format!(in alloc; "events {count}"),
+        Answer::Skipped(Ok(())) => "skipped".to_string(alloc),
+        Answer::Raw(Ok(Some(text))) => format!(in alloc; "raw {text:?}"),
+        Answer::Raw(Ok(None)) => "no raw text".to_string(alloc),
         Answer::Saved(Ok(point)) => format!(in alloc; "point {}", point.0),
         Answer::Event(Err(error)) | Answer::Events(_, Err(error)) | Answer::Saved(Err(error)) => {
             error_shown(alloc, error)
         }
+        Answer::Skipped(Err(error)) | Answer::Raw(Err(error)) => error_shown(alloc, error),
         Answer::Restored => "restored".to_string(alloc),
         Answer::Span(Some(span)) => format!(in alloc; "span {}+{}", span.offset, span.len),
         Answer::Span(None) => "no span".to_string(alloc),

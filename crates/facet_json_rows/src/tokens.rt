@@ -3,49 +3,48 @@
 use crate::pieces::write_other_pieces;
 use crate::row::{first_word, modes};
 use facet_json::scanner::{Mode, ScanError, ScanResult, Scanner, Token, cut};
-use std::io;
-use std::io::Write;
+use std::alloc::AllocError;
 
 /// Writes a refusal: the kind, the offset of its bytes and their number.
-pub fn write_refusal<W: Write>(error: &ScanError, writer: &mut W) -> io::Result<()> {
+pub fn write_refusal(error: &ScanError, told: &mut String) -> Result<(), AllocError> {
     let span = error.span;
-    writeln!(writer, "{:?} {}+{}", error.kind, span.offset, span.len)
+    writeln!(told, "{:?} {}+{}", error.kind, span.offset, span.len)
 }
 
 /// Writes a token, the offset of its bytes and their number, or the refusal.
-fn write_scanned<W: Write>(scanned: &ScanResult, writer: &mut W) -> io::Result<()> {
+fn write_scanned(scanned: &ScanResult, told: &mut String) -> Result<(), AllocError> {
     match scanned {
         Ok(found) => {
             let span = found.span;
-            writeln!(writer, "{:?} {}+{}", found.token, span.offset, span.len)
+            writeln!(told, "{:?} {}+{}", found.token, span.offset, span.len)
         }
-        Err(error) => write_refusal(error, writer),
+        Err(error) => write_refusal(error, told),
     }
 }
 
 /// Writes the tokens of the input in the mode of this name.
-pub fn answer_tokens<W: Write>(word: &str, input: &[u8], writer: &mut W) -> io::Result<()> {
+pub fn answer_tokens(word: &str, input: &[u8], told: &mut String) -> Result<(), AllocError> {
     match modes(word) {
-        [mode] => write_tokens(*mode, input, writer),
-        _ => writeln!(writer, "NO MODE"),
+        [mode] => write_tokens(*mode, input, told),
+        _ => writeln!(told, "NO MODE"),
     }
 }
 
 /// Writes each token of the input, and then its end or the refusal; and where scanners find others.
-fn write_tokens<W: Write>(mode: Mode, input: &[u8], writer: &mut W) -> io::Result<()> {
+fn write_tokens(mode: Mode, input: &[u8], told: &mut String) -> Result<(), AllocError> {
     let mut position = 0;
     for _ in 0..=input.len() {
         if position > input.len() {
             break;
         }
         let scanned = cut(input, position, mode);
-        write_scanned(&scanned, writer)?;
+        write_scanned(&scanned, told)?;
         match passed(&scanned) {
             Some(end) => position = end,
-            None => return write_other_pieces(input, writer),
+            None => return write_other_pieces(input, told),
         }
     }
-    writeln!(writer, "DIFFERS: tokens behind the input")
+    writeln!(told, "DIFFERS: tokens behind the input")
 }
 
 /// Where the token ends; nothing of the end and of a refusal.
@@ -67,38 +66,38 @@ fn made(words: &str) -> Option<Scanner> {
 }
 
 /// Writes what a scanner answers to the calls, which `|` parts, and where it stands after each.
-pub fn answer_scanner<W: Write>(words: &str, calls: &str, writer: &mut W) -> io::Result<()> {
+pub fn answer_scanner(words: &str, calls: &str, told: &mut String) -> Result<(), AllocError> {
     match made(words) {
-        Some(mut scanner) => write_calls(&mut scanner, calls, writer),
-        None => writeln!(writer, "NO SCANNER"),
+        Some(mut scanner) => write_calls(&mut scanner, calls, told),
+        None => writeln!(told, "NO SCANNER"),
     }
 }
 
-fn write_calls<W: Write>(scanner: &mut Scanner, calls: &str, writer: &mut W) -> io::Result<()> {
+fn write_calls(scanner: &mut Scanner, calls: &str, told: &mut String) -> Result<(), AllocError> {
     for call in calls.split('|') {
         let (name, buffer) = first_word(call);
-        write_call(scanner, name, buffer, writer)?;
-        writeln!(writer, "at {}", scanner.pos())?;
+        write_call(scanner, name, buffer, told)?;
+        writeln!(told, "at {}", scanner.pos())?;
     }
     Ok(())
 }
 
 /// Writes what the scanner answers: `next BUFFER` or `last BUFFER`. After `to N` it goes on there, and `show` shows it.
-fn write_call<W: Write>(
+fn write_call(
     scanner: &mut Scanner,
     name: &str,
     buffer: &str,
-    writer: &mut W,
-) -> io::Result<()> {
+    told: &mut String,
+) -> Result<(), AllocError> {
     match (name, buffer.parse()) {
-        ("show", _) => writeln!(writer, "{scanner:?}"),
+        ("show", _) => writeln!(told, "{scanner:?}"),
         ("to", Ok(position)) => {
             scanner.set_pos(position);
             Ok(())
         }
         _ => match called(scanner, name, buffer.as_bytes()) {
-            Some(scanned) => write_scanned(&scanned, writer),
-            None => writeln!(writer, "NO CALL"),
+            Some(scanned) => write_scanned(&scanned, told),
+            None => writeln!(told, "NO CALL"),
         },
     }
 }

@@ -1,18 +1,67 @@
 //! Trees that are equal, and trees as text.
 
 use crate::row::{first_word, write_lines};
-use facet_json::{Decimal, Tree, from_slice, to_vec};
-use std::alloc::Global;
-use std::io;
-use std::io::Write;
+use facet_json::{
+    Decimal, RawJson, SerializeOptions, Tree, from_slice, to_string, to_string_pretty,
+    to_string_with_options, to_vec, to_vec_pretty, to_vec_with_options,
+};
+use std::alloc::{AllocError, Global};
 
-/// The tree of the text; of `i64 N` the leaf of this number with a sign, and of `literal N` that of this decimal, not copied.
+/// The tree of the text, or the leaf that its first word names; `some` is a list of such leaves, and `empty` one of empty containers.
 fn tree_of(alloc: Global, text: &str) -> Option<Tree> {
     match first_word(text) {
+        ("unit", _) => Some(Tree::Unit),
+        ("char", text) => Some(Tree::Char(text.chars().next()?)),
         ("i64", digits) => Some(Tree::I64(digits.parse().ok()?)),
+        ("i128", digits) => Some(Tree::I128(digits.parse().ok()?)),
+        ("u128", digits) => Some(Tree::U128(digits.parse().ok()?)),
         ("literal", digits) => Some(Tree::Decimal(Decimal::new(literal(digits)?)?)),
+        ("bytes", numbers) => Some(Tree::Bytes(bytes_of(alloc, numbers)?)),
+        ("raw", text) => Some(Tree::Raw(RawJson::from_owned(String::from_str(alloc, text).ok()?))),
+        ("some", _) => some_leaves(alloc),
+        ("empty", _) => empty_ones(alloc),
         _ => from_slice(alloc, text.as_bytes()).ok(),
     }
+}
+
+/// The numbers between the blanks, each a byte.
+fn bytes_of(alloc: Global, numbers: &str) -> Option<Vec<u8>> {
+    let mut bytes = Vec::new(alloc);
+    for number in numbers.split(' ') {
+        bytes.push(number.parse().ok()?).ok()?;
+    }
+    Some(bytes)
+}
+
+/// A list of leaves that no document is read to.
+fn some_leaves(alloc: Global) -> Option<Tree> {
+    let mut items = Vec::new(alloc);
+    push_leaves(alloc, &mut items)?;
+    Some(Tree::List(items))
+}
+
+/// Appends leaves that no document is read to, or some of them where there is no memory for all.
+fn push_leaves(alloc: Global, items: &mut Vec<Tree>) -> Option<()> {
+    items.push(Tree::I64(-1)).ok()?;
+    items.push(Tree::I64(5)).ok()?;
+    items.push(Tree::U128(18446744073709551616)).ok()?;
+    items.push(Tree::Char('x')).ok()?;
+    items.push(Tree::Unit).ok()?;
+    items.push(tree_of_bytes(alloc)?).ok()
+}
+
+/// The bytes 1 and 255.
+fn tree_of_bytes(alloc: Global) -> Option<Tree> {
+    Some(Tree::Bytes(bytes_of(alloc, "1 255")?))
+}
+
+/// A list of an empty list, an empty object and bytes.
+fn empty_ones(alloc: Global) -> Option<Tree> {
+    let mut items = Vec::new(alloc);
+    items.push(Tree::List(Vec::new(alloc))).ok()?;
+    items.push(Tree::Pairs(Vec::new(alloc))).ok()?;
+    items.push(Tree::Bytes(bytes_of(alloc, "0 127")?)).ok()?;
+    Some(Tree::List(items))
 }
 
 /// The same text, as it stands here.
@@ -39,23 +88,61 @@ fn are_equal(alloc: Global, a: &str, b: &str) -> Option<bool> {
 }
 
 /// Writes whether the trees of the texts before and after the `|` are equal.
-pub fn answer_equal<W: Write>(alloc: Global, input: &str, writer: &mut W) -> io::Result<()> {
+pub fn answer_equal(alloc: Global, input: &str, told: &mut String) -> Result<(), AllocError> {
     let (a, b) = input.split_once('|').unwrap_or((input, ""));
     match are_equal(alloc, a, b) {
-        Some(equal) => writeln!(writer, "{equal}"),
-        None => writeln!(writer, "NO TREE"),
+        Some(equal) => writeln!(told, "{equal}"),
+        None => writeln!(told, "NO TREE"),
     }
 }
 
-/// The text that is written of the text's tree, unless there is none.
-fn text_of(alloc: Global, text: &str) -> Option<Vec<u8>> {
-    to_vec(alloc, &tree_of(alloc, text)?).ok()
+/// The options that the word names: bytes as hexadecimal text, or a tabulator for each container.
+fn options(word: &str) -> SerializeOptions<'static> {
+    match word {
+        "hex" => SerializeOptions::new().bytes_as_hex(),
+        _ => SerializeOptions::new().indent("\t"),
+    }
 }
 
-/// Writes the text of the text's tree.
-pub fn answer_write<W: Write>(alloc: Global, input: &str, writer: &mut W) -> io::Result<()> {
-    match text_of(alloc, input) {
-        Some(text) => write_lines(text.as_slice(), writer),
-        None => writeln!(writer, "NO TREE"),
+/// The bytes that are written of the tree, in the layout that the word names.
+fn bytes_written(alloc: Global, tree: &Tree, word: &str) -> Option<Vec<u8>> {
+    match word {
+        "" => to_vec(alloc, tree).ok(),
+        "pretty" => to_vec_pretty(alloc, tree).ok(),
+        other => to_vec_with_options(alloc, tree, &options(other)).ok(),
+    }
+}
+
+/// The text that is written of the tree, in the layout that the word names.
+fn text_written(alloc: Global, tree: &Tree, word: &str) -> Option<String> {
+    match word {
+        "" => to_string(alloc, tree).ok(),
+        "pretty" => to_string_pretty(alloc, tree).ok(),
+        other => to_string_with_options(alloc, tree, &options(other)).ok(),
+    }
+}
+
+/// The text that is written of the text's tree, unless there is none; none too where bytes and text differ.
+fn text_of(alloc: Global, text: &str, word: &str) -> Option<String> {
+    let tree = tree_of(alloc, text)?;
+    let bytes = bytes_written(alloc, &tree, word)?;
+    let written = text_written(alloc, &tree, word)?;
+    if written.as_bytes() == bytes.as_slice() {
+        Some(written)
+    } else {
+        None
+    }
+}
+
+/// Writes the text of the text's tree, in the layout that the word names.
+pub fn answer_write(
+    alloc: Global,
+    word: &str,
+    input: &str,
+    told: &mut String,
+) -> Result<(), AllocError> {
+    match text_of(alloc, input, word) {
+        Some(text) => write_lines(text.as_bytes(), told),
+        None => writeln!(told, "NO TREE"),
     }
 }

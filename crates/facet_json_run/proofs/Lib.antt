@@ -1,2 +1,3 @@
+pub mod MarksAreCut
 pub mod RefusedWithin
 pub mod RunSteps

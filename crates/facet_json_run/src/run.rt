@@ -3,10 +3,11 @@
 ghost use Rattle.std.specs.Prelude.{◌≡◌, ◌≤◌, ◌⊎◌, true, List, ◌∷◌, Some, length, IfOk, IfErr, MatchResult};
 ghost use Rattle.facet_format.specs.Cursor.{no_memory_at};
 ghost use Rattle.facet_format.specs.Event.{ContainerKind as SpecContainer};
-ghost use Rattle.facet_format.specs.Span.{stop};
+ghost use Rattle.facet_format.specs.Span.{stop, span_at};
 ghost use Rattle.facet_format.specs.Views.{span_of, container_of};
 ghost use Rattle.facet_json_token.specs.Token.{Kind};
-ghost use Rattle.facet_json_token.specs.Views.{kind_of, mode_of};
+ghost use Rattle.facet_json_token.specs.Cut as spec_cut;
+ghost use Rattle.facet_json_token.specs.Views.{kind_of, mode_of, scanned};
 ghost use Rattle.facet_json_document.specs.Place.{root, goes_on};
 ghost use Rattle.facet_json_document.specs.Run.{opening};
 ghost use Rattle.facet_json_document.specs.Inner.PassedRun.{leaves, crosses, closing_one, passing};
@@ -15,7 +16,8 @@ ghost use Rattle.facet_json_run.specs.Views.{AnswersRun, value_expected};
 
 use facet_format::{ContainerKind, Span};
 use facet_json_place::{Contexts, Expected, Name, Refused, Why};
-use facet_json_token::{Mode, SpannedToken, Token, cut};
+use facet_json_token::plain_cut::token_at;
+use facet_json_token::{Mode, ScanResult, SpannedToken, Token, cut};
 use std::alloc::Global;
 
 /// Passes the run of the value that begins with this token, which was cut off the input, and returns the run's last token. A
@@ -76,11 +78,28 @@ pub fn pass_container(
     open_bracket(&mut contexts, kind, last)?;
     let mut passed = first;
     while let Some(innermost) = contexts.innermost() {
-        let token = cut(input, passed.end(), mode)?;
+        let token = next_token(input, passed.end(), mode)?;
         pass_token(&mut contexts, innermost, &token, last)?;
         passed = token.span;
     }
     Ok(passed)
+}
+
+/// The next token, as `cut` gives it. Where a bracket, a comma or a colon stands at the position itself, its byte says which.
+fn next_token(input: &[u8], position: usize, mode: Mode) -> ScanResult
+    requires { position ≤ length input.now }
+    ensures answer { scanned result ≡ Some (spec_cut.cut input.now position (mode_of mode)) }
+    ensures end { IfOk result (λ t. t.token ≡ Token.Eof → span_of t.span ≡ span_at (length input.now) 0) }
+{
+    match input.get(position) {
+        Some(b'[') => token_at(Token::ArrayStart, position, 1),
+        Some(b']') => token_at(Token::ArrayEnd, position, 1),
+        Some(b'{') => token_at(Token::ObjectStart, position, 1),
+        Some(b'}') => token_at(Token::ObjectEnd, position, 1),
+        Some(b',') => token_at(Token::Comma, position, 1),
+        Some(b':') => token_at(Token::Colon, position, 1),
+        _ => cut(input, position, mode),
+    }
 }
 
 /// Passes a token within these brackets, of which this is the innermost.

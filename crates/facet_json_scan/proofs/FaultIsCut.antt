@@ -13,13 +13,13 @@ use Rattle.facet_json_token.specs.Laws.{FaultIsCut, FaultIsUnique}
 use Rattle.facet_format.proofs.NumberLaws.{number_is_longest, parts_len-some}
 use Rattle.facet_json_token.proofs.CutBounds.{common_len-bound}
 use Rattle.facet_json_token.proofs.Gaps.{piece_len-blank}
+use Rattle.facet_json_token.proofs.ShapesCut.{bare_behind, cut_here-shape}
 use Rattle.facet_json_token.proofs.Starts.{Begins, a_mark, a_word, a_text, a_number, a_comment, no_token, start_of-begins, start_of-number}
 use Rattle.facet_json_scanner.proofs.Beginnings.{literal_starts, pieces_go_on, pieces_go_on_escaped}
 use Rattle.facet_json_scanner.proofs.GrowthOfGap.{opens_block, with_mark-none}
 use Rattle.facet_json_scanner.proofs.GrowthOfText.{IsUnended, content_len-none}
 use Rattle.facet_json_scanner.proofs.PendingWord.{common_len-prefix, prefix_of_word}
 use Rattle.facet_json_scanner.proofs.Refusals.{past_gap-ends}
-use Rattle.facet_json_scan.proofs.ShapeIsCut.{bare_behind, cut_here-shape}
 
 -- ---- what is wrong is cut
 

@@ -1,14 +1,14 @@
 -- Where no piece of a gap stands, and none begins.
-use Rattle.std.proofs.Common.{◌≡◌, ◌≢◌, ℕ, Bool, true, false, ◌==◌, List, [], ◌∷◌, refl, ap, arith, ◌++◌, inl, inr, None}
-use Rattle.std.proofs.lemmas.Bool.{ne_eqb, or_cases, eqb-true, and_parts, leb-true}
-use Rattle.facet_format.specs.Bytes.{quote, minus, slash, star, is_space, is_digit}
+use Rattle.std.proofs.Common.{◌≡◌, ◌≢◌, ℕ, Bool, false, ◌==◌, List, [], ◌∷◌, refl, ap, ◌++◌, None}
+use Rattle.std.proofs.lemmas.Bool.{ne_eqb}
+use Rattle.facet_format.specs.Bytes.{quote, slash, star, is_space}
 use Rattle.facet_json_token.specs.Gap.{Mode, plain, jsonc, Input, growing, piece_len, OpensBlock, OpensLine, one_more, with_mark, with_line_mark, through_block_end, through_line_end}
 use Rattle.facet_json_token.specs.Token.{Kind}
 use Rattle.facet_json_token.specs.Cut.{IsLiteral, start_of, letter, opens_comment}
-use Rattle.facet_format.specs.Number.{starts_number}
 use Rattle.facet_json_token.specs.Open.{IsBeginning}
 use Rattle.facet_json_scanner.specs.Scanner.{State, Part, EndsIn, in_text, in_word, in_number, in_line, Describes}
 use Rattle.facet_format.proofs.NumberLaws.{begins_number-is}
+use Rattle.facet_json_token.proofs.Starts.{number_byte}
 use Rattle.facet_json_scanner.proofs.Beginnings.{literal_starts}
 
 -- A byte that is neither blank nor a slash is in no gap.
@@ -50,24 +50,6 @@ literal_byte : (b : ℕ) (word letters : List ℕ) (kind : Kind) → IsLiteral w
 literal_byte b _ letters _ IsLiteral.null_stands e = let is : b ≡ 0x6e = cc in rw is (refl, refl)
 literal_byte b _ letters _ IsLiteral.true_stands e = let is : b ≡ 0x74 = cc in rw is (refl, refl)
 literal_byte b _ letters _ IsLiteral.false_stands e = let is : b ≡ 0x66 = cc in rw is (refl, refl)
-
--- A minus or a digit is neither blank nor a slash.
-number_byte : (b : ℕ) → starts_number b ≡ true → (is_space b ≡ false) × ((b == slash) ≡ false)
-number_byte b e =
-    elim (or_cases (b == minus) (is_digit b) e) [
-      | inl h ↦ let is : b ≡ minus = eqb-true b minus h in rw is (refl, refl)
-      | inr h ↦
-          let both = and_parts _ _ h in
-          let low = leb-true 0x30 b both.0 in (
-            rw (
-              ne_eqb b 0x20 (omega arith),
-              ne_eqb b 0x09 (omega arith),
-              ne_eqb b 0x0a (omega arith),
-              ne_eqb b 0x0d (omega arith),
-            ) refl,
-            ne_eqb b slash (omega arith),
-          )
-    ]
 
 -- An open block has no end.
 pub opens_block-none : (body : List ℕ) → OpensBlock body → through_block_end body ≡ None

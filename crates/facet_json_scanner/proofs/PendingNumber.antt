@@ -1,6 +1,6 @@
 -- A number that the end of a buffer cuts, and its token where it ends before.
 use Rattle.std.proofs.Common.{◌≡◌, ℕ, ◌+◌, ◌-◌, ◌<◌, ◌≤◌, Bool, true, false, cond, ◌==◌, List, [], ◌∷◌, ◌++◌, length, drop, slice_get, Some, refl, ap, ap₂, sym, ◌∙◌, subst, arith, length-drop}
-use Rattle.std.proofs.lemmas.Bool.{eqb-true, cond_both}
+use Rattle.std.proofs.lemmas.Bool.{eqb-true}
 use Rattle.facet_format.specs.Bytes.{minus, dot}
 use Rattle.facet_json_token.specs.Gap.{Mode}
 use Rattle.facet_format.specs.Number.{Hint, float, AreDigits, IsMinus, IsFraction, IsExponent, hint_of, IsNumeral, is_some_len, parts, parts_len, parts_hint, is_bare, starts_number, begins_number}
@@ -64,12 +64,6 @@ first-ends b e = by_minus b (b == minus) refl e
           kind = refl;
         } in
         record { hint = hint_of false false false; numeral = numeral; last = refl }
-
--- A number's sign is one byte at most.
-pub sign-bound : (bytes : List ℕ) → (parts bytes).sign ≤ 1
-unfolding parts
-sign-bound [] = omega arith
-sign-bound (b ∷ bytes) = cond_both (b == minus) 1 0 (λ n. n ≤ 1) (λ e. omega arith) (λ e. omega arith)
 
 -- ---- where it ends before the buffer does
 

@@ -17,6 +17,7 @@ use Rattle.facet_json_token.specs.Cut.{Cut, nothing_left, token, fault, start_of
 use Rattle.facet_json_token.specs.Open.{IsBeginning, IsOpen}
 use Rattle.facet_json_token.specs.Views.{scanned, fault_answer as fault_scanned}
 use Rattle.facet_json_token.proofs.FirstBytes.{cut_here-something, cut_here-number}
+use Rattle.facet_json_token.proofs.NumberCuts.{sign-bound}
 use Rattle.facet_json_token.proofs.Gaps.{gap_len-none, gap_len-ends}
 use Rattle.facet_json_token.proofs.NumberCuts.{number_at}
 use Rattle.facet_json_token.proofs.Offsets.{drop-at_byte}
@@ -30,7 +31,7 @@ use Rattle.facet_json_scanner.proofs.AnswersOfCuts.{found-here}
 use Rattle.facet_json_scanner.proofs.FoundPastGap.{growing_gap-none, same_gap, found-no_gap}
 use Rattle.facet_json_scanner.proofs.GrowthOfGap.{piece_len-keeps}
 use Rattle.facet_json_scanner.proofs.NoPiece.{no_piece}
-use Rattle.facet_json_scanner.proofs.PendingNumber.{number-shut, sign-bound}
+use Rattle.facet_json_scanner.proofs.PendingNumber.{number-shut}
 
 -- ---- which answers are refusals
 

@@ -15,7 +15,7 @@ use Rattle.facet_json_standing.specs.Fill.{place_of}
 use Rattle.facet_json_standing.specs.Views.{filling_of}
 
 -- What is not there is none.
-nothing_held : (held : Option Held) → is_some held ≡ false → held ≡ None
+pub nothing_held : (held : Option Held) → is_some held ≡ false → held ≡ None
 nothing_held None e = refl
 nothing_held (Some h) e = cc
 

@@ -16,9 +16,13 @@ pub record Filling : Type 0 where
   -- whether a peek answered it
   pub shown : Bool
 
+-- at a standing, where no event is held
+abbrev pub filling_at : Standing → Filling
+filling_at s = record { reader = s; held = None; shown = false }
+
 -- before the root
 abbrev pub first_filling : Filling
-first_filling = record { reader = first_standing; held = None; shown = false }
+first_filling = filling_at first_standing
 
 -- ---- what the definitions see
 
@@ -60,7 +64,7 @@ IsFilled buffer language f = IfSome f.held (HoldsNext buffer language f)
 
 -- after the event, which stands in these containers
 abbrev pub filling_past : Passed → List ContainerKind → Filling → Filling
-filling_past p stack f = record { reader = past p (record f.reader { stack = stack }); held = None; shown = false }
+filling_past p stack f = filling_at (past p (record f.reader { stack = stack }))
 
 -- The event that is held is taken. Its container, if it opens one, was open already.
 pub record Takes (f : Filling) (e : Event) (g : Filling) : Type 0 where

@@ -5,7 +5,7 @@ ghost use Rattle.std.specs.Prelude.{Ok, Err, OnSome, ◌<◌};
 ghost use Rattle.std.specs.Option.{option_map};
 ghost use Rattle.std.specs.VecDeque.{deque_len, deque_capacity};
 ghost use Rattle.facet_json_standing.specs.Ready.{IsSound};
-ghost use Rattle.facet_json_standing.specs.Steps.{PassesOne, ShowsOne, QueuesOne};
+ghost use Rattle.facet_json_standing.specs.Steps.{PassesOne, ShowsOne, QueuesOne, SkipsOne, CapturesOne};
 ghost use Rattle.facet_format.specs.Cursor.{current_span};
 ghost use Rattle.facet_format.specs.Span.{stop};
 ghost use Rattle.facet_format.specs.Views.{event_of, span_of};
@@ -15,12 +15,14 @@ ghost use Rattle.facet_json_document.specs.Language.{Language as SpecLanguage};
 ghost use Rattle.facet_json_protocol.specs.Now.{on_input};
 ghost use Rattle.facet_json_place.specs.Views.{language_of, refused_of};
 ghost use Rattle.facet_json_reader.specs.Views.{IsRefusedBefore};
-ghost use Rattle.facet_json_standing.specs.Fill.{first_filling, place_of, spot_of, IsFilled, Takes, Lends, Withholds};
+ghost use Rattle.facet_json_skip.specs.Views.{after_part};
+ghost use Rattle.facet_json_standing.specs.Fill.{filling_at, first_filling, place_of, spot_of, IsFilled, Takes, Lends, Withholds};
 ghost use Rattle.facet_json_standing.specs.Views.{filling_of};
 
-use facet_format::{ParseEvent, Span};
+use facet_format::{ParseEvent, ParseEventKind, Span};
 use facet_json_place::{Language, Refused};
 use facet_json_reader::{Held, Reader};
+use facet_json_skip::{Part, capture, find, leave, pass};
 use std::alloc::{AllocError, Global};
 use std::collections::VecDeque;
 
@@ -127,6 +129,51 @@ impl<'de> Standing<'de> {
         }
     }
 
+    /// Passes what stands next, its text unread: a value with all that it holds, a key with its colon, or a closing bracket.
+    /// Where it is refused, nothing changes.
+    pub fn skip(
+        &mut self,
+        alloc: Global,
+        input: &'de [u8],
+        language: Language,
+    ) -> Result<(), Refused>
+        requires sound { IsSound input.now (language_of language) (filling_of self.old) }
+        ensures sound { IsSound input.now (language_of language) (filling_of self.new) }
+        ensures passed { MatchResult result
+            (λ _. SkipsOne (on_input input.now (language_of language)) (spot_of (filling_of self.old)) (Ok tt)
+            (spot_of (filling_of self.new)))
+            (λ r. SkipsOne (on_input input.now (language_of language)) (spot_of (filling_of self.old)) (Err (refused_of r))
+            (spot_of (filling_of self.new))) }
+    {
+        let mode = language.mode();
+        let part = find(&self.reader, input, mode)?;
+        let last = pass(alloc, input, mode, &part, self.span())?;
+        self.leave(&part, last);
+        Ok(())
+    }
+
+    /// Passes the value that stands next, and answers its bytes as they stand in the input. Where it is refused, nothing changes.
+    pub fn capture(
+        &mut self,
+        alloc: Global,
+        input: &'de [u8],
+        language: Language,
+    ) -> Result<&'de str, Refused>
+        requires sound { IsSound input.now (language_of language) (filling_of self.old) }
+        ensures sound { IsSound input.now (language_of language) (filling_of self.new) }
+        ensures passed { MatchResult result
+            (λ text. CapturesOne (on_input input.now (language_of language)) (spot_of (filling_of self.old)) (Ok text.now)
+            (spot_of (filling_of self.new)))
+            (λ r. CapturesOne (on_input input.now (language_of language)) (spot_of (filling_of self.old)) (Err (refused_of r))
+            (spot_of (filling_of self.new))) }
+    {
+        let mode = language.mode();
+        let part = find(&self.reader, input, mode)?;
+        let (text, last) = capture(alloc, input, mode, &part, self.span())?;
+        self.leave(&part, last);
+        Ok(text)
+    }
+
     /// Reads the next event, where none is held, and opens its container. Where it is refused, nothing changes.
     fn fill(&mut self, alloc: Global, input: &'de [u8], language: Language) -> Result<(), Refused>
         requires within { stop (span_of self.old.reader.last) ≤ length input.now }
@@ -165,6 +212,28 @@ impl<'de> Standing<'de> {
         self.shown = false;
         self.reader.pass(&held);
         Some(held.event)
+    }
+
+    /// Stands after the part, whose last token takes these bytes.
+    fn leave(&mut self, part: &Part, last: Span)
+        ensures { filling_of self.new ≡ filling_at (after_part part.now (span_of last) (place_of (filling_of self.old)).stack) }
+    {
+        self.release();
+        leave(&mut self.reader, part, last);
+    }
+
+    /// Drops the event that is held, and closes the container that it opens.
+    fn release(&mut self)
+        ensures { filling_of self.new ≡ filling_at (place_of (filling_of self.old)) }
+    {
+        if let Some(held) = self.held.take() {
+            match &held.event.kind {
+                ParseEventKind::StructStart(_) => self.reader.contexts.pop(),
+                ParseEventKind::SequenceStart(_) => self.reader.contexts.pop(),
+                _ => {}
+            }
+        }
+        self.shown = false;
     }
 
     /// A copy of the event that is held, which is shown from then on. Without memory for it nothing changes.

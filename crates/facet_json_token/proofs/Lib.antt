@@ -2,9 +2,13 @@ pub mod CutBounds
 pub mod FirstBytes
 pub mod GapSteps
 pub mod Gaps
+pub mod Lanes
 pub mod NumberCuts
 pub mod Offsets
+pub mod ShapesCut
 pub mod Starts
 pub mod TextShapes
 pub mod TextSteps
+pub mod TextWindows
 pub mod TokensSteps
+pub mod Windows

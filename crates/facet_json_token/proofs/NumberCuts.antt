@@ -1,6 +1,8 @@
 -- The token that is cut of a number, from its parts.
-use Rattle.std.proofs.Common.{◌≡◌, ℕ, ◌+◌, false, List, ap, ap₂, sym, ◌∙◌}
-use Rattle.facet_format.specs.Number.{Hint, Parts, parts_len, parts_hint, is_bare}
+use Rattle.std.proofs.Common.{◌≡◌, ℕ, ◌+◌, ◌≤◌, false, ◌==◌, List, [], ◌∷◌, ap, ap₂, sym, ◌∙◌, arith}
+use Rattle.std.proofs.lemmas.Bool.{cond_both}
+use Rattle.facet_format.specs.Bytes.{minus}
+use Rattle.facet_format.specs.Number.{Hint, Parts, parts, parts_len, parts_hint, is_bare}
 use Rattle.facet_json_token.specs.Token.{number}
 use Rattle.facet_json_token.specs.Cut.{Cut, token_at, cut_number}
 
@@ -16,3 +18,9 @@ cut_number-parts q p rest hint at len same long what more =
     ap₂ (λ n h. token_at (number at (at + n) h) at n) long what
     ∙ ap (cut_number at rest (parts_len q) (parts_hint q)) (sym more)
     ∙ ap (λ r. cut_number at rest (parts_len r) (parts_hint r) (is_bare r)) same
+
+-- A number's sign is one byte at most.
+pub sign-bound : (bytes : List ℕ) → (parts bytes).sign ≤ 1
+unfolding parts
+sign-bound [] = omega arith
+sign-bound (b ∷ bytes) = cond_both (b == minus) 1 0 (λ n. n ≤ 1) (λ e. omega arith) (λ e. omega arith)

@@ -1,7 +1,8 @@
 -- What a byte begins, case by case.
-use Rattle.std.proofs.Common.{◌≡◌, ℕ, true, false, cond, ◌==◌, List, ◌∷◌, refl, sym, subst, ◌∙◌, true≢false}
+use Rattle.std.proofs.Common.{◌≡◌, ℕ, true, false, cond, ◌==◌, List, ◌∷◌, refl, sym, subst, ◌∙◌, true≢false, arith}
 use Rattle.std.proofs.lemmas.Bool.{cond_both, eqb-true}
-use Rattle.facet_format.specs.Bytes.{quote, slash, left_brace, right_brace, left_bracket, right_bracket}
+use Rattle.std.proofs.lemmas.Bool.Decides.{nat_tests}
+use Rattle.facet_format.specs.Bytes.{quote, slash, left_brace, right_brace, left_bracket, right_bracket, is_space}
 use Rattle.facet_format.specs.Bytes as bytes
 use Rattle.facet_format.specs.Number.{starts_number}
 use Rattle.facet_json_token.specs.Token.{Kind}
@@ -43,3 +44,7 @@ begins-number _ _ _ e = cc
 -- A minus or a digit begins a number.
 pub start_of-number : (b : ℕ) → starts_number b ≡ true → start_of b ≡ opens_number
 start_of-number b e = begins-number b (start_of b) (start_of-begins b) e
+
+-- A minus or a digit is neither blank nor a slash.
+pub number_byte : (b : ℕ) → starts_number b ≡ true → (is_space b ≡ false) × ((b == slash) ≡ false)
+number_byte b e = (grind (arith, nat_tests), grind (arith, nat_tests))

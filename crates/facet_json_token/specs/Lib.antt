@@ -1,4 +1,5 @@
 pub mod Cut
+pub mod DebugViews
 pub mod Faults
 pub mod Gap
 pub mod Inner

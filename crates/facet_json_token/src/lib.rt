@@ -7,6 +7,7 @@ mod mode;
 pub mod plain_cut;
 mod refusal;
 mod token;
+mod window;
 
 pub use mode::Mode;
 pub use plain_cut::cut;

@@ -1,4 +1,4 @@
-//! The plain scanner: what stands at a position, found byte by byte and without look-ahead.
+//! The plain scanner: what stands at a position, found without look-ahead.
 
 ghost use Rattle.std.specs.Prelude.{◌≡◌, ℕ, ◌+◌, Bool, false, ◌<◌, ◌≤◌, length, drop, Option, slice_get, IfSome, IfOk};
 ghost use Rattle.std.specs.Option.{option_map};
@@ -8,7 +8,7 @@ ghost use Rattle.facet_format.specs.Number.{parts, parts_len, parts_hint, is_bar
 ghost use Rattle.facet_json_token.specs.Token.{Kind};
 ghost use Rattle.facet_json_token.specs.Token as spec_token;
 ghost use Rattle.facet_json_token.specs.Cut.{past_gap, cut_here, fault_at, content_len};
-ghost use Rattle.facet_format.specs.Bytes.{slash};
+ghost use Rattle.facet_format.specs.Bytes.{slash, backslash};
 ghost use Rattle.facet_format.specs.Span.{span_at};
 ghost use Rattle.facet_json_token.specs.Cut as spec_cut;
 ghost use Rattle.facet_json_token.specs.Views.{mode_of, kind_of, scanned};
@@ -16,6 +16,7 @@ ghost use Rattle.facet_format.specs.Views.{span_of};
 
 use crate::mode::Mode;
 use crate::token::{ScanError, ScanErrorKind, ScanResult, SpannedToken, Token};
+use crate::window::plain_end;
 use facet_format::Span;
 use facet_format::numeral::{NumberHint, parts_at};
 
@@ -189,11 +190,10 @@ fn cut_text(buffer: &[u8], at: usize) -> ScanResult
         ≡ Some (spec_cut.cut_text at bytes (content_len false bytes)) }
 {
     let start = at + 1;
-    let mut end = start;
-    let mut escaped = false;
+    let mut end = plain_end(buffer, start);
     let mut has_escapes = false;
     while let Some(byte) = buffer.get(end) {
-        if *byte == b'"' && !escaped {
+        if *byte == b'"' {
             let token = Token::String {
                 start,
                 end,
@@ -201,12 +201,26 @@ fn cut_text(buffer: &[u8], at: usize) -> ScanResult
             };
             return token_at(token, at, end + 1 - at);
         }
-        let is_backslash = *byte == b'\\';
-        escaped = is_backslash & !escaped;
-        has_escapes |= is_backslash;
-        end += 1;
+        has_escapes = true;
+        end = plain_end(buffer, after_escape(buffer, end));
     }
     unexpected_eof(buffer, at, "in string")
+}
+
+/// The offset after the backslash at `at` and the byte that it escapes, or the length where none follows.
+#[inline(always)]
+fn after_escape(buffer: &[u8], at: usize) -> usize
+    requires { slice_get buffer.now at ≡ Some backslash }
+    ensures same { option_map (λ n. result + n) (content_len false (drop result buffer.now))
+        ≡ option_map (λ n. at + n) (content_len false (drop at buffer.now)) }
+    ensures range { (at < result) × (result ≤ length buffer.now) }
+{
+    let after = at + 2;
+    if after <= buffer.len() {
+        after
+    } else {
+        buffer.len()
+    }
 }
 
 /// Cuts the literal of these letters at `at`.

@@ -1,7 +1,10 @@
 //! Tokens of JSON text (RFC 8259, section 2), and what is wrong where no token stands.
 
+ghost use Rattle.facet_json_token.specs.DebugViews.{debug_text};
+
 use facet_format::Span;
 use facet_format::numeral::NumberHint;
+use std::fmt;
 
 /// What a scanner cuts off its buffer. Offsets are in bytes of the buffer.
 #[derive(Debug, Clone, PartialEq, Drop)]
@@ -61,7 +64,7 @@ pub struct SpannedToken {
 }
 
 /// Why the bytes at some place are no token.
-#[derive(Debug, Clone, PartialEq, Drop)]
+#[derive(Clone, PartialEq, Drop)]
 pub enum ScanErrorKind {
     /// No token goes on with this byte, shown as the character of its code.
     UnexpectedChar(char),
@@ -69,6 +72,22 @@ pub enum ScanErrorKind {
     UnexpectedEof(&'static str),
     /// Bytes that are not UTF-8.
     InvalidUtf8,
+}
+
+/// As the code would spell it: `UnexpectedChar('x')`, `UnexpectedEof("in string")`, `InvalidUtf8`. The contract says so of what is
+/// ASCII.
+impl fmt::Debug for ScanErrorKind {
+    ghost debug_output = { debug_text };
+
+    fn fmt<W: fmt::Write>(&self, f: &mut fmt::Formatter<W>) -> fmt::Result {
+        match self {
+            ScanErrorKind::UnexpectedChar(character) => {
+                write!(f, "UnexpectedChar({character:?})")
+            }
+            ScanErrorKind::UnexpectedEof(place) => write!(f, "UnexpectedEof({place:?})"),
+            ScanErrorKind::InvalidUtf8 => f.write_str("InvalidUtf8"),
+        }
+    }
 }
 
 /// What is wrong, and where.

@@ -34,7 +34,7 @@ escaped-character c = by (shape c)
         simp (e, le-ltb c 0x80 (omega arith), first, escaped-next (c / 4096), escaped-next (c / 64), escaped-next c)
 
 -- The characters of a text are written one after another.
-escaped-characters : (cs : List ℕ) → flat_map escaped (encode_utf8_all cs) ≡ flat_map escaped_character cs
+pub escaped-characters : (cs : List ℕ) → flat_map escaped (encode_utf8_all cs) ≡ flat_map escaped_character cs
 escaped-characters [] = refl
 escaped-characters (c ∷ cs) =
     flat_map-append escaped (encode_utf8 c) (encode_utf8_all cs)

@@ -1,15 +1,18 @@
 -- On every input: what a parser keeps and what it answers lie within the input.
-use Rattle.std.proofs.Common.{◌≡◌, ℕ, zero, suc, ◌≤◌, List, [], length, Some, refl, subst, arith}
-use Rattle.std.specs.Prelude.{Err, IfSome}
+use Rattle.std.proofs.Common.{◌≡◌, ℕ, zero, suc, ◌<◌, ◌≤◌, List, [], length, Some, refl, subst, arith}
+use Rattle.std.specs.Prelude.{Ok, Err, IfSome}
 use Rattle.std.proofs.lemmas.List.Elements.{All-nil}
 use Rattle.facet_format.specs.Span.{stop}
 use Rattle.facet_format.specs.Complaint.{Refusal}
 use Rattle.facet_format.specs.Event.{Event, Passed}
 use Rattle.facet_format.specs.Kept.{found}
-use Rattle.facet_format.specs.Cursor.{Call, next, peek, events, save, restore, span, Answer, event, batch, saved, Spot, Cursor, Comes, repeats, passes, passes_without_memory, passes_the_end, passes_nothing, peeks, peeks_without_memory, peeks_at_the_end, peeks_at_nothing, gives_none, gives, gives_up, gives_without_memory, saves, saves_at_the_limit, saves_without_memory, restores, restores_nothing, tells, repeated, an_event, at_spot, refused_at, kept_here, back_at, current_span, spot_after}
+use Rattle.facet_format.specs.Part.{Part, skip_of, capture_of}
+use Rattle.facet_format.specs.Cursor.{Call, next, peek, events, skip, capture, save, restore, span, Answer, event, batch, skipped, raw, saved, Spot, Cursor, Comes, repeats, passes, passes_without_memory, passes_the_end, passes_nothing, peeks, peeks_without_memory, peeks_at_the_end, peeks_at_nothing, gives_none, gives, gives_up, gives_without_memory, skips, skips_without_memory, skips_nothing, captures, captures_without_memory, captures_nothing, saves, saves_at_the_limit, saves_without_memory, restores, restores_nothing, tells, repeated, an_event, at_spot, refused_at, kept_here, back_at, current_span, spot_after, unpeeked}
 use Rattle.facet_json_token.specs.Gap.{Mode}
 use Rattle.facet_json_document.specs.InputPlace.{Standing, future_at}
+use Rattle.facet_json_document.specs.Unread.{PartAt}
 use Rattle.facet_json_document.proofs.PastEvents.{comes-within}
+use Rattle.facet_json_document.proofs.Parts.PartsWithin.{parts_within}
 use Rattle.facet_json_protocol.specs.Now.{Now, fresh, on_input, first_of, RefusedAt}
 use Rattle.facet_json_protocol.specs.Move.{Moves}
 use Rattle.facet_json_protocol.specs.Within.{StandsWithin, RefusalWithin, NowWithin, no_events, AnswerWithin}
@@ -78,6 +81,8 @@ module _ (now : Now) (good : NowWithin now) where
   repeated_within r (events zero) answer e w = cc
   repeated_within r (events (suc k)) answer e w =
       let same : batch [] (Err r) ≡ answer = cc in subst (AnswerWithin now.buffer) same (no_events, w)
+  repeated_within r skip answer e w = let same : skipped (Err r) ≡ answer = cc in subst (AnswerWithin now.buffer) same w
+  repeated_within r capture answer e w = let same : raw (Err r) ≡ answer = cc in subst (AnswerWithin now.buffer) same w
   repeated_within r save answer e w = let same : saved (Err r) ≡ answer = cc in subst (AnswerWithin now.buffer) same w
   repeated_within r (restore point) answer e w = cc
   repeated_within r span answer e w = cc
@@ -86,14 +91,33 @@ module _ (now : Now) (good : NowWithin now) where
       RefusalWithin now.buffer r
   stops_within r so = refused-within now.buffer now.language now.cursor.spot.place r good.standing so
 
+  -- ---- parts
+
+  abbrev here : Standing
+  here = now.cursor.spot.place
+
+  -- The place after a skip lies further on, and within the input.
+  pub skip-behind : (part : Part Standing) (place : Standing) → PartAt now.buffer now.language here part → skip_of part ≡ Ok place →
+      (stop here.last < stop place.last) × StandsWithin now.buffer place
+  skip-behind part place stands is = (parts_within now.buffer now.language here part good.standing stands).skip place is
+
+  -- So does the place after a capture.
+  pub capture-behind : (part : Part Standing) (text : List ℕ) (place : Standing) → PartAt now.buffer now.language here part →
+      capture_of now.buffer part ≡ Ok (text, place) → (stop here.last < stop place.last) × StandsWithin now.buffer place
+  capture-behind part text place stands is = (parts_within now.buffer now.language here part good.standing stands).capture text place is
+
   -- ---- steps
 
   unchanged : (answer : Answer) → AnswerWithin now.buffer answer → MovedWithin now answer
   unchanged answer w = record { parser = good; within = w }
 
-  refused_here : (r : Refusal) → RefusalWithin now.buffer r →
-      MovedWithin (with_cursor now (refused_at now.cursor now.cursor.spot r)) (event (Err r))
-  refused_here r w = record { parser = refused_at-within now.cursor.spot r good.standing w; within = w }
+  refused_here : (r : Refusal) (answer : Answer) → RefusalWithin now.buffer r → AnswerWithin now.buffer answer →
+      MovedWithin (with_cursor now (refused_at now.cursor now.cursor.spot r)) answer
+  refused_here r answer w inside = record { parser = refused_at-within now.cursor.spot r good.standing w; within = inside }
+
+  passed_here : (place : Standing) (answer : Answer) → StandsWithin now.buffer place → AnswerWithin now.buffer answer →
+      MovedWithin (with_cursor now (at_spot now.cursor (unpeeked place))) answer
+  passed_here place answer w inside = record { parser = settled-within (unpeeked place) w; within = inside }
 
   -- An event that comes, and the place after it.
   event_comes : (p : Passed) → first_of (future_at now.buffer now.language now.cursor.spot.place) ≡ an_event p →
@@ -118,14 +142,14 @@ module _ (now : Now) (good : NowWithin now) where
   step_within d (repeats r call answer e a) = unchanged answer (repeated_within r call answer a (refusal_within r e))
   step_within d (passes p none comes) =
       let (inside, ends) = event_comes p comes in record { parser = settled-within _ ends; within = inside }
-  step_within d (passes_without_memory p none comes takes off) = refused_here _ current-within
+  step_within d (passes_without_memory p none comes takes off) = refused_here _ _ current-within current-within
   step_within d (passes_the_end none e) = unchanged _ tt
-  step_within d (passes_nothing r none e so) = refused_here r (stops_within r so)
+  step_within d (passes_nothing r none e so) = refused_here r _ (stops_within r so) (stops_within r so)
   step_within d (peeks p none comes) =
       let (inside, ends) = event_comes p comes in record { parser = settled-within _ good.standing; within = inside }
-  step_within d (peeks_without_memory p none comes takes) = refused_here _ current-within
+  step_within d (peeks_without_memory p none comes takes) = refused_here _ _ current-within current-within
   step_within d (peeks_at_the_end none e) = unchanged _ tt
-  step_within d (peeks_at_nothing r none e so) = refused_here r (stops_within r so)
+  step_within d (peeks_at_nothing r none e so) = refused_here r _ (stops_within r so) (stops_within r so)
   step_within d gives_none = unchanged _ (no_events, tt)
   step_within d (gives k n given after none all count le over) = record {
     parser = settled-within _ (spot_after-within now.buffer now.language now.cursor.spot all good.standing);
@@ -137,6 +161,14 @@ module _ (now : Now) (good : NowWithin now) where
   step_within d (gives_up k given after r none all le stops so) =
       let w = (given-within now.buffer now.language all good.standing).stands in
       batch_refused given _ r after all refl (refused-within now.buffer now.language after r w so)
+  step_within d (skips part place none stands is) = passed_here place _ (skip-behind part place stands is).1 tt
+  step_within d (skips_without_memory part none stands opens) = refused_here _ _ current-within current-within
+  step_within d (skips_nothing part r none stands is) =
+      let w = (parts_within now.buffer now.language here part good.standing stands).no_skip r is in refused_here r _ w w
+  step_within d (captures part text place none stands is) = passed_here place _ (capture-behind part text place stands is).1 tt
+  step_within d (captures_without_memory part none stands opens) = refused_here _ _ current-within current-within
+  step_within d (captures_nothing part r none stands is) =
+      let w = (parts_within now.buffer now.language here part good.standing stands).no_capture r is in refused_here r _ w w
   step_within d (saves none h) = record { parser = kept-within; within = tt }
   step_within d (saves_at_the_limit none e) = unchanged _ current-within
   step_within d (saves_without_memory none h) = unchanged _ current-within

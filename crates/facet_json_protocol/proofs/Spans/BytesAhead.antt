@@ -3,7 +3,7 @@ use Rattle.std.proofs.Common.{◌≡◌, ℕ, zero, suc, ◌+◌, ◌<◌, ◌�
 use Rattle.std.specs.Prelude.{Ok}
 use Rattle.facet_format.specs.Span.{stop}
 use Rattle.facet_format.specs.Event.{Event, Passed}
-use Rattle.facet_format.specs.Cursor.{Call, next, events, restore, Answer, event, batch, Cursor, Comes, repeats, passes, gives_none, gives, gives_up, gives_without_memory, restores, an_event, spot_after}
+use Rattle.facet_format.specs.Cursor.{Call, next, events, skip, capture, restore, Answer, event, batch, skipped, raw, Cursor, Comes, repeats, passes, gives_none, gives, gives_up, gives_without_memory, skips, captures, restores, an_event, spot_after}
 use Rattle.facet_json_document.specs.InputPlace.{Standing, future_at}
 use Rattle.facet_json_document.proofs.PastEvents.{comes-within}
 use Rattle.facet_json_protocol.specs.Now.{Now, on_input, first_of, ahead, GoesOn}
@@ -12,6 +12,7 @@ use Rattle.facet_json_protocol.specs.Within.{NowWithin}
 use Rattle.facet_json_protocol.proofs.StepLaws.{leaves_points}
 use Rattle.facet_json_protocol.proofs.MoveLaws.{with_cursor, StepOf, by_step, moves-points}
 use Rattle.facet_json_protocol.proofs.MovesNext.{event-comes, spot_after-place}
+use Rattle.facet_json_protocol.proofs.Spans.AnswersWithin.{skip-behind, capture-behind}
 use Rattle.facet_json_protocol.proofs.Spans.EventsWithin.{given-within}
 
 module _ (now : Now) (good : NowWithin now) where
@@ -37,6 +38,9 @@ module _ (now : Now) (good : NowWithin now) where
   step_onward d (gives_without_memory k given after p spot none all le more there) other =
       rw there (omega (arith, (batch_behind given after all).0))
   step_onward d (gives_up k given after r none all le stops so) other = omega (arith, (batch_behind given after all).0)
+  step_onward d (skips part place none stands is) other = omega (arith, (skip-behind now good part place stands is).0)
+  step_onward d (captures part text place none stands is) other =
+      omega (arith, (capture-behind now good part text place stands is).0)
   step_onward d (restores point spot e) other = absurd (other point refl)
   step_onward d _ other = omega arith
 
@@ -85,3 +89,25 @@ module _ (now : Now) (good : NowWithin now) where
       ahead new + n ≤ ahead now
   events-lower new limit n given move =
       by_step (λ x. ahead x + n ≤ ahead now) now new move (λ d step. events_lower d limit n given _ refl step)
+
+  skip_lowers : (d : Cursor Standing) (answer : Answer) → answer ≡ skipped (Ok tt) → StepOf now skip answer d →
+      ahead (with_cursor now d) < ahead now
+  skip_lowers d answer a (skips part place none stands is) =
+      let (further, ends) = skip-behind now good part place stands is in omega (arith, further, ends)
+  skip_lowers d answer a (repeats r call _ f g) = cc
+  skip_lowers d answer a _ = cc
+
+  -- A skip leaves fewer bytes ahead.
+  pub skip-lowers : (new : Now) → Moves now skip (skipped (Ok tt)) new → ahead new < ahead now
+  skip-lowers new move = by_step (λ x. ahead x < ahead now) now new move (λ d step. skip_lowers d _ refl step)
+
+  capture_lowers : (d : Cursor Standing) (text : List ℕ) (answer : Answer) → answer ≡ raw (Ok (Some text)) →
+      StepOf now capture answer d → ahead (with_cursor now d) < ahead now
+  capture_lowers d text answer a (captures part other place none stands is) =
+      let (further, ends) = capture-behind now good part other place stands is in omega (arith, further, ends)
+  capture_lowers d text answer a (repeats r call _ f g) = cc
+  capture_lowers d text answer a _ = cc
+
+  -- A capture leaves fewer bytes ahead.
+  pub capture-lowers : (new : Now) (text : List ℕ) → Moves now capture (raw (Ok (Some text))) new → ahead new < ahead now
+  capture-lowers new text move = by_step (λ x. ahead x < ahead now) now new move (λ d step. capture_lowers d text _ refl step)

@@ -2,6 +2,7 @@
 
 ghost use Rattle.facet_json_protocol.specs.ParserLaws.{NewStands, AloneIsGiven, TrustedAgrees};
 ghost use Rattle.facet_json_protocol.specs.Headline.{Headline};
+ghost use Rattle.facet_json_protocol.specs.SkipLaws.{SkipPassesRun, CapturePassesRun};
 ghost use Rattle.facet_json_protocol.specs.CallLaws.{MoveIsStep, PeekIsNext, RefusalRepeats, SaveIsNumbered, RestoreBringsBack, NumbersAreNew, UnknownChangesNothing, EndsInTime};
 
 /// What a new parser of any input answers. Where the input has a document, it answers every list of calls as a cursor on the
@@ -39,10 +40,23 @@ pub fn peek_is_next()
     ensures { PeekIsNext }
 {}
 
-/// On every input a call for events that is refused is refused from then on, and so is each save; nothing changes, until
-/// a point that is kept is restored.
+/// On every input a call for events, a skip or a capture that is refused is refused from then on, and so is each save; nothing
+/// changes, until a point that is kept is restored.
 pub fn refusal_repeats()
     ensures { RefusalRepeats }
+{}
+
+/// On every input a skip of a parser that isn't refused and stands before a value passes the run that begins there, and the
+/// parser then stands right after it. The skip is refused only where the tokens break off, so that no run stands there, or for
+/// lack of memory.
+pub fn skip_passes_run()
+    ensures { SkipPassesRun }
+{}
+
+/// On every input a capture of a parser that isn't refused and stands before a value passes the run that begins there, as a
+/// skip does, and answers its bytes. It is refused only where the skip is, or where the bytes aren't UTF-8.
+pub fn capture_passes_run()
+    ensures { CapturePassesRun }
 {}
 
 /// On every input a save of a parser that isn't refused answers the next number. It answers none only for lack of memory,

@@ -1,7 +1,7 @@
 use Rattle.std.proofs.Common.{Option, None, Ok, Err, ap}
 use Rattle.std.proofs.lemmas.Option.{same_Some}
 use Rattle.facet_format.specs.Event.{Event}
-use Rattle.facet_format.specs.Cursor.{Answer, event, batch, saved, restored, spans, on_walk}
+use Rattle.facet_format.specs.Cursor.{Answer, event, batch, saved, restored, spans, skipped, raw, on_walk}
 use Rattle.facet_format.proofs.CursorSteps.{peek-next}
 use Rattle.facet_format_tests.proofs.parsers.peek_and_next.Goals as goal
 
@@ -10,6 +10,8 @@ abbrev event_in : Answer → Option Event
 event_in (event (Ok e)) = e
 event_in (event (Err r)) = None
 event_in (batch given r) = None
+event_in (skipped r) = None
+event_in (raw r) = None
 event_in (saved r) = None
 event_in restored = None
 event_in (spans s) = None

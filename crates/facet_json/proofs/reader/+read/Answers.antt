@@ -2,8 +2,8 @@ use Rattle.std.proofs.Common.{◌∙◌, ap}
 use Rattle.std.proofs.lemmas.List.{map-append}
 use Rattle.std.proofs.lemmas.Option.{MatchOption-at_none, MatchOption-at_some}
 use Rattle.std.proofs.lemmas.Result.{err_from_is_err_and}
-use Rattle.facet_json.specs.Views.{tree_view}
-use Rattle.facet_json.proofs.TreeViews.{tree_view-List, tree_view-Pairs, trees_view-none, pairs_view-none}
+use Rattle.facet_json_tree.specs.Views.{tree_view}
+use Rattle.facet_json_tree.proofs.TreeViews.{tree_view-List, tree_view-Pairs, trees_view-none, pairs_view-none}
 use Rattle.facet_json.proofs.ReadingValues.{unread-same, unread-at, read-at, went-behind}
 use Rattle.facet_json.proofs.ItemsRead.{items-closed, item-unread, item-passed}
 use Rattle.facet_json.proofs.MembersRead.{pairs_before-none, members-closed, member-unread, member-passed}

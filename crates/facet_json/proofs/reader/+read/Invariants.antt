@@ -1,7 +1,7 @@
 use Rattle.std.proofs.Common.{◌≡◌, ◌+◌, ◌*◌, [], map, string_bytes}
 use Rattle.facet_json_protocol.specs.Now.{ahead, future_of}
 use Rattle.facet_json.specs.Inner.Reading.{WentOn}
-use Rattle.facet_json.specs.Views.{tree_view}
+use Rattle.facet_json_tree.specs.Views.{tree_view}
 use Rattle.facet_json.proofs.ItemsRead.{ItemsPassed}
 use Rattle.facet_json.proofs.MembersRead.{MembersPassed}
 use Rattle.facet_json.proofs.reader.+read.Given as goal

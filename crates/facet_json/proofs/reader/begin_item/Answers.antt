@@ -7,7 +7,7 @@ use Rattle.facet_json.proofs.reader.begin_item.Goals as goal
 pub returns-in_err-first-clause-refused : goal.returns-in_err-first-clause-refused
 returns-in_err-first-clause-refused c =
     let p = err_from_is_err_and c.from_residual.result c.from_residual.ensures.1 in
-    rw (p.1, p.2) (none-items c.args.parser.now _ c.in_err-first.ensures.refused)
+    rw (p.1, p.2) (none-items c.args.parser.now _ (c.in_err-first.ensures.refused c.requires.free))
 
 pub returns-in_err-begun-clause-refused : goal.returns-in_err-begun-clause-refused
 returns-in_err-begun-clause-refused c =
@@ -24,7 +24,7 @@ returns-in_err-begun-clause-within c =
 
 pub returns : goal.returns
 returns c = record {
-  same = c.next.ensures.same;
+  same = c.next_of_value.ensures.same;
   shorter = c.in_ok-first.ensures.shorter;
   begun = began _ _ _ _ c.in_ok-first.ensures.gave c.in_ok-begun.ensures.begun;
   refused = tt;

@@ -2,9 +2,9 @@ use Rattle.std.proofs.Common.{ap, ◌∙◌}
 use Rattle.std.proofs.lemmas.Result.{IfOk-weaker, IfErr-weaker}
 use Rattle.facet_format.specs.Views.{event_kind_of}
 use Rattle.facet_json_document.specs.Tree.{list, pairs}
-use Rattle.facet_json.specs.Views.{trees_view, pairs_view}
+use Rattle.facet_json_tree.specs.Views.{trees_view, pairs_view}
 use Rattle.facet_json.specs.Inner.Reading.{whole, a_list, an_object, a_scalar}
-use Rattle.facet_json.proofs.TreeViews.{tree_view-List, tree_view-Pairs}
+use Rattle.facet_json_tree.proofs.TreeViews.{tree_view-List, tree_view-Pairs}
 use Rattle.facet_json.proofs.reader.begun.Goals as goal
 
 pub returns-in-Scalar-clause-begun : goal.returns-in-Scalar-clause-begun

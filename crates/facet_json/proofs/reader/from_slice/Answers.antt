@@ -1,6 +1,6 @@
 use Rattle.std.proofs.lemmas.Result.{IfOk-weaker, IfErr-weaker, MatchResult-from_both}
 use Rattle.facet_json_token.specs.Gap.{plain}
-use Rattle.facet_json.proofs.DocumentFromRoot.{read-document, read-only, unread-refused, unread-only}
+use Rattle.facet_json_transcode.proofs.DocumentFromRoot.{read-document, read-only, unread-refused, unread-only}
 use Rattle.facet_json.proofs.reader.from_slice.Goals as goal
 
 pub returns-clause-document : goal.returns-clause-document

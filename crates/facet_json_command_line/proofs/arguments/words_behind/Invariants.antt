@@ -5,4 +5,4 @@ use Rattle.facet_json_command_line.specs.Views.{words_of, operands_of}
 use Rattle.facet_json_command_line.proofs.arguments.words_behind.Given as goal
 
 abbrev pub invariant-loop-word : goal.invariant-loop-word
-invariant-loop-word l = AreWords (mode_of l.taken.mode) (operands_of l.taken.operand) (words_of (take l.word-index l.words))
+invariant-loop-word l = AreWords (mode_of l.taken.mode) l.taken.pretty (operands_of l.taken.operand) (words_of (take l.word-index l.words))

@@ -18,8 +18,8 @@ loop-innermost-init c = record {
   leads = leads-first c.args.input.now (mode_of c.args.mode) c.open_bracket.new.contexts (container_of c.args.kind) (span_of c.args.first) (c.in_ok-open_bracket.ensures ∙ ap (λ s. container_of c.args.kind ∷ s) c.new-contexts.ensures);
 }
 
-pub cut-requires : goal.cut-requires
-cut-requires c =
+pub next_token-requires : goal.next_token-requires
+next_token-requires c =
     let l = c.loop-innermost in omega (arith, c.end.ensures.fits (omega (arith, l.invariant.ends)), l.invariant.ends)
 
 pub returns-in_err-token-clause-run : goal.returns-in_err-token-clause-run

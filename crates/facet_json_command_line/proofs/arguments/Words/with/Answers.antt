@@ -1,29 +1,36 @@
-use Rattle.std.proofs.Common.{◌≢◌, sym, ◌∙◌}
+use Rattle.std.proofs.Common.{◌≢◌, sym, ◌∙◌, ap}
 use Rattle.std.proofs.lemmas.Bool.Decides.{Decides-eqb}
 use Rattle.std.proofs.lemmas.Bool.{true≢false}
 use Rattle.std.proofs.lemmas.Slice.Eq.{slice_eq-Decides}
-use Rattle.facet_json_command_line.specs.Arguments.{comments}
-use Rattle.facet_json_command_line.proofs.Operands.{one_more_operand, one_more_option, no_second_option, no_second_operand}
+use Rattle.facet_json_token.specs.Views.{mode_of}
+use Rattle.facet_json_command_line.specs.Arguments.{comments, indented}
+use Rattle.facet_json_command_line.proofs.Operands.{taken_or, one_more_operand, one_more_comments, one_more_indent, no_second_comments, no_second_indent, no_second_operand}
 use Rattle.facet_json_command_line.proofs.arguments.Words.with.Goals as goal
 
-pub returns-in-Plain : goal.returns-in-Plain
-returns-in-Plain c front words =
+pub returns-then-eq : goal.returns-then-eq
+returns-then-eq c before words =
     let same = (slice_eq-Decides Decides-eqb c.args.word.now _ c.eq.result c.eq.ensures).0 c.if-eq.true in
-    one_more_option _ front _ same (rw c.in-Plain.is at words)
+    taken_or c.with_comments.result _ _ _ _
+    (λ there mode pretty operands rest few all. no_second_comments _ _ _ _ words mode pretty operands rest _ all same (ap mode_of there))
+    (λ w is. rw is.1 (one_more_comments _ _ _ _ _ same (ap mode_of is.0) words))
+    c.with_comments.ensures
 
-pub returns-in-Jsonc : goal.returns-in-Jsonc
-returns-in-Jsonc c front words mode operands rest few all =
-    let same = (slice_eq-Decides Decides-eqb c.args.word.now _ c.eq.result c.eq.ensures).0 c.if-eq.true in
-    no_second_option mode _ front rest operands _ same (rw c.in-Jsonc.is at words) all
+pub returns-then-eq-2 : goal.returns-then-eq-2
+returns-then-eq-2 c before words =
+    let same = (slice_eq-Decides Decides-eqb c.args.word.now _ c.eq-2.result c.eq-2.ensures).0 c.if-eq-2.true in
+    taken_or c.with_indent.result _ _ _ _
+    (λ there mode pretty operands rest few all. no_second_indent _ _ _ _ words mode pretty operands rest _ all same there)
+    (λ w is. rw is.1 (one_more_indent _ _ _ _ _ same is.0 words))
+    c.with_indent.ensures
 
-pub returns-in-None : goal.returns-in-None
-returns-in-None c front words =
-    let other : c.args.word.now ≢ comments = λ same.
+pub returns : goal.returns
+returns c before words =
+    let no_comments : c.args.word.now ≢ comments = λ same.
     true≢false (sym ((slice_eq-Decides Decides-eqb c.args.word.now _ c.eq.result c.eq.ensures).1 same) ∙ c.if-eq.false) in
-    one_more_operand _ _ front _ other (rw c.in-None.is at words)
-
-pub returns-in-Some : goal.returns-in-Some
-returns-in-Some c front words mode operands rest few all =
-    let other : c.args.word.now ≢ comments = λ same.
-    true≢false (sym ((slice_eq-Decides Decides-eqb c.args.word.now _ c.eq.result c.eq.ensures).1 same) ∙ c.if-eq.false) in
-    no_second_operand mode _ c.in-Some.field-0.now front rest operands _ other few (rw c.in-Some.is at words) all
+    let no_indent : c.args.word.now ≢ indented = λ same.
+    true≢false (sym ((slice_eq-Decides Decides-eqb c.args.word.now _ c.eq-2.result c.eq-2.ensures).1 same) ∙ c.if-eq-2.false) in
+    taken_or c.with_operand.result _ _ _ _
+    (λ taken mode pretty operands rest few all.
+    no_second_operand _ _ _ _ words mode pretty operands rest _ all no_comments no_indent taken.0 taken.1 few)
+    (λ w is. rw (is.1, is.2, is.3) (one_more_operand _ _ _ _ _ no_comments no_indent (rw is.0 at words)))
+    c.with_operand.ensures

@@ -1,5 +1,0 @@
-use Rattle.facet_json.proofs.Escapes.{IsWritten}
-use Rattle.facet_json.proofs.writer.push_quoted.Given as goal
-
-abbrev pub invariant-loop-i : goal.invariant-loop-i
-invariant-loop-i l = IsWritten l.bytes l.initial.out.items l.out.items l.start l.i

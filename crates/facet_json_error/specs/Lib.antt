@@ -1,0 +1,2 @@
+pub mod ErrorKind
+pub mod Views

@@ -1,0 +1,10 @@
+//! A text between quotes, as JSON writes it (RFC 8259, section 7): `push_quoted`. What needs no escape is found sixteen bytes at a
+//! time, and copied in runs.
+#![tactic(auto)]
+
+mod escape;
+mod quote;
+mod window;
+
+pub use escape::hex_digit;
+pub use quote::push_quoted;

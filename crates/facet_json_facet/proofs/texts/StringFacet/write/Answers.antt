@@ -1,0 +1,12 @@
+use Rattle.std.proofs.Common.{sym, ap}
+use Rattle.std.proofs.lemmas.Str.{is_utf8-from_IsUtf8, IsUtf8-string_bytes}
+use Rattle.facet_json_document.specs.Tree.{text}
+use Rattle.facet_json_write.proofs.ScalarCalls.{scalar-called}
+use Rattle.facet_json_facet.proofs.ScalarsOfRust.{text-of_rust}
+use Rattle.facet_json_facet.proofs.texts.StringFacet.write.Goals as goal
+
+pub returns-clause-written : goal.returns-clause-written
+returns-clause-written c = scalar-called _ _ _ _ c.scalar.result (ap text (sym c.as_str.ensures.value)) c.scalar.ensures.appends
+
+pub returns-clause-of_rust : goal.returns-clause-of_rust
+returns-clause-of_rust c = text-of_rust _ c.scalar.result (is_utf8-from_IsUtf8 _ (IsUtf8-string_bytes c.args.self.now))

@@ -1,0 +1,10 @@
+use Rattle.std.proofs.Common.{refl}
+use Rattle.facet_json_write.proofs.ScalarCalls.{scalar-called}
+use Rattle.facet_json_facet.proofs.ScalarsOfRust.{bool-of_rust}
+use Rattle.facet_json_facet.proofs.truth.BoolFacet.write.Goals as goal
+
+pub returns-clause-written : goal.returns-clause-written
+returns-clause-written c = scalar-called _ _ _ _ c.scalar.result refl c.scalar.ensures.appends
+
+pub returns-clause-of_rust : goal.returns-clause-of_rust
+returns-clause-of_rust c = bool-of_rust c.args.self.now c.scalar.result

@@ -1,0 +1,108 @@
+//! The trait of types that are read from JSON and written as JSON.
+
+ghost use Rattle.std.specs.Prelude.{◌≡◌, ◌<◌, true, None, OnOk, OnErr, IfOk, IfErr};
+ghost use Rattle.facet_format.specs.Views.{refusal_of};
+ghost use Rattle.facet_json_protocol.specs.Now.{ahead};
+ghost use Rattle.facet_json_protocol.specs.Within.{RefusalWithin};
+ghost use Rattle.facet_json_serializer.specs.Serializer.{out_of_memory};
+ghost use Rattle.facet_json_serializer.specs.Views.{refusal_of as writing_refusal_of};
+ghost use Rattle.facet_json_write.specs.Write.{HasWritten, IsOfRust};
+ghost use Rattle.facet_json_meaning.specs.Nodes.{KeepsOn};
+ghost use Rattle.facet_json_meaning.specs.Reading.{IsRead, IsUnread, HasDocument};
+
+use facet_format::DeserializeError;
+use facet_json_parser::JsonParser;
+use facet_json_serializer::{JsonSerializeError, JsonSerializer};
+use std::alloc::Global;
+
+/// A type that is read from JSON (RFC 8259, sections 3 to 7) and written as JSON. The input lives for `'de`.
+///
+/// ```text
+/// let mut parser = JsonParser::new(alloc, b"true,");
+/// <bool as Facet>::read_owned(alloc, &mut parser)     Ok: true, and the parser is after the value
+/// true.write(&mut serializer)                         Ok: true is written
+/// ```
+///
+/// What a value means is said by the ghost members: `view`, what is seen of a value, since a `String` carries a capacity beside
+/// its text; `reading` and `reading_borrowed`, what a node of a buffer is read as, if as anything; `tree_of`, as what tree it is
+/// written; `readable`, which values come back from their text; and `whole`, whether an input is read only where it has a document.
+pub trait Facet<'de>: Sized + Drop {
+    ghost use Rattle.std.specs.Prelude.{ℕ, Bool, List, Option};
+    ghost use Rattle.facet_json_document.specs.Node.{Node};
+    ghost use Rattle.facet_json_document.specs.Tree.{Tree};
+    ghost use Rattle.facet_json_meaning.specs.Laws.{SameReading, ReadsBack};
+
+    /// What is seen of values.
+    ghost View: { Type 0 };
+
+    /// What is seen of a value.
+    ghost view: { Self → View };
+
+    /// As what a node of a buffer is read, where nothing of the input is borrowed.
+    ghost reading: { List ℕ → Node → Option View };
+
+    /// As what a node of a buffer is read, where the input may be borrowed.
+    ghost reading_borrowed: { List ℕ → Node → Option View };
+
+    /// The tree as which a value is written.
+    ghost tree_of: { View → Tree };
+
+    /// The value comes back from its text.
+    ghost readable: { View → Type 0 };
+
+    /// Reading at the start of an input goes well only where the input has a document.
+    ghost whole: { Bool };
+
+    /// Reads the value before which the parser stands, and borrows nothing of the input.
+    ///
+    /// # Errors
+    ///
+    /// What stands there is no value of the type: `TypeMismatch`, `NumberOutOfRange`, `InvalidValue` or `MissingField`. Or no
+    /// document goes on there, as the parser says. Or out of memory.
+    fn read_owned<'t>(
+        alloc: Global,
+        parser: &mut JsonParser<'de>,
+    ) -> Result<Self, DeserializeError<'t>>
+        ensures read { IfOk result (λ v. IsRead reading parser.old (view v) parser.new) }
+        ensures unread { IfErr result (λ e. IsUnread reading parser.old (refusal_of e)) }
+        ensures document { whole ≡ true → OnOk result (HasDocument parser.old) }
+        ensures keeps { KeepsOn parser.old parser.new }
+        ensures shorter { OnOk result (ahead parser.new < ahead parser.old) }
+        ensures within { IfErr result (λ e. RefusalWithin parser.new.buffer (refusal_of e)) };
+
+    /// Reads the value before which the parser stands, and may borrow of the input.
+    ///
+    /// # Errors
+    ///
+    /// As `read_owned`.
+    fn read<'t>(
+        alloc: Global,
+        parser: &mut JsonParser<'de>,
+    ) -> Result<Self, DeserializeError<'t>>
+        ensures read { IfOk result (λ v. IsRead reading_borrowed parser.old (view v) parser.new) }
+        ensures unread { IfErr result (λ e. IsUnread reading_borrowed parser.old (refusal_of e)) }
+        ensures document { whole ≡ true → OnOk result (HasDocument parser.old) }
+        ensures keeps { KeepsOn parser.old parser.new }
+        ensures shorter { OnOk result (ahead parser.new < ahead parser.old) }
+        ensures within { IfErr result (λ e. RefusalWithin parser.new.buffer (refusal_of e)) };
+
+    /// Writes the value, where a value stands, in the layout of the serializer's options.
+    ///
+    /// # Errors
+    ///
+    /// `OutOfMemory` alone; the serializer is then out of memory for good.
+    fn write(&self, serializer: &mut JsonSerializer<'_>) -> Result<(), JsonSerializeError>
+        ensures written { OnOk result (HasWritten serializer.old (tree_of (view self.now)) serializer.new) }
+        ensures refused { IfErr result (λ e. writing_refusal_of e ≡ out_of_memory) }
+        ensures spent { OnErr result (serializer.new ≡ None) }
+        ensures of_rust { OnOk result (IsOfRust (tree_of (view self.now))) };
+
+    /// Nodes that the same bytes spell have the same reading.
+    ghost same_reading: { SameReading reading };
+
+    /// The same where the input may be borrowed.
+    ghost same_reading_borrowed: { SameReading reading_borrowed };
+
+    /// The text of a readable value reads as the value.
+    ghost reads_back: { ReadsBack reading tree_of readable };
+}

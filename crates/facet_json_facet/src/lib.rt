@@ -1,0 +1,11 @@
+//! Types that are read from JSON and written as JSON: the trait `Facet`, and the types of std that have it. What it means that a
+//! type is read is defined in `facet_json_meaning`. The parser that they read from is `JsonParser`, and the serializer that they
+//! write to is `JsonSerializer`.
+#![tactic(auto)]
+
+mod facet;
+mod next;
+mod texts;
+mod truth;
+
+pub use facet::Facet;

@@ -1,0 +1,23 @@
+-- What the next event does on a walk.
+use Rattle.std.specs.Prelude.{◌≡◌, ℕ, suc, slice_get, Some, None}
+use Rattle.facet_format.specs.Complaint.{Refusal}
+use Rattle.facet_format.specs.Event.{Event, Passed}
+use Rattle.facet_format.specs.Cursor.{Cursor, Source, at_spot, unpeeked}
+use Rattle.facet_json_protocol.specs.Now.{Now, StandsAt}
+use Rattle.facet_json_transcode.specs.Reading.{LacksMemory}
+
+-- The event stands at the cursor's place, and is passed.
+pub record PassesEvent (w : Source) (c : Cursor ℕ) (given : Event) (new : Now) : Type 0 where
+  pub passed : Passed
+  pub at_place : slice_get w.events c.spot.place ≡ Some passed
+  pub same : passed.event ≡ given
+  pub stands : StandsAt new w (at_spot c (unpeeked (suc c.spot.place)))
+
+-- Wherever the parser stands on a walk and is not refused, the event stands there, and is passed.
+abbrev pub WalksPast : Now → Event → Now → Type 0
+WalksPast old given new = (w : Source) (c : Cursor ℕ) → StandsAt old w c → c.refusal ≡ None → PassesEvent w c given new
+
+-- Wherever the parser stands before an event of a walk and is not refused, memory ran out.
+pub record LacksAlone (old : Now) (refusal : Refusal) : Type 0 where
+  pub lacks : (w : Source) (c : Cursor ℕ) (p : Passed) → StandsAt old w c → c.refusal ≡ None →
+      slice_get w.events c.spot.place ≡ Some p → LacksMemory refusal

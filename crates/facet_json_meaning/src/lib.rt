@@ -1,0 +1,3 @@
+//! What it means that a type is read from JSON and written as JSON: definitions, with their laws, and no code that runs. The types
+//! and the code are in `facet_json_facet`.
+#![tactic(auto)]

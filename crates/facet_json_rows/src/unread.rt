@@ -1,0 +1,82 @@
+//! Skips and captures at each place of an input.
+
+use crate::shown::{Telling, error_shown, push};
+use facet_format::{FormatParser, ParseError};
+use facet_json::JsonParser;
+use std::alloc::{AllocError, Global};
+
+/// A call that passes what comes, its text unread.
+#[derive(Clone, Copy)]
+pub enum Unread {
+    Skip,
+    Capture,
+}
+
+/// What the call does wherever an event of an input of so many bytes comes, and at the end: the last token after a skip, and how
+/// many bytes a capture answers. The events are passed one by one.
+pub fn tell_parts(
+    alloc: Global,
+    parser: &mut JsonParser<'_>,
+    call: Unread,
+    is_peeked: bool,
+    len: usize,
+    told: &mut String,
+) -> Result<(), AllocError> {
+    for _ in 0..=len {
+        tell_part(alloc, parser, call, is_peeked, told)?;
+        if !matches!(parser.next_event(), Ok(Some(_))) {
+            return Ok(());
+        }
+    }
+    push(told, "no end", Telling::All)
+}
+
+/// What the call does where the parser stands, which stands there afterwards.
+fn tell_part(
+    alloc: Global,
+    parser: &mut JsonParser<'_>,
+    call: Unread,
+    is_peeked: bool,
+    told: &mut String,
+) -> Result<(), AllocError> {
+    let Ok(point) = parser.save() else {
+        return push(told, "no point", Telling::All);
+    };
+    if is_peeked {
+        let _ = parser.peek_event();
+    }
+    let text = passed(alloc, parser, call)?;
+    parser.restore(point);
+    push(told, text.as_str(), Telling::All)
+}
+
+/// What the call passes, or its refusal.
+fn passed(alloc: Global, parser: &mut JsonParser<'_>, call: Unread) -> Result<String, AllocError> {
+    match call {
+        Unread::Skip => match parser.skip_value() {
+            Ok(()) => span_shown(alloc, parser),
+            Err(error) => error_shown(alloc, &error),
+        },
+        Unread::Capture => captured_shown(alloc, parser.capture_raw()),
+    }
+}
+
+/// The last token.
+fn span_shown(alloc: Global, parser: &JsonParser<'_>) -> Result<String, AllocError> {
+    match parser.current_span() {
+        Some(span) => format!(in alloc; "{}+{}", span.offset, span.len),
+        None => "no span".to_string(alloc),
+    }
+}
+
+/// How many bytes are captured, or the refusal.
+fn captured_shown(
+    alloc: Global,
+    captured: Result<Option<&str>, ParseError<'_>>,
+) -> Result<String, AllocError> {
+    match captured {
+        Ok(Some(text)) => format!(in alloc; "{} bytes", text.len()),
+        Ok(None) => "no raw text".to_string(alloc),
+        Err(error) => error_shown(alloc, &error),
+    }
+}

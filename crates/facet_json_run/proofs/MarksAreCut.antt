@@ -1,0 +1,59 @@
+-- A bracket, a comma or a colon is cut where it stands: no gap is before it.
+use Rattle.std.proofs.Common.{◌≡◌, ℕ, ◌+◌, List, [], ◌∷◌, drop, slice_get, Some, Result, IfOk, refl, ap, ◌∙◌, arith}
+use Rattle.facet_json_token.specs.declared.token.Token.TheVariants as code
+use Rattle.facet_json_token.specs.declared.token.SpannedToken.{SpannedToken}
+use Rattle.facet_json_token.specs.declared.token.ScanError.{ScanError}
+use Rattle.facet_json_token.specs.Views.{scanned}
+use Rattle.facet_json_token.specs.Gap.{Mode, plain, jsonc, whole, gap_len, gap_len_from}
+use Rattle.facet_json_token.specs.Token.{Kind}
+use Rattle.facet_json_token.specs.Cut.{IsStructural, object_starts, object_ends, array_starts, array_ends, colon_stands, comma_stands, punctuation, start_of, token_at, cut_here, past_gap, cut}
+use Rattle.facet_json_token.proofs.FirstBytes.{cut_here-by, no_end}
+use Rattle.facet_json_token.proofs.Offsets.{drop-at_byte}
+
+-- No gap begins with such a byte.
+no_gap : (mode : Mode) (b : ℕ) (kind : Kind) (rest : List ℕ) → IsStructural b kind → gap_len mode whole (b ∷ rest) ≡ 0
+unfolding gap_len_from
+no_gap plain _ _ rest object_starts = refl
+no_gap plain _ _ rest object_ends = refl
+no_gap plain _ _ rest array_starts = refl
+no_gap plain _ _ rest array_ends = refl
+no_gap plain _ _ rest colon_stands = refl
+no_gap plain _ _ rest comma_stands = refl
+no_gap jsonc _ _ [] object_starts = refl
+no_gap jsonc _ _ (c ∷ rest) object_starts = refl
+no_gap jsonc _ _ [] object_ends = refl
+no_gap jsonc _ _ (c ∷ rest) object_ends = refl
+no_gap jsonc _ _ [] array_starts = refl
+no_gap jsonc _ _ (c ∷ rest) array_starts = refl
+no_gap jsonc _ _ [] array_ends = refl
+no_gap jsonc _ _ (c ∷ rest) array_ends = refl
+no_gap jsonc _ _ [] colon_stands = refl
+no_gap jsonc _ _ (c ∷ rest) colon_stands = refl
+no_gap jsonc _ _ [] comma_stands = refl
+no_gap jsonc _ _ (c ∷ rest) comma_stands = refl
+
+-- It begins the token of its kind.
+begins_mark : (b : ℕ) (kind : Kind) → IsStructural b kind → start_of b ≡ punctuation kind
+unfolding start_of
+begins_mark _ _ object_starts = refl
+begins_mark _ _ object_ends = refl
+begins_mark _ _ array_starts = refl
+begins_mark _ _ array_ends = refl
+begins_mark _ _ colon_stands = refl
+begins_mark _ _ comma_stands = refl
+
+-- Where it stands at a position, it is cut there.
+pub mark-is_cut : (buffer : List ℕ) (at b : ℕ) (mode : Mode) (kind : Kind) → IsStructural b kind → slice_get buffer at ≡ Some b →
+    token_at kind at 1 ≡ cut buffer at mode
+unfolding cut
+mark-is_cut buffer at b mode kind is here =
+    let gap : gap_len mode whole (drop at buffer) ≡ 0 =
+    ap (gap_len mode whole) (drop-at_byte buffer at b here) ∙ no_gap mode b kind (drop (at + 1) buffer) is in
+    let past : at ≡ past_gap buffer at mode = omega (arith, gap) in
+    cut_here-by mode buffer at b (punctuation kind) here (begins_mark b kind is)
+    ∙ ap (λ n. cut_here mode n (drop n buffer)) past
+
+-- Such an answer is not the end.
+pub mark-no_end : (answer : Result SpannedToken ScanError) (kind : Kind) (at : ℕ) (P : SpannedToken → Type 0) →
+    scanned answer ≡ Some (token_at kind at 1) → IfOk answer (λ t. t.token ≡ code.Eof → P t)
+mark-no_end answer kind at P e = no_end answer (token_at kind at 1) P e (λ same. cc)

@@ -1,0 +1,25 @@
+-- Numbers and indents that are written one after the other.
+use Rattle.std.proofs.Common.{◌≡◌, ℕ, zero, suc, Bool, true, false, List, [], ◌∷◌, ◌++◌, refl, sym, ap, ◌∙◌, append_assoc, append-nil}
+use Rattle.facet_json_document.specs.Text.{numbers, more_numbers, indents, separator}
+use Rattle.std.specs.Fmt.{decimal}
+
+-- so many indents and one more
+pub indents-one_more : (n : ℕ) (indent : List ℕ) → indents n indent ++ indent ≡ indents (suc n) indent
+indents-one_more zero indent = sym (append-nil indent)
+indents-one_more (suc n) indent = append_assoc indent (indents n indent) indent ∙ ap (λ s. indent ++ s) (indents-one_more n indent)
+
+-- the numbers that are still to be written, the first of all or later ones
+abbrev pub numbers_on : Bool → List ℕ → List ℕ
+numbers_on true bytes = numbers bytes
+numbers_on false bytes = more_numbers bytes
+
+-- one of them is a separator and its digits
+pub numbers_on-step : (first : Bool) (b : ℕ) (others : List ℕ)
+    → numbers_on first (b ∷ others) ≡ separator first ++ decimal b ++ numbers_on false others
+numbers_on-step true b others = refl
+numbers_on-step false b others = refl
+
+-- none is nothing
+pub numbers_on-end : (first : Bool) → numbers_on first [] ≡ []
+numbers_on-end true = refl
+numbers_on-end false = refl

@@ -1,0 +1,5 @@
+pub mod ByteTexts
+pub mod CallsTaken
+pub mod Outcomes
+pub mod Settled
+pub mod TreesByCalls

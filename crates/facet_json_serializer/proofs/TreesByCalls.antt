@@ -1,0 +1,93 @@
+-- A tree's calls append its text.
+use Rattle.std.proofs.Common.{◌≡◌, ℕ, suc, Bool, true, false, List, [], ◌∷◌, ◌++◌, length, refl, sym, ap, ◌∙◌, append_assoc, append-nil}
+use Rattle.facet_format.specs.Bytes.{left_bracket, left_brace}
+use Rattle.facet_json_document.specs.Quoted.{quoted}
+use Rattle.facet_json_document.specs.Text.{Options, text, items_text, members_text, new_line, separator, colon_text}
+use Rattle.facet_json_document.specs.Tree.{Tree, null, unit, bool, char, i64, u64, i128, u128, decimal, bytes, raw, list, pairs, Trees, no_trees, tree, Pairs, no_pairs, pair}
+use Rattle.facet_json_document.specs.Tree as trees
+use Rattle.facet_format.specs.SerializerCall.{Call, end_seq, end_struct}
+use Rattle.facet_json_serializer.specs.Serializer.{Opened, in_struct, in_list, Writing, before_value, after_value}
+use Rattle.facet_json_serializer.specs.TreeCalls.{after_calls, tree_calls, item_calls, member_calls, TreeByCalls}
+
+-- so many are open before a value as after it
+length-after_value : (stack : List Opened) → length (after_value stack) ≡ length stack
+length-after_value [] = refl
+length-after_value (in_struct first ∷ around) = refl
+length-after_value (in_list first ∷ around) = refl
+
+-- the text of what is left
+at : Options → List Opened → List ℕ → Writing
+at o stack written = record { options = o; stack = stack; written = written }
+
+mutual
+  unfolding at after_calls tree_calls item_calls member_calls text items_text members_text
+
+  tree_then : (o : Options) (stack : List Opened) (written : List ℕ) (t : Tree) (rest : List Call)
+      → after_calls (at o stack written) (tree_calls t ++ rest)
+      ≡ after_calls (at o (after_value stack) (written ++ (before_value o stack ++ text o (length stack) t))) rest
+  tree_then o stack written null rest = refl
+  tree_then o stack written unit rest = refl
+  tree_then o stack written (bool b) rest = refl
+  tree_then o stack written (char c) rest = refl
+  tree_then o stack written (i64 n) rest = refl
+  tree_then o stack written (u64 n) rest = refl
+  tree_then o stack written (i128 n) rest = refl
+  tree_then o stack written (u128 n) rest = refl
+  tree_then o stack written (decimal t) rest = refl
+  tree_then o stack written (trees.text t) rest = refl
+  tree_then o stack written (bytes b) rest = refl
+  tree_then o stack written (raw t) rest = refl
+  tree_then o stack written (list items) rest =
+      let before = before_value o stack in
+      let begun = written ++ (before ++ left_bracket ∷ []) in
+      ap (λ calls. after_calls (at o (in_list true ∷ after_value stack) begun) calls) (append_assoc (item_calls items) (end_seq ∷ []) rest)
+      ∙ items_then o (after_value stack) true begun items rest
+      ∙ ap (λ n. after_calls (at o (after_value stack) (begun ++ items_text o n true items)) rest) (length-after_value stack)
+      ∙ ap (λ s. after_calls (at o (after_value stack) s) rest)
+      (append_assoc written (before ++ left_bracket ∷ []) (items_text o (length stack) true items)
+      ∙ ap (λ s. written ++ s) (append_assoc before (left_bracket ∷ []) (items_text o (length stack) true items)))
+  tree_then o stack written (pairs members) rest =
+      let before = before_value o stack in
+      let begun = written ++ (before ++ left_brace ∷ []) in
+      ap (λ calls. after_calls (at o (in_struct true ∷ after_value stack) begun) calls) (append_assoc (member_calls members) (end_struct ∷ []) rest)
+      ∙ members_then o (after_value stack) true begun members rest
+      ∙ ap (λ n. after_calls (at o (after_value stack) (begun ++ members_text o n true members)) rest) (length-after_value stack)
+      ∙ ap (λ s. after_calls (at o (after_value stack) s) rest)
+      (append_assoc written (before ++ left_brace ∷ []) (members_text o (length stack) true members)
+      ∙ ap (λ s. written ++ s) (append_assoc before (left_brace ∷ []) (members_text o (length stack) true members)))
+
+  items_then : (o : Options) (around : List Opened) (first : Bool) (written : List ℕ) (items : Trees) (rest : List Call)
+      → after_calls (at o (in_list first ∷ around) written) (item_calls items ++ end_seq ∷ rest)
+      ≡ after_calls (at o around (written ++ items_text o (length around) first items)) rest
+  items_then o around first written no_trees rest = refl
+  items_then o around first written (tree t others) rest =
+      let depth = length around in
+      let before = separator first ++ new_line o (suc depth) in
+      let item = text o (suc depth) t in
+      ap (λ calls. after_calls (at o (in_list first ∷ around) written) calls) (append_assoc (tree_calls t) (item_calls others) (end_seq ∷ rest))
+      ∙ tree_then o (in_list first ∷ around) written t (item_calls others ++ end_seq ∷ rest)
+      ∙ items_then o around false (written ++ (before ++ item)) others rest
+      ∙ ap (λ s. after_calls (at o around s) rest) (append_assoc written (before ++ item) (items_text o depth false others))
+
+  members_then : (o : Options) (around : List Opened) (first : Bool) (written : List ℕ) (members : Pairs) (rest : List Call)
+      → after_calls (at o (in_struct first ∷ around) written) (member_calls members ++ end_struct ∷ rest)
+      ≡ after_calls (at o around (written ++ members_text o (length around) first members)) rest
+  members_then o around first written no_pairs rest = refl
+  members_then o around first written (pair key value others) rest =
+      let depth = length around in
+      let named = separator first ++ new_line o (suc depth) ++ quoted key ++ colon_text o in
+      let item = text o (suc depth) value in
+      ap (λ calls. after_calls (at o (in_struct false ∷ around) (written ++ named)) calls)
+      (append_assoc (tree_calls value) (member_calls others) (end_struct ∷ rest))
+      ∙ tree_then o (in_struct false ∷ around) (written ++ named) value (member_calls others ++ end_struct ∷ rest)
+      ∙ members_then o around false ((written ++ named) ++ item) others rest
+      ∙ ap (λ s. after_calls (at o around s) rest)
+      (append_assoc (written ++ named) item (members_text o depth false others)
+      ∙ append_assoc written named (item ++ members_text o depth false others)
+      ∙ ap (λ s. written ++ s) (sym (append_assoc named item (members_text o depth false others))))
+
+-- a tree's calls by themselves
+pub tree_by_calls : TreeByCalls
+unfolding at after_calls
+tree_by_calls w t =
+    ap (λ calls. after_calls w calls) (sym (append-nil (tree_calls t))) ∙ tree_then w.options w.stack w.written t []

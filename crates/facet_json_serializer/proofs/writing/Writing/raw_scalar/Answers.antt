@@ -1,0 +1,20 @@
+use Rattle.std.proofs.Common.{◌++◌, refl, ap, ◌∙◌}
+use Rattle.std.proofs.lemmas.Result.{err_from_is_err_and}
+use Rattle.facet_json_serializer.specs.Writes.{runs_out}
+use Rattle.facet_json_serializer.proofs.Outcomes.{wrote, value_written}
+use Rattle.facet_json_serializer.proofs.writing.Writing.raw_scalar.Goals as goal
+
+pub returns-in_err-begin_value : goal.returns-in_err-begin_value
+returns-in_err-begin_value c =
+    let p = err_from_is_err_and c.from_residual.result c.from_residual.ensures.1 in
+    rw (p.1, p.2) (runs_out _ _ _ _ refl)
+
+pub returns-in_err-push_bytes : goal.returns-in_err-push_bytes
+returns-in_err-push_bytes c =
+    let p = err_from_is_err_and c.from_residual-in_err-push_bytes.result c.from_residual-in_err-push_bytes.ensures.1 in
+    rw (p.1, p.2) (runs_out _ _ _ _ refl)
+
+pub returns : goal.returns
+returns c =
+    let all = c.in_ok-push_bytes.ensures ∙ ap (λ t. c.begin_value.new.self.out.items ++ t) c.as_bytes.ensures.value in
+    wrote _ _ _ _ refl (value_written _ _ (λ o. c.args.json.now) _ c.in_ok-begin_value.ensures all)

@@ -1,0 +1,27 @@
+-- What the types of the code stand for in the definitions. The one file of the definitions that names types of the code.
+use Rattle.std.specs.Prelude.{Bool, Result, Ok, Err}
+use Rattle.facet_json_serializer.specs.declared.error.JsonSerializeError.{JsonSerializeError}
+use Rattle.facet_json_serializer.specs.declared.error.JsonSerializeError.TheVariants as error
+use Rattle.facet_json_serializer.specs.declared.writing.Writing.{Writing as RustWriting}
+use Rattle.facet_json_options.specs.Views.{options_of}
+use Rattle.facet_json_serializer.specs.Serializer.{Writing, Refusal, misfits, key_outside_struct, no_struct_to_end, no_list_to_end, out_of_memory}
+
+abbrev pub refusal_of : JsonSerializeError → Refusal
+refusal_of error.KeyOutsideStruct = misfits key_outside_struct
+refusal_of error.NoStructToEnd = misfits no_struct_to_end
+refusal_of error.NoListToEnd = misfits no_list_to_end
+refusal_of error.OutOfMemory = out_of_memory
+
+-- a serializer that has not run out of memory
+abbrev pub writing_of : RustWriting → Writing
+writing_of w = record { options = options_of w.options; stack = w.stack; written = w.out.items }
+
+-- what a call answers
+abbrev pub answer_of : Result (Unit {0}) JsonSerializeError → Result (Unit {0}) Refusal
+answer_of (Ok nothing) = Ok tt
+answer_of (Err e) = Err (refusal_of e)
+
+-- what a call on bytes answers, whether or not it says that they were written
+abbrev pub bytes_answer_of : Result Bool JsonSerializeError → Result (Unit {0}) Refusal
+bytes_answer_of (Ok done) = Ok tt
+bytes_answer_of (Err e) = Err (refusal_of e)

@@ -1,0 +1,60 @@
+//! Appending a value that holds no others.
+
+ghost use Rattle.std.specs.Prelude.{◌≡◌, ◌++◌, OnOk};
+ghost use Rattle.std.specs.Char.{encode_utf8};
+ghost use Rattle.facet_format.specs.Views.{scalar_value_of};
+ghost use Rattle.facet_json_document.specs.Quoted.{quoted};
+ghost use Rattle.facet_json_document.specs.Text.{bool_text};
+ghost use Rattle.facet_json_serializer.specs.Serializer.{scalar_text};
+ghost use Rattle.facet_json_options.specs.Views.{options_of};
+
+use crate::append::{push_bytes, push_number};
+use crate::bytes_text::push_bytes_text;
+use facet_format::ScalarValue;
+use facet_json_escape::push_quoted;
+use facet_json_options::SerializeOptions;
+use std::alloc::AllocError;
+
+/// Appends the text of a value.
+#[tactic(auto, unfolding(facet_json_document::specs::Text::text))]
+pub(crate) fn push_scalar(
+    out: &mut Vec<u8>,
+    options: &SerializeOptions<'_>,
+    value: &ScalarValue<'_>,
+) -> Result<(), AllocError>
+    ensures { OnOk result (out.new.items
+        ≡ out.old.items ++ scalar_text (options_of options.now) (scalar_value_of value.now)) }
+{
+    match value {
+        ScalarValue::Null => push_bytes(out, b"null"),
+        ScalarValue::Unit => push_bytes(out, b"null"),
+        ScalarValue::Bool(b) => push_bool(out, *b),
+        ScalarValue::Char(c) => push_char(out, *c),
+        ScalarValue::I64(n) => push_number(out, *n),
+        ScalarValue::U64(n) => push_number(out, *n),
+        ScalarValue::I128(n) => push_number(out, *n),
+        ScalarValue::U128(n) => push_number(out, *n),
+        ScalarValue::Decimal(decimal) => push_bytes(out, decimal.as_str().as_bytes()),
+        ScalarValue::Str(text) => push_quoted(out, text.as_str()),
+        ScalarValue::Bytes(bytes) => push_bytes_text(out, options.bytes_format, *bytes),
+    }
+}
+
+/// Appends a truth value.
+fn push_bool(out: &mut Vec<u8>, b: bool) -> Result<(), AllocError>
+    ensures { OnOk result (out.new.items ≡ out.old.items ++ bool_text b) }
+{
+    if b {
+        push_bytes(out, b"true")
+    } else {
+        push_bytes(out, b"false")
+    }
+}
+
+/// Appends the text of one character, between quotes.
+fn push_char(out: &mut Vec<u8>, c: char) -> Result<(), AllocError>
+    ensures { OnOk result (out.new.items ≡ out.old.items ++ quoted (encode_utf8 c)) }
+{
+    let mut buffer = [0; 4];
+    push_quoted(out, c.encode_utf8(&mut buffer))
+}

@@ -1,0 +1,149 @@
+//! A text that is written while memory suffices: what each call appends, and what it leaves open.
+
+ghost use Rattle.std.specs.Prelude.{◌≡◌, [], OnOk};
+ghost use Rattle.facet_format.specs.Views.{scalar_value_of};
+ghost use Rattle.facet_format.specs.SerializerCall as calls;
+ghost use Rattle.facet_json_options.specs.Views.{options_of};
+ghost use Rattle.facet_json_serializer.specs.Views.{writing_of, answer_of};
+ghost use Rattle.facet_json_serializer.specs.Writes.{Writes, value_begun};
+
+use crate::append::push_bytes;
+use crate::bytes_text::push_bytes_text;
+use crate::containers::{Container, Containers};
+use crate::error::JsonSerializeError;
+use crate::layout::{push_colon, push_line, push_line_at_end, push_separator};
+use crate::scalar_text::push_scalar;
+use facet_format::ScalarValue;
+use facet_json_escape::push_quoted;
+use facet_json_options::SerializeOptions;
+use std::alloc::{AllocError, Global};
+
+/// The options, the containers that are open, and the text so far.
+#[derive(Debug, Drop)]
+pub(crate) struct Writing<'i> {
+    pub(crate) options: SerializeOptions<'i>,
+    pub(crate) stack: Containers,
+    pub(crate) out: Vec<u8>,
+}
+
+impl<'i> Writing<'i> {
+    /// Nothing is written, and nothing is open. It does not allocate.
+    pub(crate) fn new(alloc: Global, options: SerializeOptions<'i>) -> Writing<'i>
+        ensures { writing_of result ≡ record { options = options_of options.entry; stack = []; written = [] } }
+    {
+        Writing {
+            options,
+            stack: Containers::new(alloc),
+            out: Vec::new(alloc),
+        }
+    }
+
+    /// Appends what stands before a value.
+    #[inline(always)]
+    fn begin_value(&mut self) -> Result<(), AllocError>
+        ensures { OnOk result (writing_of self.new ≡ value_begun (writing_of self.old)) }
+    {
+        let Some(is_empty) = self.stack.list_mark() else {
+            return Ok(());
+        };
+        let depth = self.stack.around() + 1;
+        push_separator(&mut self.out, is_empty)?;
+        push_line(&mut self.out, &self.options, depth)?;
+        if is_empty {
+            self.stack.pass_first();
+        }
+        Ok(())
+    }
+
+    /// Begins a struct.
+    pub(crate) fn begin_struct(&mut self) -> Result<(), JsonSerializeError>
+        ensures { Writes (writing_of self.old) calls.begin_struct (answer_of result) (writing_of self.new) }
+    {
+        self.begin_value()?;
+        self.stack.push(Container::Struct { first: true })?;
+        push_bytes(&mut self.out, b"{")?;
+        Ok(())
+    }
+
+    /// Begins a list.
+    pub(crate) fn begin_seq(&mut self) -> Result<(), JsonSerializeError>
+        ensures { Writes (writing_of self.old) calls.begin_seq (answer_of result) (writing_of self.new) }
+    {
+        self.begin_value()?;
+        self.stack.push(Container::List { first: true })?;
+        push_bytes(&mut self.out, b"[")?;
+        Ok(())
+    }
+
+    /// Writes a key of the innermost struct.
+    pub(crate) fn field_key(&mut self, key: &str) -> Result<(), JsonSerializeError>
+        ensures { Writes (writing_of self.old) (calls.field_key key.now) (answer_of result) (writing_of self.new) }
+    {
+        let Some(first) = self.stack.struct_mark() else {
+            return Err(JsonSerializeError::KeyOutsideStruct);
+        };
+        let depth = self.stack.around() + 1;
+        push_separator(&mut self.out, first)?;
+        push_line(&mut self.out, &self.options, depth)?;
+        push_quoted(&mut self.out, key)?;
+        push_colon(&mut self.out, &self.options)?;
+        self.stack.pass_first();
+        Ok(())
+    }
+
+    /// Ends the innermost struct.
+    pub(crate) fn end_struct(&mut self) -> Result<(), JsonSerializeError>
+        ensures { Writes (writing_of self.old) calls.end_struct (answer_of result) (writing_of self.new) }
+    {
+        let Some(first) = self.stack.struct_mark() else {
+            return Err(JsonSerializeError::NoStructToEnd);
+        };
+        let depth = self.stack.around();
+        push_line_at_end(&mut self.out, &self.options, depth, first)?;
+        push_bytes(&mut self.out, b"}")?;
+        self.stack.pop();
+        Ok(())
+    }
+
+    /// Ends the innermost list.
+    pub(crate) fn end_seq(&mut self) -> Result<(), JsonSerializeError>
+        ensures { Writes (writing_of self.old) calls.end_seq (answer_of result) (writing_of self.new) }
+    {
+        let Some(first) = self.stack.list_mark() else {
+            return Err(JsonSerializeError::NoListToEnd);
+        };
+        let depth = self.stack.around();
+        push_line_at_end(&mut self.out, &self.options, depth, first)?;
+        push_bytes(&mut self.out, b"]")?;
+        self.stack.pop();
+        Ok(())
+    }
+
+    /// Writes a value that holds no others.
+    pub(crate) fn scalar(&mut self, value: &ScalarValue<'_>) -> Result<(), JsonSerializeError>
+        ensures { Writes (writing_of self.old) (calls.scalar (scalar_value_of value.now)) (answer_of result) (writing_of self.new) }
+    {
+        self.begin_value()?;
+        push_scalar(&mut self.out, &self.options, value)?;
+        Ok(())
+    }
+
+    /// Writes a value whose JSON text is given.
+    #[inline(always)]
+    pub(crate) fn raw_scalar(&mut self, json: &str) -> Result<(), JsonSerializeError>
+        ensures { Writes (writing_of self.old) (calls.raw_scalar json.now) (answer_of result) (writing_of self.new) }
+    {
+        self.begin_value()?;
+        push_bytes(&mut self.out, json.as_bytes())?;
+        Ok(())
+    }
+
+    /// Writes bytes by their format.
+    pub(crate) fn bytes(&mut self, bytes: &[u8]) -> Result<(), JsonSerializeError>
+        ensures { Writes (writing_of self.old) (calls.byte_sequence bytes.now) (answer_of result) (writing_of self.new) }
+    {
+        self.begin_value()?;
+        push_bytes_text(&mut self.out, self.options.bytes_format, bytes)?;
+        Ok(())
+    }
+}

@@ -1,0 +1,20 @@
+//! Tests of `facet_json_serializer`: with ample memory calls write their texts, refusals have theirs, refused growths stick, and
+//! generic code over serializers; and of trees between its calls (`facet_json_write`).
+#![tactic(auto)]
+
+#[cfg(test)]
+mod byte_texts;
+#[cfg(test)]
+mod calls;
+#[cfg(test)]
+mod escapes;
+#[cfg(test)]
+mod generic;
+#[cfg(test)]
+mod growth;
+#[cfg(test)]
+mod options;
+#[cfg(test)]
+mod trees;
+#[cfg(test)]
+mod written;

@@ -1,0 +1,9 @@
+//! What stands where a reader goes on, its text unread, and how it is passed: a value with all that it holds, a key with its
+//! colon, or a closing bracket.
+#![tactic(auto)]
+
+mod part;
+mod passing;
+
+pub use part::{Part, find};
+pub use passing::{capture, leave, pass};

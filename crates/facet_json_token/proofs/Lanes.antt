@@ -1,0 +1,59 @@
+-- A mask that is computed lane by lane is held to a predicate at each of the 256 bytes.
+use Rattle.std.proofs.Common.{◌≡◌, ℕ, zero, suc, ◌%◌, ◌^◌, ◌<◌, ◌≤◌, ltb, Bool, true, false, not, ◌&&◌, cond, eqb, T, ◌⊎◌, inl, inr, List, [], ◌∷◌, map, length, refl, sym, ap, ap₂, subst, ◌∙◌, arith, w8, Fits, not-suc-le-zero}
+use Rattle.std.proofs.lemmas.Simd.{mask_l-mod}
+use Rattle.std.proofs.lemmas.List.{length-map}
+use Rattle.std.proofs.lemmas.Bool.{cases_order}
+use lib.Bits.{bit_or}
+use lib.Lanes.{zip2, mask_l, top, Each1}
+
+-- a lane of `simd_eq`
+abbrev pub equal : ℕ → ℕ → ℕ
+equal a b = cond (eqb a b) 255 0
+
+-- a lane of `simd_lt`
+abbrev pub below : ℕ → ℕ → ℕ
+below a b = cond (ltb a b) 255 0
+
+zip2-map : (f g : ℕ → ℕ) (xs : List ℕ) → zip2 bit_or (map f xs) (map g xs) ≡ map (λ x. bit_or (f x) (g x)) xs
+zip2-map f g [] = refl
+zip2-map f g (x ∷ xs) = ap (λ r. bit_or (f x) (g x) ∷ r) (zip2-map f g xs)
+
+pub either : (f g : ℕ → ℕ) (v : List ℕ) {a b : List ℕ} → a ≡ map f v → b ≡ map g v → zip2 bit_or a b ≡ map (λ x. bit_or (f x) (g x)) v
+either f g v p q = ap₂ (zip2 bit_or) p q ∙ zip2-map f g v
+
+-- a fact of each number below n, by computation
+abbrev pub upto : (ℕ → Bool) → ℕ → Bool
+upto p zero = true
+upto p (suc n) = p n && upto p n
+
+both : (a b : Bool) → T (a && b) → T a × T b
+both true b h = (tt, h)
+both false b h = absurd h
+
+upto_sound : (p : ℕ → Bool) (n : ℕ) → T (upto p n) → (i : ℕ) → i < n → T (p i)
+upto_sound p zero h i lt = absurd (not-suc-le-zero lt)
+upto_sound p (suc n) h i lt = go (upto_sound p n (both (p n) (upto p n) h).1 i) (cases_order i n)
+  where
+    go : (i < n → T (p i)) → (i ≡ n) ⊎ ((i < n) ⊎ (n < i)) → T (p i)
+    go below (inl e) = subst (λ x. T (p x)) (sym e) (both (p n) (upto p n) h).0
+    go below (inr (inl l)) = below l
+    go below (inr (inr g)) = let no : ⊥ = omega arith in absurd no
+
+abbrev pub same : Bool → Bool → Bool
+same true b = b
+same false b = not b
+
+same_is : (a b : Bool) → T (same a b) → a ≡ b
+same_is true true h = refl
+same_is false false h = refl
+same_is true false h = absurd h
+same_is false true h = absurd h
+
+each_byte : (f : ℕ → ℕ) (p : ℕ → Bool) → T (upto (λ x. same (top 7 (f x)) (p x)) 256) → (v : List ℕ) → Each1 (Fits w8) v → map (top 7) (map f v) ≡ map p v
+each_byte f p all [] fits = refl
+each_byte f p all (x ∷ xs) fits = ap₂ (λ a b. a ∷ b) (same_is _ _ (upto_sound (λ y. same (top 7 (f y)) (p y)) 256 all x fits.0.fits)) (each_byte f p all xs fits.1)
+
+pub masked : (f : ℕ → ℕ) (p : ℕ → Bool) (v z : List ℕ) → length v ≤ 64 → Each1 (Fits w8) v → z ≡ map f v → T (upto (λ x. same (top 7 (f x)) (p x)) 256)
+    → mask_l (map (top 7) z) % 2 ^ 64 ≡ mask_l (map p v)
+masked f p v z short fits e all =
+    ap (λ l. mask_l l % 2 ^ 64) (ap (map (top 7)) e ∙ each_byte f p all v fits) ∙ mask_l-mod (map p v) 64 (omega (arith, length-map v p))

@@ -1,0 +1,64 @@
+//! Where a run of plain bytes of a string ends, sixteen bytes at a time.
+
+ghost use Rattle.std.specs.Prelude.{◌≡◌, ◌+◌, ◌≤◌, length, drop, map};
+ghost use Rattle.std.specs.List.{prefix_len};
+ghost use Rattle.std.specs.Simd.Lanes.{mask_l};
+ghost use Rattle.facet_json_token.specs.Inner.Window.{is_stop, is_plain};
+
+use std::simd::prelude::*;
+
+/// A bit for each of sixteen bytes that is a quote or a backslash.
+#[inline(always)]
+fn stops(window: u8x16) -> u64
+    ensures { result ≡ mask_l (map is_stop window) }
+{
+    (window.simd_eq(u8x16::splat(b'"')) | window.simd_eq(u8x16::splat(b'\\'))).to_bitmask()
+}
+
+/// How many of sixteen bytes stand before the first quote or backslash: sixteen where there is none.
+#[inline(always)]
+fn plain_lanes(window: u8x16) -> usize
+    ensures value { result ≡ prefix_len is_plain window }
+    ensures within { result ≤ 16 }
+{
+    let found = stops(window);
+    if found == 0 {
+        16
+    } else {
+        found.trailing_zeros() as usize
+    }
+}
+
+/// The offset of the first quote or backslash from `from` on, or the length.
+#[inline(always)]
+pub(crate) fn plain_end(buffer: &[u8], from: usize) -> usize
+    requires { from ≤ length buffer.now }
+    ensures value { result ≡ from + prefix_len is_plain (drop from buffer.now) }
+    ensures ahead { from ≤ result }
+    ensures within { result ≤ length buffer.now }
+{
+    let mut at = from;
+    while buffer.len() - at >= 16 {
+        let plain = plain_lanes(u8x16::from_slice(&buffer[at..]));
+        if plain < 16 {
+            return at + plain;
+        }
+        at += 16;
+    }
+    plain_end_bytewise(buffer, at)
+}
+
+/// The offset of the first quote or backslash from `from` on, or the length: what is left after the last window.
+#[inline(never)]
+fn plain_end_bytewise(buffer: &[u8], from: usize) -> usize
+    requires { from ≤ length buffer.now }
+    ensures value { result ≡ from + prefix_len is_plain (drop from buffer.now) }
+    ensures ahead { from ≤ result }
+    ensures within { result ≤ length buffer.now }
+{
+    let mut at = from;
+    while at < buffer.len() && buffer[at] != b'"' && buffer[at] != b'\\' {
+        at += 1;
+    }
+    at
+}

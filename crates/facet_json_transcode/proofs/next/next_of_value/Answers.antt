@@ -1,0 +1,12 @@
+use Rattle.std.proofs.Common.{refl}
+use Rattle.std.proofs.lemmas.Result.{err_from_is_err_and}
+use Rattle.facet_json_transcode.proofs.NextEventComes.{next-refused}
+use Rattle.facet_json_transcode.proofs.next.next_of_value.Goals as goal
+
+pub returns-in_err-event-clause-refused : goal.returns-in_err-event-clause-refused
+returns-in_err-event-clause-refused c free =
+    let p = err_from_is_err_and c.from_residual.result c.from_residual.ensures.1 in
+    rw (p.1, p.2) (next-refused _ free refl c.in_err-event.ensures.moves)
+
+pub returns-in-Some-clause-gave : goal.returns-in-Some-clause-gave
+returns-in-Some-clause-gave c = rw c.in-Some.is at c.in_ok-event.ensures.next

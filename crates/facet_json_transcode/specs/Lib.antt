@@ -1,0 +1,4 @@
+pub mod Reading
+pub mod Told
+pub mod Transcode
+pub mod Views

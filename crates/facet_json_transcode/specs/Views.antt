@@ -1,0 +1,40 @@
+-- How a value is not passed. The one file of the definitions that names types of the code.
+use Rattle.std.specs.Prelude.{◌≡◌, ◌≤◌, ◌+◌, ◌⊎◌, ℕ, List, IfSome}
+use Rattle.facet_format.specs.Views.{refusal_of}
+use Rattle.facet_json_token.specs.Gap.{Mode}
+use Rattle.facet_json_token.specs.Tokens.{Tokens}
+use Rattle.facet_json_document.specs.Tree.{Tree}
+use Rattle.facet_json_document.specs.Place.{Place}
+use Rattle.facet_json_document.specs.Future.{Future}
+use Rattle.facet_json_prefix.specs.Refusal.{Refuses}
+use Rattle.facet_json_serializer.specs.Serializer.{out_of_memory}
+use Rattle.facet_json_serializer.specs.Views as serializer
+use Rattle.facet_json_transcode.specs.declared.error.TranscodeError.{TranscodeError}
+use Rattle.facet_json_transcode.specs.declared.error.TranscodeError.TheVariants.{Read, Write}
+use Rattle.facet_json_transcode.specs.Told.{Tells, Breaks}
+use Rattle.facet_json_transcode.specs.Reading as reading
+
+-- Memory ran out, of the parser or of the serializer.
+abbrev pub LacksMemory : TranscodeError → Type 0
+LacksMemory (Read e) = reading.LacksMemory (refusal_of e)
+LacksMemory (Write e) = serializer.refusal_of e ≡ out_of_memory
+
+-- Memory ran out, or no document goes on with the tokens at the place, and the parser refuses it so.
+abbrev pub StopsAt : List ℕ → Place → Tokens → TranscodeError → Type 0
+StopsAt buffer place rest (Read e) = reading.StopsAt buffer place rest (refusal_of e)
+StopsAt buffer place rest (Write e) = serializer.refusal_of e ≡ out_of_memory
+
+-- Where the events tell a value it is out of memory, and where they break off within one that or how the input is refused there.
+pub record IsUnwritten (buffer : List ℕ) (start : Future) (e : TranscodeError) : Type 0 where
+  pub told : (v : Tree) (rest : Future) → Tells start v rest → LacksMemory e
+  pub broken : (place : Place) (rest : Tokens) → Breaks place rest start → StopsAt buffer place rest e
+
+-- Memory ran out, or the input has no document and is refused so.
+abbrev pub IsRefused : List ℕ → Mode → TranscodeError → Type 0
+IsRefused input mode (Read e) = reading.LacksMemory (refusal_of e) ⊎ Refuses input mode (refusal_of e)
+IsRefused input mode (Write e) = serializer.refusal_of e ≡ out_of_memory
+
+-- What the parser refuses stands within so many bytes, where its place is known.
+abbrev pub IsWithin : ℕ → TranscodeError → Type 0
+IsWithin end (Read e) = IfSome e.span (λ s. s.offset + s.len ≤ end)
+IsWithin end (Write e) = Unit {0}

@@ -1,0 +1,11 @@
+//! A value from a parser to a serializer, event by event: `transcode`. Which values events tell stands in `specs/`, and how the
+//! next event of a value is read in `next`: the reader of trees goes by both.
+#![tactic(auto)]
+
+mod error;
+mod next;
+mod value;
+
+pub use error::TranscodeError;
+pub use next::next_of_value;
+pub use value::transcode;

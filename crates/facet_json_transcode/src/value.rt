@@ -1,0 +1,120 @@
+//! One value from a parser to a serializer: its events in order, without a tree and without recursion.
+
+ghost use Rattle.std.specs.Prelude.{◌≡◌, ℕ, List, None, Some, length, IfErr, OnOk, MatchResult};
+ghost use Rattle.facet_format.specs.Complaint.{no_memory};
+ghost use Rattle.facet_format.specs.Views.{event_kind_of, refusal_of};
+ghost use Rattle.facet_json_token.specs.Gap.{Mode as SpecMode};
+ghost use Rattle.facet_json_document.specs.Node.{Node};
+ghost use Rattle.facet_json_document.specs.Tree.{Tree as SpecTree};
+ghost use Rattle.facet_json_document.specs.Document.{IsDocument};
+ghost use Rattle.facet_json_protocol.specs.Now.{fresh, future_of};
+ghost use Rattle.facet_json_serializer.specs.Serializer.{Writing as SpecWriting, Appends};
+ghost use Rattle.facet_json_serializer.specs.TreeCalls.{with_tree};
+ghost use Rattle.facet_json_serializer.specs.Views.{answer_of};
+ghost use Rattle.facet_json_transcode.specs.Transcode.{call_of, depth_after as spec_depth_after, IsWritten};
+ghost use Rattle.facet_json_transcode.specs.Views.{IsUnwritten, LacksMemory, IsRefused, IsWithin};
+
+use crate::error::TranscodeError;
+use crate::next::next_of_value;
+use facet_format::{DeserializeError, FormatSerializer, ParseEventKind};
+use facet_json_parser::JsonParser;
+use facet_json_serializer::{JsonSerializeError, JsonSerializer};
+
+/// Passes one value from the parser to the serializer: its events in order, up to its last one. The value is written where the
+/// serializer stands, by its options.
+///
+/// It takes no memory but that of the open containers, one event's text, and what is written. It does not recurse.
+///
+/// ```text
+/// let mut parser = JsonParser::new(alloc, b"[1, {\"a\": null},]");
+/// let mut serializer = JsonSerializer::new(alloc);
+/// transcode(&mut parser, &mut serializer)     Ok
+/// serializer.finish()                         Ok: [1,{"a":null}]
+/// ```
+///
+/// # Errors
+///
+/// `Read`, where the parser gives no value: what `from_slice` would answer. `Write`, where the serializer is out of memory. What
+/// was written before stays in the serializer.
+pub fn transcode<'t>(
+    parser: &mut JsonParser<'_>,
+    serializer: &mut JsonSerializer<'_>,
+) -> Result<(), TranscodeError<'t>>
+    ensures written { (w : SpecWriting) → serializer.old ≡ Some w
+        → OnOk result (IsWritten (future_of parser.old) w (future_of parser.new) serializer.new) }
+    ensures unwritten { (w : SpecWriting) → serializer.old ≡ Some w → parser.old.cursor.refusal ≡ None
+        → IfErr result (λ e. IsUnwritten parser.old.buffer (future_of parser.old) e) }
+    ensures document { (input : List ℕ) (mode : SpecMode) (w : SpecWriting) → parser.old ≡ fresh input mode → serializer.old ≡ Some w
+        → OnOk result ((root : Node) × (value : SpecTree) × IsDocument input mode root value × (serializer.new ≡ Some (with_tree w value))) }
+    ensures refused { (input : List ℕ) (mode : SpecMode) (w : SpecWriting) → parser.old ≡ fresh input mode → serializer.old ≡ Some w
+        → IfErr result (λ e. IsRefused input mode e) }
+    ensures only { (input : List ℕ) (mode : SpecMode) (w : SpecWriting) → parser.old ≡ fresh input mode → serializer.old ≡ Some w
+        → (root : Node) (value : SpecTree) → IsDocument input mode root value
+        → MatchResult result (λ _. serializer.new ≡ Some (with_tree w value)) (λ e. LacksMemory e) }
+    ensures within { IfErr result (λ e. IsWithin (length parser.old.buffer) e) }
+    ensures same { parser.new.buffer ≡ parser.old.buffer }
+{
+    pass_value(parser, serializer)
+}
+
+/// Passes the events of one value: up to the first after which no container is open.
+fn pass_value<'t>(
+    parser: &mut JsonParser<'_>,
+    serializer: &mut JsonSerializer<'_>,
+) -> Result<(), TranscodeError<'t>>
+    ensures written { (w : SpecWriting) → serializer.old ≡ Some w
+        → OnOk result (IsWritten (future_of parser.old) w (future_of parser.new) serializer.new) }
+    ensures unwritten { (w : SpecWriting) → serializer.old ≡ Some w → parser.old.cursor.refusal ≡ None
+        → IfErr result (λ e. IsUnwritten parser.old.buffer (future_of parser.old) e) }
+    ensures within { IfErr result (λ e. IsWithin (length parser.old.buffer) e) }
+    ensures same { parser.new.buffer ≡ parser.old.buffer }
+{
+    let mut depth = 0;
+    loop {
+        let event = next_of_value(parser)?;
+        depth = depth_after(&event.kind, depth)?;
+        pass(serializer, event.kind)?;
+        if depth == 0 {
+            return Ok(());
+        }
+    }
+}
+
+/// How many containers are open after an event of this kind.
+///
+/// # Errors
+///
+/// Out of memory, where no number tells: there is no memory for so many.
+fn depth_after<'t>(kind: &ParseEventKind<'_>, depth: usize) -> Result<usize, DeserializeError<'t>>
+    ensures { MatchResult result
+        (λ after. after ≡ spec_depth_after (event_kind_of kind.now) depth)
+        (λ e. refusal_of e ≡ no_memory) }
+{
+    match kind {
+        ParseEventKind::StructStart(_) | ParseEventKind::SequenceStart(_) => {
+            match depth.checked_add(1) {
+                Some(more) => Ok(more),
+                None => Err(DeserializeError::out_of_memory()),
+            }
+        }
+        ParseEventKind::StructEnd | ParseEventKind::SequenceEnd => Ok(depth.saturating_sub(1)),
+        ParseEventKind::FieldKey(_) | ParseEventKind::Scalar(_) => Ok(depth),
+    }
+}
+
+/// Makes the serializer's call for an event of this kind.
+fn pass(
+    serializer: &mut JsonSerializer<'_>,
+    kind: ParseEventKind<'_>,
+) -> Result<(), JsonSerializeError>
+    ensures { Appends serializer.old (call_of (event_kind_of kind.entry)) (answer_of result) serializer.new }
+{
+    match kind {
+        ParseEventKind::StructStart(_) => serializer.begin_struct(),
+        ParseEventKind::StructEnd => serializer.end_struct(),
+        ParseEventKind::SequenceStart(_) => serializer.begin_seq(),
+        ParseEventKind::SequenceEnd => serializer.end_seq(),
+        ParseEventKind::FieldKey(key) => serializer.field_key(key.name.as_str()),
+        ParseEventKind::Scalar(value) => serializer.scalar(value),
+    }
+}

@@ -1,0 +1,97 @@
+//! Copies of values.
+
+ghost use Rattle.std.specs.Prelude.{◌≡◌, true, MatchResult, IfOk};
+ghost use Rattle.facet_format.specs.Event.{bytes_of};
+ghost use Rattle.facet_json_tree.specs.Content.{may_allocate};
+ghost use Rattle.facet_json_tree.specs.Views.{tree_view, trees_view, pairs_view};
+
+use crate::tree::Tree;
+use facet_json_raw::RawJson;
+use std::alloc::{AllocError, Global};
+use std::borrow::CowStr;
+
+impl Tree {
+    /// The same value, in memory of its own. Texts, numbers and JSON text that are borrowed for ever stay borrowed.
+    ///
+    /// Lists and objects are copied by recursion, a level of the stack for each level of nesting.
+    ///
+    /// ```text
+    /// let copy = tree.clone(alloc)?;
+    /// copy == tree                                            true
+    /// ```
+    ///
+    /// # Errors
+    ///
+    /// `AllocError` alone, where a growth is refused: never for `null`, a truth value, a character or a whole number.
+    pub fn clone(&self, alloc: Global) -> Result<Tree, AllocError>
+        ensures { MatchResult result
+            (λ copy. tree_view copy ≡ tree_view self.now)
+            (λ _. may_allocate (tree_view self.now) ≡ true) }
+    {
+        copy_tree(self, alloc)
+    }
+}
+
+/// The same value, in memory of its own.
+#[cycle(copy)]
+fn copy_tree(tree: &Tree, alloc: Global) -> Result<Tree, AllocError>
+    ensures { MatchResult result
+        (λ copy. tree_view copy ≡ tree_view tree.now)
+        (λ _. may_allocate (tree_view tree.now) ≡ true) }
+{
+    match tree {
+        Tree::Null => Ok(Tree::Null),
+        Tree::Unit => Ok(Tree::Unit),
+        Tree::Bool(b) => Ok(Tree::Bool(*b)),
+        Tree::Char(c) => Ok(Tree::Char(*c)),
+        Tree::I64(n) => Ok(Tree::I64(*n)),
+        Tree::U64(n) => Ok(Tree::U64(*n)),
+        Tree::I128(n) => Ok(Tree::I128(*n)),
+        Tree::U128(n) => Ok(Tree::U128(*n)),
+        Tree::Decimal(decimal) => Ok(Tree::Decimal(decimal.clone(alloc)?)),
+        Tree::Text(text) => Ok(Tree::Text(String::from_str(alloc, text.as_str())?)),
+        Tree::Bytes(bytes) => Ok(Tree::Bytes(Vec::from_slice(alloc, bytes)?)),
+        Tree::Raw(json) => Ok(Tree::Raw(copy_raw(json, alloc)?)),
+        Tree::List(items) => Ok(Tree::List(copy_items(items, alloc)?)),
+        Tree::Pairs(members) => Ok(Tree::Pairs(copy_members(members, alloc)?)),
+    }
+}
+
+/// The same JSON text: a borrowed one stays borrowed, an owned one is copied.
+fn copy_raw(json: &RawJson<'static>, alloc: Global) -> Result<RawJson<'static>, AllocError>
+    ensures { IfOk result (λ copy. bytes_of copy ≡ bytes_of json.now) }
+{
+    match &json.0 {
+        CowStr::Borrowed(text) => Ok(RawJson::new(*text)),
+        CowStr::Owned(text) => Ok(RawJson::from_owned(String::from_str(alloc, text.as_str())?)),
+    }
+}
+
+/// Copies of the items, in their order.
+#[cycle(copy)]
+fn copy_items(items: &[Tree], alloc: Global) -> Result<Vec<Tree>, AllocError>
+    ensures { IfOk result (λ copies. trees_view copies.items ≡ trees_view items.now) }
+{
+    let mut copies = Vec::with_capacity(alloc, items.len())?;
+    for item in items {
+        copies.push(copy_tree(item, alloc)?)?;
+    }
+    Ok(copies)
+}
+
+/// Copies of the members, in their order.
+#[cycle(copy)]
+fn copy_members(
+    members: &[(String, Tree)],
+    alloc: Global,
+) -> Result<Vec<(String, Tree)>, AllocError>
+    ensures { IfOk result (λ copies. pairs_view copies.items ≡ pairs_view members.now) }
+{
+    let mut copies = Vec::with_capacity(alloc, members.len())?;
+    for member in members {
+        let name = String::from_str(alloc, member.0.as_str())?;
+        let value = copy_tree(&member.1, alloc)?;
+        copies.push((name, value))?;
+    }
+    Ok(copies)
+}

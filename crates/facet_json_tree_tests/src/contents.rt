@@ -1,0 +1,133 @@
+//! What values are.
+
+use crate::samples::{list, object};
+use facet_format::Decimal;
+use facet_json_tree::Tree;
+use std::alloc::Global;
+
+/// Whether the value is this whole number in each type that has it, and none in the others.
+fn is_whole(value: Tree, wanted: (Option<u64>, Option<i64>, Option<u128>, Option<i128>)) -> bool {
+    value.as_u64() == wanted.0
+        && value.as_i64() == wanted.1
+        && value.as_u128() == wanted.2
+        && value.as_i128() == wanted.3
+}
+
+#[test]
+fn whole_numbers_fit_or_do_not(rt: HostRuntime) {
+    let five = (Some(5), Some(5), Some(5), Some(5));
+    assert!(rt; is_whole(Tree::I64(5), five));
+    assert!(rt; is_whole(Tree::U64(5), five));
+    assert!(rt; is_whole(Tree::I128(5), five));
+    assert!(rt; is_whole(Tree::U128(5), five));
+    let minus = (None, Some(-5), None, Some(-5));
+    assert!(rt; is_whole(Tree::I64(-5), minus));
+    assert!(rt; is_whole(Tree::I128(-5), minus));
+    let none = (None, None, None, None);
+    assert!(rt; is_whole(Tree::Null, none));
+    assert!(rt; is_whole(Tree::Char('5'), none));
+}
+
+#[test]
+fn the_greatest_and_the_least_fit(rt: HostRuntime) {
+    let past_i64 = 9223372036854775808;
+    assert!(rt;
+        is_whole(
+            Tree::U64(past_i64),
+            (
+                Some(past_i64),
+                None,
+                Some(9223372036854775808),
+                Some(9223372036854775808)
+            )
+        )
+    );
+    let past_u64 = 18446744073709551616;
+    assert!(rt;
+        is_whole(
+            Tree::U128(past_u64),
+            (None, None, Some(past_u64), Some(18446744073709551616))
+        )
+    );
+    let most = 340282366920938463463374607431768211455;
+    assert!(rt; is_whole(Tree::U128(most), (None, None, Some(most), None)));
+    let least = -9223372036854775808;
+    assert!(rt;
+        is_whole(
+            Tree::I128(-9223372036854775808),
+            (None, Some(least), None, Some(-9223372036854775808))
+        )
+    );
+    let below_i64 = -9223372036854775809;
+    assert!(rt; is_whole(Tree::I128(below_i64), (None, None, None, Some(below_i64))));
+}
+
+#[test]
+fn null_and_unit_are_null(rt: HostRuntime) {
+    assert!(rt; Tree::Null.is_null() && Tree::Unit.is_null());
+    assert!(rt; !Tree::Bool(false).is_null() && !Tree::U64(0).is_null());
+    assert!(rt; !Tree::List(Vec::new(rt.alloc())).is_null());
+}
+
+/// Whether the number of this text is told by it.
+fn tells_decimal(text: &'static str) -> bool {
+    let Some(decimal) = Decimal::new(text) else {
+        return false;
+    };
+    let value = Tree::from(decimal);
+    match value.as_decimal() {
+        Some(told) => told.as_str() == text && value.as_u64().is_none(),
+        None => false,
+    }
+}
+
+#[test]
+fn truth_values_and_decimals_are_told(rt: HostRuntime) {
+    assert!(rt; Tree::Bool(true).as_bool() == Some(true));
+    assert!(rt; Tree::Bool(false).as_bool() == Some(false));
+    assert!(rt; Tree::Null.as_bool().is_none() && Tree::Null.as_decimal().is_none());
+    assert!(rt; tells_decimal("-0.50"));
+}
+
+/// Whether a text is told.
+fn tells_text(alloc: Global, text: &str) -> bool {
+    let Ok(copy) = String::from_str(alloc, text) else {
+        return false;
+    };
+    let value = Tree::from(copy);
+    match value.as_str() {
+        Some(told) => told == text && value.as_bool().is_none() && value.as_list().is_none(),
+        None => false,
+    }
+}
+
+#[test]
+fn texts_are_told(rt: HostRuntime) {
+    assert!(rt; tells_text(rt.alloc(), "a text"));
+    assert!(rt; tells_text(rt.alloc(), ""));
+    assert!(rt; Tree::Char('a').as_str().is_none());
+}
+
+/// How many items the list of the samples lends.
+fn item_count(alloc: Global) -> Option<usize> {
+    match list(alloc) {
+        Ok(tree) => tree.as_list().map(|items| items.len()),
+        Err(_) => None,
+    }
+}
+
+/// How many members the object of the samples lends.
+fn member_count(alloc: Global) -> Option<usize> {
+    match object(alloc) {
+        Ok(tree) => tree.as_pairs().map(|members| members.len()),
+        Err(_) => None,
+    }
+}
+
+#[test]
+fn items_and_members_are_told(rt: HostRuntime) {
+    let alloc = rt.alloc();
+    assert!(rt; item_count(alloc) == Some(3));
+    assert!(rt; member_count(alloc) == Some(3));
+    assert!(rt; Tree::Null.as_list().is_none() && Tree::Null.as_pairs().is_none());
+}

@@ -1,0 +1,44 @@
+//! Values that the tests look into.
+
+use facet_format::Decimal;
+use facet_json_raw::RawJson;
+use facet_json_tree::Tree;
+use std::alloc::{AllocError, Global};
+
+/// `[true,null,[]]`
+pub fn list(alloc: Global) -> Result<Tree, AllocError> {
+    let mut items = Vec::new(alloc);
+    items.push(Tree::from(true))?;
+    items.push(Tree::Null)?;
+    items.push(Tree::List(Vec::new(alloc)))?;
+    Ok(Tree::from(items))
+}
+
+/// `{"a":1,"b":[true,null,[]],"a":3}`
+pub fn object(alloc: Global) -> Result<Tree, AllocError> {
+    let mut members = Vec::new(alloc);
+    members.push((String::from_str(alloc, "a")?, Tree::from(1u64)))?;
+    members.push((String::from_str(alloc, "b")?, list(alloc)?))?;
+    members.push((String::from_str(alloc, "a")?, Tree::from(3u64)))?;
+    Ok(Tree::from(members))
+}
+
+/// A list of a value of each kind.
+pub fn each_kind(alloc: Global) -> Result<Tree, AllocError> {
+    let mut items = Vec::new(alloc);
+    items.push(Tree::Unit)?;
+    items.push(Tree::from('x'))?;
+    items.push(Tree::from(-1i64))?;
+    items.push(Tree::from(-170141183460469231731687303715884105728i128))?;
+    items.push(Tree::from(340282366920938463463374607431768211455u128))?;
+    if let Some(decimal) = Decimal::new("1.50") {
+        items.push(Tree::from(decimal))?;
+    }
+    items.push(Tree::from(String::from_str(alloc, "a text")?))?;
+    items.push(Tree::Bytes(Vec::from_slice(alloc, &[1, 255])?))?;
+    items.push(Tree::from(RawJson::new("[1, 2]")))?;
+    let raw = RawJson::from_owned(String::from_str(alloc, "{ }")?);
+    items.push(Tree::from(raw))?;
+    items.push(object(alloc)?)?;
+    Ok(Tree::from(items))
+}

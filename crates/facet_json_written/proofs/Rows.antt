@@ -1,0 +1,2 @@
+pub mod ReadRows
+pub mod RfcRows

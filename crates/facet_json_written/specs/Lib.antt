@@ -1,0 +1,4 @@
+pub mod AsRead
+pub mod ReadBack
+pub mod RfcLaws
+pub mod RfcText
