@@ -12,8 +12,8 @@ ghost use Rattle.facet_json_decode.specs.Inner.Run.{StopsBeingText};
 mod escape;
 mod unchecked;
 
-use escape::escape_at;
 use crate::window::windows_end;
+use escape::escape_at;
 use facet_format::Span;
 use facet_json_token::{ScanError, ScanErrorKind};
 use std::alloc::{AllocError, Global};

@@ -75,10 +75,7 @@ pub trait Facet<'de>: Sized + Drop {
     /// # Errors
     ///
     /// As `read_owned`.
-    fn read<'t>(
-        alloc: Global,
-        parser: &mut JsonParser<'de>,
-    ) -> Result<Self, DeserializeError<'t>>
+    fn read<'t>(alloc: Global, parser: &mut JsonParser<'de>) -> Result<Self, DeserializeError<'t>>
         ensures read { IfOk result (λ v. IsRead reading_borrowed parser.old (view v) parser.new) }
         ensures unread { IfErr result (λ e. IsUnread reading_borrowed parser.old (refusal_of e)) }
         ensures document { whole ≡ true → OnOk result (HasDocument parser.old) }

@@ -9,7 +9,8 @@ ghost use Rattle.facet_json_protocol.specs.Within.{RefusalWithin};
 ghost use Rattle.facet_json_meaning.specs.Passing.{WalksPast, LacksAlone};
 
 use facet_format::{
-    DeserializeError, DeserializeErrorKind, FormatParser, ParseEvent, ParseEventKind, ScalarValue, Span,
+    DeserializeError, DeserializeErrorKind, FormatParser, ParseEvent, ParseEventKind, ScalarValue,
+    Span,
 };
 use facet_json_parser::JsonParser;
 
@@ -76,10 +77,8 @@ fn scalar_name<'t>(value: &ScalarValue<'_>) -> &'t str {
     match value {
         ScalarValue::Null | ScalarValue::Unit => "null",
         ScalarValue::Bool(_) => "bool",
-        ScalarValue::I64(_)
-        | ScalarValue::U64(_)
-        | ScalarValue::I128(_)
-        | ScalarValue::U128(_) => "integer",
+        ScalarValue::I64(_) | ScalarValue::U64(_) | ScalarValue::I128(_) | ScalarValue::U128(_) =>
+            "integer",
         ScalarValue::Decimal(_) => "decimal",
         ScalarValue::Char(_) | ScalarValue::Str(_) | ScalarValue::Bytes(_) => "string",
     }

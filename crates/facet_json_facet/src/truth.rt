@@ -39,10 +39,7 @@ impl<'de> Facet<'de> for bool {
         bool_in(next_of_value(parser)?)
     }
 
-    fn read<'t>(
-        alloc: Global,
-        parser: &mut JsonParser<'de>,
-    ) -> Result<bool, DeserializeError<'t>> {
+    fn read<'t>(alloc: Global, parser: &mut JsonParser<'de>) -> Result<bool, DeserializeError<'t>> {
         bool::read_owned(alloc, parser)
     }
 

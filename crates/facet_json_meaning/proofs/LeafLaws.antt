@@ -70,10 +70,12 @@ module _ {V : Type 0} (value : Tree → Option V) (no_list : (ts : Trees) → va
       ((read : Tree) → written.ReadsAs as_array t read → value read ≡ Some v) →
       RawParts IsDocumentText t × ReadsAs V (leaf value) (text default_options 0 t) v
   leaf-back v t well raw back =
-      let r = written_is_read default_options t refl well raw in
-      (raw, record {
-        root = r.root;
-        tree = r.value;
-        document = r.document;
-        is_read = leaf-tree (text default_options 0 t) r.root r.value r.document.reads.has_tree ∙ back r.value r.as_read;
-      })
+      let r = written_is_read default_options t refl well raw in (
+        raw,
+        record {
+          root = r.root;
+          tree = r.value;
+          document = r.document;
+          is_read = leaf-tree (text default_options 0 t) r.root r.value r.document.reads.has_tree ∙ back r.value r.as_read;
+        },
+      )

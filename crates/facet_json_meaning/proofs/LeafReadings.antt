@@ -99,14 +99,16 @@ module _ {V : Type 0} (value : Tree → Option V) where
   pub leaf-read : (old new : Now) (e : Event) (v : V) → WalksPast old e new → taken value e.kind ≡ Some v → IsRead (leaf value) old v new
   leaf-read old new e v walks is w c n before =
       let reads = sym (taken-there old new e w c n walks before) ∙ is in
-      let one = leaf-one w.bytes n v reads in
-      (reads, record {
-        cursor = at_spot c (unpeeked (suc c.spot.place));
-        stands = (walks w c before.stands before.free).stands;
-        free = before.free;
-        there = ap unpeeked (omega (arith, one));
-        kept = λ point spot e. e;
-      })
+      let one = leaf-one w.bytes n v reads in (
+        reads,
+        record {
+          cursor = at_spot c (unpeeked (suc c.spot.place));
+          stands = (walks w c before.stands before.free).stands;
+          free = before.free;
+          there = ap unpeeked (omega (arith, one));
+          kept = λ point spot e. e;
+        },
+      )
 
   pub leaf-unread : (old new : Now) (e : Event) (r : Refusal) → WalksPast old e new → taken value e.kind ≡ None → IsUnread (leaf value) old r
   leaf-unread old new e r walks is w c n before = inr (sym (taken-there old new e w c n walks before) ∙ is)
