@@ -65,6 +65,10 @@ pub use Rattle.facet_json_protocol.specs.CallLaws
 pub use Rattle.facet_json_protocol.specs.SkipLaws
 pub use Rattle.facet_json_protocol.specs.Headline
 pub use Rattle.facet_json_core.specs.ScriptViews
+pub use Rattle.facet_json_error.specs.ErrorKind
+pub use Rattle.facet_json_error.specs.Views as ErrorViews
+pub use Rattle.facet_json_report.specs.Line
+pub use Rattle.facet_json_report.specs.Report
 pub use Rattle.facet_json_transcode.specs.Told
 pub use Rattle.facet_json_transcode.specs.Reading
 pub use Rattle.facet_json_transcode.specs.Transcode

@@ -1,6 +1,7 @@
 //! JSON text (RFC 8259, with lenient readings) to values and back, proved: `from_slice` and `from_slice_jsonc` read a `Tree`,
 //! `to_vec`, `to_string` and their kin write one, `JsonParser` reads by events, `JsonSerializer` writes by calls, `transcode` passes a
-//! value from the one to the other, and `scanner` has tokens, strings' contents and numbers by themselves.
+//! value from the one to the other, and `scanner` has tokens, strings' contents and numbers by themselves. `JsonError` is what each refusal becomes
+//! by `?`, and `Report` shows it with its place in the source.
 #![tactic(auto)]
 
 pub mod laws;
@@ -13,9 +14,11 @@ pub use facet_format::{
     Span,
 };
 pub use facet_json_core::{
-    Answer, BytesFormat, Call, HexBytesOptions, JsonParser, JsonSerializeError, JsonSerializer,
-    MaterializedToken, RawJson, SerializeOptions, TokenKind, drive,
+    Answer, BytesFormat, Call, HexBytesOptions, JsonError, JsonErrorKind, JsonParser,
+    JsonSerializeError, JsonSerializer, MaterializedToken, RawJson, SerializeOptions, TokenKind,
+    drive,
 };
+pub use facet_json_report::{Place, Position, Report, position_at};
 pub use facet_json_transcode::{TranscodeError, transcode};
 pub use facet_json_tree::Tree;
 pub use facet_json_write::{

@@ -26,4 +26,6 @@ pub use Rattle.facet_json_protocol.specs.ParserLaws
 pub use Rattle.facet_json_protocol.specs.CallLaws
 pub use Rattle.facet_json_protocol.specs.SkipLaws
 pub use Rattle.facet_json_protocol.specs.Headline
+pub use Rattle.facet_json_error.specs.ErrorKind
+pub use Rattle.facet_json_error.specs.Views as ErrorViews
 pub mod ScriptViews

@@ -2,7 +2,7 @@
 
 ghost use Rattle.std.specs.Prelude.{◌≡◌, ◌≤◌, ◌<◌, ◌^◌, pos, neg_ℤ, true, false, None, Some, length, slice_range, IsUtf8, IfErr, IfOk, MatchOption, MatchResult};
 ghost use Rattle.std.specs.Option.{option_map, IfSome};
-ghost use Rattle.facet_format.specs.Number.{AreDigits, digits_value, number as spec_number, is_number, float, unsigned_number, negative_number};
+ghost use Rattle.facet_format.specs.Number.{AreDigits, digits_value, number as spec_number, is_number, float, unsigned, unsigned_number, negative_number};
 ghost use Rattle.facet_format.specs.Views.{hint_of};
 ghost use Rattle.facet_json_number.specs.Views.{number_of, is_made_number, number_refusal};
 
@@ -80,12 +80,35 @@ fn number<'a>(text: &'a [u8], hint: NumberHint) -> Option<ParsedNumber<'a>>
     ensures number { option_map number_of result ≡ spec_number text.now (hint_of hint) }
     ensures borrowed { IfSome result (λ v. is_made_number v ≡ false) }
 {
+    if let NumberHint::Unsigned = hint {
+        if let Some(n) = short_number(text) {
+            return Some(ParsedNumber::U64(n));
+        }
+    }
     let parts = number_parts(text, hint)?;
     match hint {
         NumberHint::Unsigned => unsigned_number(text),
         NumberHint::Signed => negative_number(&text[parts.digits_start()..]),
         NumberHint::Float => decimal_number(text),
     }
+}
+
+/// The value of a text that is digits alone, where it fits 64 bits: most numbers are such, and are read in one pass.
+fn short_number(text: &[u8]) -> Option<u64>
+    ensures { IfSome result (λ n. (is_number text.now unsigned ≡ true) × (n ≡ digits_value 0 text.now) × (n < 2 ^ 64)) }
+{
+    if text.is_empty() {
+        return None;
+    }
+    let mut value: u64 = 0;
+    for byte in text {
+        if !byte.is_ascii_digit() {
+            return None;
+        }
+        let shifted = value.checked_mul(10)?;
+        value = shifted.checked_add(u64::from(*byte - b'0'))?;
+    }
+    Some(value)
 }
 
 /// The value of decimal digits, in 64 bits where it fits, else in 128.

@@ -17,7 +17,7 @@ use std::fmt;
 /// right however wide a tab is shown.
 ///
 /// ```text
-/// line 2, column 8
+/// line 2, column 9
 ///   "age" "x"
 ///         ^^^
 /// ```

@@ -14,7 +14,7 @@ use std::fmt;
 /// the text of the line, and carets below what is meant. An error without a span is its message alone.
 ///
 /// ```text
-/// type mismatch: expected u32, got string at line 2, column 9
+/// type mismatch: expected u32, got string at line 2, column 10
 ///   "age": "x"
 ///          ^^^
 /// ```

@@ -16,7 +16,7 @@ use Rattle.facet_json_protocol.specs.Now.{first_of, on_input}
 use Rattle.facet_json_protocol.specs.Within.{StandsWithin}
 use Rattle.facet_json_reader.specs.declared.reader.Held.{Held}
 use Rattle.facet_json_reader.specs.Views.{passed_of, IsRefusedBefore, without_memory, at_a_stop}
-use Rattle.facet_json_standing.specs.Fill.{Filling, place_of, spot_of, HoldsNext, IsFilled, filling_past, Takes, Lends, Withholds}
+use Rattle.facet_json_standing.specs.Fill.{Filling, filling_with, place_of, spot_of, HoldsNext, IsFilled, filling_past, Takes, Lends, Withholds}
 use Rattle.facet_json_standing.specs.Ready.{IsSound}
 use Rattle.facet_json_standing.specs.Steps.{PassesOne, passes, passes_the_end, passes_without_memory, passes_nothing, ShowsOne, shows, shows_the_end, shows_without_memory, shows_nothing, QueuesOne, queues, queues_the_end, queues_without_memory, queues_nothing}
 
@@ -31,6 +31,11 @@ copy-takes false _ e = cc
 if-some : {A : Type 0} (F : A → Type 0) (o : Option A) (a : A) → IfSome o F → o ≡ Some a → F a
 if-some F None a h e = cc
 if-some F (Some b) a h e = subst F (same_Some b a e) h
+
+-- What is there is not none.
+pub held-not_none : (held : Option Held) (A : Type 0) → is_some held ≡ true → option_map passed_of held ≡ None → A
+held-not_none None A e none = cc
+held-not_none (Some h) A e none = cc
 
 module _ (buffer : List ℕ) (language : Language) where
   abbrev w : World Standing
@@ -189,3 +194,10 @@ module _ (buffer : List ℕ) (language : Language) where
       ShowsOne w (spot_of f) (Ok (option_map event_of o)) (spot_of g)
   lend-shows f g None filled over lent = rw lent.0 (shows_the_end (ap first_of (over lent.1)))
   lend-shows f g (Some e) filled over lent = lent-shows f g (event_of e) filled lent
+
+  -- At the end nothing is passed.
+  pub over-passes : (f g : Filling) → g.held ≡ None → spot_of (filling_with None g) ≡ spot_of f →
+      future_at buffer language (place_of (filling_with None g)) ≡ finished → PassesOne w (spot_of f) (Ok None) (spot_of g)
+  over-passes f g free same over =
+      let here : spot_of g ≡ spot_of (filling_with None g) = rw free refl in
+      rw (← same, here) (passes_the_end (ap first_of over))

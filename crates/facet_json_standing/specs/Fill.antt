@@ -20,6 +20,10 @@ pub record Filling : Type 0 where
 abbrev pub filling_at : Standing → Filling
 filling_at s = record { reader = s; held = None; shown = false }
 
+-- the same with this event held, if one is, which was not shown
+abbrev pub filling_with : Option Passed → Filling → Filling
+filling_with held f = record f { held = held; shown = false }
+
 -- before the root
 abbrev pub first_filling : Filling
 first_filling = filling_at first_standing

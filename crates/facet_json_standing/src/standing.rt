@@ -1,6 +1,6 @@
 //! Where a parser stands: after the last token that was passed, with an event that is read but not passed.
 
-ghost use Rattle.std.specs.Prelude.{◌≡◌, ◌≤◌, ℕ, List, None, length, IfOk, MatchOption, MatchResult};
+ghost use Rattle.std.specs.Prelude.{◌≡◌, ◌≤◌, ℕ, List, None, length, IfOk, IfErr, OnOk, MatchOption, MatchResult};
 ghost use Rattle.std.specs.Prelude.{Ok, Err, OnSome, ◌<◌};
 ghost use Rattle.std.specs.Option.{option_map};
 ghost use Rattle.std.specs.VecDeque.{deque_len, deque_capacity};
@@ -14,9 +14,9 @@ ghost use Rattle.facet_json_document.specs.InputPlace.{future_at};
 ghost use Rattle.facet_json_document.specs.Language.{Language as SpecLanguage};
 ghost use Rattle.facet_json_protocol.specs.Now.{on_input};
 ghost use Rattle.facet_json_place.specs.Views.{language_of, refused_of};
-ghost use Rattle.facet_json_reader.specs.Views.{IsRefusedBefore};
+ghost use Rattle.facet_json_reader.specs.Views.{passed_of, IsRefusedBefore};
 ghost use Rattle.facet_json_skip.specs.Views.{after_part};
-ghost use Rattle.facet_json_standing.specs.Fill.{filling_at, first_filling, place_of, spot_of, IsFilled, Takes, Lends, Withholds};
+ghost use Rattle.facet_json_standing.specs.Fill.{filling_at, filling_with, first_filling, place_of, spot_of, IsFilled, Takes, Lends, Withholds};
 ghost use Rattle.facet_json_standing.specs.Views.{filling_of};
 
 use facet_format::{ParseEvent, ParseEventKind, Span};
@@ -75,8 +75,15 @@ impl<'de> Standing<'de> {
             (λ r. PassesOne (on_input input.now (language_of language)) (spot_of (filling_of self.old)) (Err (refused_of r))
             (spot_of (filling_of self.new))) }
     {
-        self.fill(alloc, input, language)?;
-        Ok(self.take())
+        if self.held.is_some() {
+            return Ok(self.take());
+        }
+        let Some(held) = self.begin(alloc, input, language)? else {
+            return Ok(None);
+        };
+        self.reader.pass(&held);
+        self.shown = false;
+        Ok(Some(held.event))
     }
 
     /// Answers a copy of the next event, which stays the next one, or `None` after the document's last one.
@@ -190,16 +197,36 @@ impl<'de> Standing<'de> {
         if self.held.is_some() {
             return Ok(());
         }
-        let Some(held) = self.reader.upcoming(alloc, input, language.mode())? else {
-            return Ok(());
-        };
-        match self.reader.open(&held) {
-            Ok(()) => {}
-            Err(_) => return Err(Refused::out_of_memory(self.reader.last)),
-        }
-        self.held = Some(held);
+        self.held = self.begin(alloc, input, language)?;
         self.shown = false;
         Ok(())
+    }
+
+    /// Reads the next event, which it answers, and opens its container. Where it is refused, nothing changes.
+    fn begin(
+        &mut self,
+        alloc: Global,
+        input: &'de [u8],
+        language: Language,
+    ) -> Result<Option<Held<'de>>, Refused>
+        requires within { stop (span_of self.old.reader.last) ≤ length input.now }
+        requires free { self.old.held ≡ None }
+        ensures free { OnOk result (self.new.held ≡ None) }
+        ensures held { IfOk result (λ o. IsFilled input.now (language_of language) (filling_with (option_map passed_of o) (filling_of self.new))) }
+        ensures spot { IfOk result (λ o. spot_of (filling_with (option_map passed_of o) (filling_of self.new)) ≡ spot_of (filling_of self.old)) }
+        ensures over { IfOk result (λ o. o ≡ None
+            → future_at input.now (language_of language) (place_of (filling_with None (filling_of self.new))) ≡ finished) }
+        ensures refused { IfErr result (λ r. (filling_of self.new ≡ filling_of self.old)
+            × IsRefusedBefore input.now (place_of (filling_of self.old)).last
+            (future_at input.now (language_of language) (place_of (filling_of self.old))) (refused_of r)) }
+    {
+        let Some(held) = self.reader.upcoming(alloc, input, language.mode())? else {
+            return Ok(None);
+        };
+        match self.reader.open(&held) {
+            Ok(()) => Ok(Some(held)),
+            Err(_) => Err(Refused::out_of_memory(self.reader.last)),
+        }
     }
 
     /// Passes the event that is held.

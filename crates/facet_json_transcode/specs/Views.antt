@@ -1,5 +1,5 @@
 -- How a value is not passed. The one file of the definitions that names types of the code.
-use Rattle.std.specs.Prelude.{◌≡◌, ◌≤◌, ◌+◌, ◌⊎◌, ℕ, List, IfSome}
+use Rattle.std.specs.Prelude.{◌≡◌, ◌≤◌, ◌+◌, ◌⊎◌, ℕ, List, None, IfSome}
 use Rattle.facet_format.specs.Views.{refusal_of}
 use Rattle.facet_json_token.specs.Gap.{Mode}
 use Rattle.facet_json_token.specs.Tokens.{Tokens}
@@ -9,6 +9,9 @@ use Rattle.facet_json_document.specs.Future.{Future}
 use Rattle.facet_json_prefix.specs.Refusal.{Refuses}
 use Rattle.facet_json_serializer.specs.Serializer.{out_of_memory}
 use Rattle.facet_json_serializer.specs.Views as serializer
+use Rattle.facet_json_error.specs.declared.error.JsonError.{JsonError}
+use Rattle.facet_json_error.specs.declared.kind.JsonErrorKind.TheVariants as kind
+use Rattle.facet_json_error.specs.Views.{error_at}
 use Rattle.facet_json_transcode.specs.declared.error.TranscodeError.{TranscodeError}
 use Rattle.facet_json_transcode.specs.declared.error.TranscodeError.TheVariants.{Read, Write}
 use Rattle.facet_json_transcode.specs.Told.{Tells, Breaks}
@@ -38,3 +41,8 @@ IsRefused input mode (Write e) = serializer.refusal_of e ≡ out_of_memory
 abbrev pub IsWithin : ℕ → TranscodeError → Type 0
 IsWithin end (Read e) = IfSome e.span (λ s. s.offset + s.len ≤ end)
 IsWithin end (Write e) = Unit {0}
+
+-- the error that a person reads
+abbrev pub error_of : TranscodeError → JsonError
+error_of (Read e) = error_at (kind.Read e.kind) e.span
+error_of (Write e) = error_at (kind.Write e) None

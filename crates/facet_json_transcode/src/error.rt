@@ -1,9 +1,11 @@
 //! How a value is not passed.
 
 ghost use Rattle.std.specs.Prelude.{◌≡◌};
+ghost use Rattle.facet_json_transcode.specs.Views.{error_of};
 ghost use Rattle.facet_json_transcode.specs.declared.error.TranscodeError.TheVariants.{Read, Write};
 
 use facet_format::DeserializeError;
+use facet_json_error::JsonError;
 use facet_json_serializer::JsonSerializeError;
 
 /// Why a value was not passed from a parser to a serializer: which of the two refused.
@@ -28,5 +30,17 @@ impl From<JsonSerializeError> for TranscodeError<'_> {
 
     fn from(refused: JsonSerializeError) -> Self {
         TranscodeError::Write(refused)
+    }
+}
+
+/// How either refused, whole.
+impl From<TranscodeError<'static>> for JsonError {
+    ghost from_gives = { λ refused e. e ≡ error_of refused };
+
+    fn from(refused: TranscodeError<'static>) -> JsonError {
+        match refused {
+            TranscodeError::Read(error) => JsonError::from(error),
+            TranscodeError::Write(error) => JsonError::from(error),
+        }
     }
 }

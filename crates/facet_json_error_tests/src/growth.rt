@@ -1,0 +1,33 @@
+//! Refused growths. `rt try --test --fail-alloc 1..` in this crate's folder refuses each allocation of the tests in turn, and
+//! these have to pass in every such run.
+
+use crate::samples::unknown_field;
+use facet_format::Span;
+use facet_json_error::{JsonError, JsonErrorKind};
+use std::alloc::Global;
+
+/// Whether the label is right, or memory ran out.
+fn is_labelled_or_runs_out(alloc: Global, kind: &JsonErrorKind) -> bool {
+    match kind.label(alloc) {
+        Ok(label) => label.as_str() == "unknown field 'nmae' - did you mean 'name'?",
+        Err(_) => true,
+    }
+}
+
+#[test]
+fn a_refused_label_leaves_the_kind(rt: HostRuntime) {
+    let alloc = rt.alloc();
+    if let Ok(kind) = unknown_field(alloc, Some("name")) {
+        assert!(rt; is_labelled_or_runs_out(alloc, &kind));
+        assert!(rt; is_labelled_or_runs_out(alloc, &kind));
+    }
+}
+
+#[test]
+fn a_refused_source_leaves_the_error(rt: HostRuntime) {
+    let error = JsonError::new(JsonErrorKind::InvalidUtf8, Span::new(1, 2));
+    match error.with_source(rt.alloc(), "[1]") {
+        Ok(error) => assert!(rt; error.source_code.is_some()),
+        Err(error) => assert!(rt; error.span == Some(Span::new(1, 2))),
+    }
+}
