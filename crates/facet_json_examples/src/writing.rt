@@ -25,7 +25,6 @@ pub fn message(alloc: Global, id: u64, sent: &[u8]) -> Result<Vec<u8>, JsonSeria
 }
 
 /// Writes a list of two numbers, in whatever format.
-#[tactic(auto, unfolding(facet_json::specs::SerializerCall::TakesAll))]
 pub fn write_pair<S: FormatSerializer>(
     serializer: &mut S,
     first: u64,
