@@ -1,9 +1,9 @@
 -- Scalars are trees of Rust.
-use Rattle.std.proofs.Common.{◌≡◌, ℕ, Bool, true, List, Result, Ok, Err}
+use Rattle.std.proofs.Common.{◌≡◌, ◌<◌, ◌^◌, ℕ, Bool, true, List, ℤ, Result, Ok, Err}
 use Rattle.std.specs.Result.{OnOk}
 use Rattle.std.specs.Str.{is_utf8}
-use Rattle.facet_json_document.specs.Tree.{Tree, bool, text}
-use Rattle.facet_json_written.specs.AsRead.{WellFormed, RawParts}
+use Rattle.facet_json_document.specs.Tree.{bool, i64, u64, text}
+use Rattle.facet_json_written.specs.AsRead.{IsWithin, WellFormed, RawParts}
 use Rattle.facet_json_write.specs.Write.{IsOfRust}
 
 on-ok : {E : Type 0} (P : Type 0) (r : Result (Unit {0}) E) → P → OnOk r P
@@ -17,3 +17,11 @@ bool-of_rust b r = on-ok (IsOfRust (bool b)) r (tt, tt)
 pub text-of_rust : {E : Type 0} (t : List ℕ) (r : Result (Unit {0}) E) → is_utf8 t ≡ true → OnOk r (IsOfRust (text t))
 unfolding WellFormed RawParts
 text-of_rust t r utf8 = on-ok (IsOfRust (text t)) r (utf8, tt)
+
+pub u64-of_rust : {E : Type 0} (n : ℕ) (r : Result (Unit {0}) E) → n < 2 ^ 64 → OnOk r (IsOfRust (u64 n))
+unfolding WellFormed RawParts
+u64-of_rust n r fits = on-ok (IsOfRust (u64 n)) r (fits, tt)
+
+pub i64-of_rust : {E : Type 0} (z : ℤ) (r : Result (Unit {0}) E) → IsWithin 63 z → OnOk r (IsOfRust (i64 z))
+unfolding WellFormed RawParts
+i64-of_rust z r fits = on-ok (IsOfRust (i64 z)) r (fits, tt)

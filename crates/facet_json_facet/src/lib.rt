@@ -5,7 +5,10 @@
 
 mod facet;
 mod next;
+mod signed;
 mod texts;
 mod truth;
+mod unsigned;
+mod whole;
 
 pub use facet::Facet;

@@ -1,0 +1,26 @@
+use Rattle.std.proofs.Common.{sym, subst, rules, SFits}
+use Rattle.std.specs.Int.{w128}
+use Rattle.std.proofs.lemmas.Int.{to_z-of_z}
+use Rattle.std.proofs.lemmas.Result.{err_from_is_err_and}
+use Rattle.facet_format.specs.Views.{refusal_of}
+use Rattle.facet_json_meaning.specs.Reading.{IsRead}
+use Rattle.facet_json_meaning.specs.Readings.{whole_of, leaf}
+use Rattle.facet_json_meaning.proofs.LeafReadings.{leaf-read, leaf-unread, leaf-document, none-unread}
+use Rattle.facet_json_facet.proofs.whole.next_whole.Goals as goal
+
+pub returns-in_err-event-clause-unread : goal.returns-in_err-event-clause-unread
+returns-in_err-event-clause-unread c =
+    let p = err_from_is_err_and c.from_residual.result c.from_residual.ensures.1 in
+    rw (p.1, p.2) (none-unread (leaf whole_of) _ _ c.in_err-event.ensures.lacks)
+
+pub returns-in-Ok-clause-read : goal.returns-in-Ok-clause-read
+returns-in-Ok-clause-read c =
+    let fits : SFits w128 c.in-Ok.value = search rules in
+    subst (λ z. IsRead (leaf whole_of) c.args.parser.now z c.next_of_value.new.parser) (sym (to_z-of_z w128 c.in-Ok.value fits))
+    (leaf-read whole_of _ _ _ c.in-Ok.value c.in_ok-event.ensures.walks c.in-Ok.ensures.taken)
+
+pub returns-in-Ok-clause-document : goal.returns-in-Ok-clause-document
+returns-in-Ok-clause-document c = leaf-document whole_of _ _ _ c.in-Ok.value c.in_ok-event.ensures.passed c.in-Ok.ensures.taken
+
+pub returns-in-Err-clause-unread : goal.returns-in-Err-clause-unread
+returns-in-Err-clause-unread c = leaf-unread whole_of _ _ _ (refusal_of c.in-Err.refused) c.in_ok-event.ensures.walks c.in-Err.ensures.refused
