@@ -1,4 +1,4 @@
-//! Whole numbers with a sign: `i8`, `i16`, `i32` and `i64`.
+//! Whole numbers with a sign: `i8`, `i16`, `i32`, `i64` and `isize`.
 
 use crate::facet::Facet;
 use crate::whole::{next_whole, out_of_range};
@@ -190,6 +190,57 @@ impl<'de> Facet<'de> for i64 {
 
     fn write(&self, serializer: &mut JsonSerializer<'_>) -> Result<(), JsonSerializeError> {
         serializer.scalar(ScalarValue::I64(*self))
+    }
+
+    ghost same_reading = { leaf-same (signed_of 63) };
+
+    ghost same_reading_borrowed = { leaf-same (signed_of 63) };
+
+    ghost reads_back = { i64-reads_back };
+}
+
+impl<'de> Facet<'de> for isize {
+    ghost use Rattle.std.specs.Prelude.{ℤ, true};
+    ghost use Rattle.facet_json_document.specs.Tree.{i64 as i64_tree};
+    ghost use Rattle.facet_json_written.specs.AsRead.{IsWithin};
+    ghost use Rattle.facet_json_meaning.specs.Readings.{leaf, signed_of};
+    ghost use Rattle.facet_json_meaning.proofs.LeafLaws.{leaf-same};
+    ghost use Rattle.facet_json_meaning.proofs.WholeNumbers.{i64-reads_back};
+
+    ghost View = { ℤ };
+
+    ghost view = { λ n. n };
+
+    ghost reading = { leaf (signed_of 63) };
+
+    ghost reading_borrowed = { leaf (signed_of 63) };
+
+    ghost tree_of = { i64_tree };
+
+    ghost readable = { λ n. IsWithin 63 n };
+
+    ghost whole = { true };
+
+    fn read_owned<'t>(
+        _alloc: Global,
+        parser: &mut JsonParser<'de>,
+    ) -> Result<isize, DeserializeError<'t>> {
+        let number = next_whole("isize", parser)?;
+        match isize::try_from(number.value) {
+            Ok(n) => Ok(n),
+            Err(_) => Err(out_of_range("isize", number.span)),
+        }
+    }
+
+    fn read<'t>(
+        alloc: Global,
+        parser: &mut JsonParser<'de>,
+    ) -> Result<isize, DeserializeError<'t>> {
+        isize::read_owned(alloc, parser)
+    }
+
+    fn write(&self, serializer: &mut JsonSerializer<'_>) -> Result<(), JsonSerializeError> {
+        serializer.scalar(ScalarValue::I64(*self as i64))
     }
 
     ghost same_reading = { leaf-same (signed_of 63) };

@@ -1,4 +1,4 @@
-//! Whole numbers without a sign: `u8`, `u16`, `u32` and `u64`.
+//! Whole numbers without a sign: `u8`, `u16`, `u32`, `u64` and `usize`.
 
 use crate::facet::Facet;
 use crate::whole::{next_whole, out_of_range};
@@ -186,6 +186,56 @@ impl<'de> Facet<'de> for u64 {
 
     fn write(&self, serializer: &mut JsonSerializer<'_>) -> Result<(), JsonSerializeError> {
         serializer.scalar(ScalarValue::U64(*self))
+    }
+
+    ghost same_reading = { leaf-same (unsigned_of 64) };
+
+    ghost same_reading_borrowed = { leaf-same (unsigned_of 64) };
+
+    ghost reads_back = { u64-reads_back };
+}
+
+impl<'de> Facet<'de> for usize {
+    ghost use Rattle.std.specs.Prelude.{ℕ, true, ◌<◌, ◌^◌};
+    ghost use Rattle.facet_json_document.specs.Tree.{u64 as u64_tree};
+    ghost use Rattle.facet_json_meaning.specs.Readings.{leaf, unsigned_of};
+    ghost use Rattle.facet_json_meaning.proofs.LeafLaws.{leaf-same};
+    ghost use Rattle.facet_json_meaning.proofs.WholeNumbers.{u64-reads_back};
+
+    ghost View = { ℕ };
+
+    ghost view = { λ n. n };
+
+    ghost reading = { leaf (unsigned_of 64) };
+
+    ghost reading_borrowed = { leaf (unsigned_of 64) };
+
+    ghost tree_of = { u64_tree };
+
+    ghost readable = { λ n. n < 2 ^ 64 };
+
+    ghost whole = { true };
+
+    fn read_owned<'t>(
+        _alloc: Global,
+        parser: &mut JsonParser<'de>,
+    ) -> Result<usize, DeserializeError<'t>> {
+        let number = next_whole("usize", parser)?;
+        match usize::try_from(number.value) {
+            Ok(n) => Ok(n),
+            Err(_) => Err(out_of_range("usize", number.span)),
+        }
+    }
+
+    fn read<'t>(
+        alloc: Global,
+        parser: &mut JsonParser<'de>,
+    ) -> Result<usize, DeserializeError<'t>> {
+        usize::read_owned(alloc, parser)
+    }
+
+    fn write(&self, serializer: &mut JsonSerializer<'_>) -> Result<(), JsonSerializeError> {
+        serializer.scalar(ScalarValue::U64(*self as u64))
     }
 
     ghost same_reading = { leaf-same (unsigned_of 64) };
