@@ -1,12 +1,14 @@
 -- What calls append, step by step.
-use Rattle.std.proofs.Common.{◌≡◌, ℕ, suc, ◌+◌, Bool, false, List, [], ◌∷◌, ◌++◌, length, Option, Some, None, Ok, Err, refl, sym, ap, ◌∙◌, subst, append_assoc, add-one, unwrap_or}
-use Rattle.facet_format.specs.Bytes.{right_bracket, right_brace}
-use Rattle.facet_json_document.specs.Text.{Options, new_line, separator, line_at_end, colon_text}
+use Rattle.std.proofs.Common.{◌≡◌, ℕ, suc, ◌+◌, Bool, false, List, [], ◌∷◌, ◌++◌, length, Option, Some, None, Ok, Err, ℤ, refl, sym, ap, ◌∙◌, subst, append_assoc, add-one, unwrap_or}
+use Rattle.std.specs.Fmt.{decimal, signed_decimal}
+use Rattle.facet_format.specs.Bytes.{right_bracket, right_brace, comma}
+use Rattle.facet_format.specs.Event as event
+use Rattle.facet_json_document.specs.Text.{Options, text, new_line, separator, line_at_end, colon_text}
 use Rattle.facet_json_document.specs.Quoted.{quoted}
 use Rattle.facet_format.specs.SerializerCall.{Call}
-use Rattle.facet_json_serializer.specs.Serializer.{Opened, in_struct, in_list, Writing, Addition, addition, appended, before_value, after_value, key_added, struct_ended, list_ended, key_outside_struct, no_struct_to_end, no_list_to_end}
+use Rattle.facet_json_serializer.specs.Serializer.{Opened, in_struct, in_list, Writing, Addition, addition, appended, before_value, after_value, key_added, struct_ended, list_ended, scalar_text, key_outside_struct, no_struct_to_end, no_list_to_end}
 use Rattle.facet_json_serializer.specs.Open.{struct_mark, list_mark, around, with_first_passed}
-use Rattle.facet_json_serializer.specs.Writes.{Writes, writes, value_begun}
+use Rattle.facet_json_serializer.specs.Writes.{Writes, writes, value_begun, with_text}
 
 -- all that a call appends is there
 pub wrote : (w n : Writing) (call : Call) (a : Addition) → addition w.options w.stack call ≡ Ok a → n ≡ appended w a
@@ -22,6 +24,29 @@ value_written w mid spelled out begun is =
     rw (is, begun)
     (ap (λ t. record { options = w.options; stack = after_value w.stack; written = t })
     (append_assoc w.written (before_value w.options w.stack) (spelled w.options)))
+
+-- the same where what stands before it is a comma, and both were written at once
+pub comma_written : (w : Writing) (spelled out : List ℕ) → value_begun w ≡ with_text w (comma ∷ []) → out ≡ w.written ++ comma ∷ spelled
+    → record { options = w.options; stack = w.stack; written = out }
+    ≡ appended w (record { added = before_value w.options w.stack ++ spelled; stack = after_value w.stack })
+comma_written w spelled out begun is =
+    let bytes : w.written ++ comma ∷ spelled ≡ w.written ++ (before_value w.options w.stack ++ spelled) =
+    sym (append_assoc w.written (comma ∷ []) spelled) ∙ ap (λ m. m.written ++ spelled) (sym begun)
+    ∙ append_assoc w.written (before_value w.options w.stack) spelled in
+    rw (is, bytes) (ap (λ k. record {
+      options = w.options;
+      stack = k;
+      written = w.written ++ (before_value w.options w.stack ++ spelled);
+    }) (sym (ap (λ m. m.stack) begun)))
+
+-- a whole number's text is its digits
+pub unsigned-text : (o : Options) (n : ℕ) → scalar_text o (event.u64 n) ≡ decimal n
+unfolding text
+unsigned-text o n = refl
+
+pub signed-text : (o : Options) (n : ℤ) → scalar_text o (event.i64 n) ≡ signed_decimal n
+unfolding text
+signed-text o n = refl
 
 -- the same where a container was opened
 pub container_begun : (w mid : Writing) (c : Opened) (stack : List Opened) (bytes out : List ℕ) → mid ≡ value_begun w → stack ≡ c ∷ mid.stack

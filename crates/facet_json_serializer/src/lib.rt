@@ -4,6 +4,7 @@
 mod append;
 mod bytes_text;
 mod containers;
+mod digits;
 mod error;
 pub mod laws;
 mod layout;

@@ -203,6 +203,7 @@ impl<'i> FormatSerializer for JsonSerializer<'i> {
     /// # Errors
     ///
     /// `OutOfMemory`.
+    #[inline(always)]
     fn scalar(&mut self, value: ScalarValue<'_>) -> Result<(), JsonSerializeError>
         ensures serves { IsServed Takes IsSpent self.old (scalar (scalar_value_of value.entry)) result self.new }
         ensures appends { Appends self.old (scalar (scalar_value_of value.entry)) (answer_of result) self.new }

@@ -1,15 +1,18 @@
 //! A text that is written while memory suffices: what each call appends, and what it leaves open.
 
-ghost use Rattle.std.specs.Prelude.{◌≡◌, [], OnOk};
+ghost use Rattle.std.specs.Prelude.{◌≡◌, [], ◌∷◌, true, OnOk};
+ghost use Rattle.facet_format.specs.Bytes.{comma};
+ghost use Rattle.facet_format.specs.Event as event;
 ghost use Rattle.facet_format.specs.Views.{scalar_value_of};
 ghost use Rattle.facet_format.specs.SerializerCall as calls;
 ghost use Rattle.facet_json_options.specs.Views.{options_of};
 ghost use Rattle.facet_json_serializer.specs.Views.{writing_of, answer_of};
-ghost use Rattle.facet_json_serializer.specs.Writes.{Writes, value_begun};
+ghost use Rattle.facet_json_serializer.specs.Writes.{Writes, value_begun, with_text};
 
 use crate::append::push_bytes;
 use crate::bytes_text::push_bytes_text;
 use crate::containers::{Container, Containers};
+use crate::digits::{push_comma_signed, push_comma_unsigned, push_signed, push_unsigned};
 use crate::error::JsonSerializeError;
 use crate::layout::{push_colon, push_line, push_line_at_end, push_separator};
 use crate::scalar_text::push_scalar;
@@ -38,9 +41,29 @@ impl<'i> Writing<'i> {
         }
     }
 
+    /// A value would stand after a comma alone: in a list that holds others, on one line.
+    #[inline(always)]
+    fn follows_a_comma(&self) -> bool
+        ensures { result ≡ true → value_begun (writing_of self.now) ≡ with_text (writing_of self.now) (comma ∷ []) }
+    {
+        !self.options.pretty && matches!(self.stack.list_mark(), Some(false))
+    }
+
     /// Appends what stands before a value.
     #[inline(always)]
     fn begin_value(&mut self) -> Result<(), AllocError>
+        ensures { OnOk result (writing_of self.new ≡ value_begun (writing_of self.old)) }
+    {
+        if self.follows_a_comma() {
+            self.out.push(b',')?;
+            return Ok(());
+        }
+        self.begin_apart()
+    }
+
+    /// The same, out of line: for the first value, outside a list, and where the text is indented.
+    #[inline(never)]
+    fn begin_apart(&mut self) -> Result<(), AllocError>
         ensures { OnOk result (writing_of self.new ≡ value_begun (writing_of self.old)) }
     {
         let Some(is_empty) = self.stack.list_mark() else {
@@ -120,7 +143,64 @@ impl<'i> Writing<'i> {
     }
 
     /// Writes a value that holds no others.
+    #[inline(always)]
     pub(crate) fn scalar(&mut self, value: &ScalarValue<'_>) -> Result<(), JsonSerializeError>
+        ensures { Writes (writing_of self.old) (calls.scalar (scalar_value_of value.now)) (answer_of result) (writing_of self.new) }
+    {
+        match value {
+            ScalarValue::U64(n) => self.unsigned(*n),
+            ScalarValue::I64(n) => self.signed(*n),
+            _ => self.scalar_apart(value),
+        }
+    }
+
+    /// Writes a whole number without a sign.
+    #[inline(always)]
+    fn unsigned(&mut self, n: u64) -> Result<(), JsonSerializeError>
+        ensures { Writes (writing_of self.old) (calls.scalar (event.u64 n)) (answer_of result) (writing_of self.new) }
+    {
+        if self.follows_a_comma() {
+            push_comma_unsigned(&mut self.out, n)?;
+            return Ok(());
+        }
+        self.unsigned_apart(n)
+    }
+
+    /// The same, out of line: where no comma alone stands before it.
+    #[inline(never)]
+    fn unsigned_apart(&mut self, n: u64) -> Result<(), JsonSerializeError>
+        ensures { Writes (writing_of self.old) (calls.scalar (event.u64 n)) (answer_of result) (writing_of self.new) }
+    {
+        self.begin_apart()?;
+        push_unsigned(&mut self.out, n)?;
+        Ok(())
+    }
+
+    /// Writes a whole number that may have a sign.
+    #[inline(always)]
+    fn signed(&mut self, n: i64) -> Result<(), JsonSerializeError>
+        ensures { Writes (writing_of self.old) (calls.scalar (event.i64 n)) (answer_of result) (writing_of self.new) }
+    {
+        if self.follows_a_comma() {
+            push_comma_signed(&mut self.out, n)?;
+            return Ok(());
+        }
+        self.signed_apart(n)
+    }
+
+    /// The same, out of line: where no comma alone stands before it.
+    #[inline(never)]
+    fn signed_apart(&mut self, n: i64) -> Result<(), JsonSerializeError>
+        ensures { Writes (writing_of self.old) (calls.scalar (event.i64 n)) (answer_of result) (writing_of self.new) }
+    {
+        self.begin_apart()?;
+        push_signed(&mut self.out, n)?;
+        Ok(())
+    }
+
+    /// Writes a value of any kind that holds no others.
+    #[inline(never)]
+    fn scalar_apart(&mut self, value: &ScalarValue<'_>) -> Result<(), JsonSerializeError>
         ensures { Writes (writing_of self.old) (calls.scalar (scalar_value_of value.now)) (answer_of result) (writing_of self.new) }
     {
         self.begin_value()?;

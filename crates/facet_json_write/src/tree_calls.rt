@@ -43,8 +43,8 @@ pub fn write_tree(
         Tree::Unit => write_raw(serializer, "null"),
         Tree::Bool(b) => write_bool(serializer, *b),
         Tree::Char(c) => write_char(serializer, *c),
-        Tree::I64(n) => write_number(serializer, *n),
-        Tree::U64(n) => write_number(serializer, *n),
+        Tree::I64(n) => write_signed(serializer, *n),
+        Tree::U64(n) => write_unsigned(serializer, *n),
         Tree::I128(n) => write_number(serializer, *n),
         Tree::U128(n) => write_number(serializer, *n),
         Tree::Decimal(decimal) => write_raw(serializer, decimal.as_str()),
@@ -109,7 +109,23 @@ fn write_bool(serializer: &mut JsonSerializer<'_>, b: bool) -> Result<(), JsonSe
     serializer.raw_scalar(if b { "true" } else { "false" })
 }
 
-/// Writes a whole number by its digits.
+/// Writes a whole number of 64 bits without a sign.
+#[inline(never)]
+fn write_unsigned(serializer: &mut JsonSerializer<'_>, n: u64) -> Result<(), JsonSerializeError>
+    ensures { Appends serializer.old (scalar (event.u64 n)) (answer_of result) serializer.new }
+{
+    serializer.scalar(ScalarValue::U64(n))
+}
+
+/// Writes a whole number of 64 bits that may have a sign.
+#[inline(never)]
+fn write_signed(serializer: &mut JsonSerializer<'_>, n: i64) -> Result<(), JsonSerializeError>
+    ensures { Appends serializer.old (scalar (event.i64 n)) (answer_of result) serializer.new }
+{
+    serializer.scalar(ScalarValue::I64(n))
+}
+
+/// Writes a whole number of 128 bits by its digits.
 #[inline(never)]
 fn write_number<N: itoa::Integer>(
     serializer: &mut JsonSerializer<'_>,

@@ -11,7 +11,9 @@ use Rattle.facet_format.specs.Event as event
 use Rattle.facet_json_document.specs.Text.{text}
 use Rattle.facet_json_document.specs.Tree.{list, pairs}
 use Rattle.facet_json_document.specs.Tree as tree
-use Rattle.facet_format.specs.SerializerCall.{begin_struct, field_key, end_struct, begin_seq, end_seq}
+use Rattle.facet_format.specs.SerializerCall.{begin_struct, field_key, end_struct, begin_seq, end_seq, scalar}
+use Rattle.facet_json_serializer.specs.Serializer.{Appends}
+use Rattle.facet_json_serializer.specs.Views.{answer_of}
 use Rattle.facet_json_serializer.specs.TreeCalls.{tree_calls, item_calls, member_calls}
 use Rattle.facet_json_tree.specs.Views.{tree_view, trees_view, pairs_view}
 use Rattle.facet_json_tree.proofs.TreeViews.{tree_view-Null, tree_view-Unit, tree_view-Bool, tree_view-Char, tree_view-I64, tree_view-U64, tree_view-I128, tree_view-U128, tree_view-Decimal, tree_view-Text, tree_view-Bytes, tree_view-Raw, tree_view-Pairs, trees_view-drop, pairs_view-drop}
@@ -70,10 +72,11 @@ write_tree-returns-in-Text-clause-of_rust t c =
     seen-of_rust _ _ _ (ap tree_view c.in-Text.is ∙ tree_view-Text _) (is_utf8-from_IsUtf8 _ (IsUtf8-string_bytes c.in-Text.text), tt)
 
 pub write_tree-returns-in-I64-clause-written : goal.write_tree-returns-in-I64-clause-written
-unfolding text
 write_tree-returns-in-I64-clause-written t c =
     let fits : SFits w64 c.in-I64.n = search rules in
-    raw-called _ _ _ (tree_view c.args.tree.now) _ (λ o depth. ap signed_decimal (to_z-of_z w64 c.in-I64.n fits) ∙ ap (text o depth) (sym (ap tree_view c.in-I64.is ∙ tree_view-I64 _))) c.write_number.ensures
+    let called = subst (λ n. Appends c.args.serializer.now (scalar (event.i64 n)) (answer_of c.write_signed.result) c.write_signed.new.serializer)
+    (to_z-of_z w64 c.in-I64.n fits) c.write_signed.ensures in
+    scalar-called _ _ (event.i64 c.in-I64.n) _ _ (ap tree_view c.in-I64.is ∙ tree_view-I64 _) called
 
 pub write_tree-returns-in-I64-clause-of_rust : goal.write_tree-returns-in-I64-clause-of_rust
 unfolding WellFormed RawParts
@@ -82,9 +85,8 @@ write_tree-returns-in-I64-clause-of_rust t c =
     seen-of_rust _ _ _ (ap tree_view c.in-I64.is ∙ tree_view-I64 _) (fits-within w64 c.in-I64.n fits, tt)
 
 pub write_tree-returns-in-U64-clause-written : goal.write_tree-returns-in-U64-clause-written
-unfolding text
 write_tree-returns-in-U64-clause-written t c =
-    raw-called _ _ _ (tree_view c.args.tree.now) _ (λ o depth. ap (text o depth) (sym (ap tree_view c.in-U64.is ∙ tree_view-U64 _))) c.write_number-in-U64.ensures
+    scalar-called _ _ (event.u64 c.in-U64.n) _ _ (ap tree_view c.in-U64.is ∙ tree_view-U64 _) c.write_unsigned.ensures
 
 pub write_tree-returns-in-U64-clause-of_rust : goal.write_tree-returns-in-U64-clause-of_rust
 unfolding WellFormed RawParts
@@ -96,7 +98,7 @@ pub write_tree-returns-in-I128-clause-written : goal.write_tree-returns-in-I128-
 unfolding text
 write_tree-returns-in-I128-clause-written t c =
     let fits : SFits w128 c.in-I128.n = search rules in
-    raw-called _ _ _ (tree_view c.args.tree.now) _ (λ o depth. ap signed_decimal (to_z-of_z w128 c.in-I128.n fits) ∙ ap (text o depth) (sym (ap tree_view c.in-I128.is ∙ tree_view-I128 _))) c.write_number-in-I128.ensures
+    raw-called _ _ _ (tree_view c.args.tree.now) _ (λ o depth. ap signed_decimal (to_z-of_z w128 c.in-I128.n fits) ∙ ap (text o depth) (sym (ap tree_view c.in-I128.is ∙ tree_view-I128 _))) c.write_number.ensures
 
 pub write_tree-returns-in-I128-clause-of_rust : goal.write_tree-returns-in-I128-clause-of_rust
 unfolding WellFormed RawParts

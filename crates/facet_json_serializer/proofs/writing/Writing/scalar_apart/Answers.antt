@@ -4,7 +4,7 @@ use Rattle.facet_json_serializer.specs.Writes.{runs_out}
 use Rattle.facet_json_serializer.proofs.Outcomes.{wrote, value_written}
 use Rattle.facet_format.specs.Views.{scalar_value_of}
 use Rattle.facet_json_serializer.specs.Serializer.{scalar_text}
-use Rattle.facet_json_serializer.proofs.writing.Writing.scalar.Goals as goal
+use Rattle.facet_json_serializer.proofs.writing.Writing.scalar_apart.Goals as goal
 
 pub returns-in_err-begin_value : goal.returns-in_err-begin_value
 returns-in_err-begin_value c =

@@ -1,0 +1,23 @@
+use Rattle.std.proofs.Common.{refl, sym, ap, ◌∙◌, ◌++◌, ◌∷◌, rules, w64, SFits}
+use Rattle.std.specs.Fmt.{signed_decimal}
+use Rattle.std.proofs.lemmas.Int.{to_z-of_z}
+use Rattle.std.proofs.lemmas.Result.{err_from_is_err_and}
+use Rattle.facet_format.specs.Bytes.{comma}
+use Rattle.facet_format.specs.Event as event
+use Rattle.facet_json_serializer.specs.Serializer.{scalar_text}
+use Rattle.facet_json_serializer.specs.Views.{writing_of}
+use Rattle.facet_json_serializer.specs.Writes.{runs_out}
+use Rattle.facet_json_serializer.proofs.Outcomes.{wrote, comma_written, signed-text}
+use Rattle.facet_json_serializer.proofs.writing.Writing.signed.Goals as goal
+
+pub returns-in_err-push_comma_signed : goal.returns-in_err-push_comma_signed
+returns-in_err-push_comma_signed c =
+    let p = err_from_is_err_and c.from_residual.result c.from_residual.ensures.1 in
+    rw (p.1, p.2) (runs_out _ _ _ _ refl)
+
+pub returns-then-follows_a_comma : goal.returns-then-follows_a_comma
+returns-then-follows_a_comma c =
+    let fits : SFits w64 c.args.n = search rules in
+    let w = writing_of c.args.self.now in
+    wrote _ _ _ _ refl (comma_written w (scalar_text w.options (event.i64 c.args.n)) _ (c.follows_a_comma.ensures c.if-follows_a_comma.true)
+    (c.in_ok-push_comma_signed.ensures ∙ ap (λ t. w.written ++ comma ∷ t) (ap signed_decimal (to_z-of_z w64 c.args.n fits) ∙ sym (signed-text w.options c.args.n))))
