@@ -1,3 +1,4 @@
+pub mod InsideTexts
 pub mod PackedKinds
 pub mod ScannedTokens
 pub mod TurnsAtPlaces

@@ -1,5 +1,5 @@
 -- What an answer of the plain cut in code says of the tokens that are left.
-use Rattle.std.proofs.Common.{◌≡◌, ℕ, ◌≤◌, ◌<◌, List, length, Some, Ok, Err, refl, sym, subst, arith}
+use Rattle.std.proofs.Common.{◌≡◌, ℕ, ◌≤◌, ◌<◌, List, length, Some, Ok, Err, refl, sym, subst, ◌∙◌, arith}
 use Rattle.std.proofs.lemmas.Option.{same_Some}
 use Rattle.facet_format.specs.declared.span.Span.{Span as RustSpan}
 use Rattle.facet_json_token.specs.declared.token.Token.{Token as RustToken}
@@ -8,7 +8,7 @@ use Rattle.facet_json_token.specs.declared.token.SpannedToken.{SpannedToken}
 use Rattle.facet_json_token.specs.declared.token.ScanErrorKind.{ScanErrorKind}
 use Rattle.facet_json_token.specs.declared.token.ScanErrorKind.TheVariants as scan
 use Rattle.facet_json_token.specs.declared.token.ScanError.{ScanError}
-use Rattle.facet_format.specs.Complaint.{refusal_at}
+use Rattle.facet_format.specs.Complaint.{Refusal, refusal_at}
 use Rattle.facet_format.specs.Span.{stop}
 use Rattle.facet_format.specs.Views.{span_of}
 use Rattle.facet_json_token.specs.Gap.{Mode}
@@ -20,6 +20,8 @@ use Rattle.facet_json_token.specs.Views.{kind_of, token_answer, fault_answer, sc
 use Rattle.facet_json_token.proofs.CutBounds.{TokenFits, KindFits, cut-token_fits}
 use Rattle.facet_json_token.proofs.TokensSteps.{tokens_from-token, tokens_from-fault, tokens_from-nothing}
 use Rattle.facet_json_document.specs.Place.{complaint_of_fault}
+use Rattle.facet_json_place.specs.Views.{IsNamed}
+use Rattle.facet_json_place.proofs.InsideTexts.{KindInside, cut-inside}
 
 -- ---- a token
 
@@ -78,6 +80,7 @@ is_cut buffer position mode t p e = cut_by buffer position mode t _ p refl (toke
 record FaultAnswer (e : ScanError) (c : Cut) : Type 0 where
   what : Fault
   is_fault : c ≡ fault what
+  named : KindInside what.kind → IsNamed e.kind
   passed_on : scan_refusal e ≡ refusal_at (complaint_of_fault what.kind) what.span
 
 fault_answer-is : (s : RustSpan) (kind : ScanErrorKind) (c : Cut) → fault_answer s kind ≡ Some c →
@@ -85,11 +88,13 @@ fault_answer-is : (s : RustSpan) (kind : ScanErrorKind) (c : Cut) → fault_answ
 fault_answer-is s (scan.UnexpectedChar ch) c e = record {
   what = record { kind = token.unexpected_char ch; span = span_of s };
   is_fault = sym (same_Some _ _ e);
+  named = λ _. tt;
   passed_on = refl;
 }
 fault_answer-is s (scan.UnexpectedEof text) c e = record {
   what = record { kind = token.unexpected_eof text.now; span = span_of s };
   is_fault = sym (same_Some _ _ e);
+  named = λ text. text;
   passed_on = refl;
 }
 fault_answer-is s scan.InvalidUtf8 c e = cc
@@ -97,11 +102,12 @@ fault_answer-is s scan.InvalidUtf8 c e = cc
 -- What is known of a fault that is cut: it ends the tokens, and is passed on so.
 pub record Refuses (buffer : List ℕ) (position : ℕ) (mode : Mode) (e : ScanError) : Type 0 where
   pub what : Fault
-  pub passed_on : scan_refusal e ≡ refusal_at (complaint_of_fault what.kind) what.span
+  pub passed_on : (r : Refusal) → (IsNamed e.kind → r ≡ scan_refusal e) → r ≡ refusal_at (complaint_of_fault what.kind) what.span
   pub tokens : tokens_from buffer mode position ≡ refused what
 
 pub is_refused : (buffer : List ℕ) (position : ℕ) (mode : Mode) (e : ScanError) →
     scanned (Err e) ≡ Some (cut buffer position mode) → Refuses buffer position mode e
 is_refused buffer position mode e h =
     let a : FaultAnswer e (cut buffer position mode) = fault_answer-is e.span e.kind _ h in
-    record { what = a.what; passed_on = a.passed_on; tokens = tokens_from-fault buffer position mode a.what a.is_fault }
+    let is_named = a.named (cut-inside buffer position mode a.what a.is_fault) in
+    record { what = a.what; passed_on = λ r p. p is_named ∙ a.passed_on; tokens = tokens_from-fault buffer position mode a.what a.is_fault }

@@ -10,4 +10,4 @@ mod refusal;
 pub use contexts::Contexts;
 pub use language::Language;
 pub use place::{Place, Turn};
-pub use refusal::{Expected, Name, NoRaw, Refused, Why};
+pub use refusal::{Expected, Inside, Name, NoRaw, Refused, Why};

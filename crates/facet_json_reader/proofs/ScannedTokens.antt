@@ -17,6 +17,7 @@ use Rattle.facet_json_token.specs.Views.{kind_of, scanned, scan_refusal}
 use Rattle.facet_json_token.proofs.CutBounds.{KindFits, StringFits, NumberFits}
 use Rattle.facet_json_document.specs.Place.{Place}
 use Rattle.facet_json_document.specs.Refusal.{at_fault}
+use Rattle.facet_json_place.specs.Views.{IsNamed}
 use Rattle.facet_json_place.proofs.ScannedTokens.{IsCut, ends, stands, is_cut, is_refused}
 use Rattle.facet_json_reader.specs.TokenViews.{CanBeRead}
 use Rattle.facet_json_reader.specs.Views.{StopsAt}
@@ -56,7 +57,7 @@ cut-readable buffer position mode t p e = can_be buffer position mode t (is_cut 
 
 -- A fault stops the reader wherever it stands.
 pub fault-stops : (buffer : List ℕ) (position : ℕ) (mode : Mode) (e : ScanError) (place : Place) (r : Refusal) →
-    scanned (Err e) ≡ Some (cut buffer position mode) → r ≡ scan_refusal e →
+    scanned (Err e) ≡ Some (cut buffer position mode) → (IsNamed e.kind → r ≡ scan_refusal e) →
     StopsAt buffer place (tokens_from buffer mode position) r
 fault-stops buffer position mode e place r h p =
-    let f = is_refused buffer position mode e h in rw (p, f.passed_on, f.tokens) (at_fault place f.what)
+    let f = is_refused buffer position mode e h in rw (f.passed_on r p, f.tokens) (at_fault place f.what)

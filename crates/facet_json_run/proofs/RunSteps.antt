@@ -18,6 +18,7 @@ use Rattle.facet_json_document.specs.Run.{opening, one_token}
 use Rattle.facet_json_document.specs.Inner.PassedRun.{leaves, crosses, passing, Outcome, closes, stops, passed}
 use Rattle.facet_json_document.proofs.Runs.RunsPassed.{passed-next}
 use Rattle.facet_json_document.proofs.Runs.PassedRuns.{is-outcome}
+use Rattle.facet_json_place.specs.Views.{IsNamed}
 use Rattle.facet_json_place.proofs.ScannedTokens.{IsCut, ends, stands, is_cut, Refuses, is_refused}
 use Rattle.facet_json_run.specs.Views.{EndsRun, IsRefused, breaks_off, without_memory, value_expected}
 
@@ -92,11 +93,11 @@ module _ (buffer : List ℕ) (mode : Mode) where
 
     -- A fault breaks the run off.
     pub fault-stops : (e : ScanError) (refusal : Refusal) → scanned (Err e) ≡ Some (cut buffer (stop s) mode) →
-        refusal ≡ scan_refusal e → IsRefused buffer last (run_tokens kind first) refusal
+        (IsNamed e.kind → refusal ≡ scan_refusal e) → IsRefused buffer last (run_tokens kind first) refusal
     unfolding passed
     fault-stops e refusal h p =
         let f : Refuses buffer (stop s) mode e = is_refused buffer (stop s) mode e h in
-        stopped kind first last refusal (ap stops (p ∙ f.passed_on) ∙ by_tokens (refused f.what) f.tokens)
+        stopped kind first last refusal (ap stops (f.passed_on refusal p) ∙ by_tokens (refused f.what) f.tokens)
 
     -- So does the end.
     end-stops : (refusal : Refusal) → tokens_from buffer mode (stop s) ≡ ended → refusal ≡ value_expected (span_at (length buffer) 0) →

@@ -19,17 +19,17 @@ use Rattle.facet_json_token.specs.Tokens.{Tokens, ended, next, tokens_from}
 use Rattle.facet_json_token.specs.Views.{kind_of, scanned, scan_refusal}
 use Rattle.facet_json_document.specs.Place.{Place, after_key, leads_on, goes_on}
 use Rattle.facet_json_document.specs.Unread.{IsStuckUnread, at_end, at_fault, past_key, HasColon, colon_stands}
-use Rattle.facet_json_place.specs.Views.{place_of, turn_of, turn_by}
+use Rattle.facet_json_place.specs.Views.{IsNamed, place_of, turn_of, turn_by}
 use Rattle.facet_json_place.proofs.ScannedTokens.{IsCut, ends, stands, is_cut, is_refused}
 
 -- ---- where tokens stop
 
 -- A fault stops the reader wherever it stands.
 pub unread-fault : (buffer : List ℕ) (position : ℕ) (mode : Mode) (e : ScanError) (place : Place) (r : Refusal) →
-    scanned (Err e) ≡ Some (cut buffer position mode) → r ≡ scan_refusal e →
+    scanned (Err e) ≡ Some (cut buffer position mode) → (IsNamed e.kind → r ≡ scan_refusal e) →
     IsStuckUnread buffer place (tokens_from buffer mode position) r
 unread-fault buffer position mode e place r h p =
-    let f = is_refused buffer position mode e h in rw (p, f.passed_on, f.tokens) (at_fault place f.what)
+    let f = is_refused buffer position mode e h in rw (f.passed_on r p, f.tokens) (at_fault place f.what)
 
 module _ (buffer : List ℕ) (mode : Mode) (p : RustPlace) (position : ℕ) (t : SpannedToken) (r : Refusal) where
   stopped_by_cut : IsCut buffer position mode t → turn_of turns.Stops ≡ turn_by (place_of p) (kind_of t.token) →
