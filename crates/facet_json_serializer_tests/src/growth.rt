@@ -2,10 +2,14 @@
 //! of their requests for memory, which is refused, and they have to pass in every such run.
 
 use crate::trees::list_of_trees;
+use crate::writers::{FORMS, Form, sample, text_by, write_by};
 use crate::written::{Call, make};
 use facet_json_options::{HexBytesOptions, SerializeOptions};
+use facet_json_output::{WriteError, peek_to_string, peek_to_vec};
 use facet_json_serializer::JsonSerializer;
+use facet_json_tree::Tree;
 use std::alloc::Global;
+use std::io::ErrorKind;
 
 /// Whether the calls write this text after a padding that is written as it stands; or one of them runs out of memory, and then
 /// each later one too, and no text is given.
@@ -138,4 +142,63 @@ fn writes_trees_or_runs_out(alloc: Global) -> bool {
 #[test]
 fn a_growth_is_refused_in_a_tree(rt: HostRuntime) {
     assert!(rt; writes_trees_or_runs_out(rt.alloc()));
+}
+
+/// Whether the sample is written to a writer that asks for no memory, or memory runs out and nothing is written.
+fn fills_room_or_runs_out(alloc: Global, form: Form, tree: &Tree) -> bool {
+    let text = text_by(form);
+    let mut room = [0; 32];
+    let mut left = room.as_mut_slice();
+    match write_by(form, alloc, &mut left, tree) {
+        Ok(()) => room.starts_with(text.as_bytes()),
+        Err(WriteError::Memory) => room == [0; 32],
+        Err(WriteError::Io(_)) => false,
+    }
+}
+
+/// Whether the sample is written to a vector; or memory runs out, of the text, and then nothing is written, or of the vector.
+fn grows_or_runs_out(alloc: Global, form: Form, tree: &Tree) -> bool {
+    let mut out = Vec::new(alloc);
+    match write_by(form, alloc, &mut out, tree) {
+        Ok(()) => out.as_slice() == text_by(form).as_bytes(),
+        Err(WriteError::Memory) => out.is_empty(),
+        Err(WriteError::Io(error)) => error.kind() == ErrorKind::OutOfMemory,
+    }
+}
+
+/// Whether the sample is looked at, or memory runs out.
+fn peeks_or_runs_out(alloc: Global, tree: &Tree) -> bool {
+    let text = text_by(Form::Compact);
+    let is_vec = match peek_to_vec(alloc, tree) {
+        Ok(written) => written.as_slice() == text.as_bytes(),
+        Err(refusal) => refusal.code() == 4,
+    };
+    let is_string = match peek_to_string(alloc, tree) {
+        Ok(written) => written.as_str() == text,
+        Err(refusal) => refusal.code() == 4,
+    };
+    is_vec && is_string
+}
+
+/// A growth that is refused to a function whose error is a `WriteError`.
+fn one_byte(alloc: Global) -> Result<Vec<u8>, WriteError> {
+    let mut bytes = Vec::new(alloc);
+    bytes.push(1)?;
+    Ok(bytes)
+}
+
+#[test]
+fn a_growth_is_refused_to_a_writer(rt: HostRuntime) {
+    let alloc = rt.alloc();
+    if let Ok(tree) = sample(alloc) {
+        for form in FORMS {
+            assert!(rt; fills_room_or_runs_out(alloc, form, &tree));
+            assert!(rt; grows_or_runs_out(alloc, form, &tree));
+        }
+        assert!(rt; peeks_or_runs_out(alloc, &tree));
+    }
+    match one_byte(alloc) {
+        Ok(bytes) => assert!(rt; bytes.as_slice() == b"\x01".as_slice()),
+        Err(refusal) => assert!(rt; refusal.code() == 1),
+    }
 }

@@ -1,5 +1,6 @@
 //! Tests of `facet_json_serializer`: with ample memory calls write their texts, refusals have theirs, refused growths stick, and
-//! generic code over serializers; and of trees between its calls (`facet_json_write`).
+//! generic code over serializers; of trees between its calls (`facet_json_write`), and of trees to writers
+//! (`facet_json_output`).
 #![tactic(auto)]
 
 #[cfg(test)]
@@ -16,5 +17,7 @@ mod growth;
 mod options;
 #[cfg(test)]
 mod trees;
+#[cfg(test)]
+mod writers;
 #[cfg(test)]
 mod written;

@@ -1,0 +1,15 @@
+//! The text of a tree (RFC 8259, sections 2 to 7) to a writer: `to_writer_std` and its kin, refused by a `WriteError`; and the `peek_to_`
+//! forms, which take a tree and write what the `to_` forms do.
+#![tactic(auto)]
+
+mod error;
+mod peeks;
+mod writers;
+
+pub use error::WriteError;
+pub use peeks::{
+    peek_to_string, peek_to_string_pretty, peek_to_string_with_options, peek_to_vec,
+    peek_to_vec_pretty, peek_to_vec_with_options, peek_to_writer_std, peek_to_writer_std_pretty,
+    peek_to_writer_std_with_options,
+};
+pub use writers::{to_writer_std, to_writer_std_pretty, to_writer_std_with_options};
