@@ -1,1 +1,3 @@
+pub mod MapCalls
 pub mod ScalarsOfRust
+pub mod ListCalls

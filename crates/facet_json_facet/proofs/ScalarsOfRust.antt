@@ -2,7 +2,7 @@
 use Rattle.std.proofs.Common.{◌≡◌, ◌<◌, ◌^◌, ℕ, Bool, true, List, ℤ, Result, Ok, Err}
 use Rattle.std.specs.Result.{OnOk}
 use Rattle.std.specs.Str.{is_utf8}
-use Rattle.facet_json_document.specs.Tree.{bool, i64, u64, text}
+use Rattle.facet_json_document.specs.Tree.{null, bool, i64, u64, text, i128, u128, raw}
 use Rattle.facet_json_written.specs.AsRead.{IsWithin, WellFormed, RawParts}
 use Rattle.facet_json_write.specs.Write.{IsOfRust}
 
@@ -25,3 +25,19 @@ u64-of_rust n r fits = on-ok (IsOfRust (u64 n)) r (fits, tt)
 pub i64-of_rust : {E : Type 0} (z : ℤ) (r : Result (Unit {0}) E) → IsWithin 63 z → OnOk r (IsOfRust (i64 z))
 unfolding WellFormed RawParts
 i64-of_rust z r fits = on-ok (IsOfRust (i64 z)) r (fits, tt)
+
+pub null-of_rust : {E : Type 0} (r : Result (Unit {0}) E) → OnOk r (IsOfRust null)
+unfolding WellFormed RawParts
+null-of_rust r = on-ok (IsOfRust null) r (tt, tt)
+
+pub u128-of_rust : {E : Type 0} (n : ℕ) (r : Result (Unit {0}) E) → n < 2 ^ 128 → OnOk r (IsOfRust (u128 n))
+unfolding WellFormed RawParts
+u128-of_rust n r fits = on-ok (IsOfRust (u128 n)) r (fits, tt)
+
+pub i128-of_rust : {E : Type 0} (z : ℤ) (r : Result (Unit {0}) E) → IsWithin 127 z → OnOk r (IsOfRust (i128 z))
+unfolding WellFormed RawParts
+i128-of_rust z r fits = on-ok (IsOfRust (i128 z)) r (fits, tt)
+
+pub raw-of_rust : {E : Type 0} (t : List ℕ) (r : Result (Unit {0}) E) → is_utf8 t ≡ true → OnOk r (IsOfRust (raw t))
+unfolding WellFormed RawParts
+raw-of_rust t r utf8 = on-ok (IsOfRust (raw t)) r (tt, utf8)

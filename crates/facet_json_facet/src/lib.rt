@@ -4,11 +4,16 @@
 #![tactic(auto)]
 
 mod facet;
+mod lists;
+mod maps;
 mod next;
+mod options;
+mod raw;
 mod signed;
 mod texts;
 mod truth;
 mod unsigned;
 mod whole;
+mod wide;
 
 pub use facet::Facet;

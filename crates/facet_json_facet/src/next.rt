@@ -6,7 +6,9 @@ ghost use Rattle.facet_format.specs.Views.{event_of, refusal_of};
 ghost use Rattle.facet_json_protocol.specs.Now.{ahead, GoesOn};
 ghost use Rattle.facet_json_protocol.specs.Next.{PassesNext};
 ghost use Rattle.facet_json_protocol.specs.Within.{RefusalWithin};
-ghost use Rattle.facet_json_meaning.specs.Passing.{WalksPast, LacksAlone};
+ghost use Rattle.facet_json_meaning.specs.Passing.{WalksPast, LacksAlone, PassesOne};
+ghost use Rattle.facet_json_meaning.specs.Optional.{is_null_event};
+ghost use Rattle.facet_json_meaning.specs.Peeking.{FindsNull};
 
 use facet_format::{
     DeserializeError, DeserializeErrorKind, FormatParser, ParseEvent, ParseEventKind, ScalarValue,
@@ -82,4 +84,44 @@ fn scalar_name<'t>(value: &ScalarValue<'_>) -> &'t str {
         ScalarValue::Decimal(_) => "decimal",
         ScalarValue::Char(_) | ScalarValue::Str(_) | ScalarValue::Bytes(_) => "string",
     }
+}
+
+/// Whether null comes, where a value is to come. It stays the next event.
+///
+/// # Errors
+///
+/// As the parser's `peek_event`.
+pub(crate) fn null_comes<'t>(parser: &mut JsonParser<'_>) -> Result<bool, DeserializeError<'t>>
+    ensures onward { GoesOn parser.old parser.new }
+    ensures finds { IfOk result (λ found. FindsNull parser.old found parser.new) }
+    ensures lacks { IfErr result (λ e. LacksAlone parser.old (refusal_of e)) }
+    ensures within { IfErr result (λ e. RefusalWithin parser.new.buffer (refusal_of e)) }
+{
+    match parser.peek_event()? {
+        Some(event) => Ok(is_null(&event)),
+        None => Ok(false),
+    }
+}
+
+/// The event is null.
+fn is_null(event: &ParseEvent<'_>) -> bool
+    ensures { result ≡ is_null_event (event_of event.now).kind }
+{
+    matches!(event.kind, ParseEventKind::Scalar(ScalarValue::Null))
+}
+
+/// Passes null, where it comes.
+///
+/// # Errors
+///
+/// As `next_of_value`.
+pub(crate) fn pass_null<'t>(parser: &mut JsonParser<'_>) -> Result<(), DeserializeError<'t>>
+    ensures onward { GoesOn parser.old parser.new }
+    ensures shorter { OnOk result (ahead parser.new < ahead parser.old) }
+    ensures passes { OnOk result (PassesOne parser.old parser.new) }
+    ensures lacks { IfErr result (λ e. LacksAlone parser.old (refusal_of e)) }
+    ensures within { IfErr result (λ e. RefusalWithin parser.new.buffer (refusal_of e)) }
+{
+    let _null = next_of_value(parser)?;
+    Ok(())
 }

@@ -1,13 +1,17 @@
-//! Texts: `String`, which owns its text.
+//! Texts: `String`, which owns its text, and `&str`, whose text stands in the input.
 
 ghost use Rattle.std.specs.Prelude.{◌≡◌, ◌⊎◌, IfOk, IfErr, IfSome, None, Some, string_bytes};
 ghost use Rattle.facet_format.specs.Complaint.{no_memory};
 ghost use Rattle.facet_format.specs.Views.{event_of, refusal_of};
+ghost use Rattle.facet_json_meaning.specs.Borrowed.{lent};
 ghost use Rattle.facet_json_meaning.specs.Readings.{taken, text_of};
 
 use crate::facet::Facet;
 use crate::next::{mismatch, next_of_value};
-use facet_format::{DeserializeError, FormatSerializer, ParseEvent, ParseEventKind, ScalarValue};
+use facet_format::{
+    DeserializeError, DeserializeErrorKind, FormatSerializer, ParseEvent, ParseEventKind,
+    ScalarValue, Span,
+};
 use facet_json_parser::JsonParser;
 use facet_json_serializer::{JsonSerializeError, JsonSerializer};
 use std::alloc::Global;
@@ -60,6 +64,58 @@ impl<'de> Facet<'de> for String {
     ghost reads_back = { text-reads_back };
 }
 
+/// A text of the input (RFC 8259, section 7): `read` borrows a string that has no escape. `read_owned` reads none.
+///
+/// ```text
+/// <&str as Facet>::read(alloc, &mut JsonParser::new(alloc, b"\"ab\""))          Ok: the slice ab
+/// <&str as Facet>::read(alloc, &mut JsonParser::new(alloc, b"\"a\\u0062\""))     InvalidValue
+/// ```
+impl<'de> Facet<'de> for &'de str {
+    ghost use Rattle.std.specs.Prelude.{ℕ, List, true};
+    ghost use Rattle.facet_json_document.specs.Tree.{text as text_tree};
+    ghost use Rattle.facet_json_meaning.specs.Borrowed.{borrowed_text, unread_text};
+    ghost use Rattle.facet_json_meaning.proofs.BorrowedLaws.{borrowed-same, unread-same, unread-reads_back};
+
+    ghost View = { List ℕ };
+
+    ghost view = { λ s. s.now };
+
+    ghost reading = { unread_text };
+
+    ghost reading_borrowed = { borrowed_text };
+
+    ghost tree_of = { text_tree };
+
+    ghost readable = { λ t. ⊥ };
+
+    ghost whole = { true };
+
+    fn read_owned<'t>(
+        _alloc: Global,
+        parser: &mut JsonParser<'de>,
+    ) -> Result<&'de str, DeserializeError<'t>> {
+        Err(not_lent(next_of_value(parser)?))
+    }
+
+    fn read<'t>(
+        _alloc: Global,
+        parser: &mut JsonParser<'de>,
+    ) -> Result<&'de str, DeserializeError<'t>> {
+        lent_in(next_of_value(parser)?)
+    }
+
+    fn write(&self, serializer: &mut JsonSerializer<'_>) -> Result<(), JsonSerializeError> {
+        let _utf8 = self.as_bytes();
+        serializer.scalar(ScalarValue::Str(CowStr::Borrowed(*self)))
+    }
+
+    ghost same_reading = { unread-same };
+
+    ghost same_reading_borrowed = { borrowed-same };
+
+    ghost reads_back = { unread-reads_back };
+}
+
 /// The text that an event is.
 fn string_in<'t>(alloc: Global, event: ParseEvent<'_>) -> Result<String, DeserializeError<'t>>
     ensures taken { IfOk result (λ s. taken text_of (event_of event.entry).kind ≡ Some (string_bytes s)) }
@@ -69,5 +125,39 @@ fn string_in<'t>(alloc: Global, event: ParseEvent<'_>) -> Result<String, Deseria
     match event.kind {
         ParseEventKind::Scalar(ScalarValue::Str(text)) => Ok(text.into_owned(alloc)?),
         _ => Err(mismatch("string", event)),
+    }
+}
+
+/// The text of the input that an event is.
+fn lent_in<'t, 'de>(event: ParseEvent<'de>) -> Result<&'de str, DeserializeError<'t>>
+    ensures lent { IfOk result (λ s. lent (event_of event.entry).kind ≡ Some s.now) }
+    ensures refused { IfErr result (λ e. lent (event_of event.entry).kind ≡ None) }
+    ensures span { IfErr result (λ e. e.span ≡ Some event.entry.span) }
+{
+    match event.kind {
+        ParseEventKind::Scalar(ScalarValue::Str(CowStr::Borrowed(text))) => Ok(text),
+        _ => Err(not_lent(event)),
+    }
+}
+
+/// The refusal of an event that is no text of the input.
+fn not_lent<'t>(event: ParseEvent<'_>) -> DeserializeError<'t>
+    ensures { result.span ≡ Some event.entry.span }
+{
+    match event.kind {
+        ParseEventKind::Scalar(ScalarValue::Str(_)) => made(event.span),
+        _ => mismatch("string", event),
+    }
+}
+
+/// The refusal of a text that may not be borrowed.
+fn made<'t>(span: Span) -> DeserializeError<'t>
+    ensures { result.span ≡ Some span }
+{
+    DeserializeError {
+        kind: DeserializeErrorKind::InvalidValue {
+            message: "a borrowed text needs an unescaped string",
+        },
+        span: Some(span),
     }
 }

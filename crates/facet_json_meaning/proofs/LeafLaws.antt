@@ -1,9 +1,9 @@
 -- Types that have their value from a scalar alone: nodes of the same text are read alike, and what is written comes back.
 use Rattle.std.specs.Prelude.{ℕ, List}
 use Rattle.std.specs.Option.{option_map, option_and_then}
-use Rattle.std.proofs.Common.{◌≡◌, ℕ, true, false, Bool, List, Option, None, Some, refl, sym, ap, ◌∙◌}
+use Rattle.std.proofs.Common.{◌≡◌, ℕ, false, List, Option, None, Some, refl, sym, ap, ◌∙◌}
 use Rattle.facet_json_decode.specs.Decode.{decoded}
-use Rattle.facet_format.specs.Number.{Hint, number}
+use Rattle.facet_format.specs.Number.{number}
 use Rattle.facet_json_token.specs.Token.{Kind, Token}
 use Rattle.facet_json_token.specs.Token as token
 use Rattle.facet_json_document.specs.Node.{Node, scalar}
@@ -17,7 +17,7 @@ use Rattle.facet_json_written.specs.AsRead.{RawParts, WellFormed, IsDocumentText
 use Rattle.facet_json_written.specs.AsRead as written
 use Rattle.facet_json_written.proofs.TreeTexts.{written_is_read}
 use Rattle.facet_json_document.specs.Refusal.{needs_meaning}
-use Rattle.facet_json_meaning.specs.Nodes.{SameToken, same_mark, same_string, same_number, SameText, same_scalars, same_arrays, same_objects}
+use Rattle.facet_json_meaning.specs.Nodes.{SameToken, same_mark, same_string, same_number, same_scalars, same_arrays, same_objects}
 use Rattle.facet_json_meaning.specs.Laws.{SameReading, ReadsAs}
 use Rattle.facet_json_meaning.specs.Readings.{leaf}
 

@@ -1,28 +1,27 @@
 -- Types that have their value from a scalar alone: how they are read from one event.
 use Rattle.std.specs.Prelude.{ℕ, List, drop, slice_get, length}
 use Rattle.std.specs.Option.{option_and_then}
-use Rattle.std.proofs.Common.{◌≡◌, ◌+◌, ◌⊎◌, inl, inr, ℕ, zero, suc, true, false, List, [], ◌∷◌, ◌++◌, Option, None, Some, refl, sym, ap, ◌∙◌, subst, arith}
+use Rattle.std.proofs.Common.{◌≡◌, ◌⊎◌, inl, inr, ℕ, zero, suc, List, [], ◌∷◌, ◌++◌, Option, None, Some, refl, sym, ap, ◌∙◌, subst, arith}
 use Rattle.facet_format.specs.Complaint.{Refusal, no_memory}
 use Rattle.facet_format.specs.Event.{Event, EventKind, Scalar, Passed, array, object, sequence_start, sequence_end, struct_start, struct_end, field_key}
 use Rattle.facet_format.specs.Event as event
 use Rattle.facet_format.specs.Cursor.{Cursor, Source, at_spot, unpeeked}
-use Rattle.facet_json_token.specs.Gap.{Mode}
 use Rattle.facet_json_token.specs.Tokens.{Tokens}
 use Rattle.facet_json_document.specs.Node.{Node, scalar}
 use Rattle.facet_json_document.specs.Node as node
 use Rattle.facet_json_document.specs.Tree.{Tree}
-use Rattle.facet_json_document.specs.Meaning.{tree_of, meaning}
+use Rattle.facet_json_document.specs.Meaning.{tree_of}
 use Rattle.facet_json_document.specs.Place.{Place}
-use Rattle.facet_json_document.specs.Walk.{walk, walk_items, walk_members, event_at, scalar_event}
-use Rattle.facet_json_document.specs.Future.{Future, gives, finished, events_before}
+use Rattle.facet_json_document.specs.Walk.{walk, event_at, scalar_event}
+use Rattle.facet_json_document.specs.Future.{Future, gives, finished}
 use Rattle.facet_json_protocol.specs.Now.{Now, fresh, future_of}
 use Rattle.facet_json_protocol.specs.Next.{PassesNext}
-use Rattle.facet_json_transcode.specs.Told.{tree_of_scalar, Tells, a_scalar, a_list, an_object, Breaks, in_front, in_list, in_object}
-use Rattle.facet_json_transcode.specs.Reading.{LacksMemory, IsValueRead}
+use Rattle.facet_json_transcode.specs.Told.{tree_of_scalar, Tells, a_scalar, a_list, an_object, Breaks, in_list, in_object}
+use Rattle.facet_json_transcode.specs.Reading.{IsValueRead}
 use Rattle.facet_json_transcode.proofs.WalkTells.{walk-tells}
 use Rattle.facet_json_transcode.proofs.DocumentFromRoot.{read-document}
-use Rattle.facet_json_meaning.specs.Nodes.{StandsBefore, StandsAfter}
-use Rattle.facet_json_meaning.specs.Passing.{PassesEvent, WalksPast, LacksAlone}
+use Rattle.facet_json_meaning.specs.Nodes.{StandsBefore}
+use Rattle.facet_json_meaning.specs.Passing.{WalksPast, LacksAlone}
 use Rattle.facet_json_meaning.specs.Reading.{IsRead, IsUnread, HasDocument}
 use Rattle.facet_json_meaning.specs.Readings.{leaf, taken}
 

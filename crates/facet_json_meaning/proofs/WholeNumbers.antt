@@ -1,23 +1,22 @@
 -- Whole numbers: which of them a type holds, and how they come back from their text.
-use Rattle.std.proofs.Common.{◌≡◌, ◌<◌, ◌≤◌, ◌^◌, inl, inr, ℕ, Bool, true, false, cond, nat_lt, List, Option, Some, None, refl, sym, ap, ◌∙◌, subst, arith}
+use Rattle.std.proofs.Common.{◌≡◌, ◌<◌, ◌≤◌, ◌^◌, inl, inr, ℕ, Bool, true, false, cond, nat_lt, List, Option, Some, None, refl, sym, ap, ◌∙◌, arith}
 use Rattle.std.specs.Prelude.{ℤ, pos, negsuc, FitsSigned, unsigned_abs}
 use Rattle.std.specs.Option.{option_and_then}
 use Rattle.std.specs.Int.{Width, FitsUnsigned}
-use Rattle.std.proofs.lemmas.Bool.{ltb-true, lt-ltb, le-ltb}
+use Rattle.std.proofs.lemmas.Bool.{ltb-true, lt-ltb}
 use mir.Val.{bits, hbits}
 use lib.Dec.{ltb→lt, lt→ltb, le→leb}
 use Rattle.facet_format.specs.Complaint.{Refusal}
-use Rattle.facet_json_token.specs.Token.{Token}
 use Rattle.facet_json_document.specs.Node.{Node, scalar}
 use Rattle.facet_json_document.specs.Node as node
 use Rattle.facet_json_document.specs.Text.{as_array}
 use Rattle.facet_json_document.specs.Tree.{Tree, u64, i64}
 use Rattle.facet_json_document.specs.Meaning.{meaning}
 use Rattle.facet_json_protocol.specs.Now.{Now}
-use Rattle.facet_json_written.specs.AsRead.{ReadsAs, u64_is_whole, i64_is_whole, whole_number, IsWithin, RawParts, WellFormed}
+use Rattle.facet_json_written.specs.AsRead.{ReadsAs, u64_is_whole, i64_is_whole, IsWithin, RawParts, WellFormed}
 use Rattle.facet_json_meaning.specs.Laws.{ReadsBack}
 use Rattle.facet_json_meaning.specs.Reading.{IsRead, IsUnread}
-use Rattle.facet_json_meaning.specs.Readings.{leaf, whole_of, unsigned_in, signed_in, unsigned_of, signed_of}
+use Rattle.facet_json_meaning.specs.Readings.{leaf, unsigned_in, signed_in, unsigned_of, signed_of}
 use Rattle.facet_json_meaning.proofs.LeafLaws.{leaf-back}
 
 -- ---- a reading of a reading
@@ -59,7 +58,7 @@ none-by : {A : Type 0} (n m : ℕ) (a : A) (b : Bool) → nat_lt n m ≡ b → �
 none-by n m a true e h = absurd (h (ltb-true n m e))
 none-by n m a false e h = refl
 
-none-above : {A : Type 0} (n m : ℕ) (a : A) → ¬ (n < m) → cond (nat_lt n m) (Some a) None ≡ None
+pub none-above : {A : Type 0} (n m : ℕ) (a : A) → ¬ (n < m) → cond (nat_lt n m) (Some a) None ≡ None
 none-above n m a h = none-by n m a (nat_lt n m) refl h
 
 pub unsigned-holds : (w : Width) (z : ℤ) (v : ℕ) → FitsUnsigned w z → v ≡ unsigned_abs z → unsigned_in (bits w) z ≡ Some v

@@ -2,4 +2,10 @@ pub mod Nodes
 pub mod Passing
 pub mod Reading
 pub mod Readings
+pub mod Objects
+pub mod Maps
 pub mod Laws
+pub mod Borrowed
+pub mod Optional
+pub mod Peeking
+pub mod Lists

@@ -1,6 +1,5 @@
 -- Where a parser stands before a node of a walk, and after it; and nodes that the same bytes spell.
-use Rattle.std.specs.Prelude.{◌≡◌, ◌+◌, ◌≤◌, ℕ, false, Bool, List, ◌++◌, drop, length, slice_range, Option, Some, None}
-use Rattle.facet_format.specs.Span.{stop}
+use Rattle.std.specs.Prelude.{◌≡◌, ◌+◌, ◌≤◌, ℕ, false, Bool, List, ◌++◌, drop, length, slice_range, Some, None}
 use Rattle.facet_format.specs.Event.{Passed}
 use Rattle.facet_format.specs.Kept.{found}
 use Rattle.facet_format.specs.Cursor.{Cursor, Spot, Source, unpeeked}

@@ -21,3 +21,8 @@ WalksPast old given new = (w : Source) (c : Cursor ℕ) → StandsAt old w c →
 pub record LacksAlone (old : Now) (refusal : Refusal) : Type 0 where
   pub lacks : (w : Source) (c : Cursor ℕ) (p : Passed) → StandsAt old w c → c.refusal ≡ None →
       slice_get w.events c.spot.place ≡ Some p → LacksMemory refusal
+
+-- Wherever the parser stands on a walk and is not refused, one event is passed.
+pub record PassesOne (old new : Now) : Type 0 where
+  pub given : Event
+  pub walks : WalksPast old given new

@@ -140,7 +140,7 @@ blank-members blank text values e h buffer from after left =
     }
 
 -- The tokens of a key and its colon stand at an offset, where the key means this text and the value begins at another.
-record KeyStands (buffer : List ℕ) (from to : ℕ) (name : List ℕ) : Type 0 where
+pub record KeyStands (buffer : List ℕ) (from to : ℕ) (name : List ℕ) : Type 0 where
   pub key : Token
   pub mark : Token
   pub tokens : tokens_from buffer plain from ≡ next key (next mark (tokens_from buffer plain to))
@@ -149,7 +149,7 @@ record KeyStands (buffer : List ℕ) (from to : ℕ) (name : List ℕ) : Type 0 
   pub names : text_of (meaning buffer key) ≡ Some name
 
 -- A key's text and a colon are its tokens.
-key_stands : (buffer : List ℕ) (from : ℕ) (key_text name rest : List ℕ) → IsOneString key_text name →
+pub key_stands : (buffer : List ℕ) (from : ℕ) (key_text name rest : List ℕ) → IsOneString key_text name →
     IsLeft buffer from (key_text ++ bytes.colon ∷ rest) → KeyStands buffer from (from + length key_text + 1) name
 key_stands buffer from key_text name rest h left =
     let s = IsLeft-split left in

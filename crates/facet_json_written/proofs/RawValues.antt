@@ -17,7 +17,7 @@ use Rattle.facet_json_token.proofs.CutBounds.{KindFits, cut-token_fits}
 use Rattle.facet_json_token.proofs.FirstBytes.{cut_here-something}
 use Rattle.facet_json_token.proofs.TokensSteps.{by_first, tokens_by_first, tokens_from-others, cut-end}
 use Rattle.facet_json_document.proofs.Spelling.TokenSuffixes.{IsSuffix, all, later, Spells-suffix}
-use Rattle.facet_json_document.specs.Document.{IsWholeDocument}
+use Rattle.facet_json_document.specs.Document.{Reads, IsWholeDocument}
 use Rattle.facet_json_document.specs.Meaning.{meaning_of, tree_of_number}
 use Rattle.facet_json_document.specs.Node.{Node}
 use Rattle.facet_json_document.specs.Tree.{Tree, text}
@@ -30,7 +30,7 @@ use Rattle.facet_json_written.proofs.OneValue.{IsLeft, IsLeft-past, IsLeft-as, c
 -- ---- the bytes of a token
 
 -- The same bytes stand n bytes later.
-slice-moved : (buffer raw after : List ℕ) (n start finish : ℕ) → IsLeft buffer n (raw ++ after) → start ≤ finish →
+pub slice-moved : (buffer raw after : List ℕ) (n start finish : ℕ) → IsLeft buffer n (raw ++ after) → start ≤ finish →
     finish ≤ length raw → slice_range buffer (n + start) (n + finish) ≡ slice_range raw start finish
 slice-moved buffer raw after n start finish left le within =
     let size : n + finish - (n + start) ≡ finish - start = omega arith in
@@ -133,7 +133,7 @@ first-ended buffer (token t) e = cc
 first-ended buffer (fault f) e = cc
 
 -- The first token is the one that is cut.
-first-token : (buffer : List ℕ) (c : Cut) (t : Token) (others : Tokens) → by_first buffer plain c ≡ next t others → c ≡ token t
+pub first-token : (buffer : List ℕ) (c : Cut) (t : Token) (others : Tokens) → by_first buffer plain c ≡ next t others → c ≡ token t
 first-token buffer nothing_left t others e = cc
 first-token buffer (token u) t others e = cc
 first-token buffer (fault f) t others e = cc
@@ -164,9 +164,11 @@ tokens-moved buffer raw after from left ends _ at h (later t ts _ s) same =
       mean = (meaning-moved buffer raw after from t.span t.kind left fits.within fits.kind_fits, others.mean);
     }
 
--- A whole document is read as its value wherever it stands.
-pub document-one_value : (raw : List ℕ) (root : Node) (value : Tree) → IsWholeDocument raw root value → IsOneValue raw value
-document-one_value raw root value d buffer from after left ends =
+-- The node of a whole document is spelled wherever the document stands, moved.
+pub document-moved : (raw : List ℕ) (root : Node) (value : Tree) → IsWholeDocument raw root value → (buffer : List ℕ) (from : ℕ)
+    (after : List ℕ) → IsLeft buffer from (raw ++ after) → ends_number after ≡ true →
+    Reads buffer (tokens_from buffer plain from) (moved_node from root) value (tokens_from buffer plain (from + length raw))
+document-moved raw root value d buffer from after left ends =
     let ts = tokens_from raw plain 0 in
     let all_moved = tokens-moved buffer raw after from left ends ts 0 (omega arith) (Spells-suffix ts root ended d.reads.spells) refl in
     let start : from + 0 ≡ from = omega arith in
@@ -174,9 +176,11 @@ document-one_value raw root value d buffer from after left ends =
     sym all_moved.tokens ∙ ap (tokens_from buffer plain) start in
     let spells = spells-moved from (tokens_from buffer plain (from + length raw)) ts root ended d.reads.spells in
     record {
-      root = moved_node from root;
-      reads = record {
-        spells = rw there at spells;
-        has_tree = (tree-moved buffer raw from ts root ended d.reads.spells all_moved.mean).0 ∙ d.reads.has_tree;
-      };
+      spells = rw there at spells;
+      has_tree = (tree-moved buffer raw from ts root ended d.reads.spells all_moved.mean).0 ∙ d.reads.has_tree;
     }
+
+-- A whole document is read as its value wherever it stands.
+pub document-one_value : (raw : List ℕ) (root : Node) (value : Tree) → IsWholeDocument raw root value → IsOneValue raw value
+document-one_value raw root value d buffer from after left ends =
+    record { root = moved_node from root; reads = document-moved raw root value d buffer from after left ends }

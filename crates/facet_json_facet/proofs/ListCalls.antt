@@ -1,0 +1,81 @@
+-- A list that is written by calls, item by item.
+use Rattle.std.proofs.Common.{◌≡◌, ◌+◌, ◌<◌, ◌≤◌, ℕ, List, [], ◌∷◌, ◌++◌, drop, get_or, length, map, Option, None, Result, Ok, Err, refl, sym, ap, ◌∙◌, subst}
+use Rattle.std.specs.Result.{OnOk, OnErr, IfErr}
+use Rattle.std.proofs.lemmas.List.{append_assoc, drop_all, drop_more}
+use Rattle.facet_format.specs.SerializerCall.{Call, begin_seq, end_seq}
+use Rattle.facet_json_document.specs.Tree.{Tree, list, tree}
+use Rattle.facet_json_serializer.specs.declared.error.JsonSerializeError.{JsonSerializeError}
+use Rattle.facet_json_serializer.specs.Serializer.{Writing, Refusal, out_of_memory, Appends, appends, refuses, runs_out, stays_out}
+use Rattle.facet_json_serializer.specs.TreeCalls.{tree_calls, item_calls}
+use Rattle.facet_json_serializer.specs.Views.{answer_of, refusal_of}
+use Rattle.facet_json_write.specs.Write.{HasWritten, IsOfRust}
+use Rattle.facet_json_write.proofs.CallsLeft.{AreLeft, first-made, tree-made, last-answered, last-refused}
+use Rattle.facet_json_write.proofs.OfRust.{item-of_rust, no_item-of_rust, seen-of_rust}
+use Rattle.facet_json_meaning.specs.Lists.{trees_by, list_by}
+
+-- A call that is refused for lack of memory leaves a serializer that has none.
+spent-after : (old new : Option Writing) (call : Call) (answer : Result (Unit {0}) Refusal) → Appends old call answer new →
+    answer ≡ Err out_of_memory → new ≡ None
+spent-after _ _ call answer (appends w _ a can) e = cc
+spent-after _ _ call answer (refuses w _ why cannot) e = cc
+spent-after _ _ call answer (runs_out w _ a can) e = refl
+spent-after _ _ call answer (stays_out _) e = refl
+
+answered-spent : (old new : Option Writing) (call : Call) (r : Result (Unit {0}) JsonSerializeError) → Appends old call (answer_of r) new →
+    IfErr r (λ e. refusal_of e ≡ out_of_memory) → OnErr r (new ≡ None)
+answered-spent old new call (Ok nothing) step is = tt
+answered-spent old new call (Err e) step is = spent-after old new call (Err (refusal_of e)) step (ap Err is)
+
+module _ {T V : Type 0} (view : T → V) (tree_by : V → Tree) where
+  -- From an index on the items are still to be written, and then the list is ended.
+  pub record ItemsLeft (old : Option Writing) (xs : List T) (i : ℕ) (now : Option Writing) : Type 0 where
+    pub calls : AreLeft old (list_by tree_by (map view xs)) (item_calls (trees_by tree_by (map view (drop i xs))) ++ end_seq ∷ []) now
+    pub of_rust : IsOfRust (list (trees_by tree_by (map view (drop i xs)))) → IsOfRust (list_by tree_by (map view xs))
+
+  pub list-begun : (old new : Option Writing) (xs : List T) → Appends old begin_seq (Ok tt) new → ItemsLeft old xs 0 new
+  unfolding tree_calls
+  list-begun old new xs step = record {
+    calls = first-made old new (list_by tree_by (map view xs)) begin_seq _ refl step;
+    of_rust = λ h. h;
+  }
+
+  from-drop : (xs : List T) (i : ℕ) (x : T) → i < length xs → x ≡ get_or xs i x →
+      trees_by tree_by (map view (drop i xs)) ≡ tree (tree_by (view x)) (trees_by tree_by (map view (drop (i + 1) xs)))
+  from-drop xs i x h is =
+      ap (λ (l : List T). trees_by tree_by (map view l)) (drop_more xs i x h ∙ ap (λ (y : T). y ∷ drop (i + 1) xs) (sym is))
+
+  pub item-written : (old now new : Option Writing) (xs : List T) (i : ℕ) (x : T) → i < length xs → x ≡ get_or xs i x → ItemsLeft old xs i now →
+      HasWritten now (tree_by (view x)) new → IsOfRust (tree_by (view x)) → ItemsLeft old xs (i + 1) new
+  unfolding item_calls
+  item-written old now new xs i x h is before wrote rust =
+      let others = trees_by tree_by (map view (drop (i + 1) xs)) in
+      let here = from-drop xs i x h is in
+      let calls = ap (λ ts. item_calls ts ++ end_seq ∷ []) here ∙ append_assoc (tree_calls (tree_by (view x))) (item_calls others) (end_seq ∷ []) in
+      record {
+        calls = tree-made old now new _ (tree_by (view x)) _ (subst (λ s. AreLeft old (list_by tree_by (map view xs)) s now) calls before.calls) wrote;
+        of_rust = λ more. before.of_rust (subst (λ ts. IsOfRust (list ts)) (sym here) (item-of_rust _ _ rust more));
+      }
+
+  none-left : (old now : Option Writing) (xs : List T) (i : ℕ) → length xs ≤ i → ItemsLeft old xs i now →
+      AreLeft old (list_by tree_by (map view xs)) (end_seq ∷ []) now
+  unfolding item_calls
+  none-left old now xs i h before =
+      let none = ap (λ (l : List T). trees_by tree_by (map view l)) (drop_all i xs h) in
+      subst (λ s. AreLeft old (list_by tree_by (map view xs)) s now) (ap (λ ts. item_calls ts ++ end_seq ∷ []) none) before.calls
+
+  module _ (old now new : Option Writing) (xs : List T) (i : ℕ) (r : Result (Unit {0}) JsonSerializeError) (h : length xs ≤ i)
+      (before : ItemsLeft old xs i now) (step : Appends now end_seq (answer_of r) new) where
+    pub list-written : OnOk r (HasWritten old (list_by tree_by (map view xs)) new)
+    list-written = last-answered old now new _ end_seq r (none-left old now xs i h before) step
+
+    pub list-refused : IfErr r (λ e. refusal_of e ≡ out_of_memory)
+    list-refused = last-refused old now new _ end_seq r (none-left old now xs i h before) step
+
+    pub list-spent : OnErr r (new ≡ None)
+    list-spent = answered-spent now new end_seq r step list-refused
+
+    pub list-of_rust : OnOk r (IsOfRust (list_by tree_by (map view xs)))
+    list-of_rust =
+        let none = ap (λ (l : List T). trees_by tree_by (map view l)) (drop_all i xs h) in
+        let all = before.of_rust (subst (λ ts. IsOfRust (list ts)) (sym none) no_item-of_rust) in
+        seen-of_rust r _ (list_by tree_by (map view xs)) refl all

@@ -1,0 +1,84 @@
+-- The calls by which a map is written.
+use Rattle.std.proofs.Common.{◌≡◌, List, [], ◌∷◌, ◌++◌, Option, None, Result, Ok, Err, string_bytes, refl, sym, ap, ◌∙◌, subst, append_assoc}
+use Rattle.std.specs.Prelude.{ℕ}
+use Rattle.std.specs.Result.{OnErr}
+use Rattle.std.specs.declared.string.String.{String}
+use Rattle.std.proofs.lemmas.Str.{is_utf8-from_IsUtf8, IsUtf8-string_bytes}
+use Rattle.facet_format.specs.SerializerCall.{Call, begin_struct, field_key, end_struct}
+use Rattle.facet_json_document.specs.Tree.{Tree, pairs, Pairs}
+use Rattle.facet_json_meaning.specs.Maps.{seen_entries, pairs_of_entries}
+use Rattle.facet_json_serializer.specs.declared.error.JsonSerializeError.{JsonSerializeError}
+use Rattle.facet_json_serializer.specs.Serializer.{Writing, Refusal, out_of_memory, Appends, appends, refuses, runs_out, stays_out}
+use Rattle.facet_json_serializer.specs.TreeCalls.{tree_calls, member_calls}
+use Rattle.facet_json_serializer.specs.Views.{answer_of, refusal_of}
+use Rattle.facet_json_write.specs.Write.{HasWritten, IsOfRust}
+use Rattle.facet_json_write.proofs.CallsLeft.{AreLeft, call-made, first-made, tree-made, left-refused}
+use Rattle.facet_json_write.proofs.OfRust.{member-of_rust, no_member-of_rust}
+
+-- After a call that runs out of memory nothing is written.
+call-spent : (old new : Option Writing) (call : Call) (answer : Result (Unit {0}) Refusal) → Appends old call answer new → answer ≡ Err out_of_memory → new ≡ None
+call-spent old new call answer (appends w _ a can) e = cc
+call-spent old new call answer (refuses w _ why cannot) e = cc
+call-spent old new call answer (runs_out w _ a can) e = refl
+call-spent old new call answer (stays_out _) e = refl
+
+-- The next call of a tree that is refused leaves the serializer out of memory.
+pub left-spent : (old now new : Option Writing) (t : Tree) (call : Call) (rest : List Call) (why : Refusal) → AreLeft old t (call ∷ rest) now →
+    Appends now call (Err why) new → new ≡ None
+left-spent old now new t call rest why h step =
+    call-spent now new call (Err why) step (ap Err (left-refused old now new t call rest why h step))
+
+-- The same of the code's answer.
+pub last-spent : (old now new : Option Writing) (t : Tree) (call : Call) (r : Result (Unit {0}) JsonSerializeError) → AreLeft old t (call ∷ []) now →
+    Appends now call (answer_of r) new → OnErr r (new ≡ None)
+last-spent old now new t call (Ok nothing) h step = tt
+last-spent old now new t call (Err e) h step = left-spent old now new t call [] (refusal_of e) h step
+
+module _ {Z T V : Type 0} (view : T → V) (tree : V → Tree) where
+  abbrev members : List (String Z × T) → Pairs
+  members entries = pairs_of_entries tree (seen_entries view entries)
+
+  -- Of a map's entries these are still to be written, and then the end.
+  pub record IsHalfWritten (old : Option Writing) (all rest : List (String Z × T)) (now : Option Writing) : Type 0 where
+    pub left : AreLeft old (pairs (members all)) (member_calls (members rest) ++ end_struct ∷ []) now
+    pub of_rust : IsOfRust (pairs (members rest)) → IsOfRust (pairs (members all))
+
+  pub map-begun : (old new : Option Writing) (all rest : List (String Z × T)) → rest ≡ all → Appends old begin_struct (Ok tt) new →
+      IsHalfWritten old all rest new
+  unfolding tree_calls
+  map-begun old new all rest same step =
+      subst (λ es. IsHalfWritten old all es new) (sym same)
+      (record { left = first-made old new (pairs (members all)) begin_struct _ refl step; of_rust = λ h. h })
+
+  -- The key of the first entry that is left comes next.
+  pub key-left : (old now : Option Writing) (all rest more : List (String Z × T)) (key : String Z) (value : T) (name : List ℕ) → IsHalfWritten old all rest now →
+      rest ≡ (key, value) ∷ more → name ≡ string_bytes key →
+      AreLeft old (pairs (members all)) (field_key name ∷ (tree_calls (tree (view value)) ++ (member_calls (members more) ++ end_struct ∷ []))) now
+  unfolding member_calls
+  key-left old now all rest more key value name half is named =
+      let after = append_assoc (tree_calls (tree (view value))) (member_calls (members more)) (end_struct ∷ []) in
+      let calls = ap (λ es. member_calls (members es) ++ end_struct ∷ []) is ∙ ap (λ s. field_key (string_bytes key) ∷ s) after
+      ∙ ap (λ k. field_key k ∷ (tree_calls (tree (view value)) ++ (member_calls (members more) ++ end_struct ∷ []))) (sym named) in
+      subst (λ s. AreLeft old (pairs (members all)) s now) calls half.left
+
+  -- An entry was written.
+  pub entry-written : (old now mid new : Option Writing) (all rest more : List (String Z × T)) (key : String Z) (value : T) (name : List ℕ) →
+      IsHalfWritten old all rest now → rest ≡ (key, value) ∷ more → name ≡ string_bytes key → Appends now (field_key name) (Ok tt) mid →
+      HasWritten mid (tree (view value)) new → IsOfRust (tree (view value)) → IsHalfWritten old all more new
+  entry-written old now mid new all rest more key value name half is named step wrote of_rust =
+      let keyed = call-made old now mid (pairs (members all)) (field_key name) _ (key-left old now all rest more key value name half is named) step in
+      let text = is_utf8-from_IsUtf8 (string_bytes key) (IsUtf8-string_bytes key) in
+      record {
+        left = tree-made old mid new (pairs (members all)) (tree (view value)) _ keyed wrote;
+        of_rust = λ h. half.of_rust
+            (subst (λ es. IsOfRust (pairs (members es))) (sym is) (member-of_rust (string_bytes key) (tree (view value)) (members more) text of_rust h));
+      }
+
+  -- The end comes next.
+  pub end-left : (old now : Option Writing) (all rest : List (String Z × T)) → IsHalfWritten old all rest now → rest ≡ [] →
+      AreLeft old (pairs (members all)) (end_struct ∷ []) now
+  unfolding member_calls
+  end-left old now all rest half none = subst (λ es. AreLeft old (pairs (members all)) (member_calls (members es) ++ end_struct ∷ []) now) none half.left
+
+  pub all-of_rust : (old now : Option Writing) (all rest : List (String Z × T)) → IsHalfWritten old all rest now → rest ≡ [] → IsOfRust (pairs (members all))
+  all-of_rust old now all rest half none = half.of_rust (subst (λ es. IsOfRust (pairs (members es))) (sym none) no_member-of_rust)

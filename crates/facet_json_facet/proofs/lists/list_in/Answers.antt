@@ -1,0 +1,72 @@
+use Rattle.std.proofs.Common.{◌≡◌, false, true, cond, List, [], ◌∷◌, ◌++◌, map, sym, ap, ◌∙◌, subst, arith, rules}
+use Rattle.std.proofs.lemmas.List.{map-append}
+use Rattle.std.proofs.lemmas.Result.{err_from_is_err_and}
+use Rattle.facet_format.specs.Views.{refusal_of}
+use Rattle.facet_json_meaning.proofs.Keeping.{keeps-then}
+use Rattle.facet_json_meaning.proofs.ListSteps.{ReadSoFar, list-begins, list-none, list-goes_on, list-stops, list-more, list-unread, list-ends, list-unseen, list-open}
+use Rattle.facet_json_meaning.proofs.NextOnWalk.{goes-keeps}
+use Rattle.facet_json_facet.proofs.lists.list_in.Goals as goal
+
+pub returns-in_err-begin_list-clause-unread : goal.returns-in_err-begin_list-clause-unread
+returns-in_err-begin_list-clause-unread g c =
+    let reading = cond c.args.borrows g.T.Facet.reading_borrowed g.T.Facet.reading in
+    let p = err_from_is_err_and c.from_residual.result c.from_residual.ensures.1 in
+    rw (p.1, p.2) (list-none reading c.args.parser.now (refusal_of c.in_err-begin_list.field-0.0) c.in_err-begin_list.ensures.refused)
+
+pub loop-items-init : goal.loop-items-init
+loop-items-init g c =
+    let reading = cond c.args.borrows g.T.Facet.reading_borrowed g.T.Facet.reading in
+    let begun = list-begins reading c.args.parser.now c.begin_list.new.parser c.in_ok-begin_list.ensures.begins in
+    record {
+      so_far =
+          subst (λ (vs : List g.T.Facet.View). ReadSoFar reading c.args.parser.now vs c.begin_list.new.parser)
+          (sym (ap (map g.T.Facet.view) c.new-items.ensures.items)) begun;
+      keeps = goes-keeps _ _ c.begin_list.ensures.onward;
+      shorter = c.in_ok-begin_list.ensures.shorter;
+    }
+
+pub returns-in_err-end_comes-clause-unread : goal.returns-in_err-end_comes-clause-unread
+returns-in_err-end_comes-clause-unread g c =
+    let reading = cond c.args.borrows g.T.Facet.reading_borrowed g.T.Facet.reading in
+    let p = err_from_is_err_and c.from_residual-in_err-end_comes.result c.from_residual-in_err-end_comes.ensures.1 in
+    rw (p.1, p.2) (list-unseen reading _ _ _ (refusal_of c.in_err-end_comes.field-0.0) c.loop-items.invariant.so_far c.in_err-end_comes.ensures.lacks)
+
+pub returns-in_err-item_in-clause-unread : goal.returns-in_err-item_in-clause-unread
+returns-in_err-item_in-clause-unread g c =
+    let reading = cond c.args.borrows g.T.Facet.reading_borrowed g.T.Facet.reading in
+    let goes : c.in_ok-end_comes.field-0 ≡ false = search rules in
+    let before = list-goes_on reading _ _ c.end_comes.new.parser _ _ goes c.loop-items.invariant.so_far c.in_ok-end_comes.ensures.finds in
+    let p = err_from_is_err_and c.from_residual-in_err-item_in.result c.from_residual-in_err-item_in.ensures.1 in
+    rw (p.1, p.2) (list-unread reading _ _ _ (refusal_of c.in_err-item_in.field-0.0) before c.in_err-item_in.ensures.unread)
+
+pub loop-items-preserved : goal.loop-items-preserved
+loop-items-preserved g c =
+    let i = c.loop-items.invariant in
+    let view = g.T.Facet.view in
+    let v = c.in_ok-item_in.field-0 in
+    let reading = cond c.args.borrows g.T.Facet.reading_borrowed g.T.Facet.reading in
+    let goes : c.in_ok-end_comes.field-0 ≡ false = search rules in
+    let before = list-goes_on reading _ _ c.end_comes.new.parser _ _ goes i.so_far c.in_ok-end_comes.ensures.finds in
+    let more = list-more reading _ _ c.item_in.new.parser _ (view v) before c.in_ok-item_in.ensures.read in
+    let seen : map view c.push.new.self.items ≡ map view c.loop-items.items.items ++ view v ∷ [] =
+    ap (map view) c.in_ok-push.ensures.items ∙ map-append view c.loop-items.items.items (v ∷ []) in
+    record {
+      so_far = subst (λ (vs : List g.T.Facet.View). ReadSoFar reading c.args.parser.now vs c.item_in.new.parser) (sym seen) more;
+      keeps = keeps-then _ _ _ (keeps-then _ _ _ i.keeps (goes-keeps _ _ c.end_comes.ensures.onward)) c.item_in.ensures.keeps;
+      shorter = omega (arith, i.shorter, c.end_comes.ensures.onward.onward, c.in_ok-item_in.ensures.shorter);
+    }
+
+pub returns-in_err-_end-clause-unread : goal.returns-in_err-_end-clause-unread
+returns-in_err-_end-clause-unread g c =
+    let reading = cond c.args.borrows g.T.Facet.reading_borrowed g.T.Facet.reading in
+    let ends : c.in_ok-end_comes.field-0 ≡ true = search rules in
+    let before = list-stops reading _ _ c.end_comes.new.parser _ _ ends c.loop-items.invariant.so_far c.in_ok-end_comes.ensures.finds in
+    let p = err_from_is_err_and c.from_residual-in_err-_end.result c.from_residual-in_err-_end.ensures.1 in
+    rw (p.1, p.2) (list-open reading _ _ _ (refusal_of c.in_err-_end.field-0.0) before c.in_err-_end.ensures.lacks)
+
+pub returns-clause-read : goal.returns-clause-read
+returns-clause-read g c =
+    let reading = cond c.args.borrows g.T.Facet.reading_borrowed g.T.Facet.reading in
+    let ends : c.in_ok-end_comes.field-0 ≡ true = search rules in
+    let before = list-stops reading _ _ c.end_comes.new.parser _ _ ends c.loop-items.invariant.so_far c.in_ok-end_comes.ensures.finds in
+    list-ends reading _ _ _ _ _ before c.in_ok-_end.ensures.walks

@@ -1,0 +1,44 @@
+use Rattle.std.proofs.Common.{string_bytes}
+use Rattle.std.proofs.lemmas.Result.{err_from_is_err_and}
+use Rattle.facet_format.specs.Views.{refusal_of}
+use Rattle.facet_json_meaning.proofs.MapEntries.{entries-begin, entry-read}
+use Rattle.facet_json_meaning.proofs.MapReadings.{map-not_begun, map-no_value, map-no_key, map-ends}
+use Rattle.facet_json_facet.proofs.maps.BTreeMapStringFacet.read.Goals as goal
+
+pub returns-in_err-begin_object-clause-unread : goal.returns-in_err-begin_object-clause-unread
+returns-in_err-begin_object-clause-unread g c =
+    let p = err_from_is_err_and c.from_residual.result c.from_residual.ensures.1 in
+    rw (p.1, p.2) (map-not_begun g.T.Facet.reading_borrowed _ (refusal_of c.in_err-begin_object.field-0.0) c.in_err-begin_object.ensures.unread)
+
+pub loop-map-init : goal.loop-map-init
+loop-map-init g c =
+    let begun = c.in_ok-begin_object.ensures in
+    entries-begin g.T.Facet.reading_borrowed g.T.Facet.view _ _ c.new-map.result.entries begun.begun begun.onward begun.shorter c.new-map.ensures.empty
+
+pub returns-in_err-key-clause-unread : goal.returns-in_err-key-clause-unread
+returns-in_err-key-clause-unread g c =
+    let p = err_from_is_err_and c.from_residual-in_err-key.result c.from_residual-in_err-key.ensures.1 in
+    rw (p.1, p.2) (map-no_key g.T.Facet.reading_borrowed _ _ _ (refusal_of c.in_err-key.field-0.0) c.loop-map.invariant.left c.in_err-key.ensures.lacks)
+
+pub returns-in_err-value-clause-unread : goal.returns-in_err-value-clause-unread
+returns-in_err-value-clause-unread g c =
+    let p = err_from_is_err_and c.from_residual-in_err-value.result c.from_residual-in_err-value.ensures.1 in
+    let named = rw c.in-Some.is at c.in_ok-key.ensures.passed in
+    rw (p.1, p.2) (map-no_value g.T.Facet.reading_borrowed _ _ _ _ (string_bytes c.in-Some.key) (refusal_of c.in_err-value.field-0.0) c.loop-map.invariant.left named c.in_err-value.ensures.unread)
+
+pub loop-map-preserved-in_ok-insert : goal.loop-map-preserved-in_ok-insert
+loop-map-preserved-in_ok-insert g c =
+    let key = c.in_ok-key.ensures in
+    let value = c.in_ok-value.ensures in
+    entry-read g.T.Facet.reading_borrowed g.T.Facet.view c.args.parser.now c.loop-map.parser c.next_key.new.parser c.read.new.parser c.loop-map.map.entries c.insert.new.self.entries c.in_ok-key.field-0 c.in-Some.key c.in_ok-value.value c.loop-map.invariant key.passed c.in-Some.is key.onward value.read value.keeps c.in_ok-insert.ensures.entries
+
+pub loop-map-preserved : goal.loop-map-preserved
+loop-map-preserved g c =
+    let key = c.in_ok-key.ensures in
+    let value = c.in_ok-value.ensures in
+    entry-read g.T.Facet.reading_borrowed g.T.Facet.view c.args.parser.now c.loop-map.parser c.next_key.new.parser c.read.new.parser c.loop-map.map.entries c.insert.new.self.entries c.in_ok-key.field-0 c.in-Some.key c.in_ok-value.value c.loop-map.invariant key.passed c.in-Some.is key.onward value.read value.keeps c.in_ok-insert.ensures.entries
+
+pub returns-clause-read : goal.returns-clause-read
+returns-clause-read g c =
+    let ended = rw c.in_default.is at c.in_ok-key.ensures.passed in
+    map-ends g.T.Facet.reading_borrowed _ _ _ _ c.loop-map.invariant.left ended

@@ -1,0 +1,12 @@
+use Rattle.std.proofs.Common.{sym, subst}
+use Rattle.std.proofs.lemmas.Result.{IfOk-weaker}
+use Rattle.facet_format.specs.Event.{bytes_of}
+use Rattle.facet_json_meaning.specs.Reading.{IsRead}
+use Rattle.facet_json_meaning.specs.Readings.{raw_of}
+use Rattle.facet_json_facet.proofs.raw.RawJsonFacet.read_owned.Goals as goal
+
+pub returns-clause-read : goal.returns-clause-read
+returns-clause-read c =
+    IfOk-weaker c.copied.result _ _
+    (λ v is. subst (λ raw. IsRead raw_of c.args.parser.now (bytes_of raw) c.captured.new.parser) (sym is) c.in_ok-captured.ensures.read)
+    c.copied.ensures.copied

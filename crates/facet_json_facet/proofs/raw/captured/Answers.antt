@@ -1,0 +1,14 @@
+use Rattle.std.proofs.Common.{refl}
+use Rattle.std.proofs.lemmas.Result.{err_from_is_err_and}
+use Rattle.facet_json_meaning.proofs.RawOnWalk.{answer-captures, answer-uncaptured}
+use Rattle.facet_json_facet.proofs.raw.captured.Goals as goal
+
+pub returns-in_err-text-clause-unread : goal.returns-in_err-text-clause-unread
+returns-in_err-text-clause-unread c =
+    let p = err_from_is_err_and c.from_residual.result c.from_residual.ensures.1 in
+    rw (p.1, p.2) (answer-uncaptured _ _ _ _ refl c.in_err-text.ensures.steps)
+
+pub returns-clause-read : goal.returns-clause-read
+returns-clause-read c =
+    let steps = rw c.unwrap.ensures at c.in_ok-text.ensures.steps in
+    answer-captures _ _ _ _ refl steps

@@ -1,0 +1,23 @@
+use Rattle.std.proofs.lemmas.Result.{err_from_is_err_and, IfOk-weaker, IfErr-weaker}
+use Rattle.facet_format.specs.Views.{refusal_of}
+use Rattle.facet_json_meaning.specs.Borrowed.{borrowed_text}
+use Rattle.facet_json_meaning.proofs.BorrowedLaws.{borrowed-read, borrowed-unread, borrowed-document}
+use Rattle.facet_json_meaning.proofs.LeafReadings.{none-unread}
+use Rattle.facet_json_facet.proofs.texts.RefStrFacet.read.Goals as goal
+
+pub returns-in_err-next_of_value-clause-unread : goal.returns-in_err-next_of_value-clause-unread
+returns-in_err-next_of_value-clause-unread c =
+    let p = err_from_is_err_and c.from_residual.result c.from_residual.ensures.1 in
+    rw (p.1, p.2) (none-unread borrowed_text _ _ c.in_err-next_of_value.ensures.lacks)
+
+pub returns-clause-read : goal.returns-clause-read
+returns-clause-read c =
+    IfOk-weaker c.lent_in.result _ _ (λ s lent. borrowed-read _ _ _ s.now c.in_ok-next_of_value.ensures.walks lent) c.lent_in.ensures.lent
+
+pub returns-clause-unread : goal.returns-clause-unread
+returns-clause-unread c =
+    IfErr-weaker c.lent_in.result _ _ (λ e none. borrowed-unread _ _ _ (refusal_of e) c.in_ok-next_of_value.ensures.walks none) c.lent_in.ensures.refused
+
+pub returns-clause-document : goal.returns-clause-document
+returns-clause-document c whole =
+    IfOk-weaker c.lent_in.result _ _ (λ s lent. borrowed-document _ _ _ s.now c.in_ok-next_of_value.ensures.passed lent) c.lent_in.ensures.lent

@@ -1,0 +1,22 @@
+use Rattle.std.proofs.lemmas.Result.{err_from_is_err_and, IfOk-weaker, IfErr-weaker}
+use Rattle.facet_format.specs.Views.{refusal_of}
+use Rattle.facet_json_meaning.specs.Readings.{i128_of, leaf}
+use Rattle.facet_json_meaning.proofs.LeafReadings.{leaf-read, leaf-unread, leaf-document, none-unread}
+use Rattle.facet_json_facet.proofs.wide.I128Facet.read_owned.Goals as goal
+
+pub returns-in_err-next_of_value-clause-unread : goal.returns-in_err-next_of_value-clause-unread
+returns-in_err-next_of_value-clause-unread c =
+    let p = err_from_is_err_and c.from_residual.result c.from_residual.ensures.1 in
+    rw (p.1, p.2) (none-unread (leaf i128_of) _ _ c.in_err-next_of_value.ensures.lacks)
+
+pub returns-clause-read : goal.returns-clause-read
+returns-clause-read c =
+    IfOk-weaker c.i128_in.result _ _ (λ n taken. leaf-read i128_of _ _ _ n c.in_ok-next_of_value.ensures.walks taken) c.i128_in.ensures.taken
+
+pub returns-clause-unread : goal.returns-clause-unread
+returns-clause-unread c =
+    IfErr-weaker c.i128_in.result _ _ (λ e none. leaf-unread i128_of _ _ _ (refusal_of e) c.in_ok-next_of_value.ensures.walks none) c.i128_in.ensures.refused
+
+pub returns-clause-document : goal.returns-clause-document
+returns-clause-document c whole =
+    IfOk-weaker c.i128_in.result _ _ (λ n taken. leaf-document i128_of _ _ _ n c.in_ok-next_of_value.ensures.passed taken) c.i128_in.ensures.taken

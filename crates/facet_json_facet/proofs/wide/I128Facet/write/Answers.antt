@@ -1,0 +1,20 @@
+use Rattle.std.proofs.Common.{sym, ap, rules, SFits}
+use Rattle.std.specs.Int.{w128}
+use Rattle.facet_format.specs.Event as event
+use mir.Val.{to_z, of_z}
+use Rattle.std.proofs.lemmas.Int.{to_z-of_z}
+use Rattle.facet_json_document.specs.Tree.{i128}
+use Rattle.facet_json_write.proofs.ScalarCalls.{scalar-called}
+use Rattle.facet_json_meaning.proofs.WideNumbers.{wide-within}
+use Rattle.facet_json_facet.proofs.ScalarsOfRust.{i128-of_rust}
+use Rattle.facet_json_facet.proofs.wide.I128Facet.write.Goals as goal
+
+pub returns-clause-written : goal.returns-clause-written
+returns-clause-written c =
+    let fits : SFits w128 c.args.self.now = search rules in
+    scalar-called _ _ (event.i128 (to_z w128 (of_z w128 c.args.self.now))) _ c.scalar.result (ap i128 (sym (to_z-of_z w128 c.args.self.now fits))) c.scalar.ensures.appends
+
+pub returns-clause-of_rust : goal.returns-clause-of_rust
+returns-clause-of_rust c =
+    let fits : SFits w128 c.args.self.now = search rules in
+    i128-of_rust c.args.self.now c.scalar.result (wide-within c.args.self.now fits)

@@ -1,0 +1,13 @@
+use Rattle.std.proofs.Common.{◌<◌, ◌^◌, refl, rules}
+use Rattle.facet_format.specs.Event as event
+use Rattle.facet_json_write.proofs.ScalarCalls.{scalar-called}
+use Rattle.facet_json_facet.proofs.ScalarsOfRust.{u128-of_rust}
+use Rattle.facet_json_facet.proofs.wide.U128Facet.write.Goals as goal
+
+pub returns-clause-written : goal.returns-clause-written
+returns-clause-written c = scalar-called _ _ (event.u128 c.args.self.now) _ c.scalar.result refl c.scalar.ensures.appends
+
+pub returns-clause-of_rust : goal.returns-clause-of_rust
+returns-clause-of_rust c =
+    let fits : c.args.self.now < 2 ^ 128 = search rules in
+    u128-of_rust c.args.self.now c.scalar.result fits

@@ -1,0 +1,163 @@
+//! Lists: `Vec`.
+
+ghost use Rattle.std.specs.Prelude.{◌≡◌, ◌<◌, true, false, cond, map, Some, IfOk, IfErr, OnOk};
+ghost use Rattle.facet_format.specs.Views.{event_of, refusal_of};
+ghost use Rattle.facet_json_protocol.specs.Now.{ahead, GoesOn};
+ghost use Rattle.facet_json_protocol.specs.Within.{RefusalWithin};
+ghost use Rattle.facet_json_meaning.specs.Lists.{begins_list, ends_list, list_of, BeginsList, IsNoList, FindsEnd};
+ghost use Rattle.facet_json_meaning.specs.Nodes.{KeepsOn};
+ghost use Rattle.facet_json_meaning.specs.Passing.{LacksAlone};
+ghost use Rattle.facet_json_meaning.specs.Reading.{IsRead, IsUnread};
+
+use crate::facet::Facet;
+use crate::next::{mismatch, next_of_value};
+use facet_format::{DeserializeError, FormatParser, FormatSerializer, ParseEvent, ParseEventKind};
+use facet_json_parser::JsonParser;
+use facet_json_serializer::{JsonSerializeError, JsonSerializer};
+use std::alloc::Global;
+
+/// A list (RFC 8259, section 5): an array, each of whose elements is read as a `T`.
+///
+/// ```text
+/// <Vec<bool> as Facet>::read_owned(alloc, &mut JsonParser::new(alloc, b"[true, false]"))     Ok: true, false
+/// <Vec<bool> as Facet>::read_owned(alloc, &mut JsonParser::new(alloc, b"[true, null]"))      TypeMismatch
+/// ```
+impl<'de, T: Facet<'de>> Facet<'de> for Vec<T> {
+    ghost use Rattle.std.specs.Prelude.{List, false, map};
+    ghost use Rattle.std.specs.List.{All};
+    ghost use Rattle.facet_json_meaning.specs.Lists.{list_of, list_by};
+    ghost use Rattle.facet_json_meaning.proofs.ListLaws.{list-same, list-reads_back};
+
+    ghost View = { List T.View };
+
+    ghost view = { λ v. map T.view v.items };
+
+    ghost reading = { list_of T.reading };
+
+    ghost reading_borrowed = { list_of T.reading_borrowed };
+
+    ghost tree_of = { list_by T.tree_of };
+
+    ghost readable = { λ vs. All T.readable vs };
+
+    ghost whole = { false };
+
+    fn read_owned<'t>(
+        alloc: Global,
+        parser: &mut JsonParser<'de>,
+    ) -> Result<Vec<T>, DeserializeError<'t>> {
+        list_in(alloc, parser, false)
+    }
+
+    fn read<'t>(
+        alloc: Global,
+        parser: &mut JsonParser<'de>,
+    ) -> Result<Vec<T>, DeserializeError<'t>> {
+        list_in(alloc, parser, true)
+    }
+
+    fn write(&self, serializer: &mut JsonSerializer<'_>) -> Result<(), JsonSerializeError> {
+        serializer.begin_seq()?;
+        for item in self.as_slice() {
+            item.write(serializer)?;
+        }
+        serializer.end_seq()
+    }
+
+    ghost same_reading = { list-same T.reading T.same_reading };
+
+    ghost same_reading_borrowed = { list-same T.reading_borrowed T.same_reading_borrowed };
+
+    ghost reads_back = { list-reads_back T.reading T.tree_of T.readable T.same_reading T.reads_back };
+}
+
+/// Reads the list before which the parser stands. Its elements may borrow of the input where `borrows` says so.
+fn list_in<'t, 'de, T: Facet<'de>>(
+    alloc: Global,
+    parser: &mut JsonParser<'de>,
+    borrows: bool,
+) -> Result<Vec<T>, DeserializeError<'t>>
+    ensures read { IfOk result (λ v. IsRead (list_of (cond borrows T.reading_borrowed T.reading)) parser.old (map T.view v.items) parser.new) }
+    ensures unread { IfErr result (λ e. IsUnread (list_of (cond borrows T.reading_borrowed T.reading)) parser.old (refusal_of e)) }
+    ensures keeps { KeepsOn parser.old parser.new }
+    ensures shorter { OnOk result (ahead parser.new < ahead parser.old) }
+    ensures within { IfErr result (λ e. RefusalWithin parser.new.buffer (refusal_of e)) }
+{
+    begin_list(parser)?;
+    let mut items = Vec::new(alloc);
+    while !end_comes(parser)? {
+        items.push(item_in(alloc, parser, borrows)?)?;
+    }
+    let _end = next_of_value(parser)?;
+    Ok(items)
+}
+
+/// Passes the event with which an array begins.
+///
+/// # Errors
+///
+/// As `next_of_value`; and where no array begins, a mismatch.
+fn begin_list<'t>(parser: &mut JsonParser<'_>) -> Result<(), DeserializeError<'t>>
+    ensures onward { GoesOn parser.old parser.new }
+    ensures shorter { OnOk result (ahead parser.new < ahead parser.old) }
+    ensures begins { OnOk result (BeginsList parser.old parser.new) }
+    ensures refused { IfErr result (λ e. IsNoList parser.old (refusal_of e)) }
+    ensures within { IfErr result (λ e. RefusalWithin parser.new.buffer (refusal_of e)) }
+{
+    array_in(next_of_value(parser)?)
+}
+
+/// An array begins with the event.
+fn array_in<'t>(event: ParseEvent<'_>) -> Result<(), DeserializeError<'t>>
+    ensures begins { OnOk result (begins_list (event_of event.entry).kind ≡ true) }
+    ensures refused { IfErr result (λ e. begins_list (event_of event.entry).kind ≡ false) }
+    ensures span { IfErr result (λ e. e.span ≡ Some event.entry.span) }
+{
+    match event.kind {
+        ParseEventKind::SequenceStart(_) => Ok(()),
+        _ => Err(mismatch("array", event)),
+    }
+}
+
+/// Whether the array's end comes. It stays the next event.
+///
+/// # Errors
+///
+/// As the parser's `peek_event`.
+fn end_comes<'t>(parser: &mut JsonParser<'_>) -> Result<bool, DeserializeError<'t>>
+    ensures onward { GoesOn parser.old parser.new }
+    ensures finds { IfOk result (λ found. FindsEnd parser.old found parser.new) }
+    ensures lacks { IfErr result (λ e. LacksAlone parser.old (refusal_of e)) }
+    ensures within { IfErr result (λ e. RefusalWithin parser.new.buffer (refusal_of e)) }
+{
+    match parser.peek_event()? {
+        Some(event) => Ok(is_end(&event)),
+        None => Ok(false),
+    }
+}
+
+/// An array ends with the event.
+fn is_end(event: &ParseEvent<'_>) -> bool
+    ensures { result ≡ ends_list (event_of event.now).kind }
+{
+    matches!(event.kind, ParseEventKind::SequenceEnd)
+}
+
+/// Reads an element, which may borrow of the input where `borrows` says so.
+fn item_in<'t, 'de, T: Facet<'de>>(
+    alloc: Global,
+    parser: &mut JsonParser<'de>,
+    borrows: bool,
+) -> Result<T, DeserializeError<'t>>
+    ensures read { IfOk result (λ v. IsRead (cond borrows T.reading_borrowed T.reading) parser.old (T.view v) parser.new) }
+    ensures unread { IfErr result (λ e. IsUnread (cond borrows T.reading_borrowed T.reading) parser.old (refusal_of e)) }
+    ensures keeps { KeepsOn parser.old parser.new }
+    ensures shorter { OnOk result (ahead parser.new < ahead parser.old) }
+    ensures within { IfErr result (λ e. RefusalWithin parser.new.buffer (refusal_of e)) }
+{
+    if borrows {
+        T::read(alloc, parser)
+    } else {
+        T::read_owned(alloc, parser)
+    }
+}

@@ -1,0 +1,88 @@
+//! Raw text: `RawJson`, a value that is kept as its text stands.
+
+ghost use Rattle.std.specs.Prelude.{◌≡◌, ◌≤◌, ◌<◌, IfOk, IfErr, OnOk};
+ghost use Rattle.facet_format.specs.Complaint.{no_memory};
+ghost use Rattle.facet_format.specs.Event.{borrowed, owned};
+ghost use Rattle.facet_format.specs.Views.{refusal_of};
+ghost use Rattle.facet_json_protocol.specs.Now.{ahead};
+ghost use Rattle.facet_json_protocol.specs.Within.{RefusalWithin};
+ghost use Rattle.facet_json_meaning.specs.Nodes.{KeepsOn};
+ghost use Rattle.facet_json_meaning.specs.Reading.{IsRead, IsUnread};
+ghost use Rattle.facet_json_meaning.specs.Readings.{raw_of};
+
+use crate::facet::Facet;
+use facet_format::{DeserializeError, FormatParser, FormatSerializer};
+use facet_json_parser::JsonParser;
+use facet_json_raw::RawJson;
+use facet_json_serializer::{JsonSerializeError, JsonSerializer};
+use std::alloc::Global;
+
+impl<'de> Facet<'de> for RawJson<'de> {
+    ghost use Rattle.std.specs.Prelude.{ℕ, List, false};
+    ghost use Rattle.facet_format.specs.Event.{bytes_of};
+    ghost use Rattle.facet_json_document.specs.Tree.{raw as raw_tree};
+    ghost use Rattle.facet_json_meaning.specs.Readings.{raw_of, IsBareDocument};
+    ghost use Rattle.facet_json_meaning.proofs.RawLaws.{raw-same, raw-reads_back};
+
+    ghost View = { List ℕ };
+
+    ghost view = { bytes_of };
+
+    ghost reading = { raw_of };
+
+    ghost reading_borrowed = { raw_of };
+
+    ghost tree_of = { raw_tree };
+
+    ghost readable = { IsBareDocument };
+
+    ghost whole = { false };
+
+    fn read_owned<'t>(
+        alloc: Global,
+        parser: &mut JsonParser<'de>,
+    ) -> Result<RawJson<'de>, DeserializeError<'t>> {
+        copied(alloc, captured(parser)?)
+    }
+
+    fn read<'t>(
+        _alloc: Global,
+        parser: &mut JsonParser<'de>,
+    ) -> Result<RawJson<'de>, DeserializeError<'t>> {
+        Ok(RawJson::new(captured(parser)?))
+    }
+
+    fn write(&self, serializer: &mut JsonSerializer<'_>) -> Result<(), JsonSerializeError> {
+        serializer.raw_scalar(self.as_str())
+    }
+
+    ghost same_reading = { raw-same };
+
+    ghost same_reading_borrowed = { raw-same };
+
+    ghost reads_back = { raw-reads_back };
+}
+
+/// The text of the value before which the parser stands, as it stands in the input.
+///
+/// # Errors
+///
+/// As the parser's `capture_raw`.
+fn captured<'t, 'de>(parser: &mut JsonParser<'de>) -> Result<&'de str, DeserializeError<'t>>
+    ensures read { IfOk result (λ text. IsRead raw_of parser.old text.now parser.new) }
+    ensures unread { IfErr result (λ e. IsUnread raw_of parser.old (refusal_of e)) }
+    ensures keeps { KeepsOn parser.old parser.new }
+    ensures shorter { OnOk result (ahead parser.new < ahead parser.old) }
+    ensures within { IfErr result (λ e. RefusalWithin parser.new.buffer (refusal_of e)) }
+{
+    let text = parser.capture_raw()?;
+    Ok(text.unwrap())
+}
+
+/// The text in memory of its own.
+fn copied<'t>(alloc: Global, text: &str) -> Result<RawJson<'static>, DeserializeError<'t>>
+    ensures copied { IfOk result (λ raw. raw ≡ owned text.now) }
+    ensures lacks { IfErr result (λ e. refusal_of e ≡ no_memory) }
+{
+    Ok(RawJson::from_owned(String::from_str(alloc, text)?))
+}

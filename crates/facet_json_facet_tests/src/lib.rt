@@ -1,0 +1,18 @@
+//! Tests of `facet_json_facet`: with ample memory each type is read and written, refusals are told as they should be, refused
+//! growths change nothing else, and a type of a user's own is read and written too.
+#![tactic(auto)]
+
+#[cfg(test)]
+mod growth;
+#[cfg(test)]
+mod numbers;
+#[cfg(test)]
+mod own;
+#[cfg(test)]
+mod raws;
+#[cfg(test)]
+mod texts;
+#[cfg(test)]
+mod typed;
+#[cfg(test)]
+mod wide;

@@ -1,0 +1,54 @@
+//! Whole numbers of 128 bits.
+
+use crate::typed::{is_itself, mismatch, out_of_range, reads, refuses};
+use facet_format::Span;
+
+#[test]
+fn numbers_past_64_bits_are_read_and_written(rt: HostRuntime) {
+    let alloc = rt.alloc();
+    assert!(rt; is_itself(alloc, "18446744073709551616", &18446744073709551616_u128));
+    assert!(rt; is_itself(alloc, "340282366920938463463374607431768211455", &u128::MAX));
+    assert!(rt; is_itself(alloc, "170141183460469231731687303715884105727", &i128::MAX));
+    assert!(rt;
+        is_itself(
+            alloc,
+            "-170141183460469231731687303715884105728",
+            &i128::MIN
+        )
+    );
+    assert!(rt; is_itself(alloc, "-9223372036854775809", &-9223372036854775809_i128));
+}
+
+#[test]
+fn numbers_within_64_bits_are_read_and_written(rt: HostRuntime) {
+    let alloc = rt.alloc();
+    assert!(rt; is_itself(alloc, "0", &0_u128));
+    assert!(rt; is_itself(alloc, "18446744073709551615", &18446744073709551615_u128));
+    assert!(rt; is_itself(alloc, "-1", &-1_i128));
+    assert!(rt; reads(alloc, "00018446744073709551616", &18446744073709551616_u128));
+    assert!(rt; refuses::<u128>(alloc, "-1", out_of_range("u128"), Span::new(0, 2)));
+}
+
+#[test]
+fn texts_of_digits_are_numbers(rt: HostRuntime) {
+    let alloc = rt.alloc();
+    assert!(rt; reads(alloc, "\"5\"", &5_u128));
+    assert!(rt; reads(alloc, "\"\\u0035\"", &5_u128));
+    assert!(rt; reads(alloc, "\"-5\"", &-5_i128));
+    assert!(rt; reads(alloc, "\"0\"", &0_i128));
+}
+
+#[test]
+fn other_texts_are_no_numbers(rt: HostRuntime) {
+    let alloc = rt.alloc();
+    let unsigned = mismatch("u128", "string");
+    assert!(rt; refuses::<u128>(alloc, "\"05\"", unsigned, Span::new(0, 4)));
+    assert!(rt; refuses::<u128>(alloc, "\"+5\"", unsigned, Span::new(0, 4)));
+    assert!(rt; refuses::<u128>(alloc, "\"-5\"", unsigned, Span::new(0, 4)));
+    assert!(rt; refuses::<u128>(alloc, "\"\"", unsigned, Span::new(0, 2)));
+    let signed = mismatch("i128", "string");
+    assert!(rt; refuses::<i128>(alloc, "\"-0\"", signed, Span::new(0, 4)));
+    let past = "170141183460469231731687303715884105728";
+    assert!(rt; refuses::<i128>(alloc, past, signed, Span::new(0, 39)));
+    assert!(rt; refuses::<i128>(alloc, "1e3", mismatch("i128", "decimal"), Span::new(0, 3)));
+}

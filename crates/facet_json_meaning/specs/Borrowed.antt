@@ -1,0 +1,30 @@
+-- Texts that are borrowed of the input.
+use Rattle.std.specs.Prelude.{ℕ, Bool, false, not, cond, List, Option, Some, None}
+use Rattle.std.specs.Option.{option_and_then}
+use Rattle.facet_format.specs.Event.{EventKind}
+use Rattle.facet_format.specs.Event as event
+use Rattle.facet_json_token.specs.Token.{Kind}
+use Rattle.facet_json_token.specs.Token as token
+use Rattle.facet_json_document.specs.Node.{Node, scalar, array, object}
+use Rattle.facet_json_document.specs.Meaning.{meaning}
+use Rattle.facet_json_meaning.specs.Readings.{text_of}
+
+-- a string without a backslash
+abbrev pub is_plain : Kind → Bool
+is_plain (token.string start finish has_escapes) = not has_escapes
+is_plain _ = false
+
+-- the text of such a string, which stands in the input as it is
+abbrev pub borrowed_text : List ℕ → Node → Option (List ℕ)
+borrowed_text buffer (scalar t) = cond (is_plain t.kind) (option_and_then text_of (meaning buffer t)) None
+borrowed_text buffer (array first last nodes) = None
+borrowed_text buffer (object first last inside) = None
+
+-- the same from the scalar's event
+abbrev pub lent : EventKind → Option (List ℕ)
+lent (event.scalar (event.text (event.borrowed t))) = Some t
+lent _ = None
+
+-- Where nothing may be borrowed, no node is read.
+abbrev pub unread_text : List ℕ → Node → Option (List ℕ)
+unread_text buffer node = None
