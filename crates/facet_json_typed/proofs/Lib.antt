@@ -1,0 +1,2 @@
+pub mod ComesBack
+pub mod RootComes

@@ -1,0 +1,12 @@
+use Rattle.std.proofs.lemmas.Result.{IfOk-weaker, IfErr-weaker}
+use Rattle.facet_format.specs.Views.{refusal_of}
+use Rattle.facet_json_typed.proofs.RootComes.{read-from, unread-from}
+use Rattle.facet_json_typed.proofs.reading.from_slice_jsonc.Goals as goal
+
+pub returns-clause-read : goal.returns-clause-read
+returns-clause-read g c =
+    IfOk-weaker c.read_owned.result _ _ (λ v. read-from _ _ _ _ c.new_jsonc.ensures _ _) c.read_owned.ensures.read
+
+pub returns-clause-unread : goal.returns-clause-unread
+returns-clause-unread g c =
+    IfErr-weaker c.read_owned.result _ _ (λ e. unread-from _ _ _ _ c.new_jsonc.ensures (refusal_of e)) c.read_owned.ensures.unread

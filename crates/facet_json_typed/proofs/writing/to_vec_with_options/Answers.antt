@@ -1,0 +1,22 @@
+use Rattle.std.proofs.Common.{◌≡◌, rules}
+use Rattle.std.specs.Prelude.{IsUtf8, IfOk}
+use Rattle.facet_json_document.specs.Text.{text}
+use Rattle.facet_json_options.specs.Views.{options_of}
+use Rattle.facet_json_write.proofs.ReadBack.{answered-readable}
+use Rattle.facet_json_write.proofs.Utf8Text.{answered-utf8}
+use Rattle.facet_json_typed.proofs.writing.to_vec_with_options.Goals as goal
+
+pub returns-clause-utf8 : goal.returns-clause-utf8
+returns-clause-utf8 g c =
+    let o = options_of c.args.options.now in
+    let t = g.T.Facet.tree_of (g.T.Facet.view c.args.value.now) in
+    let indent : IsUtf8 c.args.options.now.indent.now = search rules in
+    let is : IfOk c.finish.result (λ v. v.items ≡ text o 0 t) = search rules in
+    answered-utf8 (λ v. v.items) _ o _ indent c.in_ok-write.ensures.of_rust is
+
+pub returns-clause-read_back : goal.returns-clause-read_back
+returns-clause-read_back g c =
+    let o = options_of c.args.options.now in
+    let t = g.T.Facet.tree_of (g.T.Facet.view c.args.value.now) in
+    let is : IfOk c.finish.result (λ v. v.items ≡ text o 0 t) = search rules in
+    answered-readable (λ v. v.items) _ o _ c.in_ok-write.ensures.of_rust is

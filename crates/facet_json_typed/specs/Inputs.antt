@@ -1,0 +1,25 @@
+-- What it means that an input is read as a value of a type, and that a text comes back.
+use Rattle.std.specs.Prelude.{◌≡◌, ◌⊎◌, ℕ, List, Option, Some, None}
+use Rattle.facet_format.specs.Complaint.{Refusal}
+use Rattle.facet_json_token.specs.Gap.{Mode, plain}
+use Rattle.facet_json_document.specs.Document.{IsDocument}
+use Rattle.facet_json_document.specs.Node.{Node}
+use Rattle.facet_json_document.specs.Tree.{Tree}
+use Rattle.facet_json_transcode.specs.Reading.{LacksMemory}
+
+-- The input has a document.
+abbrev pub BeginsWithDocument : List ℕ → Mode → Type 0
+BeginsWithDocument input mode = (root : Node) × (tree : Tree) × IsDocument input mode root tree
+
+-- Where the input has a document, its reading is the value.
+abbrev pub IsReadFrom : {V : Type 0} → (List ℕ → Node → Option V) → List ℕ → Mode → V → Type 0
+IsReadFrom reading input mode value = (root : Node) (tree : Tree) → IsDocument input mode root tree → reading input root ≡ Some value
+
+-- Where the input has a document, memory ran out, or the document has no reading.
+abbrev pub IsUnreadFrom : {V : Type 0} → (List ℕ → Node → Option V) → List ℕ → Mode → Refusal → Type 0
+IsUnreadFrom reading input mode refusal = (root : Node) (tree : Tree) → IsDocument input mode root tree →
+    LacksMemory refusal ⊎ (reading input root ≡ None)
+
+-- The text has a document without comments, which is read as the value.
+abbrev pub ComesBack : {V : Type 0} → (List ℕ → Node → Option V) → List ℕ → V → Type 0
+ComesBack reading bytes value = BeginsWithDocument bytes plain × IsReadFrom reading bytes plain value

@@ -1,0 +1,13 @@
+//! Values of every type with `Facet` from JSON text, and back: `from_slice` and its kin read a value, `to_vec` and its kin write one.
+#![tactic(auto)]
+
+mod reading;
+mod writing;
+
+pub use reading::{
+    from_slice, from_slice_borrowed, from_slice_borrowed_jsonc, from_slice_jsonc, from_str,
+    from_str_borrowed, from_str_borrowed_jsonc, from_str_jsonc,
+};
+pub use writing::{
+    to_string, to_string_pretty, to_string_with_options, to_vec, to_vec_pretty, to_vec_with_options,
+};
