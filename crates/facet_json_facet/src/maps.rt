@@ -1,7 +1,9 @@
 //! Maps from texts: `BTreeMap`.
 
 ghost use Rattle.std.specs.Prelude.{◌≡◌, ◌⊎◌, ◌<◌, IfOk, IfErr, IfSome, OnOk, None, Some, true, false, string_bytes};
+ghost use Rattle.std.specs.BTreeMap.{insert_entry};
 ghost use Rattle.std.specs.Option.{option_map};
+ghost use Rattle.std.specs.String.{string_cmp};
 ghost use Rattle.facet_format.specs.Complaint.{no_memory};
 ghost use Rattle.facet_format.specs.Views.{event_of, refusal_of};
 ghost use Rattle.facet_json_protocol.specs.Now.{ahead, GoesOn};
@@ -44,7 +46,7 @@ impl<'de, T: Facet<'de>> Facet<'de> for BTreeMap<String, T> {
         let mut map = BTreeMap::new(alloc);
         while let Some(key) = next_key(alloc, parser)? {
             let value = T::read_owned(alloc, parser)?;
-            map.insert(key, value)?;
+            put(&mut map, key, value)?;
         }
         Ok(map)
     }
@@ -57,7 +59,7 @@ impl<'de, T: Facet<'de>> Facet<'de> for BTreeMap<String, T> {
         let mut map = BTreeMap::new(alloc);
         while let Some(key) = next_key(alloc, parser)? {
             let value = T::read(alloc, parser)?;
-            map.insert(key, value)?;
+            put(&mut map, key, value)?;
         }
         Ok(map)
     }
@@ -134,4 +136,21 @@ fn key_in<'t>(alloc: Global, event: ParseEvent<'_>) -> Result<Option<String>, De
         ParseEventKind::StructEnd => Ok(None),
         _ => Err(mismatch("object", event)),
     }
+}
+
+/// Puts a value in at a key. Where the key is there already, its value is replaced.
+///
+/// # Errors
+///
+/// Out of memory.
+fn put<'t, T: Drop>(
+    map: &mut BTreeMap<String, T>,
+    key: String,
+    value: T,
+) -> Result<(), DeserializeError<'t>>
+    ensures put { OnOk result (map.new.entries ≡ insert_entry string_cmp map.old.entries key value) }
+    ensures refused { IfErr result (λ e. refusal_of e ≡ no_memory) }
+{
+    map.insert(key, value)?;
+    Ok(())
 }

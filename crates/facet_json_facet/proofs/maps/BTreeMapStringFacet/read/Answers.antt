@@ -26,17 +26,11 @@ returns-in_err-value-clause-unread g c =
     let named = rw c.in-Some.is at c.in_ok-key.ensures.passed in
     rw (p.1, p.2) (map-no_value g.T.Facet.reading_borrowed _ _ _ _ (string_bytes c.in-Some.key) (refusal_of c.in_err-value.field-0.0) c.loop-map.invariant.left named c.in_err-value.ensures.unread)
 
-pub loop-map-preserved-in_ok-insert : goal.loop-map-preserved-in_ok-insert
-loop-map-preserved-in_ok-insert g c =
-    let key = c.in_ok-key.ensures in
-    let value = c.in_ok-value.ensures in
-    entry-read g.T.Facet.reading_borrowed g.T.Facet.view c.args.parser.now c.loop-map.parser c.next_key.new.parser c.read.new.parser c.loop-map.map.entries c.insert.new.self.entries c.in_ok-key.field-0 c.in-Some.key c.in_ok-value.value c.loop-map.invariant key.passed c.in-Some.is key.onward value.read value.keeps c.in_ok-insert.ensures.entries
-
 pub loop-map-preserved : goal.loop-map-preserved
 loop-map-preserved g c =
     let key = c.in_ok-key.ensures in
     let value = c.in_ok-value.ensures in
-    entry-read g.T.Facet.reading_borrowed g.T.Facet.view c.args.parser.now c.loop-map.parser c.next_key.new.parser c.read.new.parser c.loop-map.map.entries c.insert.new.self.entries c.in_ok-key.field-0 c.in-Some.key c.in_ok-value.value c.loop-map.invariant key.passed c.in-Some.is key.onward value.read value.keeps c.in_ok-insert.ensures.entries
+    entry-read g.T.Facet.reading_borrowed g.T.Facet.view c.args.parser.now c.loop-map.parser c.next_key.new.parser _ c.loop-map.map.entries c.put.new.map.entries c.in_ok-key.field-0 c.in-Some.key c.in_ok-value.value c.loop-map.invariant key.passed c.in-Some.is key.onward value.read value.keeps c.in_ok-put.ensures.put
 
 pub returns-clause-read : goal.returns-clause-read
 returns-clause-read g c =
