@@ -1,4 +1,4 @@
-//! Types that are read from JSON and written as JSON: the trait `Facet`, and the types of std that have it. What it means that a
+//! Types that are read from JSON and written as JSON: the trait `Facet`, and the types of std and of this library that have it. What it means that a
 //! type is read is defined in `facet_json_meaning`. The parser that they read from is `JsonParser`, and the serializer that they
 //! write to is `JsonSerializer`.
 #![tactic(auto)]

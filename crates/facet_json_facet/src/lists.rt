@@ -16,12 +16,18 @@ use facet_json_parser::JsonParser;
 use facet_json_serializer::{JsonSerializeError, JsonSerializer};
 use std::alloc::Global;
 
-/// A list (RFC 8259, section 5): an array, each of whose elements is read as a `T`.
+/// A list (RFC 8259, section 5): an array, each of whose elements is read as a `T`, in order. Only `read` borrows of the input, where
+/// `T` does. It is written as the array of its elements.
 ///
 /// ```text
 /// <Vec<bool> as Facet>::read_owned(alloc, &mut JsonParser::new(alloc, b"[true, false]"))     Ok: true, false
 /// <Vec<bool> as Facet>::read_owned(alloc, &mut JsonParser::new(alloc, b"[true, null]"))      TypeMismatch
 /// ```
+///
+/// # Errors
+///
+/// `TypeMismatch` where no array begins, with its event's span, and what an element is refused with. Or out of memory, where the list
+/// can't grow.
 impl<'de, T: Facet<'de>> Facet<'de> for Vec<T> {
     ghost use Rattle.std.specs.Prelude.{List, false, map};
     ghost use Rattle.std.specs.List.{All};
@@ -72,6 +78,10 @@ impl<'de, T: Facet<'de>> Facet<'de> for Vec<T> {
 }
 
 /// Reads the list before which the parser stands. Its elements may borrow of the input where `borrows` says so.
+///
+/// # Errors
+///
+/// No array begins, an element is refused, or the list can't grow.
 fn list_in<'t, 'de, T: Facet<'de>>(
     alloc: Global,
     parser: &mut JsonParser<'de>,
@@ -107,7 +117,11 @@ fn begin_list<'t>(parser: &mut JsonParser<'_>) -> Result<(), DeserializeError<'t
     array_in(next_of_value(parser)?)
 }
 
-/// An array begins with the event.
+/// Whether an array begins with the event.
+///
+/// # Errors
+///
+/// It is another event: a mismatch, with its span.
 fn array_in<'t>(event: ParseEvent<'_>) -> Result<(), DeserializeError<'t>>
     ensures begins { OnOk result (begins_list (event_of event.entry).kind ≡ true) }
     ensures refused { IfErr result (λ e. begins_list (event_of event.entry).kind ≡ false) }
@@ -136,7 +150,7 @@ fn end_comes<'t>(parser: &mut JsonParser<'_>) -> Result<bool, DeserializeError<'
     }
 }
 
-/// An array ends with the event.
+/// Whether an array ends with the event.
 fn is_end(event: &ParseEvent<'_>) -> bool
     ensures { result ≡ ends_list (event_of event.now).kind }
 {
@@ -144,6 +158,10 @@ fn is_end(event: &ParseEvent<'_>) -> bool
 }
 
 /// Reads an element, which may borrow of the input where `borrows` says so.
+///
+/// # Errors
+///
+/// As `T` refuses.
 fn item_in<'t, 'de, T: Facet<'de>>(
     alloc: Global,
     parser: &mut JsonParser<'de>,

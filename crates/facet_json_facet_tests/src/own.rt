@@ -1,7 +1,9 @@
 //! A type of a user's own: what it reads and writes is proved from what the trait says of the type within it.
 
+ghost use Rattle.std.specs.Prelude.{◌≡◌, None};
+
 use crate::typed::{is_itself, out_of_range, refuses};
-use facet_format::{DeserializeError, Span};
+use facet_format::{DeserializeError, DeserializeErrorKind, Span};
 use facet_json_facet::Facet;
 use facet_json_parser::JsonParser;
 use facet_json_serializer::{JsonSerializeError, JsonSerializer};
@@ -51,9 +53,93 @@ impl<'de, T: Facet<'de>> Facet<'de> for Named<T> {
     ghost reads_back = { T.reads_back };
 }
 
+/// A whole number from 0 to 100.
+#[derive(Debug, PartialEq, Drop)]
+struct Percent(u8);
+
+impl<'de> Facet<'de> for Percent {
+    ghost use Rattle.std.specs.Prelude.{ℕ, true, ◌≤◌};
+    ghost use Rattle.facet_json_document.specs.Tree.{u64 as u64_tree};
+    ghost use Rattle.facet_json_facet_tests.specs.Percents.{percent};
+    ghost use Rattle.facet_json_facet_tests.specs.PercentLaws.{percent-same, percent-reads_back};
+
+    ghost View = { ℕ };
+
+    ghost view = { λ share. share.0 };
+
+    ghost reading = { percent };
+
+    ghost reading_borrowed = { percent };
+
+    ghost tree_of = { u64_tree };
+
+    ghost readable = { λ n. n ≤ 100 };
+
+    ghost whole = { true };
+
+    fn read_owned<'t>(
+        alloc: Global,
+        parser: &mut JsonParser<'de>,
+    ) -> Result<Percent, DeserializeError<'t>> {
+        let number = u8::read_owned(alloc, parser)?;
+        if number <= 100 {
+            Ok(Percent(number))
+        } else {
+            Err(too_much())
+        }
+    }
+
+    fn read<'t>(
+        alloc: Global,
+        parser: &mut JsonParser<'de>,
+    ) -> Result<Percent, DeserializeError<'t>> {
+        Percent::read_owned(alloc, parser)
+    }
+
+    fn write(&self, serializer: &mut JsonSerializer<'_>) -> Result<(), JsonSerializeError> {
+        self.0.write(serializer)
+    }
+
+    ghost same_reading = { percent-same };
+
+    ghost same_reading_borrowed = { percent-same };
+
+    ghost reads_back = { percent-reads_back };
+}
+
+/// The refusal of a number above 100, which tells no place.
+fn too_much<'t>() -> DeserializeError<'t>
+    ensures { result.span ≡ None }
+{
+    DeserializeError {
+        kind: DeserializeErrorKind::InvalidValue {
+            message: "more than 100 percent",
+        },
+        span: None,
+    }
+}
+
 #[test]
 fn a_type_of_ones_own_is_read_and_written(rt: HostRuntime) {
     let alloc = rt.alloc();
     assert!(rt; is_itself(alloc, "-40", &Named(-40_i16)));
     assert!(rt; refuses::<Named<i16>>(alloc, "40000", out_of_range("i16"), Span::new(0, 5)));
+}
+
+/// Whether the input is refused as too much.
+fn is_too_much(alloc: Global, input: &str) -> bool {
+    let mut parser = JsonParser::new(alloc, input.as_bytes());
+    match Percent::read_owned(alloc, &mut parser) {
+        Ok(_) => false,
+        Err(error) => error == too_much(),
+    }
+}
+
+#[test]
+fn a_type_of_ones_own_may_have_bounds(rt: HostRuntime) {
+    let alloc = rt.alloc();
+    assert!(rt; is_itself(alloc, "100", &Percent(100)));
+    assert!(rt; is_itself(alloc, "0", &Percent(0)));
+    assert!(rt; is_too_much(alloc, "101"));
+    assert!(rt; refuses::<Percent>(alloc, "256", out_of_range("u8"), Span::new(0, 3)));
 }

@@ -1,0 +1,2 @@
+pub mod Percents
+pub mod PercentLaws

@@ -1,0 +1,29 @@
+-- Whole numbers from 0 to 100: the laws of a type that is read and written.
+use Rattle.std.proofs.Common.{◌≡◌, ◌≤◌, ℕ, cond, Some, None, ap, ◌∙◌, arith}
+use Rattle.std.specs.Option.{option_and_then}
+use Rattle.std.proofs.lemmas.Bool.{le-leb}
+use Rattle.facet_json_document.specs.Tree.{u64}
+use Rattle.facet_json_meaning.specs.Laws.{SameReading, ReadsBack}
+use Rattle.facet_json_meaning.specs.Readings.{unsigned_of}
+use Rattle.facet_json_meaning.proofs.LeafLaws.{leaf-same}
+use Rattle.facet_json_meaning.proofs.WholeNumbers.{u8-reads_back}
+use Rattle.facet_json_facet_tests.specs.Percents.{percent_in, percent}
+
+pub percent-some : (n : ℕ) → n ≤ 100 → percent_in n ≡ Some n
+percent-some n h = ap (λ b. cond b (Some n) None) (le-leb n 100 h)
+
+pub percent-same : SameReading percent
+percent-same these those n m same = ap (option_and_then percent_in) (leaf-same (unsigned_of 8) these those n m same)
+
+pub percent-reads_back : ReadsBack percent u64 (λ (n : ℕ). n ≤ 100)
+percent-reads_back n h =
+    let back = u8-reads_back n (omega (arith, h)) in
+    let r = back.1 in (
+      back.0,
+      record {
+        root = r.root;
+        tree = r.tree;
+        document = r.document;
+        is_read = ap (option_and_then percent_in) r.is_read ∙ percent-some n h;
+      },
+    )
