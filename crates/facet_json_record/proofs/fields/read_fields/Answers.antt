@@ -1,0 +1,51 @@
+use Rattle.std.proofs.Common.{string_bytes}
+use Rattle.std.proofs.lemmas.Result.{IfOk-weaker, IfErr-weaker, err_from_is_err_and}
+use Rattle.facet_format.specs.Views.{refusal_of}
+use Rattle.facet_json_record.specs.Fields.{keys, table}
+use Rattle.facet_json_record.proofs.FieldSteps.{way-begin, way-goes_on, fields-not_begun, fields-no_key, fields-no_value, fields-end, fields-missing}
+use Rattle.facet_json_record.proofs.fields.read_fields.Goals as goal
+
+pub returns-in_err-begin_object-clause-unread : goal.returns-in_err-begin_object-clause-unread
+returns-in_err-begin_object-clause-unread g c =
+    let p = err_from_is_err_and c.from_residual.result c.from_residual.ensures.1 in
+    let t = table g.F.Fields.start (g.F.Fields.step c.args.borrows) g.F.Fields.ends in
+    rw (p.1, p.2) (fields-not_begun t (keys c.args.names.now) _ (refusal_of c.in_err-begin_object.field-0.0) c.in_err-begin_object.ensures.unread)
+
+pub loop-slots-init : goal.loop-slots-init
+loop-slots-init g c =
+    let begun = c.in_ok-begin_object.ensures in
+    let t = table g.F.Fields.start (g.F.Fields.step c.args.borrows) g.F.Fields.ends in
+    rw c.none-slots.ensures (way-begin t (keys c.args.names.now) _ _ begun.begun begun.onward begun.shorter)
+
+pub returns-in_err-key-clause-unread : goal.returns-in_err-key-clause-unread
+returns-in_err-key-clause-unread g c =
+    let p = err_from_is_err_and c.from_residual-in_err-key.result c.from_residual-in_err-key.ensures.1 in
+    let t = table g.F.Fields.start (g.F.Fields.step c.args.borrows) g.F.Fields.ends in
+    rw (p.1, p.2) (fields-no_key t (keys c.args.names.now) _ _ _ (refusal_of c.in_err-key.field-0.0) c.loop-slots.invariant.left c.in_err-key.ensures.lacks)
+
+pub returns-in_err-put-clause-unread : goal.returns-in_err-put-clause-unread
+returns-in_err-put-clause-unread g c =
+    let p = err_from_is_err_and c.from_residual-in_err-put.result c.from_residual-in_err-put.ensures.1 in
+    let t = table g.F.Fields.start (g.F.Fields.step c.args.borrows) g.F.Fields.ends in
+    let named = rw c.in-Some.is at c.in_ok-key.ensures.passed in
+    let unread = rw c.as_str.ensures.value at c.in_err-put.ensures.unread in
+    rw (p.1, p.2) (fields-no_value t (keys c.args.names.now) _ _ _ _ (string_bytes c.in-Some.key) (refusal_of c.in_err-put.field-0.0) c.loop-slots.invariant.left named unread)
+
+pub loop-slots-preserved : goal.loop-slots-preserved
+loop-slots-preserved g c =
+    let t = table g.F.Fields.start (g.F.Fields.step c.args.borrows) g.F.Fields.ends in
+    let named = rw c.in-Some.is at c.in_ok-key.ensures.passed in
+    let read = rw c.as_str.ensures.value at c.in_ok-put.ensures.read in
+    way-goes_on t (keys c.args.names.now) c.args.parser.now c.loop-slots.parser c.next_key.new.parser c.put.new.parser _ _ (string_bytes c.in-Some.key) c.loop-slots.invariant named c.in_ok-key.ensures.onward read c.in_ok-put.ensures.keeps
+
+pub returns-clause-read : goal.returns-clause-read
+returns-clause-read g c =
+    let t = table g.F.Fields.start (g.F.Fields.step c.args.borrows) g.F.Fields.ends in
+    let ended = rw c.in_default.is at c.in_ok-key.ensures.passed in
+    IfOk-weaker c.finish.result _ _ (λ f full. fields-end t (keys c.args.names.now) _ _ _ _ (g.F.Fields.view f) c.loop-slots.invariant.left ended full) c.finish.ensures.full
+
+pub returns-clause-unread : goal.returns-clause-unread
+returns-clause-unread g c =
+    let t = table g.F.Fields.start (g.F.Fields.step c.args.borrows) g.F.Fields.ends in
+    let ended = rw c.in_default.is at c.in_ok-key.ensures.passed in
+    IfErr-weaker c.finish.result _ _ (λ e missing. fields-missing t (keys c.args.names.now) _ _ _ _ (refusal_of e) c.loop-slots.invariant.left ended missing) c.finish.ensures.missing

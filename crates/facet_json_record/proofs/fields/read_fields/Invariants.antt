@@ -1,0 +1,11 @@
+use Rattle.facet_json_protocol.specs.Now.{ahead}
+use Rattle.facet_json_record.specs.Fields.{keys, table}
+use Rattle.facet_json_record.proofs.FieldSteps.{IsUnderWay}
+use Rattle.facet_json_record.proofs.fields.read_fields.Given as goal
+
+abbrev pub invariant-loop-slots : goal.invariant-loop-slots
+invariant-loop-slots g l =
+    IsUnderWay (table g.F.Fields.start (g.F.Fields.step l.fn.borrows) g.F.Fields.ends) (keys l.fn.names) l.fn.parser (g.F.Fields.seen l.slots) l.parser
+
+abbrev pub decreases-loop-slots : goal.decreases-loop-slots
+decreases-loop-slots g l = ahead l.parser
