@@ -11,4 +11,5 @@ pub mod scanning;
 pub mod tokens;
 pub mod transcoding;
 pub mod trees;
+pub mod typed;
 pub mod writing;

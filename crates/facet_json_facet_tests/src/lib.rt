@@ -1,7 +1,11 @@
-//! Tests of `facet_json_facet`: with ample memory each type is read and written, refusals are told as they should be, refused
+//! Tests of `facet_json_facet` and `facet_json_typed`: with ample memory each type is read and written, refusals are told as they should be, refused
 //! growths change nothing else, and a type of a user's own is read and written too.
 #![tactic(auto)]
 
+#[cfg(test)]
+mod containers;
+#[cfg(test)]
+mod entries;
 #[cfg(test)]
 mod growth;
 #[cfg(test)]

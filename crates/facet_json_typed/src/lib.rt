@@ -1,9 +1,11 @@
-//! Values of every type with `Facet` from JSON text, and back: `from_slice` and its kin read a value, `to_vec` and its kin write one.
+//! Values of every type with `Facet` from JSON text, and back: `from_slice` and its kin read a value, `to_vec` and its kin write one. The trait itself
+//! is of `facet_json_facet`, which has the types of std and of this library.
 #![tactic(auto)]
 
 mod reading;
 mod writing;
 
+pub use facet_json_facet::Facet;
 pub use reading::{
     from_slice, from_slice_borrowed, from_slice_borrowed_jsonc, from_slice_jsonc, from_str,
     from_str_borrowed, from_str_borrowed_jsonc, from_str_jsonc,

@@ -1,0 +1,68 @@
+//! Values that may be null, lists and maps.
+
+use crate::typed::{is_itself, mismatch, out_of_range, reads, refuses, writes};
+use facet_format::Span;
+use facet_json_facet::Facet;
+use facet_json_parser::JsonParser;
+use std::alloc::Global;
+use std::collections::BTreeMap;
+
+#[test]
+fn a_value_may_be_null(rt: HostRuntime) {
+    let alloc = rt.alloc();
+    assert!(rt; is_itself(alloc, "null", &None::<u8>));
+    assert!(rt; is_itself(alloc, "7", &Some(7_u8)));
+    assert!(rt; refuses::<Option<u8>>(alloc, "300", out_of_range("u8"), Span::new(0, 3)));
+}
+
+/// Whether the list of 1 and null is read, and written again.
+fn list_is_itself(alloc: Global) -> bool {
+    match vec![in alloc; Some(1_u8), None] {
+        Ok(items) => is_itself(alloc, "[1,null]", &items) && reads(alloc, "[ 1, null, ]", &items),
+        Err(_) => false,
+    }
+}
+
+/// Whether lists of lists are read and written.
+fn lists_are_nested(alloc: Global) -> bool {
+    let Ok(inner) = vec![in alloc; true] else {
+        return false;
+    };
+    match vec![in alloc; inner, Vec::new(alloc)] {
+        Ok(items) => is_itself(alloc, "[[true],[]]", &items),
+        Err(_) => false,
+    }
+}
+
+#[test]
+fn lists_are_read_and_written(rt: HostRuntime) {
+    let alloc = rt.alloc();
+    assert!(rt; is_itself(alloc, "[]", &Vec::<u8>::new(alloc)));
+    assert!(rt; list_is_itself(alloc));
+    assert!(rt; lists_are_nested(alloc));
+    assert!(rt; refuses::<Vec<u8>>(alloc, "{}", mismatch("array", "object"), Span::new(0, 1)));
+    assert!(rt; refuses::<Vec<u8>>(alloc, "[1, 300]", out_of_range("u8"), Span::new(4, 3)));
+}
+
+/// Whether the object is read as a map that is written so.
+fn is_written_again(alloc: Global, input: &str, text: &str) -> bool {
+    let mut parser = JsonParser::new(alloc, input.as_bytes());
+    match BTreeMap::<String, u8>::read_owned(alloc, &mut parser) {
+        Ok(map) => writes(alloc, &map, text),
+        Err(_) => false,
+    }
+}
+
+#[test]
+fn maps_are_read_and_written(rt: HostRuntime) {
+    let alloc = rt.alloc();
+    assert!(rt; is_written_again(alloc, "{}", "{}"));
+    assert!(rt; is_written_again(alloc, "{\"b\":1,\"a\":2}", "{\"a\":2,\"b\":1}"));
+    assert!(rt; is_written_again(alloc, "{\"a\":1,\"\\u0061\":2}", "{\"a\":2}"));
+    assert!(rt;
+        refuses::<BTreeMap<String, u8>>(alloc, "[]", mismatch("object", "array"), Span::new(0, 1))
+    );
+    assert!(rt;
+        refuses::<BTreeMap<String, u8>>(alloc, "{\"a\":-1}", out_of_range("u8"), Span::new(5, 2))
+    );
+}

@@ -1,0 +1,80 @@
+//! The entry functions, each once with ample memory, and texts that the input lends.
+
+use facet_format::{DeserializeError, DeserializeErrorKind, Span};
+use facet_json_options::SerializeOptions;
+use facet_json_typed::{
+    from_slice, from_slice_borrowed, from_slice_borrowed_jsonc, from_slice_jsonc, from_str,
+    from_str_borrowed, from_str_borrowed_jsonc, from_str_jsonc, to_string, to_string_pretty,
+    to_string_with_options, to_vec, to_vec_pretty, to_vec_with_options,
+};
+use std::alloc::Global;
+
+#[test]
+fn values_are_read_from_bytes_and_texts(rt: HostRuntime) {
+    let alloc = rt.alloc();
+    assert!(rt; from_slice(alloc, b" 7 8") == Ok(7_u8));
+    assert!(rt; from_slice_jsonc(alloc, b"/* seven */ 7") == Ok(7_u8));
+    assert!(rt; from_str(alloc, "-7") == Ok(-7_i8));
+    assert!(rt; from_str_jsonc(alloc, "// below zero\n-7") == Ok(-7_i8));
+}
+
+#[test]
+fn texts_are_lent(rt: HostRuntime) {
+    let alloc = rt.alloc();
+    assert!(rt; from_slice_borrowed(alloc, b"\"ab\"") == Ok("ab"));
+    assert!(rt; from_slice_borrowed_jsonc(alloc, b"/**/\"ab\"") == Ok("ab"));
+    assert!(rt; from_str_borrowed(alloc, "\"\u{4e2d}\"") == Ok("\u{4e2d}"));
+    assert!(rt; from_str_borrowed_jsonc(alloc, "\"\" // none") == Ok(""));
+}
+
+/// Whether the text is refused, since it cannot be lent, at all of its bytes.
+fn is_not_lent(answer: Result<&str, DeserializeError<'_>>, len: usize) -> bool {
+    match answer {
+        Ok(_) => false,
+        Err(error) => {
+            error.kind
+                == DeserializeErrorKind::InvalidValue {
+                    message: "a borrowed text needs an unescaped string",
+                }
+                && error.span == Some(Span::new(0, len))
+        }
+    }
+}
+
+#[test]
+fn texts_with_escapes_are_not_lent(rt: HostRuntime) {
+    let alloc = rt.alloc();
+    assert!(rt; is_not_lent(from_str_borrowed(alloc, "\"a\\u0062\""), 9));
+    assert!(rt; is_not_lent(from_str(alloc, "\"ab\""), 4));
+}
+
+/// Whether the list of one number is written as these texts: compact, on lines, and indented by a tab.
+fn are_written(alloc: Global, compact: &str, pretty: &str, tabbed: &str) -> bool {
+    let Ok(list) = vec![in alloc; 7_u8] else {
+        return false;
+    };
+    let options = SerializeOptions::new().indent("\t");
+    match (
+        to_vec(alloc, &list),
+        to_vec_pretty(alloc, &list),
+        to_vec_with_options(alloc, &list, &options),
+        to_string(alloc, &list),
+        to_string_pretty(alloc, &list),
+        to_string_with_options(alloc, &list, &options),
+    ) {
+        (Ok(a), Ok(b), Ok(c), Ok(d), Ok(e), Ok(f)) => {
+            a.as_slice() == compact.as_bytes()
+                && b.as_slice() == pretty.as_bytes()
+                && c.as_slice() == tabbed.as_bytes()
+                && d.as_str() == compact
+                && e.as_str() == pretty
+                && f.as_str() == tabbed
+        }
+        _ => false,
+    }
+}
+
+#[test]
+fn values_are_written(rt: HostRuntime) {
+    assert!(rt; are_written(rt.alloc(), "[7]", "[\n  7\n]", "[\n\t7\n]"));
+}
