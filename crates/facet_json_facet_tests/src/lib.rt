@@ -15,6 +15,8 @@ mod own;
 #[cfg(test)]
 mod raws;
 #[cfg(test)]
+mod records;
+#[cfg(test)]
 mod texts;
 #[cfg(test)]
 mod typed;
