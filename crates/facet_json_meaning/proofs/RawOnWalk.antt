@@ -20,34 +20,7 @@ use Rattle.facet_json_meaning.specs.Nodes.{StandsBefore, StandsAfter}
 use Rattle.facet_json_meaning.specs.Reading.{IsRead, IsUnread}
 use Rattle.facet_json_meaning.specs.Readings.{raw_of}
 use Rattle.facet_json_meaning.proofs.LeafReadings.{walk-first}
-
--- ---- what stands there
-
--- A place from which something comes is as many events behind the start.
-place-length : (events : List Passed) (place : ℕ) (first : Passed) (others : List Passed) → drop place events ≡ first ∷ others →
-    length (take place events) ≡ place
-place-length [] zero first others e = refl
-place-length [] (suc place) first others e = cc
-place-length (p ∷ events) zero first others e = refl
-place-length (p ∷ events) (suc place) first others e = ap suc (place-length events place first others e)
-
--- the node's value, as a part of the walk
-abbrev part_of_node : List ℕ → Node → ℕ → Part ℕ
-part_of_node buffer node place =
-    value (is_container node) (first_token node).span.offset (stop (last_token node).span) (place + length (walk buffer node))
-
--- Before a node, the node's value stands there.
-node-there : (w : Source) (place : ℕ) (node : Node) (others : List Passed) → drop place w.events ≡ walk w.bytes node ++ others →
-    part_at w place ≡ part_of_node w.bytes node place
-node-there w place node others comes =
-    let first = walk-first w.bytes node others in
-    let front = take place w.events in
-    let len : length front ≡ place = place-length w.events place first.first first.others (comes ∙ first.are) in
-    let whole : front ++ (walk w.bytes node ++ others) ≡ w.events =
-    ap (λ rest. front ++ rest) (sym comes) ∙ take-append-drop place w.events in
-    ap (part_at w) (sym len)
-    ∙ ap (λ events. part_at (record { bytes = w.bytes; events = events }) (length front)) (sym whole)
-    ∙ walk_is_one_value w.bytes node front others ∙ ap (part_of_node w.bytes node) len
+use Rattle.facet_json_meaning.proofs.PartOnWalk.{part_of_node, node-there}
 
 -- ---- what is captured
 

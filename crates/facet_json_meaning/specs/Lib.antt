@@ -9,3 +9,4 @@ pub mod Borrowed
 pub mod Optional
 pub mod Peeking
 pub mod Lists
+pub mod Trees

@@ -1,8 +1,9 @@
 -- What the next event does on a walk.
-use Rattle.std.specs.Prelude.{◌≡◌, ℕ, suc, slice_get, Some, None}
+use Rattle.std.specs.Prelude.{◌≡◌, ℕ, List, suc, slice_get, Option, Some, None}
 use Rattle.facet_format.specs.Complaint.{Refusal}
 use Rattle.facet_format.specs.Event.{Event, Passed}
 use Rattle.facet_format.specs.Cursor.{Cursor, Source, at_spot, unpeeked}
+use Rattle.facet_json_document.specs.Node.{Node}
 use Rattle.facet_json_protocol.specs.Now.{Now, StandsAt}
 use Rattle.facet_json_transcode.specs.Reading.{LacksMemory}
 
@@ -26,3 +27,16 @@ pub record LacksAlone (old : Now) (refusal : Refusal) : Type 0 where
 pub record PassesOne (old new : Now) : Type 0 where
   pub given : Event
   pub walks : WalksPast old given new
+
+-- Of every node nothing is known: its value is passed unread.
+abbrev pub anything : List ℕ → Node → Option (Unit {0})
+anything buffer node = Some tt
+
+-- The parser stands further on, on the walk, with the cursor's points and refusal as they were.
+pub record StandsOnward (w : Source) (c : Cursor ℕ) (new : Now) : Type 0 where
+  pub place : ℕ
+  pub stands : StandsAt new w (at_spot c (unpeeked place))
+
+-- Wherever the parser stood on a walk and was not refused, it stands further on.
+abbrev pub MovesOn : Now → Now → Type 0
+MovesOn old new = (w : Source) (c : Cursor ℕ) → StandsAt old w c → c.refusal ≡ None → StandsOnward w c new

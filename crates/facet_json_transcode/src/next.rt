@@ -1,9 +1,11 @@
 //! The next event of a value, from a parser.
 
-ghost use Rattle.std.specs.Prelude.{◌≡◌, ◌≤◌, ◌<◌, ◌+◌, None, length, IfOk, IfErr, IfSome, OnOk};
+ghost use Rattle.std.specs.Prelude.{◌≡◌, ◌≤◌, ◌<◌, ◌+◌, None, Some, Ok, length, IfOk, IfErr, IfSome, OnOk};
+ghost use Rattle.facet_format.specs.Cursor.{next, event};
 ghost use Rattle.facet_format.specs.Span.{stop};
+ghost use Rattle.facet_format.specs.Standing.{IsStep};
 ghost use Rattle.facet_format.specs.Views.{event_of, refusal_of};
-ghost use Rattle.facet_json_protocol.specs.Now.{ahead};
+ghost use Rattle.facet_json_protocol.specs.Now.{ahead, GoesOn, StandsAt};
 ghost use Rattle.facet_json_protocol.specs.Next.{PassesNext};
 ghost use Rattle.facet_json_transcode.specs.Reading.{GivesNone};
 
@@ -18,8 +20,9 @@ use facet_json_parser::JsonParser;
 pub fn next_of_value<'t, 'de>(
     parser: &mut JsonParser<'de>,
 ) -> Result<ParseEvent<'de>, DeserializeError<'t>>
-    ensures same { parser.new.buffer ≡ parser.old.buffer }
+    ensures onward { GoesOn parser.old parser.new }
     ensures gave { IfOk result (λ e. PassesNext parser.old (event_of e) parser.new) }
+    ensures steps { IfOk result (λ e. IsStep StandsAt parser.old next (event (Ok (Some (event_of e)))) parser.new) }
     ensures shorter { OnOk result (ahead parser.new < ahead parser.old) }
     ensures event_within { IfOk result (λ e. stop (event_of e).span ≤ length parser.new.buffer) }
     ensures refused { parser.old.cursor.refusal ≡ None → IfErr result (λ e. GivesNone parser.old (refusal_of e)) }

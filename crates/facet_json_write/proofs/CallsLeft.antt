@@ -1,6 +1,6 @@
 -- Which calls of a tree are still to be made.
-use Rattle.std.proofs.Common.{◌≡◌, List, [], ◌∷◌, ◌++◌, Option, Some, Result, Ok, Err, refl, sym, ap, ◌∙◌, subst}
-use Rattle.std.specs.Result.{OnOk, IfErr}
+use Rattle.std.proofs.Common.{◌≡◌, List, [], ◌∷◌, ◌++◌, Option, Some, None, Result, Ok, Err, refl, sym, ap, ◌∙◌, subst}
+use Rattle.std.specs.Result.{OnOk, OnErr, IfErr}
 use Rattle.facet_json_document.specs.Tree.{Tree}
 use Rattle.facet_json_serializer.specs.declared.error.JsonSerializeError.{JsonSerializeError}
 use Rattle.facet_format.specs.SerializerCall.{Call}
@@ -122,3 +122,23 @@ pub last-refused : (old now new : Option Writing) (t : Tree) (call : Call) (r : 
     → AreLeft old t (call ∷ []) now → Appends now call (answer_of r) new → IfErr r (λ e. refusal_of e ≡ out_of_memory)
 last-refused old now new t call (Ok nothing) h step = tt
 last-refused old now new t call (Err e) h step = left-refused old now new t call [] (refusal_of e) h step
+
+-- A call that is refused for lack of memory leaves a serializer that has none.
+call-spent : (old new : Option Writing) (call : Call) (answer : Result (Unit {0}) Refusal) → Appends old call answer new
+    → answer ≡ Err out_of_memory → new ≡ None
+call-spent old new call answer (appends w _ a can) e = cc
+call-spent old new call answer (refuses w _ why cannot) e = cc
+call-spent old new call answer (runs_out w _ a can) e = refl
+call-spent old new call answer (stays_out _) e = refl
+
+-- The next call of a tree that is refused leaves the serializer out of memory.
+pub left-spent : (old now new : Option Writing) (t : Tree) (call : Call) (rest : List Call) (why : Refusal)
+    → AreLeft old t (call ∷ rest) now → Appends now call (Err why) new → new ≡ None
+left-spent old now new t call rest why h step =
+    call-spent now new call (Err why) step (ap Err (left-refused old now new t call rest why h step))
+
+-- The same of the code's answer to the last call of a tree.
+pub last-spent : (old now new : Option Writing) (t : Tree) (call : Call) (r : Result (Unit {0}) JsonSerializeError)
+    → AreLeft old t (call ∷ []) now → Appends now call (answer_of r) new → OnErr r (new ≡ None)
+last-spent old now new t call (Ok nothing) h step = tt
+last-spent old now new t call (Err e) h step = left-spent old now new t call [] (refusal_of e) h step

@@ -1,6 +1,6 @@
 //! A tree, written by a serializer's calls.
 
-ghost use Rattle.std.specs.Prelude.{◌≡◌, IfErr, OnOk};
+ghost use Rattle.std.specs.Prelude.{◌≡◌, None, IfErr, OnOk, OnErr};
 ghost use Rattle.facet_json_document.specs.Tree.{list, pairs};
 ghost use Rattle.facet_json_document.specs.Tree as tree;
 ghost use Rattle.facet_format.specs.Event as event;
@@ -28,7 +28,7 @@ use std::borrow::CowStr;
 ///
 /// # Errors
 ///
-/// `OutOfMemory` alone.
+/// `OutOfMemory` alone; the serializer is then out of memory for good.
 #[cycle(write)]
 pub fn write_tree(
     serializer: &mut JsonSerializer<'_>,
@@ -36,6 +36,7 @@ pub fn write_tree(
 ) -> Result<(), JsonSerializeError>
     ensures written { OnOk result (HasWritten serializer.old (tree_view tree.now) serializer.new) }
     ensures refused { IfErr result (λ e. refusal_of e ≡ out_of_memory) }
+    ensures spent { OnErr result (serializer.new ≡ None) }
     ensures of_rust { OnOk result (IsOfRust (tree_view tree.now)) }
 {
     match tree {
@@ -62,6 +63,7 @@ pub fn write_tree(
 fn write_list(serializer: &mut JsonSerializer<'_>, items: &[Tree]) -> Result<(), JsonSerializeError>
     ensures written { OnOk result (HasWritten serializer.old (list (trees_view items.now)) serializer.new) }
     ensures refused { IfErr result (λ e. refusal_of e ≡ out_of_memory) }
+    ensures spent { OnErr result (serializer.new ≡ None) }
     ensures of_rust { OnOk result (IsOfRust (list (trees_view items.now))) }
 {
     serializer.begin_seq()?;
@@ -80,6 +82,7 @@ fn write_pairs(
 ) -> Result<(), JsonSerializeError>
     ensures written { OnOk result (HasWritten serializer.old (pairs (pairs_view members.now)) serializer.new) }
     ensures refused { IfErr result (λ e. refusal_of e ≡ out_of_memory) }
+    ensures spent { OnErr result (serializer.new ≡ None) }
     ensures of_rust { OnOk result (IsOfRust (pairs (pairs_view members.now))) }
 {
     serializer.begin_struct()?;
@@ -158,6 +161,7 @@ fn write_text(serializer: &mut JsonSerializer<'_>, text: &str) -> Result<(), Jso
 fn write_bytes(serializer: &mut JsonSerializer<'_>, bytes: &[u8]) -> Result<(), JsonSerializeError>
     ensures written { OnOk result (HasWritten serializer.old (tree.bytes bytes.now) serializer.new) }
     ensures refused { IfErr result (λ e. refusal_of e ≡ out_of_memory) }
+    ensures spent { OnErr result (serializer.new ≡ None) }
     ensures of_rust { OnOk result (IsOfRust (tree.bytes bytes.now)) }
 {
     serializer.scalar(ScalarValue::Bytes(bytes))

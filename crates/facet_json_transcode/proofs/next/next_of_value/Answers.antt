@@ -10,3 +10,6 @@ returns-in_err-event-clause-refused c free =
 
 pub returns-in-Some-clause-gave : goal.returns-in-Some-clause-gave
 returns-in-Some-clause-gave c = rw c.in-Some.is at c.in_ok-event.ensures.next
+
+pub returns-in-Some-clause-steps : goal.returns-in-Some-clause-steps
+returns-in-Some-clause-steps c = rw c.in-Some.is at c.in_ok-event.ensures.steps

@@ -39,7 +39,7 @@ loop-event-preserved c =
     let gave = c.in_ok-event.ensures.gave in
     let passed : Passed = record { event = event_of c.in_ok-event.event; last = gave.last } in
     record {
-      same = c.next_of_value.ensures.same ∙ i.same;
+      same = c.next_of_value.ensures.onward.input.buffer ∙ i.same;
       free = λ free. gave.free;
       passing = λ w is.
           goes-on _ w _ _ _ c.if-depth-eq0.false

@@ -19,7 +19,7 @@ use Rattle.facet_json_tree.specs.Views.{tree_view, trees_view, pairs_view}
 use Rattle.facet_json_tree.proofs.TreeViews.{tree_view-Null, tree_view-Unit, tree_view-Bool, tree_view-Char, tree_view-I64, tree_view-U64, tree_view-I128, tree_view-U128, tree_view-Decimal, tree_view-Text, tree_view-Bytes, tree_view-Raw, tree_view-Pairs, trees_view-drop, pairs_view-drop}
 use Rattle.facet_json_written.specs.AsRead.{WellFormed, RawParts}
 use Rattle.facet_json_write.specs.Write.{IsOfRust}
-use Rattle.facet_json_write.proofs.CallsLeft.{AreLeft, call-made, first-made, tree-made, left-refused, last-answered, last-refused}
+use Rattle.facet_json_write.proofs.CallsLeft.{AreLeft, call-made, first-made, tree-made, left-refused, left-spent, last-answered, last-refused, last-spent}
 use Rattle.facet_json_write.proofs.OfRust.{item-of_rust, no_item-of_rust, member-of_rust, no_member-of_rust, fits-within, seen-of_rust}
 use Rattle.facet_json_write.proofs.ScalarCalls.{scalar-called, raw-called}
 use Rattle.facet_json_write.proofs.tree_calls.+write.Goals as goal
@@ -198,6 +198,16 @@ write_list-returns-clause-refused t c =
     let left = subst (λ s. AreLeft c.args.serializer.now (list (trees_view xs)) s l.serializer) calls l.invariant.0 in
     last-refused _ _ _ _ end_seq _ left c.end_seq.ensures.appends
 
+pub write_list-returns-clause-spent : goal.write_list-returns-clause-spent
+unfolding item_calls
+write_list-returns-clause-spent t c =
+    let l = c.loop-item in
+    let xs = c.args.items.now in
+    let none = ap trees_view (drop_all l.item-index xs (omega arith)) in
+    let calls = ap (λ ts. item_calls ts ++ end_seq ∷ []) none in
+    let left = subst (λ s. AreLeft c.args.serializer.now (list (trees_view xs)) s l.serializer) calls l.invariant.0 in
+    last-spent _ _ _ _ end_seq _ left c.end_seq.ensures.appends
+
 pub write_list-returns-clause-of_rust : goal.write_list-returns-clause-of_rust
 write_list-returns-clause-of_rust t c =
     let l = c.loop-item in
@@ -223,6 +233,21 @@ write_pairs-returns-in_err-field_key-clause-refused t c =
     let named = subst (λ k. AreLeft c.args.serializer.now (pairs (pairs_view ps))
     (field_key k ∷ ((tree_calls (tree_view p.1) ++ member_calls others) ++ end_struct ∷ [])) l.serializer) (sym c.as_str.ensures.value) left in
     let why = left-refused _ _ _ _ _ _ _ named c.in_err-field_key.ensures.appends in
+    search rules
+
+pub write_pairs-returns-in_err-field_key-clause-spent : goal.write_pairs-returns-in_err-field_key-clause-spent
+unfolding member_calls
+write_pairs-returns-in_err-field_key-clause-spent t c =
+    let l = c.loop-member in
+    let ps = c.args.members.now in
+    let p = c.member-item.result in
+    let others = pairs_view (drop (l.member-index + 1) ps) in
+    let here = pairs_view-drop ps l.member-index p (omega arith) c.member-item.is in
+    let calls = ap (λ qs. member_calls qs ++ end_struct ∷ []) here in
+    let left = subst (λ s. AreLeft c.args.serializer.now (pairs (pairs_view ps)) s l.serializer) calls l.invariant.0 in
+    let named = subst (λ k. AreLeft c.args.serializer.now (pairs (pairs_view ps))
+    (field_key k ∷ ((tree_calls (tree_view p.1) ++ member_calls others) ++ end_struct ∷ [])) l.serializer) (sym c.as_str.ensures.value) left in
+    let gone = left-spent _ _ _ _ _ _ _ named c.in_err-field_key.ensures.appends in
     search rules
 
 pub write_pairs-loop-member-preserved : goal.write_pairs-loop-member-preserved
@@ -263,6 +288,16 @@ write_pairs-returns-clause-refused t c =
     let calls = ap (λ qs. member_calls qs ++ end_struct ∷ []) none in
     let left = subst (λ s. AreLeft c.args.serializer.now (pairs (pairs_view ps)) s l.serializer) calls l.invariant.0 in
     last-refused _ _ _ _ end_struct _ left c.end_struct.ensures.appends
+
+pub write_pairs-returns-clause-spent : goal.write_pairs-returns-clause-spent
+unfolding member_calls
+write_pairs-returns-clause-spent t c =
+    let l = c.loop-member in
+    let ps = c.args.members.now in
+    let none = ap pairs_view (drop_all l.member-index ps (omega arith)) in
+    let calls = ap (λ qs. member_calls qs ++ end_struct ∷ []) none in
+    let left = subst (λ s. AreLeft c.args.serializer.now (pairs (pairs_view ps)) s l.serializer) calls l.invariant.0 in
+    last-spent _ _ _ _ end_struct _ left c.end_struct.ensures.appends
 
 pub write_pairs-returns-clause-of_rust : goal.write_pairs-returns-clause-of_rust
 write_pairs-returns-clause-of_rust t c =

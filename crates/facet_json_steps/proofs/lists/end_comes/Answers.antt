@@ -1,0 +1,21 @@
+use Rattle.std.proofs.Common.{refl}
+use Rattle.std.proofs.lemmas.Result.{err_from_is_err_and}
+use Rattle.facet_format.specs.Views.{event_of}
+use Rattle.facet_json_meaning.proofs.ListSteps.{peek-finds_end, peek-no_event}
+use Rattle.facet_json_meaning.proofs.PeekOnWalk.{peek-lacks}
+use Rattle.facet_json_steps.proofs.lists.end_comes.Goals as goal
+
+pub returns-in_err-event-clause-lacks : goal.returns-in_err-event-clause-lacks
+returns-in_err-event-clause-lacks c =
+    let p = err_from_is_err_and c.from_residual.result c.from_residual.ensures.1 in
+    rw (p.1, p.2) (peek-lacks _ _ _ _ refl c.in_err-event.ensures.steps)
+
+pub returns-in-Some-clause-finds : goal.returns-in-Some-clause-finds
+returns-in-Some-clause-finds c =
+    let steps = rw c.in-Some.is at c.in_ok-event.ensures.steps in
+    peek-finds_end _ _ (event_of c.in-Some.event) c.is_end.result _ c.is_end.ensures refl steps
+
+pub returns-in-None-clause-finds : goal.returns-in-None-clause-finds
+returns-in-None-clause-finds c =
+    let steps = rw c.in-None.is at c.in_ok-event.ensures.steps in
+    peek-no_event _ _ _ _ refl steps

@@ -1,0 +1,20 @@
+use Rattle.std.proofs.Common.{refl}
+use Rattle.std.proofs.lemmas.Result.{err_from_is_err_and}
+use Rattle.facet_format.specs.Views.{refusal_of}
+use Rattle.facet_json_meaning.proofs.NextOnWalk.{answer-walks, answer-lacks, answer-no_end}
+use Rattle.facet_json_steps.proofs.next.next_of_value.Goals as goal
+
+pub returns-in_err-event-clause-lacks : goal.returns-in_err-event-clause-lacks
+returns-in_err-event-clause-lacks c =
+    let p = err_from_is_err_and c.from_residual.result c.from_residual.ensures.1 in
+    rw (p.1, p.2) (answer-lacks _ _ _ _ refl c.in_err-event.ensures.steps)
+
+pub returns-in-Some-clause-walks : goal.returns-in-Some-clause-walks
+returns-in-Some-clause-walks c =
+    let steps = rw c.in-Some.is at c.in_ok-event.ensures.steps in
+    answer-walks _ _ _ _ refl steps
+
+pub returns-in-None-clause-lacks : goal.returns-in-None-clause-lacks
+returns-in-None-clause-lacks c =
+    let steps = rw c.in-None.is at c.in_ok-event.ensures.steps in
+    answer-no_end _ _ (refusal_of c.ended.result) _ refl steps

@@ -1,0 +1,20 @@
+use Rattle.std.proofs.Common.{refl, sym}
+use Rattle.std.proofs.lemmas.Result.{err_from_is_err_and}
+use Rattle.facet_format.specs.Views.{event_of}
+use Rattle.facet_json_meaning.proofs.PeekOnWalk.{peek-finds, peek-lacks, peek-no_end}
+use Rattle.facet_json_steps.proofs.next.null_comes.Goals as goal
+
+pub returns-in_err-event-clause-lacks : goal.returns-in_err-event-clause-lacks
+returns-in_err-event-clause-lacks c =
+    let p = err_from_is_err_and c.from_residual.result c.from_residual.ensures.1 in
+    rw (p.1, p.2) (peek-lacks _ _ _ _ refl c.in_err-event.ensures.steps)
+
+pub returns-in-Some-clause-finds : goal.returns-in-Some-clause-finds
+returns-in-Some-clause-finds c =
+    let steps = rw c.in-Some.is at c.in_ok-event.ensures.steps in
+    peek-finds _ _ (event_of c.in-Some.event) c.is_null.result _ (sym c.is_null.ensures) refl steps
+
+pub returns-in-None-clause-finds : goal.returns-in-None-clause-finds
+returns-in-None-clause-finds c =
+    let steps = rw c.in-None.is at c.in_ok-event.ensures.steps in
+    peek-no_end _ _ _ _ refl steps

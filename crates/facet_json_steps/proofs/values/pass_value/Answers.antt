@@ -1,0 +1,12 @@
+use Rattle.std.proofs.Common.{refl}
+use Rattle.std.proofs.lemmas.Result.{err_from_is_err_and}
+use Rattle.facet_json_meaning.proofs.SkipOnWalk.{answer-skips, answer-unskipped}
+use Rattle.facet_json_steps.proofs.values.pass_value.Goals as goal
+
+pub returns-in_err-skip_value-clause-unread : goal.returns-in_err-skip_value-clause-unread
+returns-in_err-skip_value-clause-unread c =
+    let p = err_from_is_err_and c.from_residual.result c.from_residual.ensures.1 in
+    rw (p.1, p.2) (answer-unskipped _ _ _ _ refl c.in_err-skip_value.ensures.steps)
+
+pub returns-clause-read : goal.returns-clause-read
+returns-clause-read c = answer-skips _ _ _ refl c.in_ok-skip_value.ensures.steps
