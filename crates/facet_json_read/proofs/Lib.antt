@@ -1,0 +1,11 @@
+pub mod BeyondEvents
+pub mod BeyondOnWalk
+pub mod DepthOfNodes
+pub mod DocumentWithin
+pub mod FirstEventTells
+pub mod ItemsRead
+pub mod MembersRead
+pub mod MovingOn
+pub mod ReadingValues
+pub mod ReadingWithin
+pub mod ValuesBegin

@@ -1,0 +1,35 @@
+use Rattle.std.proofs.Common.{inl, inr}
+use Rattle.std.proofs.lemmas.Option.{MatchOption-at_some}
+use Rattle.std.proofs.lemmas.Result.{err_from_is_err_and}
+use Rattle.facet_json_read.proofs.BeyondEvents.{none-leveled}
+use Rattle.facet_json_read.proofs.MembersRead.{members-none}
+use Rattle.facet_json_read.proofs.ReadingWithin.{within-same, lacks-within, none-members-within, no_key-within, member-within}
+use Rattle.facet_json_meaning.proofs.TreeOnWalk.{moves_trans}
+use Rattle.facet_json_read.proofs.MovingOn.{moves-next}
+use Rattle.facet_json_read.proofs.reader.begin_member.Goals as goal
+
+pub returns-in_err-next_of_value-clause-refused : goal.returns-in_err-next_of_value-clause-refused
+returns-in_err-next_of_value-clause-refused c =
+    let p = err_from_is_err_and c.from_residual.result c.from_residual.ensures.1 in
+    rw (p.1, p.2) (none-members-within c.args.depth c.args.parser.now _ (c.in_err-next_of_value.ensures.refused c.requires.free))
+
+pub returns-in_err-key-clause-refused : goal.returns-in_err-key-clause-refused
+returns-in_err-key-clause-refused c =
+    let g = c.in_ok-next_of_value.ensures.gave in
+    let p = err_from_is_err_and c.from_residual-in_err-key.result c.from_residual-in_err-key.ensures.1 in
+    rw (p.1, p.2) (elim c.in_err-key.ensures.refused [
+      | inl lacks ↦ lacks-within lacks
+      | inr other ↦ no_key-within c.args.depth _ _ _ (members-none _) none-leveled _ _ _ _ g.comes other
+    ])
+
+pub returns-in_err-begin_value-in-Some-clause-refused : goal.returns-in_err-begin_value-in-Some-clause-refused
+returns-in_err-begin_value-in-Some-clause-refused c =
+    let g = c.in_ok-next_of_value.ensures.gave in
+    let key = MatchOption-at_some _ _ _ c.in-Some.is c.in_ok-key.ensures.key in
+    let p = err_from_is_err_and c.from_residual-in_err-begin_value-in-Some.result c.from_residual-in_err-begin_value-in-Some.ensures.1 in
+    rw (p.1, p.2) (member-within c.args.depth _ _ _ (members-none _) none-leveled _ _ _ _ g.comes key.name key.is_key
+    (within-same c.next_of_value.ensures.onward.input.buffer (c.in_err-begin_value-in-Some.ensures.refused g.free)))
+
+pub returns-in_ok-begin_value-in-Some-clause-moves : goal.returns-in_ok-begin_value-in-Some-clause-moves
+returns-in_ok-begin_value-in-Some-clause-moves c =
+    moves_trans _ _ _ (moves-next c.in_ok-next_of_value.ensures.steps) c.in_ok-begin_value-in-Some.ensures.moves

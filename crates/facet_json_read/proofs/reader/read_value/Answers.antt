@@ -1,0 +1,29 @@
+use Rattle.std.proofs.lemmas.Result.{IfOk-weaker, IfErr-weaker}
+use Rattle.facet_json_meaning.proofs.Keeping.{keeps-then}
+use Rattle.facet_json_read.proofs.ReadingValues.{read-at}
+use Rattle.facet_json_read.proofs.ReadingWithin.{within-at, within-same}
+use Rattle.facet_json_read.proofs.BeyondEvents.{value-leveled}
+use Rattle.facet_json_read.proofs.reader.read_value.Goals as goal
+
+pub returns-clause-keeps : goal.returns-clause-keeps
+returns-clause-keeps c = keeps-then _ _ _ c.begin_value.ensures.keeps c.finish.ensures.keeps
+
+pub returns-clause-moves : goal.returns-clause-moves
+returns-clause-moves c =
+    IfOk-weaker c.finish.result _ _ (λ t leads. leads _ c.in_ok-first.ensures.moves) c.finish.ensures.leads
+
+pub returns-clause-told : goal.returns-clause-told
+returns-clause-told c =
+    let first = c.in_ok-first.ensures.begun in
+    IfOk-weaker c.finish.result _ _ (λ t h. read-at first.comes (h first.passed first.begun)) c.finish.ensures.read
+
+pub returns-clause-level : goal.returns-clause-level
+returns-clause-level c =
+    let first = c.in_ok-first.ensures.begun in
+    IfOk-weaker c.finish.result _ _ (λ t h. value-leveled first.comes (h first.passed first.begun)) c.finish.ensures.level
+
+pub returns-clause-refused : goal.returns-clause-refused
+returns-clause-refused c free =
+    let first = c.in_ok-first.ensures.begun in
+    IfErr-weaker c.finish.result _ _
+    (λ e h. within-same c.begin_value.ensures.keeps.input.buffer (within-at first.comes (h first.passed first.begun))) c.finish.ensures.refused
