@@ -73,9 +73,26 @@ pub use Rattle.facet_json_transcode.specs.Told
 pub use Rattle.facet_json_transcode.specs.Reading
 pub use Rattle.facet_json_transcode.specs.Transcode
 pub use Rattle.facet_json_transcode.specs.Views as TranscodeViews
+pub use Rattle.facet_json_meaning.specs.Nodes
+pub use Rattle.facet_json_meaning.specs.Passing
+pub use Rattle.facet_json_meaning.specs.Peeking
+pub use Rattle.facet_json_meaning.specs.Reading as TypedReading
+pub use Rattle.facet_json_meaning.specs.Laws as TypedLaws
+pub use Rattle.facet_json_meaning.specs.Readings
+pub use Rattle.facet_json_meaning.specs.Borrowed
+pub use Rattle.facet_json_meaning.specs.Optional
+pub use Rattle.facet_json_meaning.specs.Lists
+pub use Rattle.facet_json_meaning.specs.Objects
+pub use Rattle.facet_json_meaning.specs.Maps
+pub use Rattle.facet_json_meaning.specs.Trees as TypedTrees
+pub use Rattle.facet_json_read.specs.Depth
+pub use Rattle.facet_json_typed.specs.Inputs
+pub use Rattle.facet_json_record.specs.Fields
+pub use Rattle.facet_json_record.specs.Shapes
+pub use Rattle.facet_json_record.specs.Types
+pub use Rattle.facet_json_record.specs.Written
 pub use Rattle.facet_format.specs.Views as FormatViews
 pub use Rattle.facet_format.specs.Laws as FormatLaws
 pub use Rattle.facet_json_scan.specs.Views as ScanViews
 pub use Rattle.facet_json_scan.specs.Laws as ScanLaws
 pub use Rattle.facet_json_document.specs.Laws as DocumentLaws
-pub mod Inner

@@ -1,6 +1,7 @@
 //! What the definitions mean, in the subject's own words: each law is the contract of a function without effect.
 
 pub use facet_json_document::laws::quoted_by_characters;
+pub use facet_json_read::laws::first_beyond_is_deeper;
 pub use facet_json_serializer::laws::{taken_in_order, tree_by_calls, tree_taken};
 pub use facet_json_written::laws::{
     indent_is_not_read, one_reading, quoted_decodes_alone, quoted_is_rfc_string, written_is_read,

@@ -17,7 +17,7 @@ ghost use Rattle.facet_json_command.specs.Views.{count_of};
 ghost use Rattle.facet_json_command.specs.Run.{Prints};
 
 use facet_format::{ParseError, ParseEvent, ParseEventKind, SavePoint, ScalarValue, Span};
-use facet_json::{Answer, Tree, to_vec};
+use facet_json::{Answer, Tree, peek_to_vec};
 use facet_json_command_line::outcome::{OUT_OF_MEMORY, Outcome};
 use std::alloc::Global;
 use std::borrow::CowStr;
@@ -311,7 +311,7 @@ fn text_of_tree(alloc: Global, tree: &Tree) -> Result<Vec<u8>, Outcome>
     ensures text { IfOk result (λ v. v.items ≡ tree_text default_options 0 (tree_view tree.now)) }
     ensures refused { IfErr result (λ o. o ≡ outcome.Refused 9 None) }
 {
-    match to_vec(alloc, tree) {
+    match peek_to_vec(alloc, tree) {
         Ok(text) => Ok(text),
         Err(_) => Err(OUT_OF_MEMORY),
     }

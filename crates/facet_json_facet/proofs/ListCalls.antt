@@ -1,30 +1,17 @@
 -- A list that is written by calls, item by item.
-use Rattle.std.proofs.Common.{◌≡◌, ◌+◌, ◌<◌, ◌≤◌, ℕ, List, [], ◌∷◌, ◌++◌, drop, get_or, length, map, Option, None, Result, Ok, Err, refl, sym, ap, ◌∙◌, subst}
+use Rattle.std.proofs.Common.{◌≡◌, ◌+◌, ◌<◌, ◌≤◌, ℕ, List, [], ◌∷◌, ◌++◌, drop, get_or, length, map, Option, None, Result, Ok, refl, sym, ap, ◌∙◌, subst}
 use Rattle.std.specs.Result.{OnOk, OnErr, IfErr}
 use Rattle.std.proofs.lemmas.List.{append_assoc, drop_all, drop_more}
-use Rattle.facet_format.specs.SerializerCall.{Call, begin_seq, end_seq}
+use Rattle.facet_format.specs.SerializerCall.{begin_seq, end_seq}
 use Rattle.facet_json_document.specs.Tree.{Tree, list, tree}
 use Rattle.facet_json_serializer.specs.declared.error.JsonSerializeError.{JsonSerializeError}
-use Rattle.facet_json_serializer.specs.Serializer.{Writing, Refusal, out_of_memory, Appends, appends, refuses, runs_out, stays_out}
+use Rattle.facet_json_serializer.specs.Serializer.{Writing, out_of_memory, Appends}
 use Rattle.facet_json_serializer.specs.TreeCalls.{tree_calls, item_calls}
 use Rattle.facet_json_serializer.specs.Views.{answer_of, refusal_of}
 use Rattle.facet_json_write.specs.Write.{HasWritten, IsOfRust}
-use Rattle.facet_json_write.proofs.CallsLeft.{AreLeft, first-made, tree-made, last-answered, last-refused}
+use Rattle.facet_json_write.proofs.CallsLeft.{AreLeft, first-made, tree-made, last-answered, last-refused, last-spent}
 use Rattle.facet_json_write.proofs.OfRust.{item-of_rust, no_item-of_rust, seen-of_rust}
 use Rattle.facet_json_meaning.specs.Lists.{trees_by, list_by}
-
--- A call that is refused for lack of memory leaves a serializer that has none.
-spent-after : (old new : Option Writing) (call : Call) (answer : Result (Unit {0}) Refusal) → Appends old call answer new →
-    answer ≡ Err out_of_memory → new ≡ None
-spent-after _ _ call answer (appends w _ a can) e = cc
-spent-after _ _ call answer (refuses w _ why cannot) e = cc
-spent-after _ _ call answer (runs_out w _ a can) e = refl
-spent-after _ _ call answer (stays_out _) e = refl
-
-answered-spent : (old new : Option Writing) (call : Call) (r : Result (Unit {0}) JsonSerializeError) → Appends old call (answer_of r) new →
-    IfErr r (λ e. refusal_of e ≡ out_of_memory) → OnErr r (new ≡ None)
-answered-spent old new call (Ok nothing) step is = tt
-answered-spent old new call (Err e) step is = spent-after old new call (Err (refusal_of e)) step (ap Err is)
 
 module _ {T V : Type 0} (view : T → V) (tree_by : V → Tree) where
   -- From an index on the items are still to be written, and then the list is ended.
@@ -72,7 +59,7 @@ module _ {T V : Type 0} (view : T → V) (tree_by : V → Tree) where
     list-refused = last-refused old now new _ end_seq r (none-left old now xs i h before) step
 
     pub list-spent : OnErr r (new ≡ None)
-    list-spent = answered-spent now new end_seq r step list-refused
+    list-spent = last-spent old now new _ end_seq r (none-left old now xs i h before) step
 
     pub list-of_rust : OnOk r (IsOfRust (list_by tree_by (map view xs)))
     list-of_rust =

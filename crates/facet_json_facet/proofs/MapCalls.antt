@@ -1,38 +1,16 @@
 -- The calls by which a map is written.
-use Rattle.std.proofs.Common.{◌≡◌, List, [], ◌∷◌, ◌++◌, Option, None, Result, Ok, Err, string_bytes, refl, sym, ap, ◌∙◌, subst, append_assoc}
+use Rattle.std.proofs.Common.{◌≡◌, List, [], ◌∷◌, ◌++◌, Option, Ok, string_bytes, refl, sym, ap, ◌∙◌, subst, append_assoc}
 use Rattle.std.specs.Prelude.{ℕ}
-use Rattle.std.specs.Result.{OnErr}
 use Rattle.std.specs.declared.string.String.{String}
 use Rattle.std.proofs.lemmas.Str.{is_utf8-from_IsUtf8, IsUtf8-string_bytes}
-use Rattle.facet_format.specs.SerializerCall.{Call, begin_struct, field_key, end_struct}
+use Rattle.facet_format.specs.SerializerCall.{begin_struct, field_key, end_struct}
 use Rattle.facet_json_document.specs.Tree.{Tree, pairs, Pairs}
 use Rattle.facet_json_meaning.specs.Maps.{seen_entries, pairs_of_entries}
-use Rattle.facet_json_serializer.specs.declared.error.JsonSerializeError.{JsonSerializeError}
-use Rattle.facet_json_serializer.specs.Serializer.{Writing, Refusal, out_of_memory, Appends, appends, refuses, runs_out, stays_out}
+use Rattle.facet_json_serializer.specs.Serializer.{Writing, Appends}
 use Rattle.facet_json_serializer.specs.TreeCalls.{tree_calls, member_calls}
-use Rattle.facet_json_serializer.specs.Views.{answer_of, refusal_of}
 use Rattle.facet_json_write.specs.Write.{HasWritten, IsOfRust}
-use Rattle.facet_json_write.proofs.CallsLeft.{AreLeft, call-made, first-made, tree-made, left-refused}
+use Rattle.facet_json_write.proofs.CallsLeft.{AreLeft, call-made, first-made, tree-made}
 use Rattle.facet_json_write.proofs.OfRust.{member-of_rust, no_member-of_rust}
-
--- After a call that runs out of memory nothing is written.
-call-spent : (old new : Option Writing) (call : Call) (answer : Result (Unit {0}) Refusal) → Appends old call answer new → answer ≡ Err out_of_memory → new ≡ None
-call-spent old new call answer (appends w _ a can) e = cc
-call-spent old new call answer (refuses w _ why cannot) e = cc
-call-spent old new call answer (runs_out w _ a can) e = refl
-call-spent old new call answer (stays_out _) e = refl
-
--- The next call of a tree that is refused leaves the serializer out of memory.
-pub left-spent : (old now new : Option Writing) (t : Tree) (call : Call) (rest : List Call) (why : Refusal) → AreLeft old t (call ∷ rest) now →
-    Appends now call (Err why) new → new ≡ None
-left-spent old now new t call rest why h step =
-    call-spent now new call (Err why) step (ap Err (left-refused old now new t call rest why h step))
-
--- The same of the code's answer.
-pub last-spent : (old now new : Option Writing) (t : Tree) (call : Call) (r : Result (Unit {0}) JsonSerializeError) → AreLeft old t (call ∷ []) now →
-    Appends now call (answer_of r) new → OnErr r (new ≡ None)
-last-spent old now new t call (Ok nothing) h step = tt
-last-spent old now new t call (Err e) h step = left-spent old now new t call [] (refusal_of e) h step
 
 module _ {Z T V : Type 0} (view : T → V) (tree : V → Tree) where
   abbrev members : List (String Z × T) → Pairs

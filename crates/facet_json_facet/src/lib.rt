@@ -6,11 +6,11 @@
 mod facet;
 mod lists;
 mod maps;
-mod next;
 mod options;
 mod raw;
 mod signed;
 mod texts;
+mod trees;
 mod truth;
 mod unsigned;
 mod whole;

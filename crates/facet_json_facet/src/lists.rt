@@ -1,19 +1,18 @@
 //! Lists: `Vec`.
 
-ghost use Rattle.std.specs.Prelude.{◌≡◌, ◌<◌, true, false, cond, map, Some, IfOk, IfErr, OnOk};
-ghost use Rattle.facet_format.specs.Views.{event_of, refusal_of};
-ghost use Rattle.facet_json_protocol.specs.Now.{ahead, GoesOn};
+ghost use Rattle.std.specs.Prelude.{◌<◌, cond, map, IfOk, IfErr, OnOk};
+ghost use Rattle.facet_format.specs.Views.{refusal_of};
+ghost use Rattle.facet_json_protocol.specs.Now.{ahead};
 ghost use Rattle.facet_json_protocol.specs.Within.{RefusalWithin};
-ghost use Rattle.facet_json_meaning.specs.Lists.{begins_list, ends_list, list_of, BeginsList, IsNoList, FindsEnd};
+ghost use Rattle.facet_json_meaning.specs.Lists.{list_of};
 ghost use Rattle.facet_json_meaning.specs.Nodes.{KeepsOn};
-ghost use Rattle.facet_json_meaning.specs.Passing.{LacksAlone};
 ghost use Rattle.facet_json_meaning.specs.Reading.{IsRead, IsUnread};
 
 use crate::facet::Facet;
-use crate::next::{mismatch, next_of_value};
-use facet_format::{DeserializeError, FormatParser, FormatSerializer, ParseEvent, ParseEventKind};
+use facet_format::{DeserializeError, FormatSerializer};
 use facet_json_parser::JsonParser;
 use facet_json_serializer::{JsonSerializeError, JsonSerializer};
+use facet_json_steps::{begin_list, end_comes, next_of_value};
 use std::alloc::Global;
 
 /// A list (RFC 8259, section 5): an array, each of whose elements is read as a `T`, in order. Only `read` borrows of the input, where
@@ -100,61 +99,6 @@ fn list_in<'t, 'de, T: Facet<'de>>(
     }
     let _end = next_of_value(parser)?;
     Ok(items)
-}
-
-/// Passes the event with which an array begins.
-///
-/// # Errors
-///
-/// As `next_of_value`; and where no array begins, a mismatch.
-fn begin_list<'t>(parser: &mut JsonParser<'_>) -> Result<(), DeserializeError<'t>>
-    ensures onward { GoesOn parser.old parser.new }
-    ensures shorter { OnOk result (ahead parser.new < ahead parser.old) }
-    ensures begins { OnOk result (BeginsList parser.old parser.new) }
-    ensures refused { IfErr result (λ e. IsNoList parser.old (refusal_of e)) }
-    ensures within { IfErr result (λ e. RefusalWithin parser.new.buffer (refusal_of e)) }
-{
-    array_in(next_of_value(parser)?)
-}
-
-/// Whether an array begins with the event.
-///
-/// # Errors
-///
-/// It is another event: a mismatch, with its span.
-fn array_in<'t>(event: ParseEvent<'_>) -> Result<(), DeserializeError<'t>>
-    ensures begins { OnOk result (begins_list (event_of event.entry).kind ≡ true) }
-    ensures refused { IfErr result (λ e. begins_list (event_of event.entry).kind ≡ false) }
-    ensures span { IfErr result (λ e. e.span ≡ Some event.entry.span) }
-{
-    match event.kind {
-        ParseEventKind::SequenceStart(_) => Ok(()),
-        _ => Err(mismatch("array", event)),
-    }
-}
-
-/// Whether the array's end comes. It stays the next event.
-///
-/// # Errors
-///
-/// As the parser's `peek_event`.
-fn end_comes<'t>(parser: &mut JsonParser<'_>) -> Result<bool, DeserializeError<'t>>
-    ensures onward { GoesOn parser.old parser.new }
-    ensures finds { IfOk result (λ found. FindsEnd parser.old found parser.new) }
-    ensures lacks { IfErr result (λ e. LacksAlone parser.old (refusal_of e)) }
-    ensures within { IfErr result (λ e. RefusalWithin parser.new.buffer (refusal_of e)) }
-{
-    match parser.peek_event()? {
-        Some(event) => Ok(is_end(&event)),
-        None => Ok(false),
-    }
-}
-
-/// Whether an array ends with the event.
-fn is_end(event: &ParseEvent<'_>) -> bool
-    ensures { result ≡ ends_list (event_of event.now).kind }
-{
-    matches!(event.kind, ParseEventKind::SequenceEnd)
 }
 
 /// Reads an element, which may borrow of the input where `borrows` says so.

@@ -7,13 +7,13 @@ ghost use Rattle.facet_json_meaning.specs.Borrowed.{lent};
 ghost use Rattle.facet_json_meaning.specs.Readings.{taken, text_of};
 
 use crate::facet::Facet;
-use crate::next::{mismatch, next_of_value};
 use facet_format::{
     DeserializeError, DeserializeErrorKind, FormatSerializer, ParseEvent, ParseEventKind,
     ScalarValue, Span,
 };
 use facet_json_parser::JsonParser;
 use facet_json_serializer::{JsonSerializeError, JsonSerializer};
+use facet_json_steps::{mismatch, next_of_value};
 use std::alloc::Global;
 use std::borrow::CowStr;
 

@@ -1,5 +1,4 @@
-//! The text of a tree (RFC 8259, sections 2 to 7) to a writer: `to_writer_std` and its kin, refused by a `WriteError`; and the `peek_to_`
-//! forms, which take a tree and write what the `to_` forms do.
+//! The text of a tree (RFC 8259, sections 2 to 7) by the `peek_to_` forms, also to a writer, and how writing to one is refused: `WriteError`.
 #![tactic(auto)]
 
 mod error;
@@ -12,4 +11,4 @@ pub use peeks::{
     peek_to_vec_pretty, peek_to_vec_with_options, peek_to_writer_std, peek_to_writer_std_pretty,
     peek_to_writer_std_with_options,
 };
-pub use writers::{to_writer_std, to_writer_std_pretty, to_writer_std_with_options};
+pub use writers::write_text;

@@ -1,4 +1,4 @@
-//! The text of a tree that is looked at: each function gives what the one of trees does that has its name without `peek_`.
+//! The text of a tree that is looked at: each function gives what the one of all types does that has its name without `peek_`.
 
 ghost use Rattle.std.specs.Prelude.{◌≡◌, IfErr, IfOk, IsErrOf, OnOk, string_bytes};
 ghost use Rattle.std.specs.Io.KnownBytes.{Appends};
@@ -10,7 +10,7 @@ ghost use Rattle.facet_json_tree.specs.Views.{tree_view};
 ghost use Rattle.facet_json_write.specs.Write.{pretty_options, IsReadable};
 
 use crate::error::WriteError;
-use crate::writers::{to_writer_std, to_writer_std_pretty, to_writer_std_with_options};
+use crate::writers::write_text;
 use facet_json_options::SerializeOptions;
 use facet_json_serializer::JsonSerializeError;
 use facet_json_tree::Tree;
@@ -151,7 +151,7 @@ pub fn peek_to_writer_std<W: Write>(
     ensures memory { IsErrOf result WriteError.Memory → writer.new ≡ writer.old }
     ensures read_back { OnOk result (IsReadable default_options (tree_view tree.now) (text default_options 0 (tree_view tree.now))) }
 {
-    to_writer_std(alloc, writer, tree)
+    peek_to_writer_std_with_options(alloc, writer, tree, &SerializeOptions::new())
 }
 
 /// Writes the text of a tree with line breaks to the writer, which is not flushed, as `to_writer_std_pretty` does.
@@ -173,7 +173,7 @@ pub fn peek_to_writer_std_pretty<W: Write>(
     ensures memory { IsErrOf result WriteError.Memory → writer.new ≡ writer.old }
     ensures read_back { OnOk result (IsReadable pretty_options (tree_view tree.now) (text pretty_options 0 (tree_view tree.now))) }
 {
-    to_writer_std_pretty(alloc, writer, tree)
+    peek_to_writer_std_with_options(alloc, writer, tree, &SerializeOptions::new().pretty())
 }
 
 /// Writes the text of a tree in the layout of these options to the writer, which is not flushed, as `to_writer_std_with_options` does.
@@ -197,5 +197,8 @@ pub fn peek_to_writer_std_with_options<W: Write>(
     ensures memory { IsErrOf result WriteError.Memory → writer.new ≡ writer.old }
     ensures read_back { OnOk result (IsReadable (options_of options.now) (tree_view tree.now) (text (options_of options.now) 0 (tree_view tree.now))) }
 {
-    to_writer_std_with_options(alloc, writer, tree, options)
+    match to_vec_with_options(alloc, tree, options) {
+        Ok(text) => write_text(writer, text.as_slice()),
+        Err(_) => Err(WriteError::Memory),
+    }
 }

@@ -1,8 +1,9 @@
-//! Values of every type with `Facet` from JSON text, and back: `from_slice` and its kin read a value, `to_vec` and its kin write one. The trait itself
+//! Values of every type with `Facet` from JSON text, and back: `from_slice` and its kin read a value, `to_vec`, `to_writer_std` and their kin write one. The trait itself
 //! is of `facet_json_facet`, which has the types of std and of this library.
 #![tactic(auto)]
 
 mod reading;
+mod writers;
 mod writing;
 
 pub use facet_json_facet::Facet;
@@ -10,6 +11,7 @@ pub use reading::{
     from_slice, from_slice_borrowed, from_slice_borrowed_jsonc, from_slice_jsonc, from_str,
     from_str_borrowed, from_str_borrowed_jsonc, from_str_jsonc,
 };
+pub use writers::{to_writer_std, to_writer_std_pretty, to_writer_std_with_options};
 pub use writing::{
     to_string, to_string_pretty, to_string_with_options, to_vec, to_vec_pretty, to_vec_with_options,
 };

@@ -1,8 +1,8 @@
 use Rattle.std.proofs.Common.{refl}
 use Rattle.std.proofs.lemmas.Result.{err_from_is_err_and}
-use Rattle.facet_json_write.proofs.CallsLeft.{left-refused, last-answered, last-refused}
+use Rattle.facet_json_write.proofs.CallsLeft.{left-refused, left-spent, last-answered, last-refused, last-spent}
 use Rattle.facet_json_write.proofs.OfRust.{seen-of_rust}
-use Rattle.facet_json_facet.proofs.MapCalls.{left-spent, last-spent, map-begun, key-left, entry-written, end-left, all-of_rust}
+use Rattle.facet_json_facet.proofs.MapCalls.{map-begun, key-left, entry-written, end-left, all-of_rust}
 use Rattle.facet_json_facet.proofs.maps.BTreeMapStringFacet.write.Goals as goal
 
 pub loop-key-init : goal.loop-key-init

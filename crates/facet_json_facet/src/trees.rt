@@ -1,0 +1,63 @@
+//! Any value: `Tree`.
+
+use crate::facet::Facet;
+use facet_format::DeserializeError;
+use facet_json_parser::JsonParser;
+use facet_json_read::read_tree;
+use facet_json_serializer::{JsonSerializeError, JsonSerializer};
+use facet_json_tree::Tree;
+use facet_json_write::write_tree;
+use std::alloc::Global;
+
+/// Any value (RFC 8259, section 3), as the tree that it stands for. Nothing of the input is borrowed.
+///
+/// ```text
+/// <Tree as Facet>::read_owned(alloc, &mut JsonParser::new(alloc, b"[7,null]"))     Ok: Tree::List of Tree::U64(7) and Tree::Null
+/// Tree::U64(7).write(&mut serializer)                                              Ok: 7 is written
+/// Tree::U128(7).write(&mut serializer)                                             Ok: 7 is written, which is read as Tree::U64(7)
+/// ```
+///
+/// Reading recurses once for each list or object within another.
+impl<'de> Facet<'de> for Tree {
+    ghost use Rattle.std.specs.Prelude.{true};
+    ghost use Rattle.facet_json_document.specs.Meaning.{tree_of as tree_of_node};
+    ghost use Rattle.facet_json_document.specs.Tree.{Tree as SpecTree};
+    ghost use Rattle.facet_json_meaning.specs.Trees.{IsReadableTree};
+    ghost use Rattle.facet_json_meaning.proofs.TreeLaws.{tree-same, tree-reads_back};
+    ghost use Rattle.facet_json_tree.specs.Views.{tree_view};
+
+    ghost View = { SpecTree };
+
+    ghost view = { tree_view };
+
+    ghost reading = { tree_of_node };
+
+    ghost reading_borrowed = { tree_of_node };
+
+    ghost tree_of = { λ t. t };
+
+    ghost readable = { IsReadableTree };
+
+    ghost whole = { true };
+
+    fn read_owned<'t>(
+        alloc: Global,
+        parser: &mut JsonParser<'de>,
+    ) -> Result<Tree, DeserializeError<'t>> {
+        read_tree(alloc, parser)
+    }
+
+    fn read<'t>(alloc: Global, parser: &mut JsonParser<'de>) -> Result<Tree, DeserializeError<'t>> {
+        Tree::read_owned(alloc, parser)
+    }
+
+    fn write(&self, serializer: &mut JsonSerializer<'_>) -> Result<(), JsonSerializeError> {
+        write_tree(serializer, self)
+    }
+
+    ghost same_reading = { tree-same };
+
+    ghost same_reading_borrowed = { tree-same };
+
+    ghost reads_back = { tree-reads_back };
+}
