@@ -7,7 +7,7 @@ ghost use Rattle.facet_json.specs.Node.{Node};
 ghost use Rattle.facet_json.specs.Text.{default_options, text};
 ghost use Rattle.facet_json.specs.Tree.{Tree};
 
-use facet_json::{DeserializeError, JsonSerializeError, from_slice, to_vec};
+use facet_json::{DeserializeError, JsonSerializeError, peek_to_vec, tree_from_slice};
 use std::alloc::Global;
 
 /// Why an input was not reformatted.
@@ -36,6 +36,6 @@ pub fn reformat<'t>(alloc: Global, input: &[u8]) -> Result<Vec<u8>, ReformatErro
     ensures { IfOk result (λ v. (root : Node) × (value : Tree) × IsDocument input.now plain root value
         × (v.items ≡ text default_options 0 value)) }
 {
-    let tree = from_slice(alloc, input)?;
-    Ok(to_vec(alloc, &tree)?)
+    let tree = tree_from_slice(alloc, input)?;
+    Ok(peek_to_vec(alloc, &tree)?)
 }

@@ -1,11 +1,12 @@
 //! Trees of documents, and texts of trees.
 
-use facet_json::{DeserializeError, JsonSerializeError, Tree, from_slice, to_vec};
+use facet_json::{DeserializeError, JsonSerializeError, Tree, to_vec, tree_from_slice_within};
 use std::alloc::Global;
 
-/// How many items the list has that the input is. With `from_slice_jsonc` the input may have comments.
+/// How many items the list has that a stranger's input is, in which nothing may nest deeper than 100. With
+/// `tree_from_slice_within_jsonc` the input may have comments.
 fn count<'t>(alloc: Global, input: &[u8]) -> Result<usize, DeserializeError<'t>> {
-    match from_slice(alloc, input)? {
+    match tree_from_slice_within(alloc, input, 100)? {
         Tree::List(items) => Ok(items.len()),
         _ => Ok(0),
     }

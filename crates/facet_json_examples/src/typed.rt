@@ -1,7 +1,6 @@
 //! Values of types that are read and written.
 
-use facet_json::{DeserializeError, JsonSerializeError};
-use facet_json_typed::{from_slice, to_vec};
+use facet_json::{DeserializeError, JsonSerializeError, from_slice, to_vec};
 use std::alloc::Global;
 use std::collections::BTreeMap;
 

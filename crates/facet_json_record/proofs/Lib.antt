@@ -1,5 +1,7 @@
 pub mod FieldCells
 pub mod FieldLaws
 pub mod FieldSteps
-pub mod MemberSteps
-pub mod SkipOnWalk
+pub mod FieldsBack
+pub mod MemberCalls
+pub mod StructLaws
+pub mod TypeLaws

@@ -6,6 +6,7 @@ use Rattle.std.specs.Str.{bytes_eq}
 use Rattle.facet_json_document.specs.Meaning.{text_of, meaning}
 use Rattle.facet_json_document.specs.Node.{Node, scalar, array, object, Members, no_members, member}
 use Rattle.facet_json_meaning.specs.Optional.{optional}
+use Rattle.facet_json_meaning.specs.Passing.{anything}
 
 -- as what a node of a buffer is read
 abbrev pub Reading : Type 0 → Type 0
@@ -41,10 +42,6 @@ pub record Table (V : Type 0) : Type 1 where
 
 abbrev pub table : {S V : Type 0} → S → (List (List ℕ) → List ℕ → S → Reading S) → (S → Option V) → Table V
 table {S} start step ends = record { Seen = S; start = start; step = step; ends = ends }
-
--- Of every node nothing is known.
-abbrev pub anything : Reading (Unit {0})
-anything buffer node = Some tt
 
 -- No field: every member is passed.
 abbrev pub pass : List (List ℕ) → List ℕ → Unit {0} → Reading (Unit {0})

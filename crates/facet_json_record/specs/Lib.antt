@@ -1,1 +1,4 @@
 pub mod Fields
+pub mod Shapes
+pub mod Types
+pub mod Written

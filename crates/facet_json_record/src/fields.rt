@@ -1,17 +1,18 @@
 //! Fields of structs, in the order in which a table names them.
 
-ghost use Rattle.std.specs.Prelude.{◌≡◌, ◌<◌, cond, Some, IfOk, IfErr, OnOk};
-ghost use Rattle.facet_format.specs.Views.{refusal_of};
+ghost use Rattle.std.specs.Prelude.{◌≡◌, ◌≤◌, ◌<◌, cond, length, Some, IfOk, IfErr, OnOk};
+ghost use Rattle.facet_format.specs.Span.{stop};
+ghost use Rattle.facet_format.specs.Views.{refusal_of, span_of};
 ghost use Rattle.facet_json_protocol.specs.Now.{ahead};
 ghost use Rattle.facet_json_protocol.specs.Within.{RefusalWithin};
 ghost use Rattle.facet_json_meaning.specs.Nodes.{KeepsOn};
 ghost use Rattle.facet_json_meaning.specs.Reading.{IsRead, IsUnread};
 ghost use Rattle.facet_json_record.specs.Fields.{keys, table, fields_of, begins_with, first_name, other_names, joined};
 
-use crate::events::{begin_object, last_span, next_key, pass_value};
-use facet_format::{DeserializeError, DeserializeErrorKind, Span};
+use facet_format::{DeserializeError, DeserializeErrorKind, FormatParser, Span};
 use facet_json_facet::Facet;
 use facet_json_parser::JsonParser;
+use facet_json_steps::{begin_object, next_name, pass_value};
 use std::alloc::Global;
 
 /// A list of fields, as `Need(name, Need(age, Done))`, that `read_fields` reads. The input lives for `'de`.
@@ -273,7 +274,7 @@ pub fn read_fields<'de, 't, F: Fields<'de>>(
 {
     begin_object(parser)?;
     let mut slots = F::none();
-    while let Some(key) = next_key(alloc, parser)? {
+    while let Some(key) = next_name(parser)? {
         F::put(&mut slots, names, key.as_str(), alloc, parser, borrows)?;
     }
     F::finish(slots, names, last_span(parser))
@@ -290,7 +291,7 @@ fn is_first(names: &[&str], key: &str) -> bool
 }
 
 /// The first of the names.
-fn first<'n, 't>(names: &'n [&'t str]) -> &'t str
+pub(crate) fn first<'n, 't>(names: &'n [&'t str]) -> &'t str
     ensures { result.now ≡ first_name (keys names.now) }
 {
     match names {
@@ -300,7 +301,7 @@ fn first<'n, 't>(names: &'n [&'t str]) -> &'t str
 }
 
 /// The names behind the first.
-fn behind<'n, 't>(names: &'n [&'t str]) -> &'n [&'t str]
+pub(crate) fn behind<'n, 't>(names: &'n [&'t str]) -> &'n [&'t str]
     ensures { keys result.now ≡ other_names (keys names.now) }
 {
     match names {
@@ -345,4 +346,11 @@ fn missing<'t>(field: &'t str, bracket: Span) -> DeserializeError<'t>
         kind: DeserializeErrorKind::MissingField { field },
         span: Some(bracket),
     }
+}
+
+/// The span of the last token that was passed.
+fn last_span(parser: &JsonParser<'_>) -> Span
+    ensures { stop (span_of result) ≤ length parser.now.buffer }
+{
+    parser.current_span().unwrap()
 }

@@ -1,7 +1,9 @@
-//! Structs that are read from JSON objects: a type written by hand reads its fields from a table of their names.
+//! Structs that are read from JSON objects and written as them: a type of a user's own reads and writes its fields by a table of their names,
+//! and has its laws by a list of its fields.
 #![tactic(auto)]
 
-mod events;
 mod fields;
+mod lent;
 
 pub use fields::{Done, Fields, Maybe, Need, read_fields};
+pub use lent::{LentFields, write_fields};

@@ -1,6 +1,9 @@
-use Rattle.std.proofs.Common.{string_bytes}
+use Rattle.std.proofs.Common.{◌∙◌}
 use Rattle.std.proofs.lemmas.Result.{IfOk-weaker, IfErr-weaker, err_from_is_err_and}
+use Rattle.facet_format.specs.Event.{bytes_of}
+use Rattle.facet_format.specs.HeldText.{text_of}
 use Rattle.facet_format.specs.Views.{refusal_of}
+use Rattle.facet_json_meaning.proofs.HeldTexts.{held-bytes}
 use Rattle.facet_json_record.specs.Fields.{keys, table}
 use Rattle.facet_json_record.proofs.FieldSteps.{way-begin, way-goes_on, fields-not_begun, fields-no_key, fields-no_value, fields-end, fields-missing}
 use Rattle.facet_json_record.proofs.fields.read_fields.Goals as goal
@@ -28,15 +31,22 @@ returns-in_err-put-clause-unread g c =
     let p = err_from_is_err_and c.from_residual-in_err-put.result c.from_residual-in_err-put.ensures.1 in
     let t = table g.F.Fields.start (g.F.Fields.step c.args.borrows) g.F.Fields.ends in
     let named = rw c.in-Some.is at c.in_ok-key.ensures.passed in
-    let unread = rw c.as_str.ensures.value at c.in_err-put.ensures.unread in
-    rw (p.1, p.2) (fields-no_value t (keys c.args.names.now) _ _ _ _ (string_bytes c.in-Some.key) (refusal_of c.in_err-put.field-0.0) c.loop-slots.invariant.left named unread)
+    let unread = rw (c.as_str.ensures.value ∙ held-bytes c.in-Some.key) at c.in_err-put.ensures.unread in
+    rw (p.1, p.2) (fields-no_value t (keys c.args.names.now) _ _ _ _ (bytes_of (text_of c.in-Some.key)) (refusal_of c.in_err-put.field-0.0) c.loop-slots.invariant.left named unread)
 
 pub loop-slots-preserved : goal.loop-slots-preserved
 loop-slots-preserved g c =
     let t = table g.F.Fields.start (g.F.Fields.step c.args.borrows) g.F.Fields.ends in
     let named = rw c.in-Some.is at c.in_ok-key.ensures.passed in
-    let read = rw c.as_str.ensures.value at c.in_ok-put.ensures.read in
-    way-goes_on t (keys c.args.names.now) c.args.parser.now c.loop-slots.parser c.next_key.new.parser c.put.new.parser _ _ (string_bytes c.in-Some.key) c.loop-slots.invariant named c.in_ok-key.ensures.onward read c.in_ok-put.ensures.keeps
+    let read = rw (c.as_str.ensures.value ∙ held-bytes c.in-Some.key) at c.in_ok-put.ensures.read in
+    way-goes_on t (keys c.args.names.now) c.args.parser.now c.loop-slots.parser c.next_name.new.parser c.put.new.parser _ _ (bytes_of (text_of c.in-Some.key)) c.loop-slots.invariant named c.in_ok-key.ensures.onward read c.in_ok-put.ensures.keeps
+
+pub loop-slots-preserved-in_ok-put : goal.loop-slots-preserved-in_ok-put
+loop-slots-preserved-in_ok-put g c =
+    let t = table g.F.Fields.start (g.F.Fields.step c.args.borrows) g.F.Fields.ends in
+    let named = rw c.in-Some.is at c.in_ok-key.ensures.passed in
+    let read = rw (c.as_str.ensures.value ∙ held-bytes c.in-Some.key) at c.in_ok-put.ensures.read in
+    way-goes_on t (keys c.args.names.now) c.args.parser.now c.loop-slots.parser c.next_name.new.parser c.put.new.parser _ _ (bytes_of (text_of c.in-Some.key)) c.loop-slots.invariant named c.in_ok-key.ensures.onward read c.in_ok-put.ensures.keeps
 
 pub returns-clause-read : goal.returns-clause-read
 returns-clause-read g c =

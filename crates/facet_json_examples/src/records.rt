@@ -1,0 +1,281 @@
+//! Structs of one's own that are read from JSON and written as JSON, field by field.
+
+ghost use Rattle.std.specs.Prelude.{◌≡◌, IfOk, IfErr, string_bytes};
+ghost use Rattle.facet_json.specs.FormatViews.{refusal_of};
+ghost use Rattle.facet_json.specs.Gap.{plain};
+ghost use Rattle.facet_json_examples.specs.Records.{person};
+ghost use Rattle.facet_json.specs.Inputs.{IsReadFrom, IsUnreadFrom};
+
+use facet_json::{
+    DeserializeError, Done, Facet, JsonParser, JsonSerializeError, JsonSerializer, Maybe, Need,
+    RawJson, from_slice, from_slice_borrowed, read_fields, write_fields,
+};
+use std::alloc::Global;
+
+/// A person, as `{"name":"Alice","age":30}`.
+#[derive(Debug, PartialEq, Drop)]
+pub struct Person {
+    /// What the person is called.
+    pub name: String,
+    /// In years.
+    pub age: u32,
+}
+
+impl<'de> Facet<'de> for Person {
+    ghost use Rattle.std.specs.Prelude.{ℕ, List, false};
+    ghost use Rattle.facet_json_examples.specs.Records.{person};
+    ghost use Rattle.facet_json_examples.specs.RecordLaws.{person-laws};
+
+    ghost View = { List ℕ × (ℕ × Unit {0}) };
+
+    ghost view = { λ p. (string_bytes p.name, (p.age, tt)) };
+
+    ghost reading = { person.reading };
+
+    ghost reading_borrowed = { person.reading_borrowed };
+
+    ghost tree_of = { person.tree_of };
+
+    ghost readable = { person.readable };
+
+    ghost whole = { false };
+
+    fn read_owned<'t>(
+        alloc: Global,
+        parser: &mut JsonParser<'de>,
+    ) -> Result<Person, DeserializeError<'t>> {
+        let Need(name, Need(age, Done)) = read_fields(alloc, parser, false, &["name", "age"])?;
+        Ok(Person { name, age })
+    }
+
+    fn read<'t>(
+        alloc: Global,
+        parser: &mut JsonParser<'de>,
+    ) -> Result<Person, DeserializeError<'t>> {
+        Person::read_owned(alloc, parser)
+    }
+
+    fn write(&self, serializer: &mut JsonSerializer<'_>) -> Result<(), JsonSerializeError> {
+        let fields = Need(&self.name, Need(&self.age, Done));
+        write_fields(serializer, &["name", "age"], &fields)
+    }
+
+    ghost same_reading = { person-laws.same_reading };
+
+    ghost same_reading_borrowed = { person-laws.same_reading_borrowed };
+
+    ghost reads_back = { person-laws.reads_back };
+}
+
+/// The person that a document is: of each of its object's members `name` and `age` the last one counts, and any other is passed.
+pub fn person_in<'t>(alloc: Global, input: &[u8]) -> Result<Person, DeserializeError<'t>>
+    ensures read { IfOk result (λ p. IsReadFrom person.reading input.now plain (string_bytes p.name, (p.age, tt))) }
+    ensures unread { IfErr result (λ e. IsUnreadFrom person.reading input.now plain (refusal_of e)) }
+{
+    from_slice(alloc, input)
+}
+
+/// A response, as `{"status":200,"data":[1,2]}`.
+#[derive(Debug, PartialEq, Drop)]
+pub struct Response<T> {
+    /// What became of the request.
+    pub status: u32,
+    /// What was asked for; in a document it is called `data`.
+    pub payload: T,
+}
+
+impl<'de, T: Facet<'de>> Facet<'de> for Response<T> {
+    ghost use Rattle.std.specs.Prelude.{ℕ, false};
+    ghost use Rattle.facet_json.specs.Shapes.{shape};
+    ghost use Rattle.facet_json_record.proofs.StructLaws.{shape-laws};
+    ghost use Rattle.facet_json_examples.specs.Records.{response};
+    ghost use Rattle.facet_json_examples.specs.RecordLaws.{response-laws};
+
+    ghost View = { ℕ × (T.View × Unit {0}) };
+
+    ghost view = { λ r. (r.status, (T.view r.payload, tt)) };
+
+    ghost reading = { (response (shape T.reading T.reading_borrowed T.tree_of T.readable)).reading };
+
+    ghost reading_borrowed = { (response (shape T.reading T.reading_borrowed T.tree_of T.readable)).reading_borrowed };
+
+    ghost tree_of = { (response (shape T.reading T.reading_borrowed T.tree_of T.readable)).tree_of };
+
+    ghost readable = { (response (shape T.reading T.reading_borrowed T.tree_of T.readable)).readable };
+
+    ghost whole = { false };
+
+    fn read_owned<'t>(
+        alloc: Global,
+        parser: &mut JsonParser<'de>,
+    ) -> Result<Response<T>, DeserializeError<'t>> {
+        let Need(status, Need(payload, Done)) = read_fields(
+            alloc,
+            parser,
+            false,
+            &["status", "data"],
+        )?;
+        Ok(Response { status, payload })
+    }
+
+    fn read<'t>(
+        alloc: Global,
+        parser: &mut JsonParser<'de>,
+    ) -> Result<Response<T>, DeserializeError<'t>> {
+        let Need(status, Need(payload, Done)) = read_fields(
+            alloc,
+            parser,
+            true,
+            &["status", "data"],
+        )?;
+        Ok(Response { status, payload })
+    }
+
+    fn write(&self, serializer: &mut JsonSerializer<'_>) -> Result<(), JsonSerializeError> {
+        let fields = Need(&self.status, Need(&self.payload, Done));
+        write_fields(serializer, &["status", "data"], &fields)
+    }
+
+    ghost same_reading = { (response-laws (shape-laws T.same_reading T.same_reading_borrowed T.reads_back)).same_reading };
+
+    ghost same_reading_borrowed = { (response-laws (shape-laws T.same_reading T.same_reading_borrowed T.reads_back)).same_reading_borrowed };
+
+    ghost reads_back = { (response-laws (shape-laws T.same_reading T.same_reading_borrowed T.reads_back)).reads_back };
+}
+
+/// A response whose payload stays text, lent by the input.
+pub fn raw_response<'t, 'de>(
+    alloc: Global,
+    input: &'de [u8],
+) -> Result<Response<RawJson<'de>>, DeserializeError<'t>> {
+    from_slice_borrowed(alloc, input)
+}
+
+/// How often something is tried again.
+#[derive(Debug, PartialEq, Drop)]
+pub struct Retry {
+    /// So many times.
+    pub times: u32,
+    /// So many seconds between them.
+    pub wait: Option<u32>,
+}
+
+impl<'de> Facet<'de> for Retry {
+    ghost use Rattle.std.specs.Prelude.{ℕ, Option, false};
+    ghost use Rattle.std.specs.Option.{option_map};
+    ghost use Rattle.facet_json_examples.specs.Records.{retry};
+    ghost use Rattle.facet_json_examples.specs.RecordLaws.{retry-laws};
+
+    ghost View = { ℕ × (Option ℕ × Unit {0}) };
+
+    ghost view = { λ r. (r.times, (option_map (λ n. n) r.wait, tt)) };
+
+    ghost reading = { retry.reading };
+
+    ghost reading_borrowed = { retry.reading_borrowed };
+
+    ghost tree_of = { retry.tree_of };
+
+    ghost readable = { retry.readable };
+
+    ghost whole = { false };
+
+    fn read_owned<'t>(
+        alloc: Global,
+        parser: &mut JsonParser<'de>,
+    ) -> Result<Retry, DeserializeError<'t>> {
+        let Need(times, Maybe(wait, Done)) = read_fields(alloc, parser, false, &["times", "wait"])?;
+        Ok(Retry { times, wait })
+    }
+
+    fn read<'t>(
+        alloc: Global,
+        parser: &mut JsonParser<'de>,
+    ) -> Result<Retry, DeserializeError<'t>> {
+        Retry::read_owned(alloc, parser)
+    }
+
+    fn write(&self, serializer: &mut JsonSerializer<'_>) -> Result<(), JsonSerializeError> {
+        let fields = Need(&self.times, Need(&self.wait, Done));
+        write_fields(serializer, &["times", "wait"], &fields)
+    }
+
+    ghost same_reading = { retry-laws.same_reading };
+
+    ghost same_reading_borrowed = { retry-laws.same_reading_borrowed };
+
+    ghost reads_back = { retry-laws.reads_back };
+}
+
+/// A configuration, as `{"host":"a.example","tags":["new"],"retry":{"times":3}}`.
+#[derive(Debug, PartialEq, Drop)]
+pub struct Config {
+    /// Who is called.
+    pub host: String,
+    /// Where, if not at the usual port.
+    pub port: Option<u16>,
+    /// What it is called with.
+    pub tags: Vec<String>,
+    /// How often it is called again.
+    pub retry: Option<Retry>,
+}
+
+impl<'de> Facet<'de> for Config {
+    ghost use Rattle.std.specs.Prelude.{ℕ, List, Option, false, map};
+    ghost use Rattle.std.specs.Option.{option_map};
+    ghost use Rattle.facet_json_examples.specs.Records.{config};
+    ghost use Rattle.facet_json_examples.specs.RecordLaws.{config-laws};
+
+    ghost View = { List ℕ × (Option ℕ × (List (List ℕ) × (Option (ℕ × (Option ℕ × Unit {0})) × Unit {0}))) };
+
+    ghost view = { λ c. (string_bytes c.host, (option_map (λ n. n) c.port, (map string_bytes c.tags.items, (option_map (λ r. (r.times, (option_map (λ n. n) r.wait, tt))) c.retry, tt)))) };
+
+    ghost reading = { config.reading };
+
+    ghost reading_borrowed = { config.reading_borrowed };
+
+    ghost tree_of = { config.tree_of };
+
+    ghost readable = { config.readable };
+
+    ghost whole = { false };
+
+    fn read_owned<'t>(
+        alloc: Global,
+        parser: &mut JsonParser<'de>,
+    ) -> Result<Config, DeserializeError<'t>> {
+        let Need(host, Maybe(port, Need(tags, Maybe(retry, Done)))) = read_fields(
+            alloc,
+            parser,
+            false,
+            &["host", "port", "tags", "retry"],
+        )?;
+        Ok(Config {
+            host,
+            port,
+            tags,
+            retry,
+        })
+    }
+
+    fn read<'t>(
+        alloc: Global,
+        parser: &mut JsonParser<'de>,
+    ) -> Result<Config, DeserializeError<'t>> {
+        Config::read_owned(alloc, parser)
+    }
+
+    fn write(&self, serializer: &mut JsonSerializer<'_>) -> Result<(), JsonSerializeError> {
+        let fields = Need(
+            &self.host,
+            Need(&self.port, Need(&self.tags, Need(&self.retry, Done))),
+        );
+        write_fields(serializer, &["host", "port", "tags", "retry"], &fields)
+    }
+
+    ghost same_reading = { config-laws.same_reading };
+
+    ghost same_reading_borrowed = { config-laws.same_reading_borrowed };
+
+    ghost reads_back = { config-laws.reads_back };
+}
