@@ -2,8 +2,7 @@
 
 use crate::typed::{is_itself, mismatch, out_of_range, reads, refuses, writes};
 use facet_format::Span;
-use facet_json_facet::Facet;
-use facet_json_parser::JsonParser;
+use facet_json_typed::from_slice;
 use std::alloc::Global;
 use std::collections::BTreeMap;
 
@@ -46,8 +45,7 @@ fn lists_are_read_and_written(rt: HostRuntime) {
 
 /// Whether the object is read as a map that is written so.
 fn is_written_again(alloc: Global, input: &str, text: &str) -> bool {
-    let mut parser = JsonParser::new(alloc, input.as_bytes());
-    match BTreeMap::<String, u8>::read_owned(alloc, &mut parser) {
+    match from_slice::<BTreeMap<String, u8>>(alloc, input.as_bytes()) {
         Ok(map) => writes(alloc, &map, text),
         Err(_) => false,
     }
@@ -58,6 +56,7 @@ fn maps_are_read_and_written(rt: HostRuntime) {
     let alloc = rt.alloc();
     assert!(rt; is_written_again(alloc, "{}", "{}"));
     assert!(rt; is_written_again(alloc, "{\"b\":1,\"a\":2}", "{\"a\":2,\"b\":1}"));
+    assert!(rt; is_written_again(alloc, "{\"a\":1,\"a\":2}", "{\"a\":2}"));
     assert!(rt; is_written_again(alloc, "{\"a\":1,\"\\u0061\":2}", "{\"a\":2}"));
     assert!(rt;
         refuses::<BTreeMap<String, u8>>(alloc, "[]", mismatch("object", "array"), Span::new(0, 1))

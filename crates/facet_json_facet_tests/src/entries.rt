@@ -8,6 +8,7 @@ use facet_json_typed::{
     to_string_with_options, to_vec, to_vec_pretty, to_vec_with_options,
 };
 use std::alloc::Global;
+use std::collections::BTreeMap;
 
 #[test]
 fn values_are_read_from_bytes_and_texts(rt: HostRuntime) {
@@ -45,7 +46,39 @@ fn is_not_lent(answer: Result<&str, DeserializeError<'_>>, len: usize) -> bool {
 fn texts_with_escapes_are_not_lent(rt: HostRuntime) {
     let alloc = rt.alloc();
     assert!(rt; is_not_lent(from_str_borrowed(alloc, "\"a\\u0062\""), 9));
+    assert!(rt; is_not_lent(from_str_borrowed(alloc, "18446744073709551616"), 20));
     assert!(rt; is_not_lent(from_str(alloc, "\"ab\""), 4));
+}
+
+/// Whether the texts of a list, a value that may be null and a map are lent.
+fn contents_are_lent(alloc: Global) -> bool {
+    match (
+        from_str_borrowed::<Vec<&str>>(alloc, "[\"a\"]"),
+        from_str_borrowed::<Option<&str>>(alloc, "\"b\""),
+        from_str_borrowed::<BTreeMap<String, &str>>(alloc, "{\"\\u0063\":\"d\"}"),
+    ) {
+        (Ok(list), Ok(Some(text)), Ok(map)) => {
+            list.as_slice() == ["a"].as_slice() && text == "b" && map.get("c") == Some(&"d")
+        }
+        _ => false,
+    }
+}
+
+#[test]
+fn contents_lend_what_they_hold(rt: HostRuntime) {
+    assert!(rt; contents_are_lent(rt.alloc()));
+}
+
+/// A list that was read of an input which is gone.
+fn read_and_let_go(alloc: Global) -> Option<Vec<String>> {
+    let input = String::from_str(alloc, "[\"a\",\"b\"]").ok()?;
+    from_str(alloc, input.as_str()).ok()
+}
+
+#[test]
+fn values_outlive_their_input(rt: HostRuntime) {
+    let list = read_and_let_go(rt.alloc()).expect(&rt, "memory");
+    assert!(rt; list.len() == 2 && list[0].as_str() == "a" && list[1].as_str() == "b");
 }
 
 /// Whether the list of one number is written as these texts: compact, on lines, and indented by a tab.

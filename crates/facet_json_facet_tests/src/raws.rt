@@ -1,7 +1,7 @@
 //! Raw text.
 
 use crate::typed::{is_itself, reads, refuses};
-use facet_format::{DeserializeErrorKind, Span};
+use facet_format::{DeserializeError, DeserializeErrorKind, FormatParser, Span};
 use facet_json_facet::Facet;
 use facet_json_parser::JsonParser;
 use facet_json_raw::RawJson;
@@ -44,4 +44,40 @@ fn no_value_is_no_raw_text(rt: HostRuntime) {
     assert!(rt; refuses::<RawJson<'_>>(alloc, " ", no_value, Span::new(1, 0)));
     let no_end = DeserializeErrorKind::UnexpectedEof { expected: "value" };
     assert!(rt; refuses::<RawJson<'_>>(alloc, "[1", no_end, Span::new(2, 0)));
+}
+
+/// How raw text is refused behind the input's first event.
+fn refused_inside<'t>(alloc: Global, input: &str) -> Option<DeserializeError<'t>> {
+    let mut parser = JsonParser::new(alloc, input.as_bytes());
+    if parser.next_event().is_err() {
+        return None;
+    }
+    RawJson::read_owned(alloc, &mut parser).err()
+}
+
+/// The refusal of what is no value at this byte.
+fn no_value_at<'t>(message: &'t str, offset: usize) -> Option<DeserializeError<'t>> {
+    Some(DeserializeError {
+        kind: DeserializeErrorKind::InvalidValue { message },
+        span: Some(Span::new(offset, 0)),
+    })
+}
+
+#[test]
+fn keys_and_ends_are_no_raw_text(rt: HostRuntime) {
+    let alloc = rt.alloc();
+    let at_key = no_value_at("unexpected field key in capture_raw", 1);
+    assert!(rt; refused_inside(alloc, "{\"a\":1}") == at_key);
+    let at_end = no_value_at("unexpected end event in capture_raw", 2);
+    assert!(rt; refused_inside(alloc, "[ ]") == at_end);
+    assert!(rt; refused_inside(alloc, "{ }") == at_end);
+}
+
+#[test]
+fn nothing_is_read_behind_the_document(rt: HostRuntime) {
+    let ended = DeserializeError {
+        kind: DeserializeErrorKind::UnexpectedEof { expected: "value" },
+        span: Some(Span::new(1, 0)),
+    };
+    assert!(rt; refused_inside(rt.alloc(), "1 2") == Some(ended));
 }

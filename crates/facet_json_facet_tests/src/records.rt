@@ -1,63 +1,242 @@
-//! Structs that are read from objects by a table of their fields.
+//! Structs: they are read from objects by a table of their fields, and written call by call.
 
-use facet_format::{DeserializeError, DeserializeErrorKind, Span};
+use facet_format::{DeserializeError, DeserializeErrorKind, FormatSerializer, Span};
+use facet_json_facet::Facet;
 use facet_json_parser::JsonParser;
+use facet_json_raw::RawJson;
 use facet_json_record::{Done, Need, read_fields};
+use facet_json_serializer::{JsonSerializeError, JsonSerializer};
 use std::alloc::Global;
 
-/// A name and an age.
-type Person = Need<String, Need<u8, Done>>;
+/// A person, as `{"name":"Alice","age":30}`. The name may be borrowed.
+#[derive(Debug, PartialEq, Drop)]
+struct Person<N> {
+    name: N,
+    age: u32,
+}
 
-/// Whether the object is read as this name and this age.
-fn reads_person(alloc: Global, input: &str, name: &str, age: u8) -> bool {
+/// Reads a person, whose name may borrow of the input where `borrows` says so.
+fn read_person<'t, 'de, N: Facet<'de>>(
+    alloc: Global,
+    input: &'de str,
+    borrows: bool,
+) -> Result<Person<N>, DeserializeError<'t>> {
     let mut parser = JsonParser::new(alloc, input.as_bytes());
-    let answer: Result<Person, DeserializeError<'_>> = read_fields(
+    let Need(name, Need(age, Done)) = read_fields(alloc, &mut parser, borrows, &["name", "age"])?;
+    Ok(Person { name, age })
+}
+
+/// The text of a person.
+fn text_of_person(alloc: Global, person: &Person<&str>) -> Result<Vec<u8>, JsonSerializeError> {
+    let mut serializer = JsonSerializer::new(alloc);
+    serializer.begin_struct()?;
+    serializer.field_key("name")?;
+    person.name.write(&mut serializer)?;
+    serializer.field_key("age")?;
+    person.age.write(&mut serializer)?;
+    serializer.end_struct()?;
+    serializer.finish()
+}
+
+/// A point, as `{"x":10,"y":20}`.
+#[derive(Debug, PartialEq, Drop)]
+struct Point {
+    x: i32,
+    y: i32,
+}
+
+fn read_point<'t>(alloc: Global, input: &str) -> Result<Point, DeserializeError<'t>> {
+    let mut parser = JsonParser::new(alloc, input.as_bytes());
+    let Need(x, Need(y, Done)) = read_fields(alloc, &mut parser, false, &["x", "y"])?;
+    Ok(Point { x, y })
+}
+
+/// The text of a point.
+fn text_of_point(alloc: Global, point: &Point) -> Result<Vec<u8>, JsonSerializeError> {
+    let mut serializer = JsonSerializer::new(alloc);
+    serializer.begin_struct()?;
+    serializer.field_key("x")?;
+    point.x.write(&mut serializer)?;
+    serializer.field_key("y")?;
+    point.y.write(&mut serializer)?;
+    serializer.end_struct()?;
+    serializer.finish()
+}
+
+/// A point with a label that the input lends.
+#[derive(Debug, PartialEq, Drop)]
+struct Labelled<'de> {
+    label: &'de str,
+    point: Point,
+}
+
+fn read_labelled<'t, 'de>(
+    alloc: Global,
+    input: &'de str,
+) -> Result<Labelled<'de>, DeserializeError<'t>> {
+    let mut parser = JsonParser::new(alloc, input.as_bytes());
+    let Need(label, Need(x, Need(y, Done))) = read_fields(
         alloc,
         &mut parser,
-        false,
-        &["name", "age"],
-    );
+        true,
+        &["label", "x", "y"],
+    )?;
+    Ok(Labelled {
+        label,
+        point: Point { x, y },
+    })
+}
+
+/// A response, as `{"status":200,"data":[]}`: whatever stands under `data` stays as it stands there.
+#[derive(Debug, PartialEq, Drop)]
+struct Response<'de> {
+    status: u32,
+    payload: RawJson<'de>,
+}
+
+fn read_response<'t, 'de>(
+    alloc: Global,
+    input: &'de str,
+) -> Result<Response<'de>, DeserializeError<'t>> {
+    let mut parser = JsonParser::new(alloc, input.as_bytes());
+    let Need(status, Need(payload, Done)) = read_fields(
+        alloc,
+        &mut parser,
+        true,
+        &["status", "data"],
+    )?;
+    Ok(Response { status, payload })
+}
+
+/// The text of a response.
+fn text_of_response(alloc: Global, response: &Response<'_>) -> Result<Vec<u8>, JsonSerializeError> {
+    let mut serializer = JsonSerializer::new(alloc);
+    serializer.begin_struct()?;
+    serializer.field_key("status")?;
+    response.status.write(&mut serializer)?;
+    serializer.field_key("data")?;
+    response.payload.write(&mut serializer)?;
+    serializer.end_struct()?;
+    serializer.finish()
+}
+
+/// Whether this was written.
+fn is_text(answer: Result<Vec<u8>, JsonSerializeError>, text: &str) -> bool {
     match answer {
-        Ok(Need(found, Need(years, Done))) => found.as_str() == name && years == age,
+        Ok(written) => written.as_slice() == text.as_bytes(),
         Err(_) => false,
     }
 }
 
-/// Whether this field is missing in the object, which ends at this byte.
-fn misses(alloc: Global, input: &str, field: &str, end: usize) -> bool {
-    let mut parser = JsonParser::new(alloc, input.as_bytes());
-    let answer: Result<Person, DeserializeError<'_>> = read_fields(
-        alloc,
-        &mut parser,
-        false,
-        &["name", "age"],
-    );
+/// Whether an object without this field was refused at its closing bracket, which is at this byte.
+fn misses<T: Drop>(answer: Result<T, DeserializeError<'_>>, field: &str, bracket: usize) -> bool {
     match answer {
         Ok(_) => false,
         Err(error) => {
             error.kind == DeserializeErrorKind::MissingField { field }
-                && error.span == Some(Span::new(end, 1))
+                && error.span == Some(Span::new(bracket, 1))
         }
     }
 }
 
+/// Whether the object is read as this person, with a name of its own and with a borrowed one.
+fn is_person(alloc: Global, input: &str, name: &str, age: u32) -> bool {
+    match read_person::<String>(alloc, input, false) {
+        Ok(person) => {
+            person.name.as_str() == name
+                && person.age == age
+                && read_person(alloc, input, true) == Ok(Person { name, age })
+        }
+        Err(_) => false,
+    }
+}
+
+/// Objects that are read as a person, with the name and the age.
+static PERSONS: [(&str, &str, u32); 5] = [
+    ("{\"name\": \"Alice\", \"age\": 30}", "Alice", 30),
+    (
+        "{\"age\":30,\"extra\":{\"a\":[1,2]},\"name\":\"Alice\"}",
+        "Alice",
+        30,
+    ),
+    (
+        "{\"x\":\"\\ud800\",\"name\":\"A\",\"\":[1 2:],\"age\":1,}",
+        "A",
+        1,
+    ),
+    (
+        "{\"age\":1,\"name\":\"A\",\"age\":2,\"name\":\"B\"}",
+        "B",
+        2,
+    ),
+    ("{\"n\\u0061me\":\"A\",\"age\":4294967295}", "A", 4294967295),
+];
+
 #[test]
-fn structs_are_read(rt: HostRuntime) {
+fn persons_are_read_and_written(rt: HostRuntime) {
     let alloc = rt.alloc();
+    for (input, name, age) in &PERSONS {
+        assert!(rt; is_person(alloc, *input, *name, *age));
+    }
+    let alice = Person {
+        name: "Alice",
+        age: 30,
+    };
     assert!(rt;
-        reads_person(
-            alloc,
-            "{\"age\":30,\"extra\":{\"a\":[1,2]},\"name\":\"Alice\"}",
-            "Alice",
-            30
+        is_text(
+            text_of_person(alloc, &alice),
+            "{\"name\":\"Alice\",\"age\":30}"
         )
     );
-    assert!(rt; reads_person(alloc, "{\"age\":1,\"name\":\"A\",\"age\":2,}", "A", 2));
 }
+
+/// Objects that lack a field of a person: the first one that they lack, and where they end.
+static LACKING: [(&str, &str, usize); 4] = [
+    ("{\"name\":\"Alice\"}", "age", 15),
+    ("{\"age\":30}", "name", 9),
+    ("{}", "name", 1),
+    (" {\"Name\":\"Alice\",\"ag\":{} }", "name", 25),
+];
 
 #[test]
 fn the_first_missing_field_is_named(rt: HostRuntime) {
     let alloc = rt.alloc();
-    assert!(rt; misses(alloc, "{\"name\":\"Alice\"}", "age", 15));
-    assert!(rt; misses(alloc, "{}", "name", 1));
+    for (input, field, bracket) in &LACKING {
+        assert!(rt;
+            misses(
+                read_person::<String>(alloc, *input, false),
+                *field,
+                *bracket
+            )
+        );
+        assert!(rt; misses(read_person::<&str>(alloc, *input, true), *field, *bracket));
+    }
+    assert!(rt; misses(read_response(alloc, "{\"status\":200 }"), "data", 14));
+}
+
+#[test]
+fn points_are_read_and_written(rt: HostRuntime) {
+    let alloc = rt.alloc();
+    let point = Point { x: 10, y: 20 };
+    assert!(rt; read_point(alloc, "{\"x\": 10, \"y\": 20}") == Ok(Point { x: 10, y: 20 }));
+    assert!(rt; is_text(text_of_point(alloc, &point), "{\"x\":10,\"y\":20}"));
+    let origin = Labelled {
+        label: "origin",
+        point: Point { x: 0, y: 0 },
+    };
+    let input = "{\"label\": \"origin\", \"x\": 0, \"y\": 0}";
+    assert!(rt; read_labelled(alloc, input) == Ok(origin));
+}
+
+#[test]
+fn responses_are_read_and_written(rt: HostRuntime) {
+    let alloc = rt.alloc();
+    let response = Response {
+        status: 200,
+        payload: RawJson::new("{\"nested\": [1, 2, 3], \"complex\": true}"),
+    };
+    let text = "{\"status\":200,\"data\":{\"nested\": [1, 2, 3], \"complex\": true}}";
+    assert!(rt; is_text(text_of_response(alloc, &response), text));
+    let input = "{\"status\": 200, \"data\": {\"nested\": [1, 2, 3], \"complex\": true}}";
+    assert!(rt; read_response(alloc, input) == Ok(response));
 }

@@ -1,32 +1,24 @@
 //! What a type reads of an input, how it refuses one, and what it writes.
 
-use facet_format::{DeserializeError, DeserializeErrorKind, Span};
+use facet_format::{DeserializeErrorKind, Span};
 use facet_json_facet::Facet;
-use facet_json_parser::JsonParser;
-use facet_json_serializer::JsonSerializer;
+use facet_json_typed::{from_slice, from_slice_borrowed, to_vec};
 use std::alloc::Global;
 
 /// Whether the input is read as this value, borrowed or not.
 pub fn reads<'de, T: Facet<'de> + PartialEq>(alloc: Global, input: &'de str, wanted: &T) -> bool {
-    let mut parser = JsonParser::new(alloc, input.as_bytes());
-    let owned = match T::read_owned(alloc, &mut parser) {
-        Ok(value) => value == *wanted,
-        Err(_) => false,
-    };
-    let mut again = JsonParser::new(alloc, input.as_bytes());
-    match T::read(alloc, &mut again) {
-        Ok(value) => owned && value == *wanted,
-        Err(_) => false,
+    match (
+        from_slice::<T>(alloc, input.as_bytes()),
+        from_slice_borrowed::<T>(alloc, input.as_bytes()),
+    ) {
+        (Ok(owned), Ok(borrowed)) => owned == *wanted && borrowed == *wanted,
+        _ => false,
     }
 }
 
 /// Whether the value is written as this text.
 pub fn writes<'de, T: Facet<'de>>(alloc: Global, value: &T, text: &str) -> bool {
-    let mut serializer = JsonSerializer::new(alloc);
-    if value.write(&mut serializer).is_err() {
-        return false;
-    }
-    match serializer.finish() {
+    match to_vec(alloc, value) {
         Ok(written) => written.as_slice() == text.as_bytes(),
         Err(_) => false,
     }
@@ -37,6 +29,14 @@ pub fn is_itself<'de, T: Facet<'de> + PartialEq>(alloc: Global, text: &'de str, 
     reads(alloc, text, value) && writes(alloc, value, text)
 }
 
+/// Whether the text is read as a value of the type that is written as the text.
+pub fn comes_back<'de, T: Facet<'de>>(alloc: Global, text: &'de str) -> bool {
+    match from_slice::<T>(alloc, text.as_bytes()) {
+        Ok(value) => writes(alloc, &value, text),
+        Err(_) => false,
+    }
+}
+
 /// Whether reading the input is refused for this reason, at these bytes.
 pub fn refuses<'de, 't, T: Facet<'de>>(
     alloc: Global,
@@ -44,9 +44,7 @@ pub fn refuses<'de, 't, T: Facet<'de>>(
     kind: DeserializeErrorKind<'t>,
     span: Span,
 ) -> bool {
-    let mut parser = JsonParser::new(alloc, input.as_bytes());
-    let answer: Result<T, DeserializeError<'t>> = T::read_owned(alloc, &mut parser);
-    match answer {
+    match from_slice::<T>(alloc, input.as_bytes()) {
         Ok(_) => false,
         Err(error) => error.kind == kind && error.span == Some(span),
     }

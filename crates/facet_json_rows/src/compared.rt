@@ -4,7 +4,7 @@ use crate::shown::{Telling, push, push_answer};
 use crate::unread::{Unread, tell_parts};
 use facet_format::FormatParser;
 use facet_json::scanner::Mode;
-use facet_json::{Answer, Call, JsonParser, drive, from_slice, from_slice_jsonc};
+use facet_json::{Answer, Call, JsonParser, drive, tree_from_slice, tree_from_slice_jsonc};
 use std::alloc::{AllocError, Global};
 
 /// How an input is asked for what is in it.
@@ -340,8 +340,8 @@ fn tell_rest(
 /// Appends the tree or the refusal.
 fn push_tree(alloc: Global, mode: Mode, input: &[u8], told: &mut String) -> Result<(), AllocError> {
     let read = match mode {
-        Mode::Plain => from_slice(alloc, input),
-        Mode::Jsonc => from_slice_jsonc(alloc, input),
+        Mode::Plain => tree_from_slice(alloc, input),
+        Mode::Jsonc => tree_from_slice_jsonc(alloc, input),
     };
     write!(told, "{read:?}")
 }

@@ -2,8 +2,8 @@
 
 use crate::row::{first_word, write_lines};
 use facet_json::{
-    Decimal, RawJson, SerializeOptions, Tree, from_slice, to_string, to_string_pretty,
-    to_string_with_options, to_vec, to_vec_pretty, to_vec_with_options,
+    Decimal, RawJson, SerializeOptions, Tree, to_string, to_string_pretty, to_string_with_options,
+    to_vec, to_vec_pretty, to_vec_with_options, tree_from_slice,
 };
 use std::alloc::{AllocError, Global};
 
@@ -20,7 +20,7 @@ fn tree_of(alloc: Global, text: &str) -> Option<Tree> {
         ("raw", text) => Some(Tree::Raw(RawJson::from_owned(String::from_str(alloc, text).ok()?))),
         ("some", _) => some_leaves(alloc),
         ("empty", _) => empty_ones(alloc),
-        _ => from_slice(alloc, text.as_bytes()).ok(),
+        _ => tree_from_slice(alloc, text.as_bytes()).ok(),
     }
 }
 

@@ -6,6 +6,8 @@
 #[cfg(test)]
 mod byte_texts;
 #[cfg(test)]
+mod byte_types;
+#[cfg(test)]
 mod calls;
 #[cfg(test)]
 mod escapes;

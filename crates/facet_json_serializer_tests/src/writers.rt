@@ -4,11 +4,11 @@ use facet_json_options::SerializeOptions;
 use facet_json_output::{
     WriteError, peek_to_string, peek_to_string_pretty, peek_to_string_with_options, peek_to_vec,
     peek_to_vec_pretty, peek_to_vec_with_options, peek_to_writer_std, peek_to_writer_std_pretty,
-    peek_to_writer_std_with_options, to_writer_std, to_writer_std_pretty,
-    to_writer_std_with_options,
+    peek_to_writer_std_with_options,
 };
 use facet_json_serializer::JsonSerializeError;
 use facet_json_tree::Tree;
+use facet_json_typed::{to_writer_std, to_writer_std_pretty, to_writer_std_with_options};
 use std::alloc::{AllocError, Global};
 use std::io;
 use std::io::{ErrorKind, Write};

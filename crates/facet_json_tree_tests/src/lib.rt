@@ -1,10 +1,12 @@
-//! Tests of `facet_json_tree` with ample memory: what is looked up, what values are, copies, and values from what they hold.
+//! Tests of `facet_json_tree` with ample memory: what is looked up, what values are, copies, values from what they hold, and trees that are read within a depth.
 #![tactic(auto)]
 
 #[cfg(test)]
 mod contents;
 #[cfg(test)]
 mod copies;
+#[cfg(test)]
+mod depth;
 #[cfg(test)]
 mod growth;
 #[cfg(test)]

@@ -1,0 +1,157 @@
+//! What is no value of a type: each type refuses every other event by its own name and the event's, and the parser goes on behind it.
+
+use crate::typed::mismatch;
+use facet_format::{DeserializeError, DeserializeErrorKind, FormatParser, Span};
+use facet_json_facet::Facet;
+use facet_json_parser::JsonParser;
+use std::alloc::Global;
+use std::collections::BTreeMap;
+
+/// Whether the value is refused so.
+fn is_told<T: Drop>(answer: Result<T, DeserializeError<'_>>, error: DeserializeError<'_>) -> bool {
+    match answer {
+        Ok(_) => false,
+        Err(told) => told == error,
+    }
+}
+
+/// Whether a value there is refused so, borrowed or not, and the parser goes on behind it.
+fn is_refused<'de, T: Facet<'de>>(
+    alloc: Global,
+    input: &'de str,
+    error: DeserializeError<'de>,
+    is_first: bool,
+) -> bool {
+    let mut owning = JsonParser::new(alloc, input.as_bytes());
+    let mut lending = JsonParser::new(alloc, input.as_bytes());
+    (is_first || (owning.next_event().is_ok() && lending.next_event().is_ok()))
+        && is_told(T::read_owned(alloc, &mut owning), error)
+        && is_told(T::read(alloc, &mut lending), error)
+        && owning.next_event().is_ok()
+        && lending.next_event().is_ok()
+}
+
+/// Whether the type takes the input, or refuses its event of this name and span: the first event, or the second where it is not at the start.
+fn refuses_event<'de, T: Facet<'de>>(
+    alloc: Global,
+    expected: &'de str,
+    taken: &[&'de str],
+    input: &'de str,
+    got: &'de str,
+    span: Span,
+) -> bool {
+    let error = DeserializeError {
+        kind: mismatch(expected, got),
+        span: Some(span),
+    };
+    taken.contains(&input) || is_refused::<T>(alloc, input, error, span.offset == 0)
+}
+
+/// Whether the type refuses an event of each kind by this name, but for those of the inputs that it takes.
+fn refuses_others<'de, T: Facet<'de>>(
+    alloc: Global,
+    expected: &'de str,
+    taken: &[&'de str],
+) -> bool {
+    refuses_event::<T>(alloc, expected, taken, "null", "null", Span::new(0, 4))
+        && refuses_event::<T>(alloc, expected, taken, "true", "bool", Span::new(0, 4))
+        && refuses_event::<T>(alloc, expected, taken, "7", "integer", Span::new(0, 1))
+        && refuses_event::<T>(alloc, expected, taken, "1.5", "decimal", Span::new(0, 3))
+        && refuses_event::<T>(alloc, expected, taken, "\"x\"", "string", Span::new(0, 3))
+        && refuses_event::<T>(
+            alloc,
+            expected,
+            taken,
+            "18446744073709551616",
+            "string",
+            Span::new(0, 20),
+        )
+        && refuses_event::<T>(
+            alloc,
+            expected,
+            taken,
+            "-9223372036854775809",
+            "string",
+            Span::new(0, 20),
+        )
+        && refuses_event::<T>(alloc, expected, taken, "{}", "object", Span::new(0, 1))
+        && refuses_event::<T>(alloc, expected, taken, "[]", "array", Span::new(0, 1))
+        && refuses_event::<T>(alloc, expected, taken, "{\"k\":1}", "key", Span::new(1, 3))
+        && refuses_event::<T>(alloc, expected, taken, "{ }", "end", Span::new(2, 1))
+        && refuses_event::<T>(alloc, expected, taken, "[ ]", "end", Span::new(2, 1))
+}
+
+/// The refusal where no value comes any more.
+fn no_value<'t>(end: usize) -> DeserializeError<'t> {
+    DeserializeError {
+        kind: DeserializeErrorKind::UnexpectedEof { expected: "value" },
+        span: Some(Span::new(end, 0)),
+    }
+}
+
+/// Whether no value of the type stands behind the document, borrowed or not.
+fn reads_nothing_more<'de, T: Facet<'de>>(alloc: Global) -> bool {
+    let mut owning = JsonParser::new(alloc, b" 1 2");
+    let mut lending = JsonParser::new(alloc, b" [1] 2");
+    owning.next_event().is_ok()
+        && lending.skip_value().is_ok()
+        && is_told(T::read_owned(alloc, &mut owning), no_value(2))
+        && is_told(T::read(alloc, &mut lending), no_value(4))
+}
+
+/// Whether the type is called so where another value stands, and where none does.
+fn is_called<'de, T: Facet<'de>>(alloc: Global, name: &'de str, taken: &[&'de str]) -> bool {
+    refuses_others::<T>(alloc, name, taken) && reads_nothing_more::<T>(alloc)
+}
+
+#[test]
+fn numbers_have_names(rt: HostRuntime) {
+    let alloc = rt.alloc();
+    assert!(rt; is_called::<u8>(alloc, "u8", &["7"]));
+    assert!(rt; is_called::<u16>(alloc, "u16", &["7"]));
+    assert!(rt; is_called::<u32>(alloc, "u32", &["7"]));
+    assert!(rt; is_called::<u64>(alloc, "u64", &["7"]));
+    assert!(rt; is_called::<usize>(alloc, "usize", &["7"]));
+    assert!(rt; is_called::<i8>(alloc, "i8", &["7"]));
+    assert!(rt; is_called::<i16>(alloc, "i16", &["7"]));
+    assert!(rt; is_called::<i32>(alloc, "i32", &["7"]));
+    assert!(rt; is_called::<i64>(alloc, "i64", &["7"]));
+    assert!(rt; is_called::<isize>(alloc, "isize", &["7"]));
+    assert!(rt; is_called::<u128>(alloc, "u128", &["7", "18446744073709551616"]));
+    assert!(rt;
+        is_called::<i128>(
+            alloc,
+            "i128",
+            &["7", "18446744073709551616", "-9223372036854775809"]
+        )
+    );
+}
+
+#[test]
+fn other_values_have_names(rt: HostRuntime) {
+    let alloc = rt.alloc();
+    let texts = ["\"x\"", "18446744073709551616", "-9223372036854775809"];
+    assert!(rt; is_called::<bool>(alloc, "bool", &["true"]));
+    assert!(rt; is_called::<String>(alloc, "string", &texts));
+    assert!(rt; is_called::<&'static str>(alloc, "string", &texts));
+    assert!(rt; is_called::<Option<u8>>(alloc, "u8", &["null", "7"]));
+    assert!(rt; is_called::<Vec<u8>>(alloc, "array", &["[]"]));
+    assert!(rt; is_called::<BTreeMap<String, u8>>(alloc, "object", &["{}"]));
+}
+
+/// The second item of a list, after the first one was refused.
+fn second<'de, T: Facet<'de>>(alloc: Global, input: &'de str) -> Option<T> {
+    let mut parser = JsonParser::new(alloc, input.as_bytes());
+    if parser.next_event().is_err() || T::read(alloc, &mut parser).is_ok() {
+        return None;
+    }
+    T::read(alloc, &mut parser).ok()
+}
+
+#[test]
+fn a_refused_value_is_passed(rt: HostRuntime) {
+    let alloc = rt.alloc();
+    assert!(rt; second(alloc, "[1,true]") == Some(true));
+    assert!(rt; second(alloc, "[300,7]") == Some(7_u8));
+    assert!(rt; second(alloc, "[\"a\\u0062\",\"c\"]") == Some("c"));
+}

@@ -1,0 +1,41 @@
+//! Trees, by themselves and within other types.
+
+use crate::typed::{is_itself, reads};
+use facet_json_tree::Tree;
+use facet_json_typed::from_slice;
+use std::alloc::Global;
+use std::collections::BTreeMap;
+
+/// Whether a list of whatever values is read and written again.
+fn list_is_itself(alloc: Global) -> bool {
+    match vec![in alloc; Tree::U64(7), Tree::Null, Tree::I64(-1)] {
+        Ok(items) => is_itself(alloc, "[7,null,-1]", &Tree::List(items)),
+        Err(_) => false,
+    }
+}
+
+/// Whether each value of a map may be another one.
+fn values_of_a_map(alloc: Global) -> bool {
+    match from_slice::<BTreeMap<String, Tree>>(alloc, b"{\"a\":1,\"b\":[true],\"a\":{}}") {
+        Ok(map) => {
+            map.len() == 2
+                && match (map.get("a"), map.get("b")) {
+                    (Some(a), Some(b)) => a.as_pairs().is_some()
+                        && b.item(0) == Some(&Tree::Bool(true)),
+                    _ => false,
+                }
+        }
+        Err(_) => false,
+    }
+}
+
+#[test]
+fn any_value_is_a_tree(rt: HostRuntime) {
+    let alloc = rt.alloc();
+    assert!(rt; is_itself(alloc, "null", &Tree::Null));
+    assert!(rt; is_itself(alloc, "7", &Tree::U64(7)));
+    assert!(rt; reads(alloc, "-0", &Tree::I64(0)));
+    assert!(rt; list_is_itself(alloc));
+    assert!(rt; values_of_a_map(alloc));
+    assert!(rt; is_itself(alloc, "7", &Some(Tree::U64(7))));
+}
