@@ -1,0 +1,310 @@
+#!/usr/bin/env python3
+"""Has each side do the same work on the same inputs, in turns, and writes tables and a picture of the shortest times.
+
+compare.py OUT RESULTS [--turns N] [--before PROGRAM]: OUT has the built programs and the inputs. `bench/run` calls this.
+"""
+import argparse
+import csv
+import dataclasses
+import datetime
+import os
+import pathlib
+import platform
+import shutil
+import subprocess
+import sys
+
+# What a work is called by each side. Where a side has none, it has no name for it.
+WORKS = {
+    "tokens": {"ours": "tokens", "before": "tokens"},
+    "scanner": {"ours": "scanner"},
+    "skip": {"ours": "skip", "serde_json": "skip"},
+    "events": {"ours": "events", "serde_json": "events", "simdjson": "walk", "before": "events"},
+    "trusted": {"ours": "trusted", "serde_json": "trusted"},
+    "tree": {"ours": "tree", "serde_json": "tree", "simdjson": "tape", "before": "tree"},
+    "text": {"ours": "text", "serde_json": "text", "before": "text"},
+}
+PROGRAMS = {"ours": "facet_json_bench", "serde_json": "serde_peer", "simdjson": "simdjson_peer"}
+PROCESSES = {"ours": ["facet_json_tool", "fmt"], "serde_json": ["fmt_tree"], "serde_json, sorted": ["fmt_sorted"], "serde_json, no tree": ["fmt_pass"]}
+
+
+@dataclasses.dataclass
+class Ratio:
+    """How many times as fast the first is as the second, each a work and a side, and the ratio that is wanted."""
+
+    title: str
+    work: str
+    beside: str
+    side: str
+    wanted: float = 0.0
+    on: tuple = ()
+
+
+RATIOS = [
+    Ratio("tokens / simdjson's walk", "tokens", "events", "simdjson", 1.2),
+    Ratio("scanner / simdjson's walk", "scanner", "events", "simdjson"),
+    Ratio("skip / our tokens", "skip", "tokens", "ours", 1.0),
+    Ratio("skip / serde_json's", "skip", "skip", "serde_json"),
+    Ratio("events / simdjson's walk", "events", "events", "simdjson", 0.6),
+    Ratio("events / serde_json's", "events", "events", "serde_json"),
+    Ratio("trusted / checking", "trusted", "events", "ours", 1.2, ("posts-unicode.json",)),
+    Ratio("tree / serde_json's Value", "tree", "tree", "serde_json", 1.5),
+    Ratio("tree / simdjson's tape", "tree", "tree", "simdjson"),
+    Ratio("to_vec / serde_json's", "text", "text", "serde_json", 1.2),
+    Ratio("fmt / serde_json by a Value", "fmt", "fmt", "serde_json", 2.0),
+    Ratio("fmt / the same, members sorted", "fmt", "fmt", "serde_json, sorted"),
+    Ratio("fmt / serde_json without a Value", "fmt", "fmt", "serde_json, no tree"),
+]
+SINCE = [
+    Ratio("tokens / before", "tokens", "tokens", "before"),
+    Ratio("events / before", "events", "events", "before", 2.5),
+    Ratio("tree / before", "tree", "tree", "before"),
+    Ratio("to_vec / before", "text", "text", "before"),
+]
+PICTURE = [0, 2, 4, 5, 6, 7, 9, 10]
+
+
+class Bench:
+    """The programs, and how often each is run."""
+
+    def __init__(self, out, turns, before):
+        self.out = out
+        self.turns = turns
+        # Short, so that each side has its share of the times at which the machine is fast.
+        self.seconds = 0.02
+        self.programs = {side: out / name for side, name in PROGRAMS.items() if (out / name).exists()}
+        if before:
+            self.programs["before"] = pathlib.Path(before).resolve()
+        self.processes = {side: [out / words[0], *words[1:]] for side, words in PROCESSES.items() if (out / words[0]).exists()}
+        if "ours" not in self.processes:
+            print("bench: no facet_json_tool: without fmt", file=sys.stderr)
+            self.processes = {}
+
+    def once(self, side, name, rounds, path):
+        """The shortest time in nanoseconds within one process, and what the work passed."""
+        words = [self.programs[side], name, str(rounds)] + (["jsonc"] if path.suffix == ".jsonc" else [])
+        with open(path, "rb") as given:
+            said = subprocess.run(words, stdin=given, stdout=subprocess.PIPE, check=True).stdout.split()
+        return int(said[0]), (int(said[1]), int(said[2]))
+
+    def works(self, path):
+        """What each side does with the input: a work, a side and its name for the work."""
+        for work, names in WORKS.items():
+            for side, name in names.items():
+                if side in self.programs and (path.suffix != ".jsonc" or side in ("ours", "before")):
+                    yield work, side, name
+
+    def measure(self, path):
+        """The shortest time of each work of each side in nanoseconds: the sides take turns at each work."""
+        rounds, seen, least = {}, {}, {}
+        for work, side, name in self.works(path):
+            spent, seen[work, side] = self.once(side, name, 2, path)
+            rounds[work, side] = max(2, min(400, int(self.seconds * 1e9 / max(spent, 1))))
+        self.agree(path, seen)
+        for _ in range(self.turns):
+            for work, side, name in self.works(path):
+                spent, _ = self.once(side, name, rounds[work, side], path)
+                least[work, side] = min(spent, least.get((work, side), spent))
+            self.format(path, least)
+        return least
+
+    def agree(self, path, seen):
+        """Stops where two sides did not pass the same."""
+        for work in ("events", "trusted", "text"):
+            passed = {side: what for (done, side), what in seen.items() if done == work}
+            if len(set(passed.values())) > 1:
+                sys.exit(f"bench: {path.name}: the sides do not agree on {work}: {passed}")
+        if seen["tokens", "ours"] != seen["scanner", "ours"] or seen["events", "ours"] != seen["trusted", "ours"]:
+            sys.exit(f"bench: {path.name}: two ways of one side do not agree: {seen}")
+
+    def format(self, path, least):
+        """Runs each process that writes the document anew, three times in turn."""
+        if path.suffix == ".jsonc":
+            return
+        written = {}
+        for _ in range(3):
+            for side, words in self.processes.items():
+                target = self.out / "written"
+                with open(path, "rb") as given, open(target, "wb") as into:
+                    ran = subprocess.Popen(words, stdin=given, stdout=into)
+                    _, status, used = os.wait4(ran.pid, 0)
+                if status:
+                    sys.exit(f"bench: {words[0].name} ended with {status} on {path.name}")
+                if side != "serde_json, sorted":
+                    written[side] = target.read_bytes()
+                spent = int((used.ru_utime + used.ru_stime) * 1e9)
+                least["fmt", side] = min(spent, least.get(("fmt", side), spent))
+        if len(set(written.values())) > 1:
+            sys.exit(f"bench: {path.name}: the sides wrote different texts")
+
+
+def said(*words):
+    """The first line that a command prints, or nothing."""
+    try:
+        lines = subprocess.run(words, stdout=subprocess.PIPE, stderr=subprocess.DEVNULL, check=True, text=True).stdout.splitlines()
+        return lines[0].strip() if lines else ""
+    except (OSError, subprocess.CalledProcessError):
+        return ""
+
+
+def package(name):
+    """The version of a package of Debian."""
+    return said("dpkg-query", "-W", "-f", "${Version}", name)
+
+
+def processor():
+    """The processor's name."""
+    lines = pathlib.Path("/proc/cpuinfo").read_text(encoding="utf-8").splitlines()
+    return next((line.split(":")[1].strip() for line in lines if line.startswith("model name")), platform.machine())
+
+
+def circumstances(bench, load):
+    """Lines of where, when and how the times were taken."""
+    compiler = os.environ.get("CXX", "g++")
+    target = os.environ.get("BENCH_TARGET", "native")
+    here = pathlib.Path(__file__).resolve().parent
+    commit = said("git", "-C", str(here), "rev-parse", "--short=12", "HEAD")
+    yield f"Date: {datetime.date.today()}. Commit: {commit}. Command: `{os.environ.get('BENCH_COMMAND', ' '.join(['python3', *sys.argv]))}`."
+    yield f"Processor: {processor()}, {os.cpu_count()} of them; Linux {platform.release()}. Load averages before and after: {load}, {loads()}."
+    yield f"This library: proved and built by `{said('rt', 'version')}`, for x86-64-v2."
+    if "serde_json" in bench.programs:
+        yield f"serde_json: {package('librust-serde-json-dev')} of Debian, by {said('rustc', '--version')}, `opt-level=3`, fat LTO, one codegen unit, `target-cpu={target}`."
+    if "simdjson" in bench.programs:
+        yield f"simdjson: {package('libsimdjson-dev')} of Debian, by {said(compiler, '--version')}, `-O3 -march={target}`, kernels {said(str(bench.programs['simdjson']), 'kernel')}."
+    yield f"iso-codes: {package('iso-codes') or 'missing'}. The other inputs are made by `bench/corpora.py`."
+    yield f"Each figure: the shortest of {bench.turns} turns of some {int(bench.seconds * 1000)} ms of the thread's processor time."
+    if bench.processes:
+        yield f"`fmt`: the processor time of a whole process, the shortest of {bench.turns * 3} runs."
+    else:
+        yield "`fmt` is not measured: the program was not built."
+
+
+def loads():
+    """The load average of the last minute."""
+    return f"{os.getloadavg()[0]:.1f}"
+
+
+def ratio_of(ratio, least):
+    """How many times as fast, or nothing."""
+    ours, theirs = least.get((ratio.work, "ours")), least.get((ratio.beside, ratio.side))
+    return theirs / ours if ours and theirs else None
+
+
+def cell(ratio, name, least):
+    """A ratio as the table shows it: bold where it is behind what is wanted."""
+    value = ratio_of(ratio, least)
+    if value is None:
+        return ""
+    behind = value < ratio.wanted and (not ratio.on or name in ratio.on)
+    return f"**{value:.2f}**" if behind else f"{value:.2f}"
+
+
+def row(*cells):
+    """A line of a table."""
+    return "| " + " | ".join(cells) + " |"
+
+
+def short(name):
+    """An input's name in a table."""
+    return name.removesuffix(".json")
+
+
+def ratios_table(ratios, figures):
+    """The ratios, an input a line."""
+    used = [ratio for ratio in ratios if any(ratio_of(ratio, least) for least in figures.values())]
+    yield row("Input", *(ratio.title for ratio in used))
+    yield row(*["---"] * (len(used) + 1))
+    yield row("*to reach*", *((f"*{ratio.wanted}*" if ratio.wanted else "") for ratio in used))
+    for name, least in figures.items():
+        yield row(short(name), *(cell(ratio, name, least) for ratio in used))
+
+
+def speeds_table(side, sizes, figures):
+    """Megabytes a second of one side, an input a line."""
+    works = [work for work in (*WORKS, "fmt") if any((work, side) in least for least in figures.values())]
+    yield row("Input", "MB", *works)
+    yield row(*["---"] * (len(works) + 2))
+    for name, least in figures.items():
+        if any(other == side for _, other in least):
+            speeds = (f"{sizes[name] / least[work, side] * 1e3:,.0f}" if (work, side) in least else "" for work in works)
+            yield row(short(name), f"{sizes[name] / 1e6:.2f}", *speeds)
+
+
+def table(bench, load, sizes, figures):
+    """The whole page."""
+    yield "# This library beside serde_json and simdjson"
+    yield ""
+    yield from (f"- {line}" for line in circumstances(bench, load))
+    yield ""
+    yield "## How many times as fast"
+    yield ""
+    yield "Above 1 this library is faster. Bold: less than is to be reached. What each work is: `bench/README.md`."
+    yield ""
+    yield from ratios_table(RATIOS + SINCE, figures)
+    for side in dict.fromkeys(side for least in figures.values() for _, side in least):
+        yield ""
+        yield f"## MB a second: {'this library' if side == 'ours' else side}"
+        yield ""
+        yield from speeds_table(side, sizes, figures)
+
+
+def draw(results, figures):
+    """The picture, by gnuplot: a panel a ratio, a bar an input, from 1 up or down."""
+    if not shutil.which("gnuplot"):
+        print("bench: no gnuplot: without the picture (apt-get install gnuplot-nox)", file=sys.stderr)
+        return
+    panels = [RATIOS[at] for at in PICTURE if any(ratio_of(RATIOS[at], least) for least in figures.values())]
+    lines = [
+        "set terminal svg size 1280,1500 noenhanced font 'sans,13' background '#ffffff'",
+        f"set output '{results / 'ratios.svg'}'",
+        f"set multiplot layout {(len(panels) + 1) // 2},2 title 'How many times as fast as the other (above 1: this library is faster)'",
+        "set logscale y 2",
+        "set yrange [0.0625:16]",
+        "set ytics ('1/16' 0.0625, '1/8' 0.125, '1/4' 0.25, '1/2' 0.5, '1' 1, '2' 2, '4' 4, '8' 8, '16' 16)",
+        "set grid ytics lc '#dddddd'",
+        "set xtics rotate by -30 nomirror font ',10'",
+        "unset key",
+        "set style fill solid noborder",
+    ]
+    for panel in panels:
+        bars = [(short(name), ratio_of(panel, least)) for name, least in figures.items()]
+        bars = [(name, value) for name, value in bars if value]
+        ticks = ", ".join(f"'{name}' {at}" for at, (name, _) in enumerate(bars))
+        wanted = f", {panel.wanted} with lines lc '#c04040' dt 2" if panel.wanted else ""
+        lines += ["$bars << END", *(f"{at} {value:.4f}" for at, (_, value) in enumerate(bars)), "END"]
+        lines += [
+            f"set title \"{panel.title}{f' (to reach: {panel.wanted})' if panel.wanted else ''}\"",
+            f"set xrange [-0.7:{len(bars) - 0.3}]",
+            f"set xtics ({ticks})",
+            "plot $bars using 1:2:($1-0.35):($1+0.35):(($2<1)?$2:1):(($2<1)?1:$2) with boxxyerror lc '#4070b0', 1 with lines lc '#000000', "
+            f"$bars using 1:(($2<1)?$2*0.8:$2*1.25):(sprintf('%.2f',$2)) with labels font ',9'{wanted}",
+        ]
+    lines.append("unset multiplot")
+    subprocess.run(["gnuplot"], input="\n".join(lines), text=True, check=True)
+
+
+def main():
+    arguments = argparse.ArgumentParser()
+    arguments.add_argument("out", type=pathlib.Path)
+    arguments.add_argument("results", type=pathlib.Path)
+    arguments.add_argument("--turns", type=int, default=9)
+    arguments.add_argument("--before")
+    given = arguments.parse_args()
+    results = given.results
+    results.mkdir(parents=True, exist_ok=True)
+    bench, load = Bench(given.out, given.turns, given.before), loads()
+    figures, sizes = {}, {}
+    for path in sorted((given.out / "inputs").iterdir()):
+        print(f"bench: {path.name}", file=sys.stderr)
+        sizes[path.name] = path.stat().st_size
+        figures[path.name] = bench.measure(path)
+    (results / "table.md").write_text("\n".join(table(bench, load, sizes, figures)) + "\n", encoding="utf-8")
+    with open(results / "figures.csv", "w", encoding="utf-8", newline="") as file:
+        lines = csv.writer(file, lineterminator="\n")
+        lines.writerow(["input", "bytes", "work", "side", "nanoseconds"])
+        lines.writerows([name, sizes[name], *key, spent] for name, least in figures.items() for key, spent in least.items())
+    draw(results, figures)
+    print(f"bench: {results}/table.md, figures.csv and ratios.svg are written", file=sys.stderr)
+
+
+main()

@@ -1,0 +1,93 @@
+//! Does a work with the JSON text on the standard input as often as it is told, and prints the shortest time that one took in nanoseconds;
+//! `bench/run` sets these times beside those of other libraries. Without arguments each work is done once, and what it passed is printed and no
+//! time. The arguments are the work's name and the number of rounds, and `jsonc` behind them where the text has comments.
+#![tactic(auto)]
+
+mod passes;
+mod seen;
+mod trees;
+mod work;
+
+use crate::seen::Seen;
+use crate::work::{GENERAL, Order, work_of};
+use facet_json::scanner::Mode;
+use std::alloc::{AllocError, Global};
+use std::hint::black_box;
+use std::io::{ErrorKind, Read, Write};
+use std::time::CpuClock;
+use std::{env, io};
+
+/// How many nanoseconds of the thread's processor time the work takes, and what it passes.
+fn timed(rt: &HostRuntime, order: &Order<'_>) -> io::Result<(u64, Option<Seen>)> {
+    let start = rt.thread_cpu_time()?;
+    let seen = black_box(order).follow(rt.alloc());
+    let end = rt.thread_cpu_time()?;
+    let spent = u64::try_from(end.saturating_sub(start).as_nanos()).unwrap_or(u64::MAX);
+    Ok((spent, seen))
+}
+
+/// Does the work so many times, and prints the shortest time and what it passed.
+fn measure(rt: &HostRuntime, order: &Order<'_>, rounds: u64) -> io::Result<()> {
+    let mut least = u64::MAX;
+    let mut last = None;
+    for _ in 0..rounds {
+        let (spent, seen) = timed(rt, order)?;
+        least = least.min(spent);
+        last = seen;
+    }
+    match last {
+        Some(seen) => println!(rt; "{least} {} {}", seen.count, seen.sum),
+        None => println!(rt; "{least} refused"),
+    }
+}
+
+/// Does each work once, and writes a line of what it passed.
+fn tell_each(alloc: Global, input: &str, told: &mut String) -> Result<(), AllocError> {
+    for (name, work) in &GENERAL {
+        match Order::new(alloc, *work, Mode::Plain, input).follow(alloc) {
+            Some(seen) => writeln!(told, "{name} {} {}", seen.count, seen.sum)?,
+            None => writeln!(told, "{name} refused")?,
+        }
+    }
+    Ok(())
+}
+
+/// Does each work once, and prints what it passed.
+fn show(rt: &HostRuntime, input: &str) -> io::Result<()> {
+    let mut told = String::new(rt.alloc());
+    tell_each(rt.alloc(), input, &mut told)?;
+    rt.stdout().write_all(told.as_bytes())
+}
+
+/// Measures the work of this name so many times.
+fn measure_named(
+    rt: &HostRuntime,
+    name: &str,
+    rounds: &str,
+    mode: Mode,
+    input: &str,
+) -> io::Result<()> {
+    match (work_of(name), rounds.parse()) {
+        (Some(work), Ok(rounds)) => {
+            measure(rt, &Order::new(rt.alloc(), work, mode, input), rounds)
+        }
+        _ => Err(io::Error::from(ErrorKind::InvalidInput)),
+    }
+}
+
+fn main(rt: HostRuntime) -> io::Result<()> {
+    let words: Vec<String> = env::args(&rt)?.skip(1).collect(rt.alloc())?;
+    let mut bytes = Vec::new(rt.alloc());
+    rt.stdin().read_to_end(&mut bytes)?;
+    let Ok(input) = str::from_utf8(bytes.as_slice()) else {
+        return Err(io::Error::from(ErrorKind::InvalidData));
+    };
+    match words.as_slice() {
+        [] => show(&rt, input),
+        [name, rounds] => measure_named(&rt, name.as_str(), rounds.as_str(), Mode::Plain, input),
+        [name, rounds, mode] if mode.as_str() == "jsonc" => {
+            measure_named(&rt, name.as_str(), rounds.as_str(), Mode::Jsonc, input)
+        }
+        _ => Err(io::Error::from(ErrorKind::InvalidInput)),
+    }
+}

@@ -1,0 +1,28 @@
+//! Trees that are read and dropped, and written.
+
+use crate::seen::{Seen, wide};
+use facet_json::scanner::Mode;
+use facet_json::{Tree, to_vec, tree_from_slice, tree_from_slice_jsonc};
+use std::alloc::Global;
+use std::hint::black_box;
+
+/// The tree of the document.
+pub fn tree_of(alloc: Global, input: &[u8], mode: Mode) -> Option<Tree> {
+    let tree = match mode {
+        Mode::Plain => tree_from_slice(alloc, input),
+        Mode::Jsonc => tree_from_slice_jsonc(alloc, input),
+    };
+    tree.ok()
+}
+
+/// A tree is read and dropped.
+pub fn tree(alloc: Global, input: &[u8], mode: Mode) -> Option<Seen> {
+    let _tree = black_box(tree_of(alloc, input, mode)?);
+    Some(Seen::none().with(0))
+}
+
+/// The tree is written.
+pub fn text(alloc: Global, tree: &Tree) -> Option<Seen> {
+    let text = black_box(to_vec(alloc, tree).ok()?);
+    Some(Seen::none().with(wide(text.len())))
+}

@@ -1,0 +1,98 @@
+//! What can be done with a text, and the names of it.
+
+use crate::passes::{events, scanned, skip, tokens, trusted};
+use crate::seen::Seen;
+use crate::trees::{text, tree, tree_of};
+use facet_json::Tree;
+use facet_json::scanner::Mode;
+use std::alloc::Global;
+
+/// A work.
+#[derive(Clone, Copy)]
+pub enum Work {
+    /// Each token, cut by its position.
+    Tokens,
+    /// Each token, cut by a scanner.
+    Scanner,
+    /// The document as one value.
+    Skip,
+    /// Each event, from bytes.
+    Events,
+    /// Each event, from a text.
+    Trusted,
+    /// A tree is read and dropped.
+    Tree,
+    /// A tree is written.
+    Text,
+}
+
+/// The works that any document is passed by, and their names.
+pub const GENERAL: [(&str, Work); 7] = [
+    ("tokens", Work::Tokens),
+    ("scanner", Work::Scanner),
+    ("skip", Work::Skip),
+    ("events", Work::Events),
+    ("trusted", Work::Trusted),
+    ("tree", Work::Tree),
+    ("text", Work::Text),
+];
+
+/// The work of this name.
+pub fn work_of(name: &str) -> Option<Work> {
+    match name {
+        "tokens" => Some(Work::Tokens),
+        "scanner" => Some(Work::Scanner),
+        "skip" => Some(Work::Skip),
+        "events" => Some(Work::Events),
+        "trusted" => Some(Work::Trusted),
+        "tree" => Some(Work::Tree),
+        "text" => Some(Work::Text),
+        _ => None,
+    }
+}
+
+/// What is to be done, and with what.
+#[derive(Drop)]
+pub struct Order<'i> {
+    /// The work.
+    pub work: Work,
+    /// The language that the input is in.
+    pub mode: Mode,
+    /// The document.
+    pub input: &'i str,
+    /// Its tree, where that is to be written.
+    pub tree: Option<Tree>,
+}
+
+impl<'i> Order<'i> {
+    /// The order to do this with this input: a tree that is to be written is read here.
+    pub fn new(alloc: Global, work: Work, mode: Mode, input: &'i str) -> Order<'i> {
+        let tree = match work {
+            Work::Text => tree_of(alloc, input.as_bytes(), mode),
+            _ => None,
+        };
+        Order {
+            work,
+            mode,
+            input,
+            tree,
+        }
+    }
+
+    /// Does it once, and answers what was passed, or `None` where the input is refused.
+    pub fn follow(&self, alloc: Global) -> Option<Seen> {
+        let input = self.input.as_bytes();
+        match self.work {
+            Work::Tokens => tokens(input, self.mode),
+            Work::Scanner => scanned(input, self.mode),
+            Work::Skip => skip(alloc, input, self.mode),
+            Work::Events => events(alloc, input, self.mode),
+            Work::Trusted => trusted(alloc, self.input, self.mode),
+            Work::Tree => tree(alloc, input, self.mode),
+            Work::Text => match &self.tree {
+                Some(tree) => text(alloc, tree),
+                None => None,
+            },
+        }
+    }
+}
