@@ -2,5 +2,6 @@ pub mod ColonAfterKey
 pub mod EventsAtTurns
 pub mod MeaninglessTokens
 pub mod PastSeparators
+pub mod QuickEvents
 pub mod ScannedTokens
 pub mod TokenMeanings

@@ -1,2 +1,3 @@
+pub mod Quick
 pub mod TokenViews
 pub mod Views

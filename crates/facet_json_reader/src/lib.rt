@@ -2,6 +2,7 @@
 #![tactic(auto)]
 
 mod materialized;
+mod quick;
 mod reader;
 
 pub use materialized::{MaterializedToken, TokenKind};

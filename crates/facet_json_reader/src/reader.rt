@@ -35,7 +35,7 @@ pub enum Stage {
 
 impl Stage {
     /// After the bracket that opens a container.
-    fn inside(kind: ContainerKind) -> Stage
+    pub(crate) fn inside(kind: ContainerKind) -> Stage
         ensures { stage_of result ≡ stage_after (opening kind) [] }
     {
         match kind {
@@ -186,7 +186,7 @@ impl Reader {
 }
 
 /// The event of a bracket that opens a container of this kind.
-fn opening<'de>(kind: ContainerKind) -> ParseEventKind<'de>
+pub(crate) fn opening<'de>(kind: ContainerKind) -> ParseEventKind<'de>
     ensures { event_kind_of result ≡ opening kind }
 {
     match kind {
@@ -196,7 +196,7 @@ fn opening<'de>(kind: ContainerKind) -> ParseEventKind<'de>
 }
 
 /// The event of a bracket that closes a container of this kind.
-fn closing<'de>(kind: ContainerKind) -> ParseEventKind<'de>
+pub(crate) fn closing<'de>(kind: ContainerKind) -> ParseEventKind<'de>
     ensures { event_kind_of result ≡ closing kind }
 {
     match kind {

@@ -5,6 +5,7 @@
 
 mod mode;
 pub mod plain_cut;
+pub mod quick;
 mod refusal;
 mod token;
 mod window;

@@ -1,0 +1,14 @@
+-- The parts at the offset tell the token, and the number its value.
+use Rattle.std.proofs.Common.{Some, sym, ◌∙◌, refl}
+use Rattle.facet_format.specs.Views.{hint_of, scalar_value_of}
+use Rattle.facet_json_number.specs.Views.{number_of}
+use Rattle.facet_json_reader.proofs.QuickEvents.{number-there}
+use Rattle.facet_json_reader.proofs.quick.short_number.Goals as goal
+
+pub returns-in-Some : goal.returns-in-Some
+returns-in-Some c =
+    let q = c.parts_at-parts.result in
+    let more = sym c.is_bare.ensures ∙ c.if-is_bare.false in
+    number-there c.args.input.now c.args.at c.args.first c.len-len.result q (hint_of c.hint.result) (number_of c.in-Ok.number) (scalar_value_of c.in-Some.value)
+    c.requires.here c.requires.number c.parts_at-parts.ensures.parts c.len-len.ensures c.hint.ensures more c.in-Ok.ensures.number
+    (λ kind. rw c.in-Some.is at (c.short_scalar.ensures kind c.in-Ok.ensures.borrowed))

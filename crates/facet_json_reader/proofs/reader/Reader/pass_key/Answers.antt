@@ -1,0 +1,20 @@
+-- The key's text and its colon give its event.
+use Rattle.std.proofs.Common.{◌≡◌, refl, arith}
+use Rattle.facet_format.specs.Bytes.{colon as colon_byte}
+use Rattle.facet_format.specs.Views.{event_of}
+use Rattle.facet_json_token.specs.Views.{mode_of}
+use Rattle.facet_json_token.proofs.Offsets.{slice_get-from_read}
+use Rattle.facet_json_document.specs.Place.{before_key}
+use Rattle.facet_json_reader.proofs.QuickEvents.{key-passes}
+use Rattle.facet_json_reader.proofs.reader.Reader.pass_key.Goals as goal
+
+pub returns-in-Some-eq58 : goal.returns-in-Some-eq58
+returns-in-Some-eq58 c =
+    λ reached.
+    let buffer = c.args.input.now in
+    let mode = mode_of c.args.mode in
+    let k = c.in_ok-end in
+    let w = c.in-Some-eq58 in
+    let here = slice_get-from_read buffer c.skip_gap-colon.result w.field-0.now colon_byte w.ensures.lookup.3 w.field-0-test in
+    key-passes buffer mode c.args.self.now before_key c.args.at k.end c.skip_gap-colon.result k.name.now (event_of c.pass_name.result) c.pass_name.new.self refl reached
+    k.ensures.text k.ensures.within.0 k.ensures.within.1 c.skip_gap-colon.ensures.end here (rw (c.new.ensures.offset, c.new.ensures.len) at c.pass_name.ensures)

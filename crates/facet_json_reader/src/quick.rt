@@ -1,0 +1,318 @@
+//! The next event passed at once, where a few bytes decide it. In all other cases nothing is done, and the next event is read
+//! token by token, in `reader`.
+
+ghost use Rattle.std.specs.Prelude.{◌≡◌, ◌≤◌, ◌<◌, ◌+◌, ◌-◌, ℕ, List, Some, length, slice_get, false, IfSome, MatchOption};
+ghost use Rattle.facet_format.specs.Bytes.{quote};
+ghost use Rattle.facet_format.specs.Event.{scalar, field_key, borrowed};
+ghost use Rattle.facet_format.specs.Span.{stop, span_at};
+ghost use Rattle.facet_format.specs.Views.{span_of, event_of, scalar_value_of};
+ghost use Rattle.facet_json_token.specs.Cut.{start_of, opens_number};
+ghost use Rattle.facet_json_token.specs.Gap.{Mode as SpecMode};
+ghost use Rattle.facet_json_token.specs.Token.{Kind};
+ghost use Rattle.facet_json_token.specs.Views.{mode_of};
+ghost use Rattle.facet_json_number.specs.Views.{number_of, is_made_number};
+ghost use Rattle.facet_json_document.specs.Meaning.{tree_of_number};
+ghost use Rattle.facet_json_document.specs.Walk.{scalar_by};
+ghost use Rattle.facet_json_document.specs.Future.{within};
+ghost use Rattle.facet_json_document.specs.Place.{Place as SpecPlace, before_key, before_item, after_member, after_item};
+ghost use Rattle.facet_json_place.specs.Views.{place_of, opening, closing};
+ghost use Rattle.facet_json_reader.specs.Quick.{MayBeValue, Reaches, IsPlainText, IsScalarThere, IsWord, Leaves, PassesEvent};
+ghost use Rattle.facet_json_reader.specs.Views.{stage_of};
+
+use crate::reader::{Reader, Stage, closing, opening};
+use facet_format::numeral::parts_at;
+use facet_format::{
+    ContainerKind, FieldKey, FieldLocationHint, ParseEvent, ParseEventKind, ScalarValue, Span,
+};
+use facet_json_decode::decode_string_borrowed;
+use facet_json_number::{ParsedNumber, parse_number};
+use facet_json_place::Place;
+use facet_json_token::Mode;
+use facet_json_token::plain_cut::{common_len, skip_gap};
+use facet_json_token::quick::plain_text_end;
+use std::borrow::CowStr;
+
+impl Reader {
+    /// Passes the next event and answers it, where a few bytes decide it: a bracket, a text or a key without an escape, a number
+    /// that takes no memory, a literal. Else nothing changes.
+    #[inline(always)]
+    pub fn pass_quickly<'de>(&mut self, input: &'de [u8], mode: Mode) -> Option<ParseEvent<'de>>
+        requires within { stop (span_of self.old.last) ≤ length input.now }
+        ensures { MatchOption result (self.new ≡ self.old)
+            (λ e. PassesEvent input.now (mode_of mode) self.old (event_of e) self.new) }
+    {
+        let Stage::Within(place) = self.stage else {
+            return None;
+        };
+        let (place, at) = self.past_separators(input, mode, place);
+        let first = *input.get(at)?;
+        match place {
+            Place::BeforeKey => self.pass_member(input, mode, at, first),
+            Place::BeforeItem => self.pass_item(input, at, first),
+            Place::AfterMember => self.pass_object_end(at, first),
+            Place::AfterItem => self.pass_array_end(at, first),
+            Place::Root => self.pass_value(input, at, first),
+            Place::AfterColon => self.pass_value(input, at, first),
+        }
+    }
+
+    /// Where the next token stands that is no separator, and the place before it.
+    #[inline(always)]
+    fn past_separators(&self, input: &[u8], mode: Mode, place: Place) -> (Place, usize)
+        requires within { stop (span_of self.now.last) ≤ length input.now }
+        requires place { stage_of self.now.stage ≡ within (place_of place) }
+        ensures { Reaches input.now (mode_of mode) self.now (place_of result.0) result.1 }
+    {
+        let at = skip_gap(input, self.last.end(), mode);
+        match (place, input.get(at)) {
+            (Place::AfterItem, Some(b',')) => (Place::BeforeItem, skip_gap(input, at + 1, mode)),
+            (Place::AfterMember, Some(b',')) => (Place::BeforeKey, skip_gap(input, at + 1, mode)),
+            _ => (place, at),
+        }
+    }
+
+    /// Passes a key with its colon, or the bracket that closes an object, of which this is the first byte.
+    #[inline(always)]
+    fn pass_member<'de>(
+        &mut self,
+        input: &'de [u8],
+        mode: Mode,
+        at: usize,
+        first: u8,
+    ) -> Option<ParseEvent<'de>>
+        requires { slice_get input.now at ≡ Some first }
+        ensures { Reaches input.now (mode_of mode) self.old before_key at → MatchOption result (self.new ≡ self.old)
+            (λ e. PassesEvent input.now (mode_of mode) self.old (event_of e) self.new) }
+    {
+        match first {
+            b'"' => self.pass_key(input, mode, at),
+            b'}' => Some(self.pass_end(ContainerKind::Object, at)),
+            _ => None,
+        }
+    }
+
+    /// Passes the bracket that closes an object, where this is its first byte.
+    #[inline(always)]
+    fn pass_object_end<'de>(&mut self, at: usize, first: u8) -> Option<ParseEvent<'de>>
+        ensures { (buffer : List ℕ) (mode : SpecMode) → slice_get buffer at ≡ Some first
+            → Reaches buffer mode self.old after_member at → MatchOption result (self.new ≡ self.old)
+            (λ e. PassesEvent buffer mode self.old (event_of e) self.new) }
+    {
+        if first == b'}' {
+            Some(self.pass_end(ContainerKind::Object, at))
+        } else {
+            None
+        }
+    }
+
+    /// Passes the bracket that closes an array, where this is its first byte.
+    #[inline(always)]
+    fn pass_array_end<'de>(&mut self, at: usize, first: u8) -> Option<ParseEvent<'de>>
+        ensures { (buffer : List ℕ) (mode : SpecMode) → slice_get buffer at ≡ Some first
+            → Reaches buffer mode self.old after_item at → MatchOption result (self.new ≡ self.old)
+            (λ e. PassesEvent buffer mode self.old (event_of e) self.new) }
+    {
+        if first == b']' {
+            Some(self.pass_end(ContainerKind::Array, at))
+        } else {
+            None
+        }
+    }
+
+    /// Passes the start of an item, or the bracket that closes an array, of which this is the first byte.
+    #[inline(always)]
+    fn pass_item<'de>(&mut self, input: &'de [u8], at: usize, first: u8) -> Option<ParseEvent<'de>>
+        requires { slice_get input.now at ≡ Some first }
+        ensures { (mode : SpecMode) → Reaches input.now mode self.old before_item at → MatchOption result (self.new ≡ self.old)
+            (λ e. PassesEvent input.now mode self.old (event_of e) self.new) }
+    {
+        if first == b']' {
+            Some(self.pass_end(ContainerKind::Array, at))
+        } else {
+            self.pass_value(input, at, first)
+        }
+    }
+
+    /// Passes the start of a value, or a whole scalar, of which this is the first byte.
+    #[inline(always)]
+    fn pass_value<'de>(&mut self, input: &'de [u8], at: usize, first: u8) -> Option<ParseEvent<'de>>
+        requires { slice_get input.now at ≡ Some first }
+        ensures { (mode : SpecMode) (place : SpecPlace) → MayBeValue place → Reaches input.now mode self.old place at
+            → MatchOption result (self.new ≡ self.old) (λ e. PassesEvent input.now mode self.old (event_of e) self.new) }
+    {
+        match first {
+            b'"' => self.pass_text(input, at),
+            b'{' => self.pass_start(ContainerKind::Object, at),
+            b'[' => self.pass_start(ContainerKind::Array, at),
+            b't' => self.pass_word(input, at, b"true", ScalarValue::Bool(true)),
+            b'f' => self.pass_word(input, at, b"false", ScalarValue::Bool(false)),
+            b'n' => self.pass_word(input, at, b"null", ScalarValue::Null),
+            b'-' | b'0'..=b'9' => self.pass_number(input, at, first),
+            _ => None,
+        }
+    }
+
+    /// Passes a key that holds no escape, and its colon.
+    #[inline(always)]
+    fn pass_key<'de>(&mut self, input: &'de [u8], mode: Mode, at: usize) -> Option<ParseEvent<'de>>
+        requires { slice_get input.now at ≡ Some quote }
+        ensures { Reaches input.now (mode_of mode) self.old before_key at → MatchOption result (self.new ≡ self.old)
+            (λ e. PassesEvent input.now (mode_of mode) self.old (event_of e) self.new) }
+    {
+        let (end, name) = plain_text(input, at)?;
+        let colon = skip_gap(input, end + 1, mode);
+        match input.get(colon) {
+            Some(b':') => Some(self.pass_name(name, Span::new(at, end + 1 - at), colon)),
+            _ => None,
+        }
+    }
+
+    /// Passes a text that holds no escape.
+    #[inline(always)]
+    fn pass_text<'de>(&mut self, input: &'de [u8], at: usize) -> Option<ParseEvent<'de>>
+        requires { slice_get input.now at ≡ Some quote }
+        ensures { (mode : SpecMode) (place : SpecPlace) → MayBeValue place → Reaches input.now mode self.old place at
+            → MatchOption result (self.new ≡ self.old) (λ e. PassesEvent input.now mode self.old (event_of e) self.new) }
+    {
+        let (end, text) = plain_text(input, at)?;
+        Some(self.pass_scalar(
+            ScalarValue::Str(CowStr::Borrowed(text)),
+            Span::new(at, end + 1 - at),
+        ))
+    }
+
+    /// Passes the literal of these letters, which is read as this value.
+    #[inline(always)]
+    fn pass_word<'de>(
+        &mut self,
+        input: &'de [u8],
+        at: usize,
+        word: &[u8],
+        value: ScalarValue<'de>,
+    ) -> Option<ParseEvent<'de>>
+        requires { at ≤ length input.now }
+        ensures { (mode : SpecMode) (place : SpecPlace) (first : ℕ) → IsWord first word.now (scalar_value_of value.entry) → slice_get input.now at ≡ Some first
+            → MayBeValue place → Reaches input.now mode self.old place at
+            → MatchOption result (self.new ≡ self.old) (λ e. PassesEvent input.now mode self.old (event_of e) self.new) }
+    {
+        let len = word.len();
+        if common_len(input, at, word) == len {
+            Some(self.pass_scalar(value, Span::new(at, len)))
+        } else {
+            None
+        }
+    }
+
+    /// Passes a number that takes no memory, of which this is the first byte.
+    #[inline(always)]
+    fn pass_number<'de>(
+        &mut self,
+        input: &'de [u8],
+        at: usize,
+        first: u8,
+    ) -> Option<ParseEvent<'de>>
+        requires here { slice_get input.now at ≡ Some first }
+        requires number { start_of first ≡ opens_number }
+        ensures { (mode : SpecMode) (place : SpecPlace) → MayBeValue place → Reaches input.now mode self.old place at
+            → MatchOption result (self.new ≡ self.old) (λ e. PassesEvent input.now mode self.old (event_of e) self.new) }
+    {
+        let (len, value) = short_number(input, at, first)?;
+        Some(self.pass_scalar(value, Span::new(at, len)))
+    }
+
+    /// Passes a bracket that opens a container, where there is memory for it.
+    #[inline(always)]
+    fn pass_start<'de>(&mut self, kind: ContainerKind, at: usize) -> Option<ParseEvent<'de>>
+        ensures { MatchOption result (self.new ≡ self.old)
+            (λ e. Leaves self.old (opening kind) (span_at at 1) (span_at at 1) (event_of e) self.new) }
+    {
+        match self.contexts.push(kind) {
+            Ok(()) => {
+                self.stage = Stage::inside(kind);
+                self.last = Span::new(at, 1);
+                Some(ParseEvent::new(opening(kind), self.last))
+            }
+            Err(_) => None,
+        }
+    }
+
+    /// Passes a bracket that closes a container.
+    #[inline(always)]
+    fn pass_end<'de>(&mut self, kind: ContainerKind, at: usize) -> ParseEvent<'de>
+        ensures { Leaves self.old (closing kind) (span_at at 1) (span_at at 1) (event_of result) self.new }
+    {
+        self.close();
+        self.last = Span::new(at, 1);
+        ParseEvent::new(closing(kind), self.last)
+    }
+
+    /// Passes a scalar that takes these bytes.
+    #[inline(always)]
+    fn pass_scalar<'de>(&mut self, value: ScalarValue<'de>, span: Span) -> ParseEvent<'de>
+        ensures { Leaves self.old (scalar (scalar_value_of value.entry)) (span_of span) (span_of span) (event_of result) self.new }
+    {
+        self.stage = Stage::after_value(&self.contexts);
+        self.last = span;
+        ParseEvent::new(ParseEventKind::Scalar(value), span)
+    }
+
+    /// Passes a key whose string takes these bytes, and its colon.
+    #[inline(always)]
+    fn pass_name<'de>(&mut self, name: &'de str, span: Span, colon: usize) -> ParseEvent<'de>
+        ensures { Leaves self.old (field_key (borrowed name.now)) (span_of span) (span_at colon 1) (event_of result) self.new }
+    {
+        let key = FieldKey::new(CowStr::Borrowed(name), FieldLocationHint::KeyValue);
+        self.stage = Stage::Within(Place::AfterColon);
+        self.last = Span::new(colon, 1);
+        ParseEvent::new(ParseEventKind::FieldKey(key), span)
+    }
+}
+
+/// The text of the string whose quote is at `at`, where it holds no escape, and the offset of the quote that closes it.
+#[inline(always)]
+fn plain_text<'de>(input: &'de [u8], at: usize) -> Option<(usize, &'de str)>
+    requires { slice_get input.now at ≡ Some quote }
+    ensures text { IfSome result (λ r. IsPlainText input.now at r.0 r.1.now) }
+    ensures within { IfSome result (λ r. (at < r.0) × (r.0 < length input.now)) }
+{
+    let end = plain_text_end(input, at)?;
+    match decode_string_borrowed(input, at + 1, end) {
+        Some(text) => Some((end, text)),
+        None => None,
+    }
+}
+
+/// The length and the value of the number at `at`, of which this is the first byte, where it takes no memory.
+#[inline(always)]
+fn short_number<'de>(input: &'de [u8], at: usize, first: u8) -> Option<(usize, ScalarValue<'de>)>
+    requires here { slice_get input.now at ≡ Some first }
+    requires number { start_of first ≡ opens_number }
+    ensures { IfSome result (λ r. IsScalarThere input.now at r.0 (scalar_value_of r.1)) }
+{
+    let parts = parts_at(input, at);
+    let len = parts.len();
+    if parts.is_bare() {
+        return None;
+    }
+    match parse_number(input, at, at + len, parts.hint()) {
+        Ok(number) => match short_scalar(number) {
+            Some(value) => Some((len, value)),
+            None => None,
+        },
+        Err(_) => None,
+    }
+}
+
+/// The number as a scalar, where it takes no memory.
+#[inline(always)]
+fn short_scalar<'de>(number: ParsedNumber<'de>) -> Option<ScalarValue<'de>>
+    ensures { (kind : Kind) → is_made_number number.entry ≡ false
+        → IfSome result (λ v. scalar_value_of v ≡ scalar_by kind (tree_of_number (number_of number.entry))) }
+{
+    match number {
+        ParsedNumber::U64(n) => Some(ScalarValue::U64(n)),
+        ParsedNumber::I64(n) => Some(ScalarValue::I64(n)),
+        ParsedNumber::Decimal(decimal) => Some(ScalarValue::Decimal(decimal)),
+        _ => None,
+    }
+}
