@@ -37,6 +37,7 @@ pub struct FieldKey<'a> {
 
 impl<'a> FieldKey<'a> {
     /// The field of this name, which stands there.
+    #[inline(always)]
     pub fn new(name: CowStr<'a>, hint: FieldLocationHint) -> FieldKey<'a>
         ensures name { text_of result.name ≡ text_of name.entry }
         ensures hint { result.hint ≡ hint }
@@ -157,6 +158,7 @@ pub struct ParseEvent<'a> {
 
 impl<'a> ParseEvent<'a> {
     /// The event of this kind that comes from these bytes.
+    #[inline(always)]
     pub fn new(kind: ParseEventKind<'a>, span: Span) -> ParseEvent<'a>
         ensures kind { event_kind_of result.kind ≡ event_kind_of kind.entry }
         ensures span { result.span ≡ span }

@@ -13,6 +13,7 @@ pub struct Span {
 
 impl Span {
     /// The range of `len` bytes from `offset` on.
+    #[inline(always)]
     pub fn new(offset: usize, len: usize) -> Span
         ensures offset { result.offset ≡ offset }
         ensures len { result.len ≡ len }
@@ -27,6 +28,7 @@ impl Span {
     /// Span::new(3, 4).end()           7
     /// Span::new(3, usize::MAX).end()  usize::MAX
     /// ```
+    #[inline(always)]
     pub fn end(self) -> usize
         ensures end { result ≡ min (self.offset + self.len) (2 ^ 64 - 1) }
         ensures fits { self.offset + self.len < 2 ^ 64 → result ≡ self.offset + self.len }

@@ -1,9 +1,10 @@
 -- What a call of a parser answers is a move.
-use Rattle.std.proofs.Common.{◌≡◌, ℕ, suc, ◌<◌, List, Option, Some, None, refl, subst}
-use Rattle.std.specs.Prelude.{Ok, Err, IfSome, IfNone}
+use Rattle.std.proofs.Common.{◌≡◌, ◌∙◌, ℕ, suc, ◌<◌, false, List, Option, Some, None, refl, sym, ap, subst}
+use Rattle.std.specs.Prelude.{Result, Ok, Err, IfOk, IfSome, IfNone, MatchOption, is_some}
 use Rattle.std.specs.Option.{option_map}
 use Rattle.facet_format.specs.declared.event.ParseEvent.{ParseEvent}
-use Rattle.facet_format.specs.Views.{event_of}
+use Rattle.facet_format.specs.declared.parse_error.ParseError.{ParseError}
+use Rattle.facet_format.specs.Views.{event_of, answer_of_event}
 use Rattle.facet_format.specs.Complaint.{Refusal, refusal_at, save_limit}
 use Rattle.facet_format.specs.Event.{Event}
 use Rattle.facet_format.specs.Kept.{found, without, with_point}
@@ -15,6 +16,13 @@ use Rattle.facet_json_protocol.specs.Move.{Moves}
 use Rattle.facet_json_protocol.specs.Next.{PassesNext, ShowsNext, IsOver}
 use Rattle.facet_json_protocol.proofs.MoveLaws.{with_cursor}
 use Rattle.facet_json_protocol.proofs.MovesNext.{next-passes, next-over, peek-shows, peek-over}
+use Rattle.facet_json_place.specs.declared.language.Language.{Language}
+use Rattle.facet_json_place.specs.declared.refusal.Refused.{Refused}
+use Rattle.facet_json_place.specs.Views.{language_of, refused_of}
+use Rattle.facet_json_standing.specs.declared.standing.Standing.{Standing as RustStanding}
+use Rattle.facet_json_standing.specs.declared.points.Point.{Point}
+use Rattle.facet_json_standing.specs.Fill.{spot_of}
+use Rattle.facet_json_standing.specs.Views.{filling_of, now_of}
 use Rattle.facet_json_standing.specs.Steps.{PassesOne, passes, passes_the_end, passes_without_memory, passes_nothing, ShowsOne, shows, shows_the_end, shows_without_memory, shows_nothing}
 
 -- ---- steps
@@ -39,6 +47,11 @@ module _ {P : Type 0} (w : World P) where
       Step w c peek (event (Err r)) (refused_at c t r)
   shows-refused c _ _ none (shows_without_memory p up takes) = cursor.peeks_without_memory p none up takes
   shows-refused c _ _ none (shows_nothing r up so) = cursor.peeks_at_nothing r none up so
+
+-- A parser that holds no refusal has none.
+no_refusal : (refusal : Option Refused) → is_some refusal ≡ false → option_map refused_of refusal ≡ None
+no_refusal None e = refl
+no_refusal (Some r) e = cc
 
 -- ---- moves
 
@@ -67,6 +80,18 @@ pub next-answers : (made now : Now) (o : Option Event) (t : Spot Standing) → m
     Moves now next (event (Ok o)) (with_cursor made (at_spot made.cursor t))
 next-answers made now o t e none one =
     step-moves made now _ next _ e (passes-step (on_input made.buffer made.language) made.cursor o t (none-made made now e none) one)
+
+-- An event that is passed at once is answered; else nothing changes.
+pub quick-answers : (input : List ℕ) (language : Language) (s u : RustStanding) (refusal : Option Refused) (points : List Point) (counter : ℕ)
+    (now : Now) (o : Option ParseEvent) → now_of input language s refusal points counter ≡ now → is_some refusal ≡ false →
+    MatchOption o (u ≡ s) (λ e. PassesOne (on_input input (language_of language)) (spot_of (filling_of s)) (Ok (Some (event_of e))) (spot_of (filling_of u))) →
+    MatchOption o (now_of input language u refusal points counter ≡ now)
+    (λ e. Moves now next (event (Ok (Some (event_of e)))) (now_of input language u refusal points counter))
+quick-answers input language s u refusal points counter now None view none same =
+    ap (λ (x : RustStanding). now_of input language x refusal points counter) same ∙ view
+quick-answers input language s u refusal points counter now (Some e) view none one =
+    let made = now_of input language s refusal points counter in
+    next-answers made now (Some (event_of e)) (spot_of (filling_of u)) view (none-made now made (sym view) (no_refusal refusal none)) one
 
 pub next-refused : (made now new : Now) (r q : Refusal) (t : Spot Standing) → made ≡ now → now.cursor.refusal ≡ None →
     PassesOne (on_input made.buffer made.language) made.cursor.spot (Err r) t → new ≡ with_cursor made (refused_at made.cursor t r) → q ≡ r →
@@ -133,6 +158,17 @@ pub event-over : (old new : Now) (o : Option ParseEvent) → Moves old next (eve
     IfNone o (IsOver old new)
 event-over old new None move = next-over old new move
 event-over old new (Some e) move = tt
+
+-- So are they of any answer.
+pub result-passes : (old new : Now) (r : Result (Option ParseEvent) ParseError) → Moves old next (answer_of_event r) new →
+    IfOk r (λ o. IfSome o (λ e. PassesNext old (event_of e) new))
+result-passes old new (Ok o) move = event-passes old new o move
+result-passes old new (Err e) move = tt
+
+pub result-over : (old new : Now) (r : Result (Option ParseEvent) ParseError) → Moves old next (answer_of_event r) new →
+    IfOk r (λ o. IfNone o (IsOver old new))
+result-over old new (Ok o) move = event-over old new o move
+result-over old new (Err e) move = tt
 
 -- An event that is shown comes next.
 pub event-shows : (old new : Now) (o : Option ParseEvent) → Moves old peek (event (Ok (option_map event_of o))) new →

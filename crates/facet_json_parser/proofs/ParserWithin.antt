@@ -1,11 +1,12 @@
 -- Of every parser: what it keeps lies within the input, and so does what its calls answer; and what its calls leave.
 use Rattle.std.proofs.Common.{◌≡◌, ◌+◌, ◌<◌, ◌≤◌, ℕ, zero, suc, List, [], ◌∷◌, map, Option, Some, None, refl, sym, ap, subst, ◌∙◌, arith}
-use Rattle.std.specs.Prelude.{Ok, Err, OnSome}
+use Rattle.std.specs.Prelude.{Result, Ok, Err, IfOk, OnSome}
 use Rattle.std.specs.List.{All}
 use Rattle.std.specs.Option.{option_map}
 use Rattle.std.proofs.lemmas.List.Elements.{All-cons, All-nil}
 use Rattle.facet_format.specs.declared.event.ParseEvent.{ParseEvent}
-use Rattle.facet_format.specs.Views.{event_of}
+use Rattle.facet_format.specs.declared.parse_error.ParseError.{ParseError}
+use Rattle.facet_format.specs.Views.{event_of, answer_of_event}
 use Rattle.facet_format.specs.Complaint.{Refusal}
 use Rattle.facet_format.specs.Event.{Event}
 use Rattle.facet_format.specs.Kept.{found, without}
@@ -76,6 +77,12 @@ pub event-lowers : (old new : Now) (o : Option ParseEvent) → NowWithin old →
     OnSome o (ahead new < ahead old)
 event-lowers old new None good move = tt
 event-lowers old new (Some e) good move = next-lowers old good new (event_of e) move
+
+-- So does any answer with an event.
+pub result-lowers : (old new : Now) (r : Result (Option ParseEvent) ParseError) → NowWithin old → Moves old next (answer_of_event r) new →
+    IfOk r (λ o. OnSome o (ahead new < ahead old))
+result-lowers old new (Ok o) good move = event-lowers old new o good move
+result-lowers old new (Err e) good move = tt
 
 -- The current span lies within the input.
 pub told-within : (made now : Now) (s : Span) → made ≡ now → NowWithin now → s ≡ span_of made → AnswerWithin now.buffer (spans (Some s))

@@ -1,6 +1,6 @@
 //! Reads a document event by event, with a look ahead and points to go back to.
 
-ghost use Rattle.std.specs.Prelude.{◌≡◌, ◌≤◌, ◌+◌, suc, List, Some, None, Ok, Err, ◌<◌, length, ◌++◌, OnSome, IfOk, IfErr, IfSome, IfNone, IsSome, IsUtf8, map, codes, MatchResult};
+ghost use Rattle.std.specs.Prelude.{◌≡◌, ◌≤◌, ◌+◌, suc, List, Some, None, Ok, Err, ◌<◌, length, ◌++◌, OnSome, IfOk, IfErr, IfSome, IfNone, IsSome, IsUtf8, map, codes, MatchOption, MatchResult};
 ghost use Rattle.std.specs.Option.{option_map};
 ghost use Rattle.std.specs.VecDeque.{deque_len, deque_capacity};
 ghost use Rattle.facet_format.specs.declared.event.ParseEvent.{ParseEvent as RustEvent};
@@ -129,6 +129,7 @@ impl<'de> JsonParser<'de> {
     }
 
     /// Repeats a refusal, where there is one.
+    #[inline(always)]
     fn unrefused<'t>(&self) -> Result<(), ParseError<'t>>
         ensures { MatchResult result
             (λ _. self.now.cursor.refusal ≡ None)
@@ -141,6 +142,7 @@ impl<'de> JsonParser<'de> {
     }
 
     /// Refuses so from now on.
+    #[inline(never)]
     fn refuse<'t>(&mut self, refused: Refused) -> ParseError<'t>
         requires within { RefusalWithin self.old.buffer (refused_of refused) }
         ensures error { parse_refusal result ≡ refused_of refused }
@@ -149,6 +151,31 @@ impl<'de> JsonParser<'de> {
     {
         self.refusal = Some(refused);
         ParseError::from(refused)
+    }
+
+    /// The next event, where a few bytes decide it. Else nothing changes.
+    #[inline(always)]
+    fn next_quickly(&mut self) -> Option<ParseEvent<'de>>
+        ensures event { MatchOption result (self.new ≡ self.old)
+            (λ e. Moves self.old next (answer_of_event (Ok (Some e))) self.new) }
+        ensures within { NowWithin self.old }
+    {
+        if self.refusal.is_some() {
+            return None;
+        }
+        self.standing.next_quickly(self.input, self.language)
+    }
+
+    /// The next event, token by token.
+    #[inline(never)]
+    fn next_by_tokens<'t>(&mut self) -> Result<Option<ParseEvent<'de>>, ParseError<'t>>
+        ensures { Moves self.old next (answer_of_event result) self.new }
+    {
+        self.unrefused()?;
+        match self.standing.next(self.alloc, self.input, self.language) {
+            Ok(passed) => Ok(passed),
+            Err(refused) => Err(self.refuse(refused)),
+        }
     }
 
     /// The next event, once the queue has room for it.
@@ -194,6 +221,7 @@ impl<'de> FormatParser<'de> for JsonParser<'de> {
     ///   answered takes none.
     ///
     /// A refusal sticks, until a point that is kept is restored.
+    #[inline(always)]
     fn next_event<'t>(&mut self) -> Result<Option<ParseEvent<'de>>, ParseError<'t>>
         ensures steps { IsStep StandsAt self.old next (answer_of_event result) self.new }
         ensures moves { Moves self.old next (answer_of_event result) self.new }
@@ -204,11 +232,10 @@ impl<'de> FormatParser<'de> for JsonParser<'de> {
         ensures next { IfOk result (λ o. IfSome o (λ e. PassesNext self.old (event_of e) self.new)) }
         ensures end { IfOk result (λ o. IfNone o (IsOver self.old self.new)) }
     {
-        self.unrefused()?;
-        match self.standing.next(self.alloc, self.input, self.language) {
-            Ok(passed) => Ok(passed),
-            Err(refused) => Err(self.refuse(refused)),
-        }
+        let Some(event) = self.next_quickly() else {
+            return self.next_by_tokens();
+        };
+        Ok(Some(event))
     }
 
     /// Answers the next event and lets it stay the next one, or `None` after the document's last one.

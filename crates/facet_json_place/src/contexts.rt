@@ -47,6 +47,7 @@ impl Contexts {
     }
 
     /// Opens a container within the innermost one.
+    #[inline(always)]
     pub fn push(&mut self, kind: ContainerKind) -> Result<(), AllocError>
         ensures { MatchResult result (λ _. self.new ≡ container_of kind ∷ self.old) (λ _. self.new ≡ self.old) }
     {
@@ -66,6 +67,7 @@ impl Contexts {
     }
 
     /// Closes the innermost container.
+    #[inline(always)]
     pub fn pop(&mut self)
         ensures { self.new ≡ around self.old }
     {
@@ -81,6 +83,7 @@ impl Contexts {
     }
 
     /// The kind of the innermost container.
+    #[inline(always)]
     pub fn innermost(&self) -> Option<ContainerKind>
         ensures { innermost_of result self.now }
     {
@@ -107,6 +110,7 @@ impl Contexts {
 }
 
 /// The bit of a kind.
+#[inline(always)]
 fn bit_of(kind: ContainerKind) -> u64
     ensures bit { result < 2 }
     ensures kind { kind_in result ≡ container_of kind }

@@ -16,6 +16,7 @@ pub enum Language {
 
 impl Language {
     /// What may stand between tokens.
+    #[inline(always)]
     pub fn mode(self) -> Mode
         ensures { mode_of result ≡ gaps (language_of self) }
     {

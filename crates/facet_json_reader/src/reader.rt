@@ -35,6 +35,7 @@ pub enum Stage {
 
 impl Stage {
     /// After the bracket that opens a container.
+    #[inline(always)]
     pub(crate) fn inside(kind: ContainerKind) -> Stage
         ensures { stage_of result ≡ stage_after (opening kind) [] }
     {
@@ -45,6 +46,7 @@ impl Stage {
     }
 
     /// Where a value has ended that stands in these containers.
+    #[inline(always)]
     pub fn after_value(contexts: &Contexts) -> Stage
         ensures { stage_of result ≡ after_value contexts.now }
     {
@@ -175,6 +177,7 @@ impl Reader {
     }
 
     /// Closes the innermost container.
+    #[inline(always)]
     pub fn close(&mut self)
         ensures last { self.new.last ≡ self.old.last }
         ensures contexts { self.new.contexts ≡ around self.old.contexts }
@@ -186,6 +189,7 @@ impl Reader {
 }
 
 /// The event of a bracket that opens a container of this kind.
+#[inline(always)]
 pub(crate) fn opening<'de>(kind: ContainerKind) -> ParseEventKind<'de>
     ensures { event_kind_of result ≡ opening kind }
 {
@@ -196,6 +200,7 @@ pub(crate) fn opening<'de>(kind: ContainerKind) -> ParseEventKind<'de>
 }
 
 /// The event of a bracket that closes a container of this kind.
+#[inline(always)]
 pub(crate) fn closing<'de>(kind: ContainerKind) -> ParseEventKind<'de>
     ensures { event_kind_of result ≡ closing kind }
 {

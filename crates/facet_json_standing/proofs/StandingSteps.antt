@@ -8,16 +8,20 @@ use Rattle.facet_format.specs.Complaint.{Refusal}
 use Rattle.facet_format.specs.Cursor.{World, an_event, Spot, unpeeked, peeked_at, current_span, no_memory_at}
 use Rattle.facet_format.specs.Event.{EventKind, field_key, scalar, Event, Passed, holds_made, peek_takes_memory}
 use Rattle.facet_format.specs.Views.{event_of}
-use Rattle.facet_json_document.specs.Language.{Language}
+use Rattle.facet_json_document.specs.Language.{Language, gaps}
 use Rattle.facet_json_document.specs.Future.{Future, gives, finished}
 use Rattle.facet_json_document.specs.InputPlace.{Standing, past, future_at}
 use Rattle.facet_json_document.proofs.PastEvents.{comes-within}
 use Rattle.facet_json_protocol.specs.Now.{first_of, on_input}
 use Rattle.facet_json_protocol.specs.Within.{StandsWithin}
 use Rattle.facet_json_reader.specs.declared.reader.Held.{Held}
-use Rattle.facet_json_reader.specs.Views.{passed_of, IsRefusedBefore, without_memory, at_a_stop}
+use Rattle.facet_json_reader.specs.declared.reader.Reader.{Reader}
+use Rattle.facet_json_reader.specs.Quick.{PassesEvent}
+use Rattle.facet_json_standing.specs.declared.standing.Standing.{Standing as RustStanding}
+use Rattle.facet_json_reader.specs.Views.{passed_of, standing_of, IsRefusedBefore, without_memory, at_a_stop}
 use Rattle.facet_json_standing.specs.Fill.{Filling, filling_with, place_of, spot_of, HoldsNext, IsFilled, filling_past, Takes, Lends, Withholds}
 use Rattle.facet_json_standing.specs.Ready.{IsSound}
+use Rattle.facet_json_standing.specs.Views.{filling_of}
 use Rattle.facet_json_standing.specs.Steps.{PassesOne, passes, passes_the_end, passes_without_memory, passes_nothing, ShowsOne, shows, shows_the_end, shows_without_memory, shows_nothing, QueuesOne, queues, queues_the_end, queues_without_memory, queues_nothing}
 
 -- A peek of an event with a text that is made allocates, the first as each other one.
@@ -112,6 +116,35 @@ module _ (buffer : List ℕ) (language : Language) where
       r ≡ no_memory_at (current_span w (spot_of f)) → f.held ≡ option_map passed_of held → QueuesOne w (spot_of f) (Err r) (spot_of f)
   held-lacks_room f None r e filled same is = cc
   held-lacks_room f (Some h) r e filled same is = rw same (queues_without_memory (passed_of h) (held-first f (passed_of h) filled is))
+
+  -- ---- an event that is passed at once, where none is held
+
+  pub passed-sound : (r t : Reader) (held : Option Passed) (shown : Bool) (o : Option ParseEvent) → held ≡ None →
+      IsSound buffer language (record { reader = standing_of r; held = held; shown = shown }) →
+      MatchOption o (t ≡ r) (λ e. PassesEvent buffer (gaps language) r (event_of e) t) →
+      IsSound buffer language (record { reader = standing_of t; held = held; shown = shown })
+  passed-sound r t held shown None none good same = rw same good
+  passed-sound r t None shown (Some e) none good is =
+      let within = comes-within buffer language (standing_of r) is.p is.rest good.within is.comes in
+      let new = is.new in
+      rw new (record { within = within.2; filled = tt })
+  passed-sound r t (Some q) shown (Some e) none good is = cc
+
+  past-passes : (reader s : Standing) (held : Option Passed) (shown : Bool) (p : Passed) (rest : Future) → held ≡ None →
+      future_at buffer language reader ≡ gives p rest → s ≡ past p reader →
+      PassesOne w (spot_of (record { reader = reader; held = held; shown = shown })) (Ok (Some p.event))
+      (spot_of (record { reader = s; held = held; shown = shown }))
+  past-passes reader s None shown p rest none comes new = rw new (passes p (comes-first reader p rest comes))
+  past-passes reader s (Some q) shown p rest none comes new = cc
+
+  pub passed-passes : (s : RustStanding) (t : Reader) (o : Option ParseEvent) → option_map passed_of s.held ≡ None →
+      MatchOption o (t ≡ s.reader) (λ e. PassesEvent buffer (gaps language) s.reader (event_of e) t) →
+      MatchOption o (record s { reader = t } ≡ s)
+      (λ e. PassesOne w (spot_of (filling_of s)) (Ok (Some (event_of e))) (spot_of (filling_of (record s { reader = t }))))
+  passed-passes s t None none same = ap (λ (x : Reader). record s { reader = x }) same
+  passed-passes s t (Some e) none is =
+      let event = is.event in
+      rw event (past-passes (standing_of s.reader) (standing_of t) (option_map passed_of s.held) s.shown is.p is.rest none is.comes is.new)
 
   -- ---- a refusal, where nothing is held
 

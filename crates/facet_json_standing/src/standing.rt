@@ -1,7 +1,7 @@
 //! Where a parser stands: after the last token that was passed, with an event that is read but not passed.
 
 ghost use Rattle.std.specs.Prelude.{◌≡◌, ◌≤◌, ℕ, List, None, length, IfOk, IfErr, OnOk, MatchOption, MatchResult};
-ghost use Rattle.std.specs.Prelude.{Ok, Err, OnSome, ◌<◌};
+ghost use Rattle.std.specs.Prelude.{Ok, Err, Some, OnSome, ◌<◌};
 ghost use Rattle.std.specs.Option.{option_map};
 ghost use Rattle.std.specs.VecDeque.{deque_len, deque_capacity};
 ghost use Rattle.facet_json_standing.specs.Ready.{IsSound};
@@ -84,6 +84,21 @@ impl<'de> Standing<'de> {
         self.reader.pass(&held);
         self.shown = false;
         Ok(Some(held.event))
+    }
+
+    /// Passes the next event and answers it, where none is held and a few bytes decide it. Else nothing changes.
+    #[inline(always)]
+    pub fn next_quickly(&mut self, input: &'de [u8], language: Language) -> Option<ParseEvent<'de>>
+        requires sound { IsSound input.now (language_of language) (filling_of self.old) }
+        ensures sound { IsSound input.now (language_of language) (filling_of self.new) }
+        ensures passed { MatchOption result (self.new ≡ self.old)
+            (λ e. PassesOne (on_input input.now (language_of language)) (spot_of (filling_of self.old)) (Ok (Some (event_of e)))
+            (spot_of (filling_of self.new))) }
+    {
+        if self.held.is_some() {
+            return None;
+        }
+        self.reader.pass_quickly(input, language.mode())
     }
 
     /// Answers a copy of the next event, which stays the next one, or `None` after the document's last one.

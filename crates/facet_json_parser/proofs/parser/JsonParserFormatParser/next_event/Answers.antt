@@ -1,52 +1,39 @@
-use Rattle.std.proofs.Common.{refl}
-use Rattle.std.specs.Option.{option_map}
-use Rattle.std.proofs.lemmas.Result.{err_from_is_err_and}
-use Rattle.facet_format.specs.Views.{event_of}
-use Rattle.facet_json_place.specs.Views.{refused_of}
+-- What is passed at once, or token by token, is a move.
+use Rattle.std.proofs.Common.{Some, Ok, refl}
 use Rattle.facet_json_protocol.proofs.MoveIsStep.{move-steps}
 use Rattle.facet_json_protocol.proofs.Spans.BytesAhead.{moves-goes_on}
-use Rattle.facet_json_standing.specs.Fill.{spot_of}
-use Rattle.facet_json_standing.specs.Views.{filling_of}
-use Rattle.facet_json_parser.proofs.AnswersAreMoves.{next-repeats, next-answers, next-refused, event-passes, event-over}
-use Rattle.facet_json_parser.proofs.ParserWithin.{ready-within, answer-within, next-refusal_within, event-lowers}
+use Rattle.facet_json_parser.proofs.AnswersAreMoves.{result-passes, result-over}
+use Rattle.facet_json_parser.proofs.ParserWithin.{answer-within, result-lowers}
 use Rattle.facet_json_parser.proofs.parser.JsonParserFormatParser.next_event.Goals as goal
 
-pub returns-in_err-unrefused : goal.returns-in_err-unrefused
-returns-in_err-unrefused c =
-    let p = err_from_is_err_and c.from_residual.result c.from_residual.ensures.1 in
-    let known = ready-within _ _ _ _ _ _ _ c.args.self.now c.self.invariant refl c.self.view_is in
-    let move = next-repeats c.args.self.now _ c.in_err-unrefused.ensures in
+pub returns : goal.returns
+returns c =
+    let known = c.next_quickly.ensures.within in
+    let move = c.in-Some.ensures.event in
     let gone = moves-goes_on _ known _ refl move in
-    rw (p.1, p.2) (record { steps = move-steps _ _ _ _ move; lowers = gone.onward; moves = move; within = answer-within _ _ known move; onward = gone; shorter = tt; next = tt; end = tt })
-
-pub refuse-requires : goal.refuse-requires
-refuse-requires c =
-    let known = ready-within _ _ _ _ _ _ _ c.args.self.now c.self.invariant refl c.self.view_is in
     record {
-      within = next-refusal_within _ c.args.self.now (refused_of c.in-Err.refused) (spot_of (filling_of c.next.new.self)) c.self.view_is
-          c.in_ok-unrefused.ensures known c.in-Err.ensures.passed;
-    }
-
-pub returns-in-Ok : goal.returns-in-Ok
-returns-in-Ok c =
-    let known = ready-within _ _ _ _ _ _ _ c.args.self.now c.self.invariant refl c.self.view_is in
-    let move = next-answers _ c.args.self.now (option_map event_of c.in-Ok.passed) (spot_of (filling_of c.next.new.self)) c.self.view_is
-    c.in_ok-unrefused.ensures c.in-Ok.ensures.passed in
-    let gone = moves-goes_on _ known _ refl move in record {
       steps = move-steps _ _ _ _ move;
       lowers = gone.onward;
       moves = move;
       within = answer-within _ _ known move;
       onward = gone;
-      shorter = event-lowers _ _ c.in-Ok.passed known move;
-      next = event-passes _ _ c.in-Ok.passed move;
-      end = event-over _ _ c.in-Ok.passed move;
+      shorter = result-lowers _ _ (Ok (Some c.in-Some.event)) known move;
+      next = result-passes _ _ (Ok (Some c.in-Some.event)) move;
+      end = result-over _ _ (Ok (Some c.in-Some.event)) move;
     }
 
-pub returns-in-Err : goal.returns-in-Err
-returns-in-Err c =
-    let known = ready-within _ _ _ _ _ _ _ c.args.self.now c.self.invariant refl c.self.view_is in
-    let move = next-refused _ c.args.self.now _ (refused_of c.in-Err.refused) _ (spot_of (filling_of c.next.new.self)) c.self.view_is
-    c.in_ok-unrefused.ensures c.in-Err.ensures.passed c.refuse.ensures.kept c.refuse.ensures.error in
+pub returns-in_default : goal.returns-in_default
+returns-in_default c =
+    let known = c.next_quickly.ensures.within in
+    let move = rw c.in_default.ensures.event at c.next_by_tokens.ensures in
     let gone = moves-goes_on _ known _ refl move in
-    (record { steps = move-steps _ _ _ _ move; lowers = gone.onward; moves = move; within = answer-within _ _ known move; onward = gone; shorter = tt; next = tt; end = tt })
+    record {
+      steps = move-steps _ _ _ _ move;
+      lowers = gone.onward;
+      moves = move;
+      within = answer-within _ _ known move;
+      onward = gone;
+      shorter = result-lowers _ _ c.next_by_tokens.result known move;
+      next = result-passes _ _ c.next_by_tokens.result move;
+      end = result-over _ _ c.next_by_tokens.result move;
+    }
