@@ -14,6 +14,7 @@ ghost use Rattle.facet_json_token.specs.Cut as spec_cut;
 ghost use Rattle.facet_json_token.specs.Views.{mode_of, kind_of, scanned};
 ghost use Rattle.facet_format.specs.Views.{span_of};
 
+use crate::in_sight::{past_space, token_in_sight};
 use crate::mode::Mode;
 use crate::token::{ScanError, ScanErrorKind, ScanResult, SpannedToken, Token};
 use crate::window::plain_end;
@@ -30,6 +31,32 @@ use facet_format::numeral::{NumberHint, parts_at};
 /// ```
 #[inline(always)]
 pub fn cut(buffer: &[u8], position: usize, mode: Mode) -> ScanResult
+    requires { position ≤ length buffer.now }
+    ensures answer { scanned result ≡ Some (spec_cut.cut buffer.now position (mode_of mode)) }
+    ensures end { IfOk result (λ t. t.token ≡ Token.Eof → span_of t.span ≡ span_at (length buffer.now) 0) }
+{
+    let at = past_space(buffer, position);
+    match token_in_sight(buffer, at) {
+        Some(token) => Ok(token),
+        None => cut_apart(buffer, at, mode),
+    }
+}
+
+/// Does the same, apart from the code that cuts what is in sight: its answer is a value of its own, so that a token in
+/// sight, which never passes through this, needs no memory.
+#[inline(always)]
+fn cut_apart(buffer: &[u8], position: usize, mode: Mode) -> ScanResult
+    requires { position ≤ length buffer.now }
+    ensures answer { scanned result ≡ Some (spec_cut.cut buffer.now position (mode_of mode)) }
+    ensures end { IfOk result (λ t. t.token ≡ Token.Eof → span_of t.span ≡ span_at (length buffer.now) 0) }
+{
+    let result = cut_out_of_line(buffer, position, mode);
+    result
+}
+
+/// Does the same for everything that may stand there.
+#[inline(never)]
+fn cut_out_of_line(buffer: &[u8], position: usize, mode: Mode) -> ScanResult
     requires { position ≤ length buffer.now }
     ensures answer { scanned result ≡ Some (spec_cut.cut buffer.now position (mode_of mode)) }
     ensures end { IfOk result (λ t. t.token ≡ Token.Eof → span_of t.span ≡ span_at (length buffer.now) 0) }

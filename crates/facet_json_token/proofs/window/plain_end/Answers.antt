@@ -1,7 +1,7 @@
 -- A window of plain bytes alone is passed, and in another the run ends.
 use Rattle.std.proofs.Common.{arith}
 use Rattle.facet_json_token.specs.Inner.Window.{is_plain}
-use Rattle.facet_json_token.proofs.Windows.{run_bound, run_through, run_stops}
+use Rattle.facet_json_token.proofs.Windows.{run_through, run_stops}
 use Rattle.facet_json_token.proofs.window.plain_end.Goals as goal
 
 pub returns-then-plain-lt16-clause-value : goal.returns-then-plain-lt16-clause-value
