@@ -15,20 +15,6 @@ fn stops(window: u8x16) -> u64
     (window.simd_eq(u8x16::splat(b'"')) | window.simd_eq(u8x16::splat(b'\\'))).to_bitmask()
 }
 
-/// How many of sixteen bytes stand before the first quote or backslash: sixteen where there is none.
-#[inline(always)]
-fn plain_lanes(window: u8x16) -> usize
-    ensures value { result ≡ prefix_len is_plain window }
-    ensures within { result ≤ 16 }
-{
-    let found = stops(window);
-    if found == 0 {
-        16
-    } else {
-        found.trailing_zeros() as usize
-    }
-}
-
 /// The offset of the first quote or backslash from `from` on, or the length.
 #[inline(always)]
 pub(crate) fn plain_end(buffer: &[u8], from: usize) -> usize
@@ -39,9 +25,9 @@ pub(crate) fn plain_end(buffer: &[u8], from: usize) -> usize
 {
     let mut at = from;
     while buffer.len() - at >= 16 {
-        let plain = plain_lanes(u8x16::from_slice(&buffer[at..]));
-        if plain < 16 {
-            return at + plain;
+        let found = stops(u8x16::from_slice(&buffer[at..]));
+        if found != 0 {
+            return at + found.trailing_zeros() as usize;
         }
         at += 16;
     }
@@ -75,20 +61,6 @@ fn others(window: u8x16) -> u64
     (!blank).to_bitmask()
 }
 
-/// How many of sixteen bytes stand before the first that is no white space: sixteen where there is none.
-#[inline(always)]
-fn blank_lanes(window: u8x16) -> usize
-    ensures value { result ≡ prefix_len is_blank window }
-    ensures within { result ≤ 16 }
-{
-    let found = others(window);
-    if found == 0 {
-        16
-    } else {
-        found.trailing_zeros() as usize
-    }
-}
-
 /// The offset of the first byte from `from` on that is no white space, or the length.
 #[inline(always)]
 pub(crate) fn space_end(buffer: &[u8], from: usize) -> usize
@@ -98,9 +70,9 @@ pub(crate) fn space_end(buffer: &[u8], from: usize) -> usize
 {
     let mut at = from;
     while buffer.len() - at >= 16 {
-        let blank = blank_lanes(u8x16::from_slice(&buffer[at..]));
-        if blank < 16 {
-            return at + blank;
+        let other = others(u8x16::from_slice(&buffer[at..]));
+        if other != 0 {
+            return at + other.trailing_zeros() as usize;
         }
         at += 16;
     }

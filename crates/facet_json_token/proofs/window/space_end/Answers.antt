@@ -1,19 +1,27 @@
 -- A window of white space alone is passed, and in another the run ends.
-use Rattle.std.proofs.Common.{arith}
-use Rattle.facet_json_token.specs.Inner.Window.{is_blank}
-use Rattle.facet_json_token.proofs.Windows.{run_through, run_stops}
+use Rattle.std.proofs.Common.{◌<◌, ap, arith}
+use lib.Count.{count_trailing_zeros}
+use Rattle.facet_json_token.specs.Inner.Window.{is_no_space}
+use Rattle.facet_json_token.proofs.Windows.{mask_through, mask_stops, mask_within}
 use Rattle.facet_json_token.proofs.window.space_end.Goals as goal
 
-pub returns-then-blank-lt16-clause-value : goal.returns-then-blank-lt16-clause-value
-returns-then-blank-lt16-clause-value c =
-    let blank = c.blank_lanes-blank.ensures in
-    let run = run_stops is_blank c.args.buffer.now c.loop-at.at 16 (omega arith) (omega (arith, blank.value)) in
-    omega (arith, run, blank.value, c.loop-at.invariant.same)
+first_bit : (c : goal.Then-other-ne0) → count_trailing_zeros 64 c.others-other.result < 16
+first_bit c =
+    let mask = c.others-other.ensures in
+    omega (arith, ap (count_trailing_zeros 64) mask, mask_within is_no_space c.args.buffer.now c.loop-at.at 16 (omega arith) (omega arith) (omega (arith, mask)))
+
+pub returns-then-other-ne0-clause-value : goal.returns-then-other-ne0-clause-value
+returns-then-other-ne0-clause-value c =
+    let mask = c.others-other.ensures in
+    let run = mask_stops is_no_space c.args.buffer.now c.loop-at.at 16 (omega arith) (omega arith) (omega (arith, mask)) in
+    omega (arith, run, ap (count_trailing_zeros 64) mask, c.loop-at.invariant.same)
+
+pub returns-then-other-ne0-clause-within : goal.returns-then-other-ne0-clause-within
+returns-then-other-ne0-clause-within c = omega (arith, first_bit c)
 
 pub loop-at-preserved : goal.loop-at-preserved
 loop-at-preserved c =
-    let blank = c.blank_lanes-blank.ensures in
-    let run = run_through is_blank c.args.buffer.now c.loop-at.at 16 (omega arith) (omega (arith, blank.value, blank.within)) in
+    let run = mask_through is_no_space c.args.buffer.now c.loop-at.at 16 (omega arith) (omega (arith, c.others-other.ensures)) in
     record {
       ahead = omega (arith, c.loop-at.invariant.ahead);
       within = omega arith;
