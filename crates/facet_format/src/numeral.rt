@@ -45,6 +45,7 @@ impl Model for Parts {
 
 impl Parts {
     /// How long the number is.
+    #[inline(always)]
     pub fn len(self) -> usize
         ensures { result ≡ parts_len self }
     {
@@ -52,6 +53,7 @@ impl Parts {
     }
 
     /// Where the digits start, or would start: after the minus.
+    #[inline(always)]
     pub fn digits_start(self) -> usize
         ensures { result ≡ self.sign }
     {
@@ -59,6 +61,7 @@ impl Parts {
     }
 
     /// Where the exponent starts, or would start.
+    #[inline(always)]
     pub fn exponent_start(self) -> usize
         ensures { result ≡ self.sign + self.digits + self.fraction }
     {
@@ -66,6 +69,7 @@ impl Parts {
     }
 
     /// Whether an exponent stands there.
+    #[inline(always)]
     pub fn has_exponent(self) -> bool
         ensures { result ≡ is_some_len self.exponent }
     {
@@ -73,6 +77,7 @@ impl Parts {
     }
 
     /// Whether nothing but a minus stands there, or nothing.
+    #[inline(always)]
     pub fn is_bare(self) -> bool
         ensures { result ≡ is_bare self }
     {
@@ -80,6 +85,7 @@ impl Parts {
     }
 
     /// What stands in the number.
+    #[inline(always)]
     pub fn hint(self) -> NumberHint
         ensures { hint_of result ≡ parts_hint self }
     {
@@ -117,6 +123,7 @@ fn begins_number(text: &[u8]) -> bool
 }
 
 /// The parts of the longest number at `at`.
+#[inline(always)]
 pub fn parts_at(buffer: &[u8], at: usize) -> Parts
     requires { at ≤ length buffer.now }
     ensures parts { result ≡ parts (drop at buffer.now) }
@@ -135,6 +142,7 @@ pub fn parts_at(buffer: &[u8], at: usize) -> Parts
 }
 
 /// The offset after the minus, if one stands at `at`.
+#[inline(always)]
 fn minus_end(buffer: &[u8], at: usize) -> usize
     requires { at ≤ length buffer.now }
     ensures end { result ≡ at + minus_len (drop at buffer.now) }
@@ -147,6 +155,7 @@ fn minus_end(buffer: &[u8], at: usize) -> usize
 }
 
 /// The offset after the digits at `at`.
+#[inline(always)]
 fn digits_end(buffer: &[u8], at: usize) -> usize
     requires { at ≤ length buffer.now }
     ensures end { result ≡ at + digits_len (drop at buffer.now) }
@@ -160,6 +169,7 @@ fn digits_end(buffer: &[u8], at: usize) -> usize
 }
 
 /// The offset after the fraction, if one stands at `at`.
+#[inline(always)]
 fn fraction_end(buffer: &[u8], at: usize) -> usize
     requires { at ≤ length buffer.now }
     ensures end { result ≡ at + fraction_len (drop at buffer.now) }
@@ -172,6 +182,7 @@ fn fraction_end(buffer: &[u8], at: usize) -> usize
 }
 
 /// The offset after the exponent, if one stands at `at`.
+#[inline(always)]
 fn exponent_end(buffer: &[u8], at: usize) -> usize
     requires { at ≤ length buffer.now }
     ensures end { result ≡ at + exponent_len (drop at buffer.now) }
@@ -184,6 +195,7 @@ fn exponent_end(buffer: &[u8], at: usize) -> usize
 }
 
 /// The offset after the sign of an exponent, if one stands at `at`.
+#[inline(always)]
 fn sign_end(buffer: &[u8], at: usize) -> usize
     requires { at ≤ length buffer.now }
     ensures end { result ≡ at + sign_len (drop at buffer.now) }

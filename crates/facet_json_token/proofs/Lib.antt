@@ -2,6 +2,7 @@ pub mod CutBounds
 pub mod FirstBytes
 pub mod GapSteps
 pub mod Gaps
+pub mod InSight
 pub mod Lanes
 pub mod NumberCuts
 pub mod Offsets

@@ -3,6 +3,7 @@
 //! buffer that grows, and `facet_json_scan` gathers all of them.
 #![tactic(auto)]
 
+mod in_sight;
 mod mode;
 pub mod plain_cut;
 pub mod quick;

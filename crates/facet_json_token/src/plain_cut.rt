@@ -14,6 +14,7 @@ ghost use Rattle.facet_json_token.specs.Cut as spec_cut;
 ghost use Rattle.facet_json_token.specs.Views.{mode_of, kind_of, scanned};
 ghost use Rattle.facet_format.specs.Views.{span_of};
 
+use crate::in_sight::{past_space, token_in_sight};
 use crate::mode::Mode;
 use crate::token::{ScanError, ScanErrorKind, ScanResult, SpannedToken, Token};
 use crate::window::plain_end;
@@ -28,7 +29,34 @@ use facet_format::numeral::{NumberHint, parts_at};
 /// cut(b" [1]", 4, Mode::Plain)    Ok: Token::Eof, span 4+0
 /// cut(b"trux", 0, Mode::Plain)    Err: ScanErrorKind::UnexpectedChar('x'), span 3+1
 /// ```
+#[inline(always)]
 pub fn cut(buffer: &[u8], position: usize, mode: Mode) -> ScanResult
+    requires { position ≤ length buffer.now }
+    ensures answer { scanned result ≡ Some (spec_cut.cut buffer.now position (mode_of mode)) }
+    ensures end { IfOk result (λ t. t.token ≡ Token.Eof → span_of t.span ≡ span_at (length buffer.now) 0) }
+{
+    let at = past_space(buffer, position);
+    match token_in_sight(buffer, at) {
+        Some(token) => Ok(token),
+        None => cut_apart(buffer, at, mode),
+    }
+}
+
+/// Does the same, apart from the code that cuts what is in sight: its answer is a value of its own, so that a token in
+/// sight, which never passes through this, needs no memory.
+#[inline(always)]
+fn cut_apart(buffer: &[u8], position: usize, mode: Mode) -> ScanResult
+    requires { position ≤ length buffer.now }
+    ensures answer { scanned result ≡ Some (spec_cut.cut buffer.now position (mode_of mode)) }
+    ensures end { IfOk result (λ t. t.token ≡ Token.Eof → span_of t.span ≡ span_at (length buffer.now) 0) }
+{
+    let result = cut_out_of_line(buffer, position, mode);
+    result
+}
+
+/// Does the same for everything that may stand there.
+#[inline(never)]
+fn cut_out_of_line(buffer: &[u8], position: usize, mode: Mode) -> ScanResult
     requires { position ≤ length buffer.now }
     ensures answer { scanned result ≡ Some (spec_cut.cut buffer.now position (mode_of mode)) }
     ensures end { IfOk result (λ t. t.token ≡ Token.Eof → span_of t.span ≡ span_at (length buffer.now) 0) }
@@ -131,6 +159,7 @@ pub fn line_end(buffer: &[u8], from: usize) -> Option<usize>
 // ---- the token
 
 /// Cuts the token or the fault whose first byte is `first`, at `at`.
+#[inline(always)]
 pub fn cut_token(buffer: &[u8], at: usize, first: u8, mode: Mode) -> ScanResult
     requires { slice_get buffer.now at ≡ Some first }
     ensures { scanned result ≡ Some (cut_here (mode_of mode) at (drop at buffer.now)) }
@@ -153,6 +182,7 @@ pub fn cut_token(buffer: &[u8], at: usize, first: u8, mode: Mode) -> ScanResult
 }
 
 /// A token of `len` bytes at `at`.
+#[inline(always)]
 pub fn token_at(token: Token, at: usize, len: usize) -> ScanResult
     ensures { (k : Kind) → kind_of token ≡ Some k → scanned result ≡ Some (spec_cut.token_at k at len) }
 {
@@ -163,6 +193,8 @@ pub fn token_at(token: Token, at: usize, len: usize) -> ScanResult
 }
 
 /// The fault that this byte stands at `at`.
+#[cold]
+#[inline(never)]
 fn unexpected_char(byte: u8, at: usize) -> ScanResult
     ensures { scanned result ≡ Some (fault_at (spec_token.unexpected_char byte) at 1) }
 {
@@ -173,6 +205,8 @@ fn unexpected_char(byte: u8, at: usize) -> ScanResult
 }
 
 /// The fault that the input ends inside of what the text names, which starts at `at`.
+#[cold]
+#[inline(never)]
 fn unexpected_eof(buffer: &[u8], at: usize, inside: &'static str) -> ScanResult
     requires { at ≤ length buffer.now }
     ensures { scanned result ≡ Some (fault_at (spec_token.unexpected_eof inside.now) at (length (drop at buffer.now))) }
@@ -184,6 +218,7 @@ fn unexpected_eof(buffer: &[u8], at: usize, inside: &'static str) -> ScanResult
 }
 
 /// Cuts the string whose quote is at `at`.
+#[inline(always)]
 fn cut_text(buffer: &[u8], at: usize) -> ScanResult
     requires { at < length buffer.now }
     ensures { let bytes = drop (at + 1) buffer.now in scanned result
@@ -224,6 +259,7 @@ fn after_escape(buffer: &[u8], at: usize) -> usize
 }
 
 /// Cuts the literal of these letters at `at`.
+#[inline(always)]
 pub fn cut_word(buffer: &[u8], at: usize, word: &[u8], token: Token) -> ScanResult
     requires { at ≤ length buffer.now }
     ensures { let bytes = drop at buffer.now in (k : Kind) → kind_of token ≡ Some k
@@ -240,6 +276,7 @@ pub fn cut_word(buffer: &[u8], at: usize, word: &[u8], token: Token) -> ScanResu
 }
 
 /// How many bytes at `at` are letters of the word, from its first on.
+#[inline(always)]
 pub fn common_len(buffer: &[u8], at: usize, word: &[u8]) -> usize
     requires { at ≤ length buffer.now }
     ensures len { result ≡ spec_cut.common_len word.now (drop at buffer.now) }
@@ -256,6 +293,7 @@ pub fn common_len(buffer: &[u8], at: usize, word: &[u8]) -> usize
 }
 
 /// Cuts the number, or the bare minus, at `at`.
+#[inline(always)]
 pub fn cut_number(buffer: &[u8], at: usize) -> ScanResult
     requires { at < length buffer.now }
     ensures { let p = parts (drop at buffer.now) in scanned result
@@ -275,6 +313,8 @@ pub fn cut_number(buffer: &[u8], at: usize) -> ScanResult
 }
 
 /// The fault of a minus at `at` with no number after it.
+#[cold]
+#[inline(never)]
 fn cut_bare_minus(buffer: &[u8], at: usize) -> ScanResult
     requires { at < length buffer.now }
     ensures { scanned result ≡ Some (spec_cut.cut_bare_minus at (drop (at + 1) buffer.now)) }
@@ -286,6 +326,8 @@ fn cut_bare_minus(buffer: &[u8], at: usize) -> ScanResult
 }
 
 /// The fault of a slash at `at` that opens no closed comment.
+#[cold]
+#[inline(never)]
 fn cut_slash(buffer: &[u8], at: usize, mode: Mode) -> ScanResult
     requires { slice_get buffer.now at ≡ Some slash }
     ensures { scanned result ≡ Some (spec_cut.cut_slash (mode_of mode) at (drop (at + 1) buffer.now)) }

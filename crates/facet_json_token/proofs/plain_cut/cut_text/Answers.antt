@@ -1,7 +1,7 @@
 -- From stop to stop, to the quote that closes the string.
-use Rattle.std.proofs.Common.{◌≡◌, ◌+◌, false, drop, Some, ap, sym, ◌∙◌, refl, arith}
+use Rattle.std.proofs.Common.{◌≡◌, ◌+◌, false, drop, Some, ap, ◌∙◌, refl, arith}
 use Rattle.std.specs.Option.{option_map}
-use Rattle.facet_format.specs.Bytes.{quote, backslash}
+use Rattle.facet_format.specs.Bytes.{quote}
 use Rattle.facet_json_token.specs.Token.{string}
 use Rattle.facet_json_token.specs.Cut.{content_len}
 use Rattle.facet_json_token.proofs.Offsets.{slice_get-from_read}

@@ -1,19 +1,27 @@
 -- A window of plain bytes alone is passed, and in another the run ends.
-use Rattle.std.proofs.Common.{arith}
-use Rattle.facet_json_token.specs.Inner.Window.{is_plain}
-use Rattle.facet_json_token.proofs.Windows.{run_bound, run_through, run_stops}
+use Rattle.std.proofs.Common.{◌<◌, ap, arith}
+use lib.Count.{count_trailing_zeros}
+use Rattle.facet_json_token.specs.Inner.Window.{is_stop}
+use Rattle.facet_json_token.proofs.Windows.{mask_through, mask_stops, mask_within}
 use Rattle.facet_json_token.proofs.window.plain_end.Goals as goal
 
-pub returns-then-plain-lt16-clause-value : goal.returns-then-plain-lt16-clause-value
-returns-then-plain-lt16-clause-value c =
-    let plain = c.plain_lanes-plain.ensures in
-    let run = run_stops is_plain c.args.buffer.now c.loop-at.at 16 (omega arith) (omega (arith, plain.value)) in
-    omega (arith, run, plain.value, c.loop-at.invariant.same)
+first_bit : (c : goal.Then-found-ne0) → count_trailing_zeros 64 c.stops-found.result < 16
+first_bit c =
+    let mask = c.stops-found.ensures in
+    omega (arith, ap (count_trailing_zeros 64) mask, mask_within is_stop c.args.buffer.now c.loop-at.at 16 (omega arith) (omega arith) (omega (arith, mask)))
+
+pub returns-then-found-ne0-clause-value : goal.returns-then-found-ne0-clause-value
+returns-then-found-ne0-clause-value c =
+    let mask = c.stops-found.ensures in
+    let run = mask_stops is_stop c.args.buffer.now c.loop-at.at 16 (omega arith) (omega arith) (omega (arith, mask)) in
+    omega (arith, run, ap (count_trailing_zeros 64) mask, c.loop-at.invariant.same)
+
+pub returns-then-found-ne0-clause-within : goal.returns-then-found-ne0-clause-within
+returns-then-found-ne0-clause-within c = omega (arith, first_bit c)
 
 pub loop-at-preserved : goal.loop-at-preserved
 loop-at-preserved c =
-    let plain = c.plain_lanes-plain.ensures in
-    let run = run_through is_plain c.args.buffer.now c.loop-at.at 16 (omega arith) (omega (arith, plain.value, plain.within)) in
+    let run = mask_through is_stop c.args.buffer.now c.loop-at.at 16 (omega arith) (omega (arith, c.stops-found.ensures)) in
     record {
       ahead = omega (arith, c.loop-at.invariant.ahead);
       within = omega arith;

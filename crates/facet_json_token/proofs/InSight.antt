@@ -1,0 +1,132 @@
+-- What stands in sight: white space leaves the end of the gap where it is, and a byte that begins no piece of a gap ends it.
+use Rattle.std.proofs.Common.{◌≡◌, ◌≢◌, ℕ, suc, ◌+◌, ◌<◌, ◌≤◌, Bool, true, false, not, cond, eqb, List, [], ◌∷◌, length, drop, slice_get, Option, Some, None, Ok, IfSome, refl, ap, sym, ◌∙◌, arith}
+use Rattle.std.proofs.lemmas.List.{drop-drop}
+use Rattle.std.proofs.lemmas.Bool.{ne_eqb, eq-eqb}
+use Rattle.std.proofs.lemmas.Option.{slice_get_within}
+use Rattle.std.specs.List.{prefix_len}
+use Rattle.facet_format.specs.Bytes.{is_space, slash, space, tab, line_feed, carriage_return, minus}
+use Rattle.facet_format.specs.Number.{parts}
+use Rattle.facet_format.specs.Views.{span_of}
+use Rattle.facet_format.specs.declared.span.Span.{Span as RustSpan}
+use Rattle.facet_json_token.specs.Gap.{Mode, plain, jsonc, whole, piece_len, gap_len}
+use Rattle.facet_json_token.specs.Cut.{Cut, Start, letter, start_of, token_at, cut_by, cut_word, common_len, past_gap, cut_here, cut}
+use Rattle.facet_json_token.specs.Token.{Kind}
+use Rattle.facet_json_token.specs.declared.token.Token.{Token as RustToken}
+use Rattle.facet_json_token.specs.declared.token.Token.TheVariants as code
+use Rattle.facet_json_token.specs.declared.token.SpannedToken.{SpannedToken}
+use Rattle.facet_json_token.specs.Views.{kind_of, with_span, token_answer, scanned}
+use Rattle.facet_json_token.specs.Inner.InSight.{told}
+use Rattle.facet_json_token.specs.Inner.Window.{is_blank}
+use Rattle.facet_json_token.proofs.Offsets.{drop-at_byte}
+use Rattle.facet_json_token.proofs.FirstBytes.{cut_here-by, cut_here-word, cut_here-number, start_of-number_range}
+use Rattle.facet_json_token.proofs.NumberCuts.{number_at}
+use Rattle.facet_json_token.proofs.Gaps.{piece_len-blank, gap_len-none, gap_len-piece}
+use Rattle.facet_json_token.proofs.GapSteps.{past_gap-piece}
+
+-- ---- white space
+
+blank-step : (mode : Mode) (b k : ℕ) (bytes : List ℕ) (v : Bool) → is_space b ≡ v →
+    gap_len mode whole bytes ≡ k + gap_len mode whole (drop k bytes) →
+    gap_len mode whole (b ∷ bytes) ≡ cond (not (not v)) (1 + k) 0 + gap_len mode whole (drop (cond (not (not v)) (1 + k) 0) (b ∷ bytes))
+blank-step mode b k bytes true e ih =
+    let piece = gap_len-piece mode whole 1 (b ∷ bytes) (piece_len-blank mode whole b bytes e) (omega arith) in
+    let next : suc k ≡ 1 + k = omega arith in
+    omega (arith, piece, ih, ap (λ j. gap_len mode whole (drop j (b ∷ bytes))) next)
+blank-step mode b k bytes false e ih = omega arith
+
+gap_len-blanks : (mode : Mode) (bytes : List ℕ) →
+    gap_len mode whole bytes ≡ prefix_len is_blank bytes + gap_len mode whole (drop (prefix_len is_blank bytes) bytes)
+gap_len-blanks mode [] = omega arith
+gap_len-blanks mode (b ∷ bytes) =
+    blank-step mode b (prefix_len is_blank bytes) bytes (is_space b) refl (gap_len-blanks mode bytes)
+
+-- after a run of white space the gap ends where it ended before it
+pub past_gap-blanks : (mode : Mode) (buffer : List ℕ) (at end : ℕ) → end ≡ at + prefix_len is_blank (drop at buffer) →
+    past_gap buffer end mode ≡ past_gap buffer at mode
+past_gap-blanks mode buffer at end e =
+    let k = prefix_len is_blank (drop at buffer) in
+    ap (λ n. past_gap buffer n mode) e
+    ∙ omega (arith, gap_len-blanks mode (drop at buffer), ap (gap_len mode whole) (drop-drop k at buffer))
+
+-- and after one space
+pub past_gap-space : (mode : Mode) (buffer : List ℕ) (at : ℕ) → slice_get buffer at ≡ Some space →
+    past_gap buffer (at + 1) mode ≡ past_gap buffer at mode
+past_gap-space mode buffer at h =
+    let one = sym (ap (piece_len mode whole) (drop-at_byte buffer at space h) ∙ piece_len-blank mode whole space (drop (at + 1) buffer) refl) in
+    past_gap-piece mode buffer at 1 one (omega (arith, slice_get_within buffer at space h))
+
+-- ---- where no piece of a gap stands
+
+no_piece : (mode : Mode) (b : ℕ) (bytes : List ℕ) → is_space b ≡ false → eqb b slash ≡ false →
+    piece_len mode whole (b ∷ bytes) ≡ 0
+no_piece plain b bytes s e = ap (λ v. cond v 1 0) s
+no_piece jsonc b [] s e = ap (λ v. cond v 1 0) s
+no_piece jsonc b (c ∷ bytes) s e = rw (s, e) refl
+
+-- what is cut there is what stands there
+pub cut-here : (mode : Mode) (buffer : List ℕ) (at b : ℕ) → slice_get buffer at ≡ Some b → is_space b ≡ false →
+    eqb b slash ≡ false → cut_here mode at (drop at buffer) ≡ cut buffer at mode
+unfolding cut
+cut-here mode buffer at b h s e =
+    let none = gap_len-none mode whole (drop at buffer)
+    (ap (piece_len mode whole) (drop-at_byte buffer at b h) ∙ no_piece mode b (drop (at + 1) buffer) s e) in
+    let here : at ≡ past_gap buffer at mode = omega (arith, none) in
+    ap (λ n. cut_here mode n (drop n buffer)) here
+
+-- from within a gap the same is cut as from its start
+pub cut-within_gap : (mode : Mode) (buffer : List ℕ) (at position : ℕ) →
+    past_gap buffer at mode ≡ past_gap buffer position mode → cut buffer at mode ≡ cut buffer position mode
+unfolding cut
+cut-within_gap mode buffer at position e = ap (λ n. cut_here mode n (drop n buffer)) e
+
+-- what begins there is cut
+pub cut-by : (buffer : List ℕ) (at b : ℕ) (start : Start) → slice_get buffer at ≡ Some b → start_of b ≡ start →
+    is_space b ≡ false → eqb b slash ≡ false → (mode : Mode) → cut_by start mode at b (drop (at + 1) buffer) ≡ cut buffer at mode
+cut-by buffer at b start h e s n mode = cut_here-by mode buffer at b start h e ∙ cut-here mode buffer at b h s n
+
+-- a literal
+pub cut-word : (buffer : List ℕ) (at b : ℕ) (word : List ℕ) (kind : Kind) → slice_get buffer at ≡ Some b →
+    start_of b ≡ letter word kind → is_space b ≡ false → eqb b slash ≡ false → (mode : Mode) →
+    cut_word at (drop at buffer) word kind (common_len word (drop at buffer)) ≡ cut buffer at mode
+cut-word buffer at b word kind h e s n mode = cut_here-word mode buffer at b word kind h e ∙ cut-here mode buffer at b h s n
+
+above-space : (b : ℕ) → 0x20 < b → is_space b ≡ false
+above-space b h = rw (ne_eqb b space (λ e. omega (arith, h, e)), ne_eqb b tab (λ e. omega (arith, h, e)), ne_eqb b line_feed (λ e. omega (arith, h, e)), ne_eqb b carriage_return (λ e. omega (arith, h, e))) refl
+
+-- a number
+pub cut-number : (buffer : List ℕ) (at b : ℕ) → slice_get buffer at ≡ Some b → minus ≤ b → b ≤ 0x39 → b ≢ 0x2e → b ≢ slash →
+    (mode : Mode) → number_at at (drop (at + 1) buffer) (parts (drop at buffer)) ≡ cut buffer at mode
+cut-number buffer at b h low high no_dot no_slash mode =
+    cut_here-number mode buffer at b h (start_of-number_range b low high no_dot no_slash)
+    ∙ cut-here mode buffer at b h (above-space b (omega (arith, low))) (ne_eqb b slash no_slash)
+
+-- a literal all of whose letters stand there
+pub cut_word-whole : (at : ℕ) (bytes word : List ℕ) (k : Kind) (n len : ℕ) → len ≡ n → len ≡ length word →
+    token_at k at len ≡ cut_word at bytes word k n
+cut_word-whole at bytes word k n len e all = ap (token_at k at) e ∙ sym (rw (eq-eqb n (length word) (sym e ∙ all)) refl)
+
+-- ---- the answer
+
+-- what is told, by what it is
+pub told-is : (found : Option SpannedToken) (x y : Cut) → IfSome found (λ t. told t ≡ Some x) → x ≡ y →
+    IfSome found (λ t. told t ≡ Some y)
+told-is None x y h e = tt
+told-is (Some t) x y h e = h ∙ ap Some e
+
+pub told-cut : (found : Option SpannedToken) (x : Cut) (buffer : List ℕ) (at : ℕ) → IfSome found (λ t. told t ≡ Some x) →
+    ((mode : Mode) → x ≡ cut buffer at mode) → IfSome found (λ t. (mode : Mode) → told t ≡ Some (cut buffer at mode))
+told-cut None x buffer at h e = tt
+told-cut (Some t) x buffer at h e = λ mode. h ∙ ap Some (e mode)
+
+answer-told : (s : RustSpan) (t : RustToken) (c : Cut) → with_span (span_of s) (kind_of t) ≡ Some c → token_answer s t ≡ Some c
+answer-told s code.Eof c e = cc
+answer-told s t c e = e
+
+-- a token that is told is the answer
+pub scanned-told : (t : SpannedToken) (c : Cut) → told t ≡ Some c → scanned (Ok t) ≡ Some c
+scanned-told t c e = answer-told t.span t.token c e
+
+-- and is no end
+pub told-no_end : {P : Type 0} (t : SpannedToken) (c : Cut) → told t ≡ Some c → t.token ≡ code.Eof → P
+told-no_end t c e eof =
+    let none : None ≡ Some c = sym (ap (λ k. with_span (span_of t.span) (kind_of k)) eof) ∙ e in absurd (cc)
