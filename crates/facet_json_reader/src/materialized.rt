@@ -14,7 +14,7 @@ ghost use Rattle.facet_json_place.specs.Views.{refused_of, name_text};
 ghost use Rattle.facet_json_reader.specs.TokenViews.{number_in, holds_made, CanBeRead, IsContent, IsReadAs, IsRead, IsTextOf, IsUnmade, IsMeaningless};
 
 use facet_format::{Decimal, ScalarValue, Span};
-use facet_json_decode::{DecodeError, check_content, decode_string_borrowed, decode_string_owned};
+use facet_json_decode::{DecodeError, check_content, decode_string_owned, plain_text};
 use facet_json_number::{ParsedNumber, parse_number};
 use facet_json_place::{Name, Refused, Why};
 use facet_json_token::{SpannedToken, Token};
@@ -197,6 +197,7 @@ fn read_kind<'a>(
 
 /// The text of a string (RFC 8259, section 7) whose content is `buffer[start..end]`, or `None` where it has one and there
 /// was no memory for it. Content without an escape that is not UTF-8 is refused over the whole token, `span`.
+#[inline(always)]
 pub(crate) fn string_text<'a>(
     alloc: Global,
     buffer: &'a [u8],
@@ -211,20 +212,36 @@ pub(crate) fn string_text<'a>(
     ensures refused { IfErr result (λ r. IsMeaningless buffer.now (string start end has_escapes) (span_of span) (refused_of r)) }
 {
     if has_escapes {
-        return match decode_string_owned(alloc, buffer, start, end) {
-            Ok(text) => Ok(Some(CowStr::Owned(text))),
-            Err(DecodeError::Scan(error)) => Err(Refused::from(error)),
-            Err(DecodeError::OutOfMemory) => {
-                check_content(buffer, start, end)?;
-                Ok(None)
-            }
-        };
+        return escaped_text(alloc, buffer, start, end, span);
     }
-    match decode_string_borrowed(buffer, start, end) {
+    match plain_text(buffer, start, end) {
         Some(text) => Ok(Some(CowStr::Borrowed(text))),
         None => Err(Refused {
             why: Why::InvalidUtf8,
             span,
         }),
+    }
+}
+
+/// The text of a string in whose content a backslash stands, or `None` where it has one and there was no memory for it.
+fn escaped_text<'a>(
+    alloc: Global,
+    buffer: &'a [u8],
+    start: usize,
+    end: usize,
+    span: Span,
+) -> Result<Option<CowStr<'a>>, Refused>
+    requires { IsContent buffer.now span start end true }
+    ensures text { IfOk result (λ o. MatchOption o (IsUnmade buffer.now (string start end true))
+        (λ s. IsTextOf buffer.now (string start end true) (text_of s))) }
+    ensures refused { IfErr result (λ r. IsMeaningless buffer.now (string start end true) (span_of span) (refused_of r)) }
+{
+    match decode_string_owned(alloc, buffer, start, end) {
+        Ok(text) => Ok(Some(CowStr::Owned(text))),
+        Err(DecodeError::Scan(error)) => Err(Refused::from(error)),
+        Err(DecodeError::OutOfMemory) => {
+            check_content(buffer, start, end)?;
+            Ok(None)
+        }
     }
 }
