@@ -15,7 +15,7 @@ ghost use Rattle.facet_json_reader.specs.TokenViews.{number_in, holds_made, CanB
 
 use facet_format::{Decimal, ScalarValue, Span};
 use facet_json_decode::{DecodeError, check_content, decode_string_owned, plain_text};
-use facet_json_number::{ParsedNumber, parse_number};
+use facet_json_number::{ParsedNumber, parse_measured};
 use facet_json_place::{Name, Refused, Why};
 use facet_json_token::{SpannedToken, Token};
 use std::alloc::{AllocError, Global};
@@ -70,6 +70,7 @@ pub struct MaterializedToken<'a> {
 impl<'a> From<ParsedNumber<'a>> for TokenKind<'a> {
     ghost from_gives = { λ number kind. (number_in kind ≡ Some (number_of number)) × (holds_made kind ≡ is_made_number number) };
 
+    #[inline(always)]
     fn from(number: ParsedNumber<'a>) -> Self {
         match number {
             ParsedNumber::U64(n) => TokenKind::U64(n),
@@ -137,6 +138,7 @@ fn digits<N: itoa::Integer>(alloc: Global, n: N) -> Result<String, AllocError>
 
 /// A token of the buffer with what it stands for, or `None` where it is a string with an escape for whose text there was
 /// no memory. Nothing else allocates.
+#[inline(always)]
 pub(crate) fn materialize<'a>(
     alloc: Global,
     buffer: &'a [u8],
@@ -157,6 +159,7 @@ pub(crate) fn materialize<'a>(
 }
 
 /// What a token of the buffer stands for, or `None` where there was no memory for its text.
+#[inline(always)]
 fn read_kind<'a>(
     alloc: Global,
     buffer: &'a [u8],
@@ -187,7 +190,7 @@ fn read_kind<'a>(
             None => Ok(None),
         },
         Token::Number { start, end, hint } => {
-            let number = parse_number(buffer, start, end, hint)?;
+            let number = parse_measured(buffer, start, end, hint)?;
             Ok(Some(TokenKind::from(number)))
         }
         Token::Eof => Ok(Some(TokenKind::Eof)),
