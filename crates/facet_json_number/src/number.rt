@@ -185,7 +185,7 @@ fn decimal_number<'a>(text: &'a [u8]) -> Option<ParsedNumber<'a>>
 {
     // All bytes of a number are ASCII.
     let text = unsafe { str::from_utf8_unchecked(text) };
-    match Decimal::new(text) {
+    match Decimal::of_number(text) {
         Some(decimal) => Some(ParsedNumber::Decimal(decimal)),
         None => None,
     }
