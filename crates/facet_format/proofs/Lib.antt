@@ -6,5 +6,6 @@ pub mod NumberPrefixes
 pub mod NumberLaws
 pub mod NumberSteps
 pub mod NumberText
+pub mod OuterDigits
 pub mod RefusalKinds
 pub mod StepsAlike

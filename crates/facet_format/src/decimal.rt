@@ -1,12 +1,12 @@
 //! Numbers that are kept as their text: those with a fraction or an exponent.
 
-ghost use Rattle.std.specs.Prelude.{◌≡◌, ◌≤◌, true, false, Some, None, length, MatchOption, MatchResult, nat_eq};
+ghost use Rattle.std.specs.Prelude.{◌≡◌, ◌-◌, ◌<◌, ◌≤◌, ◌&&◌, true, false, Some, None, length, slice_index, MatchOption, MatchResult, nat_eq};
 ghost use Rattle.std.specs.List.{list_any};
 ghost use Rattle.std.specs.Cmp.{partial_equiv_from_equiv, on_per, on_equiv};
 ghost use Rattle.std.specs.Cmp.Lexicographic.{pointwise, nat_list_eq_equiv};
 ghost use Rattle.facet_format.specs.Bytes.{is_digit};
 ghost use Rattle.facet_format.specs.Event.{borrowed, owned, bytes_of, is_owned};
-ghost use Rattle.facet_format.specs.Number.{number, is_number, float, decimal, has_value, ArePartsOf};
+ghost use Rattle.facet_format.specs.Number.{number, is_number, minus_len, float, decimal, has_value, ArePartsOf};
 
 use crate::event::copy_text;
 use crate::numeral::{NumberHint, Parts, number_parts};
@@ -64,6 +64,22 @@ impl<'a> Decimal<'a> {
         Decimal::from_number(text, parts)
     }
 
+    /// The same for a text that is known to be a number with a fraction or an exponent. It is measured only where it doesn't begin
+    /// and end with a digit.
+    #[inline(always)]
+    pub fn of_number(text: &'a str) -> Option<Decimal<'a>>
+        requires { is_number text.now float ≡ true }
+        ensures { MatchOption result
+            (number text.now float ≡ None)
+            (λ d. (d ≡ borrowed text.now) × (number text.now float ≡ Some (decimal text.now))) }
+    {
+        if has_outer_digits(text.as_bytes()) {
+            Some(Decimal(CowStr::Borrowed(text)))
+        } else {
+            Decimal::new(text)
+        }
+    }
+
     /// The same for a text that is a number with a fraction or an exponent, of these parts.
     fn from_number(text: &'a str, parts: Parts) -> Option<Decimal<'a>>
         requires is_number { is_number text.now float ≡ true }
@@ -108,6 +124,27 @@ impl<'a> Decimal<'a> {
             },
         }
     }
+}
+
+/// Whether a digit stands first, or first after a minus, and a digit stands last.
+#[inline(always)]
+fn has_outer_digits(text: &[u8]) -> bool
+    requires { 0 < length text.now }
+    ensures { result ≡ (is_digit (slice_index text.now (minus_len text.now)) && is_digit (slice_index text.now (length text.now - 1))) }
+{
+    let first = match text.first() {
+        Some(b'-') => 1,
+        _ => 0,
+    };
+    digit_at(text, first) && digit_at(text, text.len() - 1)
+}
+
+/// Whether a digit stands at that place.
+#[inline(always)]
+fn digit_at(text: &[u8], at: usize) -> bool
+    ensures { result ≡ is_digit (slice_index text.now at) }
+{
+    matches!(text.get(at), Some(b'0'..=b'9'))
 }
 
 /// Whether a digit stands before any exponent mark, and one after it, in a number of these parts.

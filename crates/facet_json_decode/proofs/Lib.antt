@@ -1,3 +1,4 @@
+pub mod AsciiRuns
 pub mod BackslashWindows
 pub mod CharAt
 pub mod DecodeLaws

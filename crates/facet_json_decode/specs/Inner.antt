@@ -1,3 +1,4 @@
 -- Definitions that serve private contracts alone.
+pub mod Ascii
 pub mod FirstFault
 pub mod Run

@@ -12,6 +12,8 @@ ghost use Rattle.facet_json_decode.specs.Inner.Run.{StopsBeingText};
 mod escape;
 mod unchecked;
 
+use crate::ascii::ascii_text;
+use crate::plain::{plain_text, plain_text_unchecked};
 use crate::window::windows_end;
 use escape::escape_at;
 use facet_format::Span;
@@ -168,6 +170,9 @@ fn run_at(buf: &[u8], at: usize, stop: usize) -> Result<&str, ScanError>
     ensures none { IfErr result (λ _. IsUtf8 (slice_range buf.now at stop) → ⊥) }
     ensures refused { IfErr result (λ e. StopsBeingText (slice_range buf.now at stop) at e) }
 {
+    if let Some(text) = ascii_text(buf, at, stop) {
+        return Ok(text);
+    }
     match str::from_utf8(&buf[at..stop]) {
         Ok(text) => Ok(text),
         Err(error) => Err(ScanError {
@@ -217,7 +222,10 @@ fn borrowed_run(buf: &[u8], start: usize, end: usize, trust: Trust) -> Option<&s
     if run_end(buf, start, end) < end {
         return None;
     }
-    run_text(buf, start, end, trust).ok()
+    match trust {
+        Trust::Nothing => plain_text(buf, start, end),
+        Trust::Utf8 => Some(plain_text_unchecked(buf, start, end)),
+    }
 }
 
 /// Decodes the content of a string that stands in `buf[start..end]`: into a text of its own where `has_escapes` says

@@ -1,7 +1,9 @@
 //! The contents of JSON strings (RFC 8259, section 7) to their texts.
 #![tactic(auto)]
 
+mod ascii;
 mod decode;
+mod plain;
 mod refusal;
 mod window;
 
@@ -10,3 +12,4 @@ pub use decode::{
     decode_string_borrowed_unchecked, decode_string_owned, decode_string_owned_unchecked,
     decode_string_unchecked,
 };
+pub use plain::{plain_text, plain_text_unchecked};

@@ -1,1 +1,3 @@
+mod DigitValues
 mod ShortNumbers
+mod SignedNumbers

@@ -3,4 +3,4 @@
 
 mod number;
 
-pub use number::{ParsedNumber, parse_number, parse_number_unchecked};
+pub use number::{ParsedNumber, parse_measured, parse_number, parse_number_unchecked};

@@ -39,7 +39,12 @@ CanBeRead-fits buffer s (code.String a b h) kind w k f =
 CanBeRead-fits buffer s (code.Number a b h) kind w k f =
     let g : NumberFits buffer (span_of s) a b (hint_of h) = subst (KindFits buffer (span_of s)) (sym (same_Some _ _ k)) f
     in
-    record { starts = g.starts; finishes = g.finishes; within = omega (arith, g.finishes) }
+    record {
+      starts = g.starts;
+      finishes = g.finishes;
+      within = omega (arith, g.finishes);
+      is_a_number = g.is_a_number;
+    }
 CanBeRead-fits buffer s (code.NeedMore n) kind w k f = cc
 CanBeRead-fits buffer s _ kind w k f = tt
 

@@ -11,9 +11,10 @@ use Rattle.facet_format.specs.Bytes.{backslash}
 use Rattle.facet_format.specs.Complaint.{Refusal}
 use Rattle.facet_format.specs.Event.{Text, bytes_of, is_owned}
 use Rattle.facet_format.specs.HeldText.{text_of}
-use Rattle.facet_format.specs.Number.{Number}
+use Rattle.facet_format.specs.Number.{Hint, Number, is_number}
 use Rattle.facet_format.specs.Number as numbers
 use Rattle.facet_format.specs.Span.{Span}
+use Rattle.facet_format.specs.Views.{hint_of}
 use Rattle.facet_json_token.specs.Token.{Kind}
 use Rattle.facet_json_token.specs.Token as token
 use Rattle.facet_json_document.specs.Meaning.{meaning_of}
@@ -32,16 +33,17 @@ pub record IsContent (buffer : List ℕ) (s : RustSpan) (start finish : ℕ) (ha
   pub within : finish ≤ length buffer
   pub escapes : has_escapes ≡ list_any (λ b. b == backslash) (slice_range buffer start finish)
 
--- The number that takes the span stands there.
-pub record IsNumberThere (buffer : List ℕ) (s : RustSpan) (start finish : ℕ) : Type 0 where
+-- A number with this hint takes the span.
+pub record IsNumberThere (buffer : List ℕ) (s : RustSpan) (start finish : ℕ) (hint : Hint) : Type 0 where
   pub starts : start ≡ s.offset
   pub finishes : finish ≡ s.offset + s.len
   pub within : finish ≤ length buffer
+  pub is_a_number : is_number (slice_range buffer start finish) hint ≡ true
 
 -- The slices that a token names are its own; it is no call for more bytes.
 abbrev pub CanBeRead : List ℕ → RustSpan → RustToken → Type 0
 CanBeRead buffer s (code.String start finish has_escapes) = IsContent buffer s start finish has_escapes
-CanBeRead buffer s (code.Number start finish h) = IsNumberThere buffer s start finish
+CanBeRead buffer s (code.Number start finish h) = IsNumberThere buffer s start finish (hint_of h)
 CanBeRead buffer s (code.NeedMore consumed) = ⊥
 CanBeRead buffer s _ = Unit {0}
 

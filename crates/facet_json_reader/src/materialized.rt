@@ -14,8 +14,8 @@ ghost use Rattle.facet_json_place.specs.Views.{refused_of, name_text};
 ghost use Rattle.facet_json_reader.specs.TokenViews.{number_in, holds_made, CanBeRead, IsContent, IsReadAs, IsRead, IsTextOf, IsUnmade, IsMeaningless};
 
 use facet_format::{Decimal, ScalarValue, Span};
-use facet_json_decode::{DecodeError, check_content, decode_string_borrowed, decode_string_owned};
-use facet_json_number::{ParsedNumber, parse_number};
+use facet_json_decode::{DecodeError, check_content, decode_string_owned, plain_text};
+use facet_json_number::{ParsedNumber, parse_measured};
 use facet_json_place::{Name, Refused, Why};
 use facet_json_token::{SpannedToken, Token};
 use std::alloc::{AllocError, Global};
@@ -70,6 +70,7 @@ pub struct MaterializedToken<'a> {
 impl<'a> From<ParsedNumber<'a>> for TokenKind<'a> {
     ghost from_gives = { λ number kind. (number_in kind ≡ Some (number_of number)) × (holds_made kind ≡ is_made_number number) };
 
+    #[inline(always)]
     fn from(number: ParsedNumber<'a>) -> Self {
         match number {
             ParsedNumber::U64(n) => TokenKind::U64(n),
@@ -137,6 +138,7 @@ fn digits<N: itoa::Integer>(alloc: Global, n: N) -> Result<String, AllocError>
 
 /// A token of the buffer with what it stands for, or `None` where it is a string with an escape for whose text there was
 /// no memory. Nothing else allocates.
+#[inline(always)]
 pub(crate) fn materialize<'a>(
     alloc: Global,
     buffer: &'a [u8],
@@ -157,6 +159,7 @@ pub(crate) fn materialize<'a>(
 }
 
 /// What a token of the buffer stands for, or `None` where there was no memory for its text.
+#[inline(always)]
 fn read_kind<'a>(
     alloc: Global,
     buffer: &'a [u8],
@@ -187,7 +190,7 @@ fn read_kind<'a>(
             None => Ok(None),
         },
         Token::Number { start, end, hint } => {
-            let number = parse_number(buffer, start, end, hint)?;
+            let number = parse_measured(buffer, start, end, hint)?;
             Ok(Some(TokenKind::from(number)))
         }
         Token::Eof => Ok(Some(TokenKind::Eof)),
@@ -197,6 +200,7 @@ fn read_kind<'a>(
 
 /// The text of a string (RFC 8259, section 7) whose content is `buffer[start..end]`, or `None` where it has one and there
 /// was no memory for it. Content without an escape that is not UTF-8 is refused over the whole token, `span`.
+#[inline(always)]
 pub(crate) fn string_text<'a>(
     alloc: Global,
     buffer: &'a [u8],
@@ -211,20 +215,36 @@ pub(crate) fn string_text<'a>(
     ensures refused { IfErr result (λ r. IsMeaningless buffer.now (string start end has_escapes) (span_of span) (refused_of r)) }
 {
     if has_escapes {
-        return match decode_string_owned(alloc, buffer, start, end) {
-            Ok(text) => Ok(Some(CowStr::Owned(text))),
-            Err(DecodeError::Scan(error)) => Err(Refused::from(error)),
-            Err(DecodeError::OutOfMemory) => {
-                check_content(buffer, start, end)?;
-                Ok(None)
-            }
-        };
+        return escaped_text(alloc, buffer, start, end, span);
     }
-    match decode_string_borrowed(buffer, start, end) {
+    match plain_text(buffer, start, end) {
         Some(text) => Ok(Some(CowStr::Borrowed(text))),
         None => Err(Refused {
             why: Why::InvalidUtf8,
             span,
         }),
+    }
+}
+
+/// The text of a string in whose content a backslash stands, or `None` where it has one and there was no memory for it.
+fn escaped_text<'a>(
+    alloc: Global,
+    buffer: &'a [u8],
+    start: usize,
+    end: usize,
+    span: Span,
+) -> Result<Option<CowStr<'a>>, Refused>
+    requires { IsContent buffer.now span start end true }
+    ensures text { IfOk result (λ o. MatchOption o (IsUnmade buffer.now (string start end true))
+        (λ s. IsTextOf buffer.now (string start end true) (text_of s))) }
+    ensures refused { IfErr result (λ r. IsMeaningless buffer.now (string start end true) (span_of span) (refused_of r)) }
+{
+    match decode_string_owned(alloc, buffer, start, end) {
+        Ok(text) => Ok(Some(CowStr::Owned(text))),
+        Err(DecodeError::Scan(error)) => Err(Refused::from(error)),
+        Err(DecodeError::OutOfMemory) => {
+            check_content(buffer, start, end)?;
+            Ok(None)
+        }
     }
 }

@@ -1,7 +1,7 @@
 use Rattle.std.proofs.Common.{arith}
 use Rattle.std.proofs.lemmas.Grind.{common_steps}
 use Rattle.facet_format.proofs.NumberText.{digit_at-above, digits_value-above}
-use Rattle.facet_json_number.proofs.number.parse_unsigned.Goals as goal
+use Rattle.facet_json_number.proofs.number.parse_long.Goals as goal
 
 pub overflow_sub-digit : goal.overflow_sub-digit
 overflow_sub-digit c = digit_at-above _ _ c.requires c.loop-digit-test.true

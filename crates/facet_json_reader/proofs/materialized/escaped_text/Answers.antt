@@ -1,0 +1,19 @@
+-- Where a content with a backslash is refused, by its first fault.
+use Rattle.std.proofs.Common.{true, refl}
+use Rattle.std.proofs.lemmas.Result.{err_from_is_err_and}
+use Rattle.facet_json_reader.proofs.MeaninglessTokens.{escaped_unread}
+use Rattle.facet_json_reader.proofs.materialized.escaped_text.Goals as goal
+
+pub returns-in_err-check_content-in-Err-OutOfMemory-clause-refused :
+    goal.returns-in_err-check_content-in-Err-OutOfMemory-clause-refused
+returns-in_err-check_content-in-Err-OutOfMemory-clause-refused c =
+    let a = c.args in
+    let e = c.in_err-check_content-in-Err-OutOfMemory in
+    let p = err_from_is_err_and c.from_residual.result c.from_residual.ensures.1 in
+    rw p.1 (escaped_unread a.buffer.now a.span a.start a.end true _ _ refl c.requires e.ensures.refused p.2)
+
+pub returns-in-Err-Scan-clause-refused : goal.returns-in-Err-Scan-clause-refused
+returns-in-Err-Scan-clause-refused c =
+    let a = c.args in
+    let r = rw c.in-Err-Scan.field-0-is at c.in-Err-Scan.ensures.refused in
+    escaped_unread a.buffer.now a.span a.start a.end true c.in-Err-Scan.error _ refl c.requires r c.from.ensures
