@@ -1,5 +1,5 @@
 -- What the token at an offset gives where the reader reaches it.
-use Rattle.std.proofs.Common.{◌≡◌, ℕ, ◌+◌, ◌-◌, ◌≤◌, ◌<◌, true, false, List, Option, Some, None, length, drop, slice_get, slice_range, refl, sym, ap, ap₂, ◌∙◌, arith}
+use Rattle.std.proofs.Common.{◌≡◌, ℕ, ◌+◌, ◌-◌, ◌≤◌, ◌<◌, true, false, List, Option, Some, None, length, drop, slice_get, slice_range, refl, sym, ap, ap₂, ◌∙◌, subst, arith, length-drop}
 use Rattle.std.specs.Prelude.{codes, MatchOption}
 use Rattle.std.specs.Option.{option_map}
 use Rattle.std.proofs.lemmas.Bool.{eq-eqb}
@@ -17,6 +17,7 @@ use Rattle.facet_json_token.specs.Gap.{Mode}
 use Rattle.facet_json_token.specs.Token.{Kind, Token, colon, string}
 use Rattle.facet_json_token.specs.Token as token
 use Rattle.facet_json_token.specs.Tokens.{Tokens, next, tokens_from}
+use Rattle.facet_json_token.proofs.CutBounds.{CutFits, TokenFits, here_fits}
 use Rattle.facet_json_token.proofs.FirstBytes.{cut_here-by, cut_here-word, cut_here-number}
 use Rattle.facet_json_token.proofs.NumberCuts.{cut_number-parts}
 use Rattle.facet_json_token.proofs.TokensSteps.{tokens_from-token}
@@ -115,7 +116,21 @@ text-there buffer at finish bytes is = record {
   read = refl;
 }
 
--- So is a number with a value.
+-- A token that stands there fits there.
+pub there-fits : (mode : Mode) (buffer : List ℕ) (at len : ℕ) (kind : Kind) → at ≤ length buffer →
+    cut_here mode at (drop at buffer) ≡ token_at kind at len → TokenFits buffer at (record { kind = kind; span = span_at at len })
+there-fits mode buffer at len kind room is =
+    let ends : at + length (drop at buffer) ≡ length buffer = omega (arith, length-drop at buffer) in
+    subst (CutFits buffer at) is (here_fits mode buffer (drop at buffer) at refl ends)
+
+-- The parts of a number tell its token.
+pub number-cut : (mode : Mode) (buffer : List ℕ) (at b len : ℕ) (q : Parts) (hint : Hint) → slice_get buffer at ≡ Some b →
+    start_of b ≡ opens_number → q ≡ parts (drop at buffer) → len ≡ parts_len q → hint ≡ parts_hint q → is_bare q ≡ false →
+    cut_here mode at (drop at buffer) ≡ token_at (token.number at (at + len) hint) at len
+number-cut mode buffer at b len q hint here begins same long what more =
+    sym (cut_number-parts q (parts (drop at buffer)) (drop (at + 1) buffer) hint at len same long what more ∙ cut_here-number mode buffer at b here begins)
+
+-- A number with a value is a scalar, too.
 pub number-there : (buffer : List ℕ) (at b len : ℕ) (q : Parts) (hint : Hint) (n : Number) (value : Scalar) → slice_get buffer at ≡ Some b →
     start_of b ≡ opens_number → q ≡ parts (drop at buffer) → len ≡ parts_len q → hint ≡ parts_hint q → is_bare q ≡ false →
     number (slice_range buffer at (at + len)) hint ≡ Some n →
@@ -124,8 +139,7 @@ number-there buffer at b len q hint n value here begins same long what more mean
     record {
       kind = token.number at (at + len) hint;
       meant = tree_of_number n;
-      cut = λ mode. sym (cut_number-parts q (parts (drop at buffer)) (drop (at + 1) buffer) hint at len same long what more
-          ∙ cut_here-number mode buffer at b here begins);
+      cut = λ mode. number-cut mode buffer at b len q hint here begins same long what more;
       scalar = refl;
       means = ap (option_map tree_of_number) means;
       read = read (token.number at (at + len) hint);

@@ -24,12 +24,12 @@ use facet_format::numeral::parts_at;
 use facet_format::{
     ContainerKind, FieldKey, FieldLocationHint, ParseEvent, ParseEventKind, ScalarValue, Span,
 };
-use facet_json_decode::decode_string_borrowed;
-use facet_json_number::{ParsedNumber, parse_number};
+use facet_json_decode::plain_text;
+use facet_json_number::{ParsedNumber, parse_measured};
 use facet_json_place::Place;
 use facet_json_token::Mode;
-use facet_json_token::plain_cut::{common_len, skip_gap};
-use facet_json_token::quick::plain_text_end;
+use facet_json_token::plain_cut::common_len;
+use facet_json_token::quick::{gap_end, plain_text_end};
 use std::borrow::CowStr;
 
 impl Reader {
@@ -63,10 +63,10 @@ impl Reader {
         requires place { stage_of self.now.stage ≡ within (place_of place) }
         ensures { Reaches input.now (mode_of mode) self.now (place_of result.0) result.1 }
     {
-        let at = skip_gap(input, self.last.end(), mode);
+        let at = gap_end(input, self.last.end(), mode);
         match (place, input.get(at)) {
-            (Place::AfterItem, Some(b',')) => (Place::BeforeItem, skip_gap(input, at + 1, mode)),
-            (Place::AfterMember, Some(b',')) => (Place::BeforeKey, skip_gap(input, at + 1, mode)),
+            (Place::AfterItem, Some(b',')) => (Place::BeforeItem, gap_end(input, at + 1, mode)),
+            (Place::AfterMember, Some(b',')) => (Place::BeforeKey, gap_end(input, at + 1, mode)),
             _ => (place, at),
         }
     }
@@ -159,8 +159,8 @@ impl Reader {
         ensures { Reaches input.now (mode_of mode) self.old before_key at → MatchOption result (self.new ≡ self.old)
             (λ e. PassesEvent input.now (mode_of mode) self.old (event_of e) self.new) }
     {
-        let (end, name) = plain_text(input, at)?;
-        let colon = skip_gap(input, end + 1, mode);
+        let (end, name) = text_at(input, at)?;
+        let colon = gap_end(input, end + 1, mode);
         match input.get(colon) {
             Some(b':') => Some(self.pass_name(name, Span::new(at, end + 1 - at), colon)),
             _ => None,
@@ -174,7 +174,7 @@ impl Reader {
         ensures { (mode : SpecMode) (place : SpecPlace) → MayBeValue place → Reaches input.now mode self.old place at
             → MatchOption result (self.new ≡ self.old) (λ e. PassesEvent input.now mode self.old (event_of e) self.new) }
     {
-        let (end, text) = plain_text(input, at)?;
+        let (end, text) = text_at(input, at)?;
         Some(self.pass_scalar(
             ScalarValue::Str(CowStr::Borrowed(text)),
             Span::new(at, end + 1 - at),
@@ -270,13 +270,13 @@ impl Reader {
 
 /// The text of the string whose quote is at `at`, where it holds no escape, and the offset of the quote that closes it.
 #[inline(always)]
-fn plain_text<'de>(input: &'de [u8], at: usize) -> Option<(usize, &'de str)>
+fn text_at<'de>(input: &'de [u8], at: usize) -> Option<(usize, &'de str)>
     requires { slice_get input.now at ≡ Some quote }
     ensures text { IfSome result (λ r. IsPlainText input.now at r.0 r.1.now) }
     ensures within { IfSome result (λ r. (at < r.0) × (r.0 < length input.now)) }
 {
     let end = plain_text_end(input, at)?;
-    match decode_string_borrowed(input, at + 1, end) {
+    match plain_text(input, at + 1, end) {
         Some(text) => Some((end, text)),
         None => None,
     }
@@ -294,7 +294,7 @@ fn short_number<'de>(input: &'de [u8], at: usize, first: u8) -> Option<(usize, S
     if parts.is_bare() {
         return None;
     }
-    match parse_number(input, at, at + len, parts.hint()) {
+    match parse_measured(input, at, at + len, parts.hint()) {
         Ok(number) => match short_scalar(number) {
             Some(value) => Some((len, value)),
             None => None,

@@ -63,15 +63,24 @@ no_piece plain b bytes s e = ap (λ v. cond v 1 0) s
 no_piece jsonc b [] s e = ap (λ v. cond v 1 0) s
 no_piece jsonc b (c ∷ bytes) s e = rw (s, e) refl
 
+-- the gap ends there
+pub past_gap-here : (mode : Mode) (buffer : List ℕ) (at b : ℕ) → slice_get buffer at ≡ Some b → is_space b ≡ false →
+    eqb b slash ≡ false → at ≡ past_gap buffer at mode
+past_gap-here mode buffer at b h s e =
+    let none = gap_len-none mode whole (drop at buffer)
+    (ap (piece_len mode whole) (drop-at_byte buffer at b h) ∙ no_piece mode b (drop (at + 1) buffer) s e) in
+    omega (arith, none)
+
+-- a byte above a space is no white space
+pub above_space : (b : ℕ) → space < b → is_space b ≡ false
+above_space b above =
+    rw (ne_eqb b space (omega arith), ne_eqb b tab (omega arith), ne_eqb b line_feed (omega arith), ne_eqb b carriage_return (omega arith)) refl
+
 -- what is cut there is what stands there
 pub cut-here : (mode : Mode) (buffer : List ℕ) (at b : ℕ) → slice_get buffer at ≡ Some b → is_space b ≡ false →
     eqb b slash ≡ false → cut_here mode at (drop at buffer) ≡ cut buffer at mode
 unfolding cut
-cut-here mode buffer at b h s e =
-    let none = gap_len-none mode whole (drop at buffer)
-    (ap (piece_len mode whole) (drop-at_byte buffer at b h) ∙ no_piece mode b (drop (at + 1) buffer) s e) in
-    let here : at ≡ past_gap buffer at mode = omega (arith, none) in
-    ap (λ n. cut_here mode n (drop n buffer)) here
+cut-here mode buffer at b h s e = ap (λ n. cut_here mode n (drop n buffer)) (past_gap-here mode buffer at b h s e)
 
 -- from within a gap the same is cut as from its start
 pub cut-within_gap : (mode : Mode) (buffer : List ℕ) (at position : ℕ) →

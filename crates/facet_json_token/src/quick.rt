@@ -1,11 +1,15 @@
 //! What a few bytes decide of the token that they begin, for readers that make no token of it.
 
-ghost use Rattle.std.specs.Prelude.{◌≡◌, ◌+◌, ◌-◌, ◌<◌, false, length, drop, Some, slice_get, IfSome};
+ghost use Rattle.std.specs.Prelude.{◌≡◌, ◌+◌, ◌-◌, ◌<◌, ◌≤◌, false, length, drop, Some, slice_get, IfSome};
 ghost use Rattle.facet_format.specs.Bytes.{quote};
 ghost use Rattle.facet_json_token.specs.Gap.{Mode as SpecMode};
 ghost use Rattle.facet_json_token.specs.Token.{string};
-ghost use Rattle.facet_json_token.specs.Cut.{cut_here, token_at};
+ghost use Rattle.facet_json_token.specs.Cut.{cut_here, past_gap, token_at};
+ghost use Rattle.facet_json_token.specs.Views.{mode_of};
 
+use crate::in_sight::past_space;
+use crate::mode::Mode;
+use crate::plain_cut::skip_gap;
 use crate::window::plain_end;
 
 /// The offset of the quote that closes the string whose quote is at `at`, where no escape stands in it.
@@ -20,5 +24,19 @@ pub fn plain_text_end(buffer: &[u8], at: usize) -> Option<usize>
     match buffer.get(end) {
         Some(b'"') => Some(end),
         _ => None,
+    }
+}
+
+/// The offset after the gap at `position`: most gaps are empty, one space or white space alone.
+#[inline(always)]
+pub fn gap_end(buffer: &[u8], position: usize, mode: Mode) -> usize
+    requires { position ≤ length buffer.now }
+    ensures end { result ≡ past_gap buffer.now position (mode_of mode) }
+    ensures within { result ≤ length buffer.now }
+{
+    let at = past_space(buffer, position);
+    match buffer.get(at) {
+        Some(byte) if *byte > b' ' && *byte != b'/' => at,
+        _ => skip_gap(buffer, at, mode),
     }
 }

@@ -15,6 +15,6 @@ returns-in-Some-eq58 c =
     let mode = mode_of c.args.mode in
     let k = c.in_ok-end in
     let w = c.in-Some-eq58 in
-    let here = slice_get-from_read buffer c.skip_gap-colon.result w.field-0.now colon_byte w.ensures.lookup.3 w.field-0-test in
-    key-passes buffer mode c.args.self.now before_key c.args.at k.end c.skip_gap-colon.result k.name.now (event_of c.pass_name.result) c.pass_name.new.self refl reached
-    k.ensures.text k.ensures.within.0 k.ensures.within.1 c.skip_gap-colon.ensures.end here (rw (c.new.ensures.offset, c.new.ensures.len) at c.pass_name.ensures)
+    let here = slice_get-from_read buffer c.gap_end-colon.result w.field-0.now colon_byte w.ensures.lookup.3 w.field-0-test in
+    key-passes buffer mode c.args.self.now before_key c.args.at k.end c.gap_end-colon.result k.name.now (event_of c.pass_name.result) c.pass_name.new.self refl reached
+    k.ensures.text k.ensures.within.0 k.ensures.within.1 c.gap_end-colon.ensures.end here (rw (c.new.ensures.offset, c.new.ensures.len) at c.pass_name.ensures)

@@ -19,14 +19,14 @@ returns-in-AfterItem-Some-eq44 c =
     let buffer = c.args.input.now in
     let mode = mode_of c.args.mode in
     let r = c.args.self.now in
-    let at = c.skip_gap-at.result in
+    let at = c.gap_end-at.result in
     let w = c.in-AfterItem-Some-eq44 in
     let stage = c.requires.place ∙ ap (λ (p : RustPlace). within (place_of p)) w.is-0 in
-    let reached = stands-reaches buffer mode r after_item c.end.result at stage c.requires.within (c.end.ensures.fits (omega arith)) c.skip_gap-at.ensures.end in
+    let reached = stands-reaches buffer mode r after_item c.end.result at stage c.requires.within (c.end.ensures.fits (omega arith)) c.gap_end-at.ensures.end in
     let comma_there : w.field-0-1.now ≡ comma_byte = omega arith in
     let here = slice_get-from_read buffer at w.field-0-1.now comma_byte w.ensures.lookup.3 comma_there in
     let room : at + 1 ≤ length buffer = omega (arith, slice_get_within buffer at comma_byte here) in
-    separator-reaches buffer mode r after_item at before_item c.skip_gap.result comma reached refl (mark-cut mode buffer at comma_byte comma here refl) room c.skip_gap.ensures.end
+    separator-reaches buffer mode r after_item at before_item c.gap_end.result comma reached refl (mark-cut mode buffer at comma_byte comma here refl) room c.gap_end.ensures.end
 
 pub returns-in-AfterMember-Some-eq44 : goal.returns-in-AfterMember-Some-eq44
 unfolding start_of
@@ -34,11 +34,11 @@ returns-in-AfterMember-Some-eq44 c =
     let buffer = c.args.input.now in
     let mode = mode_of c.args.mode in
     let r = c.args.self.now in
-    let at = c.skip_gap-at.result in
+    let at = c.gap_end-at.result in
     let w = c.in-AfterMember-Some-eq44 in
     let stage = c.requires.place ∙ ap (λ (p : RustPlace). within (place_of p)) w.is-0 in
-    let reached = stands-reaches buffer mode r after_member c.end.result at stage c.requires.within (c.end.ensures.fits (omega arith)) c.skip_gap-at.ensures.end in
+    let reached = stands-reaches buffer mode r after_member c.end.result at stage c.requires.within (c.end.ensures.fits (omega arith)) c.gap_end-at.ensures.end in
     let comma_there : w.field-0-1.now ≡ comma_byte = omega arith in
     let here = slice_get-from_read buffer at w.field-0-1.now comma_byte w.ensures.lookup.3 comma_there in
     let room : at + 1 ≤ length buffer = omega (arith, slice_get_within buffer at comma_byte here) in
-    separator-reaches buffer mode r after_member at before_key c.skip_gap-in-AfterMember-Some-eq44.result comma reached refl (mark-cut mode buffer at comma_byte comma here refl) room c.skip_gap-in-AfterMember-Some-eq44.ensures.end
+    separator-reaches buffer mode r after_member at before_key c.gap_end-in-AfterMember-Some-eq44.result comma reached refl (mark-cut mode buffer at comma_byte comma here refl) room c.gap_end-in-AfterMember-Some-eq44.ensures.end
