@@ -166,6 +166,16 @@ impl<'de> JsonParser<'de> {
         self.standing.next_quickly(self.input, self.language)
     }
 
+    /// The next event, token by token, as a value of its own: so an event that is passed at once, which never goes through this,
+    /// needs no memory.
+    #[inline(always)]
+    fn next_apart<'t>(&mut self) -> Result<Option<ParseEvent<'de>>, ParseError<'t>>
+        ensures { Moves self.old next (answer_of_event result) self.new }
+    {
+        let result = self.next_by_tokens();
+        result
+    }
+
     /// The next event, token by token.
     #[inline(never)]
     fn next_by_tokens<'t>(&mut self) -> Result<Option<ParseEvent<'de>>, ParseError<'t>>
@@ -233,7 +243,7 @@ impl<'de> FormatParser<'de> for JsonParser<'de> {
         ensures end { IfOk result (λ o. IfNone o (IsOver self.old self.new)) }
     {
         let Some(event) = self.next_quickly() else {
-            return self.next_by_tokens();
+            return self.next_apart();
         };
         Ok(Some(event))
     }

@@ -25,7 +25,7 @@ returns c =
 pub returns-in_default : goal.returns-in_default
 returns-in_default c =
     let known = c.next_quickly.ensures.within in
-    let move = rw c.in_default.ensures.event at c.next_by_tokens.ensures in
+    let move = rw c.in_default.ensures.event at c.next_apart.ensures in
     let gone = moves-goes_on _ known _ refl move in
     record {
       steps = move-steps _ _ _ _ move;
@@ -33,7 +33,7 @@ returns-in_default c =
       moves = move;
       within = answer-within _ _ known move;
       onward = gone;
-      shorter = result-lowers _ _ c.next_by_tokens.result known move;
-      next = result-passes _ _ c.next_by_tokens.result move;
-      end = result-over _ _ c.next_by_tokens.result move;
+      shorter = result-lowers _ _ c.next_apart.result known move;
+      next = result-passes _ _ c.next_apart.result move;
+      end = result-over _ _ c.next_apart.result move;
     }
