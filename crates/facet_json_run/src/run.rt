@@ -86,6 +86,7 @@ pub fn pass_container(
 }
 
 /// The next token, as `cut` gives it. Where a bracket, a comma or a colon stands at the position itself, its byte says which.
+#[inline(always)]
 fn next_token(input: &[u8], position: usize, mode: Mode) -> ScanResult
     requires { position ≤ length input.now }
     ensures answer { scanned result ≡ Some (spec_cut.cut input.now position (mode_of mode)) }
@@ -103,6 +104,7 @@ fn next_token(input: &[u8], position: usize, mode: Mode) -> ScanResult
 }
 
 /// Passes a token within these brackets, of which this is the innermost.
+#[inline(always)]
 fn pass_token(
     contexts: &mut Contexts,
     innermost: ContainerKind,
@@ -131,6 +133,7 @@ fn pass_token(
 }
 
 /// Opens a bracket within the others.
+#[inline(always)]
 fn open_bracket(contexts: &mut Contexts, kind: ContainerKind, last: Span) -> Result<(), Refused>
     ensures { MatchResult result (λ _. contexts.new ≡ container_of kind ∷ contexts.old) (λ r. refused_of r ≡ no_memory_at (span_of last)) }
 {
@@ -141,6 +144,7 @@ fn open_bracket(contexts: &mut Contexts, kind: ContainerKind, last: Span) -> Res
 }
 
 /// Closes the innermost bracket by one of this kind, which takes these bytes.
+#[inline(always)]
 fn close_bracket(
     contexts: &mut Contexts,
     innermost: ContainerKind,
