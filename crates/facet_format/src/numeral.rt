@@ -81,7 +81,7 @@ impl Parts {
     pub fn is_bare(self) -> bool
         ensures { result ≡ is_bare self }
     {
-        self.digits == 0 && self.fraction == 0 && self.exponent == 0
+        self.len() == self.sign
     }
 
     /// What stands in the number.
@@ -89,7 +89,7 @@ impl Parts {
     pub fn hint(self) -> NumberHint
         ensures { hint_of result ≡ parts_hint self }
     {
-        if self.fraction > 0 || self.exponent > 0 {
+        if self.len() > self.sign + self.digits {
             NumberHint::Float
         } else if self.sign > 0 {
             NumberHint::Signed

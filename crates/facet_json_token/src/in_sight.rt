@@ -11,7 +11,6 @@ ghost use Rattle.facet_json_token.specs.Cut as spec_cut;
 ghost use Rattle.facet_json_token.specs.Views.{kind_of};
 ghost use Rattle.facet_json_token.specs.Inner.InSight.{told};
 
-use crate::plain_cut::common_len;
 use crate::token::{SpannedToken, Token};
 use crate::window::{plain_end, space_end};
 use facet_format::Span;
@@ -108,9 +107,8 @@ fn word_in_sight(buffer: &[u8], at: usize, word: &[u8], token: Token) -> Option<
     ensures { let bytes = drop at buffer.now in (k : Kind) → kind_of token ≡ Some k → IfSome result (λ t. told t
         ≡ Some (spec_cut.cut_word at bytes word.now k (spec_cut.common_len word.now bytes))) }
 {
-    let len = common_len(buffer, at, word);
-    if len == word.len() {
-        token_of(token, at, len)
+    if buffer[at..].starts_with(word) {
+        token_of(token, at, word.len())
     } else {
         None
     }
