@@ -2,9 +2,11 @@ pub mod CursorAgrees
 pub mod CursorRows
 pub mod CursorSteps
 pub mod KeptLaws
+pub mod Lanes
 pub mod NumberPrefixes
 pub mod NumberLaws
 pub mod NumberSteps
 pub mod NumberText
 pub mod RefusalKinds
 pub mod StepsAlike
+pub mod Windows
