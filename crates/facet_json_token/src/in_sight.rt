@@ -1,8 +1,7 @@
 //! Tokens that one look at the bytes behind a position tells whole: all but faults, strings with escapes, and what
 //! stands behind comments or at the end. They are made here in line; everything else is left to `plain_cut`.
 
-ghost use Rattle.std.specs.Prelude.{◌≡◌, ◌+◌, ◌<◌, ◌≤◌, length, drop, true, false, Some, slice_get, IfSome};
-ghost use Rattle.facet_format.specs.Bytes.{quote};
+ghost use Rattle.std.specs.Prelude.{◌≡◌, ◌+◌, ◌<◌, ◌≤◌, length, drop, true, false, Some, IfSome};
 ghost use Rattle.facet_format.specs.Number.{parts, parts_len, parts_hint, is_bare};
 ghost use Rattle.facet_json_token.specs.Gap.{Mode};
 ghost use Rattle.facet_json_token.specs.Token.{Kind};
