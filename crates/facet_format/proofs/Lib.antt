@@ -2,6 +2,7 @@ pub mod CursorAgrees
 pub mod CursorRows
 pub mod CursorSteps
 pub mod KeptLaws
+pub mod Lanes
 pub mod NumberPrefixes
 pub mod NumberLaws
 pub mod NumberSteps
@@ -9,3 +10,4 @@ pub mod NumberText
 pub mod OuterDigits
 pub mod RefusalKinds
 pub mod StepsAlike
+pub mod Windows

@@ -1,7 +1,19 @@
 -- The parts of a number from the offsets where they end.
-use Rattle.std.proofs.Common.{◌≡◌, ℕ, ◌+◌, ◌-◌, List, drop, refl, ap, sym, ◌∙◌, arith}
+use Rattle.std.proofs.Common.{◌≡◌, ℕ, suc, ◌+◌, ◌-◌, Bool, true, false, not, cond, List, [], ◌∷◌, drop, refl, ap, sym, ◌∙◌, arith}
 use Rattle.std.proofs.lemmas.List.{drop-drop}
+use Rattle.std.specs.List.{prefix_len}
+use Rattle.facet_format.specs.Bytes.{is_digit}
+use Rattle.facet_format.specs.Window.{is_no_digit}
 use Rattle.facet_format.specs.Number.{minus_len, digits_len, fraction_len, exponent_len, Parts, parts}
+
+digit-step : (v : Bool) (n k : ℕ) → n ≡ k → cond v (suc n) 0 ≡ cond (not (not v)) (1 + k) 0
+digit-step true n k e = omega arith
+digit-step false n k e = refl
+
+-- digits are a run of bytes that don't end it
+pub digits-run : (bytes : List ℕ) → digits_len bytes ≡ prefix_len (λ b. not (is_no_digit b)) bytes
+digits-run [] = refl
+digits-run (b ∷ bytes) = digit-step (is_digit b) (digits_len bytes) _ (digits-run bytes)
 
 -- The parts of what stands at `at` end at these offsets.
 pub record PartsEnd (p : Parts) (at digits fraction exponent end : ℕ) : Type 0 where

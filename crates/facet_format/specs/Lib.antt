@@ -13,3 +13,4 @@ pub mod Span
 pub mod SerializerCall
 pub mod Standing
 pub mod Views
+pub mod Window

@@ -1,10 +1,13 @@
 //! The parts of a number (RFC 8259, section 6, leniently): a minus, digits, a fraction and an exponent.
 
-ghost use Rattle.std.specs.Prelude.{◌≡◌, ◌+◌, ◌^◌, ◌<◌, ◌≤◌, true, false, length, drop, MatchOption};
+ghost use Rattle.std.specs.Prelude.{◌≡◌, ◌+◌, ◌^◌, ◌<◌, ◌≤◌, true, false, length, drop, map, MatchOption};
+ghost use Rattle.std.specs.Simd.Lanes.{mask_l};
 ghost use Rattle.facet_format.specs.Number.{minus_len, digits_len, fraction_len, sign_len, exponent_len, parts, parts_len, parts_hint, is_bare, is_some_len, begins_number, is_number, ArePartsOf};
 ghost use Rattle.facet_format.specs.Views.{hint_of};
+ghost use Rattle.facet_format.specs.Window.{is_no_digit};
 
 use std::marker::Model;
+use std::simd::prelude::*;
 
 /// What stands in a number, from its bytes alone.
 #[derive(Debug, Clone, Copy, PartialEq)]
@@ -81,7 +84,7 @@ impl Parts {
     pub fn is_bare(self) -> bool
         ensures { result ≡ is_bare self }
     {
-        self.digits == 0 && self.fraction == 0 && self.exponent == 0
+        self.len() == self.sign
     }
 
     /// What stands in the number.
@@ -89,7 +92,7 @@ impl Parts {
     pub fn hint(self) -> NumberHint
         ensures { hint_of result ≡ parts_hint self }
     {
-        if self.fraction > 0 || self.exponent > 0 {
+        if self.len() > self.sign + self.digits {
             NumberHint::Float
         } else if self.sign > 0 {
             NumberHint::Signed
@@ -154,9 +157,37 @@ fn minus_end(buffer: &[u8], at: usize) -> usize
     }
 }
 
-/// The offset after the digits at `at`.
+/// A bit for each of sixteen bytes that is no digit.
+#[inline(always)]
+fn no_digits(window: u8x16) -> u64
+    ensures { result ≡ mask_l (map is_no_digit window) }
+{
+    (window - u8x16::splat(b'0'))
+        .simd_ge(u8x16::splat(10))
+        .to_bitmask()
+}
+
+/// The offset after the digits at `at`, sixteen bytes at a time.
 #[inline(always)]
 fn digits_end(buffer: &[u8], at: usize) -> usize
+    requires { at ≤ length buffer.now }
+    ensures end { result ≡ at + digits_len (drop at buffer.now) }
+    ensures within { result ≤ length buffer.now }
+{
+    let mut end = at;
+    while buffer.len() - end >= 16 {
+        let found = no_digits(u8x16::from_slice(&buffer[end..]));
+        if found != 0 {
+            return end + found.trailing_zeros() as usize;
+        }
+        end += 16;
+    }
+    digits_end_bytewise(buffer, end)
+}
+
+/// The offset after the digits at `at`: what is left after the last window.
+#[inline(never)]
+fn digits_end_bytewise(buffer: &[u8], at: usize) -> usize
     requires { at ≤ length buffer.now }
     ensures end { result ≡ at + digits_len (drop at buffer.now) }
     ensures within { result ≤ length buffer.now }

@@ -1,9 +1,9 @@
 -- What stands in sight: white space leaves the end of the gap where it is, and a byte that begins no piece of a gap ends it.
-use Rattle.std.proofs.Common.{◌≡◌, ◌≢◌, ℕ, suc, ◌+◌, ◌<◌, ◌≤◌, Bool, true, false, not, cond, eqb, List, [], ◌∷◌, length, drop, slice_get, Option, Some, None, Ok, IfSome, refl, ap, sym, ◌∙◌, arith}
-use Rattle.std.proofs.lemmas.List.{drop-drop}
-use Rattle.std.proofs.lemmas.Bool.{ne_eqb, eq-eqb}
+use Rattle.std.proofs.Common.{◌≡◌, ◌≢◌, ℕ, suc, ◌+◌, ◌-◌, ◌<◌, ◌≤◌, Bool, true, false, not, cond, eqb, List, [], ◌∷◌, length, take, drop, slice_get, Option, Some, None, Ok, IfSome, refl, ap, sym, ◌∙◌, arith}
+use Rattle.std.proofs.lemmas.List.{drop-drop, take_rest}
+use Rattle.std.proofs.lemmas.Bool.{ne_eqb, eq-eqb, eqb-true, and_parts}
 use Rattle.std.proofs.lemmas.Option.{slice_get_within}
-use Rattle.std.specs.List.{prefix_len}
+use Rattle.std.specs.List.{prefix_len, starts_with}
 use Rattle.facet_format.specs.Bytes.{is_space, slash, space, tab, line_feed, carriage_return, minus}
 use Rattle.facet_format.specs.Number.{parts}
 use Rattle.facet_format.specs.Views.{span_of}
@@ -109,10 +109,21 @@ cut-number buffer at b h low high no_dot no_slash mode =
     cut_here-number mode buffer at b h (start_of-number_range b low high no_dot no_slash)
     ∙ cut-here mode buffer at b h (above-space b (omega (arith, low))) (ne_eqb b slash no_slash)
 
+common-whole : (word bytes : List ℕ) → starts_with eqb bytes word ≡ true → length word ≡ common_len word bytes
+common-whole [] bytes e = refl
+common-whole (w ∷ word) [] e = cc
+common-whole (w ∷ word) (b ∷ bytes) e =
+    let both = and_parts (eqb w b) (starts_with eqb bytes word) e in
+    ap suc (common-whole word bytes both.1)
+    ∙ sym (ap (λ v. cond v (suc (common_len word bytes)) 0) (eq-eqb b w (sym (eqb-true w b both.0))))
+
 -- a literal all of whose letters stand there
-pub cut_word-whole : (at : ℕ) (bytes word : List ℕ) (k : Kind) (n len : ℕ) → len ≡ n → len ≡ length word →
-    token_at k at len ≡ cut_word at bytes word k n
-cut_word-whole at bytes word k n len e all = ap (token_at k at) e ∙ sym (rw (eq-eqb n (length word) (sym e ∙ all)) refl)
+pub cut_word-whole : (buffer : List ℕ) (at : ℕ) (word : List ℕ) (k : Kind) →
+    starts_with eqb (take (length buffer - at) (drop at buffer)) word ≡ true →
+    token_at k at (length word) ≡ cut_word at (drop at buffer) word k (common_len word (drop at buffer))
+cut_word-whole buffer at word k e =
+    let all = common-whole word (drop at buffer) (ap (λ l. starts_with eqb l word) (sym (take_rest buffer at)) ∙ e) in
+    ap (token_at k at) all ∙ sym (rw (eq-eqb (common_len word (drop at buffer)) (length word) (sym all)) refl)
 
 -- ---- the answer
 

@@ -3,7 +3,7 @@ pub mod FirstBytes
 pub mod GapSteps
 pub mod Gaps
 pub mod InSight
-pub mod Lanes
+pub use Rattle.facet_format.proofs.Lanes
 pub mod NumberCuts
 pub mod Offsets
 pub mod ShapesCut
@@ -12,4 +12,4 @@ pub mod TextShapes
 pub mod TextSteps
 pub mod TextWindows
 pub mod TokensSteps
-pub mod Windows
+pub use Rattle.facet_format.proofs.Windows

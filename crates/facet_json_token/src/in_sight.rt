@@ -1,8 +1,7 @@
 //! Tokens that one look at the bytes behind a position tells whole: all but faults, strings with escapes, and what
 //! stands behind comments or at the end. They are made here in line; everything else is left to `plain_cut`.
 
-ghost use Rattle.std.specs.Prelude.{◌≡◌, ◌+◌, ◌<◌, ◌≤◌, length, drop, true, false, Some, slice_get, IfSome};
-ghost use Rattle.facet_format.specs.Bytes.{quote};
+ghost use Rattle.std.specs.Prelude.{◌≡◌, ◌+◌, ◌<◌, ◌≤◌, length, drop, true, false, Some, IfSome};
 ghost use Rattle.facet_format.specs.Number.{parts, parts_len, parts_hint, is_bare};
 ghost use Rattle.facet_json_token.specs.Gap.{Mode};
 ghost use Rattle.facet_json_token.specs.Token.{Kind};
@@ -11,7 +10,6 @@ ghost use Rattle.facet_json_token.specs.Cut as spec_cut;
 ghost use Rattle.facet_json_token.specs.Views.{kind_of};
 ghost use Rattle.facet_json_token.specs.Inner.InSight.{told};
 
-use crate::plain_cut::common_len;
 use crate::token::{SpannedToken, Token};
 use crate::window::{plain_end, space_end};
 use facet_format::Span;
@@ -108,9 +106,8 @@ fn word_in_sight(buffer: &[u8], at: usize, word: &[u8], token: Token) -> Option<
     ensures { let bytes = drop at buffer.now in (k : Kind) → kind_of token ≡ Some k → IfSome result (λ t. told t
         ≡ Some (spec_cut.cut_word at bytes word.now k (spec_cut.common_len word.now bytes))) }
 {
-    let len = common_len(buffer, at, word);
-    if len == word.len() {
-        token_of(token, at, len)
+    if buffer[at..].starts_with(word) {
+        token_of(token, at, word.len())
     } else {
         None
     }

@@ -21,8 +21,8 @@ use crate::window::plain_end;
 use facet_format::Span;
 use facet_format::numeral::{NumberHint, parts_at};
 
-/// Cuts what stands at `position`, byte by byte and without look-ahead: the gap (RFC 8259, section 2), and then a
-/// token, the end or a fault. `buffer` is the whole input.
+/// Cuts what stands at `position`: the gap (RFC 8259, section 2), and then a token, the end or a fault. `buffer` is the
+/// whole input. What one look tells is made in line (`in_sight`), all else out of line, without look-ahead.
 ///
 /// ```text
 /// cut(b" [1]", 0, Mode::Plain)    Ok: Token::ArrayStart, span 1+1

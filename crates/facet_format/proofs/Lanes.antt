@@ -1,6 +1,6 @@
 -- A mask that is computed lane by lane is held to a predicate at each of the 256 bytes.
-use Rattle.std.proofs.Common.{◌≡◌, ℕ, zero, suc, ◌%◌, ◌^◌, ◌<◌, ◌≤◌, ltb, Bool, true, false, not, ◌&&◌, cond, eqb, T, ◌⊎◌, inl, inr, List, [], ◌∷◌, map, length, refl, sym, ap, ap₂, subst, ◌∙◌, arith, w8, Fits, not-suc-le-zero}
-use Rattle.std.proofs.lemmas.Simd.{mask_l-mod}
+use Rattle.std.proofs.Common.{◌≡◌, ℕ, zero, suc, ◌%◌, ◌^◌, ◌<◌, ◌≤◌, ltb, leb, Bool, true, false, not, ◌&&◌, cond, eqb, T, ◌⊎◌, inl, inr, List, [], ◌∷◌, map, length, replicate, refl, sym, ap, ap₂, subst, ◌∙◌, arith, w8, Fits, not-suc-le-zero}
+use Rattle.std.proofs.lemmas.Simd.{mask_l-mod, map-map}
 use Rattle.std.proofs.lemmas.List.{length-map}
 use Rattle.std.proofs.lemmas.Bool.{cases_order}
 use lib.Bits.{bit_or}
@@ -13,6 +13,10 @@ equal a b = cond (eqb a b) 255 0
 -- a lane of `simd_lt`
 abbrev pub below : ℕ → ℕ → ℕ
 below a b = cond (ltb a b) 255 0
+
+-- a lane of `simd_le`
+abbrev pub at_most : ℕ → ℕ → ℕ
+at_most a b = cond (leb a b) 255 0
 
 zip2-map : (f g : ℕ → ℕ) (xs : List ℕ) → zip2 bit_or (map f xs) (map g xs) ≡ map (λ x. bit_or (f x) (g x)) xs
 zip2-map f g [] = refl
@@ -57,3 +61,12 @@ pub masked : (f : ℕ → ℕ) (p : ℕ → Bool) (v z : List ℕ) → length v 
     → mask_l (map (top 7) z) % 2 ^ 64 ≡ mask_l (map p v)
 masked f p v z short fits e all =
     ap (λ l. mask_l l % 2 ^ 64) (ap (map (top 7)) e ∙ each_byte f p all v fits) ∙ mask_l-mod (map p v) 64 (omega (arith, length-map v p))
+
+splat_left : (h : ℕ → ℕ → ℕ) (y : ℕ) (xs : List ℕ) → zip2 h (replicate (length xs) y) xs ≡ map (h y) xs
+splat_left h y [] = refl
+splat_left h y (x ∷ xs) = ap (λ r. h y x ∷ r) (splat_left h y xs)
+
+-- one byte in each lane on the left: `simd_ge` is `simd_le` with its sides changed
+pub from_splat : (h : ℕ → ℕ → ℕ) (f : ℕ → ℕ) (y n : ℕ) (v : List ℕ) {a : List ℕ} → length v ≡ n → a ≡ map f v → zip2 h (replicate n y) a ≡ map (λ x. h y (f x)) v
+from_splat h f y n v long p =
+    ap (zip2 h (replicate n y)) p ∙ ap (λ k. zip2 h (replicate k y) (map f v)) (sym (length-map v f ∙ long)) ∙ splat_left h y (map f v) ∙ map-map (h y) f v
