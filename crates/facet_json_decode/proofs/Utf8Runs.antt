@@ -5,10 +5,11 @@ use Rattle.std.proofs.lemmas.Bool.{cases_lt, and_parts}
 use Rattle.std.proofs.lemmas.Bool.Decides.{nat_tests}
 use Rattle.std.proofs.lemmas.List.{take-take}
 use Rattle.std.proofs.lemmas.List.Edits.{length-between, get_or-between}
-use Rattle.std.proofs.lemmas.Str.{encode_ascii, IsUtf8-nil, IsUtf8-append, IsUtf8-encode, IsUtf8-take, IsUtf8-drop, IsCharBoundary-end, IsCharBoundary-before_ascii, IsCharBoundary-from_take}
+use Rattle.std.proofs.lemmas.Str.{encode_ascii, IsUtf8-nil, IsUtf8-append, IsUtf8-encode, IsUtf8-take, IsUtf8-drop, IsUtf8-between, IsCharBoundary-end, IsCharBoundary-before_ascii, IsCharBoundary-after_ascii, IsCharBoundary-from_take}
 use Rattle.std.specs.Str.{IsCharBoundary}
 use Rattle.facet_format.specs.Bytes.{backslash, lower_u}
 use Rattle.facet_json_decode.specs.Decode.{short_escape, is_hex, code_unit, Piece, itself, short, other, unit, pair, piece_at}
+use Rattle.facet_json_decode.specs.Quoted.{IsQuoted}
 use Rattle.facet_json_decode.proofs.DecodeLaws.{piece_at-fronts}
 use Rattle.facet_json_decode.proofs.DecodeSteps.{range-drop}
 use Rattle.facet_json_decode.proofs.EscapeSteps.{short_of-none}
@@ -94,3 +95,9 @@ run-IsUtf8 buf at stop end a b h ends is =
     seam (inr le) =
         let size : length (slice_range buf at end) ≡ stop - at = omega (arith, length-between buf at end h) in
         rw (← size) (IsCharBoundary-end (slice_range buf at end))
+
+-- What stands between two quotes of a text is text.
+pub quoted-IsUtf8 : (buf : List ℕ) (start finish : ℕ) → IsQuoted buf start finish → IsUtf8 buf → IsUtf8 (slice_range buf start finish)
+quoted-IsUtf8 buf start finish q is =
+    let front = rw (← q.starts) at (IsCharBoundary-after_ascii buf q.opening is (omega (arith, q.starts, q.ordered, q.within)) (omega (arith, q.opens))) in
+    IsUtf8-between buf start finish is q.ordered front (IsCharBoundary-before_ascii buf finish q.within (omega (arith, q.closes)))

@@ -12,4 +12,4 @@ pub use decode::{
     decode_string_borrowed_unchecked, decode_string_owned, decode_string_owned_unchecked,
     decode_string_unchecked,
 };
-pub use plain::{plain_text, plain_text_unchecked};
+pub use plain::{plain_text, plain_text_unchecked, quoted_text};

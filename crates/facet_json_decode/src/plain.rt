@@ -2,6 +2,7 @@
 
 ghost use Rattle.std.specs.Prelude.{◌≡◌, ◌≤◌, Some, false, length, slice_range, IfSome, IsUtf8, MatchOption};
 ghost use Rattle.facet_json_decode.specs.Decode.{decoded};
+ghost use Rattle.facet_json_decode.specs.Quoted.{IsQuoted};
 ghost use Rattle.facet_json_decode.specs.Views.{has_backslash, IsItsText};
 
 use crate::ascii::ascii_text;
@@ -36,4 +37,16 @@ pub fn plain_text_unchecked(buf: &[u8], start: usize, end: usize) -> &str
 {
     // The last requirement is what the call needs.
     unsafe { str::from_utf8_unchecked(&buf[start..end]) }
+}
+
+/// As `plain_text`, for a content between its quotes in a buffer in UTF-8: it is its text, and not checked again.
+#[inline(always)]
+pub fn quoted_text(buf: &[u8], start: usize, end: usize) -> &str
+    requires quoted { IsQuoted buf.now start end }
+    requires plain { has_backslash (slice_range buf.now start end) ≡ false }
+    requires utf8 { IsUtf8 buf.now }
+    ensures borrowed { result.now ≡ slice_range buf.now start end }
+    ensures text { decoded (slice_range buf.now start end) ≡ Some result.now }
+{
+    plain_text_unchecked(buf, start, end)
 }

@@ -154,6 +154,7 @@ fn short_number(text: &[u8]) -> Option<u64>
 }
 
 /// The value of decimal digits, in 64 bits where it fits, else in 128.
+#[inline(always)]
 fn unsigned_number<'a>(digits: &[u8]) -> Option<ParsedNumber<'a>>
     requires { AreDigits digits.now }
     ensures number { option_map number_of result ≡ unsigned_number (digits_value 0 digits.now) }
@@ -166,6 +167,7 @@ fn unsigned_number<'a>(digits: &[u8]) -> Option<ParsedNumber<'a>>
 }
 
 /// The value of decimal digits after a minus, in 64 bits where it fits, else in 128.
+#[inline(always)]
 fn negative_number<'a>(digits: &[u8]) -> Option<ParsedNumber<'a>>
     requires { AreDigits digits.now }
     ensures number { option_map number_of result ≡ negative_number (digits_value 0 digits.now) }
@@ -178,6 +180,7 @@ fn negative_number<'a>(digits: &[u8]) -> Option<ParsedNumber<'a>>
 }
 
 /// The text of a number with a fraction or an exponent, or `None` where it lacks a digit.
+#[inline(always)]
 fn decimal_number<'a>(text: &'a [u8]) -> Option<ParsedNumber<'a>>
     requires is_number { is_number text.now float ≡ true }
     ensures number { option_map number_of result ≡ spec_number text.now float }
@@ -192,6 +195,7 @@ fn decimal_number<'a>(text: &'a [u8]) -> Option<ParsedNumber<'a>>
 }
 
 /// The value of decimal digits after a minus, or `None` where it is below -2^63.
+#[inline(always)]
 fn negative(digits: &[u8]) -> Option<i64>
     requires { AreDigits digits.now }
     ensures { MatchOption result
