@@ -51,7 +51,9 @@ pub fn push_framed(
         ++ (cond after_comma (comma ∷ []) [] ++ (quoted text.now ++ cond before_colon (colon ∷ []) []))) }
 {
     let bytes = text.as_bytes();
-    if bytes.len() <= 32 && plain_short(bytes) {
+    // Where room is there nothing grows, and so no register is saved for a call.
+    let has_room = out.capacity() - out.len() >= ROOM.len();
+    if has_room && bytes.len() <= 32 && plain_short(bytes) {
         return push_short(out, after_comma, bytes, before_colon);
     }
     push_long(out, after_comma, bytes, before_colon)
