@@ -1,1 +1,3 @@
 mod Escapes
+mod Places
+mod PlainTexts

@@ -3,8 +3,10 @@
 #![tactic(auto)]
 
 mod escape;
+mod place;
+mod plain;
 mod quote;
 mod window;
 
 pub use escape::hex_digit;
-pub use quote::push_quoted;
+pub use quote::{push_framed, push_quoted};

@@ -1,10 +1,14 @@
 //! A text between quotes: runs of bytes that stand for themselves, and the escapes between them.
 
-ghost use Rattle.std.specs.Prelude.{◌≡◌, ◌++◌, OnOk};
+ghost use Rattle.std.specs.Prelude.{◌≡◌, ◌+◌, ◌≤◌, [], ◌∷◌, ◌++◌, length, cond, OnOk};
 ghost use Rattle.std.specs.List.{flat_map};
+ghost use Rattle.facet_format.specs.Bytes.{comma, colon, quote};
 ghost use Rattle.facet_json_document.specs.Quoted.{escaped, quoted};
+ghost use Rattle.facet_json_escape.specs.Inner.Places.{Placed};
 
 use crate::escape::{needs_escape, push_escaped};
+use crate::place::{place_byte, place_short};
+use crate::plain::plain_short;
 use crate::window::plain_end;
 use std::alloc::AllocError;
 
@@ -22,9 +26,103 @@ use std::alloc::AllocError;
 pub fn push_quoted(out: &mut Vec<u8>, text: &str) -> Result<(), AllocError>
     ensures { OnOk result (out.new.items ≡ out.old.items ++ quoted text.now) }
 {
+    push_framed(out, false, text, false)
+}
+
+/// Appends a text between quotes, after a comma and before a colon where these are wanted: all in one piece where the text is short
+/// and needs no escape.
+///
+/// ```text
+/// push_framed(&mut out, true, "id", true)?      appends `,"id":`
+/// push_framed(&mut out, false, "a\n", false)?   appends `"a\n"`
+/// ```
+///
+/// # Errors
+///
+/// `AllocError` alone, where a growth of `out` is refused: `out` may then end in a part of this.
+#[inline(never)]
+pub fn push_framed(
+    out: &mut Vec<u8>,
+    after_comma: bool,
+    text: &str,
+    before_colon: bool,
+) -> Result<(), AllocError>
+    ensures { OnOk result (out.new.items ≡ out.old.items
+        ++ (cond after_comma (comma ∷ []) [] ++ (quoted text.now ++ cond before_colon (colon ∷ []) []))) }
+{
+    let bytes = text.as_bytes();
+    // Where room is there nothing grows, and so no register is saved for a call.
+    let has_room = out.capacity() - out.len() >= ROOM.len();
+    if has_room && bytes.len() <= 32 && plain_short(bytes) {
+        return push_short(out, after_comma, bytes, before_colon);
+    }
+    push_long(out, after_comma, bytes, before_colon)
+}
+
+/// Room for a short text, two quotes, a comma and a colon.
+static ROOM: [u8; 36] = [0; 36];
+
+/// The same of a text of up to 32 bytes as it stands, written in room that is appended for it.
+#[inline(always)]
+fn push_short(
+    out: &mut Vec<u8>,
+    after_comma: bool,
+    text: &[u8],
+    before_colon: bool,
+) -> Result<(), AllocError>
+    requires { length text.now ≤ 32 }
+    ensures { OnOk result (out.new.items ≡ out.old.items
+        ++ (cond after_comma (comma ∷ []) [] ++ (quote ∷ text.now ++ quote ∷ [] ++ cond before_colon (colon ∷ []) []))) }
+{
+    let start = out.len();
+    out.extend_from_slice(&ROOM)?;
+    let end = place_framed(out.as_mut_slice(), start, after_comma, text, before_colon);
+    out.truncate(end);
+    Ok(())
+}
+
+/// Writes a text of up to 32 bytes as it stands, between quotes, at a place of a buffer.
+#[inline(always)]
+fn place_framed(
+    buffer: &mut [u8],
+    at: usize,
+    after_comma: bool,
+    text: &[u8],
+    before_colon: bool,
+) -> usize
+    requires short { length text.now ≤ 32 }
+    requires fits { at + 36 ≤ length buffer.old }
+    ensures { Placed buffer.old buffer.new at
+        (cond after_comma (comma ∷ []) [] ++ (quote ∷ text.now ++ quote ∷ [] ++ cond before_colon (colon ∷ []) [])) result }
+{
+    let at = place_byte(buffer, at, b',', after_comma);
+    let at = place_byte(buffer, at, b'"', true);
+    let at = place_short(buffer, at, text);
+    let at = place_byte(buffer, at, b'"', true);
+    place_byte(buffer, at, b':', before_colon)
+}
+
+/// The same of any text, piece by piece.
+#[inline(never)]
+fn push_long(
+    out: &mut Vec<u8>,
+    after_comma: bool,
+    text: &[u8],
+    before_colon: bool,
+) -> Result<(), AllocError>
+    ensures { OnOk result (out.new.items ≡ out.old.items
+        ++ (cond after_comma (comma ∷ []) [] ++ (quoted text.now ++ cond before_colon (colon ∷ []) []))) }
+{
+    if after_comma {
+        out.push(b',')?;
+    }
     out.push(b'"')?;
-    push_content(out, text.as_bytes())?;
-    out.extend_from_slice(b"\"")
+    push_content(out, text)?;
+    out.push(b'"')?;
+    if before_colon {
+        out.push(b':')?;
+    }
+    Ok(())
 }
 
 /// Appends what stands between the quotes: a run of bytes that need no escape at once, then the escape after it. A run is sought by

@@ -1,5 +1,5 @@
 -- What calls append, step by step.
-use Rattle.std.proofs.Common.{◌≡◌, ℕ, suc, ◌+◌, Bool, false, List, [], ◌∷◌, ◌++◌, length, Option, Some, None, Ok, Err, ℤ, refl, sym, ap, ◌∙◌, subst, append_assoc, add-one, unwrap_or}
+use Rattle.std.proofs.Common.{◌≡◌, ℕ, suc, ◌+◌, Bool, false, List, [], ◌∷◌, ◌++◌, length, Option, Some, None, Ok, Err, ℤ, refl, sym, ap, ◌∙◌, subst, append_assoc, append-nil, add-one, cond, unwrap_or}
 use Rattle.std.specs.Fmt.{decimal, signed_decimal}
 use Rattle.facet_format.specs.Bytes.{right_bracket, right_brace, comma}
 use Rattle.facet_format.specs.Event as event
@@ -39,6 +39,20 @@ comma_written w spelled out begun is =
       written = w.written ++ (before_value w.options w.stack ++ spelled);
     }) (sym (ap (λ m. m.stack) begun)))
 
+-- the same where a comma before it may be left to be written with it
+pub after_comma_written : (w mid : Writing) (after : Bool) (spelled out : List ℕ) → value_begun w ≡ with_text mid (cond after (comma ∷ []) [])
+    → out ≡ mid.written ++ (cond after (comma ∷ []) [] ++ (spelled ++ []))
+    → record { options = mid.options; stack = mid.stack; written = out }
+    ≡ appended w (record { added = before_value w.options w.stack ++ spelled; stack = after_value w.stack })
+after_comma_written w mid after spelled out begun is =
+    let before = cond after (comma ∷ []) [] in
+    let with_spelled = λ (m : Writing). with_text m spelled in
+    let bytes : out ≡ (mid.written ++ before) ++ spelled =
+    is ∙ ap (λ s. mid.written ++ (before ++ s)) (append-nil spelled) ∙ sym (append_assoc mid.written before spelled) in
+    ap (λ t. record { options = mid.options; stack = mid.stack; written = t }) bytes
+    ∙ ap with_spelled (sym begun)
+    ∙ ap (λ t. record { options = w.options; stack = after_value w.stack; written = t }) (append_assoc w.written (before_value w.options w.stack) spelled)
+
 -- a whole number's text is its digits
 pub unsigned-text : (o : Options) (n : ℕ) → scalar_text o (event.u64 n) ≡ decimal n
 unfolding text
@@ -47,6 +61,11 @@ unsigned-text o n = refl
 pub signed-text : (o : Options) (n : ℤ) → scalar_text o (event.i64 n) ≡ signed_decimal n
 unfolding text
 signed-text o n = refl
+
+-- a text's text stands between quotes
+pub quoted-text : (o : Options) (t : event.Text) → scalar_text o (event.text t) ≡ quoted (event.bytes_of t)
+unfolding text
+quoted-text o t = refl
 
 -- the same where a container was opened
 pub container_begun : (w mid : Writing) (c : Opened) (stack : List Opened) (bytes out : List ℕ) → mid ≡ value_begun w → stack ≡ c ∷ mid.stack
@@ -118,24 +137,17 @@ no_list_fits o [] h = refl
 no_list_fits o (in_struct mark ∷ others) h = refl
 no_list_fits o (in_list mark ∷ others) h = absurd (subst IsNowhere (sym h) tt)
 
--- the pieces of a key, written one after the other
-pub key_written : (w : Writing) (first : Bool) (name : List ℕ) (stack : List Opened) (depth : ℕ) (o1 o2 o3 o4 : List ℕ)
-    → depth ≡ length (around w.stack) → o1 ≡ w.written ++ separator first → o2 ≡ o1 ++ new_line w.options (depth + 1)
-    → o3 ≡ o2 ++ quoted name → o4 ≡ o3 ++ colon_text w.options → stack ≡ with_first_passed w.stack
-    → record { options = w.options; stack = stack; written = o4 }
+-- a key's piece
+pub key_written : (w : Writing) (first : Bool) (name : List ℕ) (stack : List Opened) (depth : ℕ) (out : List ℕ)
+    → depth ≡ length (around w.stack)
+    → out ≡ w.written ++ (separator first ++ new_line w.options (depth + 1) ++ quoted name ++ colon_text w.options)
+    → stack ≡ with_first_passed w.stack
+    → record { options = w.options; stack = stack; written = out }
     ≡ appended w (record {
       added = separator first ++ new_line w.options (suc (length (around w.stack))) ++ quoted name ++ colon_text w.options;
       stack = with_first_passed w.stack;
     })
-key_written w first name stack depth o1 o2 o3 o4 deep e1 e2 e3 e4 passed =
-    let comma = separator first in
-    let line = new_line w.options (suc (length (around w.stack))) in
-    let key = quoted name in
-    let mark = colon_text w.options in
-    rw (passed, e4, e3, e2, e1, deep, add-one)
-    (ap (λ t. record { options = w.options; stack = with_first_passed w.stack; written = t })
-    (ap (λ t. t ++ key ++ mark) (append_assoc w.written comma line) ∙ ap (λ t. t ++ mark) (append_assoc w.written (comma ++ line) key)
-    ∙ append_assoc w.written (comma ++ line ++ key) mark))
+key_written w first name stack depth out deep is passed = rw (passed, is, deep, add-one) refl
 
 -- the pieces of a container's end
 pub end_written : (w : Writing) (first : Bool) (bracket : List ℕ) (stack : List Opened) (depth : ℕ) (o1 o2 : List ℕ)

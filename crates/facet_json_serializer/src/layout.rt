@@ -2,10 +2,12 @@
 
 ghost use Rattle.std.specs.Prelude.{◌≡◌, ◌∷◌, ◌++◌, OnOk};
 ghost use Rattle.facet_format.specs.Bytes.{line_feed};
+ghost use Rattle.facet_json_document.specs.Quoted.{quoted};
 ghost use Rattle.facet_json_document.specs.Text.{indents, new_line, separator, line_at_end, colon_text};
 ghost use Rattle.facet_json_options.specs.Views.{options_of};
 
 use crate::append::push_bytes;
+use facet_json_escape::{push_framed, push_quoted};
 use facet_json_options::SerializeOptions;
 use std::alloc::AllocError;
 
@@ -63,11 +65,44 @@ pub(crate) fn push_line_at_end(
     push_line(out, options, depth)
 }
 
-/// What stands between a key and its value.
-pub(crate) fn push_colon(
+/// A key, with what stands before it and after it.
+#[inline(always)]
+pub(crate) fn push_key(
     out: &mut Vec<u8>,
     options: &SerializeOptions<'_>,
+    depth: usize,
+    first: bool,
+    key: &str,
 ) -> Result<(), AllocError>
+    ensures { OnOk result (out.new.items ≡ out.old.items
+        ++ (separator first ++ new_line (options_of options.now) depth ++ quoted key.now ++ colon_text (options_of options.now))) }
+{
+    if options.pretty {
+        return push_indented_key(out, options, depth, first, key);
+    }
+    push_framed(out, !first, key, true)
+}
+
+/// The same in any layout, piece by piece.
+#[inline(never)]
+fn push_indented_key(
+    out: &mut Vec<u8>,
+    options: &SerializeOptions<'_>,
+    depth: usize,
+    first: bool,
+    key: &str,
+) -> Result<(), AllocError>
+    ensures { OnOk result (out.new.items ≡ out.old.items
+        ++ (separator first ++ new_line (options_of options.now) depth ++ quoted key.now ++ colon_text (options_of options.now))) }
+{
+    push_separator(out, first)?;
+    push_line(out, options, depth)?;
+    push_quoted(out, key)?;
+    push_colon(out, options)
+}
+
+/// What stands between a key and its value.
+fn push_colon(out: &mut Vec<u8>, options: &SerializeOptions<'_>) -> Result<(), AllocError>
     ensures { OnOk result (out.new.items ≡ out.old.items ++ colon_text (options_of options.now)) }
 {
     if options.pretty {

@@ -1,8 +1,9 @@
 //! A text that is written while memory suffices: what each call appends, and what it leaves open.
 
-ghost use Rattle.std.specs.Prelude.{◌≡◌, [], ◌∷◌, true, OnOk};
+ghost use Rattle.std.specs.Prelude.{◌≡◌, [], ◌∷◌, true, cond, OnOk, IfOk};
 ghost use Rattle.facet_format.specs.Bytes.{comma};
 ghost use Rattle.facet_format.specs.Event as event;
+ghost use Rattle.facet_format.specs.HeldText.{text_of};
 ghost use Rattle.facet_format.specs.Views.{scalar_value_of};
 ghost use Rattle.facet_format.specs.SerializerCall as calls;
 ghost use Rattle.facet_json_options.specs.Views.{options_of};
@@ -14,12 +15,13 @@ use crate::bytes_text::push_bytes_text;
 use crate::containers::{Container, Containers};
 use crate::digits::{push_comma_signed, push_comma_unsigned, push_signed, push_unsigned};
 use crate::error::JsonSerializeError;
-use crate::layout::{push_colon, push_line, push_line_at_end, push_separator};
+use crate::layout::{push_key, push_line, push_line_at_end, push_separator};
 use crate::scalar_text::push_scalar;
 use facet_format::ScalarValue;
-use facet_json_escape::push_quoted;
+use facet_json_escape::push_framed;
 use facet_json_options::SerializeOptions;
 use std::alloc::{AllocError, Global};
+use std::borrow::CowStr;
 
 /// The options, the containers that are open, and the text so far.
 #[derive(Debug, Drop)]
@@ -58,6 +60,9 @@ impl<'i> Writing<'i> {
             self.out.push(b',')?;
             return Ok(());
         }
+        if self.stack.list_mark().is_none() {
+            return Ok(());
+        }
         self.begin_apart()
     }
 
@@ -76,6 +81,18 @@ impl<'i> Writing<'i> {
             self.stack.pass_first();
         }
         Ok(())
+    }
+
+    /// Appends what stands before a value, unless that is a comma alone: then it is left to the caller.
+    #[inline(always)]
+    fn begin_before_comma(&mut self) -> Result<bool, AllocError>
+        ensures { IfOk result (λ after_comma. value_begun (writing_of self.old) ≡ with_text (writing_of self.new) (cond after_comma (comma ∷ []) [])) }
+    {
+        if self.follows_a_comma() {
+            return Ok(true);
+        }
+        self.begin_value()?;
+        Ok(false)
     }
 
     /// Begins a struct.
@@ -106,10 +123,7 @@ impl<'i> Writing<'i> {
             return Err(JsonSerializeError::KeyOutsideStruct);
         };
         let depth = self.stack.around() + 1;
-        push_separator(&mut self.out, first)?;
-        push_line(&mut self.out, &self.options, depth)?;
-        push_quoted(&mut self.out, key)?;
-        push_colon(&mut self.out, &self.options)?;
+        push_key(&mut self.out, &self.options, depth, first, key)?;
         self.stack.pass_first();
         Ok(())
     }
@@ -150,8 +164,19 @@ impl<'i> Writing<'i> {
         match value {
             ScalarValue::U64(n) => self.unsigned(*n),
             ScalarValue::I64(n) => self.signed(*n),
+            ScalarValue::Str(text) => self.text(text),
             _ => self.scalar_apart(value),
         }
+    }
+
+    /// Writes a text between quotes.
+    #[inline(always)]
+    fn text(&mut self, text: &CowStr<'_>) -> Result<(), JsonSerializeError>
+        ensures { Writes (writing_of self.old) (calls.scalar (event.text (text_of text.now))) (answer_of result) (writing_of self.new) }
+    {
+        let after_comma = self.begin_before_comma()?;
+        push_framed(&mut self.out, after_comma, text.as_str(), false)?;
+        Ok(())
     }
 
     /// Writes a whole number without a sign.
@@ -171,7 +196,7 @@ impl<'i> Writing<'i> {
     fn unsigned_apart(&mut self, n: u64) -> Result<(), JsonSerializeError>
         ensures { Writes (writing_of self.old) (calls.scalar (event.u64 n)) (answer_of result) (writing_of self.new) }
     {
-        self.begin_apart()?;
+        self.begin_value()?;
         push_unsigned(&mut self.out, n)?;
         Ok(())
     }
@@ -193,7 +218,7 @@ impl<'i> Writing<'i> {
     fn signed_apart(&mut self, n: i64) -> Result<(), JsonSerializeError>
         ensures { Writes (writing_of self.old) (calls.scalar (event.i64 n)) (answer_of result) (writing_of self.new) }
     {
-        self.begin_apart()?;
+        self.begin_value()?;
         push_signed(&mut self.out, n)?;
         Ok(())
     }

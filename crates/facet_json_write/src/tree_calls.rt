@@ -109,7 +109,11 @@ fn write_raw(serializer: &mut JsonSerializer<'_>, json: &str) -> Result<(), Json
 fn write_bool(serializer: &mut JsonSerializer<'_>, b: bool) -> Result<(), JsonSerializeError>
     ensures { Appends serializer.old (raw_scalar (bool_text b)) (answer_of result) serializer.new }
 {
-    serializer.raw_scalar(if b { "true" } else { "false" })
+    if b {
+        serializer.raw_scalar("true")
+    } else {
+        serializer.raw_scalar("false")
+    }
 }
 
 /// Writes a whole number of 64 bits without a sign.

@@ -8,28 +8,12 @@ use Rattle.facet_json_serializer.proofs.writing.Writing.field_key.Goals as goal
 pub returns-in_default : goal.returns-in_default
 returns-in_default c = refuses _ _ _ (no_key_fits (writing_of c.args.self.now).options _ _ (sym c.struct_mark.ensures ∙ c.in_default.is))
 
-pub returns-in_err-push_separator : goal.returns-in_err-push_separator
-returns-in_err-push_separator c =
+pub returns-in_err-push_key : goal.returns-in_err-push_key
+returns-in_err-push_key c =
     let p = err_from_is_err_and c.from_residual.result c.from_residual.ensures.1 in
-    rw (p.1, p.2) (runs_out _ _ _ _ (key_fits (writing_of c.args.self.now).options _ _ _ (sym c.struct_mark.ensures ∙ c.in-Some.is)))
-
-pub returns-in_err-push_line : goal.returns-in_err-push_line
-returns-in_err-push_line c =
-    let p = err_from_is_err_and c.from_residual-in_err-push_line.result c.from_residual-in_err-push_line.ensures.1 in
-    rw (p.1, p.2) (runs_out _ _ _ _ (key_fits (writing_of c.args.self.now).options _ _ _ (sym c.struct_mark.ensures ∙ c.in-Some.is)))
-
-pub returns-in_err-push_quoted : goal.returns-in_err-push_quoted
-returns-in_err-push_quoted c =
-    let p = err_from_is_err_and c.from_residual-in_err-push_quoted.result c.from_residual-in_err-push_quoted.ensures.1 in
-    rw (p.1, p.2) (runs_out _ _ _ _ (key_fits (writing_of c.args.self.now).options _ _ _ (sym c.struct_mark.ensures ∙ c.in-Some.is)))
-
-pub returns-in_err-push_colon : goal.returns-in_err-push_colon
-returns-in_err-push_colon c =
-    let p = err_from_is_err_and c.from_residual-in_err-push_colon.result c.from_residual-in_err-push_colon.ensures.1 in
     rw (p.1, p.2) (runs_out _ _ _ _ (key_fits (writing_of c.args.self.now).options _ _ _ (sym c.struct_mark.ensures ∙ c.in-Some.is)))
 
 pub returns : goal.returns
 returns c =
     wrote _ _ _ _ (key_fits (writing_of c.args.self.now).options _ _ _ (sym c.struct_mark.ensures ∙ c.in-Some.is))
-    (key_written (writing_of c.args.self.now) _ _ _ _ _ _ _ _ c.around-depth.ensures.value c.in_ok-push_separator.ensures c.in_ok-push_line.ensures
-    c.in_ok-push_quoted.ensures c.in_ok-push_colon.ensures c.pass_first.ensures)
+    (key_written (writing_of c.args.self.now) _ _ _ _ _ c.around-depth.ensures.value c.in_ok-push_key.ensures c.pass_first.ensures)

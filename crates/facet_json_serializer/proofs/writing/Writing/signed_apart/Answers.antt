@@ -9,8 +9,8 @@ use Rattle.facet_json_serializer.specs.Writes.{runs_out}
 use Rattle.facet_json_serializer.proofs.Outcomes.{wrote, value_written, signed-text}
 use Rattle.facet_json_serializer.proofs.writing.Writing.signed_apart.Goals as goal
 
-pub returns-in_err-begin_apart : goal.returns-in_err-begin_apart
-returns-in_err-begin_apart c =
+pub returns-in_err-begin_value : goal.returns-in_err-begin_value
+returns-in_err-begin_value c =
     let p = err_from_is_err_and c.from_residual.result c.from_residual.ensures.1 in
     rw (p.1, p.2) (runs_out _ _ _ _ refl)
 
@@ -22,6 +22,6 @@ returns-in_err-push_signed c =
 pub returns : goal.returns
 returns c =
     let fits : SFits w64 c.args.n = search rules in
-    let w = writing_of c.begin_apart.new.self in
-    wrote _ _ _ _ refl (value_written _ _ (λ o. scalar_text o (event.i64 c.args.n)) _ c.in_ok-begin_apart.ensures
+    let w = writing_of c.begin_value.new.self in
+    wrote _ _ _ _ refl (value_written _ _ (λ o. scalar_text o (event.i64 c.args.n)) _ c.in_ok-begin_value.ensures
     (c.in_ok-push_signed.ensures ∙ ap (λ t. w.written ++ t) (ap signed_decimal (to_z-of_z w64 c.args.n fits) ∙ sym (signed-text w.options c.args.n))))

@@ -7,8 +7,8 @@ use Rattle.facet_json_serializer.specs.Writes.{runs_out}
 use Rattle.facet_json_serializer.proofs.Outcomes.{wrote, value_written, unsigned-text}
 use Rattle.facet_json_serializer.proofs.writing.Writing.unsigned_apart.Goals as goal
 
-pub returns-in_err-begin_apart : goal.returns-in_err-begin_apart
-returns-in_err-begin_apart c =
+pub returns-in_err-begin_value : goal.returns-in_err-begin_value
+returns-in_err-begin_value c =
     let p = err_from_is_err_and c.from_residual.result c.from_residual.ensures.1 in
     rw (p.1, p.2) (runs_out _ _ _ _ refl)
 
@@ -19,6 +19,6 @@ returns-in_err-push_unsigned c =
 
 pub returns : goal.returns
 returns c =
-    let w = writing_of c.begin_apart.new.self in
-    wrote _ _ _ _ refl (value_written _ _ (λ o. scalar_text o (event.u64 c.args.n)) _ c.in_ok-begin_apart.ensures
+    let w = writing_of c.begin_value.new.self in
+    wrote _ _ _ _ refl (value_written _ _ (λ o. scalar_text o (event.u64 c.args.n)) _ c.in_ok-begin_value.ensures
     (c.in_ok-push_unsigned.ensures ∙ ap (λ t. w.written ++ t) (sym (unsigned-text w.options c.args.n))))

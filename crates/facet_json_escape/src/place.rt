@@ -1,0 +1,61 @@
+//! Writing bytes at a place of a buffer that has room. A short text is two copies of a fixed size that overlap.
+
+ghost use Rattle.std.specs.Prelude.{◌≡◌, ◌+◌, ◌<◌, ◌≤◌, [], ◌∷◌, length, take, cond};
+ghost use Rattle.facet_json_escape.specs.Inner.Places.{Placed};
+
+use std::simd::Simd;
+
+/// Writes a byte, which is always stored, and counts only where it is wanted.
+#[inline(always)]
+pub(crate) fn place_byte(buffer: &mut [u8], at: usize, byte: u8, wanted: bool) -> usize
+    requires { at < length buffer.old }
+    ensures { Placed buffer.old buffer.new at (cond wanted (byte ∷ []) []) result }
+{
+    buffer[at] = byte;
+    if wanted { at + 1 } else { at }
+}
+
+/// Writes the first bytes of a text by one load and one store.
+#[inline(always)]
+fn place_front<const N: usize>(buffer: &mut [u8], at: usize, text: &[u8]) -> usize
+    requires { (N ≤ length text.now) × (at + N ≤ length buffer.old) }
+    ensures { Placed buffer.old buffer.new at (take N text.now) result }
+{
+    Simd::<u8, N>::from_slice(text).copy_to_slice(&mut buffer[at..]);
+    at + N
+}
+
+/// Writes a text by its first bytes and its last, which may overlap.
+#[inline(always)]
+fn place_ends<const N: usize>(buffer: &mut [u8], at: usize, text: &[u8]) -> usize
+    requires fits { at + length text.now ≤ length buffer.old }
+    requires covers { (N ≤ length text.now) × (length text.now ≤ N + N) }
+    ensures { Placed buffer.old buffer.new at text.now result }
+{
+    let last = text.len() - N;
+    place_front::<N>(buffer, at, text);
+    place_front::<N>(buffer, at + last, &text[last..])
+}
+
+/// Writes a text of up to 32 bytes.
+#[inline(always)]
+pub(crate) fn place_short(buffer: &mut [u8], at: usize, text: &[u8]) -> usize
+    requires fits { at + length text.now ≤ length buffer.old }
+    requires short { length text.now ≤ 32 }
+    ensures { Placed buffer.old buffer.new at text.now result }
+{
+    let len = text.len();
+    if len >= 16 {
+        place_ends::<16>(buffer, at, text)
+    } else if len >= 8 {
+        place_ends::<8>(buffer, at, text)
+    } else if len >= 4 {
+        place_ends::<4>(buffer, at, text)
+    } else if len >= 2 {
+        place_ends::<2>(buffer, at, text)
+    } else if len == 1 {
+        place_front::<1>(buffer, at, text)
+    } else {
+        at
+    }
+}
