@@ -4,6 +4,7 @@
 #![tactic(auto)]
 
 mod facet;
+pub mod laws;
 mod lists;
 mod maps;
 mod options;

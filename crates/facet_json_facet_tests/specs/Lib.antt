@@ -1,2 +1,4 @@
 pub mod Percents
 pub mod PercentLaws
+pub mod Accounts
+pub mod AccountLaws

@@ -13,6 +13,8 @@ pub mod MapTexts
 pub mod MembersOnWalk
 pub mod MovedNodes
 pub mod NextOnWalk
+pub mod NodesSpelled
+pub mod NodesWithin
 pub mod ObjectTexts
 pub mod OptionalLaws
 pub mod OptionalReadings
@@ -23,6 +25,7 @@ pub mod RawOnWalk
 pub mod ReadableTrees
 pub mod SkipOnWalk
 pub mod TextLaws
+pub mod TextsThrough
 pub mod TextsWithin
 pub mod TreeLaws
 pub mod TreeOnWalk

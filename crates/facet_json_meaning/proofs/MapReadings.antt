@@ -1,30 +1,19 @@
 -- How a map is read: its members one by one.
-use Rattle.std.specs.Prelude.{ℕ, List, drop, slice_get, length}
+use Rattle.std.specs.Prelude.{ℕ, List}
 use Rattle.std.specs.Option.{option_and_then}
-use Rattle.std.proofs.Common.{◌≡◌, ◌+◌, ◌⊎◌, inl, inr, ℕ, zero, suc, true, false, List, [], ◌∷◌, ◌++◌, Option, None, Some, IsSome, refl, sym, ap, ◌∙◌, arith, append_assoc, length-append}
-use Rattle.std.proofs.lemmas.List.{drop-drop}
-use Rattle.std.proofs.Math.Seq.{drop-append_seam}
-use Rattle.facet_format.specs.Complaint.{Refusal, no_memory}
-use Rattle.facet_format.specs.Event.{Event, EventKind, Passed, object, sequence_start, sequence_end, struct_start, struct_end, field_key, Text, bytes_of}
-use Rattle.facet_format.specs.Event as event
-use Rattle.facet_format.specs.Cursor.{Cursor, Source, Spot, at_spot, unpeeked}
-use Rattle.facet_format.specs.Kept.{found}
+use Rattle.std.proofs.Common.{◌≡◌, inl, inr, ℕ, List, [], Option, None, Some, refl, ap, ◌∙◌}
+use Rattle.facet_format.specs.Complaint.{Refusal}
+use Rattle.facet_format.specs.Cursor.{Cursor, Source}
 use Rattle.facet_json_token.specs.Token.{Token}
 use Rattle.facet_json_document.specs.Node.{Node, scalar, Members, no_members, member}
 use Rattle.facet_json_document.specs.Node as node
-use Rattle.facet_json_document.specs.Tree.{Pairs}
-use Rattle.facet_json_document.specs.Meaning.{tree_of, pairs_of, text_of, meaning}
-use Rattle.facet_json_document.specs.Walk.{walk, walk_members, event_at, key_event, scalar_event, name_of}
-use Rattle.facet_json_document.proofs.TreesOfParts.{object_meant, member_meant}
-use Rattle.facet_json_protocol.specs.Now.{Now, StandsAt}
+use Rattle.facet_json_document.specs.Meaning.{text_of, meaning}
+use Rattle.facet_json_protocol.specs.Now.{Now}
 use Rattle.facet_json_transcode.specs.Reading.{LacksMemory}
-use Rattle.facet_json_transcode.proofs.WalkTells.{key-named}
-use Rattle.facet_json_meaning.specs.Nodes.{StandsBefore, StandsAfter}
-use Rattle.facet_json_meaning.specs.Passing.{WalksPast, LacksAlone}
+use Rattle.facet_json_meaning.specs.Nodes.{StandsBefore}
 use Rattle.facet_json_meaning.specs.Reading.{IsRead, IsUnread}
-use Rattle.facet_json_meaning.specs.Objects.{members_of, begins_object, BeginsObject, IsNoObject, key_or_end, PassesKey, LacksKey}
+use Rattle.facet_json_meaning.specs.Objects.{members_of, BeginsObject, IsNoObject, PassesKey, LacksKey}
 use Rattle.facet_json_meaning.specs.Maps.{Entries, with_entry, with_members, map_of}
-use Rattle.facet_json_meaning.proofs.LeafReadings.{drop-get, walk-first}
 use Rattle.facet_json_meaning.proofs.MembersOnWalk.{AtMembers, object-begins, at-key, key-comes, at-end}
 
 -- ---- what is left of a map

@@ -1,6 +1,5 @@
 -- How the members of an object are passed one by one on a walk: its first event, a key with its value, and the end.
 use Rattle.std.specs.Prelude.{ℕ, List, drop, slice_get, length}
-use Rattle.std.specs.Option.{option_and_then}
 use Rattle.std.proofs.Common.{◌≡◌, ◌+◌, ◌⊎◌, inl, inr, ℕ, zero, suc, true, false, List, [], ◌∷◌, ◌++◌, Option, None, Some, IsSome, refl, sym, ap, ◌∙◌, arith, append_assoc, length-append}
 use Rattle.std.proofs.lemmas.List.{drop-drop}
 use Rattle.std.proofs.Math.Seq.{drop-append_seam}
@@ -17,13 +16,10 @@ use Rattle.facet_json_document.specs.Meaning.{tree_of, pairs_of, text_of, meanin
 use Rattle.facet_json_document.specs.Walk.{walk, walk_members, event_at, key_event, scalar_event, name_of}
 use Rattle.facet_json_document.proofs.TreesOfParts.{object_meant, member_meant}
 use Rattle.facet_json_protocol.specs.Now.{Now, StandsAt}
-use Rattle.facet_json_transcode.specs.Reading.{LacksMemory}
 use Rattle.facet_json_transcode.proofs.WalkTells.{key-named}
 use Rattle.facet_json_meaning.specs.Nodes.{StandsBefore, StandsAfter}
 use Rattle.facet_json_meaning.specs.Passing.{WalksPast, LacksAlone}
-use Rattle.facet_json_meaning.specs.Reading.{IsRead, IsUnread}
-use Rattle.facet_json_meaning.specs.Objects.{members_of, begins_object, BeginsObject, IsNoObject, key_or_end, PassesKey, LacksKey}
-use Rattle.facet_json_meaning.specs.Maps.{Entries, with_entry, with_members, map_of}
+use Rattle.facet_json_meaning.specs.Objects.{members_of, begins_object, BeginsObject, IsNoObject, key_or_end, LacksKey}
 use Rattle.facet_json_meaning.proofs.LeafReadings.{drop-get, walk-first}
 
 -- ---- one event of a walk

@@ -58,10 +58,10 @@ module _ (raw buffer after : List ℕ) (n : ℕ) (left : IsLeft buffer n (raw ++
       (sym (slice-moved buffer raw after n start finish left (omega (arith, fits.starts, fits.finishes)) (omega (arith, fits.finishes))))
   kind-same t kind e fits within = same_mark t (moved n t) (ap needs_meaning e) (e ∙ sym (ap (moved_kind n) e))
 
-  token-same : (at : ℕ) (t : Token) → TokenFits raw at t → SameToken raw buffer t (moved n t)
+  pub token-same : (at : ℕ) (t : Token) → TokenFits raw at t → SameToken raw buffer t (moved n t)
   token-same at t fits = kind-same t t.kind refl fits.kind_fits fits.within
 
-  bytes-same : (first last : Token) → first.span.offset ≤ stop last.span → stop last.span ≤ length raw →
+  pub bytes-same : (first last : Token) → first.span.offset ≤ stop last.span → stop last.span ≤ length raw →
       bytes_between raw first last ≡ bytes_between buffer (moved n first) (moved n last)
   bytes-same first last ordered within =
       sym (slice-moved buffer raw after n first.span.offset (stop last.span) left ordered within)

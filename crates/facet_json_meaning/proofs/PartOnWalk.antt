@@ -1,24 +1,15 @@
 -- What stands at a node's place on a walk, its text unread.
-use Rattle.std.proofs.Common.{◌≡◌, ℕ, zero, suc, ◌+◌, Bool, true, false, cond, List, [], ◌∷◌, ◌++◌, length, take, drop, Some, None, Ok, Err, ◌⊎◌, inl, inr, refl, sym, ap, ◌∙◌}
-use Rattle.std.specs.Str.{is_utf8}
+use Rattle.std.proofs.Common.{◌≡◌, ℕ, zero, suc, ◌+◌, List, [], ◌∷◌, ◌++◌, length, take, drop, refl, sym, ap, ◌∙◌}
 use Rattle.std.proofs.lemmas.List.{take-append-drop}
-use Rattle.facet_format.specs.Complaint.{Refusal}
 use Rattle.facet_format.specs.Event.{Passed}
-use Rattle.facet_format.specs.Cursor.{Cursor, Source, on_walk, unpeeked, current_span, no_memory_at, capture, Answer, raw, Step, repeats, captures, captures_without_memory, captures_nothing}
-use Rattle.facet_format.specs.Part.{Part, value, part_at, capture_of, captured}
+use Rattle.facet_format.specs.Cursor.{Source}
+use Rattle.facet_format.specs.Part.{Part, value, part_at}
 use Rattle.facet_format.specs.Span.{stop}
-use Rattle.facet_format.specs.Standing.{IsStep}
 use Rattle.facet_json_document.specs.Node.{Node}
 use Rattle.facet_json_document.specs.RunLaws.{last_token}
 use Rattle.facet_json_document.specs.UnreadLaws.{first_token, is_container}
 use Rattle.facet_json_document.specs.Walk.{walk}
 use Rattle.facet_json_document.proofs.Parts.WalksAreValues.{walk_is_one_value}
-use Rattle.facet_json_protocol.specs.Now.{Now, StandsAt}
-use Rattle.facet_json_protocol.specs.SkipLaws.{bytes_between}
-use Rattle.facet_json_transcode.specs.Reading.{LacksMemory}
-use Rattle.facet_json_meaning.specs.Nodes.{StandsBefore, StandsAfter}
-use Rattle.facet_json_meaning.specs.Reading.{IsRead, IsUnread}
-use Rattle.facet_json_meaning.specs.Readings.{raw_of}
 use Rattle.facet_json_meaning.proofs.LeafReadings.{walk-first}
 
 -- A place from which something comes is as many events behind the start.

@@ -1,22 +1,15 @@
 -- What the parser's answer for a skip says where it stands on a walk.
-use Rattle.std.proofs.Common.{◌≡◌, ℕ, zero, suc, ◌+◌, List, [], ◌∷◌, ◌++◌, length, take, drop, Ok, Err, inl, refl, sym, ap, ◌∙◌}
-use Rattle.std.proofs.lemmas.List.{take-append-drop}
+use Rattle.std.proofs.Common.{◌≡◌, ℕ, ◌+◌, length, Ok, Err, inl, refl, sym, ap, ◌∙◌}
 use Rattle.facet_format.specs.Complaint.{Refusal}
-use Rattle.facet_format.specs.Event.{Passed}
 use Rattle.facet_format.specs.Cursor.{Cursor, Source, on_walk, unpeeked, current_span, no_memory_at, skip, Answer, skipped, Step, repeats, skips, skips_without_memory, skips_nothing}
-use Rattle.facet_format.specs.Part.{Part, value, part_at, skip_of}
-use Rattle.facet_format.specs.Span.{stop}
+use Rattle.facet_format.specs.Part.{Part, part_at, skip_of}
 use Rattle.facet_format.specs.Standing.{IsStep}
 use Rattle.facet_json_document.specs.Node.{Node}
-use Rattle.facet_json_document.specs.RunLaws.{last_token}
-use Rattle.facet_json_document.specs.UnreadLaws.{first_token, is_container}
 use Rattle.facet_json_document.specs.Walk.{walk}
-use Rattle.facet_json_document.proofs.Parts.WalksAreValues.{walk_is_one_value}
 use Rattle.facet_json_protocol.specs.Now.{Now, StandsAt}
 use Rattle.facet_json_transcode.specs.Reading.{LacksMemory}
 use Rattle.facet_json_meaning.specs.Nodes.{StandsBefore, StandsAfter}
 use Rattle.facet_json_meaning.specs.Reading.{IsRead, IsUnread}
-use Rattle.facet_json_meaning.proofs.LeafReadings.{walk-first}
 use Rattle.facet_json_meaning.specs.Passing.{anything}
 use Rattle.facet_json_meaning.proofs.PartOnWalk.{part_of_node, node-there}
 

@@ -5,6 +5,7 @@ pub mod Readings
 pub mod Objects
 pub mod Maps
 pub mod Laws
+pub mod SameBytes
 pub mod Borrowed
 pub mod Optional
 pub mod Peeking

@@ -1,3 +1,5 @@
 //! What it means that a type is read from JSON and written as JSON: definitions, with their laws, and no code that runs. The types
 //! and the code are in `facet_json_facet`.
 #![tactic(auto)]
+
+pub mod laws;

@@ -1,4 +1,4 @@
--- The laws of std's types.
+-- The laws of each type.
 use Rattle.std.proofs.Common.{ℕ}
 use Rattle.facet_json_meaning.specs.Readings.{bool_of, unsigned_of, signed_of, text_of, u128_of, i128_of, raw_of}
 use Rattle.facet_json_meaning.proofs.BorrowedLaws.{borrowed-same, unread-same, unread-reads_back}
@@ -8,6 +8,7 @@ use Rattle.facet_json_meaning.proofs.MapLaws.{map-same}
 use Rattle.facet_json_meaning.proofs.MapTexts.{map-reads_back}
 use Rattle.facet_json_meaning.proofs.RawLaws.{raw-same, raw-reads_back}
 use Rattle.facet_json_meaning.proofs.TextLaws.{text-reads_back}
+use Rattle.facet_json_meaning.proofs.TreeLaws.{tree-same, tree-reads_back}
 use Rattle.facet_json_meaning.proofs.TruthLaws.{bool-reads_back}
 use Rattle.facet_json_meaning.proofs.WholeNumbers.{u8-reads_back, u16-reads_back, u32-reads_back, u64-reads_back, i8-reads_back, i16-reads_back, i32-reads_back, i64-reads_back}
 use Rattle.facet_json_meaning.proofs.WideNumbers.{u128-reads_back, i128-reads_back}
@@ -69,3 +70,6 @@ entries-laws {s = s} laws = record {
   same_reading_borrowed = map-same s.reading_borrowed laws.same_reading_borrowed;
   reads_back = map-reads_back s.reading s.tree_of s.readable laws.same_reading laws.reads_back;
 }
+
+pub any-laws : ShapeLaws types.any
+any-laws = record { same_reading = tree-same; same_reading_borrowed = tree-same; reads_back = tree-reads_back }

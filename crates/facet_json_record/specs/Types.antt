@@ -1,13 +1,16 @@
--- How the values of std's types are read and written.
+-- How the values of each type are read and written that has the trait. A type that may be null, `Option`, is `nullable` of `Shapes`.
 use Rattle.std.specs.Prelude.{◌≡◌, ℕ, ◌^◌, ◌<◌, ℤ, Bool, true, List}
 use Rattle.std.specs.List.{All}
 use Rattle.std.specs.Str.{is_utf8}
+use Rattle.facet_json_document.specs.Meaning.{tree_of}
+use Rattle.facet_json_document.specs.Tree.{Tree}
 use Rattle.facet_json_document.specs.Tree as tree
 use Rattle.facet_json_written.specs.AsRead.{IsWithin}
 use Rattle.facet_json_meaning.specs.Borrowed.{borrowed_text, unread_text}
 use Rattle.facet_json_meaning.specs.Lists.{list_of, list_by}
 use Rattle.facet_json_meaning.specs.Maps.{Entries, map_of, tree_of_entries, IsReadableMap}
 use Rattle.facet_json_meaning.specs.Readings.{leaf, bool_of, unsigned_of, signed_of, text_of, u128_of, i128_of, raw_of, IsBareDocument}
+use Rattle.facet_json_meaning.specs.Trees.{IsReadableTree}
 use Rattle.facet_json_record.specs.Shapes.{Shape, shape}
 
 abbrev pub bool : Shape Bool
@@ -78,3 +81,9 @@ list s = shape (list_of s.reading) (list_of s.reading_borrowed) (list_by s.tree_
 -- `BTreeMap` from `String`
 abbrev pub entries : {V : Type 0} → Shape V → Shape (Entries V)
 entries s = shape (map_of s.reading) (map_of s.reading_borrowed) (tree_of_entries s.tree_of) (IsReadableMap s.readable)
+
+-- ---- any value
+
+-- `Tree`
+abbrev pub any : Shape Tree
+any = shape tree_of tree_of (λ t. t) IsReadableTree

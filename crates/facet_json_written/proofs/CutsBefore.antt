@@ -21,7 +21,7 @@ moved_cut n c = c
 -- ---- brackets, colons, commas and literals
 
 -- Their kind does not say where they stand.
-structural-stays : (n b : ℕ) (kind : Kind) → IsStructural b kind → moved_kind n kind ≡ kind
+pub structural-stays : (n b : ℕ) (kind : Kind) → IsStructural b kind → moved_kind n kind ≡ kind
 structural-stays n _ _ object_starts = refl
 structural-stays n _ _ object_ends = refl
 structural-stays n _ _ array_starts = refl
@@ -29,7 +29,7 @@ structural-stays n _ _ array_ends = refl
 structural-stays n _ _ colon_stands = refl
 structural-stays n _ _ comma_stands = refl
 
-literal-stays : (n : ℕ) (word : List ℕ) (kind : Kind) → IsLiteral word kind → moved_kind n kind ≡ kind
+pub literal-stays : (n : ℕ) (word : List ℕ) (kind : Kind) → IsLiteral word kind → moved_kind n kind ≡ kind
 literal-stays n _ _ null_stands = refl
 literal-stays n _ _ true_stands = refl
 literal-stays n _ _ false_stands = refl
@@ -48,7 +48,7 @@ common_len-stays (w ∷ word) (b ∷ bytes) after e = at (b == w) (λ h. common_
     at false h e = absurd (omega arith)
 
 -- Where a word is cut as a token it is all there.
-cut_word-whole : (at : ℕ) (bytes word : List ℕ) (kind : Kind) (n : ℕ) (t : Token) → cut_word at bytes word kind n ≡ token t →
+pub cut_word-whole : (at : ℕ) (bytes word : List ℕ) (kind : Kind) (n : ℕ) (t : Token) → cut_word at bytes word kind n ≡ token t →
     n ≡ length word
 cut_word-whole at bytes word kind n t e = by (n == length word) refl (slice_get bytes n) e
   where
@@ -61,7 +61,7 @@ cut_word-whole at bytes word kind n t e = by (n == length word) refl (slice_get 
     by false same (Some b) e = cc
 
 -- A word that is all there is cut as its token.
-cut_word-is : (at : ℕ) (bytes word : List ℕ) (kind : Kind) (n : ℕ) → n ≡ length word →
+pub cut_word-is : (at : ℕ) (bytes word : List ℕ) (kind : Kind) (n : ℕ) → n ≡ length word →
     cut_word at bytes word kind n ≡ token_at kind at (length word)
 cut_word-is at bytes word kind n e = rw (eq-eqb n (length word) e) (ap (token_at kind at) e)
 
@@ -112,7 +112,7 @@ text-moved n at bytes after t (Some k) same below e =
 
 -- ---- numbers
 
-bare_minus-no_token : (at : ℕ) (bytes : List ℕ) (t : Token) → cut_bare_minus at bytes ≡ token t → ⊥
+pub bare_minus-no_token : (at : ℕ) (bytes : List ℕ) (t : Token) → cut_bare_minus at bytes ≡ token t → ⊥
 bare_minus-no_token at [] t e = cc
 bare_minus-no_token at (b ∷ bytes) t e = cc
 

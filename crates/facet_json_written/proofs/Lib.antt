@@ -1,5 +1,6 @@
 pub mod Containers
 pub mod CutsBefore
+pub mod CutsWithin
 pub mod EscapedBytes
 pub mod HexTexts
 pub mod Literals

@@ -49,13 +49,13 @@ moved-stop n t = omega arith
 -- ---- they spell the same node, moved
 
 -- A scalar's token moved is one.
-moved-is_scalar : (n : ℕ) (kind : Kind) → is_scalar (moved_kind n kind) ≡ is_scalar kind
+pub moved-is_scalar : (n : ℕ) (kind : Kind) → is_scalar (moved_kind n kind) ≡ is_scalar kind
 moved-is_scalar n (string start finish has_escapes) = refl
 moved-is_scalar n (number start finish hint) = refl
 moved-is_scalar n kind = refl
 
 -- A string's token moved is one.
-moved-is_string : (n : ℕ) (kind : Kind) → is_string (moved_kind n kind) ≡ is_string kind
+pub moved-is_string : (n : ℕ) (kind : Kind) → is_string (moved_kind n kind) ≡ is_string kind
 moved-is_string n (string start finish has_escapes) = refl
 moved-is_string n (number start finish hint) = refl
 moved-is_string n kind = refl
