@@ -6,6 +6,7 @@ use Rattle.facet_json_token.specs.Views.{mode_of}
 use Rattle.facet_json_token.proofs.InSight.{past_gap-here, above_space}
 use Rattle.facet_json_token.proofs.Offsets.{slice_get-from_read}
 use Rattle.facet_json_token.proofs.quick.gap_end.Goals as goal
+
 pub returns-in-Some-clause-end : goal.returns-in-Some-clause-end
 returns-in-Some-clause-end c =
     let buffer = c.args.buffer.now in
