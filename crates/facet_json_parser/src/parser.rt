@@ -20,6 +20,7 @@ ghost use Rattle.facet_json_standing.specs.Steps.{QueuesNow};
 
 use facet_format::{FormatParser, ParseError, ParseEvent, SavePoint, Span};
 use facet_json_place::{Language, Refused};
+use facet_json_reader::Trust;
 use facet_json_standing::{Point, Standing, bring_back, keep};
 use facet_json_token::Mode;
 use std::alloc::Global;
@@ -57,6 +58,7 @@ pub struct JsonParser<'de> {
     alloc: Global,
     input: &'de [u8],
     language: Language,
+    trust: Trust,
     standing: Standing<'de>,
     refusal: Option<Refused>,
     points: Vec<Point<'de>>,
@@ -64,9 +66,10 @@ pub struct JsonParser<'de> {
 }
 
 impl<'de> Model for JsonParser<'de> {
-    ghost use Rattle.std.specs.Prelude.{map};
+    ghost use Rattle.std.specs.Prelude.{◌≡◌, map, IsUtf8};
     ghost use Rattle.std.specs.Option.{option_map};
     ghost use Rattle.facet_json_protocol.specs.Now.{Now};
+    ghost use Rattle.facet_json_reader.specs.declared.quick.Trust.TheVariants.{Utf8};
     ghost use Rattle.facet_json_place.specs.Views.{language_of, refused_of};
     ghost use Rattle.facet_json_standing.specs.Ready.{IsReady};
     ghost use Rattle.facet_json_standing.specs.Views.{filling_of, point_of, now_of};
@@ -76,7 +79,7 @@ impl<'de> Model for JsonParser<'de> {
     ghost view = { λ p. now_of p.input.now p.language p.standing p.refusal p.points.items p.counter };
 
     ghost invariant = { λ p. IsReady p.input.now (language_of p.language) (filling_of p.standing) (option_map refused_of p.refusal)
-        (map point_of p.points.items) p.counter };
+        (map point_of p.points.items) p.counter × (p.trust ≡ Utf8 → IsUtf8 p.input.now) };
 }
 
 impl<'de> JsonParser<'de> {
@@ -84,7 +87,7 @@ impl<'de> JsonParser<'de> {
     pub fn new(alloc: Global, input: &'de [u8]) -> JsonParser<'de>
         ensures { result ≡ fresh input.now plain }
     {
-        JsonParser::in_mode(alloc, input, Mode::Plain)
+        JsonParser::in_mode(alloc, input, Mode::Plain, Trust::Nothing)
     }
 
     /// A parser of a document in which comments may stand wherever white space may: `//` to the line's end, and `/*` to
@@ -92,7 +95,7 @@ impl<'de> JsonParser<'de> {
     pub fn new_jsonc(alloc: Global, input: &'de [u8]) -> JsonParser<'de>
         ensures { result ≡ fresh input.now jsonc }
     {
-        JsonParser::in_mode(alloc, input, Mode::Jsonc)
+        JsonParser::in_mode(alloc, input, Mode::Jsonc, Trust::Nothing)
     }
 
     /// The parser that `new` makes, for a caller that knows the input to be UTF-8, as the bytes of a `str` are. It
@@ -101,7 +104,7 @@ impl<'de> JsonParser<'de> {
         requires utf8 { IsUtf8 input.now }
         ensures { result ≡ fresh input.now plain }
     {
-        JsonParser::new(alloc, input)
+        JsonParser::in_mode(alloc, input, Mode::Plain, Trust::Utf8)
     }
 
     /// The parser that `new_jsonc` makes, for a caller that knows the input to be UTF-8, as the bytes of a `str` are. It
@@ -110,17 +113,19 @@ impl<'de> JsonParser<'de> {
         requires utf8 { IsUtf8 input.now }
         ensures { result ≡ fresh input.now jsonc }
     {
-        JsonParser::new_jsonc(alloc, input)
+        JsonParser::in_mode(alloc, input, Mode::Jsonc, Trust::Utf8)
     }
 
     /// A parser before the input.
-    fn in_mode(alloc: Global, input: &'de [u8], mode: Mode) -> JsonParser<'de>
+    fn in_mode(alloc: Global, input: &'de [u8], mode: Mode, trust: Trust) -> JsonParser<'de>
+        requires { trust ≡ Trust.Utf8 → IsUtf8 input.now }
         ensures { result ≡ fresh input.now (mode_of mode) }
     {
         JsonParser {
             alloc,
             input,
             language: Language::Lenient(mode),
+            trust,
             standing: Standing::new(alloc),
             refusal: None,
             points: Vec::new(alloc),
@@ -163,7 +168,8 @@ impl<'de> JsonParser<'de> {
         if self.refusal.is_some() {
             return None;
         }
-        self.standing.next_quickly(self.input, self.language)
+        self.standing
+            .next_quickly(self.input, self.language, self.trust)
     }
 
     /// The next event, token by token, as a value of its own: so an event that is passed at once, which never goes through this,

@@ -6,4 +6,5 @@ mod quick;
 mod reader;
 
 pub use materialized::{MaterializedToken, TokenKind};
+pub use quick::Trust;
 pub use reader::{Held, Reader, Stage};

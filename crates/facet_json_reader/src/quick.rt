@@ -1,7 +1,7 @@
 //! The next event passed at once, where a few bytes decide it. In all other cases nothing is done, and the next event is read
 //! token by token, in `reader`.
 
-ghost use Rattle.std.specs.Prelude.{◌≡◌, ◌≤◌, ◌<◌, ◌+◌, ◌-◌, ℕ, List, Some, length, slice_get, false, IfSome, MatchOption};
+ghost use Rattle.std.specs.Prelude.{◌≡◌, ◌≤◌, ◌<◌, ◌+◌, ◌-◌, ℕ, List, Some, length, slice_get, false, IfSome, IsUtf8, MatchOption};
 ghost use Rattle.facet_format.specs.Bytes.{quote};
 ghost use Rattle.facet_format.specs.Event.{scalar, field_key, borrowed};
 ghost use Rattle.facet_format.specs.Span.{stop, span_at};
@@ -24,7 +24,7 @@ use facet_format::numeral::parts_at;
 use facet_format::{
     ContainerKind, FieldKey, FieldLocationHint, ParseEvent, ParseEventKind, ScalarValue, Span,
 };
-use facet_json_decode::plain_text;
+use facet_json_decode::{plain_text, quoted_text};
 use facet_json_number::{ParsedNumber, parse_measured};
 use facet_json_place::Place;
 use facet_json_token::Mode;
@@ -32,12 +32,27 @@ use facet_json_token::plain_cut::common_len;
 use facet_json_token::quick::{gap_end, plain_text_end};
 use std::borrow::CowStr;
 
+/// What is known of an input's bytes.
+#[derive(Debug, Clone, Copy, PartialEq, Eq)]
+pub enum Trust {
+    /// Nothing: each text is checked.
+    Nothing,
+    /// They are UTF-8.
+    Utf8,
+}
+
 impl Reader {
     /// Passes the next event and answers it, where a few bytes decide it: a bracket, a text or a key without an escape, a number
     /// that takes no memory, a literal. Else nothing changes.
     #[inline(always)]
-    pub fn pass_quickly<'de>(&mut self, input: &'de [u8], mode: Mode) -> Option<ParseEvent<'de>>
+    pub fn pass_quickly<'de>(
+        &mut self,
+        input: &'de [u8],
+        mode: Mode,
+        trust: Trust,
+    ) -> Option<ParseEvent<'de>>
         requires within { stop (span_of self.old.last) ≤ length input.now }
+        requires utf8 { trust ≡ Trust.Utf8 → IsUtf8 input.now }
         ensures { MatchOption result (self.new ≡ self.old)
             (λ e. PassesEvent input.now (mode_of mode) self.old (event_of e) self.new) }
     {
@@ -47,12 +62,12 @@ impl Reader {
         let (place, at) = self.past_separators(input, mode, place);
         let first = *input.get(at)?;
         match place {
-            Place::BeforeKey => self.pass_member(input, mode, at, first),
-            Place::BeforeItem => self.pass_item(input, at, first),
+            Place::BeforeKey => self.pass_member(input, mode, trust, at, first),
+            Place::BeforeItem => self.pass_item(input, trust, at, first),
             Place::AfterMember => self.pass_object_end(at, first),
             Place::AfterItem => self.pass_array_end(at, first),
-            Place::Root => self.pass_value(input, at, first),
-            Place::AfterColon => self.pass_value(input, at, first),
+            Place::Root => self.pass_value(input, trust, at, first),
+            Place::AfterColon => self.pass_value(input, trust, at, first),
         }
     }
 
@@ -77,15 +92,17 @@ impl Reader {
         &mut self,
         input: &'de [u8],
         mode: Mode,
+        trust: Trust,
         at: usize,
         first: u8,
     ) -> Option<ParseEvent<'de>>
-        requires { slice_get input.now at ≡ Some first }
+        requires here { slice_get input.now at ≡ Some first }
+        requires utf8 { trust ≡ Trust.Utf8 → IsUtf8 input.now }
         ensures { Reaches input.now (mode_of mode) self.old before_key at → MatchOption result (self.new ≡ self.old)
             (λ e. PassesEvent input.now (mode_of mode) self.old (event_of e) self.new) }
     {
         match first {
-            b'"' => self.pass_key(input, mode, at),
+            b'"' => self.pass_key(input, mode, trust, at),
             b'}' => Some(self.pass_end(ContainerKind::Object, at)),
             _ => None,
         }
@@ -121,27 +138,41 @@ impl Reader {
 
     /// Passes the start of an item, or the bracket that closes an array, of which this is the first byte.
     #[inline(always)]
-    fn pass_item<'de>(&mut self, input: &'de [u8], at: usize, first: u8) -> Option<ParseEvent<'de>>
-        requires { slice_get input.now at ≡ Some first }
+    fn pass_item<'de>(
+        &mut self,
+        input: &'de [u8],
+        trust: Trust,
+        at: usize,
+        first: u8,
+    ) -> Option<ParseEvent<'de>>
+        requires here { slice_get input.now at ≡ Some first }
+        requires utf8 { trust ≡ Trust.Utf8 → IsUtf8 input.now }
         ensures { (mode : SpecMode) → Reaches input.now mode self.old before_item at → MatchOption result (self.new ≡ self.old)
             (λ e. PassesEvent input.now mode self.old (event_of e) self.new) }
     {
         if first == b']' {
             Some(self.pass_end(ContainerKind::Array, at))
         } else {
-            self.pass_value(input, at, first)
+            self.pass_value(input, trust, at, first)
         }
     }
 
     /// Passes the start of a value, or a whole scalar, of which this is the first byte.
     #[inline(always)]
-    fn pass_value<'de>(&mut self, input: &'de [u8], at: usize, first: u8) -> Option<ParseEvent<'de>>
-        requires { slice_get input.now at ≡ Some first }
+    fn pass_value<'de>(
+        &mut self,
+        input: &'de [u8],
+        trust: Trust,
+        at: usize,
+        first: u8,
+    ) -> Option<ParseEvent<'de>>
+        requires here { slice_get input.now at ≡ Some first }
+        requires utf8 { trust ≡ Trust.Utf8 → IsUtf8 input.now }
         ensures { (mode : SpecMode) (place : SpecPlace) → MayBeValue place → Reaches input.now mode self.old place at
             → MatchOption result (self.new ≡ self.old) (λ e. PassesEvent input.now mode self.old (event_of e) self.new) }
     {
         match first {
-            b'"' => self.pass_text(input, at),
+            b'"' => self.pass_text(input, trust, at),
             b'{' => self.pass_start(ContainerKind::Object, at),
             b'[' => self.pass_start(ContainerKind::Array, at),
             b't' => self.pass_word(input, at, b"true", ScalarValue::Bool(true)),
@@ -154,12 +185,19 @@ impl Reader {
 
     /// Passes a key that holds no escape, and its colon.
     #[inline(always)]
-    fn pass_key<'de>(&mut self, input: &'de [u8], mode: Mode, at: usize) -> Option<ParseEvent<'de>>
-        requires { slice_get input.now at ≡ Some quote }
+    fn pass_key<'de>(
+        &mut self,
+        input: &'de [u8],
+        mode: Mode,
+        trust: Trust,
+        at: usize,
+    ) -> Option<ParseEvent<'de>>
+        requires here { slice_get input.now at ≡ Some quote }
+        requires utf8 { trust ≡ Trust.Utf8 → IsUtf8 input.now }
         ensures { Reaches input.now (mode_of mode) self.old before_key at → MatchOption result (self.new ≡ self.old)
             (λ e. PassesEvent input.now (mode_of mode) self.old (event_of e) self.new) }
     {
-        let (end, name) = text_at(input, at)?;
+        let (end, name) = text_at(input, trust, at)?;
         let colon = gap_end(input, end + 1, mode);
         match input.get(colon) {
             Some(b':') => Some(self.pass_name(name, Span::new(at, end + 1 - at), colon)),
@@ -169,12 +207,18 @@ impl Reader {
 
     /// Passes a text that holds no escape.
     #[inline(always)]
-    fn pass_text<'de>(&mut self, input: &'de [u8], at: usize) -> Option<ParseEvent<'de>>
-        requires { slice_get input.now at ≡ Some quote }
+    fn pass_text<'de>(
+        &mut self,
+        input: &'de [u8],
+        trust: Trust,
+        at: usize,
+    ) -> Option<ParseEvent<'de>>
+        requires here { slice_get input.now at ≡ Some quote }
+        requires utf8 { trust ≡ Trust.Utf8 → IsUtf8 input.now }
         ensures { (mode : SpecMode) (place : SpecPlace) → MayBeValue place → Reaches input.now mode self.old place at
             → MatchOption result (self.new ≡ self.old) (λ e. PassesEvent input.now mode self.old (event_of e) self.new) }
     {
-        let (end, text) = text_at(input, at)?;
+        let (end, text) = text_at(input, trust, at)?;
         Some(self.pass_scalar(
             ScalarValue::Str(CowStr::Borrowed(text)),
             Span::new(at, end + 1 - at),
@@ -270,15 +314,22 @@ impl Reader {
 
 /// The text of the string whose quote is at `at`, where it holds no escape, and the offset of the quote that closes it.
 #[inline(always)]
-fn text_at<'de>(input: &'de [u8], at: usize) -> Option<(usize, &'de str)>
-    requires { slice_get input.now at ≡ Some quote }
+fn text_at<'de>(input: &'de [u8], trust: Trust, at: usize) -> Option<(usize, &'de str)>
+    requires here { slice_get input.now at ≡ Some quote }
+    requires utf8 { trust ≡ Trust.Utf8 → IsUtf8 input.now }
     ensures text { IfSome result (λ r. IsPlainText input.now at r.0 r.1.now) }
     ensures within { IfSome result (λ r. (at < r.0) × (r.0 < length input.now)) }
 {
     let end = plain_text_end(input, at)?;
-    match plain_text(input, at + 1, end) {
-        Some(text) => Some((end, text)),
-        None => None,
+    match trust {
+        Trust::Nothing => match plain_text(input, at + 1, end) {
+            Some(text) => Some((end, text)),
+            None => None,
+        },
+        Trust::Utf8 => match input.get(end) {
+            Some(b'"') => Some((end, quoted_text(input, at + 1, end))),
+            _ => None,
+        },
     }
 }
 

@@ -1,7 +1,7 @@
 //! Where a parser stands: after the last token that was passed, with an event that is read but not passed.
 
 ghost use Rattle.std.specs.Prelude.{◌≡◌, ◌≤◌, ℕ, List, None, length, IfOk, IfErr, OnOk, MatchOption, MatchResult};
-ghost use Rattle.std.specs.Prelude.{Ok, Err, Some, OnSome, ◌<◌};
+ghost use Rattle.std.specs.Prelude.{Ok, Err, Some, OnSome, IsUtf8, ◌<◌};
 ghost use Rattle.std.specs.Option.{option_map};
 ghost use Rattle.std.specs.VecDeque.{deque_len, deque_capacity};
 ghost use Rattle.facet_json_standing.specs.Ready.{IsSound};
@@ -21,7 +21,7 @@ ghost use Rattle.facet_json_standing.specs.Views.{filling_of};
 
 use facet_format::{ParseEvent, ParseEventKind, Span};
 use facet_json_place::{Language, Refused};
-use facet_json_reader::{Held, Reader};
+use facet_json_reader::{Held, Reader, Trust};
 use facet_json_skip::{Part, capture, find, leave, pass};
 use std::alloc::{AllocError, Global};
 use std::collections::VecDeque;
@@ -88,7 +88,13 @@ impl<'de> Standing<'de> {
 
     /// Passes the next event and answers it, where none is held and a few bytes decide it. Else nothing changes.
     #[inline(always)]
-    pub fn next_quickly(&mut self, input: &'de [u8], language: Language) -> Option<ParseEvent<'de>>
+    pub fn next_quickly(
+        &mut self,
+        input: &'de [u8],
+        language: Language,
+        trust: Trust,
+    ) -> Option<ParseEvent<'de>>
+        requires utf8 { trust ≡ Trust.Utf8 → IsUtf8 input.now }
         requires sound { IsSound input.now (language_of language) (filling_of self.old) }
         ensures sound { IsSound input.now (language_of language) (filling_of self.new) }
         ensures passed { MatchOption result (self.new ≡ self.old)
@@ -98,7 +104,7 @@ impl<'de> Standing<'de> {
         if self.held.is_some() {
             return None;
         }
-        self.reader.pass_quickly(input, language.mode())
+        self.reader.pass_quickly(input, language.mode(), trust)
     }
 
     /// Answers a copy of the next event, which stays the next one, or `None` after the document's last one.

@@ -6,6 +6,8 @@ use Rattle.facet_json_parser.proofs.ParserWithin.{first-ready}
 use Rattle.facet_json_parser.proofs.parser.JsonParser.in_mode.Goals as goal
 
 pub invariant_of-result : goal.invariant_of-result
-invariant_of-result c =
-    first-ready c.args.input.now (lenient (mode_of c.args.mode)) (filling_of c.new.result) (map point_of c.new-2.result.items) c.new.ensures
-    (ap (map point_of) c.new-2.ensures.items)
+invariant_of-result c = (
+  first-ready c.args.input.now (lenient (mode_of c.args.mode)) (filling_of c.new.result) (map point_of c.new-2.result.items) c.new.ensures
+      (ap (map point_of) c.new-2.ensures.items),
+  c.requires,
+)

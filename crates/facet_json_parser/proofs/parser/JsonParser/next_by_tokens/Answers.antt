@@ -16,7 +16,7 @@ returns-in_err-unrefused c =
 
 pub refuse-requires : goal.refuse-requires
 refuse-requires c =
-    let known = ready-within _ _ _ _ _ _ _ c.args.self.now c.self.invariant refl c.self.view_is in
+    let known = ready-within _ _ _ _ _ _ _ c.args.self.now c.self.invariant.0 refl c.self.view_is in
     record {
       within = next-refusal_within _ c.args.self.now (refused_of c.in-Err.refused) (spot_of (filling_of c.next.new.self)) c.self.view_is
           c.in_ok-unrefused.ensures known c.in-Err.ensures.passed;

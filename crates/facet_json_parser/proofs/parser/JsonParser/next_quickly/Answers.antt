@@ -11,7 +11,7 @@ returns-clause-event c =
     (sym c.is_some.ensures ∙ c.if-is_some.false) c.next_quickly.ensures.passed
 
 pub returns-clause-within : goal.returns-clause-within
-returns-clause-within c = ready-within _ _ _ _ _ _ _ c.args.self.now c.self.invariant refl c.self.view_is
+returns-clause-within c = ready-within _ _ _ _ _ _ _ c.args.self.now c.self.invariant.0 refl c.self.view_is
 
 pub returns-then-is_some-clause-within : goal.returns-then-is_some-clause-within
-returns-then-is_some-clause-within c = ready-within _ _ _ _ _ _ _ c.args.self.now c.self.invariant refl c.self.view_is
+returns-then-is_some-clause-within c = ready-within _ _ _ _ _ _ _ c.args.self.now c.self.invariant.0 refl c.self.view_is

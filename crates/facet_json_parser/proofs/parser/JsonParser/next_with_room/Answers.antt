@@ -15,11 +15,11 @@ returns-in_err-unrefused-clause-event c =
     rw (p.1, p.2) (queue-repeats c.args.self.now _ c.in_err-unrefused.ensures)
 
 pub returns-in_err-unrefused-clause-within : goal.returns-in_err-unrefused-clause-within
-returns-in_err-unrefused-clause-within c = ready-within _ _ _ _ _ _ _ _ c.self.invariant refl c.self.view_is
+returns-in_err-unrefused-clause-within c = ready-within _ _ _ _ _ _ _ _ c.self.invariant.0 refl c.self.view_is
 
 pub refuse-requires : goal.refuse-requires
 refuse-requires c =
-    let known = ready-within _ _ _ _ _ _ _ c.args.self.now c.self.invariant refl c.self.view_is in
+    let known = ready-within _ _ _ _ _ _ _ c.args.self.now c.self.invariant.0 refl c.self.view_is in
     record {
       within = queue-refusal_within _ c.args.self.now (refused_of c.in-Err.refused) (spot_of (filling_of c.next_with_room.new.self)) c.self.view_is
           c.in_ok-unrefused.ensures known c.in-Err.ensures.passed;
@@ -31,7 +31,7 @@ returns-in-Ok-clause-event c =
     c.in-Ok.ensures.passed
 
 pub returns-in-Ok-clause-within : goal.returns-in-Ok-clause-within
-returns-in-Ok-clause-within c = ready-within _ _ _ _ _ _ _ _ c.self.invariant refl c.self.view_is
+returns-in-Ok-clause-within c = ready-within _ _ _ _ _ _ _ _ c.self.invariant.0 refl c.self.view_is
 
 pub returns-in-Err-clause-event : goal.returns-in-Err-clause-event
 returns-in-Err-clause-event c =
@@ -39,4 +39,4 @@ returns-in-Err-clause-event c =
     c.in-Err.ensures.passed c.refuse.ensures.kept c.refuse.ensures.error
 
 pub returns-in-Err-clause-within : goal.returns-in-Err-clause-within
-returns-in-Err-clause-within c = ready-within _ _ _ _ _ _ _ _ c.self.invariant refl c.self.view_is
+returns-in-Err-clause-within c = ready-within _ _ _ _ _ _ _ _ c.self.invariant.0 refl c.self.view_is

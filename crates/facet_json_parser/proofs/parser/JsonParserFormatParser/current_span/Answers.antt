@@ -12,13 +12,13 @@ told-is made now s e same = rw (same, e) refl
 
 pub returns-clause-steps : goal.returns-clause-steps
 returns-clause-steps c =
-    let told = c.span.ensures _ _ c.self.invariant.stands.filled in
+    let told = c.span.ensures _ _ c.self.invariant.0.stands.filled in
     move-steps _ _ _ _ (told-moves _ _ (told-is _ _ _ c.self.view_is told))
 
 pub returns-clause-told : goal.returns-clause-told
-returns-clause-told c = told-is _ _ _ c.self.view_is (c.span.ensures _ _ c.self.invariant.stands.filled)
+returns-clause-told c = told-is _ _ _ c.self.view_is (c.span.ensures _ _ c.self.invariant.0.stands.filled)
 
 pub returns-clause-within : goal.returns-clause-within
 returns-clause-within c =
-    let known = ready-within _ _ _ _ _ _ _ c.args.self.now c.self.invariant refl c.self.view_is in
-    told-within _ c.args.self.now _ c.self.view_is known (c.span.ensures _ _ c.self.invariant.stands.filled)
+    let known = ready-within _ _ _ _ _ _ _ c.args.self.now c.self.invariant.0 refl c.self.view_is in
+    told-within _ c.args.self.now _ c.self.view_is known (c.span.ensures _ _ c.self.invariant.0.stands.filled)

@@ -11,13 +11,15 @@ use Rattle.facet_json_parser.proofs.parser.JsonParserFormatParser.restore.Goals 
 
 pub invariant_of-self : goal.invariant_of-self
 invariant_of-self c =
-    let back = c.in-Some.ensures _ _ _ c.self.invariant.keeps in
-    old-ready _ _ _ _ _ (map point_of c.bring_back.new.points.items) _ c.args.point.0 (filling_of c.in-Some.standing) c.self.invariant back.0 back.1
+    let back = c.in-Some.ensures _ _ _ c.self.invariant.0.keeps in (
+      old-ready _ _ _ _ _ (map point_of c.bring_back.new.points.items) _ c.args.point.0 (filling_of c.in-Some.standing) c.self.invariant.0 back.0 back.1,
+      c.self.invariant.1,
+    )
 
 pub returns-in-Some : goal.returns-in-Some
 returns-in-Some c =
     let i = c.self.inside in
-    let back = c.in-Some.ensures _ _ _ c.self.invariant.keeps in
+    let back = c.in-Some.ensures _ _ _ c.self.invariant.0.keeps in
     let here = found-spot c.args.point.0 (map point_of i.points.items) ∙ ap (option_map spot_of) back.0 in
     let left = ap (map kept_spot) back.1 ∙ sym (without-spots c.args.point.0 (map point_of i.points.items)) in
     let move = restore-brings _ c.args.self.now (map kept_spot (map point_of c.bring_back.new.points.items)) _ (spot_of (filling_of c.in-Some.standing)) c.self.view_is here left in

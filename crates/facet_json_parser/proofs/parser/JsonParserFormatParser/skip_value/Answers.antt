@@ -12,14 +12,14 @@ use Rattle.facet_json_parser.proofs.parser.JsonParserFormatParser.skip_value.Goa
 pub returns-in_err-unrefused : goal.returns-in_err-unrefused
 returns-in_err-unrefused c =
     let p = err_from_is_err_and c.from_residual.result c.from_residual.ensures.1 in
-    let known = ready-within _ _ _ _ _ _ _ c.args.self.now c.self.invariant refl c.self.view_is in
+    let known = ready-within _ _ _ _ _ _ _ c.args.self.now c.self.invariant.0 refl c.self.view_is in
     let move = skip-repeats c.args.self.now _ c.in_err-unrefused.ensures in
     let gone = moves-goes_on _ known _ refl move in
     rw (p.1, p.2) (record { steps = move-steps _ _ _ _ move; lowers = gone.onward; moves = move; within = answer-within _ _ known move; onward = gone; shorter = tt })
 
 pub refuse-requires : goal.refuse-requires
 refuse-requires c =
-    let known = ready-within _ _ _ _ _ _ _ c.args.self.now c.self.invariant refl c.self.view_is in
+    let known = ready-within _ _ _ _ _ _ _ c.args.self.now c.self.invariant.0 refl c.self.view_is in
     record {
       within = skip-refusal_within _ c.args.self.now (refused_of c.in-Err.refused) (spot_of (filling_of c.skip.new.self)) c.self.view_is
           c.in_ok-unrefused.ensures known c.in-Err.ensures.passed;
@@ -27,7 +27,7 @@ refuse-requires c =
 
 pub returns-in-Ok : goal.returns-in-Ok
 returns-in-Ok c =
-    let known = ready-within _ _ _ _ _ _ _ c.args.self.now c.self.invariant refl c.self.view_is in
+    let known = ready-within _ _ _ _ _ _ _ c.args.self.now c.self.invariant.0 refl c.self.view_is in
     let move = skip-answers _ c.args.self.now (spot_of (filling_of c.skip.new.self)) c.self.view_is c.in_ok-unrefused.ensures
     c.in-Ok.ensures.passed in
     let gone = moves-goes_on _ known _ refl move in record {
@@ -41,7 +41,7 @@ returns-in-Ok c =
 
 pub returns-in-Err : goal.returns-in-Err
 returns-in-Err c =
-    let known = ready-within _ _ _ _ _ _ _ c.args.self.now c.self.invariant refl c.self.view_is in
+    let known = ready-within _ _ _ _ _ _ _ c.args.self.now c.self.invariant.0 refl c.self.view_is in
     let move = skip-refused _ c.args.self.now _ (refused_of c.in-Err.refused) _ (spot_of (filling_of c.skip.new.self)) c.self.view_is
     c.in_ok-unrefused.ensures c.in-Err.ensures.passed c.refuse.ensures.kept c.refuse.ensures.error in
     let gone = moves-goes_on _ known _ refl move in

@@ -14,7 +14,7 @@ pub returns-then-first-eq93 : goal.returns-then-first-eq93
 unfolding start_of
 returns-then-first-eq93 c =
     λ mode reached.
-    let there : slice_get c.args.input.now c.args.at ≡ Some byte.right_bracket = c.requires ∙ ap Some c.if-first-eq93.true in
+    let there : slice_get c.args.input.now c.args.at ≡ Some byte.right_bracket = c.requires.here ∙ ap Some c.if-first-eq93.true in
     bracket-passes c.args.input.now mode c.args.self.now before_item c.args.at array_end sequence_end (event_of c.pass_end.result) c.pass_end.new.self reached (mark-cut mode c.args.input.now c.args.at byte.right_bracket array_end there refl) refl c.pass_end.ensures
 
 pub returns-else-first-eq93 : goal.returns-else-first-eq93

@@ -14,5 +14,5 @@ pub returns-in-125 : goal.returns-in-125
 unfolding start_of
 returns-in-125 c =
     λ reached.
-    let there : slice_get c.args.input.now c.args.at ≡ Some byte.right_brace = c.requires ∙ ap Some c.in-125.is in
+    let there : slice_get c.args.input.now c.args.at ≡ Some byte.right_brace = c.requires.here ∙ ap Some c.in-125.is in
     bracket-passes c.args.input.now (mode_of c.args.mode) c.args.self.now before_key c.args.at object_end struct_end (event_of c.pass_end.result) c.pass_end.new.self reached (mark-cut (mode_of c.args.mode) c.args.input.now c.args.at byte.right_brace object_end there refl) refl c.pass_end.ensures

@@ -20,7 +20,7 @@ pub returns-in-123 : goal.returns-in-123
 unfolding start_of
 returns-in-123 c =
     λ mode place may reached.
-    let there : slice_get c.args.input.now c.args.at ≡ Some byte.left_brace = c.requires ∙ ap Some c.in-123.is in
+    let there : slice_get c.args.input.now c.args.at ≡ Some byte.left_brace = c.requires.here ∙ ap Some c.in-123.is in
     start-passes c.args.input.now mode c.args.self.now place c.args.at object_start (struct_start object) c.pass_start.result c.pass_start.new.self reached
     (mark-cut mode c.args.input.now c.args.at byte.left_brace object_start there refl) (object_here c.args.input.now place (takes_value place may)) c.pass_start.ensures
 
@@ -28,21 +28,21 @@ pub returns-in-91 : goal.returns-in-91
 unfolding start_of
 returns-in-91 c =
     λ mode place may reached.
-    let there : slice_get c.args.input.now c.args.at ≡ Some byte.left_bracket = c.requires ∙ ap Some c.in-91.is in
+    let there : slice_get c.args.input.now c.args.at ≡ Some byte.left_bracket = c.requires.here ∙ ap Some c.in-91.is in
     start-passes c.args.input.now mode c.args.self.now place c.args.at array_start (sequence_start array) c.pass_start-in-91.result c.pass_start-in-91.new.self reached
     (mark-cut mode c.args.input.now c.args.at byte.left_bracket array_start there refl) (array_here c.args.input.now place (takes_value place may)) c.pass_start-in-91.ensures
 
 pub returns-in-116 : goal.returns-in-116
 returns-in-116 c =
     λ mode place may reached.
-    c.pass_word.ensures mode place byte.lower_t true_stands (c.requires ∙ ap Some c.in-116.is) may reached
+    c.pass_word.ensures mode place byte.lower_t true_stands (c.requires.here ∙ ap Some c.in-116.is) may reached
 
 pub returns-in-102 : goal.returns-in-102
 returns-in-102 c =
     λ mode place may reached.
-    c.pass_word-in-102.ensures mode place byte.lower_f false_stands (c.requires ∙ ap Some c.in-102.is) may reached
+    c.pass_word-in-102.ensures mode place byte.lower_f false_stands (c.requires.here ∙ ap Some c.in-102.is) may reached
 
 pub returns-in-110 : goal.returns-in-110
 returns-in-110 c =
     λ mode place may reached.
-    c.pass_word-in-110.ensures mode place byte.lower_n null_stands (c.requires ∙ ap Some c.in-110.is) may reached
+    c.pass_word-in-110.ensures mode place byte.lower_n null_stands (c.requires.here ∙ ap Some c.in-110.is) may reached
