@@ -78,6 +78,7 @@ pub use Rattle.facet_json_meaning.specs.Passing
 pub use Rattle.facet_json_meaning.specs.Peeking
 pub use Rattle.facet_json_meaning.specs.Reading as TypedReading
 pub use Rattle.facet_json_meaning.specs.Laws as TypedLaws
+pub use Rattle.facet_json_meaning.specs.SameBytes
 pub use Rattle.facet_json_meaning.specs.Readings
 pub use Rattle.facet_json_meaning.specs.Borrowed
 pub use Rattle.facet_json_meaning.specs.Optional

@@ -13,6 +13,7 @@ pub mod MapTexts
 pub mod MembersOnWalk
 pub mod MovedNodes
 pub mod NextOnWalk
+pub mod NodesInOrder
 pub mod NodesSpelled
 pub mod NodesWithin
 pub mod ObjectTexts
