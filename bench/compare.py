@@ -23,7 +23,10 @@ WORKS = {
     "trusted": {"ours": "trusted", "serde_json": "trusted"},
     "tree": {"ours": "tree", "serde_json": "tree", "simdjson": "tape", "before": "tree"},
     "text": {"ours": "text", "serde_json": "text", "before": "text"},
+    "typed": {"ours": "typed"},
 }
+# The input of which the program has a typed reader.
+TYPED = "accounts.json"
 PROGRAMS = {"ours": "facet_json_bench", "serde_json": "serde_peer", "simdjson": "simdjson_peer"}
 PROCESSES = {"ours": ["facet_json_tool", "fmt"], "serde_json": ["fmt_tree"], "serde_json, sorted": ["fmt_sorted"], "serde_json, no tree": ["fmt_pass"]}
 
@@ -50,6 +53,7 @@ RATIOS = [
     Ratio("trusted / checking", "trusted", "events", "ours", 1.2, ("posts-unicode.json",)),
     Ratio("tree / serde_json's Value", "tree", "tree", "serde_json", 1.5),
     Ratio("tree / simdjson's tape", "tree", "tree", "simdjson"),
+    Ratio("typed / our tree", "typed", "tree", "ours", 1.0, (TYPED,)),
     Ratio("to_vec / serde_json's", "text", "text", "serde_json", 1.2),
     Ratio("fmt / serde_json by a Value", "fmt", "fmt", "serde_json", 2.0),
     Ratio("fmt / the same, members sorted", "fmt", "fmt", "serde_json, sorted"),
@@ -61,7 +65,7 @@ SINCE = [
     Ratio("tree / before", "tree", "tree", "before"),
     Ratio("to_vec / before", "text", "text", "before"),
 ]
-PICTURE = [0, 2, 4, 5, 6, 7, 9, 10]
+PICTURE = [0, 2, 4, 5, 6, 7, 10, 11]
 
 
 class Bench:
@@ -90,6 +94,8 @@ class Bench:
     def works(self, path):
         """What each side does with the input: a work, a side and its name for the work."""
         for work, names in WORKS.items():
+            if work == "typed" and path.name != TYPED:
+                continue
             for side, name in names.items():
                 if side in self.programs and (path.suffix != ".jsonc" or side in ("ours", "before")):
                     yield work, side, name

@@ -140,6 +140,26 @@ def records(chance, size):
     return "[" + ",".join(until(size, record)) + "]"
 
 
+def accounts(chance, size):
+    """A list of ten thousand objects of ten members, as the program's typed reader knows them."""
+
+    def account(number):
+        return {
+            "id": number,
+            "name": f"user{number}",
+            "email": f"user{number}@example.org",
+            "active": number % 3 == 0,
+            "age": 18 + number % 60,
+            "score": number % 2001 - 1000,
+            "visits": number * 7919 % 1_000_003,
+            "city": None if number % 5 == 0 else f"town{number % 97}",
+            "tags": ["a", "b"][: number % 3],
+            "parent": None if number % 2 else number // 2,
+        }
+
+    return compact([account(number) for number in range(10_000)])
+
+
 def settings(chance, size):
     """Settings with comments of both kinds."""
 
@@ -160,6 +180,7 @@ MADE = {
     "deep.json": deep,
     "long-texts.json": long_texts,
     "records.json": records,
+    "accounts.json": accounts,
     "settings.jsonc": settings,
 }
 

@@ -3,6 +3,7 @@
 //! time. The arguments are the work's name and the number of rounds, and `jsonc` behind them where the text has comments.
 #![tactic(auto)]
 
+mod accounts;
 mod passes;
 mod seen;
 mod trees;

@@ -1,5 +1,6 @@
 //! What can be done with a text, and the names of it.
 
+use crate::accounts::typed;
 use crate::passes::{events, scanned, skip, tokens, trusted};
 use crate::seen::Seen;
 use crate::trees::{text, tree, tree_of};
@@ -24,6 +25,8 @@ pub enum Work {
     Tree,
     /// A tree is written.
     Text,
+    /// A list of accounts is read and dropped.
+    Typed,
 }
 
 /// The works that any document is passed by, and their names.
@@ -47,6 +50,7 @@ pub fn work_of(name: &str) -> Option<Work> {
         "trusted" => Some(Work::Trusted),
         "tree" => Some(Work::Tree),
         "text" => Some(Work::Text),
+        "typed" => Some(Work::Typed),
         _ => None,
     }
 }
@@ -89,6 +93,7 @@ impl<'i> Order<'i> {
             Work::Events => events(alloc, input, self.mode),
             Work::Trusted => trusted(alloc, self.input, self.mode),
             Work::Tree => tree(alloc, input, self.mode),
+            Work::Typed => typed(alloc, input, self.mode),
             Work::Text => match &self.tree {
                 Some(tree) => text(alloc, tree),
                 None => None,
