@@ -140,24 +140,30 @@ def records(chance, size):
     return "[" + ",".join(until(size, record)) + "]"
 
 
+def account(number):
+    """An object of ten members, as the program's typed reader knows it."""
+    return {
+        "id": number,
+        "name": f"user{number}",
+        "email": f"user{number}@example.org",
+        "active": number % 3 == 0,
+        "age": 18 + number % 60,
+        "score": number % 2001 - 1000,
+        "visits": number * 7919 % 1_000_003,
+        "city": None if number % 5 == 0 else f"town{number % 97}",
+        "tags": ["a", "b"][: number % 3],
+        "parent": None if number % 2 else number // 2,
+    }
+
+
 def accounts(chance, size):
-    """A list of ten thousand objects of ten members, as the program's typed reader knows them."""
-
-    def account(number):
-        return {
-            "id": number,
-            "name": f"user{number}",
-            "email": f"user{number}@example.org",
-            "active": number % 3 == 0,
-            "age": 18 + number % 60,
-            "score": number % 2001 - 1000,
-            "visits": number * 7919 % 1_000_003,
-            "city": None if number % 5 == 0 else f"town{number % 97}",
-            "tags": ["a", "b"][: number % 3],
-            "parent": None if number % 2 else number // 2,
-        }
-
+    """A list of ten thousand of them."""
     return compact([account(number) for number in range(10_000)])
+
+
+def one_account(chance, size):
+    """A list of one."""
+    return compact([account(7)])
 
 
 def settings(chance, size):
@@ -181,6 +187,7 @@ MADE = {
     "long-texts.json": long_texts,
     "records.json": records,
     "accounts.json": accounts,
+    "one-account.json": one_account,
     "settings.jsonc": settings,
 }
 
