@@ -106,7 +106,7 @@ class Bench:
         rounds, seen, least = {}, {}, {}
         for work, side, name in self.works(path):
             spent, seen[work, side] = self.once(side, name, 2, path)
-            rounds[work, side] = max(2, min(10_000, int(self.seconds * 1e9 / max(spent, 1))))
+            rounds[work, side] = max(2, min(400, int(self.seconds * 1e9 / max(spent, 1))))
         self.agree(path, seen)
         for _ in range(self.turns):
             for work, side, name in self.works(path):
