@@ -1,4 +1,5 @@
 pub mod InsideTexts
 pub mod PackedKinds
 pub mod ScannedTokens
+pub mod TokensThere
 pub mod TurnsAtPlaces

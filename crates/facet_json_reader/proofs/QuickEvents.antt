@@ -1,8 +1,7 @@
 -- What the token at an offset gives where the reader reaches it.
-use Rattle.std.proofs.Common.{◌≡◌, ℕ, ◌+◌, ◌-◌, ◌≤◌, ◌<◌, true, false, List, Option, Some, None, length, drop, slice_get, slice_range, refl, sym, ap, ap₂, ◌∙◌, subst, arith, length-drop}
+use Rattle.std.proofs.Common.{◌≡◌, ℕ, ◌+◌, ◌-◌, ◌≤◌, ◌<◌, true, false, List, Option, Some, None, length, drop, slice_get, slice_range, refl, sym, ap, ap₂, ◌∙◌, arith}
 use Rattle.std.specs.Prelude.{codes, MatchOption}
 use Rattle.std.specs.Option.{option_map}
-use Rattle.std.proofs.lemmas.Bool.{eq-eqb}
 use Rattle.facet_format.specs.declared.event.ParseEvent.{ParseEvent}
 use Rattle.facet_json_reader.specs.declared.reader.Reader.{Reader}
 use Rattle.facet_format.specs.Bytes.{lower_n, lower_t, lower_f}
@@ -12,15 +11,11 @@ use Rattle.facet_format.specs.Event as event
 use Rattle.facet_format.specs.Number.{Hint, Parts, parts, parts_len, parts_hint, is_bare, Number, number}
 use Rattle.facet_format.specs.Span.{stop, span_at}
 use Rattle.facet_format.specs.Views.{span_of, event_of}
-use Rattle.facet_json_token.specs.Cut.{cut, cut_here, cut_word, past_gap, common_len, token_at, punctuation, letter, opens_number, start_of}
+use Rattle.facet_json_token.specs.Cut.{cut_here, past_gap, common_len, token_at, punctuation, opens_number, start_of}
 use Rattle.facet_json_token.specs.Gap.{Mode}
 use Rattle.facet_json_token.specs.Token.{Kind, Token, colon, string}
 use Rattle.facet_json_token.specs.Token as token
 use Rattle.facet_json_token.specs.Tokens.{Tokens, next, tokens_from}
-use Rattle.facet_json_token.proofs.CutBounds.{CutFits, TokenFits, here_fits}
-use Rattle.facet_json_token.proofs.FirstBytes.{cut_here-by, cut_here-word, cut_here-number}
-use Rattle.facet_json_token.proofs.NumberCuts.{cut_number-parts}
-use Rattle.facet_json_token.proofs.TokensSteps.{tokens_from-token}
 use Rattle.facet_json_document.specs.Future.{gives, Stage, within, after_value, stack_after, stage_after, turn, reads, reads_colon}
 use Rattle.facet_json_document.specs.Meaning.{meaning_of, tree_of_number, text_of as text_in}
 use Rattle.facet_json_document.specs.Place.{Place, root, before_key, after_colon, before_item, Turn, passes, says, says_scalar, names, place_turn}
@@ -28,6 +23,7 @@ use Rattle.facet_json_document.specs.Tree.{Tree}
 use Rattle.facet_json_document.specs.Tree as tree
 use Rattle.facet_json_document.specs.Walk.{event_at, scalar_event, key_event, scalar_of, scalar_by, name_of}
 use Rattle.facet_json_document.proofs.WalkComes.{TakesValue, at_root, behind_colon, of_list, follows, reads-turn, turn-plain, turn-meant, scalar_here}
+use Rattle.facet_json_place.proofs.TokensThere.{mark-cut, tokens-past_gap, word-cut, number-cut}
 use Rattle.facet_json_place.proofs.TurnsAtPlaces.{is_mark, mark-plain}
 use Rattle.facet_json_reader.specs.Quick.{MayBeValue, Reaches, IsPlainText, IsWord, null_stands, true_stands, false_stands, IsScalarThere, Leaves, PassesEvent}
 use Rattle.facet_json_reader.specs.Views.{stage_of, comes_at, coming}
@@ -39,24 +35,6 @@ takes_value after_colon h = behind_colon
 takes_value before_item h = of_list
 takes_value _ h = absurd h
 
--- One byte of punctuation is cut as its token.
-pub mark-cut : (mode : Mode) (buffer : List ℕ) (at b : ℕ) (kind : Kind) → slice_get buffer at ≡ Some b → start_of b ≡ punctuation kind →
-    cut_here mode at (drop at buffer) ≡ token_at kind at 1
-mark-cut mode buffer at b kind here begins = sym (cut_here-by mode buffer at b (punctuation kind) here begins)
-
--- What is cut at the offset is cut after a gap, too.
-past_gap-cut : (buffer : List ℕ) (mode : Mode) (from at : ℕ) → at ≡ past_gap buffer from mode →
-    cut buffer from mode ≡ cut_here mode at (drop at buffer)
-unfolding cut
-past_gap-cut buffer mode from at e = ap (λ (p : ℕ). cut_here mode p (drop p buffer)) (sym e)
-
--- The tokens from before the gap are the token at the offset and those after it.
-pub tokens-past_gap : (buffer : List ℕ) (mode : Mode) (from at len : ℕ) (kind : Kind) → from ≤ length buffer → at ≡ past_gap buffer from mode →
-    cut_here mode at (drop at buffer) ≡ token_at kind at len →
-    tokens_from buffer mode from ≡ next (record { kind = kind; span = span_at at len }) (tokens_from buffer mode (stop (span_at at len)))
-tokens-past_gap buffer mode from at len kind fits gap is =
-    tokens_from-token buffer from mode (record { kind = kind; span = span_at at len }) fits (past_gap-cut buffer mode from at gap ∙ is)
-
 -- After a gap the reader reaches the offset where it ends.
 pub stands-reaches : (buffer : List ℕ) (mode : Mode) (r : Reader) (place : Place) (position at : ℕ) → stage_of r.stage ≡ within place →
     stop (span_of r.last) ≤ length buffer → position ≡ stop (span_of r.last) → at ≡ past_gap buffer position mode → Reaches buffer mode r place at
@@ -66,15 +44,6 @@ stands-reaches buffer mode r place position at stage fits here gap = record {
   gap = gap;
   comes = ap₂ (λ (s : Stage) (p : ℕ). comes_at buffer mode r.contexts s p) (sym stage) here;
 }
-
--- A literal is cut whose letters all stand there.
-all_letters : (at n : ℕ) (bytes word : List ℕ) (kind : Kind) → n ≡ length word → cut_word at bytes word kind n ≡ token_at kind at (length word)
-all_letters at n bytes word kind e = rw (eq-eqb n (length word) e) (ap (token_at kind at) e)
-
-word-cut : (mode : Mode) (buffer : List ℕ) (at b : ℕ) (word : List ℕ) (kind : Kind) → slice_get buffer at ≡ Some b → start_of b ≡ letter word kind →
-    common_len word (drop at buffer) ≡ length word → cut_here mode at (drop at buffer) ≡ token_at kind at (length word)
-word-cut mode buffer at b word kind here begins all =
-    sym (cut_here-word mode buffer at b word kind here begins) ∙ all_letters at (common_len word (drop at buffer)) (drop at buffer) word kind all
 
 pub word-there : (buffer : List ℕ) (at first : ℕ) (word : List ℕ) (value : Scalar) → IsWord first word value → slice_get buffer at ≡ Some first →
     common_len word (drop at buffer) ≡ length word → IsScalarThere buffer at (length word) value
@@ -115,20 +84,6 @@ text-there buffer at finish bytes is = record {
   means = ap (option_map tree.text) is.means;
   read = refl;
 }
-
--- A token that stands there fits there.
-pub there-fits : (mode : Mode) (buffer : List ℕ) (at len : ℕ) (kind : Kind) → at ≤ length buffer →
-    cut_here mode at (drop at buffer) ≡ token_at kind at len → TokenFits buffer at (record { kind = kind; span = span_at at len })
-there-fits mode buffer at len kind room is =
-    let ends : at + length (drop at buffer) ≡ length buffer = omega (arith, length-drop at buffer) in
-    subst (CutFits buffer at) is (here_fits mode buffer (drop at buffer) at refl ends)
-
--- The parts of a number tell its token.
-pub number-cut : (mode : Mode) (buffer : List ℕ) (at b len : ℕ) (q : Parts) (hint : Hint) → slice_get buffer at ≡ Some b →
-    start_of b ≡ opens_number → q ≡ parts (drop at buffer) → len ≡ parts_len q → hint ≡ parts_hint q → is_bare q ≡ false →
-    cut_here mode at (drop at buffer) ≡ token_at (token.number at (at + len) hint) at len
-number-cut mode buffer at b len q hint here begins same long what more =
-    sym (cut_number-parts q (parts (drop at buffer)) (drop (at + 1) buffer) hint at len same long what more ∙ cut_here-number mode buffer at b here begins)
 
 -- A number with a value is a scalar, too.
 pub number-there : (buffer : List ℕ) (at b len : ℕ) (q : Parts) (hint : Hint) (n : Number) (value : Scalar) → slice_get buffer at ≡ Some b →

@@ -13,7 +13,7 @@ use Rattle.facet_json_document.specs.Future.{Future, gives, within}
 use Rattle.facet_json_document.specs.InputPlace.{past}
 use Rattle.facet_json_document.specs.Meaning.{meaning_of}
 use Rattle.facet_json_document.specs.Node.{is_scalar}
-use Rattle.facet_json_document.specs.Place.{Place, root, before_key, after_key, after_colon, after_member, before_item, after_item}
+use Rattle.facet_json_document.specs.Place.{Place, root, after_colon, before_item}
 use Rattle.facet_json_document.specs.Tree.{Tree}
 use Rattle.facet_json_document.specs.Walk.{scalar_of}
 use Rattle.facet_json_reader.specs.Views.{standing_of, comes_at, coming}

@@ -1,20 +1,20 @@
 //! The next event passed at once, where a few bytes decide it. In all other cases nothing is done, and the next event is read
 //! token by token, in `reader`.
 
-ghost use Rattle.std.specs.Prelude.{◌≡◌, ◌≤◌, ◌<◌, ◌+◌, ◌-◌, ℕ, List, Some, length, slice_get, false, IfSome, IsUtf8, MatchOption};
-ghost use Rattle.facet_format.specs.Bytes.{quote};
+ghost use Rattle.std.specs.Prelude.{◌≡◌, ◌≤◌, ◌<◌, ◌+◌, ◌-◌, ℕ, List, Some, length, slice_get, true, false, IfSome, IsUtf8, MatchOption};
+ghost use Rattle.facet_format.specs.Bytes.{quote, right_brace, right_bracket};
 ghost use Rattle.facet_format.specs.Event.{scalar, field_key, borrowed};
 ghost use Rattle.facet_format.specs.Span.{stop, span_at};
 ghost use Rattle.facet_format.specs.Views.{span_of, event_of, scalar_value_of};
 ghost use Rattle.facet_json_token.specs.Cut.{start_of, opens_number};
 ghost use Rattle.facet_json_token.specs.Gap.{Mode as SpecMode};
-ghost use Rattle.facet_json_token.specs.Token.{Kind};
+ghost use Rattle.facet_json_token.specs.Token.{Kind, comma};
 ghost use Rattle.facet_json_token.specs.Views.{mode_of};
 ghost use Rattle.facet_json_number.specs.Views.{number_of, is_made_number};
 ghost use Rattle.facet_json_document.specs.Meaning.{tree_of_number};
 ghost use Rattle.facet_json_document.specs.Walk.{scalar_by};
 ghost use Rattle.facet_json_document.specs.Future.{within};
-ghost use Rattle.facet_json_document.specs.Place.{Place as SpecPlace, before_key, before_item, after_member, after_item};
+ghost use Rattle.facet_json_document.specs.Place.{Place as SpecPlace, before_key, passes, place_turn};
 ghost use Rattle.facet_json_place.specs.Views.{place_of, opening, closing};
 ghost use Rattle.facet_json_reader.specs.Quick.{MayBeValue, Reaches, IsPlainText, IsScalarThere, IsWord, Leaves, PassesEvent};
 ghost use Rattle.facet_json_reader.specs.Views.{stage_of};
@@ -61,13 +61,11 @@ impl Reader {
         };
         let (place, at) = self.past_separators(input, mode, place);
         let first = *input.get(at)?;
-        match place {
-            Place::BeforeKey => self.pass_member(input, mode, trust, at, first),
-            Place::BeforeItem => self.pass_item(input, trust, at, first),
-            Place::AfterMember => self.pass_object_end(at, first),
-            Place::AfterItem => self.pass_array_end(at, first),
-            Place::Root => self.pass_value(input, trust, at, first),
-            Place::AfterColon => self.pass_value(input, trust, at, first),
+        match first {
+            b'"' => self.pass_string(input, mode, trust, place, at),
+            b'}' => self.pass_object_end(place, at),
+            b']' => self.pass_array_end(place, at),
+            _ => self.pass_value(input, place, at, first),
         }
     }
 
@@ -79,100 +77,84 @@ impl Reader {
         ensures { Reaches input.now (mode_of mode) self.now (place_of result.0) result.1 }
     {
         let at = gap_end(input, self.last.end(), mode);
-        match (place, input.get(at)) {
-            (Place::AfterItem, Some(b',')) => (Place::BeforeItem, gap_end(input, at + 1, mode)),
-            (Place::AfterMember, Some(b',')) => (Place::BeforeKey, gap_end(input, at + 1, mode)),
+        let Some(next) = after_comma(place) else {
+            return (place, at);
+        };
+        match input.get(at) {
+            Some(b',') => (next, gap_end(input, at + 1, mode)),
             _ => (place, at),
         }
     }
 
-    /// Passes a key with its colon, or the bracket that closes an object, of which this is the first byte.
+    /// Passes a string without an escape, whose quote stands here: a text, or a key with its colon.
     #[inline(always)]
-    fn pass_member<'de>(
+    fn pass_string<'de>(
         &mut self,
         input: &'de [u8],
         mode: Mode,
         trust: Trust,
+        place: Place,
         at: usize,
-        first: u8,
     ) -> Option<ParseEvent<'de>>
-        requires here { slice_get input.now at ≡ Some first }
+        requires here { slice_get input.now at ≡ Some quote }
         requires utf8 { trust ≡ Trust.Utf8 → IsUtf8 input.now }
-        ensures { Reaches input.now (mode_of mode) self.old before_key at → MatchOption result (self.new ≡ self.old)
+        ensures { Reaches input.now (mode_of mode) self.old (place_of place) at → MatchOption result (self.new ≡ self.old)
             (λ e. PassesEvent input.now (mode_of mode) self.old (event_of e) self.new) }
     {
-        match first {
-            b'"' => self.pass_key(input, mode, trust, at),
-            b'}' => Some(self.pass_end(ContainerKind::Object, at)),
+        let (end, text) = text_at(input, trust, at)?;
+        match place {
+            Place::BeforeKey => self.pass_key(input, mode, text, at, end),
+            _ if takes_value(place) => Some(self.pass_scalar(
+                ScalarValue::Str(CowStr::Borrowed(text)),
+                Span::new(at, end + 1 - at),
+            )),
             _ => None,
         }
     }
 
-    /// Passes the bracket that closes an object, where this is its first byte.
+    /// Passes the bracket that closes an object, which stands here.
     #[inline(always)]
-    fn pass_object_end<'de>(&mut self, at: usize, first: u8) -> Option<ParseEvent<'de>>
-        ensures { (buffer : List ℕ) (mode : SpecMode) → slice_get buffer at ≡ Some first
-            → Reaches buffer mode self.old after_member at → MatchOption result (self.new ≡ self.old)
+    fn pass_object_end<'de>(&mut self, place: Place, at: usize) -> Option<ParseEvent<'de>>
+        ensures { (buffer : List ℕ) (mode : SpecMode) → slice_get buffer at ≡ Some right_brace
+            → Reaches buffer mode self.old (place_of place) at → MatchOption result (self.new ≡ self.old)
             (λ e. PassesEvent buffer mode self.old (event_of e) self.new) }
     {
-        if first == b'}' {
-            Some(self.pass_end(ContainerKind::Object, at))
-        } else {
-            None
+        match place {
+            Place::BeforeKey | Place::AfterMember => Some(self.pass_end(ContainerKind::Object, at)),
+            _ => None,
         }
     }
 
-    /// Passes the bracket that closes an array, where this is its first byte.
+    /// Passes the bracket that closes an array, which stands here.
     #[inline(always)]
-    fn pass_array_end<'de>(&mut self, at: usize, first: u8) -> Option<ParseEvent<'de>>
-        ensures { (buffer : List ℕ) (mode : SpecMode) → slice_get buffer at ≡ Some first
-            → Reaches buffer mode self.old after_item at → MatchOption result (self.new ≡ self.old)
+    fn pass_array_end<'de>(&mut self, place: Place, at: usize) -> Option<ParseEvent<'de>>
+        ensures { (buffer : List ℕ) (mode : SpecMode) → slice_get buffer at ≡ Some right_bracket
+            → Reaches buffer mode self.old (place_of place) at → MatchOption result (self.new ≡ self.old)
             (λ e. PassesEvent buffer mode self.old (event_of e) self.new) }
     {
-        if first == b']' {
-            Some(self.pass_end(ContainerKind::Array, at))
-        } else {
-            None
+        match place {
+            Place::BeforeItem | Place::AfterItem => Some(self.pass_end(ContainerKind::Array, at)),
+            _ => None,
         }
     }
 
-    /// Passes the start of an item, or the bracket that closes an array, of which this is the first byte.
-    #[inline(always)]
-    fn pass_item<'de>(
-        &mut self,
-        input: &'de [u8],
-        trust: Trust,
-        at: usize,
-        first: u8,
-    ) -> Option<ParseEvent<'de>>
-        requires here { slice_get input.now at ≡ Some first }
-        requires utf8 { trust ≡ Trust.Utf8 → IsUtf8 input.now }
-        ensures { (mode : SpecMode) → Reaches input.now mode self.old before_item at → MatchOption result (self.new ≡ self.old)
-            (λ e. PassesEvent input.now mode self.old (event_of e) self.new) }
-    {
-        if first == b']' {
-            Some(self.pass_end(ContainerKind::Array, at))
-        } else {
-            self.pass_value(input, trust, at, first)
-        }
-    }
-
-    /// Passes the start of a value, or a whole scalar, of which this is the first byte.
+    /// Passes the bracket that opens a container, or a whole literal or number, of which this is the first byte.
     #[inline(always)]
     fn pass_value<'de>(
         &mut self,
         input: &'de [u8],
-        trust: Trust,
+        place: Place,
         at: usize,
         first: u8,
     ) -> Option<ParseEvent<'de>>
         requires here { slice_get input.now at ≡ Some first }
-        requires utf8 { trust ≡ Trust.Utf8 → IsUtf8 input.now }
-        ensures { (mode : SpecMode) (place : SpecPlace) → MayBeValue place → Reaches input.now mode self.old place at
+        ensures { (mode : SpecMode) → Reaches input.now mode self.old (place_of place) at
             → MatchOption result (self.new ≡ self.old) (λ e. PassesEvent input.now mode self.old (event_of e) self.new) }
     {
+        if !takes_value(place) {
+            return None;
+        }
         match first {
-            b'"' => self.pass_text(input, trust, at),
             b'{' => self.pass_start(ContainerKind::Object, at),
             b'[' => self.pass_start(ContainerKind::Array, at),
             b't' => self.pass_word(input, at, b"true", ScalarValue::Bool(true)),
@@ -183,46 +165,26 @@ impl Reader {
         }
     }
 
-    /// Passes a key that holds no escape, and its colon.
+    /// Passes a key that holds no escape, whose quotes stand here, and its colon.
     #[inline(always)]
     fn pass_key<'de>(
         &mut self,
-        input: &'de [u8],
+        input: &[u8],
         mode: Mode,
-        trust: Trust,
+        name: &'de str,
         at: usize,
+        end: usize,
     ) -> Option<ParseEvent<'de>>
-        requires here { slice_get input.now at ≡ Some quote }
-        requires utf8 { trust ≡ Trust.Utf8 → IsUtf8 input.now }
+        requires text { IsPlainText input.now at end name.now }
+        requires within { (at < end) × (end < length input.now) }
         ensures { Reaches input.now (mode_of mode) self.old before_key at → MatchOption result (self.new ≡ self.old)
             (λ e. PassesEvent input.now (mode_of mode) self.old (event_of e) self.new) }
     {
-        let (end, name) = text_at(input, trust, at)?;
         let colon = gap_end(input, end + 1, mode);
         match input.get(colon) {
             Some(b':') => Some(self.pass_name(name, Span::new(at, end + 1 - at), colon)),
             _ => None,
         }
-    }
-
-    /// Passes a text that holds no escape.
-    #[inline(always)]
-    fn pass_text<'de>(
-        &mut self,
-        input: &'de [u8],
-        trust: Trust,
-        at: usize,
-    ) -> Option<ParseEvent<'de>>
-        requires here { slice_get input.now at ≡ Some quote }
-        requires utf8 { trust ≡ Trust.Utf8 → IsUtf8 input.now }
-        ensures { (mode : SpecMode) (place : SpecPlace) → MayBeValue place → Reaches input.now mode self.old place at
-            → MatchOption result (self.new ≡ self.old) (λ e. PassesEvent input.now mode self.old (event_of e) self.new) }
-    {
-        let (end, text) = text_at(input, trust, at)?;
-        Some(self.pass_scalar(
-            ScalarValue::Str(CowStr::Borrowed(text)),
-            Span::new(at, end + 1 - at),
-        ))
     }
 
     /// Passes the literal of these letters, which is read as this value.
@@ -310,6 +272,29 @@ impl Reader {
         self.last = Span::new(colon, 1);
         ParseEvent::new(ParseEventKind::FieldKey(key), span)
     }
+}
+
+/// The place after a comma, where a comma may stand at this place.
+#[inline(always)]
+fn after_comma(place: Place) -> Option<Place>
+    ensures { IfSome result (λ next. place_turn (place_of place) comma ≡ passes (place_of next)) }
+{
+    match place {
+        Place::AfterItem => Some(Place::BeforeItem),
+        Place::AfterMember => Some(Place::BeforeKey),
+        _ => None,
+    }
+}
+
+/// Whether a value may stand at this place.
+#[inline(always)]
+fn takes_value(place: Place) -> bool
+    ensures { result ≡ true → MayBeValue (place_of place) }
+{
+    matches!(
+        place,
+        Place::Root | Place::AfterColon | Place::BeforeItem
+    )
 }
 
 /// The text of the string whose quote is at `at`, where it holds no escape, and the offset of the quote that closes it.

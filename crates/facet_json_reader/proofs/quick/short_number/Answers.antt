@@ -4,7 +4,8 @@ use Rattle.std.proofs.lemmas.Option.{slice_get_within}
 use Rattle.facet_format.specs.Views.{hint_of, scalar_value_of}
 use Rattle.facet_json_number.specs.Views.{number_of}
 use Rattle.facet_json_token.specs.Gap.{plain}
-use Rattle.facet_json_reader.proofs.QuickEvents.{there-fits, number-cut, number-there}
+use Rattle.facet_json_place.proofs.TokensThere.{there-fits, number-cut}
+use Rattle.facet_json_reader.proofs.QuickEvents.{number-there}
 use Rattle.facet_json_reader.proofs.quick.short_number.Goals as goal
 
 pub parse_measured-requires-clause-is_number : goal.parse_measured-requires-clause-is_number

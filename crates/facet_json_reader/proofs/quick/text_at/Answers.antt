@@ -4,7 +4,7 @@ use Rattle.std.proofs.lemmas.Option.{get_or_from_slice_get}
 use Rattle.facet_format.specs.Bytes.{quote}
 use Rattle.facet_json_token.specs.Gap.{plain}
 use Rattle.facet_json_token.proofs.Offsets.{slice_get-from_read}
-use Rattle.facet_json_reader.proofs.QuickEvents.{there-fits}
+use Rattle.facet_json_place.proofs.TokensThere.{there-fits}
 use Rattle.facet_json_reader.proofs.quick.text_at.Goals as goal
 
 pub plain_text-requires-clause-plain : goal.plain_text-requires-clause-plain

@@ -1,18 +1,24 @@
 -- The bracket gives the end of the array.
-use Rattle.std.proofs.Common.{◌≡◌, Some, slice_get, ap, ◌∙◌, refl}
+use Rattle.std.proofs.Common.{◌≡◌, ◌⊎◌, inl, inr, ap, refl}
+use Rattle.facet_json_place.specs.declared.place.Place.{Place as RustPlace}
+use Rattle.facet_json_place.specs.declared.place.Place.TheVariants as places
 use Rattle.facet_format.specs.Bytes as byte
 use Rattle.facet_format.specs.Event.{sequence_end}
 use Rattle.facet_format.specs.Views.{event_of}
 use Rattle.facet_json_token.specs.Cut.{start_of}
 use Rattle.facet_json_token.specs.Token.{array_end}
-use Rattle.facet_json_token.specs.Views.{mode_of}
-use Rattle.facet_json_document.specs.Place.{after_item}
-use Rattle.facet_json_reader.proofs.QuickEvents.{mark-cut, bracket-passes}
+use Rattle.facet_json_document.specs.Place.{place_turn, says}
+use Rattle.facet_json_place.specs.Views.{place_of}
+use Rattle.facet_json_place.proofs.TokensThere.{mark-cut}
+use Rattle.facet_json_reader.proofs.QuickEvents.{bracket-passes}
 use Rattle.facet_json_reader.proofs.reader.Reader.pass_array_end.Goals as goal
 
-pub returns-then-first-eq93 : goal.returns-then-first-eq93
+ends : (p : RustPlace) → (p ≡ places.BeforeItem) ⊎ (p ≡ places.AfterItem) → place_turn (place_of p) array_end ≡ says sequence_end
+ends p (inl e) = ap (λ (q : RustPlace). place_turn (place_of q) array_end) e
+ends p (inr e) = ap (λ (q : RustPlace). place_turn (place_of q) array_end) e
+
+pub returns-in-BeforeItem : goal.returns-in-BeforeItem
 unfolding start_of
-returns-then-first-eq93 c =
+returns-in-BeforeItem c =
     λ buffer mode here reached.
-    let there : slice_get buffer c.args.at ≡ Some byte.right_bracket = here ∙ ap Some c.if-first-eq93.true in
-    bracket-passes buffer mode c.args.self.now after_item c.args.at array_end sequence_end (event_of c.pass_end.result) c.pass_end.new.self reached (mark-cut mode buffer c.args.at byte.right_bracket array_end there refl) refl c.pass_end.ensures
+    bracket-passes buffer mode c.args.self.now (place_of c.args.place) c.args.at array_end sequence_end (event_of c.pass_end.result) c.pass_end.new.self reached (mark-cut mode buffer c.args.at byte.right_bracket array_end here refl) (ends c.args.place c.in-BeforeItem.is) c.pass_end.ensures

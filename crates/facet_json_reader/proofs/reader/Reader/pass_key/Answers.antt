@@ -1,5 +1,5 @@
 -- The key's text and its colon give its event.
-use Rattle.std.proofs.Common.{◌≡◌, refl, arith}
+use Rattle.std.proofs.Common.{refl}
 use Rattle.facet_format.specs.Bytes.{colon as colon_byte}
 use Rattle.facet_format.specs.Views.{event_of}
 use Rattle.facet_json_token.specs.Views.{mode_of}
@@ -13,8 +13,7 @@ returns-in-Some-eq58 c =
     λ reached.
     let buffer = c.args.input.now in
     let mode = mode_of c.args.mode in
-    let k = c.in_ok-end in
     let w = c.in-Some-eq58 in
     let here = slice_get-from_read buffer c.gap_end-colon.result w.field-0.now colon_byte w.ensures.lookup.3 w.field-0-test in
-    key-passes buffer mode c.args.self.now before_key c.args.at k.end c.gap_end-colon.result k.name.now (event_of c.pass_name.result) c.pass_name.new.self refl reached
-    k.ensures.text k.ensures.within.0 k.ensures.within.1 c.gap_end-colon.ensures.end here (rw (c.new.ensures.offset, c.new.ensures.len) at c.pass_name.ensures)
+    key-passes buffer mode c.args.self.now before_key c.args.at c.args.end c.gap_end-colon.result c.args.name.now (event_of c.pass_name.result) c.pass_name.new.self refl reached
+    c.requires.text c.requires.within.0 c.requires.within.1 c.gap_end-colon.ensures.end here (rw (c.new.ensures.offset, c.new.ensures.len) at c.pass_name.ensures)

@@ -1,5 +1,5 @@
 -- The literal gives its event.
-use Rattle.std.proofs.Common.{◌≡◌, sym, ◌∙◌, length, drop, arith}
+use Rattle.std.proofs.Common.{sym, ◌∙◌, length}
 use Rattle.facet_format.specs.Views.{event_of, scalar_value_of}
 use Rattle.facet_json_reader.proofs.QuickEvents.{word-there, scalar-passes}
 use Rattle.facet_json_reader.proofs.reader.Reader.pass_word.Goals as goal
