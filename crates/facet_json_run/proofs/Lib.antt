@@ -1,3 +1,4 @@
 pub mod MarksAreCut
+pub mod QuietTokens
 pub mod RefusedWithin
 pub mod RunSteps

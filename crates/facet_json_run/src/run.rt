@@ -14,6 +14,7 @@ ghost use Rattle.facet_json_document.specs.Inner.PassedRun.{leaves, crosses, clo
 ghost use Rattle.facet_json_place.specs.Views.{refused_of};
 ghost use Rattle.facet_json_run.specs.Views.{AnswersRun, value_expected};
 
+use crate::quiet::past_quiet;
 use facet_format::{ContainerKind, Span};
 use facet_json_place::{Contexts, Expected, Name, Refused, Why};
 use facet_json_token::plain_cut::token_at;
@@ -78,7 +79,8 @@ pub fn pass_container(
     open_bracket(&mut contexts, kind, last)?;
     let mut passed = first;
     while let Some(innermost) = contexts.innermost() {
-        let token = next_token(input, passed.end(), mode)?;
+        let at = past_quiet(input, passed.end(), mode);
+        let token = next_token(input, at, mode)?;
         pass_token(&mut contexts, innermost, &token, last)?;
         passed = token.span;
     }
