@@ -160,7 +160,7 @@ impl Reader {
             b't' => self.pass_word(input, at, b"true", ScalarValue::Bool(true)),
             b'f' => self.pass_word(input, at, b"false", ScalarValue::Bool(false)),
             b'n' => self.pass_word(input, at, b"null", ScalarValue::Null),
-            b'-' | b'0'..=b'9' => self.pass_number(input, at, first),
+            b'-' | b'0'..=b'9' => self.pass_number_apart(input, at, first),
             _ => None,
         }
     }
@@ -209,8 +209,25 @@ impl Reader {
         }
     }
 
-    /// Passes a number that takes no memory, of which this is the first byte.
+    /// As `pass_number`, whose answer is a value of its own: so no other event needs memory.
     #[inline(always)]
+    fn pass_number_apart<'de>(
+        &mut self,
+        input: &'de [u8],
+        at: usize,
+        first: u8,
+    ) -> Option<ParseEvent<'de>>
+        requires here { slice_get input.now at ≡ Some first }
+        requires number { start_of first ≡ opens_number }
+        ensures { (mode : SpecMode) (place : SpecPlace) → MayBeValue place → Reaches input.now mode self.old place at
+            → MatchOption result (self.new ≡ self.old) (λ e. PassesEvent input.now mode self.old (event_of e) self.new) }
+    {
+        let event = self.pass_number(input, at, first);
+        event
+    }
+
+    /// Passes a number that takes no memory, of which this is the first byte.
+    #[inline(never)]
     fn pass_number<'de>(
         &mut self,
         input: &'de [u8],
