@@ -1,5 +1,5 @@
 -- What the token at an offset gives where the reader reaches it.
-use Rattle.std.proofs.Common.{◌≡◌, ℕ, ◌+◌, ◌-◌, ◌≤◌, ◌<◌, true, false, List, Option, Some, None, length, drop, slice_get, slice_range, refl, sym, ap, ap₂, ◌∙◌, arith}
+use Rattle.std.proofs.Common.{◌≡◌, ℕ, ◌+◌, ◌-◌, ◌≤◌, ◌<◌, true, false, List, Option, Some, None, length, drop, slice_get, refl, sym, ap, ap₂, ◌∙◌, arith}
 use Rattle.std.specs.Prelude.{codes, MatchOption}
 use Rattle.std.specs.Option.{option_map}
 use Rattle.facet_format.specs.declared.event.ParseEvent.{ParseEvent}
@@ -8,24 +8,24 @@ use Rattle.facet_format.specs.Bytes.{lower_n, lower_t, lower_f}
 use Rattle.facet_format.specs.Bytes as mark_byte
 use Rattle.facet_format.specs.Event.{ContainerKind, EventKind, Event, Passed, Scalar, borrowed}
 use Rattle.facet_format.specs.Event as event
-use Rattle.facet_format.specs.Number.{Hint, Parts, parts, parts_len, parts_hint, is_bare, Number, number}
 use Rattle.facet_format.specs.Span.{stop, span_at}
 use Rattle.facet_format.specs.Views.{span_of, event_of}
-use Rattle.facet_json_token.specs.Cut.{cut_here, past_gap, common_len, token_at, punctuation, opens_number, start_of}
+use Rattle.facet_json_token.specs.Cut.{cut_here, past_gap, common_len, token_at, punctuation, start_of}
 use Rattle.facet_json_token.specs.Gap.{Mode}
 use Rattle.facet_json_token.specs.Token.{Kind, Token, colon, string}
 use Rattle.facet_json_token.specs.Token as token
 use Rattle.facet_json_token.specs.Tokens.{Tokens, next, tokens_from}
 use Rattle.facet_json_document.specs.Future.{gives, Stage, within, after_value, stack_after, stage_after, turn, reads, reads_colon}
-use Rattle.facet_json_document.specs.Meaning.{meaning_of, tree_of_number, text_of as text_in}
+use Rattle.facet_json_document.specs.Meaning.{meaning_of, text_of as text_in}
 use Rattle.facet_json_document.specs.Place.{Place, root, before_key, after_colon, before_item, Turn, passes, says, says_scalar, names, place_turn}
 use Rattle.facet_json_document.specs.Tree.{Tree}
 use Rattle.facet_json_document.specs.Tree as tree
-use Rattle.facet_json_document.specs.Walk.{event_at, scalar_event, key_event, scalar_of, scalar_by, name_of}
+use Rattle.facet_json_document.specs.Walk.{event_at, scalar_event, key_event, scalar_of, name_of}
 use Rattle.facet_json_document.proofs.WalkComes.{TakesValue, at_root, behind_colon, of_list, follows, reads-turn, turn-plain, turn-meant, scalar_here}
-use Rattle.facet_json_place.proofs.TokensThere.{mark-cut, tokens-past_gap, word-cut, number-cut}
+use Rattle.facet_json_place.proofs.TokensThere.{mark-cut, tokens-past_gap, word-cut}
 use Rattle.facet_json_place.proofs.TurnsAtPlaces.{is_mark, mark-plain}
-use Rattle.facet_json_reader.specs.Quick.{MayBeValue, Reaches, IsPlainText, IsWord, null_stands, true_stands, false_stands, IsScalarThere, Leaves, PassesEvent}
+use Rattle.facet_json_plain.specs.Values.{IsPlainText, IsScalarThere}
+use Rattle.facet_json_reader.specs.Quick.{MayBeValue, Reaches, IsWord, null_stands, true_stands, false_stands, Leaves, PassesEvent}
 use Rattle.facet_json_reader.specs.Views.{stage_of, comes_at, coming}
 
 -- The places where a value may stand.
@@ -45,6 +45,7 @@ stands-reaches buffer mode r place position at stage fits here gap = record {
   comes = ap₂ (λ (s : Stage) (p : ℕ). comes_at buffer mode r.contexts s p) (sym stage) here;
 }
 
+-- A literal is a scalar.
 pub word-there : (buffer : List ℕ) (at first : ℕ) (word : List ℕ) (value : Scalar) → IsWord first word value → slice_get buffer at ≡ Some first →
     common_len word (drop at buffer) ≡ length word → IsScalarThere buffer at (length word) value
 unfolding start_of
@@ -72,33 +73,6 @@ word-there buffer at _ _ _ false_stands here all = record {
   means = refl;
   read = refl;
 }
-
--- A string without an escape is a scalar.
-pub text-there : (buffer : List ℕ) (at finish : ℕ) (bytes : List ℕ) → IsPlainText buffer at finish bytes →
-    IsScalarThere buffer at ((finish + 1) - at) (event.text (borrowed bytes))
-text-there buffer at finish bytes is = record {
-  kind = string (at + 1) finish false;
-  meant = tree.text bytes;
-  cut = is.cut;
-  scalar = refl;
-  means = ap (option_map tree.text) is.means;
-  read = refl;
-}
-
--- A number with a value is a scalar, too.
-pub number-there : (buffer : List ℕ) (at b len : ℕ) (q : Parts) (hint : Hint) (n : Number) (value : Scalar) → slice_get buffer at ≡ Some b →
-    start_of b ≡ opens_number → q ≡ parts (drop at buffer) → len ≡ parts_len q → hint ≡ parts_hint q → is_bare q ≡ false →
-    number (slice_range buffer at (at + len)) hint ≡ Some n →
-    ((kind : Kind) → value ≡ scalar_by kind (tree_of_number n)) → IsScalarThere buffer at len value
-number-there buffer at b len q hint n value here begins same long what more means read =
-    record {
-      kind = token.number at (at + len) hint;
-      meant = tree_of_number n;
-      cut = λ mode. number-cut mode buffer at b len q hint here begins same long what more;
-      scalar = refl;
-      means = ap (option_map tree_of_number) means;
-      read = read (token.number at (at + len) hint);
-    }
 
 -- A colon begins its token.
 colon_begins : start_of mark_byte.colon ≡ punctuation colon

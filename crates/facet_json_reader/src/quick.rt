@@ -10,26 +10,22 @@ ghost use Rattle.facet_json_token.specs.Cut.{start_of, opens_number};
 ghost use Rattle.facet_json_token.specs.Gap.{Mode as SpecMode};
 ghost use Rattle.facet_json_token.specs.Token.{Kind, comma};
 ghost use Rattle.facet_json_token.specs.Views.{mode_of};
-ghost use Rattle.facet_json_number.specs.Views.{number_of, is_made_number};
-ghost use Rattle.facet_json_document.specs.Meaning.{tree_of_number};
-ghost use Rattle.facet_json_document.specs.Walk.{scalar_by};
 ghost use Rattle.facet_json_document.specs.Future.{within};
 ghost use Rattle.facet_json_document.specs.Place.{Place as SpecPlace, before_key, passes, place_turn};
 ghost use Rattle.facet_json_place.specs.Views.{place_of, opening, closing};
-ghost use Rattle.facet_json_reader.specs.Quick.{MayBeValue, Reaches, IsPlainText, IsScalarThere, IsWord, Leaves, PassesEvent};
+ghost use Rattle.facet_json_plain.specs.Values.{IsPlainText};
+ghost use Rattle.facet_json_reader.specs.Quick.{MayBeValue, Reaches, IsWord, Leaves, PassesEvent};
 ghost use Rattle.facet_json_reader.specs.Views.{stage_of};
 
 use crate::reader::{Reader, Stage, closing, opening};
-use facet_format::numeral::parts_at;
 use facet_format::{
     ContainerKind, FieldKey, FieldLocationHint, ParseEvent, ParseEventKind, ScalarValue, Span,
 };
-use facet_json_decode::{plain_text, quoted_text};
-use facet_json_number::{ParsedNumber, parse_measured};
 use facet_json_place::Place;
+use facet_json_plain::{checked_text_at, quoted_text_at, short_number};
 use facet_json_token::Mode;
 use facet_json_token::plain_cut::common_len;
-use facet_json_token::quick::{gap_end, plain_text_end};
+use facet_json_token::quick::gap_end;
 use std::borrow::CowStr;
 
 /// What is known of an input's bytes.
@@ -77,11 +73,11 @@ impl Reader {
         ensures { Reaches input.now (mode_of mode) self.now (place_of result.0) result.1 }
     {
         let at = gap_end(input, self.last.end(), mode);
-        let Some(next) = after_comma(place) else {
-            return (place, at);
-        };
         match input.get(at) {
-            Some(b',') => (next, gap_end(input, at + 1, mode)),
+            Some(b',') => match after_comma(place) {
+                Some(next) => (next, gap_end(input, at + 1, mode)),
+                None => (place, at),
+            },
             _ => (place, at),
         }
     }
@@ -322,50 +318,8 @@ fn text_at<'de>(input: &'de [u8], trust: Trust, at: usize) -> Option<(usize, &'d
     ensures text { IfSome result (λ r. IsPlainText input.now at r.0 r.1.now) }
     ensures within { IfSome result (λ r. (at < r.0) × (r.0 < length input.now)) }
 {
-    let end = plain_text_end(input, at)?;
     match trust {
-        Trust::Nothing => match plain_text(input, at + 1, end) {
-            Some(text) => Some((end, text)),
-            None => None,
-        },
-        Trust::Utf8 => match input.get(end) {
-            Some(b'"') => Some((end, quoted_text(input, at + 1, end))),
-            _ => None,
-        },
-    }
-}
-
-/// The length and the value of the number at `at`, of which this is the first byte, where it takes no memory.
-#[inline(always)]
-fn short_number<'de>(input: &'de [u8], at: usize, first: u8) -> Option<(usize, ScalarValue<'de>)>
-    requires here { slice_get input.now at ≡ Some first }
-    requires number { start_of first ≡ opens_number }
-    ensures { IfSome result (λ r. IsScalarThere input.now at r.0 (scalar_value_of r.1)) }
-{
-    let parts = parts_at(input, at);
-    let len = parts.len();
-    if parts.is_bare() {
-        return None;
-    }
-    match parse_measured(input, at, at + len, parts.hint()) {
-        Ok(number) => match short_scalar(number) {
-            Some(value) => Some((len, value)),
-            None => None,
-        },
-        Err(_) => None,
-    }
-}
-
-/// The number as a scalar, where it takes no memory.
-#[inline(always)]
-fn short_scalar<'de>(number: ParsedNumber<'de>) -> Option<ScalarValue<'de>>
-    ensures { (kind : Kind) → is_made_number number.entry ≡ false
-        → IfSome result (λ v. scalar_value_of v ≡ scalar_by kind (tree_of_number (number_of number.entry))) }
-{
-    match number {
-        ParsedNumber::U64(n) => Some(ScalarValue::U64(n)),
-        ParsedNumber::I64(n) => Some(ScalarValue::I64(n)),
-        ParsedNumber::Decimal(decimal) => Some(ScalarValue::Decimal(decimal)),
-        _ => None,
+        Trust::Nothing => checked_text_at(input, at),
+        Trust::Utf8 => quoted_text_at(input, at),
     }
 }

@@ -3,7 +3,8 @@ use Rattle.facet_format.specs.Event.{text, borrowed}
 use Rattle.facet_format.specs.Views.{event_of}
 use Rattle.facet_json_token.specs.Views.{mode_of}
 use Rattle.facet_json_place.specs.Views.{place_of}
-use Rattle.facet_json_reader.proofs.QuickEvents.{text-there, scalar-passes}
+use Rattle.facet_json_plain.proofs.ValuesThere.{text-there}
+use Rattle.facet_json_reader.proofs.QuickEvents.{scalar-passes}
 use Rattle.facet_json_reader.proofs.reader.Reader.pass_string.Goals as goal
 
 pub returns-in_default : goal.returns-in_default

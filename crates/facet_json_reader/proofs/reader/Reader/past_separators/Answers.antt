@@ -11,9 +11,9 @@ use Rattle.facet_json_place.proofs.TokensThere.{mark-cut}
 use Rattle.facet_json_reader.proofs.QuickEvents.{stands-reaches, separator-reaches}
 use Rattle.facet_json_reader.proofs.reader.Reader.past_separators.Goals as goal
 
-pub returns-in-Some-eq44 : goal.returns-in-Some-eq44
+pub returns-in-Some : goal.returns-in-Some
 unfolding start_of
-returns-in-Some-eq44 c =
+returns-in-Some c =
     let buffer = c.args.input.now in
     let mode = mode_of c.args.mode in
     let r = c.args.self.now in

@@ -5,13 +5,7 @@ use Rattle.facet_format.specs.Bytes.{quote}
 use Rattle.facet_json_token.specs.Gap.{plain}
 use Rattle.facet_json_token.proofs.Offsets.{slice_get-from_read}
 use Rattle.facet_json_place.proofs.TokensThere.{there-fits}
-use Rattle.facet_json_reader.proofs.quick.text_at.Goals as goal
-
-pub plain_text-requires-clause-plain : goal.plain_text-requires-clause-plain
-plain_text-requires-clause-plain c =
-    let e = c.in_ok-end.ensures in
-    let fits = there-fits plain c.args.input.now c.args.at _ _ (omega (arith, e.within)) (e.token plain) in
-    sym fits.kind_fits.escapes
+use Rattle.facet_json_plain.proofs.text.quoted_text_at.Goals as goal
 
 pub quoted_text-requires-clause-plain : goal.quoted_text-requires-clause-plain
 quoted_text-requires-clause-plain c =

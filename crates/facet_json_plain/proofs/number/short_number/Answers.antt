@@ -5,8 +5,8 @@ use Rattle.facet_format.specs.Views.{hint_of, scalar_value_of}
 use Rattle.facet_json_number.specs.Views.{number_of}
 use Rattle.facet_json_token.specs.Gap.{plain}
 use Rattle.facet_json_place.proofs.TokensThere.{there-fits, number-cut}
-use Rattle.facet_json_reader.proofs.QuickEvents.{number-there}
-use Rattle.facet_json_reader.proofs.quick.short_number.Goals as goal
+use Rattle.facet_json_plain.proofs.ValuesThere.{number-there}
+use Rattle.facet_json_plain.proofs.number.short_number.Goals as goal
 
 pub parse_measured-requires-clause-is_number : goal.parse_measured-requires-clause-is_number
 parse_measured-requires-clause-is_number c =

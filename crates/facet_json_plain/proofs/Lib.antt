@@ -1,0 +1,2 @@
+pub mod AsciiTexts
+pub mod ValuesThere

@@ -1,0 +1,2 @@
+pub mod Inner
+pub mod Values

@@ -1,0 +1,9 @@
+//! Texts without an escape and numbers that take no memory, told by their bytes: for readers that make no token of them.
+#![tactic(auto)]
+
+mod number;
+mod text;
+mod window;
+
+pub use number::short_number;
+pub use text::{checked_text_at, quoted_text_at};

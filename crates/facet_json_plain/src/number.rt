@@ -1,0 +1,49 @@
+//! Numbers that take no memory.
+
+ghost use Rattle.std.specs.Prelude.{◌≡◌, false, Some, slice_get, IfSome};
+ghost use Rattle.facet_format.specs.Views.{scalar_value_of};
+ghost use Rattle.facet_json_token.specs.Cut.{start_of, opens_number};
+ghost use Rattle.facet_json_token.specs.Token.{Kind};
+ghost use Rattle.facet_json_number.specs.Views.{number_of, is_made_number};
+ghost use Rattle.facet_json_document.specs.Meaning.{tree_of_number};
+ghost use Rattle.facet_json_document.specs.Walk.{scalar_by};
+ghost use Rattle.facet_json_plain.specs.Values.{IsScalarThere};
+
+use facet_format::ScalarValue;
+use facet_format::numeral::parts_at;
+use facet_json_number::{ParsedNumber, parse_measured};
+
+/// The length and the value of the number at `at`, of which this is the first byte, where it takes no memory.
+#[inline(always)]
+pub fn short_number<'de>(input: &'de [u8], at: usize, first: u8) -> Option<(usize, ScalarValue<'de>)>
+    requires here { slice_get input.now at ≡ Some first }
+    requires number { start_of first ≡ opens_number }
+    ensures { IfSome result (λ r. IsScalarThere input.now at r.0 (scalar_value_of r.1)) }
+{
+    let parts = parts_at(input, at);
+    let len = parts.len();
+    if parts.is_bare() {
+        return None;
+    }
+    match parse_measured(input, at, at + len, parts.hint()) {
+        Ok(number) => match short_scalar(number) {
+            Some(value) => Some((len, value)),
+            None => None,
+        },
+        Err(_) => None,
+    }
+}
+
+/// The number as a scalar, where it takes no memory.
+#[inline(always)]
+fn short_scalar<'de>(number: ParsedNumber<'de>) -> Option<ScalarValue<'de>>
+    ensures { (kind : Kind) → is_made_number number.entry ≡ false
+        → IfSome result (λ v. scalar_value_of v ≡ scalar_by kind (tree_of_number (number_of number.entry))) }
+{
+    match number {
+        ParsedNumber::U64(n) => Some(ScalarValue::U64(n)),
+        ParsedNumber::I64(n) => Some(ScalarValue::I64(n)),
+        ParsedNumber::Decimal(decimal) => Some(ScalarValue::Decimal(decimal)),
+        _ => None,
+    }
+}
