@@ -15,7 +15,11 @@ use facet_json_number::{ParsedNumber, parse_measured};
 
 /// The length and the value of the number at `at`, of which this is the first byte, where it takes no memory.
 #[inline(always)]
-pub fn short_number<'de>(input: &'de [u8], at: usize, first: u8) -> Option<(usize, ScalarValue<'de>)>
+pub fn short_number<'de>(
+    input: &'de [u8],
+    at: usize,
+    first: u8,
+) -> Option<(usize, ScalarValue<'de>)>
     requires here { slice_get input.now at ≡ Some first }
     requires number { start_of first ≡ opens_number }
     ensures { IfSome result (λ r. IsScalarThere input.now at r.0 (scalar_value_of r.1)) }

@@ -304,10 +304,7 @@ fn after_comma(place: Place) -> Option<Place>
 fn takes_value(place: Place) -> bool
     ensures { result ≡ true → MayBeValue (place_of place) }
 {
-    matches!(
-        place,
-        Place::Root | Place::AfterColon | Place::BeforeItem
-    )
+    matches!(place, Place::Root | Place::AfterColon | Place::BeforeItem)
 }
 
 /// The text of the string whose quote is at `at`, where it holds no escape, and the offset of the quote that closes it.
