@@ -1,15 +1,16 @@
 -- What is found after a gap, from what is found where it ends.
-use Rattle.std.proofs.Common.{◌≡◌, ℕ, zero, suc, ◌+◌, ◌≤◌, ◌<◌, List, [], length, drop, Some, refl, sym, ap, ◌∙◌, subst, arith}
+use Rattle.std.proofs.Common.{◌≡◌, ℕ, zero, suc, ◌+◌, ◌≤◌, ◌<◌, Bool, true, false, cond, List, [], ◌∷◌, length, drop, Some, refl, sym, ap, ◌∙◌, subst, arith}
 use Rattle.std.proofs.lemmas.List.{append-nil, drop-drop, length-drop}
 use Rattle.facet_json_scanner.specs.declared.scanner.token.Found.{Found}
 use Rattle.facet_json_scanner.specs.declared.scanner.token.Found.TheVariants as found
-use Rattle.facet_json_token.specs.Gap.{Mode, whole, growing, piece_len, gap_len}
+use Rattle.facet_format.specs.Bytes.{is_space}
+use Rattle.facet_json_token.specs.Gap.{Mode, plain, whole, growing, piece_len, gap_len}
 use Rattle.facet_json_token.specs.Cut.{cut, cut_here, past_gap}
 use Rattle.facet_json_token.specs.Open.{IsBeginning, IsOpen}
 use Rattle.facet_json_scanner.specs.Scanner.{Describes, answer_for, past_growing_gap}
 use Rattle.facet_json_scanner.specs.Inner.Found.{FoundHere, FoundFrom, state_of}
 use Rattle.facet_json_token.proofs.GapSteps.{past_gap-piece}
-use Rattle.facet_json_token.proofs.Gaps.{gap_len-none, gap_len-piece}
+use Rattle.facet_json_token.proofs.Gaps.{piece_len-blank, gap_len-none, gap_len-some, gap_len-piece, gap_len-bound}
 use Rattle.facet_json_scanner.proofs.GrowthOfGap.{piece_len-keeps}
 use Rattle.facet_json_scanner.proofs.GrowthOfCut.{past_gap-stays}
 
@@ -72,3 +73,47 @@ found-piece mode buffer p end f some room e h = by_piece (piece_len mode growing
     by_piece (suc n) is (found.Open at s) h =
         let grows = growing_same (suc n) is in
         (h.0 ∙ grows, subst (λ k. Describes mode (state_of s) (drop k buffer)) grows h.1)
+
+-- White space begins with a blank.
+blank-first : (b : ℕ) (rest : List ℕ) (n : ℕ) → gap_len plain whole (b ∷ rest) ≡ suc n → (is_space b ≡ true) × (gap_len plain whole rest ≡ n)
+blank-first b rest n e = by (is_space b) refl
+  where
+    by : (t : Bool) → is_space b ≡ t → (is_space b ≡ true) × (gap_len plain whole rest ≡ n)
+    by true is =
+        let step = gap_len-some plain whole b rest 0 (ap (λ v. cond v 1 0) is) in
+        (is, omega (arith, step, e))
+    by false is =
+        let none = gap_len-none plain whole (b ∷ rest) (ap (λ v. cond v 1 0) is) in
+        absurd (omega (arith, none, e))
+
+no_bytes : (n : ℕ) → gap_len plain whole [] ≡ suc n → ⊥
+no_bytes n e = omega (arith, gap_len-bound plain whole [], e)
+
+-- After white space it is found from where that begins.
+module _ (mode : Mode) (buffer : List ℕ) (f : Found) where
+  -- from where white space of this length begins
+  abbrev FromBlanks : ℕ → Type 0
+  FromBlanks n = (q : ℕ) → q ≤ length buffer → gap_len plain whole (drop q buffer) ≡ n →
+      FoundFrom mode buffer (q + gap_len plain whole (drop q buffer)) f → FoundFrom mode buffer q f
+
+  one-blank : (n q : ℕ) (left : List ℕ) → q ≤ length buffer → drop q buffer ≡ left → gap_len plain whole left ≡ suc n →
+      FoundFrom mode buffer (q + suc n) f → FromBlanks n → FoundFrom mode buffer q f
+  one-blank n q [] room left e h others = absurd (no_bytes n e)
+  one-blank n q (b ∷ rest) room left e h others =
+      let first = blank-first b rest n e in
+      let some : q < length buffer = omega (arith, length-drop q buffer, ap length left) in
+      let after : drop (q + 1) buffer ≡ rest = sym (drop-drop 1 q buffer) ∙ ap (drop 1) left in
+      let same : gap_len plain whole (drop (q + 1) buffer) ≡ n = ap (gap_len plain whole) after ∙ first.1 in
+      let there : FoundFrom mode buffer ((q + 1) + gap_len plain whole (drop (q + 1) buffer)) f =
+      subst (λ k. FoundFrom mode buffer k f) (omega (arith, same)) h in
+      let one = ap (piece_len mode growing) left ∙ piece_len-blank mode growing b rest first.0 in
+      found-piece mode buffer q (q + 1) f (omega arith) (omega (arith, some)) (omega (arith, one))
+      (others (q + 1) (omega (arith, some)) same there)
+
+  all-blanks : (n : ℕ) → FromBlanks n
+  all-blanks zero q room e h = subst (λ k. FoundFrom mode buffer k f) (omega (arith, e)) h
+  all-blanks (suc n) q room e h =
+      one-blank n q (drop q buffer) room refl e (subst (λ k. FoundFrom mode buffer (q + k) f) e h) (all-blanks n)
+
+  pub found-blanks : (p end : ℕ) → p ≤ length buffer → end ≡ past_gap buffer p plain → FoundFrom mode buffer end f → FoundFrom mode buffer p f
+  found-blanks p end room e h = all-blanks (gap_len plain whole (drop p buffer)) p room refl (subst (λ k. FoundFrom mode buffer k f) e h)

@@ -1,15 +1,16 @@
 -- A string that the end of a buffer cuts, byte by byte.
-use Rattle.std.proofs.Common.{◌≡◌, ℕ, suc, ◌+◌, ◌-◌, ◌<◌, Bool, true, false, not, ◌==◌, ◌&&◌, ◌||◌, List, [], ◌∷◌, ◌++◌, length, take, drop, slice_get, Some, refl, sym, ap, ap₂, ◌∙◌, subst, arith, append_assoc}
+use Rattle.std.proofs.Common.{◌≡◌, ℕ, suc, ◌+◌, ◌-◌, ◌<◌, Bool, true, false, not, ◌==◌, ◌&&◌, ◌||◌, List, [], ◌∷◌, ◌++◌, length, take, drop, slice_get, Some, None, refl, sym, ap, ap₂, ◌∙◌, subst, arith, append_assoc}
 use Rattle.std.proofs.lemmas.Bool.{eqb-true}
 use Rattle.std.proofs.lemmas.List.{take-append-le, take_all}
 use Rattle.facet_format.specs.Bytes.{quote, backslash}
 use Rattle.facet_json_token.specs.Gap.{Mode}
-use Rattle.facet_json_token.specs.Token.{string}
-use Rattle.facet_json_token.specs.Cut.{ArePieces, token_at, cut_here, start_of, cut_text}
+use Rattle.facet_json_token.specs.Token.{Kind, string}
+use Rattle.facet_json_token.specs.Cut.{ArePieces, token_at, cut_here, start_of, cut_text, opens_text, content_len}
 use Rattle.facet_json_token.specs.Open.{IsBeginning}
 use Rattle.facet_json_scanner.specs.Scanner.{in_text, Describes}
 use Rattle.facet_json_token.proofs.TextShapes.{content_len-is, pieces-mark, any_backslash}
 use Rattle.facet_json_scanner.proofs.Beginnings.{begins_by}
+use Rattle.facet_json_token.proofs.FirstBytes.{cut_here-by}
 use Rattle.facet_json_token.proofs.Offsets.{drop-at_byte}
 use Rattle.facet_json_scanner.proofs.Segments.{between, between-length, between-rest}
 use Rattle.std.proofs.lemmas.Option.{slice_get_within}
@@ -106,3 +107,14 @@ text-found mode buffer start end e order d here =
           ∙ sym (text-closed mode start bytes rest e d) ∙ ap (cut_here mode start) (sym whole),
       λ i. text-shut mode bytes rest e d (subst (IsBeginning mode) whole i),
     )
+
+-- Nothing longer begins where a whole string is cut.
+pub text-whole : (mode : Mode) (buffer : List ℕ) (at len : ℕ) (kind : Kind) → slice_get buffer at ≡ Some quote →
+    cut_here mode at (drop at buffer) ≡ token_at kind at len → IsBeginning mode (drop at buffer) → ⊥
+unfolding start_of
+text-whole mode buffer at len kind here is i =
+    let rest = drop (at + 1) buffer in
+    let open_still : content_len false rest ≡ None = begins_by mode quote rest (subst (IsBeginning mode) (drop-at_byte buffer at quote here) i) in
+    let cut : cut_text at rest None ≡ token_at kind at len =
+    ap (cut_text at rest) (sym open_still) ∙ cut_here-by mode buffer at quote opens_text here refl ∙ is in
+    cc

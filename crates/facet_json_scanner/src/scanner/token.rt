@@ -1,7 +1,7 @@
 //! The token after a gap, in a buffer that grows.
 
 ghost use Rattle.std.specs.Prelude.{◌≡◌, ℕ, ◌+◌, ◌<◌, ◌≤◌, length, take, drop, Some, slice_get};
-ghost use Rattle.facet_format.specs.Bytes.{slash};
+ghost use Rattle.facet_format.specs.Bytes.{quote, slash};
 ghost use Rattle.facet_json_token.specs.Gap as spec_gap;
 ghost use Rattle.facet_json_token.specs.Token.{Kind};
 ghost use Rattle.facet_format.specs.Span.{stop, span_at};
@@ -18,6 +18,7 @@ use crate::scanner::gap::{Piece, piece_from};
 use crate::scanner::pending::{Part, State};
 use facet_format::Span;
 use facet_json_token::plain_cut::{common_len, cut_number, cut_token, cut_word, token_at};
+use facet_json_token::quick::{gap_end, plain_text_end};
 use facet_json_token::{Mode, ScanResult, SpannedToken, Token};
 
 /// What stands at a place.
@@ -46,10 +47,10 @@ pub fn scan_from(buffer: &[u8], position: usize, mode: Mode) -> Found
     ensures within { FoundWithin (length buffer.now) result }
     ensures refusal { RefusedThere (mode_of mode) buffer.now result }
 {
-    let mut at = position;
+    let mut at = gap_end(buffer, position, Mode::Plain);
     loop {
         match piece_from(buffer, at, mode) {
-            Piece::Closed(end) => at = end,
+            Piece::Closed(end) => at = gap_end(buffer, end, Mode::Plain),
             Piece::Open(state) => return Found::Open { start: at, state },
             Piece::Absent => return token_from(buffer, at, mode),
         }
@@ -70,7 +71,7 @@ fn token_from(buffer: &[u8], at: usize, mode: Mode) -> Found
         };
     };
     match *first {
-        b'"' => text_from(buffer, at, at + 1, false, false),
+        b'"' => string_from(buffer, at),
         b'n' => word_from(buffer, at, b"null", Token::Null),
         b't' => word_from(buffer, at, b"true", Token::True),
         b'f' => word_from(buffer, at, b"false", Token::False),
@@ -91,6 +92,27 @@ fn eof_at(offset: usize) -> ScanResult
         token: Token::Eof,
         span: Span::new(offset, 0),
     })
+}
+
+/// The string whose quote is at `at`: at once where no escape stands in it and the buffer holds all of it.
+fn string_from(buffer: &[u8], at: usize) -> Found
+    requires { slice_get buffer.now at ≡ Some quote }
+    ensures here { (mode : spec_gap.Mode) → FoundHere mode buffer.now at result }
+    ensures within { FoundWithin (length buffer.now) result }
+    ensures refusal { (mode : spec_gap.Mode) → RefusedThere mode buffer.now result }
+{
+    let Some(end) = plain_text_end(buffer, at) else {
+        return text_from(buffer, at, at + 1, false, false);
+    };
+    let token = Token::String {
+        start: at + 1,
+        end,
+        has_escapes: false,
+    };
+    Found::Answer {
+        start: at,
+        result: token_at(token, at, end + 1 - at),
+    }
 }
 
 /// Goes on at `at` with the string whose quote is at `start`.

@@ -3,20 +3,27 @@ use Rattle.std.proofs.Common.{refl}
 use Rattle.facet_json_token.specs.Views.{mode_of}
 use Rattle.facet_json_scanner.specs.Inner.Found.{state_of}
 use Rattle.facet_json_scanner.specs.declared.scanner.token.Found.TheVariants as found
-use Rattle.facet_json_scanner.proofs.FoundPastGap.{found-no_gap, found-piece}
+use Rattle.facet_json_scanner.proofs.FoundPastGap.{found-no_gap, found-piece, found-blanks}
 use Rattle.facet_json_scanner.proofs.NoPiece.{open_no_piece}
 use Rattle.facet_json_scanner.proofs.Refusals.{found-refused}
 use Rattle.facet_json_scanner.proofs.scanner.token.scan_from.Goals as goal
 
+pub loop-end-init : goal.loop-end-init
+loop-end-init c = record {
+  within = c.gap_end-at.ensures.within;
+  same = λ f h. found-blanks (mode_of c.args.mode) c.args.buffer.now f c.args.position _ c.requires c.gap_end-at.ensures.end h;
+}
+
 pub loop-end-preserved : goal.loop-end-preserved
 loop-end-preserved c =
     let within = c.in-Closed.ensures.within in
+    let gap = c.gap_end-at-in-Closed.ensures in
     record {
-      within = within.1;
+      within = gap.within;
       same = λ f h.
           c.loop-end.invariant.same f
           (found-piece (mode_of c.args.mode) c.args.buffer.now c.loop-end.at c.in-Closed.end f within.0 within.1
-          c.in-Closed.ensures.here h);
+          c.in-Closed.ensures.here (found-blanks (mode_of c.args.mode) c.args.buffer.now f c.in-Closed.end _ within.1 gap.end h));
     }
 
 pub returns-in-Open-clause-here : goal.returns-in-Open-clause-here

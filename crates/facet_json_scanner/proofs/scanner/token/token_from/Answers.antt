@@ -1,12 +1,12 @@
 -- What the first byte begins is found, and another byte is cut.
-use Rattle.std.proofs.Common.{◌≡◌, ◌+◌, ◌<◌, ◌⊎◌, inl, inr, [], ◌∷◌, length, drop, true, false, Some, refl, sym, ap, ◌∙◌, subst, arith}
+use Rattle.std.proofs.Common.{◌≡◌, ◌+◌, ◌<◌, ◌⊎◌, inl, inr, [], ◌∷◌, length, drop, true, Some, refl, sym, ap, ◌∙◌, subst, arith}
 use Rattle.std.proofs.lemmas.List.{drop_all}
 use Rattle.facet_format.specs.Bytes.{quote, slash}
 use Rattle.facet_json_token.specs.Token.{null, true_literal, false_literal}
 use Rattle.facet_format.specs.Number.{starts_number}
-use Rattle.facet_json_token.specs.Cut.{ArePieces, start_of, cut_here}
+use Rattle.facet_json_token.specs.Cut.{start_of, cut_here}
 use Rattle.facet_json_token.specs.Open.{IsBeginning}
-use Rattle.facet_json_scanner.specs.Scanner.{Describes, EndsIn, in_digits, in_text, answer_for}
+use Rattle.facet_json_scanner.specs.Scanner.{EndsIn, in_digits, answer_for}
 use Rattle.facet_json_token.specs.Views.{mode_of}
 use Rattle.facet_json_token.proofs.Offsets.{drop-at_byte, slice_get-from_read}
 use Rattle.facet_json_token.proofs.FirstBytes.{starts_number-range, cut_here-something}
@@ -33,15 +33,12 @@ pub cut_token-requires : goal.cut_token-requires
 cut_token-requires c =
     slice_get-from_read c.args.buffer.now c.args.at c.in-Some.first.now _ c.in-Some.ensures.lookup.3 refl
 
+pub string_from-requires : goal.string_from-requires
+string_from-requires c =
+    slice_get-from_read c.args.buffer.now c.args.at c.in-Some.first.now quote c.in-Some.ensures.lookup.3 c.in-34.is
+
 pub returns-in-34-clause-here : goal.returns-in-34-clause-here
-returns-in-34-clause-here c = λ shut.
-    let buffer = c.args.buffer.now in
-    let at = c.args.at in
-    let mode = mode_of c.args.mode in
-    let here = slice_get-from_read buffer at c.in-Some.first.now quote c.in-Some.ensures.lookup.3 c.in-34.is in
-    c.text_from.ensures.here mode
-    (subst (Describes mode (in_text false false)) (sym (between-first buffer at quote here))
-    (Describes.text mode [] false ArePieces.none))
+returns-in-34-clause-here c = λ shut. c.string_from.ensures.here (mode_of c.args.mode)
 
 pub returns-in-110-clause-here : goal.returns-in-110-clause-here
 unfolding start_of
