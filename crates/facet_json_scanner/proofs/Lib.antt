@@ -14,3 +14,4 @@ pub mod PendingText
 pub mod PendingWord
 pub mod Refusals
 pub mod Segments
+pub mod WholeTokens

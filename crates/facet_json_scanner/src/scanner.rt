@@ -15,10 +15,12 @@ ghost use Rattle.facet_json_scanner.specs.Inner.Found.{state_of, pending_of, pos
 mod gap;
 mod pending;
 mod token;
+mod whole;
 
 use crate::scanner::gap::{Piece, block_from, line_from};
 use crate::scanner::pending::{Pending, State};
 use crate::scanner::token::{Found, number_from, scan_from, text_from};
+use crate::scanner::whole::scan;
 use facet_format::Span;
 use facet_json_token::plain_cut::skip_gap;
 use facet_json_token::{Mode, ScanResult, SpannedToken, Token, cut};
@@ -169,6 +171,7 @@ impl Scanner {
 }
 
 /// What stands at `position`, or goes on there with what is pending.
+#[inline(always)]
 fn find(buffer: &[u8], position: usize, pending: Option<Pending>, mode: Mode) -> Found
     requires room { position ≤ length buffer.now }
     requires order { IfSome pending (λ p. p.start < position) }
@@ -179,7 +182,7 @@ fn find(buffer: &[u8], position: usize, pending: Option<Pending>, mode: Mode) ->
 {
     match pending {
         Some(pending) => resume(buffer, position, pending, mode),
-        None => scan_from(buffer, position, mode),
+        None => scan(buffer, position, mode),
     }
 }
 

@@ -83,3 +83,7 @@ RefusedThere mode buffer (found.Open at s) = Unit {0}
 abbrev pub FoundWithin : ℕ → Found → Type 0
 FoundWithin last (found.Answer at result) = (at ≤ last) × (stop (span_answered result) ≤ last) × IndicesWithin last result
 FoundWithin last (found.Open at s) = at < last
+
+-- At `at`, where no gap is before it, this token is found, and further bytes don't change it.
+abbrev pub IsWhole : Mode → List ℕ → ℕ → SpannedToken → Type 0
+IsWhole mode buffer at t = FoundFrom mode buffer at (found.Answer at (Ok t)) × FoundWithin (length buffer) (found.Answer at (Ok t))

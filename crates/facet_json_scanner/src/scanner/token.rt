@@ -40,7 +40,8 @@ pub enum Found {
     },
 }
 
-/// What stands at `position`, a gap before it.
+/// What stands at `position`, a gap before it, whether or not the end of the buffer cuts it.
+#[inline(never)]
 pub fn scan_from(buffer: &[u8], position: usize, mode: Mode) -> Found
     requires { position ≤ length buffer.now }
     ensures here { FoundFrom (mode_of mode) buffer.now position result }
