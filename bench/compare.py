@@ -226,6 +226,23 @@ def ratios_table(ratios, figures):
         yield row(short(name), *(cell(ratio, name, least) for ratio in used))
 
 
+def reached(ratio, figures):
+    """The inputs on which what is wanted is reached, the fastest first, and those on which it isn't, the slowest first."""
+    found = [(ratio_of(ratio, least), name) for name, least in figures.items() if not ratio.on or name in ratio.on]
+    found = sorted((value, name) for value, name in found if value is not None)
+    said = lambda pairs: ", ".join(f"`{short(name)}` ({value:.2f})" for value, name in pairs) or "none"
+    return said([it for it in reversed(found) if it[0] >= ratio.wanted]), said([it for it in found if it[0] < ratio.wanted])
+
+
+def reached_table(ratios, figures):
+    """What is to be reached, and on which inputs it is."""
+    yield row("Ratio", "To reach", "Reached on", "Behind on")
+    yield row(*["---"] * 4)
+    for ratio in ratios:
+        if ratio.wanted and any(ratio_of(ratio, least) for least in figures.values()):
+            yield row(ratio.title, str(ratio.wanted), *reached(ratio, figures))
+
+
 def speeds_table(side, sizes, figures):
     """Megabytes a second of one side, an input a line."""
     works = [work for work in (*WORKS, "fmt") if any((work, side) in least for least in figures.values())]
@@ -248,6 +265,10 @@ def table(bench, load, sizes, figures):
     yield "Above 1 this library is faster. Bold: less than is to be reached. What each work is: `bench/README.md`."
     yield ""
     yield from ratios_table(RATIOS + SINCE, figures)
+    yield ""
+    yield "## Where that is reached"
+    yield ""
+    yield from reached_table(RATIOS + SINCE, figures)
     for side in dict.fromkeys(side for least in figures.values() for _, side in least):
         yield ""
         yield f"## MB a second: {'this library' if side == 'ours' else side}"
