@@ -9,3 +9,12 @@ returns-in-Fmt-clause-answer c = search rules
 
 pub returns-in-Fmt-clause-only : goal.returns-in-Fmt-clause-only
 returns-in-Fmt-clause-only c = search rules
+
+pub returns-in-Fmt-clause-refused : goal.returns-in-Fmt-clause-refused
+returns-in-Fmt-clause-refused c = search rules
+
+pub returns-in-Fmt-clause-driven : goal.returns-in-Fmt-clause-driven
+returns-in-Fmt-clause-driven c = search rules
+
+pub returns-in-Fmt-clause-grows : goal.returns-in-Fmt-clause-grows
+returns-in-Fmt-clause-grows c = search rules

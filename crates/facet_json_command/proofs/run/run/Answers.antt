@@ -1,4 +1,4 @@
-use Rattle.std.proofs.Common.{refl, inl, inr}
+use Rattle.std.proofs.Common.{refl, inl, inr, rules}
 use Rattle.facet_json_command_line.specs.Arguments.{fmt, drive}
 use Rattle.facet_json_command.specs.Views.{words_of, command_view}
 use Rattle.facet_json_command_line.proofs.OneCommand.{one_command}
@@ -50,3 +50,18 @@ returns-in-Err-clause-driven g c mode calls asks =
       | inl memory ↦ inr (rw memory refl)
       | inr wrong ↦ absurd (wrong.1 (drive mode calls) asks)
     ]
+
+pub returns-in-Err-clause-usage : goal.returns-in-Err-clause-usage
+returns-in-Err-clause-usage c = search rules
+
+pub returns-in-Err-clause-told : goal.returns-in-Err-clause-told
+returns-in-Err-clause-told c = search rules
+
+pub returns-in-Err-clause-untouched : goal.returns-in-Err-clause-untouched
+returns-in-Err-clause-untouched c = search rules
+
+pub returns-in-Err-clause-refused : goal.returns-in-Err-clause-refused
+returns-in-Err-clause-refused c = search rules
+
+pub returns-in-Err-clause-grows : goal.returns-in-Err-clause-grows
+returns-in-Err-clause-grows c = search rules

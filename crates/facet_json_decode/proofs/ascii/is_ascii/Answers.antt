@@ -1,5 +1,5 @@
 -- A window of ASCII alone is passed, and in another the run ends.
-use Rattle.std.proofs.Common.{arith}
+use Rattle.std.proofs.Common.{arith, rules}
 use Rattle.facet_json_token.proofs.Windows.{run_through}
 use Rattle.facet_json_decode.specs.Inner.Ascii.{is_low}
 use Rattle.facet_json_decode.proofs.ascii.is_ascii.Goals as goal
@@ -13,3 +13,12 @@ loop-at-preserved c =
       within = omega arith;
       same = omega (arith, run, c.loop-at.invariant.same);
     }
+
+pub returns-then-buf-at-lt16 : goal.returns-then-buf-at-lt16
+returns-then-buf-at-lt16 c = search rules
+
+pub returns-then-ascii-lt16 : goal.returns-then-ascii-lt16
+returns-then-ascii-lt16 c = search rules
+
+pub returns : goal.returns
+returns c = search rules

@@ -1,5 +1,5 @@
 -- What each run and each escape says of the text, and the fault where a run is no text or no escape stands.
-use Rattle.std.proofs.Common.{◌+◌, ◌<◌, ◌≤◌, [], refl, arith}
+use Rattle.std.proofs.Common.{◌+◌, ◌<◌, ◌≤◌, [], refl, arith, rules}
 use Rattle.std.proofs.lemmas.Result.{err_from_is_err_and}
 use Rattle.std.proofs.lemmas.List.Edits.{length-between}
 use Rattle.facet_format.specs.Bytes.{backslash}
@@ -57,3 +57,12 @@ loop-found-preserved c =
     let within : c.run_end-stop.result + c.in_ok-found.found.len ≤ c.args.end = omega (arith, len.1, size, ends.within) in
     let next = step-found _ _ _ _ _ _ _ _ (omega arith) within c.in_ok-found.ensures.found passed refl in
     record { ahead = omega arith; within = within; so_far = (_, next) }
+
+pub returns-in_err-run_at-clause-text : goal.returns-in_err-run_at-clause-text
+returns-in_err-run_at-clause-text c = search rules
+
+pub returns-then-stop-end-clause-refused : goal.returns-then-stop-end-clause-refused
+returns-then-stop-end-clause-refused c = search rules
+
+pub returns-in_err-found-clause-text : goal.returns-in_err-found-clause-text
+returns-in_err-found-clause-text c = search rules

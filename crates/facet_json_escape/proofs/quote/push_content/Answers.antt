@@ -1,5 +1,6 @@
+use Rattle.std.proofs.lemmas.Grind.{common_steps}
 -- The run up to the next escape, and the escape.
-use Rattle.std.proofs.Common.{◌<◌, length, sym, ap, ◌++◌, ◌∙◌, append-nil, arith}
+use Rattle.std.proofs.Common.{◌<◌, length, sym, ap, ◌++◌, ◌∙◌, append-nil, arith, rules}
 use Rattle.std.proofs.lemmas.List.{drop_all}
 use Rattle.std.specs.List.{flat_map}
 use Rattle.facet_json_document.specs.Quoted.{escaped}
@@ -24,3 +25,12 @@ loop-at-preserved c =
       within = omega (arith, lt);
       same = put_out _ _ _ _ _ _ c.in_ok-push_escaped.ensures (escaped-at bytes stop lt) run;
     }
+
+pub returns-in_err-push_run : goal.returns-in_err-push_run
+returns-in_err-push_run c = search rules
+
+pub returns-in_err-push_escaped : goal.returns-in_err-push_escaped
+returns-in_err-push_escaped c = search rules
+
+pub returns : goal.returns
+returns c = grind (arith, common_steps)

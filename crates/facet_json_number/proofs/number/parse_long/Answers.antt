@@ -18,3 +18,6 @@ returns-in_err-value c =
 
 pub loop-digit-preserved : goal.loop-digit-preserved
 loop-digit-preserved c = grind (arith, common_steps)
+
+pub returns : goal.returns
+returns c = grind (arith, common_steps)

@@ -1,5 +1,5 @@
 -- The parts at the offset tell the token, and the number its value.
-use Rattle.std.proofs.Common.{sym, ◌∙◌, arith}
+use Rattle.std.proofs.Common.{sym, ◌∙◌, arith, rules}
 use Rattle.std.proofs.lemmas.Option.{slice_get_within}
 use Rattle.facet_format.specs.Views.{hint_of, scalar_value_of}
 use Rattle.facet_json_number.specs.Views.{number_of}
@@ -25,3 +25,12 @@ returns-in-Some c =
     number-there c.args.input.now c.args.at c.args.first c.len-len.result q (hint_of c.hint.result) (number_of c.in-Ok.number) (scalar_value_of c.in-Some.value)
     c.requires.here c.requires.number c.parts_at-parts.ensures.parts c.len-len.ensures c.hint.ensures more c.in-Ok.ensures.number
     (λ kind. rw c.in-Some.is at (c.short_scalar.ensures kind c.in-Ok.ensures.borrowed))
+
+pub returns-then-is_bare : goal.returns-then-is_bare
+returns-then-is_bare c = search rules
+
+pub returns-in-None : goal.returns-in-None
+returns-in-None c = search rules
+
+pub returns-in-Err : goal.returns-in-Err
+returns-in-Err c = search rules

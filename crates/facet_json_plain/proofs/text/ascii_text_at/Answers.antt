@@ -1,5 +1,5 @@
 -- The run of ordinary bytes ends at the quote that closes the string.
-use Rattle.std.proofs.Common.{◌+◌, sym}
+use Rattle.std.proofs.Common.{◌+◌, sym, rules}
 use Rattle.facet_format.specs.Bytes.{quote}
 use Rattle.facet_json_token.proofs.Offsets.{slice_get-from_read}
 use Rattle.facet_json_token.proofs.TextWindows.{marks-of_run}
@@ -29,3 +29,12 @@ returns-in-Some-eq34-clause-text c =
       cut = λ mode. text-cut mode buffer c.args.at end c.requires.here here run;
       means = c.plain_text_unchecked.ensures.text;
     }
+
+pub returns-in-Some-eq34-clause-within : goal.returns-in-Some-eq34-clause-within
+returns-in-Some-eq34-clause-within c = search rules
+
+pub returns-in_default-clause-text : goal.returns-in_default-clause-text
+returns-in_default-clause-text c = search rules
+
+pub returns-in_default-clause-within : goal.returns-in_default-clause-within
+returns-in_default-clause-within c = search rules

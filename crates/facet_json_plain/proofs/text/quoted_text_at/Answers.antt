@@ -1,5 +1,5 @@
 -- No backslash stands in the content of a string without an escape, and it stands between two quotes.
-use Rattle.std.proofs.Common.{sym, arith, refl}
+use Rattle.std.proofs.Common.{sym, arith, refl, rules}
 use Rattle.std.proofs.lemmas.Option.{get_or_from_slice_get}
 use Rattle.facet_format.specs.Bytes.{quote}
 use Rattle.facet_json_token.specs.Gap.{plain}
@@ -27,3 +27,15 @@ quoted_text-requires-clause-quoted c =
       opens = get_or_from_slice_get buffer c.args.at quote 0 c.requires.here;
       closes = get_or_from_slice_get buffer c.in_ok-end.end quote 0 closing;
     }
+
+pub returns-in_err-end-clause-text : goal.returns-in_err-end-clause-text
+returns-in_err-end-clause-text c = search rules
+
+pub returns-in_err-end-clause-within : goal.returns-in_err-end-clause-within
+returns-in_err-end-clause-within c = search rules
+
+pub returns-in_default-clause-text : goal.returns-in_default-clause-text
+returns-in_default-clause-text c = search rules
+
+pub returns-in_default-clause-within : goal.returns-in_default-clause-within
+returns-in_default-clause-within c = search rules

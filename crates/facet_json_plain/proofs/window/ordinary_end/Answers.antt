@@ -1,5 +1,5 @@
 -- A window of ordinary bytes alone is passed, and in another the run ends.
-use Rattle.std.proofs.Common.{◌<◌, ap, arith}
+use Rattle.std.proofs.Common.{◌<◌, ap, arith, rules}
 use lib.Count.{count_trailing_zeros}
 use Rattle.facet_json_token.proofs.Windows.{mask_through, mask_stops, mask_within}
 use Rattle.facet_json_plain.specs.Inner.Window.{is_mark}
@@ -27,3 +27,15 @@ loop-at-preserved c =
       within = omega arith;
       same = omega (arith, run, c.loop-at.invariant.same);
     }
+
+pub returns-then-found-ne0-clause-ahead : goal.returns-then-found-ne0-clause-ahead
+returns-then-found-ne0-clause-ahead c = search rules
+
+pub returns-clause-value : goal.returns-clause-value
+returns-clause-value c = search rules
+
+pub returns-clause-ahead : goal.returns-clause-ahead
+returns-clause-ahead c = search rules
+
+pub returns-clause-within : goal.returns-clause-within
+returns-clause-within c = search rules

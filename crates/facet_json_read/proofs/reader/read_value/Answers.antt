@@ -1,3 +1,4 @@
+use Rattle.std.proofs.Common.{rules}
 use Rattle.std.proofs.lemmas.Result.{IfOk-weaker, IfErr-weaker}
 use Rattle.facet_json_meaning.proofs.Keeping.{keeps-then}
 use Rattle.facet_json_read.proofs.ReadingValues.{read-at}
@@ -27,3 +28,15 @@ returns-clause-refused c free =
     let first = c.in_ok-first.ensures.begun in
     IfErr-weaker c.finish.result _ _
     (λ e h. within-same c.begin_value.ensures.keeps.input.buffer (within-at first.comes (h first.passed first.begun))) c.finish.ensures.refused
+
+pub returns-in_err-first-clause-keeps : goal.returns-in_err-first-clause-keeps
+returns-in_err-first-clause-keeps c = search rules
+
+pub returns-in_err-first-clause-moves : goal.returns-in_err-first-clause-moves
+returns-in_err-first-clause-moves c = search rules
+
+pub returns-in_err-first-clause-shorter : goal.returns-in_err-first-clause-shorter
+returns-in_err-first-clause-shorter c = search rules
+
+pub returns-in_err-first-clause-told : goal.returns-in_err-first-clause-told
+returns-in_err-first-clause-told c = search rules

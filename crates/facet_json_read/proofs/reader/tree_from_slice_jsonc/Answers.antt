@@ -1,3 +1,4 @@
+use Rattle.std.proofs.Common.{rules}
 use Rattle.std.proofs.lemmas.Result.{IfOk-weaker, IfErr-weaker, MatchResult-from_both}
 use Rattle.facet_json_token.specs.Gap.{jsonc}
 use Rattle.facet_json_transcode.proofs.DocumentFromRoot.{read-document, read-only, unread-refused, unread-only}
@@ -21,3 +22,6 @@ returns-clause-only c =
     MatchResult-from_both c.document.result _ _
     (IfOk-weaker c.document.result _ _ (λ t h. read-only c.args.input.now jsonc _ h.0 h.1 root value d) read)
     (IfErr-weaker c.document.result _ _ (λ e h. unread-only c.args.input.now jsonc _ h root value d) unread)
+
+pub returns-clause-within : goal.returns-clause-within
+returns-clause-within c = search rules

@@ -1,3 +1,4 @@
+use Rattle.std.proofs.Common.{rules}
 use Rattle.std.proofs.lemmas.Result.{IfOk-weaker, IfErr-weaker, MatchResult-from_both}
 use Rattle.facet_json_token.specs.Gap.{jsonc}
 use Rattle.facet_json_read.proofs.DocumentWithin.{read-document-within, read-only-within, read-no_deeper, unread-only-within, unread-deeper, unread-refused-within}
@@ -30,3 +31,6 @@ pub returns-clause-refused : goal.returns-clause-refused
 returns-clause-refused c =
     let unread = rw c.new_jsonc.ensures at c.document_within.ensures.refused in
     IfErr-weaker c.document_within.result _ _ (λ e h. unread-refused-within c.args.input.now jsonc c.args.depth _ h) unread
+
+pub returns-clause-within : goal.returns-clause-within
+returns-clause-within c = search rules

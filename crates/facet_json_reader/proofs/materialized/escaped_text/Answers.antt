@@ -1,5 +1,5 @@
 -- Where a content with a backslash is refused, by its first fault.
-use Rattle.std.proofs.Common.{true, refl}
+use Rattle.std.proofs.Common.{true, refl, rules}
 use Rattle.std.proofs.lemmas.Result.{err_from_is_err_and}
 use Rattle.facet_json_reader.proofs.MeaninglessTokens.{escaped_unread}
 use Rattle.facet_json_reader.proofs.materialized.escaped_text.Goals as goal
@@ -17,3 +17,12 @@ returns-in-Err-Scan-clause-refused c =
     let a = c.args in
     let r = rw c.in-Err-Scan.field-0-is at c.in-Err-Scan.ensures.refused in
     escaped_unread a.buffer.now a.span a.start a.end true c.in-Err-Scan.error _ refl c.requires r c.from.ensures
+
+pub returns-in-Ok-clause-text : goal.returns-in-Ok-clause-text
+returns-in-Ok-clause-text c = search rules
+
+pub returns-in-Ok-clause-refused : goal.returns-in-Ok-clause-refused
+returns-in-Ok-clause-refused c = search rules
+
+pub returns-in-Err-Scan-clause-text : goal.returns-in-Err-Scan-clause-text
+returns-in-Err-Scan-clause-text c = search rules

@@ -8,3 +8,6 @@ returns-in-Eof-clause-end c = λ e s. rw (c.why_at_end.ensures, s) (at_end (plac
 
 pub returns-in_default : goal.returns-in_default
 returns-in_default c = search rules
+
+pub returns-in-Eof-clause-token : goal.returns-in-Eof-clause-token
+returns-in-Eof-clause-token c = search rules

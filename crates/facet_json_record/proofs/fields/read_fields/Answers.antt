@@ -1,4 +1,4 @@
-use Rattle.std.proofs.Common.{◌∙◌}
+use Rattle.std.proofs.Common.{◌∙◌, rules}
 use Rattle.std.proofs.lemmas.Result.{IfOk-weaker, IfErr-weaker, err_from_is_err_and}
 use Rattle.facet_format.specs.Event.{bytes_of}
 use Rattle.facet_format.specs.HeldText.{text_of}
@@ -59,3 +59,15 @@ returns-clause-unread g c =
     let t = table g.F.Fields.start (g.F.Fields.step c.args.borrows) g.F.Fields.ends in
     let ended = rw c.in_default.is at c.in_ok-key.ensures.passed in
     IfErr-weaker c.finish.result _ _ (λ e missing. fields-missing t (keys c.args.names.now) _ _ _ _ (refusal_of e) c.loop-slots.invariant.left ended missing) c.finish.ensures.missing
+
+pub returns-in_err-begin_object-clause-read : goal.returns-in_err-begin_object-clause-read
+returns-in_err-begin_object-clause-read c = search rules
+
+pub returns-in_err-begin_object-clause-keeps : goal.returns-in_err-begin_object-clause-keeps
+returns-in_err-begin_object-clause-keeps c = search rules
+
+pub returns-in_err-begin_object-clause-shorter : goal.returns-in_err-begin_object-clause-shorter
+returns-in_err-begin_object-clause-shorter c = search rules
+
+pub returns-in_err-begin_object-clause-within : goal.returns-in_err-begin_object-clause-within
+returns-in_err-begin_object-clause-within c = search rules

@@ -1,3 +1,4 @@
+use Rattle.std.proofs.Common.{rules}
 use Rattle.facet_json_write.proofs.CallsLeft.{last-answered, last-refused, last-spent}
 use Rattle.facet_json_record.proofs.MemberCalls.{end-left}
 use Rattle.facet_json_record.proofs.lent.write_fields.Goals as goal
@@ -16,3 +17,15 @@ pub returns-clause-spent : goal.returns-clause-spent
 returns-clause-spent g c =
     let left = end-left _ _ _ _ c.in_ok-begin_struct.ensures.appends c.in_ok-write_members.ensures.written in
     last-spent _ _ _ _ _ c.end_struct.result left c.end_struct.ensures.appends
+
+pub returns-in_err-begin_struct-clause-written : goal.returns-in_err-begin_struct-clause-written
+returns-in_err-begin_struct-clause-written c = search rules
+
+pub returns-in_err-begin_struct-clause-refused : goal.returns-in_err-begin_struct-clause-refused
+returns-in_err-begin_struct-clause-refused c = search rules
+
+pub returns-in_err-begin_struct-clause-spent : goal.returns-in_err-begin_struct-clause-spent
+returns-in_err-begin_struct-clause-spent c = search rules
+
+pub returns-in_err-begin_struct-clause-of_rust : goal.returns-in_err-begin_struct-clause-of_rust
+returns-in_err-begin_struct-clause-of_rust c = search rules

@@ -1,5 +1,5 @@
 -- A comma or a colon is a token where it stands.
-use Rattle.std.proofs.Common.{refl, arith}
+use Rattle.std.proofs.Common.{refl, arith, rules}
 use Rattle.facet_json_token.specs.Token.{comma, colon}
 use Rattle.facet_json_token.specs.Cut.{comma_stands, colon_stands}
 use Rattle.facet_json_token.proofs.Offsets.{slice_get-from_read}
@@ -22,3 +22,6 @@ returns-in-Some-eq58 c =
 
 pub returns-in_default : goal.returns-in_default
 returns-in_default c = λ mode. leads_on-nowhere c.args.input.now mode c.args.at c.requires
+
+pub returns-in_default-2 : goal.returns-in_default-2
+returns-in_default-2 c = search rules

@@ -1,5 +1,5 @@
 -- What stands there is a token that opens and closes nothing.
-use Rattle.std.proofs.Common.{refl, arith}
+use Rattle.std.proofs.Common.{refl, arith, rules}
 use Rattle.std.proofs.lemmas.Option.{slice_get_within}
 use Rattle.facet_format.specs.Bytes as byte
 use Rattle.facet_json_token.specs.Cut.{start_of}
@@ -35,3 +35,15 @@ returns-in-58-clause-on c =
     let here = slice_get-from_read c.args.input.now c.args.at c.in_ok-first.field-0.now byte.colon c.in_ok-first.ensures.lookup.3 c.in-58.is in
     let room = slice_get_within c.args.input.now c.args.at byte.colon here in
     token-leads_on c.args.input.now mode c.args.at 1 _ colon gap (omega (arith, room)) refl (λ innermost around s. refl) (mark-cut mode c.args.input.now c.args.at byte.colon colon here refl)
+
+pub returns-in_err-first-clause-on : goal.returns-in_err-first-clause-on
+returns-in_err-first-clause-on c = search rules
+
+pub returns-in_err-first-clause-past : goal.returns-in_err-first-clause-past
+returns-in_err-first-clause-past c = search rules
+
+pub returns-in-44-clause-past : goal.returns-in-44-clause-past
+returns-in-44-clause-past c = search rules
+
+pub returns-in-58-clause-past : goal.returns-in-58-clause-past
+returns-in-58-clause-past c = search rules

@@ -1,4 +1,4 @@
-use Rattle.std.proofs.Common.{◌≡◌, ◌∷◌, ◌∙◌, ap, arith}
+use Rattle.std.proofs.Common.{◌≡◌, ◌∷◌, ◌∙◌, ap, arith, rules}
 use Rattle.std.proofs.lemmas.Result.{err_from_is_err_and}
 use Rattle.facet_format.specs.Span.{stop, span_at}
 use Rattle.facet_format.specs.Views.{span_of, container_of}
@@ -93,3 +93,15 @@ returns-in_err-token-clause-refused c =
 pub returns-in_err-pass_token-clause-refused : goal.returns-in_err-pass_token-clause-refused
 returns-in_err-pass_token-clause-refused c =
     answer-within c.args.input.now (mode_of c.args.mode) _ (span_of c.args.last) c.from_residual-in_err-pass_token.result (returns-in_err-pass_token-clause-run c) c.requires
+
+pub returns-in_err-open_bracket-clause-onward : goal.returns-in_err-open_bracket-clause-onward
+returns-in_err-open_bracket-clause-onward c = search rules
+
+pub returns-in_err-open_bracket-clause-within : goal.returns-in_err-open_bracket-clause-within
+returns-in_err-open_bracket-clause-within c = search rules
+
+pub returns-in_err-token-clause-onward : goal.returns-in_err-token-clause-onward
+returns-in_err-token-clause-onward c = search rules
+
+pub returns-in_err-token-clause-within : goal.returns-in_err-token-clause-within
+returns-in_err-token-clause-within c = search rules

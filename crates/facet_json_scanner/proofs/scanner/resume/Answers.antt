@@ -44,3 +44,9 @@ returns-in-Text-clause-refusal c = c.text_from.ensures.refusal (mode_of c.args.m
 
 pub returns-in-Number-clause-refusal : goal.returns-in-Number-clause-refusal
 returns-in-Number-clause-refusal c = c.number_from.ensures.refusal (mode_of c.args.mode)
+
+pub returns-in-Line-clause-within : goal.returns-in-Line-clause-within
+returns-in-Line-clause-within c = search rules
+
+pub returns-in-Line-clause-refusal : goal.returns-in-Line-clause-refusal
+returns-in-Line-clause-refusal c = search rules

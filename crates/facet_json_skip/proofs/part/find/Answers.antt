@@ -1,4 +1,4 @@
-use Rattle.std.proofs.Common.{◌∙◌, refl, arith, ap}
+use Rattle.std.proofs.Common.{◌∙◌, refl, arith, ap, rules}
 use Rattle.std.proofs.lemmas.Result.{err_from_is_err_and}
 use Rattle.facet_json_token.specs.Views.{mode_of}
 use Rattle.facet_json_place.specs.declared.place.Turn.TheVariants as turns
@@ -101,3 +101,21 @@ returns-in-Names-clause-within c =
     let l = c.loop-token in
     let t = is-turn c.args.input.now (mode_of c.args.mode) l.place l.position c.in_ok-token.token turns.Names l.invariant.ends c.in_ok-token.ensures.answer c.in-Names.ensures.turn (λ e. cc) in
     t.ends
+
+pub returns-in_default-clause-found : goal.returns-in_default-clause-found
+returns-in_default-clause-found c = search rules
+
+pub returns-in_default-clause-nothing : goal.returns-in_default-clause-nothing
+returns-in_default-clause-nothing c = search rules
+
+pub returns-in_default-clause-within : goal.returns-in_default-clause-within
+returns-in_default-clause-within c = search rules
+
+pub returns-in_err-token-clause-found : goal.returns-in_err-token-clause-found
+returns-in_err-token-clause-found c = search rules
+
+pub returns-in_err-token-clause-within : goal.returns-in_err-token-clause-within
+returns-in_err-token-clause-within c = search rules
+
+pub returns-in-Names-clause-nothing : goal.returns-in-Names-clause-nothing
+returns-in-Names-clause-nothing c = search rules

@@ -1,4 +1,4 @@
-use Rattle.std.proofs.Common.{arith}
+use Rattle.std.proofs.Common.{arith, rules}
 use Rattle.std.proofs.lemmas.Result.{err_from_is_err_and}
 use Rattle.facet_format.specs.Views.{span_of}
 use Rattle.facet_json_skip.proofs.PassedParts.{value-root, value-ends, value-refused, capture-refused, text-captured, text-refused, key-captures, closing-captures}
@@ -48,3 +48,6 @@ returns-in-Closing-clause-captures c =
     λ language s same stands.
     let is = c.in-Closing.is in
     rw is (closing-captures c.args.input.now language s (span_of c.args.last) c.in-Closing.span (rw is at stands) _ c.no_raw-in-Closing.ensures)
+
+pub returns-in-Key-clause-within : goal.returns-in-Key-clause-within
+returns-in-Key-clause-within c = search rules

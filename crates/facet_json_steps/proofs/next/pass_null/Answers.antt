@@ -1,4 +1,17 @@
+use Rattle.std.proofs.Common.{rules}
 use Rattle.facet_json_steps.proofs.next.pass_null.Goals as goal
 
 pub returns-clause-passes : goal.returns-clause-passes
 returns-clause-passes c = record { given = _; walks = c.in_ok-_null.ensures.walks }
+
+pub returns-in_err-_null-clause-onward : goal.returns-in_err-_null-clause-onward
+returns-in_err-_null-clause-onward c = search rules
+
+pub returns-in_err-_null-clause-shorter : goal.returns-in_err-_null-clause-shorter
+returns-in_err-_null-clause-shorter c = search rules
+
+pub returns-in_err-_null-clause-passes : goal.returns-in_err-_null-clause-passes
+returns-in_err-_null-clause-passes c = search rules
+
+pub returns-in_err-_null-clause-lacks : goal.returns-in_err-_null-clause-lacks
+returns-in_err-_null-clause-lacks c = search rules

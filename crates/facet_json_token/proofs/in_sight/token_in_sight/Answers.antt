@@ -1,5 +1,5 @@
 -- Each arm tells what its byte begins.
-use Rattle.std.proofs.Common.{eqb, ap, refl, arith}
+use Rattle.std.proofs.Common.{eqb, ap, refl, arith, rules}
 use Rattle.facet_format.specs.Bytes.{is_space, slash}
 use Rattle.facet_json_token.specs.Token.{object_start, object_end, array_start, array_end, colon, comma, null, true_literal, false_literal}
 use Rattle.facet_json_token.specs.Cut.{start_of, opens_text}
@@ -125,3 +125,12 @@ returns-in-45 c =
     let here = slice_get-from_read buffer at b b c.in_ok-get.ensures.lookup.3 refl in
     told-cut c.number_in_sight.result _ buffer at c.number_in_sight.ensures
     (cut-number buffer at b here (grind arith) (grind arith) (grind arith) (grind arith))
+
+pub returns-in_err-get : goal.returns-in_err-get
+returns-in_err-get c = search rules
+
+pub returns-in_default : goal.returns-in_default
+returns-in_default c = search rules
+
+pub returns-in_default-2 : goal.returns-in_default-2
+returns-in_default-2 c = search rules

@@ -1,5 +1,5 @@
 -- The byte after a backslash is passed, where there is one.
-use Rattle.std.proofs.Common.{arith}
+use Rattle.std.proofs.Common.{arith, rules}
 use Rattle.std.proofs.lemmas.Option.{slice_get_within}
 use Rattle.facet_format.specs.Bytes.{backslash}
 use Rattle.facet_json_token.proofs.TextWindows.{content-after_escape, content-at_end}
@@ -15,3 +15,6 @@ returns-else-after-buffer-clause-same c =
 
 pub returns-else-after-buffer-clause-range : goal.returns-else-after-buffer-clause-range
 returns-else-after-buffer-clause-range c = (slice_get_within c.args.buffer.now c.args.at backslash c.requires, omega arith)
+
+pub returns-then-after-buffer-clause-range : goal.returns-then-after-buffer-clause-range
+returns-then-after-buffer-clause-range c = search rules

@@ -4,3 +4,6 @@ use Rattle.facet_json_token.proofs.plain_cut.cut_bare_minus.Goals as goal
 
 pub returns-in-None : goal.returns-in-None
 returns-in-None c = grind (arith, common_steps)
+
+pub returns-in-Some : goal.returns-in-Some
+returns-in-Some c = grind (arith, common_steps)

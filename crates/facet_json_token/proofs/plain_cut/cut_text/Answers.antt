@@ -1,3 +1,4 @@
+use Rattle.std.proofs.lemmas.Grind.{common_steps}
 -- From stop to stop, to the quote that closes the string.
 use Rattle.std.proofs.Common.{◌≡◌, ◌+◌, false, drop, Some, ap, ◌∙◌, refl, arith}
 use Rattle.std.specs.Option.{option_map}
@@ -53,3 +54,6 @@ returns-then-byte-eq34 c =
     let found : Some end ≡ option_map (λ n. (c.args.at + 1) + n) (content_len false rest) = content-ends buffer end here ∙ c.loop-byte.invariant.same in
     c.token_at.ensures (string (c.args.at + 1) end c.loop-byte.has_escapes) refl
     ∙ ap Some (cut_text-ends c.args.at end rest _ (content_len false rest) found c.loop-byte.invariant.seen)
+
+pub returns : goal.returns
+returns c = grind (arith, common_steps)

@@ -1,4 +1,4 @@
-use Rattle.std.proofs.Common.{◌≡◌, false, ◌+◌, ◌-◌, get_or, drop, string_bytes, sym, ap, ◌∙◌, arith}
+use Rattle.std.proofs.Common.{◌≡◌, false, ◌+◌, ◌-◌, get_or, drop, string_bytes, sym, ap, ◌∙◌, arith, rules}
 use Rattle.std.proofs.lemmas.List.{get_or_default}
 use Rattle.std.specs.Cmp.Lexicographic.{bytes_decides}
 use Rattle.facet_json_tree.specs.Lookup.{last_member}
@@ -33,3 +33,12 @@ loop-index-preserved c =
     let none = ap (λ n. last_member key (pairs_view (drop n members))) back ∙ c.loop-index.invariant in
     let not = last_member-not key (string_bytes m.0) (tree_view m.1) (pairs_view (drop (i - 1 + 1) members)) other none in
     ap (last_member key) (pairs_view-drop members (i - 1) m (omega arith) is) ∙ not
+
+pub returns-then-eq-clause-within : goal.returns-then-eq-clause-within
+returns-then-eq-clause-within c = search rules
+
+pub returns-clause-found : goal.returns-clause-found
+returns-clause-found c = search rules
+
+pub returns-clause-within : goal.returns-clause-within
+returns-clause-within c = search rules

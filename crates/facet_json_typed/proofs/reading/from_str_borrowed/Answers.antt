@@ -1,3 +1,4 @@
+use Rattle.std.proofs.Common.{rules}
 use Rattle.std.proofs.lemmas.Result.{IfOk-weaker, IfErr-weaker}
 use Rattle.facet_format.specs.Views.{refusal_of}
 use Rattle.facet_json_typed.proofs.RootComes.{read-from, unread-from}
@@ -10,3 +11,9 @@ returns-clause-read g c =
 pub returns-clause-unread : goal.returns-clause-unread
 returns-clause-unread g c =
     IfErr-weaker c.read.result _ _ (λ e. unread-from _ _ _ _ (rw (← c.as_bytes.ensures.value) c.new_trusted.ensures) (refusal_of e)) c.read.ensures.unread
+
+pub returns-clause-document : goal.returns-clause-document
+returns-clause-document c = search rules
+
+pub returns-clause-within : goal.returns-clause-within
+returns-clause-within c = search rules

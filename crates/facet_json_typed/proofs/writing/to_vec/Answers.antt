@@ -7,3 +7,12 @@ returns-clause-comes_back g c =
     let claim : g.claim c.lifetimes = search rules in
     let laws = g.met.T.Facet c.lifetimes claim in
     answered-comes_back (λ v. v.items) _ _ _ laws.reads_back _ _ (rw c.new.ensures at c.to_vec_with_options.ensures.text)
+
+pub returns-clause-text : goal.returns-clause-text
+returns-clause-text c = search rules
+
+pub returns-clause-refused : goal.returns-clause-refused
+returns-clause-refused c = search rules
+
+pub returns-clause-read_back : goal.returns-clause-read_back
+returns-clause-read_back c = search rules

@@ -19,3 +19,21 @@ returns-clause-read_back c =
     let o = options_of c.args.options.now in
     let is : IfOk c.finish.result (λ v. v.items ≡ text o 0 (tree_view c.args.tree.now)) = search rules in
     answered-readable (λ v. v.items) _ o _ c.in_ok-write_tree.ensures.of_rust is
+
+pub returns-in_err-write_tree-clause-text : goal.returns-in_err-write_tree-clause-text
+returns-in_err-write_tree-clause-text c = search rules
+
+pub returns-in_err-write_tree-clause-refused : goal.returns-in_err-write_tree-clause-refused
+returns-in_err-write_tree-clause-refused c = search rules
+
+pub returns-in_err-write_tree-clause-read_back : goal.returns-in_err-write_tree-clause-read_back
+returns-in_err-write_tree-clause-read_back c = search rules
+
+pub returns-in_err-write_tree-clause-utf8 : goal.returns-in_err-write_tree-clause-utf8
+returns-in_err-write_tree-clause-utf8 c = search rules
+
+pub returns-clause-text : goal.returns-clause-text
+returns-clause-text c = search rules
+
+pub returns-clause-refused : goal.returns-clause-refused
+returns-clause-refused c = search rules

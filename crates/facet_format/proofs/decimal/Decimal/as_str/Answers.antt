@@ -1,4 +1,4 @@
-use Rattle.std.proofs.Common.{◌≡◌, refl, ap, ◌∙◌}
+use Rattle.std.proofs.Common.{◌≡◌, refl, ap, ◌∙◌, rules}
 use Rattle.std.specs.Cow.{cow_str_bytes}
 use Rattle.std.specs.declared.borrow.CowStr.{CowStr}
 use Rattle.std.specs.declared.borrow.CowStr.TheVariants as cow
@@ -13,3 +13,6 @@ held-bytes (cow.Owned t) = refl
 
 pub returns-clause-text : goal.returns-clause-text
 returns-clause-text c = c.as_str.ensures.value ∙ held-bytes c.self.inside.0 ∙ ap bytes_of c.self.view_is
+
+pub returns-clause-number : goal.returns-clause-number
+returns-clause-number c = search rules

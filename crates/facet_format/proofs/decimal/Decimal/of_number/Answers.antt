@@ -1,5 +1,5 @@
 -- With outer digits the number has a value, which is its text.
-use Rattle.std.proofs.Common.{refl, sym, ◌∙◌}
+use Rattle.std.proofs.Common.{refl, sym, ◌∙◌, rules}
 use Rattle.facet_format.proofs.OuterDigits.{outer-number}
 use Rattle.facet_format.proofs.decimal.Decimal.of_number.Goals as goal
 
@@ -12,3 +12,6 @@ pub returns-then-has_outer_digits : goal.returns-then-has_outer_digits
 returns-then-has_outer_digits c =
     let outer = rw c.as_bytes.ensures.value at (sym c.has_outer_digits.ensures ∙ c.if-has_outer_digits.true) in
     (refl, outer-number c.args.text.now c.requires outer)
+
+pub returns-else-has_outer_digits : goal.returns-else-has_outer_digits
+returns-else-has_outer_digits c = search rules

@@ -1,5 +1,5 @@
 -- What the four bytes after a backslash and `u` stand for.
-use Rattle.std.proofs.Common.{◌≡◌, ◌+◌, drop, Some, None, true, false, cond, codes, length, sym, ap, ◌∙◌, arith}
+use Rattle.std.proofs.Common.{◌≡◌, ◌+◌, drop, Some, None, true, false, cond, codes, length, sym, ap, ◌∙◌, arith, rules}
 use Rattle.std.proofs.lemmas.Result.{err_from_is_err_and}
 use Rattle.facet_format.specs.Complaint.{unexpected_eof}
 use Rattle.facet_json_decode.specs.Decode.{piece_at, is_high_surrogate, low_at}
@@ -96,3 +96,9 @@ returns-in-None-clause-refused c =
     let same : fault_of rest ≡ fault_at no_character 2 4 =
     fault ∙ ap (λ x. cond x (pair_fault (drop 6 rest)) (fault_at no_character 2 4)) is in
     rw same c.not_utf8.ensures
+
+pub returns-in-None-clause-found : goal.returns-in-None-clause-found
+returns-in-None-clause-found c = search rules
+
+pub returns-in-None-clause-len : goal.returns-in-None-clause-len
+returns-in-None-clause-len c = search rules

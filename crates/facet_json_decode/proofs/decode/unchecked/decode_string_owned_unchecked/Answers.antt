@@ -9,3 +9,6 @@ returns-clause-decodes c = search rules
 
 pub returns-clause-only : goal.returns-clause-only
 returns-clause-only c = search rules
+
+pub returns-clause-refused : goal.returns-clause-refused
+returns-clause-refused c = search rules

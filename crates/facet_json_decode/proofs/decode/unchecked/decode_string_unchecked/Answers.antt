@@ -3,3 +3,9 @@ use Rattle.facet_json_decode.proofs.decode.unchecked.decode_string_unchecked.Goa
 
 pub returns-in-None-clause-borrowed : goal.returns-in-None-clause-borrowed
 returns-in-None-clause-borrowed c = search rules
+
+pub returns-in-None-clause-text : goal.returns-in-None-clause-text
+returns-in-None-clause-text c = search rules
+
+pub returns-in-None-clause-owned : goal.returns-in-None-clause-owned
+returns-in-None-clause-owned c = search rules

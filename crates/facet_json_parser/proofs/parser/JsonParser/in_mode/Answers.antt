@@ -1,4 +1,4 @@
-use Rattle.std.proofs.Common.{ap, map}
+use Rattle.std.proofs.Common.{ap, map, rules}
 use Rattle.facet_json_token.specs.Views.{mode_of}
 use Rattle.facet_json_document.specs.Language.{lenient}
 use Rattle.facet_json_standing.specs.Views.{filling_of, point_of}
@@ -11,3 +11,6 @@ invariant_of-result c = (
       (ap (map point_of) c.new-2.ensures.items),
   c.requires,
 )
+
+pub returns : goal.returns
+returns c = search rules

@@ -1,5 +1,5 @@
 -- What the standing passes at once is a move.
-use Rattle.std.proofs.Common.{◌∙◌, refl, sym}
+use Rattle.std.proofs.Common.{◌∙◌, refl, sym, rules}
 use Rattle.facet_json_parser.proofs.AnswersAreMoves.{quick-answers}
 use Rattle.facet_json_parser.proofs.ParserWithin.{ready-within}
 use Rattle.facet_json_parser.proofs.parser.JsonParser.next_quickly.Goals as goal
@@ -15,3 +15,6 @@ returns-clause-within c = ready-within _ _ _ _ _ _ _ c.args.self.now c.self.inva
 
 pub returns-then-is_some-clause-within : goal.returns-then-is_some-clause-within
 returns-then-is_some-clause-within c = ready-within _ _ _ _ _ _ _ c.args.self.now c.self.invariant.0 refl c.self.view_is
+
+pub returns-then-is_some-clause-event : goal.returns-then-is_some-clause-event
+returns-then-is_some-clause-event c = search rules

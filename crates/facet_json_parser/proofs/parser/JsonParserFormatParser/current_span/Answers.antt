@@ -1,4 +1,4 @@
-use Rattle.std.proofs.Common.{◌≡◌, Some, refl}
+use Rattle.std.proofs.Common.{◌≡◌, Some, refl, rules}
 use Rattle.facet_format.specs.Span.{Span}
 use Rattle.facet_format.specs.Cursor.{spans}
 use Rattle.facet_json_protocol.specs.Now.{Now, span_of}
@@ -22,3 +22,6 @@ pub returns-clause-within : goal.returns-clause-within
 returns-clause-within c =
     let known = ready-within _ _ _ _ _ _ _ c.args.self.now c.self.invariant.0 refl c.self.view_is in
     told-within _ c.args.self.now _ c.self.view_is known (c.span.ensures _ _ c.self.invariant.0.stands.filled)
+
+pub returns-clause-given : goal.returns-clause-given
+returns-clause-given c = search rules

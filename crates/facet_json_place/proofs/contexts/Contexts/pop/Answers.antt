@@ -1,4 +1,4 @@
-use Rattle.std.proofs.Common.{◌≡◌, suc, ◌-◌, ◌∷◌, reverse, ap, ◌∙◌, arith}
+use Rattle.std.proofs.Common.{◌≡◌, suc, ◌-◌, ◌∷◌, reverse, ap, ◌∙◌, arith, rules}
 use Rattle.facet_json_document.specs.Future.{around}
 use Rattle.facet_json_place.specs.Packed.{kinds_in}
 use Rattle.facet_json_place.proofs.PackedKinds.{kinds-shorter_word, kinds-popped_word}
@@ -20,3 +20,6 @@ returns-else-self-eq0-2 c =
     kinds-shorter_word (s.depth - 1) s.word (reverse s.others.items) c.if-self-eq0-2.false
     ∙ ap (λ d. around (kinds_in d (s.word ∷ reverse s.others.items))) one_more
     ∙ ap around c.self.view_is
+
+pub returns-then-self-eq0 : goal.returns-then-self-eq0
+returns-then-self-eq0 c = search rules

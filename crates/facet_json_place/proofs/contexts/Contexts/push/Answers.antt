@@ -1,4 +1,4 @@
-use Rattle.std.proofs.Common.{◌∷◌, ap₂, ◌∙◌, add-one}
+use Rattle.std.proofs.Common.{◌∷◌, ap₂, ◌∙◌, add-one, rules}
 use Rattle.std.proofs.lemmas.List.{reverse-append}
 use Rattle.facet_json_place.proofs.PackedKinds.{kinds-longer_word, kinds-new_word, kinds-none}
 use Rattle.facet_json_place.proofs.contexts.Contexts.push.Goals as goal
@@ -20,3 +20,9 @@ returns c =
             ∙ ap₂ ◌∷◌ w.bit_of-self-inside.ensures.kind (kinds-none _ _ _ w'.if-self-ne0-2.false ∙ c.self.view_is))
       ]
     ]
+
+pub returns-in_default : goal.returns-in_default
+returns-in_default c = search rules
+
+pub returns-in_err-push : goal.returns-in_err-push
+returns-in_err-push c = search rules

@@ -43,3 +43,15 @@ returns-in-Answer-clause-refusal c =
     (sym c.stands_after-self-inside.ensures)
     (subst (λ m. IfErr r (λ _. Gives buffer p m (answered r) (idle p inside))) (ap (λ s. s.mode) c.self.view_is)
     (gives-refused buffer c.in-Answer.start inside r c.in-Answer.ensures.refusal))
+
+pub returns-in-Answer-clause-position : goal.returns-in-Answer-clause-position
+returns-in-Answer-clause-position c = search rules
+
+pub returns-in-Answer-clause-span : goal.returns-in-Answer-clause-span
+returns-in-Answer-clause-span c = search rules
+
+pub returns-in-Answer-clause-indices : goal.returns-in-Answer-clause-indices
+returns-in-Answer-clause-indices c = search rules
+
+pub returns-in-Answer-clause-mode : goal.returns-in-Answer-clause-mode
+returns-in-Answer-clause-mode c = search rules

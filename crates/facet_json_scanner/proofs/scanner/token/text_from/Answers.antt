@@ -1,5 +1,6 @@
+use Rattle.std.proofs.lemmas.Grind.{common_steps}
 -- Each byte goes on with what was read, and the quote closes it.
-use Rattle.std.proofs.Common.{◌+◌, ◌-◌, refl, sym, subst, arith}
+use Rattle.std.proofs.Common.{◌+◌, ◌-◌, refl, sym, subst, arith, rules}
 use Rattle.facet_format.specs.Bytes.{quote}
 use Rattle.facet_format.specs.Span.{span_at}
 use Rattle.facet_json_token.specs.Token.{string}
@@ -63,3 +64,12 @@ loop-byte-preserved c =
           (text-step mode _ escaped c.loop-byte.has_escapes b (c.loop-byte.invariant.described mode d)
           (no_quote b escaped c.else-byte-eq34.either));
     }
+
+pub returns-clause-here : goal.returns-clause-here
+returns-clause-here c = grind (arith, common_steps)
+
+pub returns-clause-within : goal.returns-clause-within
+returns-clause-within c = search rules
+
+pub returns-clause-refusal : goal.returns-clause-refusal
+returns-clause-refusal c = search rules

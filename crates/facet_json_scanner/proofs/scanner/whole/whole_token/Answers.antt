@@ -1,5 +1,5 @@
 -- A token that ends before the buffer does is cut there, whatever follows.
-use Rattle.std.proofs.Common.{◌≡◌, ◌<◌, false, length, drop, Ok, Some, refl, ap, sym, ◌∙◌, arith}
+use Rattle.std.proofs.Common.{◌≡◌, ◌<◌, false, length, drop, Ok, Some, refl, ap, sym, ◌∙◌, arith, rules}
 use Rattle.std.proofs.lemmas.Bool.{ne_eqb}
 use Rattle.facet_format.specs.Bytes.{slash, is_space}
 use Rattle.facet_format.specs.Span.{stop}
@@ -36,3 +36,12 @@ returns-then-end-buffer c =
       found-no_gap mode buffer at (found.Answer at (Ok t)) c.requires none (found-here mode buffer at (Ok t) _ is some refl shut),
       (c.requires, ends.0, ends.1),
     )
+
+pub returns-in_err-first : goal.returns-in_err-first
+returns-in_err-first c = search rules
+
+pub returns-then-first-le32 : goal.returns-then-first-le32
+returns-then-first-le32 c = search rules
+
+pub returns-else-end-buffer : goal.returns-else-end-buffer
+returns-else-end-buffer c = search rules

@@ -1,4 +1,4 @@
-use Rattle.std.proofs.Common.{◌≡◌, false, Some, None, refl, sym, ap, ◌∙◌}
+use Rattle.std.proofs.Common.{◌≡◌, false, Some, None, refl, sym, ap, ◌∙◌, rules}
 use Rattle.std.specs.Option.{option_map}
 use Rattle.std.proofs.lemmas.Result.{err_from_is_err_and}
 use Rattle.facet_format.specs.Views.{event_of}
@@ -55,3 +55,9 @@ returns-clause-passed c =
     let held = rw c.in-Some.is at c.in_ok-held.ensures.held in
     let same = rw c.in-Some.is at c.in_ok-held.ensures.spot in
     rw (← same) (taken-passes c.args.input.now (language_of c.args.language) _ _ _ held (taken c))
+
+pub returns-in_err-held-clause-sound : goal.returns-in_err-held-clause-sound
+returns-in_err-held-clause-sound c = search rules
+
+pub returns-in_default-clause-sound : goal.returns-in_default-clause-sound
+returns-in_default-clause-sound c = search rules

@@ -3,3 +3,6 @@ use Rattle.facet_json_standing.proofs.standing.Standing.take.Goals as goal
 
 pub returns : goal.returns
 returns c = search rules
+
+pub returns-in_err-held : goal.returns-in_err-held
+returns-in_err-held c = search rules
