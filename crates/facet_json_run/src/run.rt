@@ -12,6 +12,7 @@ ghost use Rattle.facet_json_document.specs.Place.{root, goes_on};
 ghost use Rattle.facet_json_document.specs.Run.{opening};
 ghost use Rattle.facet_json_document.specs.Inner.PassedRun.{leaves, crosses, closing_one, passing};
 ghost use Rattle.facet_json_place.specs.Views.{refused_of};
+ghost use Rattle.facet_json_run.specs.Inner.Quiet.{LeadsOn};
 ghost use Rattle.facet_json_run.specs.Views.{AnswersRun, value_expected};
 
 use crate::quiet::past_quiet;
@@ -79,12 +80,30 @@ pub fn pass_container(
     open_bracket(&mut contexts, kind, last)?;
     let mut passed = first;
     while let Some(innermost) = contexts.innermost() {
-        let at = past_quiet(input, passed.end(), mode);
-        let token = next_token(input, at, mode)?;
+        let (_, token) = token_beyond(input, passed.end(), mode);
+        let token = token?;
         pass_token(&mut contexts, innermost, &token, last)?;
         passed = token.span;
     }
     Ok(passed)
+}
+
+/// The offset up to which tokens that open and close nothing are passed, and the next token there. Where a bracket stands at the
+/// position itself, one look tells, and nothing is passed.
+#[inline(always)]
+fn token_beyond(input: &[u8], position: usize, mode: Mode) -> (usize, ScanResult)
+    requires { position ≤ length input.now }
+    ensures on { LeadsOn input.now (mode_of mode) position result.0 }
+    ensures answer { scanned result.1 ≡ Some (spec_cut.cut input.now result.0 (mode_of mode)) }
+    ensures end { IfOk result.1 (λ t. t.token ≡ Token.Eof → span_of t.span ≡ span_at (length input.now) 0) }
+{
+    match input.get(position) {
+        Some(b'[' | b']' | b'{' | b'}') => (position, next_token(input, position, mode)),
+        _ => {
+            let at = past_quiet(input, position, mode);
+            (at, next_token(input, at, mode))
+        }
+    }
 }
 
 /// The next token, as `cut` gives it. Where a bracket, a comma or a colon stands at the position itself, its byte says which.
