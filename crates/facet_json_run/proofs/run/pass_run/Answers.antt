@@ -1,5 +1,4 @@
-use Rattle.std.proofs.lemmas.Grind.{common_steps}
-use Rattle.std.proofs.Common.{◌≡◌, true, Some, refl, rules, arith}
+use Rattle.std.proofs.Common.{◌≡◌, true, Some, refl}
 use Rattle.std.proofs.lemmas.Option.{same_Some}
 use Rattle.facet_json_token.specs.declared.token.Token.{Token as RustToken}
 use Rattle.facet_json_token.specs.declared.token.Token.TheVariants as code

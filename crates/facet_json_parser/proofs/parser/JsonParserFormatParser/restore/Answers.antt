@@ -1,5 +1,4 @@
-use Rattle.std.proofs.lemmas.Grind.{common_steps}
-use Rattle.std.proofs.Common.{◌∙◌, sym, ap, map, rules, arith}
+use Rattle.std.proofs.Common.{◌∙◌, sym, ap, map}
 use Rattle.std.specs.Option.{option_map}
 use Rattle.facet_json_standing.specs.Fill.{spot_of}
 use Rattle.facet_json_standing.specs.Views.{filling_of, point_of, kept_spot, now_of}

@@ -1,5 +1,3 @@
-use Rattle.std.proofs.lemmas.Grind.{common_steps}
-use Rattle.std.proofs.Common.{rules, arith}
 use Rattle.facet_json_serializer.proofs.Settled.{bytes-of_fixed_number, serves-bytes}
 use Rattle.facet_json_serializer.proofs.serializer.JsonSerializerFormatSerializer.serialize_byte_array.Goals as goal
 
