@@ -197,13 +197,18 @@ def ratio_of(ratio, least):
     return theirs / ours if ours and theirs else None
 
 
+def is_behind(ratio, name, least):
+    """Whether a ratio is less than is wanted on an input."""
+    value = ratio_of(ratio, least)
+    return value is not None and value < ratio.wanted and (not ratio.on or name in ratio.on)
+
+
 def cell(ratio, name, least):
     """A ratio as the table shows it: bold where it is behind what is wanted."""
     value = ratio_of(ratio, least)
     if value is None:
         return ""
-    behind = value < ratio.wanted and (not ratio.on or name in ratio.on)
-    return f"**{value:.2f}**" if behind else f"{value:.2f}"
+    return f"**{value:.2f}**" if is_behind(ratio, name, least) else f"{value:.2f}"
 
 
 def row(*cells):
@@ -335,4 +340,5 @@ def main():
     print(f"bench: {results}/table.md, figures.csv and ratios.svg are written", file=sys.stderr)
 
 
-main()
+if __name__ == "__main__":
+    main()
