@@ -72,7 +72,7 @@ PICTURE = [0, 2, 4, 5, 6, 7, 10, 11]
 class Bench:
     """The programs, and how often each is run."""
 
-    def __init__(self, out, turns, before):
+    def __init__(self, out, turns=1, before=None):
         self.out = out
         self.turns = turns
         # Short, so that each side has its share of the times at which the machine is fast.
@@ -85,11 +85,14 @@ class Bench:
             print("bench: no facet_json_tool: without fmt", file=sys.stderr)
             self.processes = {}
 
+    def words(self, side, name, rounds, path):
+        """The program that does the work so many times, and its arguments."""
+        return [self.programs[side], name, str(rounds)] + (["jsonc"] if path.suffix == ".jsonc" else [])
+
     def once(self, side, name, rounds, path):
         """The shortest time in nanoseconds within one process, and what the work passed."""
-        words = [self.programs[side], name, str(rounds)] + (["jsonc"] if path.suffix == ".jsonc" else [])
         with open(path, "rb") as given:
-            said = subprocess.run(words, stdin=given, stdout=subprocess.PIPE, check=True).stdout.split()
+            said = subprocess.run(self.words(side, name, rounds, path), stdin=given, stdout=subprocess.PIPE, check=True).stdout.split()
         return int(said[0]), (int(said[1]), int(said[2]))
 
     def works(self, path):
@@ -165,13 +168,17 @@ def processor():
     return next((line.split(":")[1].strip() for line in lines if line.startswith("model name")), platform.machine())
 
 
+def commit():
+    """The commit that is checked out here."""
+    here = pathlib.Path(__file__).resolve().parent
+    return said("git", "-C", str(here), "rev-parse", "--short=12", "HEAD")
+
+
 def circumstances(bench, load):
     """Lines of where, when and how the times were taken."""
     compiler = os.environ.get("CXX", "g++")
     target = os.environ.get("BENCH_TARGET", "native")
-    here = pathlib.Path(__file__).resolve().parent
-    commit = said("git", "-C", str(here), "rev-parse", "--short=12", "HEAD")
-    yield f"Date: {datetime.date.today()}. Commit: {commit}. Command: `{os.environ.get('BENCH_COMMAND', ' '.join(['python3', *sys.argv]))}`."
+    yield f"Date: {datetime.date.today()}. Commit: {commit()}. Command: `{os.environ.get('BENCH_COMMAND', ' '.join(['python3', *sys.argv]))}`."
     yield f"Processor: {processor()}, {os.cpu_count()} of them; Linux {platform.release()}. Load averages before and after: {load}, {loads()}."
     yield f"This library: proved and built by `{said('rt', 'version')}`, for x86-64-v2."
     if "serde_json" in bench.programs:
@@ -197,10 +204,15 @@ def ratio_of(ratio, least):
     return theirs / ours if ours and theirs else None
 
 
+def wanted_on(ratio, name):
+    """Whether the ratio is to be reached on the input."""
+    return not ratio.on or name in ratio.on
+
+
 def is_behind(ratio, name, least):
-    """Whether a ratio is less than is wanted on an input."""
+    """Whether the ratio is to be reached on the input, and isn't."""
     value = ratio_of(ratio, least)
-    return value is not None and value < ratio.wanted and (not ratio.on or name in ratio.on)
+    return value is not None and value < ratio.wanted and wanted_on(ratio, name)
 
 
 def cell(ratio, name, least):
@@ -233,7 +245,7 @@ def ratios_table(ratios, figures):
 
 def reached(ratio, figures):
     """The inputs on which what is wanted is reached, the fastest first, and those on which it isn't, the slowest first."""
-    found = [(ratio_of(ratio, least), name) for name, least in figures.items() if not ratio.on or name in ratio.on]
+    found = [(ratio_of(ratio, least), name) for name, least in figures.items() if wanted_on(ratio, name)]
     found = sorted((value, name) for value, name in found if value is not None)
     said = lambda pairs: ", ".join(f"`{short(name)}` ({value:.2f})" for value, name in pairs) or "none"
     return said([it for it in reversed(found) if it[0] >= ratio.wanted]), said([it for it in found if it[0] < ratio.wanted])
