@@ -70,3 +70,15 @@ returns-clause-read g c =
     let ends : c.in_ok-end_comes.field-0 ≡ true = search rules in
     let before = list-stops reading _ _ c.end_comes.new.parser _ _ ends c.loop-items.invariant.so_far c.in_ok-end_comes.ensures.finds in
     list-ends reading _ _ _ _ _ before c.in_ok-_end.ensures.walks
+
+pub returns-in_err-begin_list-clause-read : goal.returns-in_err-begin_list-clause-read
+returns-in_err-begin_list-clause-read c = search rules
+
+pub returns-in_err-begin_list-clause-keeps : goal.returns-in_err-begin_list-clause-keeps
+returns-in_err-begin_list-clause-keeps c = search rules
+
+pub returns-in_err-begin_list-clause-shorter : goal.returns-in_err-begin_list-clause-shorter
+returns-in_err-begin_list-clause-shorter c = search rules
+
+pub returns-in_err-begin_list-clause-within : goal.returns-in_err-begin_list-clause-within
+returns-in_err-begin_list-clause-within c = search rules

@@ -1,4 +1,4 @@
-use Rattle.std.proofs.Common.{string_bytes}
+use Rattle.std.proofs.Common.{string_bytes, rules}
 use Rattle.std.proofs.lemmas.Result.{err_from_is_err_and}
 use Rattle.facet_format.specs.Views.{refusal_of}
 use Rattle.facet_json_meaning.proofs.MapEntries.{entries-begin, entry-read}
@@ -36,3 +36,15 @@ pub returns-clause-read : goal.returns-clause-read
 returns-clause-read g c =
     let ended = rw c.in_default.is at c.in_ok-key.ensures.passed in
     map-ends g.T.Facet.reading _ _ _ _ c.loop-map.invariant.left ended
+
+pub returns-in_err-begin_object-clause-read : goal.returns-in_err-begin_object-clause-read
+returns-in_err-begin_object-clause-read c = search rules
+
+pub returns-in_err-begin_object-clause-document : goal.returns-in_err-begin_object-clause-document
+returns-in_err-begin_object-clause-document c = search rules
+
+pub returns-in_err-begin_object-clause-keeps : goal.returns-in_err-begin_object-clause-keeps
+returns-in_err-begin_object-clause-keeps c = search rules
+
+pub returns-in_err-begin_object-clause-shorter : goal.returns-in_err-begin_object-clause-shorter
+returns-in_err-begin_object-clause-shorter c = search rules

@@ -1,4 +1,4 @@
-use Rattle.std.proofs.Common.{refl}
+use Rattle.std.proofs.Common.{refl, rules}
 use Rattle.std.proofs.lemmas.Result.{err_from_is_err_and}
 use Rattle.facet_json_write.proofs.CallsLeft.{left-refused, left-spent, last-answered, last-refused, last-spent}
 use Rattle.facet_json_write.proofs.OfRust.{seen-of_rust}
@@ -44,3 +44,15 @@ returns-clause-spent g c =
 pub returns-clause-of_rust : goal.returns-clause-of_rust
 returns-clause-of_rust g c =
     seen-of_rust c.end_struct.result _ _ refl (all-of_rust g.T.Facet.view g.T.Facet.tree_of _ _ _ _ c.loop-key.invariant c.in-None.ensures.steps.0)
+
+pub returns-in_err-begin_struct-clause-written : goal.returns-in_err-begin_struct-clause-written
+returns-in_err-begin_struct-clause-written c = search rules
+
+pub returns-in_err-begin_struct-clause-refused : goal.returns-in_err-begin_struct-clause-refused
+returns-in_err-begin_struct-clause-refused c = search rules
+
+pub returns-in_err-begin_struct-clause-spent : goal.returns-in_err-begin_struct-clause-spent
+returns-in_err-begin_struct-clause-spent c = search rules
+
+pub returns-in_err-begin_struct-clause-of_rust : goal.returns-in_err-begin_struct-clause-of_rust
+returns-in_err-begin_struct-clause-of_rust c = search rules

@@ -1,4 +1,4 @@
-use Rattle.std.proofs.Common.{sym, subst}
+use Rattle.std.proofs.Common.{sym, subst, rules}
 use Rattle.facet_format.specs.Event.{bytes_of}
 use Rattle.facet_json_meaning.specs.Reading.{IsRead}
 use Rattle.facet_json_meaning.specs.Readings.{raw_of}
@@ -7,3 +7,12 @@ use Rattle.facet_json_facet.proofs.raw.RawJsonFacet.read.Goals as goal
 pub returns-clause-read : goal.returns-clause-read
 returns-clause-read c =
     subst (λ raw. IsRead raw_of c.args.parser.now (bytes_of raw) c.captured.new.parser) (sym c.new.ensures) c.in_ok-captured.ensures.read
+
+pub returns-in_err-captured-clause-read : goal.returns-in_err-captured-clause-read
+returns-in_err-captured-clause-read c = search rules
+
+pub returns-in_err-captured-clause-document : goal.returns-in_err-captured-clause-document
+returns-in_err-captured-clause-document c = search rules
+
+pub returns-in_err-captured-clause-keeps : goal.returns-in_err-captured-clause-keeps
+returns-in_err-captured-clause-keeps c = search rules

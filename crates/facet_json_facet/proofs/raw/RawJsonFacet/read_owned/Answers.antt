@@ -1,4 +1,4 @@
-use Rattle.std.proofs.Common.{sym, subst}
+use Rattle.std.proofs.Common.{sym, subst, rules}
 use Rattle.std.proofs.lemmas.Result.{IfOk-weaker}
 use Rattle.facet_format.specs.Event.{bytes_of}
 use Rattle.facet_json_meaning.specs.Reading.{IsRead}
@@ -10,3 +10,12 @@ returns-clause-read c =
     IfOk-weaker c.copied.result _ _
     (λ v is. subst (λ raw. IsRead raw_of c.args.parser.now (bytes_of raw) c.captured.new.parser) (sym is) c.in_ok-captured.ensures.read)
     c.copied.ensures.copied
+
+pub returns-in_err-captured-clause-read : goal.returns-in_err-captured-clause-read
+returns-in_err-captured-clause-read c = search rules
+
+pub returns-in_err-captured-clause-document : goal.returns-in_err-captured-clause-document
+returns-in_err-captured-clause-document c = search rules
+
+pub returns-in_err-captured-clause-keeps : goal.returns-in_err-captured-clause-keeps
+returns-in_err-captured-clause-keeps c = search rules

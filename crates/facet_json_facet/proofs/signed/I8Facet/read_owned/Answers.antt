@@ -33,3 +33,18 @@ returns-in-Err-clause-unread c =
 
 pub returns-in-Ok-clause-document : goal.returns-in-Ok-clause-document
 returns-in-Ok-clause-document c whole = c.in_ok-number.ensures.document
+
+pub returns-in_err-number-clause-read : goal.returns-in_err-number-clause-read
+returns-in_err-number-clause-read c = search rules
+
+pub returns-in_err-number-clause-document : goal.returns-in_err-number-clause-document
+returns-in_err-number-clause-document c = search rules
+
+pub returns-in_err-number-clause-keeps : goal.returns-in_err-number-clause-keeps
+returns-in_err-number-clause-keeps c = search rules
+
+pub returns-in_err-number-clause-shorter : goal.returns-in_err-number-clause-shorter
+returns-in_err-number-clause-shorter c = search rules
+
+pub returns-in_err-number-clause-within : goal.returns-in_err-number-clause-within
+returns-in_err-number-clause-within c = search rules

@@ -1,4 +1,4 @@
-use Rattle.std.proofs.Common.{refl}
+use Rattle.std.proofs.Common.{refl, rules}
 use Rattle.std.proofs.lemmas.Str.{is_utf8-from_IsUtf8}
 use Rattle.facet_json_write.proofs.ScalarCalls.{scalar-called}
 use Rattle.facet_json_facet.proofs.ScalarsOfRust.{text-of_rust}
@@ -11,3 +11,9 @@ pub returns-clause-of_rust : goal.returns-clause-of_rust
 returns-clause-of_rust c =
     let utf8 = rw c.as_bytes-utf8.ensures.value at c.as_bytes-utf8.ensures.utf8 in
     text-of_rust _ c.scalar.result (is_utf8-from_IsUtf8 c.args.self.now.now utf8)
+
+pub returns-clause-refused : goal.returns-clause-refused
+returns-clause-refused c = search rules
+
+pub returns-clause-spent : goal.returns-clause-spent
+returns-clause-spent c = search rules

@@ -1,3 +1,4 @@
+use Rattle.std.proofs.Common.{rules}
 use Rattle.std.proofs.lemmas.Result.{err_from_is_err_and, IfOk-weaker, IfErr-weaker}
 use Rattle.facet_format.specs.Views.{refusal_of}
 use Rattle.facet_json_meaning.specs.Readings.{bool_of, leaf}
@@ -20,3 +21,15 @@ returns-clause-unread c =
 pub returns-clause-document : goal.returns-clause-document
 returns-clause-document c whole =
     IfOk-weaker c.bool_in.result _ _ (λ b taken. leaf-document bool_of _ _ _ b c.in_ok-next_of_value.ensures.passed taken) c.bool_in.ensures.taken
+
+pub returns-in_err-next_of_value-clause-read : goal.returns-in_err-next_of_value-clause-read
+returns-in_err-next_of_value-clause-read c = search rules
+
+pub returns-in_err-next_of_value-clause-keeps : goal.returns-in_err-next_of_value-clause-keeps
+returns-in_err-next_of_value-clause-keeps c = search rules
+
+pub returns-in_err-next_of_value-clause-shorter : goal.returns-in_err-next_of_value-clause-shorter
+returns-in_err-next_of_value-clause-shorter c = search rules
+
+pub returns-in_err-next_of_value-clause-within : goal.returns-in_err-next_of_value-clause-within
+returns-in_err-next_of_value-clause-within c = search rules

@@ -1,4 +1,4 @@
-use Rattle.std.proofs.Common.{refl}
+use Rattle.std.proofs.Common.{refl, rules}
 use Rattle.facet_json_write.proofs.ScalarCalls.{scalar-called}
 use Rattle.facet_json_facet.proofs.ScalarsOfRust.{bool-of_rust}
 use Rattle.facet_json_facet.proofs.truth.BoolFacet.write.Goals as goal
@@ -8,3 +8,9 @@ returns-clause-written c = scalar-called _ _ _ _ c.scalar.result refl c.scalar.e
 
 pub returns-clause-of_rust : goal.returns-clause-of_rust
 returns-clause-of_rust c = bool-of_rust c.args.self.now c.scalar.result
+
+pub returns-clause-refused : goal.returns-clause-refused
+returns-clause-refused c = search rules
+
+pub returns-clause-spent : goal.returns-clause-spent
+returns-clause-spent c = search rules

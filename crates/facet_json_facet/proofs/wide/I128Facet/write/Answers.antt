@@ -18,3 +18,9 @@ pub returns-clause-of_rust : goal.returns-clause-of_rust
 returns-clause-of_rust c =
     let fits : SFits w128 c.args.self.now = search rules in
     i128-of_rust c.args.self.now c.scalar.result (wide-within c.args.self.now fits)
+
+pub returns-clause-refused : goal.returns-clause-refused
+returns-clause-refused c = search rules
+
+pub returns-clause-spent : goal.returns-clause-spent
+returns-clause-spent c = search rules

@@ -11,3 +11,9 @@ pub returns-clause-of_rust : goal.returns-clause-of_rust
 returns-clause-of_rust c =
     let fits : c.args.self.now < 2 ^ 128 = search rules in
     u128-of_rust c.args.self.now c.scalar.result fits
+
+pub returns-clause-refused : goal.returns-clause-refused
+returns-clause-refused c = search rules
+
+pub returns-clause-spent : goal.returns-clause-spent
+returns-clause-spent c = search rules

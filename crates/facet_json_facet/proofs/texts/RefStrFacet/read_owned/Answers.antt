@@ -1,0 +1,14 @@
+use Rattle.std.proofs.Common.{rules}
+use Rattle.facet_json_facet.proofs.texts.RefStrFacet.read_owned.Goals as goal
+
+pub returns-in_err-next_of_value-clause-read : goal.returns-in_err-next_of_value-clause-read
+returns-in_err-next_of_value-clause-read c = search rules
+
+pub returns-in_err-next_of_value-clause-unread : goal.returns-in_err-next_of_value-clause-unread
+returns-in_err-next_of_value-clause-unread c = search rules
+
+pub returns-in_err-next_of_value-clause-keeps : goal.returns-in_err-next_of_value-clause-keeps
+returns-in_err-next_of_value-clause-keeps c = search rules
+
+pub returns-in_err-next_of_value-clause-shorter : goal.returns-in_err-next_of_value-clause-shorter
+returns-in_err-next_of_value-clause-shorter c = search rules
