@@ -271,6 +271,7 @@ fn inner(depth: Option<usize>) -> Option<usize>
 
 /// The whole tree of a value that has begun: reads its items or its members, up to the closing bracket and past it.
 #[cycle(read)]
+#[inline(always)]
 fn finish<'t>(
     alloc: Global,
     parser: &mut JsonParser<'_>,
