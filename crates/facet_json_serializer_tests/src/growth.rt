@@ -2,7 +2,7 @@
 //! of their requests for memory, which is refused, and they have to pass in every such run.
 
 use crate::trees::list_of_trees;
-use crate::writers::{FORMS, Form, sample, text_by, write_by};
+use crate::writers::{FORMS, Form, is_after, sample, text_by, write_by};
 use crate::written::{Call, make};
 use facet_json_options::{HexBytesOptions, SerializeOptions};
 use facet_json_output::{WriteError, peek_to_string, peek_to_vec};
@@ -31,15 +31,9 @@ fn writes_or_runs_out(
         }
     }
     match serializer.finish() {
-        Ok(written) => !has_run_out && is_padded(written.as_slice(), padding, text),
+        Ok(written) => !has_run_out && is_after(written.as_slice(), padding.as_bytes(), text),
         Err(refusal) => has_run_out && refusal.code() == 4,
     }
-}
-
-/// Whether the bytes are the padding and then the text.
-fn is_padded(written: &[u8], padding: &str, text: &str) -> bool {
-    written.get(..padding.len()) == Some(padding.as_bytes())
-        && written.get(padding.len()..) == Some(text.as_bytes())
 }
 
 /// The same of each of some paddings. What is written grows where it passes 8 bytes, or the padding's length where that is more,

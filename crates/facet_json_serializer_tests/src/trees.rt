@@ -1,5 +1,6 @@
 //! Trees within a text that is written call by call.
 
+use crate::writers::pair;
 use facet_format::FormatSerializer;
 use facet_json_options::{BytesFormat, HexBytesOptions, SerializeOptions};
 use facet_json_output::peek_to_vec_with_options;
@@ -8,14 +9,23 @@ use facet_json_tree::Tree;
 use facet_json_write::write_tree;
 use std::alloc::Global;
 
+/// Writes a list of two trees.
+fn write_both(
+    serializer: &mut JsonSerializer<'_>,
+    first: &Tree,
+    second: &Tree,
+) -> Result<(), JsonSerializeError> {
+    serializer.begin_seq()?;
+    write_tree(serializer, first)?;
+    write_tree(serializer, second)?;
+    serializer.end_seq()
+}
+
 /// A list of a tree and of another, each written where a value stands.
 pub fn list_of_trees(alloc: Global) -> Result<Vec<u8>, JsonSerializeError> {
-    let tree = Tree::List(vec![in alloc; Tree::U64(1), Tree::Null]?);
+    let tree = pair(alloc, Tree::U64(1), Tree::Null)?;
     let mut serializer = JsonSerializer::new(alloc);
-    serializer.begin_seq()?;
-    write_tree(&mut serializer, &tree)?;
-    write_tree(&mut serializer, &Tree::Bool(true))?;
-    serializer.end_seq()?;
+    write_both(&mut serializer, &tree, &Tree::Bool(true))?;
     serializer.finish()
 }
 

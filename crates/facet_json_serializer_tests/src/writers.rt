@@ -13,10 +13,18 @@ use std::alloc::{AllocError, Global};
 use std::io;
 use std::io::{ErrorKind, Write};
 
+/// A list of two trees.
+pub fn pair(alloc: Global, first: Tree, second: Tree) -> Result<Tree, AllocError> {
+    let mut items = Vec::new(alloc);
+    items.push(first)?;
+    items.push(second)?;
+    Ok(Tree::List(items))
+}
+
 /// A tree that each layout writes in another way.
 pub fn sample(alloc: Global) -> Result<Tree, AllocError> {
-    let bytes = Tree::Bytes(vec![in alloc; 1, 255]?);
-    Ok(Tree::List(vec![in alloc; Tree::Null, bytes]?))
+    let bytes = vec![in alloc; 1, 255]?;
+    pair(alloc, Tree::Null, Tree::Bytes(bytes))
 }
 
 const COMPACT: &str = "[null,[1,255]]";
@@ -132,11 +140,35 @@ impl Write for Steps {
     }
 }
 
+/// Whether the error is the writer's, of this kind.
+fn is_of(error: &WriteError, kind: ErrorKind) -> bool {
+    match error {
+        WriteError::Io(error) => error.kind() == kind,
+        WriteError::Memory => false,
+    }
+}
+
 /// Whether the writer failed so.
 fn has_failed(answer: Result<(), WriteError>, kind: ErrorKind) -> bool {
     match answer {
-        Err(WriteError::Io(error)) => error.kind() == kind,
-        _ => false,
+        Ok(()) => false,
+        Err(error) => is_of(&error, kind),
+    }
+}
+
+/// Whether the text stands after what a writer over memory held.
+fn grows_by_the_text(alloc: Global, form: Form, tree: &Tree) -> bool {
+    let mut out = Vec::new(alloc);
+    out.extend_from_slice(b"before ").is_ok()
+        && write_by(form, alloc, &mut out, tree).is_ok()
+        && is_after(&out, b"before ", text_by(form))
+}
+
+/// Whether the bytes are these and then the text.
+pub fn is_after(bytes: &[u8], before: &[u8], text: &str) -> bool {
+    match bytes.get(before.len()..) {
+        Some(rest) => bytes.starts_with(before) && rest == text.as_bytes(),
+        None => false,
     }
 }
 
@@ -145,12 +177,13 @@ fn a_writer_over_memory_grows_by_the_text(rt: HostRuntime) {
     let alloc = rt.alloc();
     let tree = sample(alloc).expect(&rt, "memory");
     for form in FORMS {
-        let mut out = Vec::new(alloc);
-        out.extend_from_slice(b"before ").expect(&rt, "memory");
-        assert!(rt; write_by(form, alloc, &mut out, &tree).is_ok());
-        assert!(rt; out.as_slice().starts_with(b"before "));
-        assert!(rt; out.get(7..) == Some(text_by(form).as_bytes()));
+        assert!(rt; grows_by_the_text(alloc, form, &tree));
     }
+}
+
+/// Whether the writer takes the whole text.
+fn takes_all(alloc: Global, form: Form, tree: &Tree, mut writer: Steps) -> bool {
+    write_by(form, alloc, &mut writer, tree).is_ok() && writer.holds(text_by(form))
 }
 
 #[test]
@@ -158,12 +191,10 @@ fn short_and_interrupted_writes_go_on(rt: HostRuntime) {
     let alloc = rt.alloc();
     let tree = sample(alloc).expect(&rt, "memory");
     for form in FORMS {
-        let mut writer = Steps::new(alloc, 1, usize::MAX, ErrorKind::Other);
-        assert!(rt; write_by(form, alloc, &mut writer, &tree).is_ok());
-        assert!(rt; writer.holds(text_by(form)));
-        let mut writer = Steps::new(alloc, 3, 2, ErrorKind::Interrupted);
-        assert!(rt; write_by(form, alloc, &mut writer, &tree).is_ok());
-        assert!(rt; writer.holds(text_by(form)));
+        let short = Steps::new(alloc, 1, usize::MAX, ErrorKind::Other);
+        assert!(rt; takes_all(alloc, form, &tree, short));
+        let interrupted = Steps::new(alloc, 3, 2, ErrorKind::Interrupted);
+        assert!(rt; takes_all(alloc, form, &tree, interrupted));
     }
 }
 
@@ -193,31 +224,45 @@ fn a_failed_write_is_told(rt: HostRuntime) {
     }
 }
 
+/// Whether a writer that takes nothing has failed.
+fn fails_where_it_takes_nothing(alloc: Global, form: Form, tree: &Tree) -> bool {
+    let mut writer = Steps::new(alloc, 0, usize::MAX, ErrorKind::Other);
+    let answer = write_by(form, alloc, &mut writer, tree);
+    has_failed(answer, ErrorKind::WriteZero) && writer.holds("")
+}
+
+/// Whether a writer with too little room has failed, and took the text's first bytes.
+fn fails_where_room_ends(alloc: Global, form: Form, tree: &Tree) -> bool {
+    let mut room = [0; 4];
+    let mut left = room.as_mut_slice();
+    let answer = write_by(form, alloc, &mut left, tree);
+    has_failed(answer, ErrorKind::WriteZero) && text_by(form).as_bytes().starts_with(&room)
+}
+
 #[test]
 fn a_full_writer_has_failed(rt: HostRuntime) {
     let alloc = rt.alloc();
     let tree = sample(alloc).expect(&rt, "memory");
     for form in FORMS {
-        let mut writer = Steps::new(alloc, 0, usize::MAX, ErrorKind::Other);
-        let answer = write_by(form, alloc, &mut writer, &tree);
-        assert!(rt; has_failed(answer, ErrorKind::WriteZero));
-        assert!(rt; writer.holds(""));
-        let mut room = [0; 4];
-        let mut left = room.as_mut_slice();
-        let answer = write_by(form, alloc, &mut left, &tree);
-        assert!(rt; has_failed(answer, ErrorKind::WriteZero));
-        assert!(rt; text_by(form).as_bytes().starts_with(&room));
+        assert!(rt; fails_where_it_takes_nothing(alloc, form, &tree));
+        assert!(rt; fails_where_room_ends(alloc, form, &tree));
     }
 }
 
 /// Whether this was answered.
 fn is_vec(answer: Result<Vec<u8>, JsonSerializeError>, text: &str) -> bool {
-    answer.is_ok_and(|written| written.as_slice() == text.as_bytes())
+    match answer {
+        Ok(written) => written.as_slice() == text.as_bytes(),
+        Err(_) => false,
+    }
 }
 
 /// Whether this was answered.
 fn is_string(answer: Result<String, JsonSerializeError>, text: &str) -> bool {
-    answer.is_ok_and(|written| written.as_str() == text)
+    match answer {
+        Ok(written) => written.as_str() == text,
+        Err(_) => false,
+    }
 }
 
 #[test]

@@ -84,14 +84,21 @@ pub fn writes_scalar(
     value: ScalarValue<'_>,
     text: &str,
 ) -> bool {
-    let mut serializer = JsonSerializer::with_options(alloc, options);
-    if serializer.scalar(value).is_err() {
-        return false;
-    }
-    match serializer.finish() {
+    match scalar_text(alloc, options, value) {
         Ok(written) => written.as_slice() == text.as_bytes(),
         Err(_) => false,
     }
+}
+
+/// The text of a value.
+fn scalar_text(
+    alloc: Global,
+    options: SerializeOptions<'_>,
+    value: ScalarValue<'_>,
+) -> Result<Vec<u8>, JsonSerializeError> {
+    let mut serializer = JsonSerializer::with_options(alloc, options);
+    serializer.scalar(value)?;
+    serializer.finish()
 }
 
 /// Whether a text is written so.
