@@ -11,7 +11,7 @@ ghost use Rattle.facet_json_meaning.specs.Nodes.{KeepsOn};
 ghost use Rattle.facet_json_meaning.specs.Reading.{IsRead, IsUnread, HasDocument};
 
 use facet_format::DeserializeError;
-use facet_json_parser::JsonParser;
+use facet_json_meaning::JsonParser;
 use facet_json_serializer::{JsonSerializeError, JsonSerializer};
 use std::alloc::Global;
 

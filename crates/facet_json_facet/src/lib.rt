@@ -18,3 +18,4 @@ mod whole;
 mod wide;
 
 pub use facet::Facet;
+pub use facet_json_steps as steps;

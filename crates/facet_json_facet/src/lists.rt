@@ -10,7 +10,7 @@ ghost use Rattle.facet_json_meaning.specs.Reading.{IsRead, IsUnread};
 
 use crate::facet::Facet;
 use facet_format::{DeserializeError, FormatSerializer};
-use facet_json_parser::JsonParser;
+use facet_json_meaning::JsonParser;
 use facet_json_serializer::{JsonSerializeError, JsonSerializer};
 use facet_json_steps::{begin_list, end_comes, next_of_value};
 use std::alloc::Global;

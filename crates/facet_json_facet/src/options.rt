@@ -2,7 +2,7 @@
 
 use crate::facet::Facet;
 use facet_format::{DeserializeError, FormatSerializer, ScalarValue};
-use facet_json_parser::JsonParser;
+use facet_json_meaning::JsonParser;
 use facet_json_serializer::{JsonSerializeError, JsonSerializer};
 use facet_json_steps::{null_comes, pass_null};
 use std::alloc::Global;

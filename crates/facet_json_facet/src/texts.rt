@@ -11,7 +11,7 @@ use facet_format::{
     DeserializeError, DeserializeErrorKind, FormatSerializer, ParseEvent, ParseEventKind,
     ScalarValue, Span,
 };
-use facet_json_parser::JsonParser;
+use facet_json_meaning::JsonParser;
 use facet_json_serializer::{JsonSerializeError, JsonSerializer};
 use facet_json_steps::{mismatch, next_of_value};
 use std::alloc::Global;

@@ -2,7 +2,7 @@
 
 use crate::facet::Facet;
 use facet_format::DeserializeError;
-use facet_json_parser::JsonParser;
+use facet_json_meaning::JsonParser;
 use facet_json_read::read_tree;
 use facet_json_serializer::{JsonSerializeError, JsonSerializer};
 use facet_json_tree::Tree;

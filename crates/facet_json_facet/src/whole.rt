@@ -12,7 +12,7 @@ ghost use Rattle.facet_json_meaning.specs.Readings.{leaf, taken, whole_of};
 use facet_format::{
     DeserializeError, DeserializeErrorKind, ParseEvent, ParseEventKind, ScalarValue, Span,
 };
-use facet_json_parser::JsonParser;
+use facet_json_meaning::JsonParser;
 use facet_json_steps::{mismatch, next_of_value};
 
 /// A whole number, and the bytes of the input that it stands in.

@@ -7,7 +7,7 @@ ghost use Rattle.facet_json_meaning.specs.Readings.{taken, u128_of, i128_of, uns
 use crate::facet::Facet;
 use crate::whole::out_of_range;
 use facet_format::{DeserializeError, FormatSerializer, ParseEvent, ParseEventKind, ScalarValue};
-use facet_json_parser::JsonParser;
+use facet_json_meaning::JsonParser;
 use facet_json_serializer::{JsonSerializeError, JsonSerializer};
 use facet_json_steps::{mismatch, next_of_value};
 use std::alloc::Global;

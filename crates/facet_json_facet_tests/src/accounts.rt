@@ -2,10 +2,10 @@
 
 use crate::typed::{comes_back, out_of_range, reads, refuses};
 use facet_format::{DeserializeError, DeserializeErrorKind, Span};
-use facet_json_facet::Facet;
-use facet_json_parser::JsonParser;
+use facet_json_meaning::JsonParser;
 use facet_json_record::{Done, Maybe, Need, read_fields, write_fields};
 use facet_json_serializer::{JsonSerializeError, JsonSerializer};
+use facet_json_typed::Facet;
 use std::alloc::{AllocError, Global};
 
 /// An account, as `{"id":7,"name":"Ann","email":"a@b.example","active":true,"age":40,"score":-3,"visits":12,"tags":["new"]}`.

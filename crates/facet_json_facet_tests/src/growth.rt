@@ -2,11 +2,10 @@
 //! of their requests for memory, which is refused, and they have to pass in every such run.
 
 use facet_format::{DeserializeError, DeserializeErrorKind};
-use facet_json_facet::Facet;
-use facet_json_parser::JsonParser;
+use facet_json_meaning::JsonParser;
 use facet_json_raw::RawJson;
 use facet_json_record::{Done, Need, read_fields};
-use facet_json_typed::{from_slice, from_slice_borrowed, to_string, to_vec};
+use facet_json_typed::{Facet, from_slice, from_slice_borrowed, to_string, to_vec};
 use std::alloc::Global;
 use std::collections::BTreeMap;
 

@@ -1,8 +1,7 @@
 //! What a type reads of an input, how it refuses one, and what it writes.
 
 use facet_format::{DeserializeErrorKind, Span};
-use facet_json_facet::Facet;
-use facet_json_typed::{from_slice, from_slice_borrowed, to_vec};
+use facet_json_typed::{Facet, from_slice, from_slice_borrowed, to_vec};
 use std::alloc::Global;
 
 /// Whether the input is read as this value, borrowed or not.

@@ -11,3 +11,4 @@ pub mod Optional
 pub mod Peeking
 pub mod Lists
 pub mod Trees
+pub use Rattle.facet_json_transcode.specs.Reading as ValueReading

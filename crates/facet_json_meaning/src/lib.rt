@@ -3,3 +3,5 @@
 #![tactic(auto)]
 
 pub mod laws;
+
+pub use facet_json_transcode::JsonParser;

@@ -11,8 +11,8 @@ ghost use Rattle.facet_json_record.specs.Fields.{keys, table, fields_of, begins_
 
 use facet_format::{DeserializeError, DeserializeErrorKind, FormatParser, Span};
 use facet_json_facet::Facet;
-use facet_json_parser::JsonParser;
-use facet_json_steps::{begin_object, next_name, pass_value};
+use facet_json_facet::steps::{begin_object, next_name, pass_value};
+use facet_json_meaning::JsonParser;
 use std::alloc::Global;
 
 /// A list of fields, as `Need(name, Need(age, Done))`, that `read_fields` reads. The input lives for `'de`.

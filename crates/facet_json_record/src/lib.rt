@@ -5,5 +5,6 @@
 mod fields;
 mod lent;
 
+pub use facet_json_facet::steps;
 pub use fields::{Done, Fields, Maybe, Need, read_fields};
 pub use lent::{LentFields, write_fields};

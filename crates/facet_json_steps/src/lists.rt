@@ -9,7 +9,7 @@ ghost use Rattle.facet_json_meaning.specs.Passing.{LacksAlone};
 
 use crate::next::{mismatch, next_of_value};
 use facet_format::{DeserializeError, FormatParser, ParseEvent, ParseEventKind};
-use facet_json_parser::JsonParser;
+use facet_json_meaning::JsonParser;
 
 /// Passes the event with which an array begins.
 ///

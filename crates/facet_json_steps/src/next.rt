@@ -14,7 +14,7 @@ use facet_format::{
     DeserializeError, DeserializeErrorKind, FormatParser, ParseEvent, ParseEventKind, ScalarValue,
     Span,
 };
-use facet_json_parser::JsonParser;
+use facet_json_meaning::JsonParser;
 
 /// The next event, where a value is to come.
 ///

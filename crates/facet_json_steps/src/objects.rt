@@ -11,7 +11,7 @@ ghost use Rattle.facet_json_meaning.specs.Objects.{begins_object, key_or_end, Be
 
 use crate::next::{mismatch, next_of_value};
 use facet_format::{DeserializeError, ParseEvent, ParseEventKind};
-use facet_json_parser::JsonParser;
+use facet_json_meaning::JsonParser;
 use std::alloc::Global;
 use std::borrow::CowStr;
 

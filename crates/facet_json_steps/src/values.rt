@@ -8,7 +8,7 @@ ghost use Rattle.facet_json_meaning.specs.Passing.{anything};
 ghost use Rattle.facet_json_meaning.specs.Reading.{IsRead, IsUnread};
 
 use facet_format::{DeserializeError, FormatParser};
-use facet_json_parser::JsonParser;
+use facet_json_meaning::JsonParser;
 
 /// Passes a value of which nothing is known, and decodes nothing of it.
 ///

@@ -7,5 +7,6 @@ mod next;
 mod value;
 
 pub use error::TranscodeError;
+pub use facet_json_parser::JsonParser;
 pub use next::next_of_value;
 pub use value::transcode;

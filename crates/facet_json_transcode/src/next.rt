@@ -17,6 +17,7 @@ use facet_json_parser::JsonParser;
 /// # Errors
 ///
 /// As the parser's `next_event`; and where the parser is at the end of its document, an unexpected end.
+#[inline(always)]
 pub fn next_of_value<'t, 'de>(
     parser: &mut JsonParser<'de>,
 ) -> Result<ParseEvent<'de>, DeserializeError<'t>>

@@ -5,7 +5,7 @@ use Rattle.facet_json_token.specs.Gap.{Mode, plain}
 use Rattle.facet_json_document.specs.Document.{IsDocument}
 use Rattle.facet_json_document.specs.Node.{Node}
 use Rattle.facet_json_document.specs.Tree.{Tree}
-use Rattle.facet_json_transcode.specs.Reading.{LacksMemory}
+use Rattle.facet_json_meaning.specs.ValueReading.{LacksMemory}
 
 -- The input has a document.
 abbrev pub BeginsWithDocument : List ℕ → Mode → Type 0

@@ -6,7 +6,7 @@ mod reading;
 mod writers;
 mod writing;
 
-pub use facet_json_facet::Facet;
+pub use facet_json_facet::{Facet, laws};
 pub use reading::{
     from_slice, from_slice_borrowed, from_slice_borrowed_jsonc, from_slice_jsonc, from_str,
     from_str_borrowed, from_str_borrowed_jsonc, from_str_jsonc,

@@ -8,7 +8,7 @@ ghost use Rattle.facet_json_typed.specs.Inputs.{IsReadFrom, IsUnreadFrom, Begins
 
 use facet_format::DeserializeError;
 use facet_json_facet::Facet;
-use facet_json_parser::JsonParser;
+use facet_json_meaning::JsonParser;
 use std::alloc::Global;
 
 /// Reads the value of the document that the bytes begin with (RFC 8259, sections 2 to 7, with lenient readings such as a trailing comma),

@@ -83,7 +83,7 @@ push_items-loop-item-preserved t c =
       went = went-behind _ _ _ _ i.went c.in_ok-item.ensures.shorter c.in_ok-finish.ensures.went;
       level = item-leveled i.level first.comes (c.in_ok-finish.ensures.level first.passed first.begun);
       passed = λ e.
-          rw (c.in_ok-push.ensures.items, map-append)
+          rw (c.in_ok-append.ensures, map-append)
           (item-passed _ _ _ (i.passed e) _ _ first.comes _ _ (begun-no_end first.begun) (c.in_ok-finish.ensures.read first.passed first.begun));
     }
 
@@ -128,7 +128,7 @@ push_members-loop-key-preserved t c =
       went = went-behind _ _ _ _ i.went c.in_ok-key.ensures.shorter c.in_ok-finish.ensures.went;
       level = member-leveled i.level first.comes first.is_key value.comes (c.in_ok-finish.ensures.level value.passed value.begun);
       passed = λ e.
-          rw (c.in_ok-push.ensures.items, map-append, first.bytes)
+          rw (c.in_ok-append.ensures, map-append, first.bytes)
           (member-passed _ _ _ (i.passed e) _ _ first.comes first.name first.is_key _ _
           (read-at value.comes (c.in_ok-finish.ensures.read value.passed value.begun)));
     }
