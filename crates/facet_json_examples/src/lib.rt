@@ -7,8 +7,6 @@ pub mod loops;
 pub mod messages;
 pub mod probing;
 pub mod records;
-#[cfg(test)]
-mod records_tests;
 pub mod reformat;
 pub mod scanning;
 pub mod tokens;

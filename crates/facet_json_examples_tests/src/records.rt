@@ -1,7 +1,8 @@
-//! The structs of `records`: read, written, and read again.
+//! Structs: read, written, and read again.
 
-use crate::records::{Config, Person, Retry, person_in, raw_response};
-use facet_json::{DeserializeErrorKind, Span, from_slice, to_vec};
+use facet_format::{DeserializeErrorKind, Span};
+use facet_json_examples::records::{Config, Person, Retry, person_in, raw_response};
+use facet_json_typed::{from_slice, to_vec};
 use std::alloc::Global;
 
 /// Whether the input is a person of this name and age.
