@@ -17,4 +17,4 @@ for path in sorted(pathlib.Path(sys.argv[2]).glob("*.json")):
             said = subprocess.run([sys.argv[1]], stdin=given, stdout=subprocess.PIPE, check=True).stdout
         runs.append([int(word) for word in said.split()])
     (before, after), (again, second) = runs
-    print(f"| `{path.stem}` | {before / 1e6:.2f} | {after / 1e6:.2f} | {before / after:.2f} | {again / second:.2f} |")
+    print(f"| `{path.stem}` | {before / 1e6:.3g} | {after / 1e6:.3g} | {before / after:.2f} | {again / second:.2f} |")

@@ -2,6 +2,8 @@
 //! these have to pass in every such run.
 
 use crate::samples::each_kind;
+use facet_format::DeserializeErrorKind;
+use facet_json_read::tree_from_slice;
 use facet_json_tree::Tree;
 use std::alloc::Global;
 
@@ -20,4 +22,19 @@ fn a_refused_copy_leaves_the_value(rt: HostRuntime) {
         assert!(rt; is_copied_or_runs_out(alloc, &tree));
         assert!(rt; is_copied_or_runs_out(alloc, &tree));
     }
+}
+
+/// Whether the input is read as a list of so many items, or memory runs out.
+fn is_read_or_runs_out(alloc: Global, input: &str, items: usize) -> bool {
+    match tree_from_slice(alloc, input.as_bytes()) {
+        Ok(tree) => tree.as_list().is_some_and(|list| list.len() == items),
+        Err(error) => error.kind == DeserializeErrorKind::OutOfMemory,
+    }
+}
+
+#[test]
+fn a_growth_is_refused_in_containers_that_are_alike(rt: HostRuntime) {
+    let alloc = rt.alloc();
+    assert!(rt; is_read_or_runs_out(alloc, "[[1,2,3,4,5],[6,7,8,9,10],[],[11]]", 4));
+    assert!(rt; is_read_or_runs_out(alloc, "[{\"a\":\"b\",\"c\":[1.5]},{\"a\":2,\"c\":[3]}]", 2));
 }
