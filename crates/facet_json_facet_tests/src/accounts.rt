@@ -10,7 +10,7 @@ use std::alloc::{AllocError, Global};
 
 /// An account, as `{"id":7,"name":"Ann","email":"a@b.example","active":true,"age":40,"score":-3,"visits":12,"tags":["new"]}`.
 /// The city and the parent may be missing.
-#[derive(Debug, PartialEq, Drop)]
+#[derive(PartialEq, Drop)]
 struct Account {
     id: u64,
     name: String,

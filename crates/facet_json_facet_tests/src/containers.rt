@@ -3,7 +3,7 @@
 use crate::typed::{is_itself, mismatch, out_of_range, reads, refuses, writes};
 use facet_format::Span;
 use facet_json_typed::from_slice;
-use std::alloc::Global;
+use std::alloc::{AllocError, Global};
 use std::collections::BTreeMap;
 
 #[test]
@@ -22,12 +22,17 @@ fn list_is_itself(alloc: Global) -> bool {
     }
 }
 
+/// A list of a list of one value and an empty list.
+fn nested(alloc: Global) -> Result<Vec<Vec<bool>>, AllocError> {
+    let mut items = Vec::new(alloc);
+    items.push(vec![in alloc; true]?)?;
+    items.push(Vec::new(alloc))?;
+    Ok(items)
+}
+
 /// Whether lists of lists are read and written.
 fn lists_are_nested(alloc: Global) -> bool {
-    let Ok(inner) = vec![in alloc; true] else {
-        return false;
-    };
-    match vec![in alloc; inner, Vec::new(alloc)] {
+    match nested(alloc) {
         Ok(items) => is_itself(alloc, "[[true],[]]", &items),
         Err(_) => false,
     }

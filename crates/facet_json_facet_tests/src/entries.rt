@@ -2,6 +2,7 @@
 
 use facet_format::{DeserializeError, DeserializeErrorKind, Span};
 use facet_json_options::SerializeOptions;
+use facet_json_serializer::JsonSerializeError;
 use facet_json_typed::{
     from_slice, from_slice_borrowed, from_slice_borrowed_jsonc, from_slice_jsonc, from_str,
     from_str_borrowed, from_str_borrowed_jsonc, from_str_jsonc, to_string, to_string_pretty,
@@ -81,29 +82,38 @@ fn values_outlive_their_input(rt: HostRuntime) {
     assert!(rt; list.len() == 2 && list[0].as_str() == "a" && list[1].as_str() == "b");
 }
 
-/// Whether the list of one number is written as these texts: compact, on lines, and indented by a tab.
-fn are_written(alloc: Global, compact: &str, pretty: &str, tabbed: &str) -> bool {
-    let Ok(list) = vec![in alloc; 7_u8] else {
-        return false;
-    };
+/// Whether these bytes were written.
+fn is_bytes(written: Result<Vec<u8>, JsonSerializeError>, text: &str) -> bool {
+    match written {
+        Ok(bytes) => bytes.as_slice() == text.as_bytes(),
+        Err(_) => false,
+    }
+}
+
+/// Whether this text was written.
+fn is_text(written: Result<String, JsonSerializeError>, text: &str) -> bool {
+    match written {
+        Ok(made) => made.as_str() == text,
+        Err(_) => false,
+    }
+}
+
+/// Whether the list is written as these texts: compact, on lines, and indented by a tab.
+fn is_written(alloc: Global, list: &Vec<u8>, compact: &str, pretty: &str, tabbed: &str) -> bool {
     let options = SerializeOptions::new().indent("\t");
-    match (
-        to_vec(alloc, &list),
-        to_vec_pretty(alloc, &list),
-        to_vec_with_options(alloc, &list, &options),
-        to_string(alloc, &list),
-        to_string_pretty(alloc, &list),
-        to_string_with_options(alloc, &list, &options),
-    ) {
-        (Ok(a), Ok(b), Ok(c), Ok(d), Ok(e), Ok(f)) => {
-            a.as_slice() == compact.as_bytes()
-                && b.as_slice() == pretty.as_bytes()
-                && c.as_slice() == tabbed.as_bytes()
-                && d.as_str() == compact
-                && e.as_str() == pretty
-                && f.as_str() == tabbed
-        }
-        _ => false,
+    is_bytes(to_vec(alloc, list), compact)
+        && is_bytes(to_vec_pretty(alloc, list), pretty)
+        && is_bytes(to_vec_with_options(alloc, list, &options), tabbed)
+        && is_text(to_string(alloc, list), compact)
+        && is_text(to_string_pretty(alloc, list), pretty)
+        && is_text(to_string_with_options(alloc, list, &options), tabbed)
+}
+
+/// Whether the list of one number is written as these texts.
+fn are_written(alloc: Global, compact: &str, pretty: &str, tabbed: &str) -> bool {
+    match vec![in alloc; 7_u8] {
+        Ok(list) => is_written(alloc, &list, compact, pretty, tabbed),
+        Err(_) => false,
     }
 }
 

@@ -10,7 +10,7 @@ use facet_json_typed::Facet;
 use std::alloc::Global;
 
 /// A value with a name of its own, which is read and written as the value is.
-#[derive(Debug, PartialEq, Drop)]
+#[derive(PartialEq, Drop)]
 struct Named<T>(T);
 
 impl<'de, T: Facet<'de>> Facet<'de> for Named<T> {
@@ -54,7 +54,7 @@ impl<'de, T: Facet<'de>> Facet<'de> for Named<T> {
 }
 
 /// A whole number from 0 to 100.
-#[derive(Debug, PartialEq, Drop)]
+#[derive(PartialEq, Drop)]
 struct Percent(u8);
 
 impl<'de> Facet<'de> for Percent {

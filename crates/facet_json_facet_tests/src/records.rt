@@ -9,7 +9,7 @@ use facet_json_typed::Facet;
 use std::alloc::Global;
 
 /// A person, as `{"name":"Alice","age":30}`. The name may be borrowed.
-#[derive(Debug, PartialEq, Drop)]
+#[derive(PartialEq, Drop)]
 struct Person<N> {
     name: N,
     age: u32,
@@ -39,7 +39,7 @@ fn text_of_person(alloc: Global, person: &Person<&str>) -> Result<Vec<u8>, JsonS
 }
 
 /// A point, as `{"x":10,"y":20}`.
-#[derive(Debug, PartialEq, Drop)]
+#[derive(PartialEq, Drop)]
 struct Point {
     x: i32,
     y: i32,
@@ -64,7 +64,7 @@ fn text_of_point(alloc: Global, point: &Point) -> Result<Vec<u8>, JsonSerializeE
 }
 
 /// A point with a label that the input lends.
-#[derive(Debug, PartialEq, Drop)]
+#[derive(PartialEq, Drop)]
 struct Labelled<'de> {
     label: &'de str,
     point: Point,
@@ -88,7 +88,7 @@ fn read_labelled<'t, 'de>(
 }
 
 /// A response, as `{"status":200,"data":[]}`: whatever stands under `data` stays as it stands there.
-#[derive(Debug, PartialEq, Drop)]
+#[derive(PartialEq, Drop)]
 struct Response<'de> {
     status: u32,
     payload: RawJson<'de>,

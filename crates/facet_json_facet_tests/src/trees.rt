@@ -3,12 +3,21 @@
 use crate::typed::{is_itself, reads};
 use facet_json_tree::Tree;
 use facet_json_typed::from_slice;
-use std::alloc::Global;
+use std::alloc::{AllocError, Global};
 use std::collections::BTreeMap;
+
+/// A list of a number, null and a number with a sign.
+fn list(alloc: Global) -> Result<Vec<Tree>, AllocError> {
+    let mut items = Vec::new(alloc);
+    items.push(Tree::U64(7))?;
+    items.push(Tree::Null)?;
+    items.push(Tree::I64(-1))?;
+    Ok(items)
+}
 
 /// Whether a list of whatever values is read and written again.
 fn list_is_itself(alloc: Global) -> bool {
-    match vec![in alloc; Tree::U64(7), Tree::Null, Tree::I64(-1)] {
+    match list(alloc) {
         Ok(items) => is_itself(alloc, "[7,null,-1]", &Tree::List(items)),
         Err(_) => false,
     }
