@@ -1,10 +1,11 @@
 pub mod AsciiRuns
-pub mod BackslashWindows
 pub mod CharAt
 pub mod DecodeLaws
 pub mod DecodeSteps
 pub mod EscapeSteps
 pub mod FaultLaws
 pub mod FaultSteps
+pub mod HexDigits
+pub mod OtherRuns
 pub mod PlainText
 pub mod Utf8Runs

@@ -14,7 +14,7 @@ mod unchecked;
 
 use crate::ascii::ascii_text;
 use crate::plain::{plain_text, plain_text_unchecked};
-use crate::window::windows_end;
+use crate::window::other_end;
 use escape::escape_at;
 use facet_format::Span;
 use facet_json_token::{ScanError, ScanErrorKind};
@@ -87,7 +87,7 @@ enum Trust {
     Utf8,
 }
 
-/// Decodes a content run by run, for `decode_string_owned` and its unchecked form.
+/// Decodes a content run by run and escape by escape, for `decode_string_owned` and its unchecked form.
 fn decode_runs(
     alloc: Global,
     buf: &[u8],
@@ -106,16 +106,18 @@ fn decode_runs(
 {
     let mut text = String::with_capacity(alloc, end - start)?;
     let mut at = start;
-    loop {
-        let stop = run_end(buf, at, end);
-        text.push_str(run_text(buf, at, stop, trust)?)?;
-        if stop == end {
-            return Ok(text);
+    while at < end {
+        if buf[at] == b'\\' {
+            let escape = escape_at(&buf[at..end], at)?;
+            text.push(escape.character)?;
+            at += escape.len;
+        } else {
+            let stop = run_end(buf, at, end);
+            text.push_str(run_text(buf, at, stop, trust)?)?;
+            at = stop;
         }
-        let escape = escape_at(&buf[stop..end], stop)?;
-        text.push(escape.character)?;
-        at = stop + escape.len;
     }
+    Ok(text)
 }
 
 /// Whether the content of a string that stands in `buf[start..end]` has a text: the refusal of `decode_string_owned`
@@ -144,6 +146,7 @@ pub fn check_content(buf: &[u8], start: usize, end: usize) -> Result<(), ScanErr
 }
 
 /// Where the bytes from `at` on that are no backslash end.
+#[inline(always)]
 fn run_end(buf: &[u8], at: usize, end: usize) -> usize
     requires in_order { at ≤ end }
     requires in_range { end ≤ length buf.now }
@@ -152,17 +155,11 @@ fn run_end(buf: &[u8], at: usize, end: usize) -> usize
     ensures plain { has_backslash (slice_range buf.now at result) ≡ false }
     ensures stops { result < end → slice_index buf.now result ≡ backslash }
 {
-    let mut stop = windows_end(buf, at, end);
-    while stop < end {
-        if buf[stop] == b'\\' {
-            return stop;
-        }
-        stop += 1;
-    }
-    stop
+    other_end(buf, at, end)
 }
 
 /// The text of bytes among which no backslash stands.
+#[inline(always)]
 fn run_at(buf: &[u8], at: usize, stop: usize) -> Result<&str, ScanError>
     requires in_order { at ≤ stop }
     requires in_range { stop ≤ length buf.now }
@@ -183,6 +180,7 @@ fn run_at(buf: &[u8], at: usize, stop: usize) -> Result<&str, ScanError>
 }
 
 /// The text of a run, whose bytes are checked where nothing is known of them.
+#[inline(always)]
 fn run_text(buf: &[u8], at: usize, stop: usize, trust: Trust) -> Result<&str, ScanError>
     requires in_order { at ≤ stop }
     requires in_range { stop ≤ length buf.now }

@@ -1,9 +1,10 @@
 //! Runs without a backslash, sixteen bytes at a time.
 
-ghost use Rattle.std.specs.Prelude.{◌≡◌, ◌≤◌, ◌==◌, false, length, map, slice_range};
+ghost use Rattle.std.specs.Prelude.{◌≡◌, ◌+◌, ◌≤◌, ◌<◌, ◌==◌, length, drop, map};
+ghost use Rattle.std.specs.List.{prefix_len};
 ghost use Rattle.std.specs.Simd.Lanes.{mask_l};
 ghost use Rattle.facet_format.specs.Bytes.{backslash};
-ghost use Rattle.facet_json_decode.specs.Views.{has_backslash};
+ghost use Rattle.facet_json_decode.specs.Inner.Run.{is_other};
 
 use std::simd::prelude::*;
 
@@ -15,22 +16,68 @@ fn backslashes(window: u8x16) -> u64
     window.simd_eq(u8x16::splat(b'\\')).to_bitmask()
 }
 
-/// The offset up to which whole windows from `at` on hold no backslash: of one that holds some, or of the last bytes before `end`, which
-/// are fewer than a window.
+/// How many of sixteen bytes stand before the first backslash: sixteen where there is none.
 #[inline(always)]
-pub(crate) fn windows_end(buf: &[u8], at: usize, end: usize) -> usize
+fn other_lanes(window: u8x16) -> usize
+    ensures value { result ≡ prefix_len is_other window }
+    ensures within { result ≤ 16 }
+{
+    let found = backslashes(window);
+    if found == 0 {
+        16
+    } else {
+        found.trailing_zeros() as usize
+    }
+}
+
+/// The offset of the first backslash from `at` on, or `end` where none stands before it. The last window may reach past
+/// `end`, but not past the buffer.
+#[inline(always)]
+pub(crate) fn other_end(buf: &[u8], at: usize, end: usize) -> usize
     requires in_order { at ≤ end }
     requires in_range { end ≤ length buf.now }
     ensures ahead { at ≤ result }
     ensures within { result ≤ end }
-    ensures plain { has_backslash (slice_range buf.now at result) ≡ false }
+    ensures run { result ≤ at + prefix_len is_other (drop at buf.now) }
+    ensures stops { result < end → result ≡ at + prefix_len is_other (drop at buf.now) }
 {
     let mut stop = at;
-    while end - stop >= 16 {
-        if backslashes(u8x16::from_slice(&buf[stop..])) != 0 {
-            return stop;
+    while stop < end {
+        if buf.len() - stop < 16 {
+            return other_end_bytewise(buf, stop, end);
+        }
+        let other = other_lanes(u8x16::from_slice(&buf[stop..]));
+        if other < 16 {
+            return nearer(stop + other, end);
         }
         stop += 16;
+    }
+    end
+}
+
+/// The lesser of two offsets.
+#[inline(always)]
+fn nearer(a: usize, b: usize) -> usize
+    ensures first { result ≤ a }
+    ensures second { result ≤ b }
+    ensures one { result < b → result ≡ a }
+{
+    if a < b { a } else { b }
+}
+
+/// The same, byte by byte: of a buffer's last bytes, which are fewer than a window.
+#[inline(never)]
+fn other_end_bytewise(buf: &[u8], at: usize, end: usize) -> usize
+    requires in_order { at ≤ end }
+    requires in_range { end ≤ length buf.now }
+    ensures ahead { at ≤ result }
+    ensures within { result ≤ end }
+    ensures run { result ≤ at + prefix_len is_other (drop at buf.now) }
+    ensures stops { result < end → result ≡ at + prefix_len is_other (drop at buf.now) }
+{
+    let mut stop = at;
+    while stop < end && buf[stop] != b'\\' {
+        stop += 1;
     }
     stop
 }

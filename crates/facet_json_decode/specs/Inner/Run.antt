@@ -1,9 +1,13 @@
--- How bytes without a backslash are refused that are not UTF-8.
-use Rattle.std.specs.Prelude.{ℕ, ◌≡◌, List}
+-- Bytes that are no backslash, and how a run of them is refused that is not UTF-8.
+use Rattle.std.specs.Prelude.{ℕ, ◌≡◌, ◌==◌, Bool, not, List}
+use Rattle.facet_format.specs.Bytes.{backslash}
 use Rattle.std.specs.Str.{IsValidUpTo}
 use Rattle.facet_json_token.specs.declared.token.ScanError.{ScanError}
 use Rattle.facet_json_token.specs.Views.{scan_refusal}
 use Rattle.facet_json_decode.specs.Fault.{fault_at, no_character, fault_refusal}
+
+abbrev pub is_other : ℕ → Bool
+is_other b = not (b == backslash)
 
 -- Bytes that start there in the buffer are refused for the first one at which they stop being text.
 pub record StopsBeingText (run : List ℕ) (start : ℕ) (e : ScanError) : Type 0 where

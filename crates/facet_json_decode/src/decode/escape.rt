@@ -2,7 +2,6 @@
 
 ghost use Rattle.std.specs.Prelude.{◌≡◌, ◌+◌, ◌*◌, ◌^◌, ◌≤◌, ◌<◌, Some, None, true, length, drop, slice_get, slice_index, IfOk, IfErr, IfSome};
 ghost use Rattle.std.specs.Char.{digit_value};
-ghost use Rattle.std.specs.Option.{SomeIff};
 ghost use Rattle.facet_format.specs.Bytes.{backslash, lower_u};
 ghost use Rattle.facet_format.specs.Complaint.{invalid_utf8, refusal_at};
 ghost use Rattle.facet_format.specs.Span.{span_at};
@@ -24,6 +23,7 @@ pub(crate) struct Escape {
 }
 
 /// The escape that `rest` begins with. `rest` stands at `at`, and its first byte is a backslash.
+#[inline(always)]
 pub(crate) fn escape_at(rest: &[u8], at: usize) -> Result<Escape, ScanError>
     requires backslash { slice_get rest.now 0 ≡ Some backslash }
     requires fits { at + length rest.now < 2 ^ 64 }
@@ -43,6 +43,7 @@ pub(crate) fn escape_at(rest: &[u8], at: usize) -> Result<Escape, ScanError>
 }
 
 /// The escape at `at` of a backslash and a byte other than `u`.
+#[inline(always)]
 fn short_at(byte: u8, at: usize) -> Result<Escape, ScanError>
     requires fits { at + 2 < 2 ^ 64 }
     ensures found { IfOk result (λ e. short_of byte (short_escape_of byte) ≡ Some (e.character, e.len)) }
@@ -60,6 +61,7 @@ fn short_at(byte: u8, at: usize) -> Result<Escape, ScanError>
 }
 
 /// The ASCII character that a backslash and this byte stand for: the byte itself, where it has no meaning of its own.
+#[inline(always)]
 #[tactic(auto, unfolding(crate::specs::Decode::short_escape))]
 fn short_escape(byte: u8) -> u8
     requires { byte < 0x80 }
@@ -77,6 +79,7 @@ fn short_escape(byte: u8) -> u8
 }
 
 /// The escape at `at` of a backslash, `u` and what is after them.
+#[inline(always)]
 fn unit_at(rest: &[u8], at: usize) -> Result<Escape, ScanError>
     requires backslash { slice_get rest.now 0 ≡ Some backslash }
     requires letter { slice_get rest.now 1 ≡ Some lower_u }
@@ -126,6 +129,7 @@ fn pair_at(rest: &[u8], at: usize, high: u32) -> Result<Escape, ScanError>
 }
 
 /// The number that four hexadecimal digits spell (RFC 8259, section 7), which stand at `from` in `rest`.
+#[inline(always)]
 fn code_unit_at(rest: &[u8], from: usize, at: usize) -> Result<u32, ScanError>
     requires in_range { from + 4 ≤ length rest.now }
     requires fits { at + length rest.now < 2 ^ 64 }
@@ -145,24 +149,48 @@ fn code_unit_at(rest: &[u8], from: usize, at: usize) -> Result<u32, ScanError>
     }
 }
 
-/// The number that four hexadecimal digits of either case spell.
+/// The number that four hexadecimal digits of either case spell. Where one is no digit, the sum is past four digits.
+#[inline(always)]
 #[tactic(auto, unfolding(crate::specs::Decode::code_unit))]
 fn code_unit(a: u8, b: u8, c: u8, d: u8) -> Option<u32>
     ensures value { result ≡ code_unit_of a b c d }
     ensures range { IfSome result (λ u. u < 0x10000) }
 {
-    let a = hex_digit(a)?;
-    let b = hex_digit(b)?;
-    let c = hex_digit(c)?;
-    let d = hex_digit(d)?;
-    Some(a * 0x1000 + b * 0x100 + c * 0x10 + d)
+    let (a, b, c, d) = (hex_value(a), hex_value(b), hex_value(c), hex_value(d));
+    let unit = a * 0x1000 + b * 0x100 + c * 0x10 + d;
+    if unit < PAST { Some(unit) } else { None }
 }
 
-/// The value of a hexadecimal digit of either case.
-fn hex_digit(byte: u8) -> Option<u32>
-    ensures { SomeIff result (digit_value byte < 16) (digit_value byte) }
+/// What the table has for a byte that is no hexadecimal digit: a number past those that four digits spell.
+const PAST: u32 = 0x10000;
+
+/// The values of the bytes as hexadecimal digits of either case.
+static HEX_VALUES: [u32; 256] = [
+    PAST, PAST, PAST, PAST, PAST, PAST, PAST, PAST, PAST, PAST, PAST, PAST, PAST, PAST, PAST, PAST,
+    PAST, PAST, PAST, PAST, PAST, PAST, PAST, PAST, PAST, PAST, PAST, PAST, PAST, PAST, PAST, PAST,
+    PAST, PAST, PAST, PAST, PAST, PAST, PAST, PAST, PAST, PAST, PAST, PAST, PAST, PAST, PAST, PAST,
+    0, 1, 2, 3, 4, 5, 6, 7, 8, 9, PAST, PAST, PAST, PAST, PAST, PAST, PAST, 10, 11, 12, 13, 14, 15,
+    PAST, PAST, PAST, PAST, PAST, PAST, PAST, PAST, PAST, PAST, PAST, PAST, PAST, PAST, PAST, PAST,
+    PAST, PAST, PAST, PAST, PAST, PAST, PAST, PAST, PAST, PAST, 10, 11, 12, 13, 14, 15, PAST, PAST,
+    PAST, PAST, PAST, PAST, PAST, PAST, PAST, PAST, PAST, PAST, PAST, PAST, PAST, PAST, PAST, PAST,
+    PAST, PAST, PAST, PAST, PAST, PAST, PAST, PAST, PAST, PAST, PAST, PAST, PAST, PAST, PAST, PAST,
+    PAST, PAST, PAST, PAST, PAST, PAST, PAST, PAST, PAST, PAST, PAST, PAST, PAST, PAST, PAST, PAST,
+    PAST, PAST, PAST, PAST, PAST, PAST, PAST, PAST, PAST, PAST, PAST, PAST, PAST, PAST, PAST, PAST,
+    PAST, PAST, PAST, PAST, PAST, PAST, PAST, PAST, PAST, PAST, PAST, PAST, PAST, PAST, PAST, PAST,
+    PAST, PAST, PAST, PAST, PAST, PAST, PAST, PAST, PAST, PAST, PAST, PAST, PAST, PAST, PAST, PAST,
+    PAST, PAST, PAST, PAST, PAST, PAST, PAST, PAST, PAST, PAST, PAST, PAST, PAST, PAST, PAST, PAST,
+    PAST, PAST, PAST, PAST, PAST, PAST, PAST, PAST, PAST, PAST, PAST, PAST, PAST, PAST, PAST, PAST,
+    PAST, PAST, PAST, PAST, PAST, PAST, PAST, PAST, PAST, PAST, PAST, PAST, PAST, PAST, PAST, PAST,
+    PAST, PAST, PAST, PAST, PAST, PAST, PAST,
+];
+
+/// The value of a hexadecimal digit of either case, and of another byte a number past four digits.
+#[inline(always)]
+fn hex_value(byte: u8) -> u32
+    ensures digit { digit_value byte < 16 → result ≡ digit_value byte }
+    ensures other { 16 ≤ digit_value byte → result ≡ 0x10000 }
 {
-    char::from(byte).to_digit(16)
+    HEX_VALUES[byte as usize]
 }
 
 /// Whether the number is the first of a pair that spells one character.

@@ -5,13 +5,13 @@ use Rattle.facet_json_decode.specs.Decode.{Decodes}
 use Rattle.facet_json_decode.specs.declared.decode.Trust.TheVariants.{Utf8}
 use Rattle.facet_json_decode.proofs.decode.decode_runs.Given as goal
 
-abbrev pub invariant-loop-text : goal.invariant-loop-text
-invariant-loop-text l = record {
+abbrev pub invariant-loop-at : goal.invariant-loop-at
+invariant-loop-at l = record {
   ahead : l.start ≤ l.at;
   within : l.at ≤ l.end;
   utf8 : l.trust ≡ Utf8 → IsUtf8 (slice_range l.buf l.at l.end);
   so_far : Decodes (slice_range l.buf l.start l.at) (string_bytes l.text);
 }
 
-abbrev pub decreases-loop-text : goal.decreases-loop-text
-decreases-loop-text l = l.end - l.at
+abbrev pub decreases-loop-at : goal.decreases-loop-at
+decreases-loop-at l = l.end - l.at

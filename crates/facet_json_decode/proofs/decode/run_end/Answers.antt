@@ -1,10 +1,14 @@
+-- What a run of other bytes says of the bytes up to its end, and of the byte there.
 use Rattle.std.proofs.Common.{arith}
-use Rattle.facet_json_decode.proofs.DecodeSteps.{plain-more}
+use Rattle.facet_json_decode.proofs.OtherRuns.{run-plain, run-stops}
 use Rattle.facet_json_decode.proofs.decode.run_end.Goals as goal
 
-pub loop-stop-preserved : goal.loop-stop-preserved
-loop-stop-preserved c =
-    let l = c.loop-stop in
-    let other = c.if-buf-stop-eq92.false in
-    let plain = plain-more c.args.buf.now c.args.at l.stop l.invariant.ahead (omega arith) other l.invariant.plain in
-    record { ahead = omega arith; within = omega arith; plain = plain }
+pub returns-clause-plain : goal.returns-clause-plain
+returns-clause-plain c =
+    let ends = c.other_end.ensures in
+    run-plain c.args.buf.now c.args.at c.other_end.result ends.ahead ends.run
+
+pub returns-clause-stops : goal.returns-clause-stops
+returns-clause-stops c =
+    let ends = c.other_end.ensures in
+    λ is. run-stops c.args.buf.now c.args.at c.other_end.result (ends.stops is) (omega arith)
