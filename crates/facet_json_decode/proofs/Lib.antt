@@ -6,6 +6,6 @@ pub mod EscapeSteps
 pub mod FaultLaws
 pub mod FaultSteps
 pub mod HexDigits
-pub mod OtherRuns
+pub mod PlainRuns
 pub mod PlainText
 pub mod Utf8Runs

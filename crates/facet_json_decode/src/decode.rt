@@ -14,7 +14,7 @@ mod unchecked;
 
 use crate::ascii::ascii_text;
 use crate::plain::{plain_text, plain_text_unchecked};
-use crate::window::other_end;
+use crate::window::plain_end;
 use escape::escape_at;
 use facet_format::Span;
 use facet_json_token::{ScanError, ScanErrorKind};
@@ -155,7 +155,7 @@ fn run_end(buf: &[u8], at: usize, end: usize) -> usize
     ensures plain { has_backslash (slice_range buf.now at result) ≡ false }
     ensures stops { result < end → slice_index buf.now result ≡ backslash }
 {
-    other_end(buf, at, end)
+    plain_end(buf, at, end)
 }
 
 /// The text of bytes among which no backslash stands.

@@ -6,8 +6,9 @@ use Rattle.facet_json_token.specs.declared.token.ScanError.{ScanError}
 use Rattle.facet_json_token.specs.Views.{scan_refusal}
 use Rattle.facet_json_decode.specs.Fault.{fault_at, no_character, fault_refusal}
 
-abbrev pub is_other : ℕ → Bool
-is_other b = not (b == backslash)
+-- a byte other than a backslash
+abbrev pub is_plain : ℕ → Bool
+is_plain b = not (b == backslash)
 
 -- Bytes that start there in the buffer are refused for the first one at which they stop being text.
 pub record StopsBeingText (run : List ℕ) (start : ℕ) (e : ScanError) : Type 0 where
