@@ -1,18 +1,21 @@
 //! What a type reads of an input, how it refuses one, and what it writes.
 
-use facet_format::{DeserializeErrorKind, Span};
+use facet_format::{DeserializeError, DeserializeErrorKind, Span};
 use facet_json_typed::{Facet, from_slice, from_slice_borrowed, to_vec};
 use std::alloc::Global;
 
+/// Whether this value was read.
+fn is_wanted<T: PartialEq + Drop>(answer: Result<T, DeserializeError<'_>>, wanted: &T) -> bool {
+    match answer {
+        Ok(value) => value == *wanted,
+        Err(_) => false,
+    }
+}
+
 /// Whether the input is read as this value, borrowed or not.
 pub fn reads<'de, T: Facet<'de> + PartialEq>(alloc: Global, input: &'de str, wanted: &T) -> bool {
-    match (
-        from_slice::<T>(alloc, input.as_bytes()),
-        from_slice_borrowed::<T>(alloc, input.as_bytes()),
-    ) {
-        (Ok(owned), Ok(borrowed)) => owned == *wanted && borrowed == *wanted,
-        _ => false,
-    }
+    is_wanted(from_slice::<T>(alloc, input.as_bytes()), wanted)
+        && is_wanted(from_slice_borrowed::<T>(alloc, input.as_bytes()), wanted)
 }
 
 /// Whether the value is written as this text.
