@@ -1,6 +1,7 @@
 //! Texts without an escape and numbers that take no memory, told by their bytes: for readers that make no token of them.
 #![tactic(auto)]
 
+mod digits;
 mod number;
 mod text;
 mod window;
