@@ -47,14 +47,8 @@ fn eight_bytes(input: &[u8], at: usize) -> u64
     requires { at + 8 ≤ length input.now }
     ensures { result ≡ word (take 8 (drop at input.now)) }
 {
-    u64::from_le_bytes([
-        input[at],
-        input[at + 1],
-        input[at + 2],
-        input[at + 3],
-        input[at + 4],
-        input[at + 5],
-        input[at + 6],
-        input[at + 7],
-    ])
+    match input[at..].first_chunk() {
+        Some(bytes) => u64::from_le_bytes(*bytes),
+        None => 0,
+    }
 }
