@@ -2,5 +2,5 @@ pub mod AsciiTexts
 pub mod DigitSlices
 pub mod DigitWords
 pub mod EightDigits
-pub mod NumberValues
 pub mod ValuesThere
+pub mod WholeNumbers

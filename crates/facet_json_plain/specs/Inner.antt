@@ -1,4 +1,4 @@
 -- Definitions that serve private contracts alone.
 pub mod Digits
-pub mod Numbers
+pub mod Whole
 pub mod Window

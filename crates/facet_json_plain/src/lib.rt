@@ -4,6 +4,7 @@
 mod digits;
 mod number;
 mod text;
+mod whole;
 mod window;
 
 pub use number::short_number;
