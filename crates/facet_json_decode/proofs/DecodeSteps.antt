@@ -1,14 +1,12 @@
 -- The steps of a reader that decodes run by run (specs/Decode.antt): what a run of plain bytes and an escape add to
 -- a text. How it is refused stands in FaultSteps.antt.
-use Rattle.std.proofs.Common.{◌≡◌, ◌≢◌, ℕ, ◌+◌, ◌-◌, ◌<◌, ◌≤◌, false, List, [], ◌∷◌, ◌++◌, length, take, drop, get_or, slice_get, Some, refl, sym, ap, ◌∙◌, append_assoc, append-nil, arith}
+use Rattle.std.proofs.Common.{◌≡◌, ℕ, ◌+◌, ◌-◌, ◌<◌, ◌≤◌, List, [], ◌∷◌, ◌++◌, length, take, drop, get_or, slice_get, Some, sym, ap, ◌∙◌, append_assoc, append-nil, arith}
 use Rattle.std.specs.Prelude.{◌==◌, IsUtf8, slice_range}
 use Rattle.std.specs.List.{list_any}
 use Rattle.std.specs.Char.{encode_utf8}
-use Rattle.std.proofs.lemmas.Bool.{ne_eqb}
 use Rattle.std.proofs.lemmas.List.{take-append-drop, drop-drop, drop-take, take-take}
-use Rattle.std.proofs.lemmas.List.Edits.{between_none, between_more, length-between, get_or-between}
+use Rattle.std.proofs.lemmas.List.Edits.{between_none, length-between, get_or-between}
 use Rattle.std.proofs.lemmas.Option.{slice_get-get_or}
-use Rattle.std.proofs.lemmas.List.Folds.{list_any-append}
 use Rattle.facet_format.specs.Bytes.{backslash}
 use Rattle.facet_json_decode.specs.Decode.{piece_at, Decodes, empty, piece}
 use Rattle.facet_json_decode.proofs.DecodeLaws.{piece_at-fronts, decodes-decoded}
@@ -69,14 +67,6 @@ backslash-inside buf at stop end a b h is plain =
     let whole = ap (list_any (λ x. x == backslash)) (sym (range-append buf at stop end a (omega arith))) ∙ plain in
     let parts = plain-parts (slice_range buf at stop) (slice_range buf stop end) whole in
     first-plain (slice_range buf stop end) (range-first buf stop end backslash b h is) parts.1
-
--- One more byte that is no backslash.
-pub plain-more : (buf : List ℕ) (at stop : ℕ) → at ≤ stop → stop < length buf → get_or buf stop 0 ≢ backslash →
-    IsPlain (slice_range buf at stop) → IsPlain (slice_range buf at (stop + 1))
-plain-more buf at stop le lt ne plain =
-    let last : (get_or buf stop 0 == backslash) ≡ false = ne_eqb (get_or buf stop 0) backslash ne in
-    ap (list_any (λ b. b == backslash)) (between_more buf at stop 0 le lt)
-    ∙ list_any-append (λ b. b == backslash) (slice_range buf at stop) (get_or buf stop 0 ∷ []) ∙ rw (plain, last) refl
 
 -- What is passed of a range is some bytes of it.
 range-take : (buf : List ℕ) (n at end : ℕ) → at + n ≤ end → take n (slice_range buf at end) ≡ slice_range buf at (at + n)

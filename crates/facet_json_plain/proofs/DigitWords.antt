@@ -1,4 +1,4 @@
--- A word of digits that are moved to its end, behind noughts.
+-- A word of digits that are moved to its end, after zeros.
 use Rattle.std.proofs.Common.{◌≡◌, ℕ, zero, suc, ◌+◌, ◌-◌, ◌*◌, ◌%◌, ◌<◌, ◌≤◌, ◌^◌, true, List, [], ◌∷◌, ◌++◌, length, map, take, drop, replicate, refl, sym, ap, subst, ◌∙◌, arith}
 use Rattle.std.specs.Prelude.{nat_le, slice_range}
 use Rattle.std.proofs.lemmas.Bool.{and_parts, leb-true}
@@ -16,8 +16,8 @@ worth b = b - 0x30
 nine_at_most : (b : ℕ) → is_digit b ≡ true → b ≤ 0x39
 nine_at_most b is = leb-true b 0x39 (and_parts (nat_le 0x30 b) (nat_le b 0x39) is).1
 
-nought_at_least : (b : ℕ) → is_digit b ≡ true → 0x30 ≤ b
-nought_at_least b is = leb-true 0x30 b (and_parts (nat_le 0x30 b) (nat_le b 0x39) is).0
+zero_at_least : (b : ℕ) → is_digit b ≡ true → 0x30 ≤ b
+zero_at_least b is = leb-true 0x30 b (and_parts (nat_le 0x30 b) (nat_le b 0x39) is).0
 
 -- One byte more is 256 times as much.
 byte-more : (n : ℕ) → 2 ^ (8 * suc n) ≡ 256 * 2 ^ (8 * n)
@@ -38,10 +38,10 @@ word-below : (bytes : List ℕ) → AreDigits bytes → word bytes < 2 ^ (8 * le
 word-below _ none = omega arith
 word-below _ (digit b bytes is others) = omega (arith, word-below bytes others, byte-more (length bytes), nine_at_most b is)
 
--- Digits are noughts and what they stand for.
+-- Digits are zeros and what they stand for.
 word-parts : (bytes : List ℕ) → AreDigits bytes → word bytes ≡ word (map worth bytes) + word (replicate (length bytes) 0x30)
 word-parts _ none = refl
-word-parts _ (digit b bytes is others) = omega (arith, word-parts bytes others, nought_at_least b is)
+word-parts _ (digit b bytes is others) = omega (arith, word-parts bytes others, zero_at_least b is)
 
 -- ---- moved to the end
 
@@ -67,37 +67,37 @@ moved bytes n few are long =
     ∙ ap (λ w. w % 2 ^ 64) (product lo hi p q ∙ ap (λ r. hi * r + lo * p) whole)
     ∙ mod_low hi 64 (lo * p) fits
 
-noughts-are : (n : ℕ) → AreDigits (replicate n 0x30)
-noughts-are zero = none
-noughts-are (suc n) = digit 0x30 (replicate n 0x30) refl (noughts-are n)
+zeros-are : (n : ℕ) → AreDigits (replicate n 0x30)
+zeros-are zero = none
+zeros-are (suc n) = digit 0x30 (replicate n 0x30) refl (zeros-are n)
 
-noughts-moved : (n : ℕ) → n ≤ 8 → 3472328296227680304 * 2 ^ (64 - 8 * n) % 2 ^ 64 ≡ word (replicate n 0x30) * 2 ^ (64 - 8 * n)
-noughts-moved n few =
+zeros-moved : (n : ℕ) → n ≤ 8 → 3472328296227680304 * 2 ^ (64 - 8 * n) % 2 ^ 64 ≡ word (replicate n 0x30) * 2 ^ (64 - 8 * n)
+zeros-moved n few =
     let front = take-replicate n 8 0x30 few in
-    moved (replicate 8 0x30) n few (subst AreDigits (sym front) (noughts-are n)) (ap length front ∙ length-replicate n 0x30)
+    moved (replicate 8 0x30) n few (subst AreDigits (sym front) (zeros-are n)) (ap length front ∙ length-replicate n 0x30)
     ∙ ap (λ bytes. word bytes * 2 ^ (64 - 8 * n)) front
 
--- ---- behind noughts
+-- ---- padded with zeros
 
--- digits behind noughts
-abbrev behind : ℕ → List ℕ → List ℕ
-behind k bytes = replicate k 0x30 ++ bytes
+-- digits after zeros
+abbrev padded : ℕ → List ℕ → List ℕ
+padded k bytes = replicate k 0x30 ++ bytes
 
-behind-are : (k : ℕ) (bytes : List ℕ) → AreDigits bytes → AreDigits (behind k bytes)
-behind-are zero bytes are = are
-behind-are (suc k) bytes are = digit 0x30 (behind k bytes) refl (behind-are k bytes are)
+padded-are : (k : ℕ) (bytes : List ℕ) → AreDigits bytes → AreDigits (padded k bytes)
+padded-are zero bytes are = are
+padded-are (suc k) bytes are = digit 0x30 (padded k bytes) refl (padded-are k bytes are)
 
-behind-value : (k : ℕ) (bytes : List ℕ) → digits_value 0 (behind k bytes) ≡ digits_value 0 bytes
-behind-value zero bytes = refl
-behind-value (suc k) bytes = behind-value k bytes
+padded-value : (k : ℕ) (bytes : List ℕ) → digits_value 0 (padded k bytes) ≡ digits_value 0 bytes
+padded-value zero bytes = refl
+padded-value (suc k) bytes = padded-value k bytes
 
-behind-word : (k : ℕ) (bytes : List ℕ) → word (map worth (behind k bytes)) ≡ word (map worth bytes) * 2 ^ (8 * k)
-behind-word zero bytes = omega arith
-behind-word (suc k) bytes =
+padded-word : (k : ℕ) (bytes : List ℕ) → word (map worth (padded k bytes)) ≡ word (map worth bytes) * 2 ^ (8 * k)
+padded-word zero bytes = omega arith
+padded-word (suc k) bytes =
     let v = word (map worth bytes) in
     let more : v * 2 ^ (8 * suc k) ≡ v * (256 * 2 ^ (8 * k)) = ap (λ q. v * q) (byte-more k) in
     let turned : v * (256 * 2 ^ (8 * k)) ≡ 256 * (v * 2 ^ (8 * k)) = grind arith in
-    omega (arith, behind-word k bytes, more, turned)
+    omega (arith, padded-word k bytes, more, turned)
 
 -- Eight digits are eight.
 eight-of : (bytes : List ℕ) → AreDigits bytes → length bytes ≡ 8 → Eight (word (map worth bytes)) (digits_value 0 bytes)
@@ -131,19 +131,19 @@ module _ (bytes : List ℕ) (n : ℕ) (few : n ≤ 8) (are : AreDigits (take n b
       let z = word (replicate n 0x30) in
       let split : word (take n bytes) ≡ v + z = word-parts (take n bytes) are ∙ ap (λ k. v + word (replicate k 0x30)) long in
       let spread : (v + z) * p ≡ v * p + z * p = grind arith in
-      moved bytes n few are long ∙ ap (λ w. w * p) split ∙ spread ∙ ap (λ r. v * p + r) (sym (noughts-moved n few))
+      moved bytes n few are long ∙ ap (λ w. w * p) split ∙ spread ∙ ap (λ r. v * p + r) (sym (zeros-moved n few))
 
-  eight-behind : Eight (word bytes * 2 ^ (64 - 8 * n) % 2 ^ 64 - 3472328296227680304 * 2 ^ (64 - 8 * n) % 2 ^ 64) (digits_value 0 (take n bytes))
-  eight-behind =
+  eight-padded : Eight (word bytes * 2 ^ (64 - 8 * n) % 2 ^ 64 - 3472328296227680304 * 2 ^ (64 - 8 * n) % 2 ^ 64) (digits_value 0 (take n bytes))
+  eight-padded =
       let xs = take n bytes in
       let k = 8 - n in
       let bits : 8 * k ≡ 64 - 8 * n = omega arith in
-      let word-is : word (map worth (behind k xs)) ≡ word bytes * 2 ^ (64 - 8 * n) % 2 ^ 64 - 3472328296227680304 * 2 ^ (64 - 8 * n) % 2 ^ 64 =
-      omega (arith, behind-word k xs, ap (λ m. word (map worth xs) * 2 ^ m) bits, parts) in
-      let all : length (behind k xs) ≡ 8 = length-append (replicate k 0x30) xs ∙ omega (arith, length-replicate {A = ℕ} k 0x30, long) in
-      subst (λ w. Eight w (digits_value 0 xs)) word-is (subst (Eight (word (map worth (behind k xs)))) (behind-value k xs) (eight-of (behind k xs) (behind-are k xs are) all))
+      let word-is : word (map worth (padded k xs)) ≡ word bytes * 2 ^ (64 - 8 * n) % 2 ^ 64 - 3472328296227680304 * 2 ^ (64 - 8 * n) % 2 ^ 64 =
+      omega (arith, padded-word k xs, ap (λ m. word (map worth xs) * 2 ^ m) bits, parts) in
+      let all : length (padded k xs) ≡ 8 = length-append (replicate k 0x30) xs ∙ omega (arith, length-replicate {A = ℕ} k 0x30, long) in
+      subst (λ w. Eight w (digits_value 0 xs)) word-is (subst (Eight (word (map worth (padded k xs)))) (padded-value k xs) (eight-of (padded k xs) (padded-are k xs are) all))
 
--- The digits of a word, moved to its end and without their noughts, are eight, which spell what they spelled.
+-- The digits of a word, moved to its end and without their zeros, are eight, which spell what they spelled.
 pub record MovedDigits (w n value : ℕ) : Type 0 where
   pub below : 3472328296227680304 * 2 ^ (64 - 8 * n) % 2 ^ 64 ≤ w * 2 ^ (64 - 8 * n) % 2 ^ 64
   pub eight : Eight (w * 2 ^ (64 - 8 * n) % 2 ^ 64 - 3472328296227680304 * 2 ^ (64 - 8 * n) % 2 ^ 64) value
@@ -159,7 +159,7 @@ moved-digits buffer at n w few room are is =
     let long : length (take n bytes) ≡ n =
     ap length (take-take n 8 rest few) ∙ length-take-le n rest (omega (arith, length-drop at buffer)) in
     let sum = parts bytes n few digits long in
-    let eight = eight-behind bytes n few digits long in
+    let eight = eight-padded bytes n few digits long in
     subst (λ v. MovedDigits v n (digits_value 0 (slice_range buffer at (at + n)))) (sym is)
     (subst (λ xs. MovedDigits (word bytes) n (digits_value 0 xs)) (sym same) (record {
       below = omega (arith, sum);

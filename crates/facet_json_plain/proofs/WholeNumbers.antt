@@ -1,4 +1,4 @@
--- Digits, perhaps after a minus, with neither a fraction nor an exponent behind them are a number.
+-- Digits, perhaps after a minus, with neither a fraction nor an exponent after them are a number.
 use Rattle.std.proofs.Common.{◌≡◌, ◌≢◌, ℕ, zero, suc, ◌+◌, ◌-◌, ◌<◌, ◌≤◌, ◌^◌, Bool, true, false, cond, List, ◌∷◌, length, take, drop, get_or, slice_get, ℤ, pos, neg_ℤ, None, Some, refl, sym, ap, subst, ◌∙◌, arith}
 use Rattle.std.specs.Prelude.{nat_lt, nat_le, slice_range, ◌==◌, ◌||◌}
 use Rattle.std.proofs.lemmas.Bool.{ne_eqb, lt-ltb, le-leb, or_parts}
@@ -21,7 +21,7 @@ use Rattle.facet_json_plain.specs.Values.{IsScalarThere}
 use Rattle.facet_json_plain.proofs.DigitSlices.{back-slice}
 use Rattle.facet_json_plain.proofs.ValuesThere.{number-there}
 
--- Where the byte behind digits begins no other part, the digits are whole.
+-- Where the byte after digits begins no other part, the digits are whole.
 pub no-more_parts : (buffer : List ℕ) (at n : ℕ) → n ≡ digits_len (drop at buffer) → 0 < n → n < 16 → at + n < length buffer →
     ((get_or buffer (at + n) 0 == dot) || is_exponent_mark (get_or buffer (at + n) 0)) ≡ false → IsWhole (drop at buffer) n
 no-more_parts buffer at n digits some few room others =
@@ -46,9 +46,9 @@ parts-there : (buffer : List ℕ) (at s n start : ℕ) → start ≡ at + s → 
     whole_parts s n ≡ parts (drop at buffer)
 parts-there buffer at s n start from sign w =
     let end = start + n in
-    let behind : drop n (drop start buffer) ≡ drop end buffer = drop-drop n start buffer in
-    let no_fraction : end ≡ end + fraction_len (drop end buffer) = omega (arith, ap fraction_len behind, w.no_fraction) in
-    let no_exponent : end ≡ end + exponent_len (drop end buffer) = omega (arith, ap exponent_len behind, w.no_exponent) in
+    let beyond : drop n (drop start buffer) ≡ drop end buffer = drop-drop n start buffer in
+    let no_fraction : end ≡ end + fraction_len (drop end buffer) = omega (arith, ap fraction_len beyond, w.no_fraction) in
+    let no_exponent : end ≡ end + exponent_len (drop end buffer) = omega (arith, ap exponent_len beyond, w.no_exponent) in
     let minus_ends : start ≡ at + minus_len (drop at buffer) = omega (arith, from, sign) in
     let ends = PartsEnd-parts buffer at start end end end minus_ends (ap (λ k. start + k) w.digits) no_fraction no_exponent in
     let one : start - at ≡ s = omega (arith, from) in
@@ -128,20 +128,20 @@ module _ (buffer : List ℕ) (at n : ℕ) (here : slice_get buffer at ≡ Some m
   is-signed : is_number (slice_range buffer at (at + (n + 1))) signed ≡ true
   is-signed = is-number buffer at minus 1 n (at + 1) (n + 1) signed here begins refl (omega arith) sign-stands w refl
 
-  behind-minus : slice_range buffer (at + 1) (at + 1 + n) ≡ take (length (slice_range buffer at (at + (n + 1))) - 1) (drop 1 (slice_range buffer at (at + (n + 1))))
-  behind-minus = back-slice buffer at 1 n (n + 1) (omega arith) ∙ sym (take_rest (slice_range buffer at (at + (n + 1))) 1)
+  beyond-minus : slice_range buffer (at + 1) (at + 1 + n) ≡ take (length (slice_range buffer at (at + (n + 1))) - 1) (drop 1 (slice_range buffer at (at + (n + 1))))
+  beyond-minus = back-slice buffer at 1 n (n + 1) (omega arith) ∙ sym (take_rest (slice_range buffer at (at + (n + 1))) 1)
 
   pub minus-digits : AreDigits (slice_range buffer (at + 1) (at + 1 + n))
   minus-digits =
       let text = slice_range buffer at (at + (n + 1)) in
-      subst AreDigits (sym behind-minus) (signed-digits text 1 (signed-sign text is-signed) is-signed)
+      subst AreDigits (sym beyond-minus) (signed-digits text 1 (signed-sign text is-signed) is-signed)
 
   pub minus-there : (m : ℕ) (z : ℤ) → m ≡ digits_value 0 (slice_range buffer (at + 1) (at + 1 + n)) → z ≡ neg_ℤ (pos m) → m ≤ 2 ^ 63 →
       IsScalarThere buffer at (n + 1) (event.i64 z)
   minus-there m z value negative fits =
       let text = slice_range buffer at (at + (n + 1)) in
       let small : nat_le m (2 ^ 63) ≡ true = le-leb m (2 ^ 63) fits in
-      let spelled : digits_value 0 (take (length text - 1) (drop 1 text)) ≡ m = sym (value ∙ ap (digits_value 0) behind-minus) in
+      let spelled : digits_value 0 (take (length text - 1) (drop 1 text)) ≡ m = sym (value ∙ ap (digits_value 0) beyond-minus) in
       let means : number text signed ≡ Some (i64 z) =
       number-signed text 1 (signed-sign text is-signed) is-signed
       ∙ ap negative_number spelled

@@ -21,8 +21,8 @@ pub(crate) fn digits_at(input: &[u8], at: usize, len: usize) -> u64
     first * 100_000_000 + few_digits(input, at + (len - 8), 8)
 }
 
-/// The value of one to eight decimal digits at `at`, where eight bytes stand. The digits are moved to the end of a word, behind
-/// noughts. Then each two neighbours are joined, each two pairs, and the two fours.
+/// The value of one to eight decimal digits at `at`, where eight bytes stand. The digits are moved to the end of a word, after
+/// zeros. Then each two neighbours are joined, each two pairs, and the two fours.
 #[inline(always)]
 fn few_digits(input: &[u8], at: usize, len: usize) -> u64
     requires some { 0 < len }
@@ -34,8 +34,8 @@ fn few_digits(input: &[u8], at: usize, len: usize) -> u64
 {
     let shift = 64 - 8 * len;
     let bytes = eight_bytes(input, at) << shift;
-    let noughts = 0x3030_3030_3030_3030_u64 << shift;
-    let digits = bytes - noughts;
+    let zeros = 0x3030_3030_3030_3030_u64 << shift;
+    let digits = bytes - zeros;
     let pairs = (digits * 10 + (digits >> 8)) & 0x00FF_00FF_00FF_00FF;
     let fours = (pairs * 100 + (pairs >> 16)) & 0x0000_FFFF_0000_FFFF;
     (fours * 10_000 + (fours >> 32)) & 0xFFFF_FFFF

@@ -66,7 +66,7 @@ fn negative_there<'de>(input: &'de [u8], at: usize) -> Option<(usize, ScalarValu
     }
 }
 
-/// How many digits stand at `at`, where some and at most fifteen do, and neither a fraction nor an exponent is behind them.
+/// How many digits stand at `at`, where some and at most fifteen do, and neither a fraction nor an exponent is after them.
 #[inline(always)]
 fn whole_len(input: &[u8], at: usize) -> Option<usize>
     requires { at + 16 ≤ length input.now }

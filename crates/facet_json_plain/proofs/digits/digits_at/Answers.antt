@@ -1,4 +1,4 @@
--- Up to eight digits, and eight behind them.
+-- Up to eight digits, and eight after them.
 use Rattle.std.proofs.Common.{ap₂, ◌+◌, ◌*◌, ◌∙◌, arith}
 use Rattle.facet_json_plain.proofs.DigitSlices.{front-digits, back-digits, front-back-value}
 use Rattle.facet_json_plain.proofs.digits.digits_at.Goals as goal

@@ -1,4 +1,4 @@
--- The digits are eight with noughts before them.
+-- The digits are eight with zeros before them.
 use Rattle.std.proofs.Common.{arith}
 use Rattle.facet_json_plain.proofs.EightDigits.{joined-is, joined-small, word-small}
 use Rattle.facet_json_plain.proofs.DigitWords.{moved-digits}
