@@ -1,4 +1,2 @@
 pub mod Percents
 pub mod PercentLaws
-pub mod Accounts
-pub mod AccountLaws

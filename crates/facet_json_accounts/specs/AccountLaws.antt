@@ -3,7 +3,7 @@ use Rattle.std.specs.Prelude.{codes, refl}
 use Rattle.facet_json_record.specs.Shapes.{ShapeLaws}
 use Rattle.facet_json_record.proofs.StructLaws.{struct-laws, needs-laws, may_have-laws, no_more-laws}
 use Rattle.facet_json_record.proofs.TypeLaws.{bool-laws, text-laws, u8-laws, u32-laws, u64-laws, i32-laws, list-laws}
-use Rattle.facet_json_facet_tests.specs.Accounts.{account}
+use Rattle.facet_json_accounts.specs.Accounts.{account}
 
 pub account-laws : ShapeLaws account
 account-laws = struct-laws

@@ -1,9 +1,9 @@
 use Rattle.std.proofs.Common.{ℤ, map, subst, string_bytes, sym, rules, w32, SFits}
 use Rattle.std.proofs.lemmas.Int.{to_z-of_z}
 use Rattle.std.specs.Option.{option_map}
-use Rattle.facet_json.specs.TypedReading.{IsRead}
-use Rattle.facet_json_bench.specs.Accounts.{account}
-use Rattle.facet_json_bench.proofs.accounts.AccountFacet.read_owned.Goals as goal
+use Rattle.facet_json_meaning.specs.Reading.{IsRead}
+use Rattle.facet_json_accounts.specs.Accounts.{account}
+use Rattle.facet_json_accounts.proofs.AccountFacet.read_owned.Goals as goal
 
 -- What `read_fields` promises is the goal, but for the number with a sign, which went into the struct as its bits.
 pub returns-clause-read : goal.returns-clause-read
