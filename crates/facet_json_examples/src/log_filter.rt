@@ -8,11 +8,15 @@ use std::alloc::Global;
 
 /// Whether a record is one of an error, as `{"time":1764,"level":"error","details":{"code":7}}`.
 pub fn is_error(alloc: Global, record: &[u8]) -> Result<bool, ParseError<'static>> {
-    let mut parser = JsonParser::new(alloc, record);
+    is_of_error(&mut JsonParser::new(alloc, record))
+}
+
+/// Whether the record that comes is one of an error.
+fn is_of_error(parser: &mut JsonParser<'_>) -> Result<bool, ParseError<'static>> {
     parser.next_event()?;
-    while let Some(is_level) = level_comes(&mut parser)? {
+    while let Some(is_level) = level_comes(parser)? {
         if is_level {
-            return error_comes(&mut parser);
+            return error_comes(parser);
         }
         parser.skip_value()?;
     }

@@ -34,17 +34,30 @@ pub fn read_message<'de>(
     alloc: Global,
     input: &'de [u8],
 ) -> Result<Message<'de>, ParseError<'static>> {
-    let mut parser = JsonParser::new(alloc, input);
+    message_of(&mut JsonParser::new(alloc, input))
+}
+
+/// Reads the message that comes.
+fn message_of<'de>(parser: &mut JsonParser<'de>) -> Result<Message<'de>, ParseError<'static>> {
     let mut message = Message {
         id: None,
         method: None,
         params: None,
     };
-    parser.next_event()?;
-    while let Some(field) = next_field(&mut parser)? {
-        read_field(&mut parser, field, &mut message)?;
-    }
+    read_fields(parser, &mut message)?;
     Ok(message)
+}
+
+/// Reads the fields of a message, in whatever order they come.
+fn read_fields<'de>(
+    parser: &mut JsonParser<'de>,
+    message: &mut Message<'de>,
+) -> Result<(), ParseError<'static>> {
+    parser.next_event()?;
+    while let Some(field) = next_field(parser)? {
+        read_field(parser, field, message)?;
+    }
+    Ok(())
 }
 
 /// The field that comes next, or `None` where no key does.

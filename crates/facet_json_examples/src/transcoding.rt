@@ -5,8 +5,7 @@ use std::alloc::Global;
 
 /// The document of the input, which may have comments, indented by two spaces.
 pub fn indent<'t>(alloc: Global, input: &[u8]) -> Result<Vec<u8>, TranscodeError<'t>> {
-    let mut parser = JsonParser::new_jsonc(alloc, input);
     let mut serializer = JsonSerializer::with_options(alloc, SerializeOptions::new().pretty());
-    transcode(&mut parser, &mut serializer)?;
+    transcode(&mut JsonParser::new_jsonc(alloc, input), &mut serializer)?;
     Ok(serializer.finish()?)
 }

@@ -15,6 +15,35 @@ fn is_told<T: Drop>(answer: Result<T, DeserializeError<'_>>, error: DeserializeE
     }
 }
 
+/// Whether the parser stands before the value: at once where it is the first, and else after an event.
+fn stands(parser: &mut JsonParser<'_>, is_first: bool) -> bool {
+    is_first || parser.next_event().is_ok()
+}
+
+/// Whether a value there is refused so, and the parser goes on behind it.
+fn refuses_owned<'de, T: Facet<'de>>(
+    alloc: Global,
+    parser: &mut JsonParser<'de>,
+    error: DeserializeError<'de>,
+    is_first: bool,
+) -> bool {
+    stands(parser, is_first)
+        && is_told(T::read_owned(alloc, parser), error)
+        && parser.next_event().is_ok()
+}
+
+/// The same where it may borrow.
+fn refuses_borrowed<'de, T: Facet<'de>>(
+    alloc: Global,
+    parser: &mut JsonParser<'de>,
+    error: DeserializeError<'de>,
+    is_first: bool,
+) -> bool {
+    stands(parser, is_first)
+        && is_told(T::read(alloc, parser), error)
+        && parser.next_event().is_ok()
+}
+
 /// Whether a value there is refused so, borrowed or not, and the parser goes on behind it.
 fn is_refused<'de, T: Facet<'de>>(
     alloc: Global,
@@ -22,13 +51,19 @@ fn is_refused<'de, T: Facet<'de>>(
     error: DeserializeError<'de>,
     is_first: bool,
 ) -> bool {
-    let mut owning = JsonParser::new(alloc, input.as_bytes());
-    let mut lending = JsonParser::new(alloc, input.as_bytes());
-    (is_first || (owning.next_event().is_ok() && lending.next_event().is_ok()))
-        && is_told(T::read_owned(alloc, &mut owning), error)
-        && is_told(T::read(alloc, &mut lending), error)
-        && owning.next_event().is_ok()
-        && lending.next_event().is_ok()
+    let owned = refuses_owned::<T>(
+        alloc,
+        &mut JsonParser::new(alloc, input.as_bytes()),
+        error,
+        is_first,
+    );
+    let borrowed = refuses_borrowed::<T>(
+        alloc,
+        &mut JsonParser::new(alloc, input.as_bytes()),
+        error,
+        is_first,
+    );
+    owned && borrowed
 }
 
 /// Whether the type takes the input, or refuses its event of this name and span: the first event, or the second where it is not at the start.
@@ -89,14 +124,21 @@ fn no_value<'t>(end: usize) -> DeserializeError<'t> {
     }
 }
 
+/// Whether no value of the type stands behind the document.
+fn owns_nothing_more<'de, T: Facet<'de>>(alloc: Global, parser: &mut JsonParser<'de>) -> bool {
+    parser.next_event().is_ok() && is_told(T::read_owned(alloc, parser), no_value(2))
+}
+
+/// The same where it may be borrowed.
+fn borrows_nothing_more<'de, T: Facet<'de>>(alloc: Global, parser: &mut JsonParser<'de>) -> bool {
+    parser.skip_value().is_ok() && is_told(T::read(alloc, parser), no_value(4))
+}
+
 /// Whether no value of the type stands behind the document, borrowed or not.
 fn reads_nothing_more<'de, T: Facet<'de>>(alloc: Global) -> bool {
-    let mut owning = JsonParser::new(alloc, b" 1 2");
-    let mut lending = JsonParser::new(alloc, b" [1] 2");
-    owning.next_event().is_ok()
-        && lending.skip_value().is_ok()
-        && is_told(T::read_owned(alloc, &mut owning), no_value(2))
-        && is_told(T::read(alloc, &mut lending), no_value(4))
+    let owned = owns_nothing_more::<T>(alloc, &mut JsonParser::new(alloc, b" 1 2"));
+    let borrowed = borrows_nothing_more::<T>(alloc, &mut JsonParser::new(alloc, b" [1] 2"));
+    owned && borrowed
 }
 
 /// Whether the type is called so where another value stands, and where none does.
@@ -141,11 +183,15 @@ fn other_values_have_names(rt: HostRuntime) {
 
 /// The second item of a list, after the first one was refused.
 fn second<'de, T: Facet<'de>>(alloc: Global, input: &'de str) -> Option<T> {
-    let mut parser = JsonParser::new(alloc, input.as_bytes());
-    if parser.next_event().is_err() || T::read(alloc, &mut parser).is_ok() {
+    after_refused(alloc, &mut JsonParser::new(alloc, input.as_bytes()))
+}
+
+/// The second item of the list that comes, after the first one was refused.
+fn after_refused<'de, T: Facet<'de>>(alloc: Global, parser: &mut JsonParser<'de>) -> Option<T> {
+    if parser.next_event().is_err() || T::read(alloc, parser).is_ok() {
         return None;
     }
-    T::read(alloc, &mut parser).ok()
+    T::read(alloc, parser).ok()
 }
 
 #[test]
