@@ -1,7 +1,7 @@
 -- How `events` ends after what it printed, once that is on its way.
 use Rattle.std.proofs.Common.{◌≡◌, ◌≢◌, ◌⊎◌, ℕ, List, [], Option, Some, None, IfSome, sym, subst, ◌∙◌, inl, inr}
 use Rattle.std.specs.Io.KnownBytes.{Keeps}
-use Rattle.facet_json.specs.Gap.{Mode}
+use Rattle.facet_json_token.specs.Gap.{Mode}
 use Rattle.facet_json_command_line.specs.declared.outcome.Outcome.{Outcome}
 use Rattle.facet_json_command_line.specs.declared.outcome.Outcome.TheVariants.{Done, Refused, Io, Usage}
 use Rattle.facet_json_command.specs.Run.{IsFailure, Grows, Lists}

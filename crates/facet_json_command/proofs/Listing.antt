@@ -6,9 +6,9 @@ use Rattle.std.proofs.lemmas.List.{append-nil}
 use Rattle.std.proofs.lemmas.Grind.{flat_map-append}
 use Rattle.facet_format.specs.Event.{Event}
 use Rattle.facet_format.specs.Cursor.{next, Answer, event, no_calls}
-use Rattle.facet_json.specs.Gap.{Mode}
-use Rattle.facet_json.specs.Now.{Now, fresh}
-use Rattle.facet_json.specs.Move.{Moves, MovesAll}
+use Rattle.facet_json_token.specs.Gap.{Mode}
+use Rattle.facet_json_protocol.specs.Now.{Now, fresh}
+use Rattle.facet_json_protocol.specs.Move.{Moves, MovesAll}
 use Rattle.facet_json_protocol.proofs.MoveLaws.{moves-one_more}
 use Rattle.facet_json_command.specs.Lines.{event_line}
 use Rattle.facet_json_command_line.specs.declared.outcome.Outcome.{Outcome}

@@ -3,7 +3,7 @@ use Rattle.std.proofs.Common.{◌≡◌, ℕ, List, [], Option, Some, None, IfSo
 use Rattle.facet_json_command_line.specs.Arguments.{Command, fmt, events, drive}
 use Rattle.facet_json_command_line.specs.declared.outcome.Outcome.{Outcome}
 use Rattle.facet_json_command_line.specs.declared.outcome.Outcome.TheVariants.{Done, Refused}
-use Rattle.facet_json.specs.Gap.{Mode}
+use Rattle.facet_json_token.specs.Gap.{Mode}
 use Rattle.facet_json_command.specs.Run.{Answers, HasDocument, IsFailure}
 use Rattle.facet_json_command.proofs.Printing.{appends_nothing}
 

@@ -4,17 +4,17 @@ use Rattle.std.specs.Option.{option_map}
 use Rattle.std.specs.List.{flat_map}
 use Rattle.std.specs.Io.KnownBytes.{Appends}
 use Rattle.facet_format.specs.declared.span.Span.{Span}
-use Rattle.facet_json.specs.Gap.{Mode}
-use Rattle.facet_json.specs.Node.{Node}
-use Rattle.facet_json.specs.Tree.{Tree}
-use Rattle.facet_json.specs.Document.{IsDocument}
+use Rattle.facet_json_token.specs.Gap.{Mode}
+use Rattle.facet_json_document.specs.Node.{Node}
+use Rattle.facet_json_document.specs.Tree.{Tree}
+use Rattle.facet_json_document.specs.Document.{IsDocument}
 use Rattle.facet_format.specs.Complaint.{Refusal, code_of}
-use Rattle.facet_json.specs.Refusal.{Refuses}
-use Rattle.facet_json.specs.Now.{Now, fresh}
-use Rattle.facet_json.specs.Move.{MovesAll}
+use Rattle.facet_json_prefix.specs.Refusal.{Refuses}
+use Rattle.facet_json_protocol.specs.Now.{Now, fresh}
+use Rattle.facet_json_protocol.specs.Move.{MovesAll}
 use Rattle.facet_format.specs.Event.{Event}
 use Rattle.facet_format.specs.Cursor.{Call, next, Answer, event}
-use Rattle.facet_json.specs.Text.{Options, default_options, text}
+use Rattle.facet_json_document.specs.Text.{Options, default_options, text}
 use Rattle.facet_format.specs.Views.{span_of}
 use Rattle.facet_json_command_line.specs.Arguments.{Command, fmt, events, drive}
 use Rattle.facet_json_command.specs.Lines.{event_line, answer_lines}

@@ -6,13 +6,13 @@ ghost use Rattle.std.specs.Vec.Iter.{into_iter_items};
 ghost use Rattle.std.specs.Io.KnownBytes.{Appends, Keeps};
 ghost use Rattle.facet_format.specs.declared.span.Span.{Span as TheSpan};
 ghost use Rattle.facet_format.specs.Cursor.{Call as SpecCall};
-ghost use Rattle.facet_json.specs.Gap.{Mode as SpecMode};
+ghost use Rattle.facet_json_token.specs.Gap.{Mode as SpecMode};
 ghost use Rattle.facet_json_token.specs.Views.{mode_of};
-ghost use Rattle.facet_json.specs.Now.{Now, fresh};
-ghost use Rattle.facet_json.specs.Move.{MovesAll};
-ghost use Rattle.facet_json.specs.ScriptViews.{call_of, answer_of};
-ghost use Rattle.facet_json.specs.Serializer.{Writing as SpecWriting};
-ghost use Rattle.facet_json.specs.TranscodeViews.{IsRefused, LacksMemory};
+ghost use Rattle.facet_json_protocol.specs.Now.{Now, fresh};
+ghost use Rattle.facet_json_protocol.specs.Move.{MovesAll};
+ghost use Rattle.facet_json_core.specs.ScriptViews.{call_of, answer_of};
+ghost use Rattle.facet_json_serializer.specs.Serializer.{Writing as SpecWriting};
+ghost use Rattle.facet_json_transcode.specs.Views.{IsRefused, LacksMemory};
 ghost use Rattle.facet_json_command_line.specs.declared.outcome.Outcome.TheVariants as outcome;
 ghost use Rattle.facet_json_command_line.specs.Arguments.{Command as SpecCommand, AskFor, AskForNothing, fmt, drive as drives};
 ghost use Rattle.facet_json_command.specs.Views.{words_of, command_view};
@@ -21,12 +21,11 @@ ghost use Rattle.facet_json_command.specs.Run.{HasDocument, layout, IsReformatte
 
 use crate::lines::{write_answer, write_event};
 use facet_format::FormatParser;
-use facet_json::scanner::Mode;
-use facet_json::{
-    Answer, Call, JsonParser, JsonSerializer, SerializeOptions, TranscodeError, drive, transcode,
-};
 use facet_json_command_line::arguments::{Command, command_of};
 use facet_json_command_line::outcome::{OUT_OF_MEMORY, Outcome, failure};
+use facet_json_core::{Answer, Call, JsonParser, JsonSerializer, SerializeOptions, drive};
+use facet_json_token::Mode;
+use facet_json_transcode::{TranscodeError, transcode};
 use std::alloc::{AllocError, Global};
 use std::io::{Read, Write};
 use std::vec::IntoIter;

@@ -109,6 +109,14 @@ fn write_difference(
     }
 }
 
+/// The name of a mode.
+fn mode_name(mode: Mode) -> &'static str {
+    match mode {
+        Mode::Plain => "plain",
+        Mode::Jsonc => "jsonc",
+    }
+}
+
 /// Writes another telling.
 fn write_other(
     mode: Mode,
@@ -118,7 +126,8 @@ fn write_other(
     written: &mut String,
 ) -> Result<(), AllocError> {
     let kind = if is_trusted { "trusted" } else { "checked" };
-    writeln!(written, "DIFFERS: {mode:?}, {kind}, {}: {told}", way.name())
+    let (mode, way) = (mode_name(mode), way.name());
+    writeln!(written, "DIFFERS: {mode}, {kind}, {way}: {told}")
 }
 
 /// What is told of the input.

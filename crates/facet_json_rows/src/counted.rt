@@ -48,48 +48,46 @@ fn has_odd_events(parser: &mut JsonParser<'_>) -> Result<bool, ParseError<'stati
     Ok(odd)
 }
 
-/// A reader beside `count`.
-#[derive(Clone, Copy)]
-enum Reader {
-    CountRead,
-    HasOddEvents,
-}
-
-/// Whether the reader agrees with this count or refusal, and the parser is one of JSON.
-fn agrees(
+/// Whether `count_read` agrees with this count or refusal.
+fn read_agrees(
     parser: &mut JsonParser<'_>,
-    reader: Reader,
     counted: Result<usize, ParseError<'static>>,
 ) -> bool
     requires fits { ahead parser.old < 2 ^ 64 }
 {
-    name_of(&*parser) == Some("json")
-        && match (reader, counted) {
-            (Reader::CountRead, Ok(count)) => count_read(parser) == Ok(count),
-            (Reader::CountRead, Err(error)) => {
-                count_read(parser) == Err(DeserializeError::from(error))
-            }
-            (Reader::HasOddEvents, Ok(count)) => has_odd_events(parser) == Ok(count % 2 == 1),
-            (Reader::HasOddEvents, Err(error)) => has_odd_events(parser) == Err(error),
-        }
+    match (count_read(parser), counted) {
+        (Ok(count), Ok(wanted)) => count == wanted,
+        (Err(error), Err(wanted)) => error == DeserializeError::from(wanted),
+        _ => false,
+    }
 }
 
-/// The same of a parser of the input.
-fn agrees_on(
-    alloc: Global,
-    input: &[u8],
-    reader: Reader,
-    counted: Result<usize, ParseError<'static>>,
-) -> bool {
-    agrees(&mut JsonParser::new(alloc, input), reader, counted)
+/// Whether `has_odd_events` agrees with this count or refusal.
+fn odd_agrees(parser: &mut JsonParser<'_>, counted: Result<usize, ParseError<'static>>) -> bool {
+    match (has_odd_events(parser), counted) {
+        (Ok(odd), Ok(count)) => odd == (count % 2 == 1),
+        (Err(error), Err(wanted)) => error == wanted,
+        _ => false,
+    }
+}
+
+/// Whether the parser is one of JSON.
+fn is_of_json(parser: &JsonParser<'_>) -> bool {
+    name_of(parser) == Some("json")
+}
+
+/// Whether parsers of the input are of JSON, and all readers agree with this count or refusal.
+fn agree(alloc: Global, input: &[u8], counted: Result<usize, ParseError<'static>>) -> bool {
+    let named = is_of_json(&JsonParser::new(alloc, input));
+    let read = read_agrees(&mut JsonParser::new(alloc, input), counted);
+    let odd = odd_agrees(&mut JsonParser::new(alloc, input), counted);
+    named && read && odd
 }
 
 /// Writes how many events a parser of the input has, or its refusal; and where the other readers differ.
 pub fn answer_count(alloc: Global, input: &[u8], told: &mut String) -> Result<(), AllocError> {
     let counted = count_in(alloc, input);
-    if !(agrees_on(alloc, input, Reader::CountRead, counted)
-        && agrees_on(alloc, input, Reader::HasOddEvents, counted))
-    {
+    if !agree(alloc, input, counted) {
         return writeln!(told, "DIFFERS: another reader");
     }
     match counted {

@@ -8,37 +8,68 @@ use std::alloc::{AllocError, Global};
 /// `[true,null,[]]`
 pub fn list(alloc: Global) -> Result<Tree, AllocError> {
     let mut items = Vec::new(alloc);
+    push_items(alloc, &mut items)?;
+    Ok(Tree::from(items))
+}
+
+/// The items of that list.
+fn push_items(alloc: Global, items: &mut Vec<Tree>) -> Result<(), AllocError> {
     items.push(Tree::from(true))?;
     items.push(Tree::Null)?;
-    items.push(Tree::List(Vec::new(alloc)))?;
-    Ok(Tree::from(items))
+    items.push(Tree::List(Vec::new(alloc)))
 }
 
 /// `{"a":1,"b":[true,null,[]],"a":3}`
 pub fn object(alloc: Global) -> Result<Tree, AllocError> {
     let mut members = Vec::new(alloc);
-    members.push((String::from_str(alloc, "a")?, Tree::from(1u64)))?;
-    members.push((String::from_str(alloc, "b")?, list(alloc)?))?;
-    members.push((String::from_str(alloc, "a")?, Tree::from(3u64)))?;
+    push_members(alloc, &mut members)?;
     Ok(Tree::from(members))
+}
+
+/// The members of that object.
+fn push_members(alloc: Global, members: &mut Vec<(String, Tree)>) -> Result<(), AllocError> {
+    push_member(alloc, members, "a", Tree::from(1u64))?;
+    push_member(alloc, members, "b", list(alloc)?)?;
+    push_member(alloc, members, "a", Tree::from(3u64))
+}
+
+/// A member of this name.
+fn push_member(
+    alloc: Global,
+    members: &mut Vec<(String, Tree)>,
+    name: &str,
+    value: Tree,
+) -> Result<(), AllocError> {
+    members.push((String::from_str(alloc, name)?, value))
 }
 
 /// A list of a value of each kind.
 pub fn each_kind(alloc: Global) -> Result<Tree, AllocError> {
     let mut items = Vec::new(alloc);
+    push_numbers(&mut items)?;
+    push_texts(alloc, &mut items)?;
+    items.push(object(alloc)?)?;
+    Ok(Tree::from(items))
+}
+
+/// Values that take no memory of their own.
+fn push_numbers(items: &mut Vec<Tree>) -> Result<(), AllocError> {
     items.push(Tree::Unit)?;
     items.push(Tree::from('x'))?;
     items.push(Tree::from(-1i64))?;
     items.push(Tree::from(-170141183460469231731687303715884105728i128))?;
     items.push(Tree::from(340282366920938463463374607431768211455u128))?;
-    if let Some(decimal) = Decimal::new("1.50") {
-        items.push(Tree::from(decimal))?;
+    match Decimal::new("1.50") {
+        Some(decimal) => items.push(Tree::from(decimal)),
+        None => Ok(()),
     }
+}
+
+/// Texts, bytes, and raw texts, of the program and in memory of their own.
+fn push_texts(alloc: Global, items: &mut Vec<Tree>) -> Result<(), AllocError> {
     items.push(Tree::from(String::from_str(alloc, "a text")?))?;
     items.push(Tree::Bytes(Vec::from_slice(alloc, &[1, 255])?))?;
     items.push(Tree::from(RawJson::new("[1, 2]")))?;
     let raw = RawJson::from_owned(String::from_str(alloc, "{ }")?);
-    items.push(Tree::from(raw))?;
-    items.push(object(alloc)?)?;
-    Ok(Tree::from(items))
+    items.push(Tree::from(raw))
 }

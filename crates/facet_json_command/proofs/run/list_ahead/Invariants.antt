@@ -1,6 +1,6 @@
 use Rattle.std.proofs.Common.{◌≡◌, ℕ, List}
-use Rattle.facet_json.specs.Gap.{Mode}
-use Rattle.facet_json.specs.Now.{fresh, ahead}
+use Rattle.facet_json_token.specs.Gap.{Mode}
+use Rattle.facet_json_protocol.specs.Now.{fresh, ahead}
 use Rattle.facet_json_command.proofs.Listing.{AreSoFar}
 use Rattle.facet_json_command.proofs.run.list_ahead.Given as goal
 

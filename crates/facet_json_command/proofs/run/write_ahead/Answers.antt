@@ -1,7 +1,7 @@
 use Rattle.std.proofs.Common.{map, ap}
 use Rattle.std.specs.List.{flat_map}
 use Rattle.std.proofs.lemmas.Result.{err_from_is_err_and}
-use Rattle.facet_json.specs.ScriptViews.{answer_of}
+use Rattle.facet_json_core.specs.ScriptViews.{answer_of}
 use Rattle.facet_json_command.specs.Lines.{answer_lines}
 use Rattle.facet_json_command.proofs.Printing.{up_to_more, stops_behind}
 use Rattle.facet_json_command.proofs.run.write_ahead.Goals as goal

@@ -1,7 +1,7 @@
 use Rattle.std.proofs.Common.{map, length}
 use Rattle.std.specs.List.{flat_map}
 use Rattle.std.specs.Vec.Iter.{into_iter_items}
-use Rattle.facet_json.specs.ScriptViews.{answer_of}
+use Rattle.facet_json_core.specs.ScriptViews.{answer_of}
 use Rattle.facet_json_command.specs.Lines.{answer_lines}
 use Rattle.facet_json_command.proofs.Printing.{IsPrintedUpTo}
 use Rattle.facet_json_command.proofs.run.write_ahead.Given as goal
