@@ -32,12 +32,7 @@ fn are_outside<'de, T: Facet<'de>>(alloc: Global, name: &str, numbers: &'de str)
 }
 
 /// Whether the type of this name has the numbers of the first list and none of the second.
-fn has<'de, T: Facet<'de>>(
-    alloc: Global,
-    name: &str,
-    inside: &'de str,
-    outside: &'de str,
-) -> bool {
+fn has<'de, T: Facet<'de>>(alloc: Global, name: &str, inside: &'de str, outside: &'de str) -> bool {
     are_read::<T>(alloc, inside) && are_outside::<T>(alloc, name, outside)
 }
 

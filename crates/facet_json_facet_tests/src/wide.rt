@@ -41,12 +41,7 @@ fn texts_of_digits_are_numbers(rt: HostRuntime) {
 }
 
 /// Whether the input is no number of the type of this name, and is told to be this instead.
-fn is_other<'de, T: Facet<'de>>(
-    alloc: Global,
-    input: &'de str,
-    expected: &str,
-    got: &str,
-) -> bool {
+fn is_other<'de, T: Facet<'de>>(alloc: Global, input: &'de str, expected: &str, got: &str) -> bool {
     refuses::<T>(
         alloc,
         input,

@@ -49,10 +49,7 @@ fn has_odd_events(parser: &mut JsonParser<'_>) -> Result<bool, ParseError<'stati
 }
 
 /// Whether `count_read` agrees with this count or refusal.
-fn read_agrees(
-    parser: &mut JsonParser<'_>,
-    counted: Result<usize, ParseError<'static>>,
-) -> bool
+fn read_agrees(parser: &mut JsonParser<'_>, counted: Result<usize, ParseError<'static>>) -> bool
     requires fits { ahead parser.old < 2 ^ 64 }
 {
     match (count_read(parser), counted) {
