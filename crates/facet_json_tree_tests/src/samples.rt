@@ -16,7 +16,8 @@ pub fn list(alloc: Global) -> Result<Tree, AllocError> {
 fn push_items(alloc: Global, items: &mut Vec<Tree>) -> Result<(), AllocError> {
     items.push(Tree::from(true))?;
     items.push(Tree::Null)?;
-    items.push(Tree::List(Vec::new(alloc)))
+    items.push(Tree::List(Vec::new(alloc)))?;
+    Ok(())
 }
 
 /// `{"a":1,"b":[true,null,[]],"a":3}`
@@ -40,7 +41,8 @@ fn push_member(
     name: &str,
     value: Tree,
 ) -> Result<(), AllocError> {
-    members.push((String::from_str(alloc, name)?, value))
+    members.push((String::from_str(alloc, name)?, value))?;
+    Ok(())
 }
 
 /// A list of a value of each kind.
@@ -59,10 +61,10 @@ fn push_numbers(items: &mut Vec<Tree>) -> Result<(), AllocError> {
     items.push(Tree::from(-1i64))?;
     items.push(Tree::from(-170141183460469231731687303715884105728i128))?;
     items.push(Tree::from(340282366920938463463374607431768211455u128))?;
-    match Decimal::new("1.50") {
-        Some(decimal) => items.push(Tree::from(decimal)),
-        None => Ok(()),
+    if let Some(decimal) = Decimal::new("1.50") {
+        items.push(Tree::from(decimal))?;
     }
+    Ok(())
 }
 
 /// Texts, bytes, and raw texts, of the program and in memory of their own.
@@ -71,5 +73,6 @@ fn push_texts(alloc: Global, items: &mut Vec<Tree>) -> Result<(), AllocError> {
     items.push(Tree::Bytes(Vec::from_slice(alloc, &[1, 255])?))?;
     items.push(Tree::from(RawJson::new("[1, 2]")))?;
     let raw = RawJson::from_owned(String::from_str(alloc, "{ }")?);
-    items.push(Tree::from(raw))
+    items.push(Tree::from(raw))?;
+    Ok(())
 }
