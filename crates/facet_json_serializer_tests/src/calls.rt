@@ -4,6 +4,7 @@ use crate::written::{Call, writes, writes_decimal, writes_scalar};
 use facet_format::{FormatSerializer, ScalarValue};
 use facet_json_options::SerializeOptions;
 use facet_json_serializer::{JsonSerializeError, JsonSerializer};
+use std::alloc::Global;
 
 #[test]
 fn calls_that_do_not_fit_are_refused_and_change_nothing(rt: HostRuntime) {
@@ -150,35 +151,37 @@ fn a_list_of_structs_is_indented(rt: HostRuntime) {
     );
 }
 
+/// Whether the value is written as this text, without options.
+fn is_written(alloc: Global, value: ScalarValue<'_>, text: &str) -> bool {
+    writes_scalar(alloc, SerializeOptions::new(), value, text)
+}
+
 #[test]
 fn scalars_are_written(rt: HostRuntime) {
     let alloc = rt.alloc();
-    let plain = SerializeOptions::new;
-    assert!(rt; writes_scalar(alloc, plain(), ScalarValue::Null, "null"));
-    assert!(rt; writes_scalar(alloc, plain(), ScalarValue::Unit, "null"));
-    assert!(rt; writes_scalar(alloc, plain(), ScalarValue::Bool(true), "true"));
-    assert!(rt; writes_scalar(alloc, plain(), ScalarValue::Bool(false), "false"));
-    assert!(rt; writes_scalar(alloc, plain(), ScalarValue::Char('x'), "\"x\""));
-    assert!(rt; writes_scalar(alloc, plain(), ScalarValue::Char('"'), "\"\\\"\""));
-    assert!(rt; writes_scalar(alloc, plain(), ScalarValue::I64(-1), "-1"));
-    assert!(rt; writes_scalar(alloc, plain(), ScalarValue::I64(5), "5"));
+    assert!(rt; is_written(alloc, ScalarValue::Null, "null"));
+    assert!(rt; is_written(alloc, ScalarValue::Unit, "null"));
+    assert!(rt; is_written(alloc, ScalarValue::Bool(true), "true"));
+    assert!(rt; is_written(alloc, ScalarValue::Bool(false), "false"));
+    assert!(rt; is_written(alloc, ScalarValue::Char('x'), "\"x\""));
+    assert!(rt; is_written(alloc, ScalarValue::Char('"'), "\"\\\"\""));
+    assert!(rt; is_written(alloc, ScalarValue::I64(-1), "-1"));
+    assert!(rt; is_written(alloc, ScalarValue::I64(5), "5"));
     assert!(rt;
-        writes_scalar(
+        is_written(
             alloc,
-            plain(),
             ScalarValue::I128(-9223372036854775809),
             "-9223372036854775809"
         )
     );
     assert!(rt;
-        writes_scalar(
+        is_written(
             alloc,
-            plain(),
             ScalarValue::U128(18446744073709551616),
             "18446744073709551616"
         )
     );
-    assert!(rt; writes_scalar(alloc, plain(), ScalarValue::Bytes(&[1, 255]), "[1,255]"));
+    assert!(rt; is_written(alloc, ScalarValue::Bytes(&[1, 255]), "[1,255]"));
     assert!(rt; writes_decimal(alloc, "5e-05"));
     assert!(rt; writes_decimal(alloc, "0.0"));
 }
