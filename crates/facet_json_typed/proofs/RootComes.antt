@@ -1,5 +1,5 @@
 -- A new parser stands before its document's root, so what is read from there is the document's reading.
-use Rattle.std.proofs.Common.{◌≡◌, ℕ, List, [], Option, refl, sym, append-nil}
+use Rattle.std.proofs.Common.{◌≡◌, ℕ, List, [], Option, refl, sym, ap, ◌∙◌, subst, append-nil}
 use Rattle.facet_format.specs.Complaint.{Refusal}
 use Rattle.facet_format.specs.Cursor.{start}
 use Rattle.facet_json_token.specs.Gap.{Mode}
@@ -8,6 +8,7 @@ use Rattle.facet_json_document.specs.Node.{Node}
 use Rattle.facet_json_document.specs.Tree.{Tree}
 use Rattle.facet_json_document.specs.Walk.{walk, source_of}
 use Rattle.facet_json_protocol.specs.Now.{Now, fresh}
+use Rattle.facet_json_protocol.specs.Within.{RefusalWithin}
 use Rattle.facet_json_protocol.proofs.StandsOnWalk.{fresh-stands}
 use Rattle.facet_json_meaning.specs.Nodes.{StandsBefore}
 use Rattle.facet_json_meaning.specs.Reading.{IsRead, IsUnread}
@@ -32,3 +33,7 @@ module _ {V : Type 0} (reading : List ℕ → Node → Option V) (input : List �
   pub unread-from : (refusal : Refusal) → IsUnread reading old refusal → IsUnreadFrom reading input mode refusal
   unread-from refusal unread root tree d =
       unread (source_of input root) start root (rw is_new (root-comes input mode root tree d))
+
+module _ (input : List ℕ) (mode : Mode) (old new : Now) (is_new : old ≡ fresh input mode) where
+  pub within-from : new.buffer ≡ old.buffer → (refusal : Refusal) → RefusalWithin new.buffer refusal → RefusalWithin input refusal
+  within-from kept refusal = subst (λ b. RefusalWithin b refusal) (kept ∙ ap (λ (now : Now). now.buffer) is_new)

@@ -1,7 +1,6 @@
-use Rattle.std.proofs.Common.{rules}
 use Rattle.std.proofs.lemmas.Result.{IfOk-weaker, IfErr-weaker}
 use Rattle.facet_format.specs.Views.{refusal_of}
-use Rattle.facet_json_typed.proofs.RootComes.{read-from, unread-from}
+use Rattle.facet_json_typed.proofs.RootComes.{read-from, unread-from, within-from}
 use Rattle.facet_json_typed.proofs.reading.from_slice_borrowed_jsonc.Goals as goal
 
 pub returns-clause-read : goal.returns-clause-read
@@ -13,7 +12,8 @@ returns-clause-unread g c =
     IfErr-weaker c.read.result _ _ (λ e. unread-from _ _ _ _ c.new_jsonc.ensures (refusal_of e)) c.read.ensures.unread
 
 pub returns-clause-document : goal.returns-clause-document
-returns-clause-document c = search rules
+returns-clause-document g c whole = IfOk-weaker c.read.result _ _ (λ v has. has _ _ c.new_jsonc.ensures) (c.read.ensures.document whole)
 
 pub returns-clause-within : goal.returns-clause-within
-returns-clause-within c = search rules
+returns-clause-within g c =
+    IfErr-weaker c.read.result _ _ (λ e. within-from _ _ _ c.read.new.parser c.new_jsonc.ensures c.read.ensures.keeps.input.buffer (refusal_of e)) c.read.ensures.within

@@ -1,7 +1,7 @@
-use Rattle.std.proofs.Common.{rules}
 use Rattle.std.proofs.lemmas.Result.{IfOk-weaker, IfErr-weaker}
 use Rattle.facet_format.specs.Views.{refusal_of}
-use Rattle.facet_json_typed.proofs.RootComes.{read-from, unread-from}
+use Rattle.facet_json_token.specs.Gap.{jsonc}
+use Rattle.facet_json_typed.proofs.RootComes.{read-from, unread-from, within-from}
 use Rattle.facet_json_typed.proofs.reading.from_str_jsonc.Goals as goal
 
 pub returns-clause-read : goal.returns-clause-read
@@ -13,7 +13,8 @@ returns-clause-unread g c =
     IfErr-weaker c.read_owned.result _ _ (λ e. unread-from _ _ _ _ (rw (← c.as_bytes-bytes.ensures.value) c.new_jsonc_trusted.ensures) (refusal_of e)) c.read_owned.ensures.unread
 
 pub returns-clause-document : goal.returns-clause-document
-returns-clause-document c = search rules
+returns-clause-document g c whole = IfOk-weaker c.read_owned.result _ _ (λ v has. has _ _ (rw (← c.as_bytes-bytes.ensures.value) c.new_jsonc_trusted.ensures)) (c.read_owned.ensures.document whole)
 
 pub returns-clause-within : goal.returns-clause-within
-returns-clause-within c = search rules
+returns-clause-within g c =
+    IfErr-weaker c.read_owned.result _ _ (λ e. within-from _ jsonc c.new_jsonc_trusted.result c.read_owned.new.parser (rw (← c.as_bytes-bytes.ensures.value) c.new_jsonc_trusted.ensures) c.read_owned.ensures.keeps.input.buffer (refusal_of e)) c.read_owned.ensures.within
