@@ -1,4 +1,5 @@
-//! What the program does, over any reader and writer: a JSON document written anew, its events, or the answers of a parser's calls.
+//! What the program does, over any reader and writer (`run::run`): a JSON document written anew, its events, or the answers of a parser's
+//! calls.
 #![tactic(auto)]
 
 mod lines;

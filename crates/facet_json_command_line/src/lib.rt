@@ -1,4 +1,5 @@
-//! The program's command line: what its arguments ask for, and how a run ends: the line on standard error and the status.
+//! The program's command line: what its arguments ask for (`arguments::command_of`), and how a run ends (`outcome::Outcome`): the line on
+//! standard error and the status (`report::write_line`, `report::status`).
 #![tactic(auto)]
 
 pub mod arguments;

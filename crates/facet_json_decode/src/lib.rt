@@ -1,4 +1,5 @@
-//! The contents of JSON strings (RFC 8259, section 7) to their texts.
+//! The contents of JSON strings (RFC 8259, section 7) to their texts: `decode_string` and its kin. `check_content` says without memory whether a
+//! content has a text, and `plain_text` and `quoted_text` lend one in which no backslash stands.
 #![tactic(auto)]
 
 mod ascii;

@@ -50,7 +50,7 @@ fn no_value_is_no_raw_text(rt: HostRuntime) {
     assert!(rt; refuses::<RawJson<'_>>(alloc, "[1", no_end, Span::new(2, 0)));
 }
 
-/// How raw text is refused behind the input's first event.
+/// How raw text is refused after the input's first event.
 fn refused_inside<'t>(alloc: Global, input: &str) -> Option<DeserializeError<'t>> {
     let mut parser = JsonParser::new(alloc, input.as_bytes());
     if parser.next_event().is_err() {

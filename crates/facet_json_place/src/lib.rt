@@ -1,5 +1,5 @@
-//! The language that a parser reads, and where it stands: the open containers, the place within the innermost one, what follows from a token there, and how
-//! it is refused.
+//! The language that a parser reads (`Language`), and where it stands: the open containers (`Contexts`), the place within the innermost one
+//! (`Place`), what follows from a token there (`Place::turn`), and how it is refused (`Refused`).
 #![tactic(auto)]
 
 mod contexts;

@@ -1,4 +1,5 @@
-//! Texts without an escape and numbers that take no memory, told by their bytes: for readers that make no token of them.
+//! Texts without an escape (`checked_text_at`, `quoted_text_at`) and numbers that take no memory (`short_number`), told by their bytes: for
+//! readers that make no token of them.
 #![tactic(auto)]
 
 mod digits;

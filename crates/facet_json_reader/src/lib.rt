@@ -1,4 +1,4 @@
-//! The next event of a document, from its tokens.
+//! The next event of a document, `Reader`: at once where a few bytes decide it (`pass_quickly`), and else from the tokens (`upcoming`).
 #![tactic(auto)]
 
 mod materialized;

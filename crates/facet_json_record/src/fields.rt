@@ -85,11 +85,11 @@ pub trait Fields<'de>: Sized + Drop {
 #[derive(Drop)]
 pub struct Done;
 
-/// A field that has to be there, and the fields behind it.
+/// A field that has to be there, and the fields after it.
 #[derive(Drop)]
 pub struct Need<T, R>(pub T, pub R);
 
-/// A field that may be missing or null, and the fields behind it.
+/// A field that may be missing or null, and the fields after it.
 #[derive(Drop)]
 pub struct Maybe<T, R>(pub Option<T>, pub R);
 
@@ -300,7 +300,7 @@ pub(crate) fn first<'n, 't>(names: &'n [&'t str]) -> &'t str
     }
 }
 
-/// The names behind the first.
+/// The names after the first.
 pub(crate) fn behind<'n, 't>(names: &'n [&'t str]) -> &'n [&'t str]
     ensures { keys result.now ≡ other_names (keys names.now) }
 {

@@ -4,7 +4,7 @@ use crate::numbers::answer_number;
 use crate::row::{answer_parser, first_word};
 use std::alloc::{AllocError, Global};
 
-/// Writes what a command prints of a long input, `COUNT COUNT | COMMAND`: the parts of the text before and behind its `|`, each
+/// Writes what a command prints of a long input, `COUNT COUNT | COMMAND`: the parts of the text before and after its `|`, each
 /// repeated so often.
 pub fn answer_long(
     alloc: Global,
@@ -22,7 +22,7 @@ pub fn answer_long(
     }
 }
 
-/// The parts of the text before and behind the `|`, each as often as its count says.
+/// The parts of the text before and after the `|`, each as often as its count says.
 fn repeated(alloc: Global, counts: &str, text: &str) -> Result<String, AllocError> {
     let (part, behind) = text.split_once('|').unwrap_or((text, ""));
     let (count, count_behind) = first_word(counts);

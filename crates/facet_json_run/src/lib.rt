@@ -1,4 +1,5 @@
-//! The balanced run of a value: passed token by token, with the open brackets alone. Nothing of it is decoded.
+//! The balanced run of a value, passed with the open brackets alone: `pass_run`, `pass_container`. Texts without an escape, numbers, commas and
+//! colons are passed by their bytes, and all else token by token. Nothing of it is decoded.
 #![tactic(auto)]
 
 mod quiet;

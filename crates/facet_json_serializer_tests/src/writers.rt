@@ -198,7 +198,7 @@ fn short_and_interrupted_writes_go_on(rt: HostRuntime) {
     }
 }
 
-/// Whether a failure of each write in turn is told, with a front of the text taken, and the text is written where none fails.
+/// Whether a failure of each write in turn is told, with a prefix of the text taken, and the text is written where none fails.
 fn tells_of_each_failed_write(alloc: Global, form: Form, tree: &Tree) -> bool {
     let text = text_by(form);
     for at in 0..40 {

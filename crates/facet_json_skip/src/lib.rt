@@ -1,5 +1,5 @@
-//! What stands where a reader goes on, its text unread, and how it is passed: a value with all that it holds, a key with its
-//! colon, or a closing bracket.
+//! What stands where a reader goes on, its text unread (`find`), and how it is passed (`pass`) or captured (`capture`): a value with all
+//! that it holds, a key with its colon, or a closing bracket.
 #![tactic(auto)]
 
 mod part;

@@ -1,5 +1,5 @@
-//! Where a parser stands: before the bytes that are not read, with an event that is read and not passed; and the
-//! standings that are kept under numbers.
+//! Where a parser stands, `Standing`: before the bytes that are not read, with an event that is read and not passed; and the
+//! standings that are kept under numbers (`keep`, `bring_back`).
 #![tactic(auto)]
 
 mod points;
