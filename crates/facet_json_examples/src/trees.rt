@@ -3,8 +3,8 @@
 use facet_json::{DeserializeError, JsonSerializeError, Tree, to_vec, tree_from_slice_within};
 use std::alloc::Global;
 
-/// How many items the list has that a stranger's input is, in which nothing may nest deeper than 100. With
-/// `tree_from_slice_within_jsonc` the input may have comments.
+/// How many items the input's list has, and 0 where it is no list. The input may come from a stranger: one that nests
+/// deeper than 100 is refused. With `tree_from_slice_within_jsonc` it may have comments.
 fn count<'t>(alloc: Global, input: &[u8]) -> Result<usize, DeserializeError<'t>> {
     match tree_from_slice_within(alloc, input, 100)? {
         Tree::List(items) => Ok(items.len()),
