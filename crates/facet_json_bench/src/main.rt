@@ -1,6 +1,6 @@
 //! Does a work with the JSON text on the standard input as often as it is told, and prints the shortest time that one took in nanoseconds;
 //! `bench/run` sets these times beside those of other libraries. Without arguments each work is done once, and what it passed is printed and no
-//! time. The arguments are the work's name and the number of rounds, and `jsonc` behind them where the text has comments.
+//! time. The arguments are the work's name and the number of rounds, and `jsonc` after them where the text has comments.
 #![tactic(auto)]
 
 mod accounts;

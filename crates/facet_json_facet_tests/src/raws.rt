@@ -50,7 +50,7 @@ fn no_value_is_no_raw_text(rt: HostRuntime) {
     assert!(rt; refuses::<RawJson<'_>>(alloc, "[1", no_end, Span::new(2, 0)));
 }
 
-/// How raw text is refused behind the input's first event.
+/// How raw text is refused after the input's first event.
 fn refused_inside<'t>(alloc: Global, input: &str) -> Option<DeserializeError<'t>> {
     let mut parser = JsonParser::new(alloc, input.as_bytes());
     if parser.next_event().is_err() {
@@ -78,7 +78,7 @@ fn keys_and_ends_are_no_raw_text(rt: HostRuntime) {
 }
 
 #[test]
-fn nothing_is_read_behind_the_document(rt: HostRuntime) {
+fn nothing_is_read_after_the_document(rt: HostRuntime) {
     let ended = DeserializeError {
         kind: DeserializeErrorKind::UnexpectedEof { expected: "value" },
         span: Some(Span::new(1, 0)),

@@ -1,4 +1,4 @@
-//! What is no value of a type: each type refuses every other event by its own name and the event's, and the parser goes on behind it.
+//! What is no value of a type: each type refuses every other event by its own name and the event's, and the parser goes on after it.
 
 use crate::typed::mismatch;
 use facet_format::{DeserializeError, DeserializeErrorKind, FormatParser, Span};
@@ -20,7 +20,7 @@ fn stands(parser: &mut JsonParser<'_>, is_first: bool) -> bool {
     is_first || parser.next_event().is_ok()
 }
 
-/// Whether a value there is refused so, and the parser goes on behind it.
+/// Whether a value there is refused so, and the parser goes on after it.
 fn refuses_owned<'de, T: Facet<'de>>(
     alloc: Global,
     parser: &mut JsonParser<'de>,
@@ -44,7 +44,7 @@ fn refuses_borrowed<'de, T: Facet<'de>>(
         && parser.next_event().is_ok()
 }
 
-/// Whether a value there is refused so, borrowed or not, and the parser goes on behind it.
+/// Whether a value there is refused so, borrowed or not, and the parser goes on after it.
 fn is_refused<'de, T: Facet<'de>>(
     alloc: Global,
     input: &'de str,
@@ -124,7 +124,7 @@ fn no_value<'t>(end: usize) -> DeserializeError<'t> {
     }
 }
 
-/// Whether no value of the type stands behind the document.
+/// Whether no value of the type stands after the document.
 fn owns_nothing_more<'de, T: Facet<'de>>(alloc: Global, parser: &mut JsonParser<'de>) -> bool {
     parser.next_event().is_ok() && is_told(T::read_owned(alloc, parser), no_value(2))
 }
@@ -134,7 +134,7 @@ fn borrows_nothing_more<'de, T: Facet<'de>>(alloc: Global, parser: &mut JsonPars
     parser.skip_value().is_ok() && is_told(T::read(alloc, parser), no_value(4))
 }
 
-/// Whether no value of the type stands behind the document, borrowed or not.
+/// Whether no value of the type stands after the document, borrowed or not.
 fn reads_nothing_more<'de, T: Facet<'de>>(alloc: Global) -> bool {
     let owned = owns_nothing_more::<T>(alloc, &mut JsonParser::new(alloc, b" 1 2"));
     let borrowed = borrows_nothing_more::<T>(alloc, &mut JsonParser::new(alloc, b" [1] 2"));

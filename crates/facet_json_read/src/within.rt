@@ -33,7 +33,7 @@ use std::alloc::Global;
 ///
 /// # Errors
 ///
-/// As `tree_from_slice`; and at the first opening bracket with `depth` containers around it already, whatever stands behind it:
+/// As `tree_from_slice`; and at the first opening bracket with `depth` containers around it already, whatever stands after it:
 /// kind 5, its span the bracket's offset and length in bytes.
 pub fn tree_from_slice_within<'t>(
     alloc: Global,

@@ -4,7 +4,7 @@ use crate::numbers::answer_number;
 use crate::row::{answer_parser, first_word};
 use std::alloc::{AllocError, Global};
 
-/// Writes what a command prints of a long input, `COUNT COUNT | COMMAND`: the parts of the text before and behind its `|`, each
+/// Writes what a command prints of a long input, `COUNT COUNT | COMMAND`: the parts of the text before and after its `|`, each
 /// repeated so often.
 pub fn answer_long(
     alloc: Global,
@@ -22,14 +22,14 @@ pub fn answer_long(
     }
 }
 
-/// The parts of the text before and behind the `|`, each as often as its count says.
+/// The parts of the text before and after the `|`, each as often as its count says.
 fn repeated(alloc: Global, counts: &str, text: &str) -> Result<String, AllocError> {
-    let (part, behind) = text.split_once('|').unwrap_or((text, ""));
-    let (count, count_behind) = first_word(counts);
+    let (part, after) = text.split_once('|').unwrap_or((text, ""));
+    let (count, count_after) = first_word(counts);
     let mut input = part.repeat(alloc, count.parse().unwrap_or(0))?;
-    let count_behind: usize = count_behind.parse().unwrap_or(0);
-    for _ in 0..count_behind {
-        input.push_str(behind)?;
+    let count_after: usize = count_after.parse().unwrap_or(0);
+    for _ in 0..count_after {
+        input.push_str(after)?;
     }
     Ok(input)
 }

@@ -23,7 +23,7 @@ pub(crate) fn past_quiet(input: &[u8], position: usize, mode: Mode) -> usize
     at
 }
 
-/// The offset after the text, the number, the comma or the colon at `at`, and after the comma or colon right behind it.
+/// The offset after the text, the number, the comma or the colon at `at`, and after the comma or colon right after it.
 #[inline(always)]
 fn quiet_end(input: &[u8], at: usize) -> Option<usize>
     ensures on { (mode : SpecMode) → EndsGap input.now mode at → IfSome result (λ end. LeadsOn input.now mode at end) }

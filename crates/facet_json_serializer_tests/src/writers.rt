@@ -198,7 +198,7 @@ fn short_and_interrupted_writes_go_on(rt: HostRuntime) {
     }
 }
 
-/// Whether a failure of each write in turn is told, with a front of the text taken, and the text is written where none fails.
+/// Whether a failure of each write in turn is told, with a prefix of the text taken, and the text is written where none fails.
 fn tells_of_each_failed_write(alloc: Global, form: Form, tree: &Tree) -> bool {
     let text = text_by(form);
     for at in 0..40 {
@@ -207,8 +207,8 @@ fn tells_of_each_failed_write(alloc: Global, form: Form, tree: &Tree) -> bool {
         if writer.writes <= at {
             return at > 0 && answer.is_ok() && writer.holds(text);
         }
-        let is_front = text.as_bytes().starts_with(writer.taken.as_slice());
-        if !is_front || !has_failed(answer, ErrorKind::BrokenPipe) {
+        let is_prefix = text.as_bytes().starts_with(writer.taken.as_slice());
+        if !is_prefix || !has_failed(answer, ErrorKind::BrokenPipe) {
             return false;
         }
     }

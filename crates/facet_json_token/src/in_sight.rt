@@ -1,5 +1,5 @@
-//! Tokens that one look at the bytes behind a position tells whole: all but faults, strings with escapes, and what
-//! stands behind comments or at the end. They are made here in line; everything else is left to `plain_cut`.
+//! Tokens that one look at the bytes after a position tells whole: all but faults, strings with escapes, and what
+//! stands after comments or at the end. They are made here in line; everything else is left to `plain_cut`.
 
 ghost use Rattle.std.specs.Prelude.{◌≡◌, ◌+◌, ◌<◌, ◌≤◌, length, drop, true, false, Some, IfSome};
 ghost use Rattle.facet_format.specs.Number.{parts, parts_len, parts_hint, is_bare};
