@@ -7,7 +7,7 @@ use Rattle.facet_format.specs.Complaint.{Refusal, refusal_at, save_limit}
 use Rattle.facet_format.specs.Event.{Event, Passed}
 use Rattle.facet_format.specs.Kept.{found}
 use Rattle.facet_format.specs.Part.{Part, skip_of, capture_of}
-use Rattle.facet_format.specs.Cursor.{Coming, an_event, the_end, a_refusal, World, Call, next, peek, events, skip, capture, save, restore, span, Answer, event, batch, skipped, raw, saved, restored, spans, Spot, Cursor, Comes, Step, repeats, passes, passes_without_memory, passes_the_end, passes_nothing, peeks, peeks_without_memory, peeks_at_the_end, peeks_at_nothing, gives_none, gives, gives_without_memory, gives_up, skips, skips_without_memory, skips_nothing, captures, captures_without_memory, captures_nothing, saves, saves_at_the_limit, saves_without_memory, restores, restores_nothing, tells, repeated, current_span, unpeeked, peeked_at, spot_after, at_spot, refused_at, kept_here, back_at, greatest, Run, no_calls, one_call}
+use Rattle.facet_format.specs.Cursor.{Upcoming, an_event, the_end, a_refusal, World, Call, next, peek, events, skip, capture, save, restore, span, Answer, event, batch, skipped, raw, saved, restored, spans, Spot, Cursor, Comes, Step, repeats, passes, passes_without_memory, passes_the_end, passes_nothing, peeks, peeks_without_memory, peeks_at_the_end, peeks_at_nothing, gives_none, gives, gives_without_memory, gives_up, skips, skips_without_memory, skips_nothing, captures, captures_without_memory, captures_nothing, saves, saves_at_the_limit, saves_without_memory, restores, restores_nothing, tells, repeated, current_span, unpeeked, peeked_at, spot_after, at_spot, refused_at, kept_here, back_at, greatest, Run, no_calls, one_call}
 use Rattle.facet_format.specs.Cursor as cursor
 use Rattle.facet_format.specs.Agree.{LacksMemory, no_event, no_more, no_skip, no_capture, no_point, Agree, lacks, other_lacks, is_one, AgreeToLack, no_answers, first_lacks, second_lacks, same_answer}
 use Rattle.facet_format.specs.Laws.{PassesUnread, by_skip, by_capture}
@@ -31,13 +31,13 @@ data Ends {P : Type 0} (w : World P) (k : ℕ) (given : List Event) (place : P) 
   ends_badly : (r : Refusal) → length given ≤ k → w.comes place ≡ a_refusal → w.refuses place r → Ends w k given place (Err r)
 
 -- No event comes.
-abbrev Stops : Coming → Type 0
+abbrev Stops : Upcoming → Type 0
 Stops what = (p : Passed) → what ≡ an_event p → ⊥
 
-stops_at_the_end : (what : Coming) → what ≡ the_end → Stops what
+stops_at_the_end : (what : Upcoming) → what ≡ the_end → Stops what
 stops_at_the_end what e p up = let no : the_end ≡ an_event p = sym e ∙ up in cc
 
-stops_at_nothing : (what : Coming) → what ≡ a_refusal → Stops what
+stops_at_nothing : (what : Upcoming) → what ≡ a_refusal → Stops what
 stops_at_nothing what e p up = let no : a_refusal ≡ an_event p = sym e ∙ up in cc
 
 -- ---- one answer where memory is ample

@@ -4,10 +4,10 @@ use Rattle.std.proofs.lemmas.Bool.{true≢false}
 use Rattle.std.proofs.lemmas.Option.{none-some, same_Some}
 use Rattle.facet_format.specs.Complaint.{Refusal}
 use Rattle.facet_format.specs.Event.{Passed}
-use Rattle.facet_format.specs.Cursor.{Coming, an_event, the_end, a_refusal, World, Cursor, Step, Answer, event, next, peek, repeats, passes, passes_without_memory, passes_the_end, passes_nothing, peeks, peeks_without_memory, peeks_at_the_end, peeks_at_nothing}
+use Rattle.facet_format.specs.Cursor.{Upcoming, an_event, the_end, a_refusal, World, Cursor, Step, Answer, event, next, peek, repeats, passes, passes_without_memory, passes_the_end, passes_nothing, peeks, peeks_without_memory, peeks_at_the_end, peeks_at_nothing}
 
 -- Two events that come at one place are one.
-pub same-event : {what : Coming} (p q : Passed) → what ≡ an_event p → what ≡ an_event q → p ≡ q
+pub same-event : {what : Upcoming} (p q : Passed) → what ≡ an_event p → what ≡ an_event q → p ≡ q
 same-event p q e other = let same : an_event p ≡ an_event q = sym e ∙ other in cc
 
 module _ {P : Type 0} (w : World P) where

@@ -6,7 +6,7 @@ use Rattle.facet_format.specs.Complaint.{Refusal}
 use Rattle.facet_format.specs.Event.{Event, Passed, peek_takes_memory}
 use Rattle.facet_format.specs.Kept.{found, without, with_point}
 use Rattle.facet_format.specs.Part.{Part, has_brackets, skip_of, captured, capture_of}
-use Rattle.facet_format.specs.Cursor.{Coming, an_event, a_refusal, World, Spot, Cursor, Call, events, save, Answer, batch, saved, current_span, unpeeked, peeked_at, Comes, no_event, one_event, spot_after, at_spot, refused_at, kept_here, back_at, no_memory_at, Step, repeats, passes, passes_without_memory, passes_the_end, passes_nothing, peeks, peeks_without_memory, peeks_at_the_end, peeks_at_nothing, gives_none, gives, gives_without_memory, gives_up, saves, saves_at_the_limit, saves_without_memory, skips, skips_without_memory, skips_nothing, captures, captures_without_memory, captures_nothing, restores, restores_nothing, tells, Run, no_calls, one_call}
+use Rattle.facet_format.specs.Cursor.{Upcoming, an_event, a_refusal, World, Spot, Cursor, Call, events, save, Answer, batch, saved, current_span, unpeeked, peeked_at, Comes, no_event, one_event, spot_after, at_spot, refused_at, kept_here, back_at, no_memory_at, Step, repeats, passes, passes_without_memory, passes_the_end, passes_nothing, peeks, peeks_without_memory, peeks_at_the_end, peeks_at_nothing, gives_none, gives, gives_without_memory, gives_up, saves, saves_at_the_limit, saves_without_memory, skips, skips_without_memory, skips_nothing, captures, captures_without_memory, captures_nothing, restores, restores_nothing, tells, Run, no_calls, one_call}
 use Rattle.facet_format.specs.Alike.{SpotsAlike, KeptAlike, none_kept, one_kept, CursorsAlike, PartsAlike, same_value, same_key, same_closing, both_nothing}
 
 -- From places that are alike the same comes, and leads to places that are alike.
@@ -171,7 +171,7 @@ module _ {P Q : Type 0} (v : World P) (w : World Q) (like : P → Q → Type 0) 
       rw (here.peeked, worlds.comes s.place t.place here.place, worlds.last s.place t.place here.place) refl
 
   -- The same comes at the other place.
-  comes-there : {p : P} {q : Q} {what : Coming} → like p q → v.comes p ≡ what → w.comes q ≡ what
+  comes-there : {p : P} {q : Q} {what : Upcoming} → like p q → v.comes p ≡ what → w.comes q ≡ what
   comes-there {p = p} {q = q} here comes = sym (worlds.comes p q here) ∙ comes
 
   -- The same events come from the other place, and lead to a place that is alike.

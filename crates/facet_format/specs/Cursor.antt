@@ -36,15 +36,15 @@ pub data Answer : Type 0 where
 -- ---- places
 
 -- what comes at a place
-pub data Coming : Type 0 where
-  an_event : Passed → Coming
-  the_end : Coming
-  a_refusal : Coming
+pub data Upcoming : Type 0 where
+  an_event : Passed → Upcoming
+  the_end : Upcoming
+  a_refusal : Upcoming
 
 -- places to stand at
 pub record World (P : Type 0) : Type 1 where
   -- what comes at a place
-  pub comes : P → Coming
+  pub comes : P → Upcoming
   -- Where a refusal comes, it may be this one.
   pub refuses : P → Refusal → Type 0
   -- the place after an event
@@ -56,7 +56,7 @@ pub record World (P : Type 0) : Type 1 where
   -- This stands at a place, its text unread.
   pub stands : P → Part P → Type 0
 
-abbrev pub event_or_end : Option Passed → Coming
+abbrev pub event_or_end : Option Passed → Upcoming
 event_or_end None = the_end
 event_or_end (Some p) = an_event p
 
@@ -94,7 +94,7 @@ abbrev pub start : Cursor ℕ
 start = start_at 0
 
 -- the last token of an event that comes and was peeked at, else the last one before it
-abbrev pub last_seen : Bool → Coming → Span → Span
+abbrev pub last_seen : Bool → Upcoming → Span → Span
 last_seen true (an_event p) last = p.last
 last_seen _ _ last = last
 

@@ -5,6 +5,7 @@ pub mod Complaint
 pub mod Cursor
 pub mod Event
 pub mod HeldText
+pub mod Inner
 pub mod Kept
 pub mod Laws
 pub mod Number
@@ -13,4 +14,3 @@ pub mod Span
 pub mod SerializerCall
 pub mod Standing
 pub mod Views
-pub mod Window

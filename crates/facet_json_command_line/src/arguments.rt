@@ -123,7 +123,7 @@ pub fn command_of(alloc: Global, args: &[String]) -> Result<Command, Outcome>
     let Some((name, rest)) = args.split_first() else {
         return Err(Outcome::Usage);
     };
-    match words_behind(rest) {
+    match words_after(rest) {
         Some(words) => named(alloc, name.as_str(), words),
         None => Err(Outcome::Usage),
     }
@@ -182,7 +182,7 @@ fn bare(name: &str, mode: Mode, pretty: bool) -> Result<Command, Outcome>
 }
 
 /// The words after the command's name, where they are the options, each once at most, and one other word at most.
-fn words_behind(words: &[String]) -> Option<Words<'_>>
+fn words_after(words: &[String]) -> Option<Words<'_>>
     ensures { MatchOption result
         ((mode : SpecMode) (pretty : Bool) (operands : List (List ℕ)) → length operands ≤ 1
         → ¬ AreWords mode pretty operands (words_of words.now))

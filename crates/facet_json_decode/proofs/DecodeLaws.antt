@@ -11,7 +11,7 @@ use Rattle.facet_json_decode.specs.Laws.{DecodedIsDecodes}
 use Rattle.facet_json_decode.proofs.CharAt.{some_same, some_if, Leads, utf8_at-encoded, utf8_at-leads, encoded-first}
 
 -- A piece that stands for the character is at the start of the bytes.
-pub record Fronts (bytes : List ℕ) (c n : ℕ) : Type 0 where
+pub record BeginsWithPiece (bytes : List ℕ) (c n : ℕ) : Type 0 where
   pub within : n ≤ length bytes
   pub some : 0 < n
   pub is_piece : Piece (take n bytes) c
@@ -19,14 +19,14 @@ pub record Fronts (bytes : List ℕ) (c n : ℕ) : Type 0 where
 -- ---- what is computed is a piece
 
 -- the escape of a high surrogate, and what is found after it
-low_at-fronts : (a b c d high v n : ℕ) (bytes : List ℕ) → code_unit a b c d ≡ Some high →
+low_at-begins : (a b c d high v n : ℕ) (bytes : List ℕ) → code_unit a b c d ≡ Some high →
     is_high_surrogate high ≡ true → low_at high bytes ≡ Some (v, n) →
-    Fronts (backslash ∷ lower_u ∷ a ∷ b ∷ c ∷ d ∷ bytes) v n
-low_at-fronts a b c d high v n (s ∷ t ∷ e ∷ f ∷ g ∷ h ∷ bytes) unit_is is_high found =
+    BeginsWithPiece (backslash ∷ lower_u ∷ a ∷ b ∷ c ∷ d ∷ bytes) v n
+low_at-begins a b c d high v n (s ∷ t ∷ e ∷ f ∷ g ∷ h ∷ bytes) unit_is is_high found =
     by ((s == backslash) && (t == lower_u)) refl found
   where
     lower : (o : Option ℕ) → code_unit e f g h ≡ o → pair_of high o ≡ Some (v, n) → s ≡ backslash → t ≡ lower_u →
-        Fronts (backslash ∷ lower_u ∷ a ∷ b ∷ c ∷ d ∷ s ∷ t ∷ e ∷ f ∷ g ∷ h ∷ bytes) v n
+        BeginsWithPiece (backslash ∷ lower_u ∷ a ∷ b ∷ c ∷ d ∷ s ∷ t ∷ e ∷ f ∷ g ∷ h ∷ bytes) v n
     lower None is k p q = cc
     lower (Some low) is k p q =
         let w = some_if (is_low_surrogate low) (surrogate_pair high low) v 12 n k in
@@ -35,62 +35,62 @@ low_at-fronts a b c d high v n (s ∷ t ∷ e ∷ f ∷ g ∷ h ∷ bytes) unit_
 
     by : (x : Bool) → ((s == backslash) && (t == lower_u)) ≡ x →
         cond x (pair_of high (code_unit e f g h)) None ≡ Some (v, n) →
-        Fronts (backslash ∷ lower_u ∷ a ∷ b ∷ c ∷ d ∷ s ∷ t ∷ e ∷ f ∷ g ∷ h ∷ bytes) v n
+        BeginsWithPiece (backslash ∷ lower_u ∷ a ∷ b ∷ c ∷ d ∷ s ∷ t ∷ e ∷ f ∷ g ∷ h ∷ bytes) v n
     by true tests k =
         let both = and_parts (s == backslash) (t == lower_u) tests in
         lower (code_unit e f g h) refl k (eqb-true s backslash both.0) (eqb-true t lower_u both.1)
     by false tests k = cc
-low_at-fronts a b c d high v n [] unit_is is_high found = cc
-low_at-fronts a b c d high v n (s ∷ []) unit_is is_high found = cc
-low_at-fronts a b c d high v n (s ∷ t ∷ []) unit_is is_high found = cc
-low_at-fronts a b c d high v n (s ∷ t ∷ e ∷ []) unit_is is_high found = cc
-low_at-fronts a b c d high v n (s ∷ t ∷ e ∷ f ∷ []) unit_is is_high found = cc
-low_at-fronts a b c d high v n (s ∷ t ∷ e ∷ f ∷ g ∷ []) unit_is is_high found = cc
+low_at-begins a b c d high v n [] unit_is is_high found = cc
+low_at-begins a b c d high v n (s ∷ []) unit_is is_high found = cc
+low_at-begins a b c d high v n (s ∷ t ∷ []) unit_is is_high found = cc
+low_at-begins a b c d high v n (s ∷ t ∷ e ∷ []) unit_is is_high found = cc
+low_at-begins a b c d high v n (s ∷ t ∷ e ∷ f ∷ []) unit_is is_high found = cc
+low_at-begins a b c d high v n (s ∷ t ∷ e ∷ f ∷ g ∷ []) unit_is is_high found = cc
 
 -- the escape of four digits
-unit_of-fronts : (a b c d v n : ℕ) (bytes : List ℕ) (o : Option ℕ) → code_unit a b c d ≡ o →
-    unit_of bytes o ≡ Some (v, n) → Fronts (backslash ∷ lower_u ∷ a ∷ b ∷ c ∷ d ∷ bytes) v n
-unit_of-fronts a b c d v n bytes None is found = cc
-unit_of-fronts a b c d v n bytes (Some u) is found = by (is_high_surrogate u) (is_low_surrogate u) refl refl found
+unit_of-begins : (a b c d v n : ℕ) (bytes : List ℕ) (o : Option ℕ) → code_unit a b c d ≡ o →
+    unit_of bytes o ≡ Some (v, n) → BeginsWithPiece (backslash ∷ lower_u ∷ a ∷ b ∷ c ∷ d ∷ bytes) v n
+unit_of-begins a b c d v n bytes None is found = cc
+unit_of-begins a b c d v n bytes (Some u) is found = by (is_high_surrogate u) (is_low_surrogate u) refl refl found
   where
     by : (x y : Bool) → is_high_surrogate u ≡ x → is_low_surrogate u ≡ y →
         cond x (low_at u bytes) (cond y None (Some (u, 6))) ≡ Some (v, n) →
-        Fronts (backslash ∷ lower_u ∷ a ∷ b ∷ c ∷ d ∷ bytes) v n
-    by true y p q k = low_at-fronts a b c d u v n bytes is p k
+        BeginsWithPiece (backslash ∷ lower_u ∷ a ∷ b ∷ c ∷ d ∷ bytes) v n
+    by true y p q k = low_at-begins a b c d u v n bytes is p k
     by false true p q k = cc
     by false false p q k =
         let same = some_same u v 6 n k in
         rw (← same.0, ← same.1) (record { within = omega arith; some = omega arith; is_piece = unit a b c d u is p q })
 
 -- a backslash and `u`
-unit_at-fronts : (v n : ℕ) (bytes : List ℕ) → unit_at bytes ≡ Some (v, n) → Fronts (backslash ∷ lower_u ∷ bytes) v n
+unit_at-begins : (v n : ℕ) (bytes : List ℕ) → unit_at bytes ≡ Some (v, n) → BeginsWithPiece (backslash ∷ lower_u ∷ bytes) v n
 unfolding unit_at
-unit_at-fronts v n (a ∷ b ∷ c ∷ d ∷ bytes) found = unit_of-fronts a b c d v n bytes (code_unit a b c d) refl found
-unit_at-fronts v n [] found = cc
-unit_at-fronts v n (a ∷ []) found = cc
-unit_at-fronts v n (a ∷ b ∷ []) found = cc
-unit_at-fronts v n (a ∷ b ∷ c ∷ []) found = cc
+unit_at-begins v n (a ∷ b ∷ c ∷ d ∷ bytes) found = unit_of-begins a b c d v n bytes (code_unit a b c d) refl found
+unit_at-begins v n [] found = cc
+unit_at-begins v n (a ∷ []) found = cc
+unit_at-begins v n (a ∷ b ∷ []) found = cc
+unit_at-begins v n (a ∷ b ∷ c ∷ []) found = cc
 
 -- a backslash and any other byte
-short_of-fronts : (b v n : ℕ) (bytes : List ℕ) (o : Option ℕ) → (b == lower_u) ≡ false → short_escape b ≡ o →
-    short_of b o ≡ Some (v, n) → Fronts (backslash ∷ b ∷ bytes) v n
-short_of-fronts b v n bytes (Some c) ne is found =
+short_of-begins : (b v n : ℕ) (bytes : List ℕ) (o : Option ℕ) → (b == lower_u) ≡ false → short_escape b ≡ o →
+    short_of b o ≡ Some (v, n) → BeginsWithPiece (backslash ∷ b ∷ bytes) v n
+short_of-begins b v n bytes (Some c) ne is found =
     let same = some_same c v 2 n found in
     rw (← same.0, ← same.1) (record { within = omega arith; some = omega arith; is_piece = short b c is })
-short_of-fronts b v n bytes None ne is found =
+short_of-begins b v n bytes None ne is found =
     let w = some_if (nat_lt b 0x80) b v 2 n found in
     rw (← w.1, ← w.2) (record { within = omega arith; some = omega arith; is_piece = other b w.0 is ne })
 
 -- a backslash
-escape_at-fronts : (v n : ℕ) (bytes : List ℕ) → escape_at bytes ≡ Some (v, n) → Fronts (backslash ∷ bytes) v n
+escape_at-begins : (v n : ℕ) (bytes : List ℕ) → escape_at bytes ≡ Some (v, n) → BeginsWithPiece (backslash ∷ bytes) v n
 unfolding escape_at
-escape_at-fronts v n [] found = cc
-escape_at-fronts v n (b ∷ bytes) found = by (b == lower_u) refl found
+escape_at-begins v n [] found = cc
+escape_at-begins v n (b ∷ bytes) found = by (b == lower_u) refl found
   where
     by : (x : Bool) → (b == lower_u) ≡ x → cond x (unit_at bytes) (short_of b (short_escape b)) ≡ Some (v, n) →
-        Fronts (backslash ∷ b ∷ bytes) v n
-    by true is k = let front = unit_at-fronts v n bytes k in rw (eqb-true b lower_u is) front
-    by false is k = short_of-fronts b v n bytes (short_escape b) is refl k
+        BeginsWithPiece (backslash ∷ b ∷ bytes) v n
+    by true is k = let front = unit_at-begins v n bytes k in rw (eqb-true b lower_u is) front
+    by false is k = short_of-begins b v n bytes (short_escape b) is refl k
 
 -- A character is no backslash where its first byte is none.
 leads-other : (b c n : ℕ) (bytes : List ℕ) → (b == backslash) ≡ false → Leads (b ∷ bytes) c n →
@@ -110,21 +110,21 @@ leads-other b c (suc n) bytes ne leads = by (c == backslash) refl
         grind arith
 
 -- a character other than a backslash
-itself-fronts : (b c n : ℕ) (bytes : List ℕ) → (b == backslash) ≡ false → Leads (b ∷ bytes) c n → Fronts (b ∷ bytes) c n
-itself-fronts b c n bytes ne leads =
+itself-begins : (b c n : ℕ) (bytes : List ℕ) → (b == backslash) ≡ false → Leads (b ∷ bytes) c n → BeginsWithPiece (b ∷ bytes) c n
+itself-begins b c n bytes ne leads =
     let own = itself c leads.is_scalar (leads-other b c n bytes ne leads) in
     record { within = leads.within; some = leads.some; is_piece = rw (← leads.encoded) own }
 
 -- What is found is a piece at the start.
-pub piece_at-fronts : (bytes : List ℕ) (c n : ℕ) → piece_at bytes ≡ Some (c, n) → Fronts bytes c n
+pub piece_at-begins : (bytes : List ℕ) (c n : ℕ) → piece_at bytes ≡ Some (c, n) → BeginsWithPiece bytes c n
 unfolding piece_at
-piece_at-fronts [] c n found = cc
-piece_at-fronts (b ∷ bytes) c n found = by (b == backslash) refl found
+piece_at-begins [] c n found = cc
+piece_at-begins (b ∷ bytes) c n found = by (b == backslash) refl found
   where
     by : (x : Bool) → (b == backslash) ≡ x → cond x (escape_at bytes) (utf8_at (b ∷ bytes)) ≡ Some (c, n) →
-        Fronts (b ∷ bytes) c n
-    by true is k = let front = escape_at-fronts c n bytes k in rw (eqb-true b backslash is) front
-    by false is k = itself-fronts b c n bytes is (utf8_at-leads (b ∷ bytes) c n k)
+        BeginsWithPiece (b ∷ bytes) c n
+    by true is k = let front = escape_at-begins c n bytes k in rw (eqb-true b backslash is) front
+    by false is k = itself-begins b c n bytes is (utf8_at-leads (b ∷ bytes) c n k)
 
 -- ---- a piece is what is computed
 
@@ -189,7 +189,7 @@ option_map-Some front text None e = cc
 option_map-Some front text (Some t) e = (t, refl, cc)
 
 -- A text of what stands after the piece at the start, with the piece's character.
-decodes-step : (b c n k : ℕ) (bytes rest text : List ℕ) → Fronts (b ∷ bytes) c n → k ≡ n - 1 →
+decodes-step : (b c n k : ℕ) (bytes rest text : List ℕ) → BeginsWithPiece (b ∷ bytes) c n → k ≡ n - 1 →
     Decodes (drop k bytes) rest → text ≡ encode_utf8 c ++ rest → Decodes (b ∷ bytes) text
 decodes-step b c zero k bytes rest text fronts is others e = absurd (omega (arith, fronts.some))
 decodes-step b c (suc n) k bytes rest text fronts is others e =
@@ -210,7 +210,7 @@ decodes_by : (b : ℕ) (bytes text : List ℕ) (o : Option (ℕ × ℕ)) → pie
 decodes_by b bytes text None is later e = cc
 decodes_by b bytes text (Some p) is later e =
     let w = option_map-Some (encode_utf8 p.0) text (decoded_past (p.1 - 1) bytes) e in
-    decodes-step b p.0 p.1 (p.1 - 1) bytes w.0 text (piece_at-fronts (b ∷ bytes) p.0 p.1 is) refl
+    decodes-step b p.0 p.1 (p.1 - 1) bytes w.0 text (piece_at-begins (b ∷ bytes) p.0 p.1 is) refl
     (later (p.1 - 1) w.0 w.1) w.2
 
 -- What is computed after some bytes is a text of what stands there.
@@ -236,7 +236,7 @@ decoded_past-append (b ∷ front) others = decoded_past-append front others
 pub decoded-piece : (first others : List ℕ) (c : ℕ) → Piece first c →
     decoded (first ++ others) ≡ option_map (λ t. encode_utf8 c ++ t) (decoded others)
 unfolding decoded_past
-decoded-piece [] others c is = absurd (omega (arith, (piece_at-fronts others c 0 (piece_at-piece [] c others is)).some))
+decoded-piece [] others c is = absurd (omega (arith, (piece_at-begins others c 0 (piece_at-piece [] c others is)).some))
 decoded-piece (b ∷ first) others c is =
     let size : suc (length first) - 1 ≡ length first = omega arith in
     ap (decoded_by (first ++ others)) (piece_at-piece (b ∷ first) c others is)

@@ -9,7 +9,7 @@ use Rattle.std.proofs.lemmas.List.Edits.{between_none, length-between, get_or-be
 use Rattle.std.proofs.lemmas.Option.{slice_get-get_or}
 use Rattle.facet_format.specs.Bytes.{backslash}
 use Rattle.facet_json_decode.specs.Decode.{piece_at, Decodes, empty, piece}
-use Rattle.facet_json_decode.proofs.DecodeLaws.{piece_at-fronts, decodes-decoded}
+use Rattle.facet_json_decode.proofs.DecodeLaws.{piece_at-begins, decodes-decoded}
 use Rattle.facet_json_decode.proofs.PlainText.{IsPlain, plain-parts, decoded-plain, EndsRun}
 
 -- ---- places in a buffer
@@ -105,7 +105,7 @@ pub step-found : (buf out next : List ℕ) (start stop end c n : ℕ) → start 
     piece_at (slice_range buf stop end) ≡ Some (c, n) → Decodes (slice_range buf start stop) out →
     next ≡ out ++ encode_utf8 c → Decodes (slice_range buf start (stop + n)) next
 step-found buf out next start stop end c n a h found so_far f =
-    let front = piece_at-fronts (slice_range buf stop end) c n found in
+    let front = piece_at-begins (slice_range buf stop end) c n found in
     let own = rw (range-take buf n stop end h) at front.is_piece in
     let bytes = slice_range buf stop (stop + n) in
     let char = encode_utf8 c in

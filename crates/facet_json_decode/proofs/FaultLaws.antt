@@ -13,7 +13,7 @@ use Rattle.facet_json_decode.specs.Inner.FirstFault.{second_fault, pair_fault, d
 use Rattle.facet_json_decode.specs.Laws.{TextOrFault}
 use Rattle.facet_json_decode.specs.Inner.FirstFault.{FirstFaultIsFound}
 use Rattle.facet_json_decode.proofs.CharAt.{found, utf8_at-encoded, utf8_at-leads}
-use Rattle.facet_json_decode.proofs.DecodeLaws.{Fronts, piece_at-fronts, escape_at-short_of, escape_at-unit_of, piece_at-piece, decodes-decoded}
+use Rattle.facet_json_decode.proofs.DecodeLaws.{BeginsWithPiece, piece_at-begins, escape_at-short_of, escape_at-unit_of, piece_at-piece, decodes-decoded}
 use Rattle.facet_json_decode.proofs.EscapeSteps.{short_of-none}
 
 -- ---- where no piece is found, the fault stands
@@ -245,7 +245,7 @@ fault_past-piece : (first others : List ℕ) (c passed : ℕ) → Piece first c 
     fault_past passed 0 (first ++ others) ≡ fault_past (passed + length first) 0 others
 unfolding fault_past
 fault_past-piece [] others c passed is =
-    absurd (omega (arith, (piece_at-fronts others c 0 (piece_at-piece [] c others is)).some))
+    absurd (omega (arith, (piece_at-begins others c 0 (piece_at-piece [] c others is)).some))
 fault_past-piece (b ∷ first) others c passed is =
     let size : suc (length first) - 1 ≡ length first = omega arith in
     let same : suc passed + length first ≡ passed + suc (length first) = omega arith in
@@ -323,9 +323,9 @@ text_or-by : (b : ℕ) (bytes : List ℕ) (o : Option (ℕ × ℕ)) → piece_at
     ((k : ℕ) → k ≤ length bytes → TextOr (drop k bytes)) → TextOr (b ∷ bytes)
 text_or-by b bytes None is later =
     let l = b ∷ bytes in inr (fault_of l, here l (fault_of l) (faulty l (omega arith) is))
-text_or-by b bytes (Some p) is later = by p.1 (piece_at-fronts (b ∷ bytes) p.0 p.1 is)
+text_or-by b bytes (Some p) is later = by p.1 (piece_at-begins (b ∷ bytes) p.0 p.1 is)
   where
-    by : (n : ℕ) → Fronts (b ∷ bytes) p.0 n → TextOr (b ∷ bytes)
+    by : (n : ℕ) → BeginsWithPiece (b ∷ bytes) p.0 n → TextOr (b ∷ bytes)
     by zero fronts = absurd (omega (arith, fronts.some))
     by (suc n) fronts =
         text_or-piece (take (suc n) (b ∷ bytes)) (drop n bytes) (b ∷ bytes) p.0 fronts.is_piece

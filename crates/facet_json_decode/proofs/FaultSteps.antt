@@ -24,15 +24,15 @@ use Rattle.facet_json_decode.proofs.FaultLaws.{faulty, fault_after-none, fault_a
 use Rattle.facet_json_decode.proofs.PlainText.{IsPlain, plain-parts, decoded-plain, Cuts, first_in_second, second_in_first, cuts, not-plain, EndsRun}
 
 -- A first fault comes after what stands for a text.
-fault-behind : (a b s : List ℕ) (f g : Fault) → Decodes a s → FirstFault b f → g ≡ fault_after (length a) f →
+fault-after_decoded : (a b s : List ℕ) (f g : Fault) → Decodes a s → FirstFault b f → g ≡ fault_after (length a) f →
     FirstFault (a ++ b) g
-fault-behind _ b _ f g empty is e = let same : f ≡ g = sym (fault_after-none f) ∙ sym e in rw same at is
-fault-behind _ b _ f g (piece first others content c rest text front behind e _) is same =
+fault-after_decoded _ b _ f g empty is e = let same : f ≡ g = sym (fault_after-none f) ∙ sym e in rw same at is
+fault-after_decoded _ b _ f g (piece first others content c rest text front behind e _) is same =
     let whole = ap (λ l. l ++ b) e ∙ append_assoc first others b in
     let size = ap length e ∙ length-append first others in
     let later = fault_after (length others) f in
     let place = same ∙ ap (λ n. fault_after n f) size ∙ fault_after-after (length first) (length others) f in
-    after first (others ++ b) (content ++ b) c later g front (fault-behind others b rest f later behind is refl) whole place
+    after first (others ++ b) (content ++ b) c later g front (fault-after_decoded others b rest f later behind is refl) whole place
 
 -- ---- a run that is no text
 
@@ -92,7 +92,7 @@ broken-run run rest n plain ends valid = by (drop n run) refl
         let place : n ≡ length front + 0 = omega arith in
         let read = decodes-decoded front front (decoded-plain front parts.0 valid.front) in
         let first =
-        fault-behind front ((b ∷ t) ++ rest) front (fault_at no_character 0 1) (fault_at no_character n 1) read own
+        fault-after_decoded front ((b ∷ t) ++ rest) front (fault_at no_character 0 1) (fault_at no_character n 1) read own
         (ap (λ k. fault_at no_character k 1) place) in
         let cut = sym (append_assoc front (b ∷ t) rest) ∙ ap (λ l. l ++ rest) whole in
         subst (λ l. FirstFault l (fault_at no_character n 1)) cut first
@@ -100,14 +100,14 @@ broken-run run rest n plain ends valid = by (drop n run) refl
 -- ---- steps
 
 -- What is told of the bytes from a place on is told of the whole content.
-told-behind : (buf out : List ℕ) (start at end : ℕ) (f : Fault) (e : ScanError) → start ≤ at → at ≤ end → end ≤ length buf →
+told-after_decoded : (buf out : List ℕ) (start at end : ℕ) (f : Fault) (e : ScanError) → start ≤ at → at ≤ end → end ≤ length buf →
     Decodes (slice_range buf start at) out → FirstFault (slice_range buf at end) f → scan_refusal e ≡ fault_refusal at f →
     TellsFirstFault (slice_range buf start end) start e
-told-behind buf out start at end f e a b h so_far is told =
+told-after_decoded buf out start at end f e a b h so_far is told =
     let front = slice_range buf start at in
     let size = length-between buf start at (omega arith) in
     let g = fault_after (length front) f in
-    let first = fault-behind front (slice_range buf at end) out f g so_far is refl in
+    let first = fault-after_decoded front (slice_range buf at end) out f g so_far is refl in
     let place : at + f.bytes.offset ≡ start + (length front + f.bytes.offset) = omega (arith, size) in
     record {
       fault = g;
@@ -124,7 +124,7 @@ step-broken buf out start at stop end e a b d h plain ends so_far s =
     let own =
     broken-run (slice_range buf at stop) (slice_range buf stop end) s.text_len plain (range-ends buf stop end h ends) s.stops in
     let first = rw (← range-append buf at stop end b d) at own in
-    told-behind buf out start at end (fault_at no_character s.text_len 1) e a (omega arith) h so_far first s.told
+    told-after_decoded buf out start at end (fault_at no_character s.text_len 1) e a (omega arith) h so_far first s.told
 
 -- Where no piece is found, the content is refused.
 pub step-lost : (buf out : List ℕ) (start stop end : ℕ) (e : ScanError) → start ≤ stop → stop < end → end ≤ length buf →
@@ -134,7 +134,7 @@ step-lost buf out start stop end e a b h lost told so_far =
     let rest = slice_range buf stop end in
     let some : 0 < length rest = omega (arith, length-between buf stop end h) in
     let own = here rest (fault_of rest) (faulty rest some lost) in
-    told-behind buf out start stop end (fault_of rest) e a (omega arith) h so_far own told
+    told-after_decoded buf out start stop end (fault_of rest) e a (omega arith) h so_far own told
 
 -- What is refused has no text.
 pub told-no_text : (content : List ℕ) (start : ℕ) (e : ScanError) → TellsFirstFault content start e → decoded content ≡ None

@@ -36,37 +36,37 @@ plain-other c plain = by (c == backslash) refl
         let same : list_any (λ b. b == backslash) (encode_utf8 c) ≡ true = rw (at, own) refl in
         cc
 
--- a text with this in prefix, where there is one
-abbrev pub behind : List ℕ → Option (List ℕ) → Option (List ℕ)
-behind front o = option_map (λ t. front ++ t) o
+-- a text with this in front, where there is one
+abbrev pub prefixed : List ℕ → Option (List ℕ) → Option (List ℕ)
+prefixed front o = option_map (λ t. front ++ t) o
 
--- Nothing in prefix leaves a text.
-behind-nothing : (o : Option (List ℕ)) → o ≡ behind [] o
-behind-nothing None = refl
-behind-nothing (Some t) = refl
+-- Nothing in front leaves a text.
+prefixed-nothing : (o : Option (List ℕ)) → o ≡ prefixed [] o
+prefixed-nothing None = refl
+prefixed-nothing (Some t) = refl
 
 -- Two prefixes are one.
-pub behind-behind : (a b : List ℕ) (o : Option (List ℕ)) → behind a (behind b o) ≡ behind (a ++ b) o
-behind-behind a b None = refl
-behind-behind a b (Some t) = ap Some (sym (append_assoc a b t))
+pub prefixed-prefixed : (a b : List ℕ) (o : Option (List ℕ)) → prefixed a (prefixed b o) ≡ prefixed (a ++ b) o
+prefixed-prefixed a b None = refl
+prefixed-prefixed a b (Some t) = ap Some (sym (append_assoc a b t))
 
 -- ---- a run that is text
 
 -- The characters of a plain run stand before the text of what follows.
 decoded-characters : (cs rest : List ℕ) → all_scalars cs ≡ true → IsPlain (encode_utf8_all cs) →
-    decoded (encode_utf8_all cs ++ rest) ≡ behind (encode_utf8_all cs) (decoded rest)
-decoded-characters [] rest are plain = behind-nothing (decoded rest)
+    decoded (encode_utf8_all cs ++ rest) ≡ prefixed (encode_utf8_all cs) (decoded rest)
+decoded-characters [] rest are plain = prefixed-nothing (decoded rest)
 decoded-characters (c ∷ cs) rest are plain =
     let is = and_parts (scalar c) (all_scalars cs) are in
     let parts = plain-parts (encode_utf8 c) (encode_utf8_all cs) plain in
     let first = itself c is.0 (plain-other c parts.0) in
     ap decoded (append_assoc (encode_utf8 c) (encode_utf8_all cs) rest)
     ∙ decoded-piece (encode_utf8 c) (encode_utf8_all cs ++ rest) c first
-    ∙ ap (behind (encode_utf8 c)) (decoded-characters cs rest is.1 parts.1)
-    ∙ behind-behind (encode_utf8 c) (encode_utf8_all cs) (decoded rest)
+    ∙ ap (prefixed (encode_utf8 c)) (decoded-characters cs rest is.1 parts.1)
+    ∙ prefixed-prefixed (encode_utf8 c) (encode_utf8_all cs) (decoded rest)
 
 -- A plain run of text stands before the text of what follows.
-pub decoded-run : (run rest : List ℕ) → IsPlain run → IsUtf8 run → decoded (run ++ rest) ≡ behind run (decoded rest)
+pub decoded-run : (run rest : List ℕ) → IsPlain run → IsUtf8 run → decoded (run ++ rest) ≡ prefixed run (decoded rest)
 decoded-run run rest plain is =
     let own = decoded-characters is.0 rest is.1.0 (rw is.1.1 plain) in
     rw is.1.1 at own

@@ -10,7 +10,7 @@ use Rattle.std.specs.Str.{IsCharBoundary}
 use Rattle.facet_format.specs.Bytes.{backslash, lower_u}
 use Rattle.facet_json_decode.specs.Decode.{short_escape, is_hex, code_unit, Piece, itself, short, other, unit, pair, piece_at}
 use Rattle.facet_json_decode.specs.Quoted.{IsQuoted}
-use Rattle.facet_json_decode.proofs.DecodeLaws.{piece_at-fronts}
+use Rattle.facet_json_decode.proofs.DecodeLaws.{piece_at-begins}
 use Rattle.facet_json_decode.proofs.DecodeSteps.{range-drop}
 use Rattle.facet_json_decode.proofs.EscapeSteps.{short_of-none}
 
@@ -67,7 +67,7 @@ pub found-IsUtf8 : (buf : List ℕ) (stop end c n : ℕ) → stop + n ≤ end �
     IsUtf8 (slice_range buf (stop + n) end)
 found-IsUtf8 buf stop end c n h found is =
     let l = slice_range buf stop end in
-    let front = piece_at-fronts l c n found in
+    let front = piece_at-begins l c n found in
     let seam = IsCharBoundary-from_take l n is front.within (piece-IsUtf8 (take n l) c front.is_piece) in
     rw (range-drop buf n stop end h) at (IsUtf8-drop l n is seam)
 

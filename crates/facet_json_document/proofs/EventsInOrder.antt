@@ -35,12 +35,12 @@ module _ (buffer : List ℕ) where
       IsSound buffer from (reads buffer stack stage ts)
 
   -- the same after a key, which ends there
-  abbrev SoundBehindKey : Tokens → Type 0
-  SoundBehindKey ts = (stack : List ContainerKind) (key : Token) → InOrder buffer (stop key.span) ts →
+  abbrev SoundAfterKey : Tokens → Type 0
+  SoundAfterKey ts = (stack : List ContainerKind) (key : Token) → InOrder buffer (stop key.span) ts →
       IsSound buffer (stop key.span) (reads_colon buffer stack key ts)
 
   turn-sound : (stack : List ContainerKind) (place : Place) (t : Token) (ts : Tokens) (way : Turn) (from : ℕ) → SoundFrom ts →
-      SoundBehindKey ts → InOrder buffer from (next t ts) → IsSound buffer from (follows buffer place t stack ts way)
+      SoundAfterKey ts → InOrder buffer from (next t ts) → IsSound buffer from (follows buffer place t stack ts way)
   turn-sound stack place t ts stops from h g o = sound_stuck from place (next t ts) o
   turn-sound stack place t ts (passes other) from h g (at_a_token _ _ _ b w more) =
       sound-weaker buffer _ (stop t.span) from (omega arith) (h stack (within other) (stop t.span) more)
@@ -72,7 +72,7 @@ module _ (buffer : List ℕ) where
         let here = turn-sound stack place t ts way from (reads-sound ts) (colon-sound ts) o in
         rw (reads-turn buffer stack place t ts way refl) here
 
-    colon-sound : (ts : Tokens) → SoundBehindKey ts
+    colon-sound : (ts : Tokens) → SoundAfterKey ts
     colon-sound ended stack key o = sound_stuck _ _ ended o
     colon-sound (refused f) stack key o = sound_stuck _ _ (refused f) o
     colon-sound (next mark ts) stack key o = mark-sound stack key mark ts (goes_on after_key mark.kind) (reads-sound ts) refl o

@@ -1,4 +1,4 @@
--- What comes, token by token; and that from the prefix of a value on its walk comes.
+-- What comes, token by token; and that from the start of a value on its walk comes.
 use Rattle.std.specs.Prelude.{ℕ, List}
 use Rattle.std.proofs.Common.{◌≡◌, ℕ, true, false, List, [], ◌∷◌, ◌++◌, Option, Some, None, refl, sym, ap, ◌∙◌}
 use Rattle.std.proofs.Math.Bool.{and-false}
@@ -22,7 +22,7 @@ use Rattle.facet_json_document.proofs.TreesOfParts.{list_meant, object_meant, it
 -- the places where a value may stand
 pub data TakesValue : Place → Type 0 where
   at_root : TakesValue root
-  behind_colon : TakesValue after_colon
+  of_member : TakesValue after_colon
   of_list : TakesValue before_item
 
 -- Events after events.
@@ -79,19 +79,19 @@ module _ (buffer : List ℕ) where
   scalar_here _ token.colon at e = cc
   scalar_here _ token.comma at e = cc
   scalar_here _ _ at_root e = refl
-  scalar_here _ _ behind_colon e = refl
+  scalar_here _ _ of_member e = refl
   scalar_here _ _ of_list e = refl
 
   -- So does a bracket that opens a list.
   pub array_here : (place : Place) → TakesValue place → place_turn place token.array_start ≡ says (event.sequence_start array)
   array_here _ at_root = refl
-  array_here _ behind_colon = refl
+  array_here _ of_member = refl
   array_here _ of_list = refl
 
   -- So does one that opens an object.
   pub object_here : (place : Place) → TakesValue place → place_turn place token.object_start ≡ says (event.struct_start object)
   object_here _ at_root = refl
-  object_here _ behind_colon = refl
+  object_here _ of_member = refl
   object_here _ of_list = refl
 
   -- ---- each token at its place
@@ -238,7 +238,7 @@ module _ (buffer : List ℕ) where
   mutual
     unfolding tree_of walk
 
-    -- From the prefix of a value on its walk comes, then what comes after a value.
+    -- From the start of a value on its walk comes, then what comes after a value.
     pub walk-comes : {ts rest : Tokens} {node : Node} (value : Tree) → Spells ts node rest → tree_of buffer node ≡ Some value →
         (stack : List ContainerKind) (place : Place) → TakesValue place →
         reads buffer stack (within place) ts ≡ events_before (walk buffer node) (reads buffer stack (after_value stack) rest)
@@ -284,13 +284,13 @@ module _ (buffer : List ℕ) where
     members-come values (member_and_comma ts others rest key mark node members separator last i c s k more) e stack =
         let all = member_meant buffer key mark node members values e in
         reads-key buffer (object ∷ stack) key mark ts all.0 i all.3 c
-        ∙ ap (gives (key_event buffer key mark)) (walk-comes all.1 s all.4 (object ∷ stack) after_colon behind_colon
+        ∙ ap (gives (key_event buffer key mark)) (walk-comes all.1 s all.4 (object ∷ stack) after_colon of_member
         ∙ ap (events_before (walk buffer node)) (reads-member_comma buffer (object ∷ stack) separator others k ∙ members-come all.2 more all.5 stack)
         ∙ sym (events_before-append (walk buffer node) (walk_members buffer members) _))
     members-come values (last_member ts rest key mark node last i c s k) e stack =
         let all = member_meant buffer key mark node no_members values e in
         reads-key buffer (object ∷ stack) key mark ts all.0 i all.3 c
-        ∙ ap (gives (key_event buffer key mark)) (walk-comes all.1 s all.4 (object ∷ stack) after_colon behind_colon
+        ∙ ap (gives (key_event buffer key mark)) (walk-comes all.1 s all.4 (object ∷ stack) after_colon of_member
         ∙ ap (events_before (walk buffer node)) (reads-member_end buffer object stack last rest k)
         ∙ sym (events_before-append (walk buffer node) [] _))
 

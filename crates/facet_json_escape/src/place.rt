@@ -17,7 +17,7 @@ pub(crate) fn place_byte(buffer: &mut [u8], at: usize, byte: u8, wanted: bool) -
 
 /// Writes the first bytes of a text by one load and one store.
 #[inline(always)]
-fn place_front<const N: usize>(buffer: &mut [u8], at: usize, text: &[u8]) -> usize
+fn place_first<const N: usize>(buffer: &mut [u8], at: usize, text: &[u8]) -> usize
     requires { (N ≤ length text.now) × (at + N ≤ length buffer.old) }
     ensures { Placed buffer.old buffer.new at (take N text.now) result }
 {
@@ -33,8 +33,8 @@ fn place_ends<const N: usize>(buffer: &mut [u8], at: usize, text: &[u8]) -> usiz
     ensures { Placed buffer.old buffer.new at text.now result }
 {
     let last = text.len() - N;
-    place_front::<N>(buffer, at, text);
-    place_front::<N>(buffer, at + last, &text[last..])
+    place_first::<N>(buffer, at, text);
+    place_first::<N>(buffer, at + last, &text[last..])
 }
 
 /// Writes a text of up to 32 bytes.
@@ -54,7 +54,7 @@ pub(crate) fn place_short(buffer: &mut [u8], at: usize, text: &[u8]) -> usize
     } else if len >= 2 {
         place_ends::<2>(buffer, at, text)
     } else if len == 1 {
-        place_front::<1>(buffer, at, text)
+        place_first::<1>(buffer, at, text)
     } else {
         at
     }

@@ -78,7 +78,7 @@ fn keys_and_ends_are_no_raw_text(rt: HostRuntime) {
 }
 
 #[test]
-fn nothing_is_read_behind_the_document(rt: HostRuntime) {
+fn nothing_is_read_after_the_document(rt: HostRuntime) {
     let ended = DeserializeError {
         kind: DeserializeErrorKind::UnexpectedEof { expected: "value" },
         span: Some(Span::new(1, 0)),

@@ -13,7 +13,7 @@ abbrev pub message : WriteError → Option (List ℕ)
 message Memory = Some (codes "out of memory")
 message (Io error) = None
 
--- It is the writer's own error, and no want of memory.
+-- It is the writer's own error, and not out of memory.
 abbrev pub IsIo : WriteError → Type 0
 IsIo Memory = ⊥
 IsIo (Io error) = Unit {0}

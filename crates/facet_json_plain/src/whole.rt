@@ -4,7 +4,7 @@ ghost use Rattle.std.specs.Prelude.{◌≡◌, ◌≢◌, ◌==◌, ◌||◌, �
 ghost use Rattle.std.specs.Simd.Lanes.{mask_l};
 ghost use Rattle.facet_format.specs.Bytes.{minus, dot, is_exponent_mark};
 ghost use Rattle.facet_format.specs.Views.{scalar_value_of};
-ghost use Rattle.facet_format.specs.Window.{is_no_digit};
+ghost use Rattle.facet_format.specs.Inner.Window.{is_no_digit};
 ghost use Rattle.facet_json_token.specs.Cut.{start_of, opens_number};
 ghost use Rattle.facet_json_plain.specs.Inner.Whole.{IsWhole};
 ghost use Rattle.facet_json_plain.specs.Values.{IsScalarThere};

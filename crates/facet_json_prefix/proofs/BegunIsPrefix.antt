@@ -32,42 +32,42 @@ any_token kind = record { kind = kind; span = span_at 0 0 }
 module _ (buffer : List ℕ) where
   -- The prefix's tokens are these, in which its events end, and with some after them they spell a value with a meaning.
   pub record Completed (ts rest : Tokens) (events : List Passed) : Type 0 where
-    pub front : List Token
+    pub prefix : List Token
     pub back : List Token
     pub node : Node
     pub value : Tree
-    pub here : ts ≡ tokens_before front rest
-    pub anywhere : (other : Tokens) → Spells (tokens_before front (tokens_before back other)) node other
+    pub here : ts ≡ tokens_before prefix rest
+    pub anywhere : (other : Tokens) → Spells (tokens_before prefix (tokens_before back other)) node other
     pub has_tree : tree_of buffer node ≡ Some value
-    pub ends : All (EndsAmong front) events
+    pub ends : All (EndsAmong prefix) events
 
   pub record ListCompleted (ts rest : Tokens) (events : List Passed) : Type 0 where
-    pub front : List Token
+    pub prefix : List Token
     pub back : List Token
     pub nodes : Nodes
     pub last : Token
     pub values : Trees
-    pub here : ts ≡ tokens_before front rest
-    pub anywhere : (other : Tokens) → SpellsItems (tokens_before front (tokens_before back other)) nodes last other
+    pub here : ts ≡ tokens_before prefix rest
+    pub anywhere : (other : Tokens) → SpellsItems (tokens_before prefix (tokens_before back other)) nodes last other
     pub has_trees : trees_of buffer nodes ≡ Some values
-    pub ends : All (EndsAmong front) events
+    pub ends : All (EndsAmong prefix) events
 
   pub record ObjectCompleted (ts rest : Tokens) (events : List Passed) : Type 0 where
-    pub front : List Token
+    pub prefix : List Token
     pub back : List Token
     pub members : Members
     pub last : Token
     pub values : Pairs
-    pub here : ts ≡ tokens_before front rest
-    pub anywhere : (other : Tokens) → SpellsMembers (tokens_before front (tokens_before back other)) members last other
+    pub here : ts ≡ tokens_before prefix rest
+    pub anywhere : (other : Tokens) → SpellsMembers (tokens_before prefix (tokens_before back other)) members last other
     pub has_pairs : pairs_of buffer members ≡ Some values
-    pub ends : All (EndsAmong front) events
+    pub ends : All (EndsAmong prefix) events
 
   -- Nothing is completed by a null.
   null_completes : (ts : Tokens) → Completed ts ts []
   unfolding tree_of
   null_completes ts = record {
-    front = [];
+    prefix = [];
     back = any_token token.null ∷ [];
     node = scalar (any_token token.null);
     value = trees.null;
@@ -84,13 +84,13 @@ module _ (buffer : List ℕ) where
       let end = any_token token.array_end in
       let has = c.has_tree in
       record {
-        front = c.front;
+        prefix = c.prefix;
         back = c.back ++ end ∷ [];
         nodes = item c.node no_nodes;
         last = end;
         values = trees.tree c.value no_trees;
         here = c.here;
-        anywhere = λ other. rw (before-append c.back (end ∷ []) other) (last_item (tokens_before c.front (tokens_before c.back (next end other))) other c.node end (c.anywhere (next end other)) refl);
+        anywhere = λ other. rw (before-append c.back (end ∷ []) other) (last_item (tokens_before c.prefix (tokens_before c.back (next end other))) other c.node end (c.anywhere (next end other)) refl);
         has_trees = rw has refl;
         ends = c.ends;
       }
@@ -104,15 +104,15 @@ module _ (buffer : List ℕ) where
       let end = any_token token.object_end in
       let has = c.has_tree in
       record {
-        front = key ∷ mark ∷ c.front;
+        prefix = key ∷ mark ∷ c.prefix;
         back = c.back ++ end ∷ [];
         members = member key mark c.node no_members;
         last = end;
         values = trees.pair name c.value no_pairs;
         here = ap (λ r. next key (next mark r)) c.here;
-        anywhere = λ other. rw (before-append c.back (end ∷ []) other) (last_member (tokens_before c.front (tokens_before c.back (next end other))) other key mark c.node end k p (c.anywhere (next end other)) refl);
+        anywhere = λ other. rw (before-append c.back (end ∷ []) other) (last_member (tokens_before c.prefix (tokens_before c.back (next end other))) other key mark c.node end k p (c.anywhere (next end other)) refl);
         has_pairs = rw (n, has) refl;
-        ends = ends-key buffer key mark c.front events c.ends;
+        ends = ends-key buffer key mark c.prefix events c.ends;
       }
 
   mutual
@@ -125,7 +125,7 @@ module _ (buffer : List ℕ) where
     begun-completes (whole place after ts rest node value s t) =
         let by = spelled_by buffer s in
         record {
-          front = by.own;
+          prefix = by.own;
           back = [];
           node = node;
           value = value;
@@ -138,27 +138,27 @@ module _ (buffer : List ℕ) where
         let c = list-completes b in
         let has = c.has_trees in
         record {
-          front = first ∷ c.front;
+          prefix = first ∷ c.prefix;
           back = c.back;
           node = shapes.array first c.last c.nodes;
           value = trees.list c.values;
           here = ap (next first) c.here;
-          anywhere = λ other. brackets first c.last (tokens_before c.front (tokens_before c.back other)) other c.nodes k (c.anywhere other);
+          anywhere = λ other. brackets first c.last (tokens_before c.prefix (tokens_before c.back other)) other c.nodes k (c.anywhere other);
           has_tree = rw has refl;
-          ends = ends-first first c.front _ events c.ends;
+          ends = ends-first first c.prefix _ events c.ends;
         }
     begun-completes (in_object place after here first inner rest events k b) =
         let c = object-completes b in
         let has = c.has_pairs in
         record {
-          front = first ∷ c.front;
+          prefix = first ∷ c.prefix;
           back = c.back;
           node = shapes.object first c.last c.members;
           value = trees.pairs c.values;
           here = ap (next first) c.here;
-          anywhere = λ other. braces first c.last (tokens_before c.front (tokens_before c.back other)) other c.members k (c.anywhere other);
+          anywhere = λ other. braces first c.last (tokens_before c.prefix (tokens_before c.back other)) other c.members k (c.anywhere other);
           has_tree = rw has refl;
-          ends = ends-first first c.front _ events c.ends;
+          ends = ends-first first c.prefix _ events c.ends;
         }
 
     pub list-completes : {here : Stage} {ts rest : Tokens} {events : List Passed} → ListBegun buffer ts events here rest →
@@ -169,15 +169,15 @@ module _ (buffer : List ℕ) where
         let c = list-completes b in
         let has = c.has_trees in
         record {
-          front = by.own ++ separator ∷ c.front;
+          prefix = by.own ++ separator ∷ c.prefix;
           back = c.back;
           nodes = item node c.nodes;
           last = c.last;
           values = trees.tree value c.values;
-          here = by.here ∙ ap (λ r. tokens_before by.own (next separator r)) c.here ∙ sym (before-append by.own (separator ∷ c.front) rest);
-          anywhere = λ other. rw (before-append by.own (separator ∷ c.front) (tokens_before c.back other)) (item_and_comma (tokens_before by.own (next separator (tokens_before c.front (tokens_before c.back other)))) (tokens_before c.front (tokens_before c.back other)) other node c.nodes separator c.last (by.anywhere (next separator (tokens_before c.front (tokens_before c.back other)))) k (c.anywhere other));
+          here = by.here ∙ ap (λ r. tokens_before by.own (next separator r)) c.here ∙ sym (before-append by.own (separator ∷ c.prefix) rest);
+          anywhere = λ other. rw (before-append by.own (separator ∷ c.prefix) (tokens_before c.back other)) (item_and_comma (tokens_before by.own (next separator (tokens_before c.prefix (tokens_before c.back other)))) (tokens_before c.prefix (tokens_before c.back other)) other node c.nodes separator c.last (by.anywhere (next separator (tokens_before c.prefix (tokens_before c.back other)))) k (c.anywhere other));
           has_trees = rw (t, has) refl;
-          ends = All-same (EndsAmong (by.own ++ separator ∷ c.front)) total (walk buffer node ++ events) a (ends-join by.own c.front separator (walk buffer node) events by.ends c.ends);
+          ends = All-same (EndsAmong (by.own ++ separator ∷ c.prefix)) total (walk buffer node ++ events) a (ends-join by.own c.prefix separator (walk buffer node) events by.ends c.ends);
         }
 
     pub object-completes : {here : Stage} {ts rest : Tokens} {events : List Passed} → ObjectBegun buffer ts events here rest →
@@ -185,7 +185,7 @@ module _ (buffer : List ℕ) where
     object-completes (no_key ts) =
         let end = any_token token.object_end in
         record {
-          front = [];
+          prefix = [];
           back = end ∷ [];
           members = no_members;
           last = end;
@@ -200,7 +200,7 @@ module _ (buffer : List ℕ) where
         let c = member_completes key mark rest rest name [] k n refl (null_completes rest) in
         let has = c.has_pairs in
         record {
-          front = key ∷ [];
+          prefix = key ∷ [];
           back = mark ∷ c.back;
           members = c.members;
           last = c.last;
@@ -217,15 +217,15 @@ module _ (buffer : List ℕ) where
         let c = object-completes b in
         let has = c.has_pairs in
         record {
-          front = key ∷ mark ∷ by.own ++ separator ∷ c.front;
+          prefix = key ∷ mark ∷ by.own ++ separator ∷ c.prefix;
           back = c.back;
           members = member key mark node c.members;
           last = c.last;
           values = trees.pair name value c.values;
-          here = ap (λ r. next key (next mark r)) (by.here ∙ ap (λ r. tokens_before by.own (next separator r)) c.here ∙ sym (before-append by.own (separator ∷ c.front) rest));
-          anywhere = λ other. rw (before-append by.own (separator ∷ c.front) (tokens_before c.back other)) (member_and_comma (tokens_before by.own (next separator (tokens_before c.front (tokens_before c.back other)))) (tokens_before c.front (tokens_before c.back other)) other key mark node c.members separator c.last k p (by.anywhere (next separator (tokens_before c.front (tokens_before c.back other)))) q (c.anywhere other));
+          here = ap (λ r. next key (next mark r)) (by.here ∙ ap (λ r. tokens_before by.own (next separator r)) c.here ∙ sym (before-append by.own (separator ∷ c.prefix) rest));
+          anywhere = λ other. rw (before-append by.own (separator ∷ c.prefix) (tokens_before c.back other)) (member_and_comma (tokens_before by.own (next separator (tokens_before c.prefix (tokens_before c.back other)))) (tokens_before c.prefix (tokens_before c.back other)) other key mark node c.members separator c.last k p (by.anywhere (next separator (tokens_before c.prefix (tokens_before c.back other)))) q (c.anywhere other));
           has_pairs = rw (n, t, has) refl;
-          ends = All-same (EndsAmong (key ∷ mark ∷ by.own ++ separator ∷ c.front)) total (key_event buffer key mark ∷ walk buffer node ++ events) a (ends-key buffer key mark (by.own ++ separator ∷ c.front) (walk buffer node ++ events) (ends-join by.own c.front separator (walk buffer node) events by.ends c.ends));
+          ends = All-same (EndsAmong (key ∷ mark ∷ by.own ++ separator ∷ c.prefix)) total (key_event buffer key mark ∷ walk buffer node ++ events) a (ends-key buffer key mark (by.own ++ separator ∷ c.prefix) (walk buffer node ++ events) (ends-join by.own c.prefix separator (walk buffer node) events by.ends c.ends));
         }
 
 -- ---- what begins a spelling
@@ -384,14 +384,14 @@ module _ (buffer : List ℕ) where
 pub begun_is_prefix : BegunIsPrefix
 begun_is_prefix buffer ts rest events here b =
     let c = begun-completes buffer b in
-    (c.front, c.back, c.node, c.value, c.here, c.anywhere, c.has_tree)
+    (c.prefix, c.back, c.node, c.value, c.here, c.anywhere, c.has_tree)
 
 -- Tokens stand before their rest.
-pub before-suffix : (front : List Token) (rest : Tokens) → IsSuffix (tokens_before front rest) rest
+pub before-suffix : (prefix : List Token) (rest : Tokens) → IsSuffix (tokens_before prefix rest) rest
 before-suffix [] rest = all rest
-before-suffix (t ∷ front) rest = later t (tokens_before front rest) rest (before-suffix front rest)
+before-suffix (t ∷ prefix) rest = later t (tokens_before prefix rest) rest (before-suffix prefix rest)
 
 -- A prefix of the spelling of a value begins a document.
 pub prefix_is_begun : PrefixIsBegun
-prefix_is_begun buffer front back other node value s t =
-    spelled-begins buffer value (tokens_before back other) root over s t (before-suffix front (tokens_before back other)) (before-suffix back other)
+prefix_is_begun buffer prefix back other node value s t =
+    spelled-begins buffer value (tokens_before back other) root over s t (before-suffix prefix (tokens_before back other)) (before-suffix back other)

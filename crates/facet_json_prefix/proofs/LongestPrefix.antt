@@ -17,7 +17,7 @@ use Rattle.facet_json_document.specs.Walk.{event_at, key_event, walk}
 use Rattle.facet_json_document.specs.Future.{Future, gives, finished, stuck, events_before, Stage, within, over, after_value, stack_after, stage_after, turn, reads, reads_colon}
 use Rattle.facet_json_prefix.specs.Begun.{Begun, nothing, whole, in_list, in_object, ListBegun, begins_item, past_item, ObjectBegun, no_key, key_alone, begins_member, past_member, BegunDocument, LongestPrefix}
 use Rattle.facet_json_prefix.specs.EventLaws.{RootComes, document_comes, prefix_comes, InputComes, OneGiven}
-use Rattle.facet_json_document.proofs.WalkComes.{TakesValue, at_root, behind_colon, of_list, events_before-append, follows, reads-turn, reads-array, reads-object, reads-item_comma, reads-member_comma, reads-key, reads-names, walk-comes, document-comes}
+use Rattle.facet_json_document.proofs.WalkComes.{TakesValue, at_root, of_member, of_list, events_before-append, follows, reads-turn, reads-array, reads-object, reads-item_comma, reads-member_comma, reads-key, reads-names, walk-comes, document-comes}
 use Rattle.facet_json_prefix.proofs.ValueOrPrefix.{ValueComes, value_stands, value_stops, root-comes}
 
 -- ---- what comes after a prefix
@@ -35,9 +35,9 @@ pub record Leads (buffer : List ℕ) (start : Future) (events : List Passed) (he
   pub from : IsReadAt buffer behind here rest
 
 -- The same after further events.
-leads_behind : (buffer : List ℕ) (before : List Passed) (first start : Future) (events total : List Passed) (here : Stage) (rest : Tokens) →
+leads_after : (buffer : List ℕ) (before : List Passed) (first start : Future) (events total : List Passed) (here : Stage) (rest : Tokens) →
     first ≡ events_before before start → total ≡ before ++ events → Leads buffer start events here rest → Leads buffer first total here rest
-leads_behind buffer before first start events total here rest e a l = record {
+leads_after buffer before first start events total here rest e a l = record {
   behind = l.behind;
   comes = e ∙ ap (events_before before) l.comes ∙ sym (events_before-append before events l.behind) ∙ ap (λ es. events_before es l.behind) (sym a);
   from = l.from;
@@ -45,7 +45,7 @@ leads_behind buffer before first start events total here rest e a l = record {
 
 module _ (buffer : List ℕ) where
   mutual
-    -- From the prefix of a begun value on its events come.
+    -- From the start of a begun value on its events come.
     pub begun-leads : (stack : List ContainerKind) {place : Place} {after here : Stage} {ts rest : Tokens} {events : List Passed} →
         Begun buffer place after ts events here rest → TakesValue place → after ≡ after_value stack →
         Leads buffer (reads buffer stack (within place) ts) events here rest
@@ -57,15 +57,15 @@ module _ (buffer : List ℕ) where
       from = at_stage stack (ap (λ s. reads buffer stack s rest) (sym e));
     }
     begun-leads stack (in_list place after here first inner rest events k b) at e =
-        leads_behind buffer (event_at (event.sequence_start array) first ∷ []) _ _ events _ here rest (reads-array buffer stack place first inner at k) refl (list-leads stack b)
+        leads_after buffer (event_at (event.sequence_start array) first ∷ []) _ _ events _ here rest (reads-array buffer stack place first inner at k) refl (list-leads stack b)
     begun-leads stack (in_object place after here first inner rest events k b) at e =
-        leads_behind buffer (event_at (event.struct_start object) first ∷ []) _ _ events _ here rest (reads-object buffer stack place first inner at k) refl (object-leads stack b)
+        leads_after buffer (event_at (event.struct_start object) first ∷ []) _ _ events _ here rest (reads-object buffer stack place first inner at k) refl (object-leads stack b)
 
     list-leads : (stack : List ContainerKind) {here : Stage} {ts rest : Tokens} {events : List Passed} →
         ListBegun buffer ts events here rest → Leads buffer (reads buffer (array ∷ stack) (within before_item) ts) events here rest
     list-leads stack (begins_item ts rest events here b) = begun-leads (array ∷ stack) b of_list refl
     list-leads stack (past_item ts others rest node value separator events total here s t k b a) =
-        leads_behind buffer (walk buffer node) _ _ events total here rest
+        leads_after buffer (walk buffer node) _ _ events total here rest
         (walk-comes buffer value s t (array ∷ stack) before_item of_list ∙ ap (events_before (walk buffer node)) (reads-item_comma buffer (array ∷ stack) separator others k))
         a (list-leads stack b)
 
@@ -79,11 +79,11 @@ module _ (buffer : List ℕ) where
       from = at_key (object ∷ stack) key refl refl;
     }
     object-leads stack (begins_member key mark ts rest name events here k n c b) =
-        leads_behind buffer (key_event buffer key mark ∷ []) _ _ events _ here rest (reads-key buffer (object ∷ stack) key mark ts name k n c) refl (begun-leads (object ∷ stack) b behind_colon refl)
+        leads_after buffer (key_event buffer key mark ∷ []) _ _ events _ here rest (reads-key buffer (object ∷ stack) key mark ts name k n c) refl (begun-leads (object ∷ stack) b of_member refl)
     object-leads stack (past_member key mark ts others rest name node value separator events total here k n c s t p b a) =
-        leads_behind buffer (key_event buffer key mark ∷ walk buffer node) _ _ events total here rest
+        leads_after buffer (key_event buffer key mark ∷ walk buffer node) _ _ events total here rest
         (reads-key buffer (object ∷ stack) key mark ts name k n c
-        ∙ ap (gives (key_event buffer key mark)) (walk-comes buffer value s t (object ∷ stack) after_colon behind_colon
+        ∙ ap (gives (key_event buffer key mark)) (walk-comes buffer value s t (object ∷ stack) after_colon of_member
         ∙ ap (events_before (walk buffer node)) (reads-member_comma buffer (object ∷ stack) separator others p)))
         a (object-leads stack b)
 
@@ -95,8 +95,8 @@ module _ (buffer : List ℕ) where
       reads buffer stack stage ts ≡ events_before events (stuck here rest) → count rest + length events ≤ count ts
 
   -- the same after a key
-  abbrev pub EndsBehindKey : Tokens → Type 0
-  EndsBehindKey ts = (stack : List ContainerKind) (key : Token) (events : List Passed) (here : Place) (rest : Tokens) →
+  abbrev pub EndsAfterKey : Tokens → Type 0
+  EndsAfterKey ts = (stack : List ContainerKind) (key : Token) (events : List Passed) (here : Place) (rest : Tokens) →
       reads_colon buffer stack key ts ≡ events_before events (stuck here rest) → count rest + length events ≤ count ts
 
   -- Where nothing is given, all tokens are left.
@@ -106,7 +106,7 @@ module _ (buffer : List ℕ) where
       omega (arith, ap count same)
 
   turn-count : (stack : List ContainerKind) (place : Place) (t : Token) (ts : Tokens) (way : Turn) → EndsAmong ts →
-      EndsBehindKey ts → (events : List Passed) (here : Place) (rest : Tokens) →
+      EndsAfterKey ts → (events : List Passed) (here : Place) (rest : Tokens) →
       follows buffer place t stack ts way ≡ events_before events (stuck here rest) → count rest + length events ≤ suc (count ts)
   turn-count stack place t ts stops h g [] here rest e = none_given (next t ts) rest place here e
   turn-count stack place t ts stops h g (p ∷ events) here rest e = cc
@@ -154,7 +154,7 @@ module _ (buffer : List ℕ) where
         turn-count stack place t ts (turn buffer place t) (stuck-count ts) (colon-count ts) events here rest
         (sym (reads-turn buffer stack place t ts (turn buffer place t) refl) ∙ e)
 
-    pub colon-count : (ts : Tokens) → EndsBehindKey ts
+    pub colon-count : (ts : Tokens) → EndsAfterKey ts
     colon-count ended stack key [] here rest e = none_given ended rest after_key here e
     colon-count ended stack key (p ∷ events) here rest e = cc
     colon-count (refused f) stack key [] here rest e = none_given (refused f) rest after_key here e
@@ -244,11 +244,11 @@ stuck-longest buffer ts events here rest begun e =
 pub longest-once : (buffer : List ℕ) (ts : Tokens) (events others : List Passed) (here there : Place) (rest left : Tokens) →
     BegunDocument buffer ts events (within here) rest → reads buffer [] (within root) ts ≡ events_before events (stuck here rest) →
     LongestPrefix buffer ts others there left → (others ≡ events) × (there ≡ here) × (left ≡ rest)
-longest-once buffer ts events others here there rest left begun e front =
-    let leads = begun-leads buffer [] front.begun at_root refl in
+longest-once buffer ts events others here there rest left begun e prefix =
+    let leads = begun-leads buffer [] prefix.begun at_root refl in
     let more = tail-stuck others events leads.behind here rest (sym leads.comes ∙ e) in
     let fewer = from-count buffer leads.behind (within there) left leads.from more.0 here rest more.1 in
-    let shortest = front.longest events (within here) rest begun in
+    let shortest = prefix.longest events (within here) rest begun in
     let none = no_more (count rest) more.0 (omega arith) in
     let halts = more.1 ∙ ap (λ x. events_before x (stuck here rest)) none in
     let from = subst (λ f. IsReadAt buffer f (within there) left) halts leads.from in
@@ -298,6 +298,6 @@ front-walk buffer ts mid rest node value events here b s t =
 pub one_given : OneGiven
 one_given buffer mode none = elim (input-comes buffer mode) [
   | document_comes node value d e ↦ absurd (none node value d)
-  | prefix_comes events here rest front e ↦
-      (events, here, rest, front, λ others there left. longest-once buffer (tokens buffer mode) events others here there rest left front.begun e)
+  | prefix_comes events here rest prefix e ↦
+      (events, here, rest, prefix, λ others there left. longest-once buffer (tokens buffer mode) events others here there rest left prefix.begun e)
 ]

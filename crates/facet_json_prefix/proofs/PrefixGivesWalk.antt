@@ -33,23 +33,23 @@ before-same (t ∷ a) (u ∷ b) rest e =
     cc
 
 -- Tokens in order end by some offset, after which the others stand.
-record EndBy (buffer : List ℕ) (from : ℕ) (front : List Token) (mid : Tokens) : Type 0 where
+record EndBy (buffer : List ℕ) (from : ℕ) (prefix : List Token) (mid : Tokens) : Type 0 where
   end : ℕ
   later : from ≤ end
   behind : InOrder buffer end mid
-  own : All (λ t. stop t.span ≤ end) front
+  own : All (λ t. stop t.span ≤ end) prefix
 
-end_by : (buffer : List ℕ) (from : ℕ) (front : List Token) (mid : Tokens) → InOrder buffer from (tokens_before front mid) →
-    EndBy buffer from front mid
+end_by : (buffer : List ℕ) (from : ℕ) (prefix : List Token) (mid : Tokens) → InOrder buffer from (tokens_before prefix mid) →
+    EndBy buffer from prefix mid
 end_by buffer from [] mid o = record { end = from; later = omega arith; behind = o; own = All-nil (λ t. stop t.span ≤ from) }
-end_by buffer from (t ∷ front) mid (at_a_token _ _ _ b w more) =
-    let found = end_by buffer (stop t.span) front mid more in
+end_by buffer from (t ∷ prefix) mid (at_a_token _ _ _ b w more) =
+    let found = end_by buffer (stop t.span) prefix mid more in
     let later = found.later in
     record {
       end = found.end;
       later = omega arith;
       behind = found.behind;
-      own = All-cons (λ u. stop u.span ≤ found.end) t front later found.own;
+      own = All-cons (λ u. stop u.span ≤ found.end) t prefix later found.own;
     }
 
 -- ---- events after an offset
@@ -126,22 +126,22 @@ module _ (buffer : List ℕ) where
 -- ---- the law
 
 -- Events that end after all of these tokens end in none of them.
-ends-elsewhere : (front : List Token) (end : ℕ) (events : List Passed) → All (λ t. stop t.span ≤ end) front →
-    All (λ p. end < stop p.last) events → All (λ p. EndsAmong front p → ⊥) events
-ends-elsewhere front end events own later =
-    All-weaker (λ p. end < stop p.last) (λ p. EndsAmong front p → ⊥)
-    (λ p after ends. omega (arith, after, All-contains (λ t. stop t.span ≤ end) front ends.0 own ends.1, ap stop ends.2)) events later
+ends-elsewhere : (prefix : List Token) (end : ℕ) (events : List Passed) → All (λ t. stop t.span ≤ end) prefix →
+    All (λ p. end < stop p.last) events → All (λ p. EndsAmong prefix p → ⊥) events
+ends-elsewhere prefix end events own later =
+    All-weaker (λ p. end < stop p.last) (λ p. EndsAmong prefix p → ⊥)
+    (λ p after ends. omega (arith, after, All-contains (λ t. stop t.span ≤ end) prefix ends.0 own ends.1, ap stop ends.2)) events later
 
 pub prefix_gives_walk : PrefixGivesWalk
-prefix_gives_walk buffer mode front mid rest node value events here b s t =
-    let found = front-walk buffer (tokens_before front mid) mid rest node value events here b s t in
+prefix_gives_walk buffer mode prefix mid rest node value events here b s t =
+    let found = front-walk buffer (tokens_before prefix mid) mid rest node value events here b s t in
     let c = begun-completes buffer b in
-    let own = sym (before-same front c.front mid c.here) in (
+    let own = sym (before-same prefix c.prefix mid c.here) in (
       found.0,
       found.1,
       subst (λ ts. All (EndsAmong ts) events) own c.ends,
       λ e.
-          (let order = end_by buffer 0 front mid (subst (InOrder buffer 0) e (tokens-in_order buffer mode 0 (omega arith))) in
-          ends-elsewhere front order.end found.0 order.own
+          (let order = end_by buffer 0 prefix mid (subst (InOrder buffer 0) e (tokens-in_order buffer mode 0 (omega arith))) in
+          ends-elsewhere prefix order.end found.0 order.own
           (later-events order.end found.0 (read-later buffer (events_before found.0 finished) here mid order.end order.behind found.2))),
     )

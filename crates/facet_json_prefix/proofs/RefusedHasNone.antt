@@ -30,7 +30,7 @@ pub refused-comes : {buffer : List ℕ} {mode : Mode} {events : List Passed} {re
     (r : RefusesAfter buffer mode events refusal) →
     reads buffer [] (within root) (tokens buffer mode) ≡ events_before events (stuck r.here r.rest)
 refused-comes {buffer = buffer} {events = events} r =
-    let leads = begun-leads buffer [] r.front.begun at_root refl in
+    let leads = begun-leads buffer [] r.prefix.begun at_root refl in
     leads.comes ∙ ap (events_before events) (read-stuck leads.from r.stuck)
 
 -- What is stuck doesn't finish.

@@ -12,7 +12,7 @@ refused_in_one_way buffer mode r s first second =
     let a = first.after in
     let b = second.after in
     let same =
-    longest-once buffer (tokens buffer mode) second.events first.events b.here a.here b.rest a.rest b.front.begun (refused-comes b)
-    a.front in
+    longest-once buffer (tokens buffer mode) second.events first.events b.here a.here b.rest a.rest b.prefix.begun (refused-comes b)
+    a.prefix in
     let there : IsStuck buffer b.here b.rest r = rw (same.1, same.2) at a.stuck in
     stuck-once buffer b.here b.rest r s there b.stuck

@@ -82,13 +82,13 @@ module _ (buffer : List ℕ) where
   stops_by place t rest false e s = never_by place t rest false e (ap leads_on s)
 
   -- Wherever these tokens are stuck at the end, some refusal is allowed.
-  abbrev Halts : Tokens → Type 0
-  Halts ts = (stack : List ContainerKind) (stage : Stage) (events : List Passed) (here : Place) (rest : Tokens) →
+  abbrev StuckRefuses : Tokens → Type 0
+  StuckRefuses ts = (stack : List ContainerKind) (stage : Stage) (events : List Passed) (here : Place) (rest : Tokens) →
       reads buffer stack stage ts ≡ events_before events (stuck here rest) → IsRefusable buffer here rest
 
   -- the same after a key
-  abbrev HaltsBehindKey : Tokens → Type 0
-  HaltsBehindKey ts = (stack : List ContainerKind) (key : Token) (events : List Passed) (here : Place) (rest : Tokens) →
+  abbrev StuckAfterKeyRefuses : Tokens → Type 0
+  StuckAfterKeyRefuses ts = (stack : List ContainerKind) (key : Token) (events : List Passed) (here : Place) (rest : Tokens) →
       reads_colon buffer stack key ts ≡ events_before events (stuck here rest) → IsRefusable buffer here rest
 
   -- What is stuck at one place is stuck at no other.
@@ -96,39 +96,39 @@ module _ (buffer : List ℕ) where
       IsRefusable buffer here rest
   there place here ts rest e r =
       let places : place ≡ here = cc in
-      let fronts : ts ≡ rest = cc in
-      rw (places, fronts) at r
+      let prefixes : ts ≡ rest = cc in
+      rw (places, prefixes) at r
 
-  turn-halts : (stack : List ContainerKind) (place : Place) (t : Token) (ts : Tokens) (way : Turn) → Halts ts → HaltsBehindKey ts →
+  turn-refuses : (stack : List ContainerKind) (place : Place) (t : Token) (ts : Tokens) (way : Turn) → StuckRefuses ts → StuckAfterKeyRefuses ts →
       (way ≡ stops → IsRefusable buffer place (next t ts)) → (events : List Passed) (here : Place) (rest : Tokens) →
       follows buffer place t stack ts way ≡ events_before events (stuck here rest) → IsRefusable buffer here rest
-  turn-halts stack place t ts stops h g r [] here rest e = there place here (next t ts) rest e (r refl)
-  turn-halts stack place t ts stops h g r (p ∷ events) here rest e = cc
-  turn-halts stack place t ts (passes other) h g r events here rest e = h stack (within other) events here rest e
-  turn-halts stack place t ts (says kind) h g r [] here rest e = cc
-  turn-halts stack place t ts (says kind) h g r (p ∷ events) here rest e =
+  turn-refuses stack place t ts stops h g r [] here rest e = there place here (next t ts) rest e (r refl)
+  turn-refuses stack place t ts stops h g r (p ∷ events) here rest e = cc
+  turn-refuses stack place t ts (passes other) h g r events here rest e = h stack (within other) events here rest e
+  turn-refuses stack place t ts (says kind) h g r [] here rest e = cc
+  turn-refuses stack place t ts (says kind) h g r (p ∷ events) here rest e =
       let others = stack_after kind stack in
       let stage = stage_after kind stack in
       let same : reads buffer others stage ts ≡ events_before events (stuck here rest) = cc in
       h others stage events here rest same
-  turn-halts stack place t ts says_scalar h g r [] here rest e = cc
-  turn-halts stack place t ts says_scalar h g r (p ∷ events) here rest e =
+  turn-refuses stack place t ts says_scalar h g r [] here rest e = cc
+  turn-refuses stack place t ts says_scalar h g r (p ∷ events) here rest e =
       let same : reads buffer stack (after_value stack) ts ≡ events_before events (stuck here rest) = cc in
       h stack (after_value stack) events here rest same
-  turn-halts stack place t ts names h g r events here rest e = g stack t events here rest e
+  turn-refuses stack place t ts names h g r events here rest e = g stack t events here rest e
 
-  mark-halts : (stack : List ContainerKind) (key mark : Token) (ts : Tokens) (b : Bool) → Halts ts → goes_on after_key mark.kind ≡ b →
+  mark-refuses : (stack : List ContainerKind) (key mark : Token) (ts : Tokens) (b : Bool) → StuckRefuses ts → goes_on after_key mark.kind ≡ b →
       (events : List Passed) (here : Place) (rest : Tokens) →
       reads_colon buffer stack key (next mark ts) ≡ events_before events (stuck here rest) → IsRefusable buffer here rest
   unfolding reads_colon
-  mark-halts stack key mark ts false h c [] here rest e =
+  mark-refuses stack key mark ts false h c [] here rest e =
       let same : stuck after_key (next mark ts) ≡ stuck here rest = rw (c, reads_colon) at e in
       there after_key here (next mark ts) rest same (never_by after_key mark ts (is_meaningless buffer mark) refl c)
-  mark-halts stack key mark ts false h c (p ∷ events) here rest e =
+  mark-refuses stack key mark ts false h c (p ∷ events) here rest e =
       let same : stuck after_key (next mark ts) ≡ gives p (events_before events (stuck here rest)) = rw (c, reads_colon) at e in cc
-  mark-halts stack key mark ts true h c [] here rest e =
+  mark-refuses stack key mark ts true h c [] here rest e =
       let same : gives (key_event buffer key mark) (reads buffer stack (within after_colon) ts) ≡ stuck here rest = rw (c, reads_colon) at e in cc
-  mark-halts stack key mark ts true h c (p ∷ events) here rest e =
+  mark-refuses stack key mark ts true h c (p ∷ events) here rest e =
       let same : gives (key_event buffer key mark) (reads buffer stack (within after_colon) ts) ≡ gives p (events_before events (stuck here rest)) = rw (c, reads_colon) at e in
       let behind : reads buffer stack (within after_colon) ts ≡ events_before events (stuck here rest) = cc in
       h stack (within after_colon) events here rest behind
@@ -137,31 +137,31 @@ module _ (buffer : List ℕ) where
     unfolding reads
 
     -- Where nothing comes any more, some refusal is allowed.
-    stuck-halts : (ts : Tokens) → Halts ts
-    stuck-halts ts stack over [] here rest e = cc
-    stuck-halts ts stack over (p ∷ events) here rest e = cc
-    stuck-halts ended stack (within place) [] here rest e = there place here ended rest e (_, at_end place)
-    stuck-halts ended stack (within place) (p ∷ events) here rest e = cc
-    stuck-halts (refused f) stack (within place) [] here rest e = there place here (refused f) rest e (_, at_fault place f)
-    stuck-halts (refused f) stack (within place) (p ∷ events) here rest e = cc
-    stuck-halts (next t ts) stack (within place) events here rest e =
-        turn-halts stack place t ts (turn buffer place t) (stuck-halts ts) (colon-halts ts)
+    stuck-refuses : (ts : Tokens) → StuckRefuses ts
+    stuck-refuses ts stack over [] here rest e = cc
+    stuck-refuses ts stack over (p ∷ events) here rest e = cc
+    stuck-refuses ended stack (within place) [] here rest e = there place here ended rest e (_, at_end place)
+    stuck-refuses ended stack (within place) (p ∷ events) here rest e = cc
+    stuck-refuses (refused f) stack (within place) [] here rest e = there place here (refused f) rest e (_, at_fault place f)
+    stuck-refuses (refused f) stack (within place) (p ∷ events) here rest e = cc
+    stuck-refuses (next t ts) stack (within place) events here rest e =
+        turn-refuses stack place t ts (turn buffer place t) (stuck-refuses ts) (colon-refuses ts)
         (stops_by place t ts (is_meaningless buffer t) refl) events here rest
         (sym (reads-turn buffer stack place t ts (turn buffer place t) refl) ∙ e)
 
-    colon-halts : (ts : Tokens) → HaltsBehindKey ts
-    colon-halts ended stack key [] here rest e = there after_key here ended rest e (_, at_end after_key)
-    colon-halts ended stack key (p ∷ events) here rest e = cc
-    colon-halts (refused f) stack key [] here rest e = there after_key here (refused f) rest e (_, at_fault after_key f)
-    colon-halts (refused f) stack key (p ∷ events) here rest e = cc
-    colon-halts (next mark ts) stack key events here rest e =
-        mark-halts stack key mark ts (goes_on after_key mark.kind) (stuck-halts ts) refl events here rest e
+    colon-refuses : (ts : Tokens) → StuckAfterKeyRefuses ts
+    colon-refuses ended stack key [] here rest e = there after_key here ended rest e (_, at_end after_key)
+    colon-refuses ended stack key (p ∷ events) here rest e = cc
+    colon-refuses (refused f) stack key [] here rest e = there after_key here (refused f) rest e (_, at_fault after_key f)
+    colon-refuses (refused f) stack key (p ∷ events) here rest e = cc
+    colon-refuses (next mark ts) stack key events here rest e =
+        mark-refuses stack key mark ts (goes_on after_key mark.kind) (stuck-refuses ts) refl events here rest e
 
 -- Where a longest prefix comes and then nothing, some refusal is allowed after it.
 pub prefix-refuses : (buffer : List ℕ) (mode : Mode) (events : List Passed) (here : Place) (rest : Tokens) →
     LongestPrefix buffer (tokens buffer mode) events here rest →
     reads buffer [] (within root) (tokens buffer mode) ≡ events_before events (stuck here rest) →
     (r : Refusal) × RefusesAfter buffer mode events r
-prefix-refuses buffer mode events here rest front e =
-    let found = stuck-halts buffer (tokens buffer mode) [] (within root) events here rest e in
-    (found.0, record { here = here; rest = rest; front = front; stuck = found.1 })
+prefix-refuses buffer mode events here rest prefix e =
+    let found = stuck-refuses buffer (tokens buffer mode) [] (within root) events here rest e in
+    (found.0, record { here = here; rest = rest; prefix = prefix; stuck = found.1 })

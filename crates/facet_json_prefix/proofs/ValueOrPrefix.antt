@@ -19,7 +19,7 @@ use Rattle.facet_json_document.specs.Walk.{event_at, key_event, walk}
 use Rattle.facet_json_document.specs.Future.{Future, gives, stuck, events_before, within, after_value, is_meaningless, reads, reads_colon}
 use Rattle.facet_json_prefix.specs.Begun.{Begun, nothing, whole, in_list, in_object, ListBegun, begins_item, past_item, ObjectBegun, no_key, key_alone, begins_member, past_member}
 use Rattle.facet_json_document.proofs.Spelling.TokenSuffixes.{IsSuffix, all, later, Spells-suffix}
-use Rattle.facet_json_document.proofs.WalkComes.{TakesValue, at_root, behind_colon, of_list, events_before-append, reads-turn, reads-array, reads-object, reads-item_comma, reads-member_comma, reads-key, walk-comes, turn-sensible, reads-meaningless, reads-stops, reads-ended, reads-refused, colon-ended, colon-refused, colon-missing}
+use Rattle.facet_json_document.proofs.WalkComes.{TakesValue, at_root, of_member, of_list, events_before-append, reads-turn, reads-array, reads-object, reads-item_comma, reads-member_comma, reads-key, walk-comes, turn-sensible, reads-meaningless, reads-stops, reads-ended, reads-refused, colon-ended, colon-refused, colon-missing}
 
 -- ---- meanings
 
@@ -89,12 +89,12 @@ as_item token.array_end = closes_list refl
 as_item _ = as_any refl
 
 -- the same after an item
-data BehindItem (kind : Kind) : Type 0 where
-  comma_item : kind ≡ token.comma → BehindItem kind
-  ends_list : kind ≡ token.array_end → BehindItem kind
-  no_comma : place_turn after_item kind ≡ stops → BehindItem kind
+data AfterItem (kind : Kind) : Type 0 where
+  comma_item : kind ≡ token.comma → AfterItem kind
+  ends_list : kind ≡ token.array_end → AfterItem kind
+  no_comma : place_turn after_item kind ≡ stops → AfterItem kind
 
-behind_an_item : (kind : Kind) → BehindItem kind
+behind_an_item : (kind : Kind) → AfterItem kind
 behind_an_item token.comma = comma_item refl
 behind_an_item token.array_end = ends_list refl
 behind_an_item _ = no_comma refl
@@ -111,12 +111,12 @@ as_key (token.string start finish has_escapes) = is_key refl refl
 as_key _ = no_key_here refl
 
 -- the same after a member
-data BehindMember (kind : Kind) : Type 0 where
-  comma_member : kind ≡ token.comma → BehindMember kind
-  ends_object : kind ≡ token.object_end → BehindMember kind
-  no_comma_here : place_turn after_member kind ≡ stops → BehindMember kind
+data AfterMember (kind : Kind) : Type 0 where
+  comma_member : kind ≡ token.comma → AfterMember kind
+  ends_object : kind ≡ token.object_end → AfterMember kind
+  no_comma_here : place_turn after_member kind ≡ stops → AfterMember kind
 
-behind_a_member : (kind : Kind) → BehindMember kind
+behind_a_member : (kind : Kind) → AfterMember kind
 behind_a_member token.comma = comma_member refl
 behind_a_member token.object_end = ends_object refl
 behind_a_member _ = no_comma_here refl
@@ -279,7 +279,7 @@ module _ (buffer : List ℕ) where
           MembersCome buffer stack (next key (next mark ts))
       member_stops e =
           member_begins (walk buffer node) after_member rest (whole after_colon (within after_member) ts rest node value s t)
-          (walk-comes buffer value s t (object ∷ stack) after_colon behind_colon ∙ ap (events_before (walk buffer node)) e)
+          (walk-comes buffer value s t (object ∷ stack) after_colon of_member ∙ ap (events_before (walk buffer node)) e)
 
     -- A member and its comma, and what stands after that.
     member_goes_on : (others : Tokens) (node : Node) (value : Tree) (separator : Token) →
@@ -294,7 +294,7 @@ module _ (buffer : List ℕ) where
         members_stop all here rest
         (past_member key mark ts others rest name node value separator events all (within here) k n c s t p b refl)
         (key-comes (events_before (walk buffer node ++ events) (stuck here rest))
-        (walk-comes buffer value s t (object ∷ stack) after_colon behind_colon
+        (walk-comes buffer value s t (object ∷ stack) after_colon of_member
         ∙ ap (events_before (walk buffer node)) (reads-member_comma buffer (object ∷ stack) separator others p ∙ e)
         ∙ sym (events_before-append (walk buffer node) events (stuck here rest))))
 
@@ -385,7 +385,7 @@ module _ (buffer : List ℕ) where
         key_stops stack key (refused f) name k p (e ∙ colon-refused buffer (object ∷ stack) key f)
     key_out zero stack key (next mark ts) name k p e h = absurd (omega arith)
     key_out (suc n) stack key (next mark ts) name k p e h = elim (as_colon mark.kind) [
-      | is_mark c ↦ member_out n stack key mark ts name k p c (value_at n (object ∷ stack) after_colon ts behind_colon (λ kind. refl) (omega arith)) (omega arith)
+      | is_mark c ↦ member_out n stack key mark ts name k p c (value_at n (object ∷ stack) after_colon ts of_member (λ kind. refl) (omega arith)) (omega arith)
       | no_mark c ↦ key_stops stack key (next mark ts) name k p (e ∙ colon-missing buffer (object ∷ stack) key mark ts c)
     ]
 

@@ -73,5 +73,5 @@ pub record LongestPrefix (buffer : List ℕ) (ts : Tokens) (events : List Passed
 pub record RefusesAfter (buffer : List ℕ) (mode : Mode) (events : List Passed) (refusal : Refusal) : Type 0 where
   pub here : Place
   pub rest : Tokens
-  pub front : LongestPrefix buffer (tokens buffer mode) events here rest
+  pub prefix : LongestPrefix buffer (tokens buffer mode) events here rest
   pub stuck : IsStuck buffer here rest refusal

@@ -19,16 +19,16 @@ use Rattle.facet_json_prefix.specs.Refusal.{Refuses}
 abbrev pub BegunIsPrefix : Type 0
 BegunIsPrefix = (buffer : List ℕ) (ts rest : Tokens) (events : List Passed) (here : Stage) →
     BegunDocument buffer ts events here rest →
-    (front : List Token) × (back : List Token) × (node : Node) × (value : Tree) × (ts ≡ tokens_before front rest)
-    × ((other : Tokens) → Spells (tokens_before front (tokens_before back other)) node other)
+    (prefix : List Token) × (back : List Token) × (node : Node) × (value : Tree) × (ts ≡ tokens_before prefix rest)
+    × ((other : Tokens) → Spells (tokens_before prefix (tokens_before back other)) node other)
     × (tree_of buffer node ≡ Some value)
 
 -- A prefix of the spelling of a value with a meaning begins a document.
 abbrev pub PrefixIsBegun : Type 0
-PrefixIsBegun = (buffer : List ℕ) (front back : List Token) (other : Tokens) (node : Node) (value : Tree) →
-    Spells (tokens_before front (tokens_before back other)) node other → tree_of buffer node ≡ Some value →
+PrefixIsBegun = (buffer : List ℕ) (prefix back : List Token) (other : Tokens) (node : Node) (value : Tree) →
+    Spells (tokens_before prefix (tokens_before back other)) node other → tree_of buffer node ≡ Some value →
     (events : List Passed) × (here : Stage)
-    × BegunDocument buffer (tokens_before front (tokens_before back other)) events here (tokens_before back other)
+    × BegunDocument buffer (tokens_before prefix (tokens_before back other)) events here (tokens_before back other)
 
 -- The event's last token is one of these.
 abbrev pub EndsAmong : List Token → Passed → Type 0
@@ -37,11 +37,11 @@ EndsAmong ts p = (t : Token) × Contains ts t × (p.last ≡ t.span)
 -- Whatever value goes on from it, a prefix gives the first events of that value's walk. Their last tokens are among its own; those
 -- of the other events, in the tokens of an input, are not.
 abbrev pub PrefixGivesWalk : Type 0
-PrefixGivesWalk = (buffer : List ℕ) (mode : Mode) (front : List Token) (mid rest : Tokens) (node : Node) (value : Tree)
-    (events : List Passed) (here : Stage) → BegunDocument buffer (tokens_before front mid) events here mid →
-    Spells (tokens_before front mid) node rest → tree_of buffer node ≡ Some value →
-    (more : List Passed) × (walk buffer node ≡ events ++ more) × All (EndsAmong front) events
-    × (tokens buffer mode ≡ tokens_before front mid → All (λ p. EndsAmong front p → ⊥) more)
+PrefixGivesWalk = (buffer : List ℕ) (mode : Mode) (prefix : List Token) (mid rest : Tokens) (node : Node) (value : Tree)
+    (events : List Passed) (here : Stage) → BegunDocument buffer (tokens_before prefix mid) events here mid →
+    Spells (tokens_before prefix mid) node rest → tree_of buffer node ≡ Some value →
+    (more : List Passed) × (walk buffer node ≡ events ++ more) × All (EndsAmong prefix) events
+    × (tokens buffer mode ≡ tokens_before prefix mid → All (λ p. EndsAmong prefix p → ⊥) more)
 
 -- An input without a document has one longest prefix: all give the same events, and lead to the same place, before the same tokens.
 abbrev pub OneGiven : Type 0

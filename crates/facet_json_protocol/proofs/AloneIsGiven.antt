@@ -9,7 +9,7 @@ use Rattle.facet_json_document.specs.Place.{Place}
 use Rattle.facet_format.specs.Complaint.{Refusal}
 use Rattle.facet_json_document.specs.Refusal.{IsStuck}
 use Rattle.facet_format.specs.Event.{Passed, takes_memory}
-use Rattle.facet_format.specs.Cursor.{Coming, Cursor, World, last_seen, current_span, at_spot, unpeeked, Call, next, Answer, event, no_memory_at, Step, repeats, passes, passes_without_memory, passes_the_end, passes_nothing, Run, no_calls, one_call}
+use Rattle.facet_format.specs.Cursor.{Upcoming, Cursor, World, last_seen, current_span, at_spot, unpeeked, Call, next, Answer, event, no_memory_at, Step, repeats, passes, passes_without_memory, passes_the_end, passes_nothing, Run, no_calls, one_call}
 use Rattle.facet_json_document.specs.Future.{gives, stuck, events_before}
 use Rattle.facet_json_document.specs.InputPlace.{Standing, past, future_at}
 use Rattle.facet_json_protocol.specs.Now.{Now, fresh, first_of, on_input, RefusedAt}
@@ -21,7 +21,7 @@ use Rattle.facet_json_document.proofs.StuckOnce.{stuck-once}
 use Rattle.facet_json_document.proofs.PastEvents.{past-comes}
 
 -- Where no event was peeked at, the last token that was read is that of the last event that was passed.
-unpeeked-last : (peeked : Bool) (comes : Coming) (last : Span) → peeked ≡ false → last_seen peeked comes last ≡ last
+unpeeked-last : (peeked : Bool) (comes : Upcoming) (last : Span) → peeked ≡ false → last_seen peeked comes last ≡ last
 unpeeked-last true comes last e = cc
 unpeeked-last false comes last e = refl
 

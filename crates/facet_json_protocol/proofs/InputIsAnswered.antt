@@ -22,8 +22,8 @@ answered-by buffer mode (document_comes node value d e) = with_document (record 
   only = λ other meant there. one_document buffer mode other node meant value there d;
   run = λ calls answers new moves. document-run buffer mode node value d moves;
 })
-answered-by buffer mode (prefix_comes events here rest front e) =
-    let some = prefix-refuses buffer mode events here rest front e in
+answered-by buffer mode (prefix_comes events here rest prefix e) =
+    let some = prefix-refuses buffer mode events here rest prefix e in
     let is : Refuses buffer mode some.0 = record { events = events; after = some.1 } in
     without_document (record {
       no_document = λ node value d. refused_has_none buffer mode some.0 node value is d;
@@ -32,7 +32,7 @@ answered-by buffer mode (prefix_comes events here rest front e) =
       refused = some.1;
       only = λ others there left.
           longest-once buffer (tokens buffer mode) events others some.1.here there some.1.rest left
-          some.1.front.begun (refused-comes some.1);
+          some.1.prefix.begun (refused-comes some.1);
       refused_only = λ other may. refused_in_one_way buffer mode other some.0 may is;
       alone = λ calls answers new only moves. prefix-alone buffer mode some.1 only moves;
     })

@@ -88,9 +88,9 @@ pub record IsBack (at_save before new : Now) (point : ℕ) : Type 0 where
 -- After a save that answers a point under a number that no other has, and any calls that don't restore the point, its restore brings
 -- the parser back.
 abbrev pub RestoreBringsBack : Type 0
-RestoreBringsBack = (at_save behind before new : Now) (point : ℕ) (calls : List Call) (answers : List Answer) (answer : Answer) →
-    found point at_save.cursor.kept ≡ None → Moves at_save save (saved (Ok point)) behind → NeverRestored point calls →
-    MovesAll behind calls answers before → Moves before (restore point) answer new →
+RestoreBringsBack = (at_save after_save before new : Now) (point : ℕ) (calls : List Call) (answers : List Answer) (answer : Answer) →
+    found point at_save.cursor.kept ≡ None → Moves at_save save (saved (Ok point)) after_save → NeverRestored point calls →
+    MovesAll after_save calls answers before → Moves before (restore point) answer new →
     IsBack at_save before new point
 
 -- Whatever calls a new parser answered, no point has the next number.

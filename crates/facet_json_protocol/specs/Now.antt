@@ -2,7 +2,7 @@
 use Rattle.std.specs.Prelude.{◌≡◌, ◌≤◌, ℕ, ◌-◌, List, length}
 use Rattle.facet_format.specs.Span.{Span, stop}
 use Rattle.facet_format.specs.Complaint.{Refusal}
-use Rattle.facet_format.specs.Cursor.{Coming, an_event, the_end, a_refusal, Source, World, Cursor, start_at, current_span}
+use Rattle.facet_format.specs.Cursor.{Upcoming, an_event, the_end, a_refusal, Source, World, Cursor, start_at, current_span}
 use Rattle.facet_format.specs.Alike.{CursorsAlike}
 use Rattle.facet_json_token.specs.Gap.{Mode}
 use Rattle.facet_json_document.specs.Language.{Language, lenient}
@@ -26,7 +26,7 @@ fresh buffer mode = record { buffer = buffer; language = lenient mode; cursor = 
 abbrev pub future_of : Now → Future
 future_of now = future_at now.buffer now.language now.cursor.spot.place
 
-abbrev pub first_of : Future → Coming
+abbrev pub first_of : Future → Upcoming
 first_of (gives p future) = an_event p
 first_of finished = the_end
 first_of (stuck place rest) = a_refusal

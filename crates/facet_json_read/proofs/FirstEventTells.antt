@@ -5,7 +5,7 @@ use Rattle.facet_json_token.specs.Tokens.{Tokens}
 use Rattle.facet_json_document.specs.Tree.{Tree, list, pairs, Trees, no_trees, tree, Pairs, no_pairs, pair}
 use Rattle.facet_json_document.specs.Place.{Place}
 use Rattle.facet_json_document.specs.Future.{Future, gives, stuck}
-use Rattle.facet_json_transcode.specs.Told.{tree_of_scalar, opens, begins, is_member, Tells, a_scalar, a_list, an_object, TellsItems, no_item, one_item, TellsMembers, no_member, one_member, Breaks, in_front, in_list, in_object, BreaksItems, in_item, past_item, BreaksMembers, in_key, in_member, past_member}
+use Rattle.facet_json_transcode.specs.Told.{tree_of_scalar, opens, begins, is_member, Tells, a_scalar, a_list, an_object, TellsItems, no_item, one_item, TellsMembers, no_member, one_member, Breaks, at_once, in_list, in_object, BreaksItems, in_item, past_item, BreaksMembers, in_key, in_member, past_member}
 
 -- ---- events with which a value begins
 
@@ -145,7 +145,7 @@ has-or : (place : Place) (rest : Tokens) (f : Future) → HasFirst f → HasFirs
 has-or place rest _ (has_first p f) = first p f
 
 pub broken-has : (place : Place) (rest : Tokens) (f : Future) → Breaks place rest f → HasFirstOr place rest f
-broken-has place rest _ in_front = none
+broken-has place rest _ at_once = none
 broken-has place rest _ (in_list p f kind k h) = first p f
 broken-has place rest _ (in_object p f kind k h) = first p f
 

@@ -116,7 +116,7 @@ pub fn read_tree<'t>(
 /// The tree of the document that a parser reads.
 fn document<'t>(alloc: Global, mut parser: JsonParser<'_>) -> Result<Tree, DeserializeError<'t>>
     requires free { parser.cursor.refusal ≡ None }
-    ensures read { IfOk result (λ t. (behind : Future) × IsValueRead (future_of parser.entry) (tree_view t) behind) }
+    ensures read { IfOk result (λ t. (left : Future) × IsValueRead (future_of parser.entry) (tree_view t) left) }
     ensures refused { IfErr result (λ e. IsValueUnread parser.entry.buffer (future_of parser.entry) (refusal_of e)) }
     ensures within { IfErr result (λ e. IfSome e.span (λ s. s.offset + s.len ≤ length parser.entry.buffer)) }
 {

@@ -21,7 +21,7 @@ use Rattle.facet_json_document.specs.Place.{Place, root, before_key, after_colon
 use Rattle.facet_json_document.specs.Tree.{Tree}
 use Rattle.facet_json_document.specs.Tree as tree
 use Rattle.facet_json_document.specs.Walk.{event_at, scalar_event, key_event, scalar_of, name_of}
-use Rattle.facet_json_document.proofs.WalkComes.{TakesValue, at_root, behind_colon, of_list, follows, reads-turn, turn-plain, turn-meant, scalar_here}
+use Rattle.facet_json_document.proofs.WalkComes.{TakesValue, at_root, of_member, of_list, follows, reads-turn, turn-plain, turn-meant, scalar_here}
 use Rattle.facet_json_place.proofs.TokensThere.{mark-cut, tokens-past_gap, word-cut}
 use Rattle.facet_json_place.proofs.TurnsAtPlaces.{is_mark, mark-plain}
 use Rattle.facet_json_plain.specs.Values.{IsPlainText, IsScalarThere}
@@ -31,7 +31,7 @@ use Rattle.facet_json_reader.specs.Views.{stage_of, comes_at, coming}
 -- The places where a value may stand.
 pub takes_value : (place : Place) → MayBeValue place → TakesValue place
 takes_value root h = at_root
-takes_value after_colon h = behind_colon
+takes_value after_colon h = of_member
 takes_value before_item h = of_list
 takes_value _ h = absurd h
 

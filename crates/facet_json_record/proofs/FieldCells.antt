@@ -1,4 +1,4 @@
--- What a member's value adds to the first field, and to those behind it.
+-- What a member's value adds to the first field, and to those after it.
 use Rattle.std.specs.Prelude.{ℕ, List}
 use Rattle.std.proofs.Common.{◌≡◌, Bool, true, false, inl, inr, Option, Some, ap, ◌∙◌}
 use Rattle.facet_format.specs.Complaint.{Refusal}
@@ -24,7 +24,7 @@ module _ {V S : Type 0} (reading : Reading V) (others : List (List ℕ) → List
     | inr none ↦ inr (ap (λ (b : Bool). seen_by b (reading w.bytes node) seen.0 seen.1 (others (other_names names) key seen.1 w.bytes node)) first ∙ ap (λ (o : Option V). seen_by true o seen.0 seen.1 (others (other_names names) key seen.1 w.bytes node)) none)
   ]
 
-  -- The member went to the fields behind.
+  -- The member went to the fields after it.
   pub others-read : (old new : Now) (more : S) → begins_with names key ≡ false → IsRead (others (other_names names) key seen.1) old more new →
       IsRead (field_step reading others names key seen) old (seen.0, more) new
   others-read old new more first read w c node before =

@@ -33,7 +33,7 @@ module _ {V S : Type 0} (reading : Reading V) (others : List (List ℕ) → List
   abbrev step : List ℕ → Option V × S → Reading (Option V × S)
   step = field_step reading others (name ∷ names)
 
-  -- Members of other names go to the fields behind, each and all.
+  -- Members of other names go to the fields after it, each and all.
   past-one : (old : Option V) (rest : Members) → ((seen : S) → after_members step buffer rest (old, seen) ≡ option_map (λ s. (old, s)) (after_members (others names) buffer rest seen)) →
       (next : Option S) → option_and_then (after_members step buffer rest) (option_map (λ s. (old, s)) next)
       ≡ option_map (λ s. (old, s)) (option_and_then (after_members (others names) buffer rest) next)

@@ -50,7 +50,7 @@ pass names key seen = anything
 abbrev pub done : Unit {0} → Option (Unit {0})
 done seen = Some tt
 
--- A value of the first field replaces the one before; another goes to the fields behind it.
+-- A value of the first field replaces the one before; another goes to the fields after it.
 abbrev pub seen_by : {V S : Type 0} → Bool → Option V → Option V → S → Option S → Option (Option V × S)
 seen_by true value old others next = option_map (λ v. (Some v, others)) value
 seen_by false value old others next = option_map (λ s. (old, s)) next
@@ -76,11 +76,11 @@ maybe_ends others seen = option_map (λ w. (joined seen.0, w)) (others seen.1)
 abbrev pub none : Table (Unit {0})
 none = table tt pass done
 
--- a field that has to be there, and those behind it
+-- a field that has to be there, and those after it
 abbrev pub need : {V W : Type 0} → Reading V → Table W → Table (V × W)
 need reading t = table (None, t.start) (field_step reading t.step) (need_ends t.ends)
 
--- a field that may be missing or null, and those behind it
+-- a field that may be missing or null, and those after it
 abbrev pub maybe : {V W : Type 0} → Reading V → Table W → Table (Option V × W)
 maybe reading t = table (None, t.start) (field_step (optional reading) t.step) (maybe_ends t.ends)
 

@@ -45,7 +45,7 @@ pub record FieldList (V : Type 0) : Type 1 where
 abbrev pub no_more : FieldList (Unit {0})
 no_more = record { names = []; table = none; table_borrowed = none; written = λ v. no_pairs; readable = λ v. Unit {0} }
 
--- a field that has to be there, and those behind it
+-- a field that has to be there, and those after it
 abbrev pub needs : {V W : Type 0} → List ℕ → Shape V → FieldList W → FieldList (V × W)
 needs name s others = record {
   names = name ∷ others.names;
@@ -55,7 +55,7 @@ needs name s others = record {
   readable = λ v. s.readable v.0 × others.readable v.1;
 }
 
--- a field that may be missing or null, and those behind it; it is written as null where it is none
+-- a field that may be missing or null, and those after it; it is written as null where it is none
 abbrev pub may_have : {V W : Type 0} → List ℕ → Shape V → FieldList W → FieldList (Option V × W)
 may_have name s others = record {
   names = name ∷ others.names;

@@ -171,7 +171,7 @@ impl<'de, T: Facet<'de>, R: Fields<'de>> Fields<'de> for Need<T, R> {
             slots.0 = Some(value_in::<T>(alloc, parser, borrows)?);
             return Ok(());
         }
-        R::put(&mut slots.1, behind(names), key, alloc, parser, borrows)
+        R::put(&mut slots.1, after_first(names), key, alloc, parser, borrows)
     }
 
     fn finish<'t>(
@@ -182,7 +182,7 @@ impl<'de, T: Facet<'de>, R: Fields<'de>> Fields<'de> for Need<T, R> {
         let (value, others) = slots;
         match value {
             Some(value) => {
-                let others = R::finish(others, behind(names), bracket)?;
+                let others = R::finish(others, after_first(names), bracket)?;
                 Ok(Need(value, others))
             }
             None => Err(missing(first(names), bracket)),
@@ -228,7 +228,7 @@ impl<'de, T: Facet<'de>, R: Fields<'de>> Fields<'de> for Maybe<T, R> {
             slots.0 = Some(value_in::<Option<T>>(alloc, parser, borrows)?);
             return Ok(());
         }
-        R::put(&mut slots.1, behind(names), key, alloc, parser, borrows)
+        R::put(&mut slots.1, after_first(names), key, alloc, parser, borrows)
     }
 
     fn finish<'t>(
@@ -237,7 +237,7 @@ impl<'de, T: Facet<'de>, R: Fields<'de>> Fields<'de> for Maybe<T, R> {
         bracket: Span,
     ) -> Result<Maybe<T, R>, DeserializeError<'t>> {
         let (value, others) = slots;
-        let others = R::finish(others, behind(names), bracket)?;
+        let others = R::finish(others, after_first(names), bracket)?;
         Ok(Maybe(flat(value), others))
     }
 }
@@ -301,7 +301,7 @@ pub(crate) fn first<'n, 't>(names: &'n [&'t str]) -> &'t str
 }
 
 /// The names after the first.
-pub(crate) fn behind<'n, 't>(names: &'n [&'t str]) -> &'n [&'t str]
+pub(crate) fn after_first<'n, 't>(names: &'n [&'t str]) -> &'n [&'t str]
     ensures { keys result.now ≡ other_names (keys names.now) }
 {
     match names {

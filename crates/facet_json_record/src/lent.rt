@@ -8,7 +8,7 @@ ghost use Rattle.facet_json_write.specs.Write.{HasWritten, IsOfRust};
 ghost use Rattle.facet_json_record.specs.Fields.{keys, first_name, other_names};
 ghost use Rattle.facet_json_record.specs.Written.{HasWrittenMembers, IsWithinStruct};
 
-use crate::fields::{Done, Need, behind, first};
+use crate::fields::{Done, Need, after_first, first};
 use facet_format::FormatSerializer;
 use facet_json_facet::Facet;
 use facet_json_serializer::{JsonSerializeError, JsonSerializer};
@@ -61,7 +61,7 @@ impl<'de, 'a, T: Facet<'de>, R: LentFields<'de>> LentFields<'de> for Need<&'a T,
         let _utf8 = name.as_bytes();
         serializer.field_key(name)?;
         self.0.write(serializer)?;
-        self.1.write_members(behind(names), serializer)
+        self.1.write_members(after_first(names), serializer)
     }
 }
 

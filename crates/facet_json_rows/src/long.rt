@@ -24,12 +24,12 @@ pub fn answer_long(
 
 /// The parts of the text before and after the `|`, each as often as its count says.
 fn repeated(alloc: Global, counts: &str, text: &str) -> Result<String, AllocError> {
-    let (part, behind) = text.split_once('|').unwrap_or((text, ""));
-    let (count, count_behind) = first_word(counts);
+    let (part, after) = text.split_once('|').unwrap_or((text, ""));
+    let (count, count_after) = first_word(counts);
     let mut input = part.repeat(alloc, count.parse().unwrap_or(0))?;
-    let count_behind: usize = count_behind.parse().unwrap_or(0);
-    for _ in 0..count_behind {
-        input.push_str(behind)?;
+    let count_after: usize = count_after.parse().unwrap_or(0);
+    for _ in 0..count_after {
+        input.push_str(after)?;
     }
     Ok(input)
 }

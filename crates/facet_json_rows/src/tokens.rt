@@ -44,7 +44,7 @@ fn write_tokens(mode: Mode, input: &[u8], told: &mut String) -> Result<(), Alloc
             None => return write_other_pieces(input, told),
         }
     }
-    writeln!(told, "DIFFERS: tokens behind the input")
+    writeln!(told, "DIFFERS: tokens after the input")
 }
 
 /// Where the token ends; nothing of the end and of a refusal.

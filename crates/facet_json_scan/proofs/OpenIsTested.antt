@@ -71,7 +71,7 @@ is_beginning-sound mode (b ∷ bytes) e = begins_by (start_of b) mode b bytes (s
 
 -- ---- a beginning is tested to be one
 
--- A content that doesn't end after pieces doesn't end with them in prefix.
+-- A content that doesn't end after pieces doesn't end with them in front.
 content_len-pieces : (content rest : List ℕ) (has_escapes : Bool) → ArePieces content has_escapes →
     content_len false rest ≡ None → content_len false (content ++ rest) ≡ None
 content_len-pieces _ rest _ ArePieces.none e = e

@@ -18,7 +18,7 @@ use Rattle.facet_json_token.proofs.ShapesCut.{cut_here-shape}
 
 -- ---- what is cut has the shape
 
--- The token's bytes are in prefix, and have its shape.
+-- The token's bytes are in front, and have its shape.
 record ShapeAt (at : ℕ) (bytes : List ℕ) (t : Token) : Type 0 where
   within : t.span.len ≤ length bytes
   shape : IsShape at (take t.span.len bytes) (drop t.span.len bytes) t.kind
@@ -35,7 +35,7 @@ common_step : (t : Bool) (b w n m : ℕ) (bytes word : List ℕ) → (b == w) �
 common_step true b w n m bytes word e h f = ap (λ x. x ∷ bytes) (eqb-true b w e) ∙ ap (λ l. w ∷ l) (f (omega arith))
 common_step false b w n m bytes word e h f = absurd (omega arith)
 
--- A word whose letters are all there is in prefix.
+-- A word whose letters are all there is in front.
 common_len-all : (word bytes : List ℕ) → common_len word bytes ≡ length word → take (length word) bytes ≡ word
 common_len-all [] bytes e = refl
 common_len-all (w ∷ word) [] e = absurd (omega arith)
@@ -48,7 +48,7 @@ broken_shape : (at n : ℕ) (bytes : List ℕ) (found : Option ℕ) →
 broken_shape at n bytes None = tt
 broken_shape at n bytes (Some b) = tt
 
--- A word that stands in prefix has the shape of its kind.
+-- A word that stands in front has the shape of its kind.
 literal_shape : (at n : ℕ) (bytes word : List ℕ) (kind : Kind) → IsLiteral word kind → n ≤ length bytes →
     n ≡ length word → take n bytes ≡ word →
     ShapeAt at bytes (record { kind = kind; span = record { offset = at; len = n } })

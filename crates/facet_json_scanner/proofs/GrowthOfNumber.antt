@@ -41,9 +41,9 @@ sign_len-stays [] more lt = absurd (omega arith)
 sign_len-stays (b ∷ bytes) more lt = refl
 
 -- A part after a prefix stays.
-behind-stays : (f : List ℕ → ℕ) → Stays f → (n : ℕ) (bytes more : List ℕ) → n + f (drop n bytes) < length bytes →
+after-stays : (f : List ℕ → ℕ) → Stays f → (n : ℕ) (bytes more : List ℕ) → n + f (drop n bytes) < length bytes →
     f (drop n (bytes ++ more)) ≡ f (drop n bytes)
-behind-stays f stays n bytes more lt =
+after-stays f stays n bytes more lt =
     let within : n ≤ length bytes = omega arith in
     rw (drop-append-le n bytes more within) (stays (drop n bytes) more (omega (arith, length-drop n bytes)))
 
@@ -52,7 +52,7 @@ power_len-stays : Stays power_len
 power_len-stays bytes more lt =
     rw (
       sign_len-stays bytes more (omega arith),
-      behind-stays digits_len digits_len-stays (sign_len bytes) bytes more lt,
+      after-stays digits_len digits_len-stays (sign_len bytes) bytes more lt,
     )
 
 exponent_len-stays : Stays exponent_len
@@ -66,9 +66,9 @@ parts-stays bytes more lt =
     let p = parts bytes in
     rw (
       minus_len-stays bytes more (omega arith),
-      behind-stays digits_len digits_len-stays p.sign bytes more (omega arith),
-      behind-stays fraction_len fraction_len-stays (p.sign + p.digits) bytes more (omega arith),
-      behind-stays exponent_len exponent_len-stays (p.sign + p.digits + p.fraction) bytes more lt,
+      after-stays digits_len digits_len-stays p.sign bytes more (omega arith),
+      after-stays fraction_len fraction_len-stays (p.sign + p.digits) bytes more (omega arith),
+      after-stays exponent_len exponent_len-stays (p.sign + p.digits + p.fraction) bytes more lt,
     )
 
 -- ---- a number that goes to the end of the bytes may go on

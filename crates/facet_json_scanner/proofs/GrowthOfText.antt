@@ -26,32 +26,32 @@ pub data IsUnended : List ℕ → Type 0 where
   escaped : (content bytes : List ℕ) (has_escapes : Bool) → ArePieces content has_escapes →
       bytes ≡ content ++ backslash ∷ [] → IsUnended bytes
 
--- A byte in prefix is content too.
+-- A byte in front is content too.
 with_byte : (b : ℕ) (bytes : List ℕ) → (b == quote) ≡ false → (b == backslash) ≡ false → IsUnended bytes →
     IsUnended (b ∷ bytes)
 with_byte b bytes q s (whole _ e pieces) = whole _ e (ArePieces.byte b bytes e q s pieces)
 with_byte b bytes q s (escaped content _ e pieces is) =
     escaped (b ∷ content) _ e (ArePieces.byte b content e q s pieces) (ap (λ l. b ∷ l) is)
 
--- An escape in prefix is content too.
+-- An escape in front is content too.
 with_escape : (b : ℕ) (bytes : List ℕ) → IsUnended bytes → IsUnended (backslash ∷ b ∷ bytes)
 with_escape b bytes (whole _ e pieces) = whole _ true (ArePieces.escape b bytes e pieces)
 with_escape b bytes (escaped content _ e pieces is) =
     escaped (backslash ∷ b ∷ content) _ true (ArePieces.escape b content e pieces) (ap (λ l. backslash ∷ b ∷ l) is)
 
--- the same, where a backslash stands in prefix or not
-abbrev IsUnendedBehind : Bool → List ℕ → Type 0
-IsUnendedBehind true bytes = IsUnended (backslash ∷ bytes)
-IsUnendedBehind false bytes = IsUnended bytes
+-- the same, where a backslash stands in front or not
+abbrev IsUnendedAfter : Bool → List ℕ → Type 0
+IsUnendedAfter true bytes = IsUnended (backslash ∷ bytes)
+IsUnendedAfter false bytes = IsUnended bytes
 
--- A byte in prefix, a backslash or not, is content too.
+-- A byte in front, a backslash or not, is content too.
 with_either : (t : Bool) (b : ℕ) (bytes : List ℕ) → (b == quote) ≡ false → (b == backslash) ≡ t →
-    IsUnendedBehind t bytes → IsUnended (b ∷ bytes)
+    IsUnendedAfter t bytes → IsUnended (b ∷ bytes)
 with_either true b bytes q s h = rw (eqb-true b backslash s) h
 with_either false b bytes q s h = with_byte b bytes q s h
 
 -- A string without an end is unended.
-pub content_len-none : (t : Bool) (bytes : List ℕ) → content_len t bytes ≡ None → IsUnendedBehind t bytes
+pub content_len-none : (t : Bool) (bytes : List ℕ) → content_len t bytes ≡ None → IsUnendedAfter t bytes
 content_len-none true [] e = escaped [] _ false ArePieces.none refl
 content_len-none false [] e = whole [] false ArePieces.none
 content_len-none true (b ∷ bytes) e = with_escape b bytes (content_len-none false bytes (cond-none false 0 _ e).1)
@@ -91,9 +91,9 @@ abbrev IsNoFront : List ℕ → List ℕ → Type 0
 IsNoFront bytes word = (others : List ℕ) → word ≡ bytes ++ others → others ≢ [] → ⊥
 
 -- After a letter that both have the bytes are no proper prefix either.
-no_front_behind : (w b : ℕ) (word bytes : List ℕ) → (b == w) ≡ true → IsNoFront (b ∷ bytes) (w ∷ word) →
+no_prefix_after : (w b : ℕ) (word bytes : List ℕ) → (b == w) ≡ true → IsNoFront (b ∷ bytes) (w ∷ word) →
     IsNoFront bytes word
-no_front_behind w b word bytes t shut others e more =
+no_prefix_after w b word bytes t shut others e more =
     let same : b ≡ w = eqb-true b w t in
     shut others (cc) more
 
@@ -108,7 +108,7 @@ common_len-stays : (word bytes more : List ℕ) → IsNoFront bytes word →
 common_len-stays [] bytes more shut = refl
 common_len-stays (w ∷ word) [] more shut = absurd (shut (w ∷ word) refl (λ e. cc))
 common_len-stays (w ∷ word) (b ∷ bytes) more shut =
-    cond_suc (b == w) _ _ (λ t. common_len-stays word bytes more (no_front_behind w b word bytes t shut))
+    cond_suc (b == w) _ _ (λ t. common_len-stays word bytes more (no_prefix_after w b word bytes t shut))
 
 -- At a prefix of n letters the longer bytes have what the bytes have.
 abbrev SameAt : List ℕ → List ℕ → ℕ → Type 0
@@ -127,7 +127,7 @@ word_differs [] bytes more shut short = absurd (short refl)
 word_differs (w ∷ word) [] more shut short = absurd (shut (w ∷ word) refl (λ e. cc))
 word_differs (w ∷ word) (b ∷ bytes) more shut short =
     same_at_suc (b == w) b (common_len word bytes) (bytes ++ more) bytes
-    (λ t. word_differs word bytes more (no_front_behind w b word bytes t shut) (λ e. short (rw t (ap suc e))))
+    (λ t. word_differs word bytes more (no_prefix_after w b word bytes t shut) (λ e. short (rw t (ap suc e))))
 
 -- A word of which the bytes have n letters is cut alike, whole or not.
 cut_word_by : (t : Bool) (at : ℕ) (bytes longer word : List ℕ) (kind : Kind) (n : ℕ) → (n == length word) ≡ t →

@@ -264,11 +264,11 @@ digits_len-shut _ _ b rest IsExponent.absent no_digit = digits_len-no_digit b re
 digits_len-shut _ _ b rest (IsExponent.present mark sign digits m s d) no_digit = rw (mark_no_digit mark m) refl
 
 -- Nor a fraction, an exponent and such a byte.
-digits_len-shut_behind : (fraction exponent : List ℕ) (has_fraction has_exponent : Bool) (b : ℕ) (rest : List ℕ) →
+digits_len-shut_after : (fraction exponent : List ℕ) (has_fraction has_exponent : Bool) (b : ℕ) (rest : List ℕ) →
     IsFraction fraction has_fraction → IsExponent exponent has_exponent → is_digit b ≡ false →
     digits_len (fraction ++ (exponent ++ b ∷ rest)) ≡ 0
-digits_len-shut_behind _ exponent _ has b rest IsFraction.absent x no_digit = digits_len-shut exponent has b rest x no_digit
-digits_len-shut_behind _ exponent _ has b rest (IsFraction.present digits d) x no_digit = refl
+digits_len-shut_after _ exponent _ has b rest IsFraction.absent x no_digit = digits_len-shut exponent has b rest x no_digit
+digits_len-shut_after _ exponent _ has b rest (IsFraction.present digits d) x no_digit = refl
 
 -- No dot begins an exponent and a byte that is none.
 fraction_len-shut : (exponent : List ℕ) (has : Bool) (b : ℕ) (rest : List ℕ) → IsExponent exponent has →
@@ -277,13 +277,13 @@ fraction_len-shut _ _ b rest IsExponent.absent no_dot = rw (no_dot refl) refl
 fraction_len-shut _ _ b rest (IsExponent.present mark sign digits m s d) no_dot = rw (mark_no_dot mark m) refl
 
 -- A fraction is as long as it is.
-fraction_len-shut_behind : (fraction exponent : List ℕ) (has_fraction has_exponent : Bool) (b : ℕ) (rest : List ℕ) →
+fraction_len-shut_after : (fraction exponent : List ℕ) (has_fraction has_exponent : Bool) (b : ℕ) (rest : List ℕ) →
     IsFraction fraction has_fraction → IsExponent exponent has_exponent → is_digit b ≡ false →
     (fraction ≡ [] → exponent ≡ [] → (b == dot) ≡ false) →
     fraction_len (fraction ++ (exponent ++ b ∷ rest)) ≡ length fraction
-fraction_len-shut_behind _ exponent _ has b rest IsFraction.absent x no_digit no_dot =
+fraction_len-shut_after _ exponent _ has b rest IsFraction.absent x no_digit no_dot =
     fraction_len-shut exponent has b rest x (no_dot refl)
-fraction_len-shut_behind _ exponent _ has b rest (IsFraction.present digits d) x no_digit no_dot =
+fraction_len-shut_after _ exponent _ has b rest (IsFraction.present digits d) x no_digit no_dot =
     omega (arith, digits_len-append digits (exponent ++ b ∷ rest) d, digits_len-shut exponent has b rest x no_digit)
 
 -- So are a sign and digits.
@@ -311,9 +311,9 @@ shut : (text rest : List ℕ) (b : ℕ) (hint : Hint) (n : IsNumeral text hint) 
     (length n.exponent ≡ 1 → is_sign b ≡ false) → parts (text ++ b ∷ rest) ≡ parts text
 shut text rest b hint n no_digit no_dot no_mark no_sign =
     parts-by text hint n (b ∷ rest)
-    (digits_len-shut_behind n.fraction n.exponent n.has_fraction n.has_exponent b rest n.is_fraction n.is_exponent
+    (digits_len-shut_after n.fraction n.exponent n.has_fraction n.has_exponent b rest n.is_fraction n.is_exponent
     no_digit)
-    (fraction_len-shut_behind n.fraction n.exponent n.has_fraction n.has_exponent b rest n.is_fraction n.is_exponent
+    (fraction_len-shut_after n.fraction n.exponent n.has_fraction n.has_exponent b rest n.is_fraction n.is_exponent
     no_digit no_dot)
     (exponent_len-shut n.exponent n.has_exponent b rest n.is_exponent no_digit no_mark no_sign)
     ∙ sym (parts-is text hint n)

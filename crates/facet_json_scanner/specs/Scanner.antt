@@ -98,8 +98,8 @@ pub data Describes : Mode → State → List ℕ → Type 0 where
       Describes mode (in_text false has_escapes) (quote ∷ content)
   escape : (mode : Mode) (content : List ℕ) (has_escapes : Bool) → ArePieces content has_escapes →
       Describes mode (in_text true true) (quote ∷ content ++ backslash ∷ [])
-  literal : (mode : Mode) (front others : List ℕ) (kind : Kind) → IsLiteral (front ++ others) kind → front ≢ [] →
-      others ≢ [] → Describes mode in_word front
+  literal : (mode : Mode) (prefix others : List ℕ) (kind : Kind) → IsLiteral (prefix ++ others) kind → prefix ≢ [] →
+      others ≢ [] → Describes mode in_word prefix
   number : (mode : Mode) (part : Part) (text : List ℕ) → EndsIn part text → Describes mode (in_number part) text
   slash_alone : Describes jsonc after_slash (slash ∷ [])
   line : (body : List ℕ) → OpensLine body → Describes jsonc in_line (slash ∷ slash ∷ body)

@@ -163,7 +163,7 @@ impl Scanner {
         ensures indices { IndicesWithin self.old.position result }
     {
         let first = first_byte(self.position, self.pending);
-        let result = cut_front(buf, self.position, first, self.mode);
+        let result = cut_prefix(buf, self.position, first, self.mode);
         self.pending = None;
         self.position = stands_at_end(buf, self.position, first, self.mode, &result);
         result
@@ -201,9 +201,9 @@ fn resume(buffer: &[u8], at: usize, pending: Pending, mode: Mode) -> Found
             escaped,
             has_escapes,
         } => text_from(buffer, start, at, escaped, has_escapes),
-        State::Line => behind_comment(buffer, start, line_from(buffer, start, at), mode),
+        State::Line => after_comment(buffer, start, line_from(buffer, start, at), mode),
         State::Block { after_star } => {
-            behind_comment(
+            after_comment(
                 buffer,
                 start,
                 block_from(buffer, start, at, after_star),
@@ -216,7 +216,7 @@ fn resume(buffer: &[u8], at: usize, pending: Pending, mode: Mode) -> Found
 }
 
 /// What stands after the comment at `start`, if it is closed.
-fn behind_comment(buffer: &[u8], start: usize, comment: Piece, mode: Mode) -> Found
+fn after_comment(buffer: &[u8], start: usize, comment: Piece, mode: Mode) -> Found
     requires room { start ≤ length buffer.now }
     requires within { PieceWithin start (length buffer.now) comment }
     ensures here { PieceHere (mode_of mode) buffer.now start comment → FoundFrom (mode_of mode) buffer.now start result }
@@ -243,7 +243,7 @@ fn first_byte(position: usize, pending: Option<Pending>) -> usize
 }
 
 /// Cuts what stands at `first`, where the input ends at `end`.
-fn cut_front(buffer: &[u8], end: usize, first: usize, mode: Mode) -> ScanResult
+fn cut_prefix(buffer: &[u8], end: usize, first: usize, mode: Mode) -> ScanResult
     requires order { first ≤ end }
     requires room { end ≤ length buffer.now }
     ensures token { answered result

@@ -1,6 +1,6 @@
+pub mod Appended
 pub mod ByteTexts
 pub mod CallsTaken
 pub mod DecimalLengths
-pub mod Outcomes
 pub mod Settled
 pub mod TreesByCalls

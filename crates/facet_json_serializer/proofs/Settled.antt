@@ -4,8 +4,8 @@ use Rattle.facet_format.specs.SerializerCall.{Call, byte_sequence, byte_array, I
 use Rattle.facet_json_serializer.specs.declared.error.JsonSerializeError.{JsonSerializeError}
 use Rattle.facet_json_serializer.specs.Views.{refusal_of, answer_of, bytes_answer_of}
 use Rattle.facet_json_serializer.specs.Serializer.{Writing, Refusal, out_of_memory, Appends, appends, refuses, runs_out, stays_out, Takes, IsSpent}
-use Rattle.facet_json_serializer.specs.Writes.{Writes, settled}
-use Rattle.facet_json_serializer.specs.Writes as held
+use Rattle.facet_json_serializer.specs.Inner.Writes.{Writes, settled}
+use Rattle.facet_json_serializer.specs.Inner.Writes as held
 
 -- what a call appends to the text that is held, it appends
 settles : (w n : Writing) (call : Call) (answer : Result (Unit {0}) Refusal) → Writes w call answer n

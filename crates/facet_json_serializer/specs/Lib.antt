@@ -1,5 +1,4 @@
-pub mod Open
+pub mod Inner
 pub mod Serializer
 pub mod TreeCalls
 pub mod Views
-pub mod Writes

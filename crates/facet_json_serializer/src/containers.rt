@@ -1,7 +1,7 @@
 //! The open containers of a text that is written, the innermost first.
 
 ghost use Rattle.std.specs.Prelude.{◌≡◌, ◌<◌, ◌^◌, [], ◌∷◌, length, OnOk};
-ghost use Rattle.facet_json_serializer.specs.Open.{opened_of, struct_mark, list_mark, around, with_first_passed};
+ghost use Rattle.facet_json_serializer.specs.Inner.Open.{opened_of, struct_mark, list_mark, around, with_first_passed};
 
 use std::alloc::{AllocError, Global};
 use std::marker::Model;
@@ -32,7 +32,7 @@ pub(crate) struct Containers {
 impl Model for Containers {
     ghost use Rattle.std.specs.Prelude.{List};
     ghost use Rattle.facet_json_serializer.specs.Serializer.{Opened};
-    ghost use Rattle.facet_json_serializer.specs.Open.{all_open, IsPlaced};
+    ghost use Rattle.facet_json_serializer.specs.Inner.Open.{all_open, IsPlaced};
 
     ghost Value = { List Opened };
 

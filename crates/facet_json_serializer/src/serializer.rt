@@ -7,7 +7,7 @@ ghost use Rattle.facet_format.specs.SerializerCall.{begin_struct, field_key, end
 ghost use Rattle.facet_json_serializer.specs.Serializer.{Writing as SpecWriting, out_of_memory, Appends, Takes, IsSpent};
 ghost use Rattle.facet_json_options.specs.Views.{options_of};
 ghost use Rattle.facet_json_serializer.specs.Views.{answer_of, bytes_answer_of, refusal_of};
-ghost use Rattle.facet_json_serializer.specs.Writes.{settled};
+ghost use Rattle.facet_json_serializer.specs.Inner.Writes.{settled};
 
 use crate::error::JsonSerializeError;
 use crate::writing::Writing;

@@ -8,7 +8,7 @@ ghost use Rattle.facet_format.specs.Views.{scalar_value_of};
 ghost use Rattle.facet_format.specs.SerializerCall as calls;
 ghost use Rattle.facet_json_options.specs.Views.{options_of};
 ghost use Rattle.facet_json_serializer.specs.Views.{writing_of, answer_of};
-ghost use Rattle.facet_json_serializer.specs.Writes.{Writes, value_begun, with_text};
+ghost use Rattle.facet_json_serializer.specs.Inner.Writes.{Writes, value_begun, with_text};
 
 use crate::append::push_bytes;
 use crate::bytes_text::push_bytes_text;

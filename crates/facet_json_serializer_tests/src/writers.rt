@@ -207,8 +207,8 @@ fn tells_of_each_failed_write(alloc: Global, form: Form, tree: &Tree) -> bool {
         if writer.writes <= at {
             return at > 0 && answer.is_ok() && writer.holds(text);
         }
-        let is_front = text.as_bytes().starts_with(writer.taken.as_slice());
-        if !is_front || !has_failed(answer, ErrorKind::BrokenPipe) {
+        let is_prefix = text.as_bytes().starts_with(writer.taken.as_slice());
+        if !is_prefix || !has_failed(answer, ErrorKind::BrokenPipe) {
             return false;
         }
     }

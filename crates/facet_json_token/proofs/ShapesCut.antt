@@ -66,12 +66,12 @@ number_is_cut mode at (b ∷ bytes) begins more =
     ap (λ s. cut_by s mode at b bytes) (start_of-number b begins)
     ∙ ap (cut_number at bytes (parts_len p) (parts_hint p)) more
 
--- What is in prefix is before more.
+-- What is in front is before more.
 begins_number-append : (text rest : List ℕ) → begins_number text ≡ true → begins_number (text ++ rest) ≡ true
 begins_number-append [] rest e = cc
 begins_number-append (b ∷ text) rest e = e
 
--- More than a minus stands where a number is in prefix.
+-- More than a minus stands where a number is in front.
 pub bare_behind : (text rest : List ℕ) (hint : Hint) → IsNumber text hint → is_bare (parts (text ++ rest)) ≡ false
 bare_behind text rest hint is =
     let all = text ++ rest in

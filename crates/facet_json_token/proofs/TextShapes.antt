@@ -69,13 +69,13 @@ ContentAt true (b ∷ bytes) (Some zero) = ⊥
 ContentAt true (b ∷ bytes) (Some (suc n)) =
     ArePieces (take n bytes) (any_backslash (take n bytes)) × (take (suc n) bytes ≡ take n bytes ++ quote ∷ [])
 
--- One byte more in prefix, escaped.
+-- One byte more in front, escaped.
 content_escaped : (b : ℕ) (bytes : List ℕ) (o : Option ℕ) → ContentAt false bytes o →
     ContentAt true (b ∷ bytes) (one_more o)
 content_escaped b bytes None h = tt
 content_escaped b bytes (Some n) h = h
 
--- A byte in prefix that is neither quote nor backslash.
+-- A byte in front that is neither quote nor backslash.
 content_byte : (b : ℕ) (bytes : List ℕ) (o : Option ℕ) → (b == quote) ≡ false → (b == backslash) ≡ false →
     ContentAt false bytes o → ContentAt false (b ∷ bytes) (one_more o)
 content_byte b bytes None no_quote no_backslash h = tt
@@ -84,7 +84,7 @@ content_byte b bytes (Some n) no_quote no_backslash h =
     rw no_backslash (ArePieces.byte b (take n bytes) _ no_quote no_backslash h.0) in
     (pieces, ap (λ l. b ∷ l) h.1)
 
--- A backslash in prefix.
+-- A backslash in front.
 content_backslash : (bytes : List ℕ) (o : Option ℕ) → ContentAt true bytes o →
     ContentAt false (backslash ∷ bytes) (one_more o)
 content_backslash bytes None h = tt
@@ -93,7 +93,7 @@ content_backslash (b ∷ bytes) (Some zero) h = absurd h
 content_backslash (b ∷ bytes) (Some (suc n)) h =
     (ArePieces.escape b (take n bytes) _ h.0, ap (λ l. backslash ∷ b ∷ l) h.1)
 
--- A byte in prefix that is no quote.
+-- A byte in front that is no quote.
 content_more : (t : Bool) (b : ℕ) (bytes : List ℕ) (o : Option ℕ) → (b == quote) ≡ false → (b == backslash) ≡ t →
     ContentAt t bytes o → ContentAt false (b ∷ bytes) (one_more o)
 content_more true b bytes o no_quote e h =

@@ -35,7 +35,7 @@ FaultIsCut = (buffer : List ℕ) (position : ℕ) (mode : Mode) (kind : FaultKin
 abbrev pub FaultIsUnique : Type 0
 FaultIsUnique = (at : ℕ) (mode : Mode) (bytes : List ℕ) (kind : FaultKind) (span : Span) → IsFault at mode bytes kind span →
     ((other : FaultKind) (place : Span) → IsFault at mode bytes other place → (kind ≡ other) × (span ≡ place))
-    × ((front rest : List ℕ) (token : Kind) → IsShape at front rest token → front ++ rest ≡ bytes → ⊥)
+    × ((prefix rest : List ℕ) (token : Kind) → IsShape at prefix rest token → prefix ++ rest ≡ bytes → ⊥)
 
 -- The tokens from a position on are what is cut from there on, each where the one before ends, up to the end or the first fault,
 -- and nothing else is.

@@ -14,8 +14,8 @@ pub data IsBeginning : Mode → List ℕ → Type 0 where
       IsBeginning mode (quote ∷ content)
   escape : (mode : Mode) (content : List ℕ) (has_escapes : Bool) → ArePieces content has_escapes →
       IsBeginning mode (quote ∷ content ++ backslash ∷ [])
-  literal : (mode : Mode) (front others : List ℕ) (kind : Kind) → IsLiteral (front ++ others) kind → front ≢ [] →
-      others ≢ [] → IsBeginning mode front
+  literal : (mode : Mode) (prefix others : List ℕ) (kind : Kind) → IsLiteral (prefix ++ others) kind → prefix ≢ [] →
+      others ≢ [] → IsBeginning mode prefix
   slash_alone : IsBeginning jsonc (slash ∷ [])
   block : (body : List ℕ) → OpensBlock body → IsBeginning jsonc (slash ∷ star ∷ body)
   line : (body : List ℕ) → OpensLine body → IsBeginning jsonc (slash ∷ slash ∷ body)

@@ -1,4 +1,4 @@
-//! Tokens that one look at the bytes from a position on tells whole: all but faults, strings with escapes, and what
+//! Tokens that one look at the bytes after a position tells whole: all but faults, strings with escapes, and what
 //! stands after comments or at the end. They are made here in line; everything else is left to `plain_cut`.
 
 ghost use Rattle.std.specs.Prelude.{◌≡◌, ◌+◌, ◌<◌, ◌≤◌, length, drop, true, false, Some, IfSome};

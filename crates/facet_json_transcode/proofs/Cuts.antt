@@ -7,7 +7,7 @@ use Rattle.facet_json_document.specs.Tree.{Tree, list, pairs, Trees, no_trees, t
 use Rattle.facet_json_document.specs.Tree as trees
 use Rattle.facet_json_document.specs.Place.{Place}
 use Rattle.facet_json_document.specs.Future.{Future, gives, stuck}
-use Rattle.facet_json_transcode.specs.Told.{Tells, a_scalar, a_list, an_object, TellsItems, no_item, one_item, TellsMembers, no_member, one_member, Breaks, in_front, in_list, in_object, BreaksItems, in_item, past_item, BreaksMembers, in_key, in_member, past_member}
+use Rattle.facet_json_transcode.specs.Told.{Tells, a_scalar, a_list, an_object, TellsItems, no_item, one_item, TellsMembers, no_member, one_member, Breaks, at_once, in_list, in_object, BreaksItems, in_item, past_item, BreaksMembers, in_key, in_member, past_member}
 
 -- Where a future is stuck, and what might have come in its place: an event, and what comes after it.
 pub record Cut : Type 0 where
@@ -72,7 +72,7 @@ module _ (place : Place) (rest : Tokens) where
 
   mutual
     pub value-ends : (f after : Future) → Breaks place rest f → Ends Tree Tells place rest f after
-    value-ends _ after in_front = record {
+    value-ends _ after at_once = record {
       first = made (scalar null);
       others = after;
       whole = gives (made (scalar null)) after;

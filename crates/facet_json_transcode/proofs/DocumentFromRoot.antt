@@ -17,7 +17,7 @@ use Rattle.facet_json_transcode.proofs.WalkTells.{walk-tells}
 use Rattle.facet_json_transcode.proofs.PrefixBreaksOff.{begun-breaks}
 
 module _ (buffer : List ℕ) (mode : Mode) where
-  -- From the prefix of a document events tell its tree.
+  -- From the start of a document events tell its tree.
   pub document-told : (root : Node) (value : Tree) → IsDocument buffer mode root value →
       Tells (future_of (fresh buffer mode)) value finished
   document-told root value d =

@@ -10,7 +10,7 @@ use Rattle.facet_json_document.specs.Walk.{key_event, walk}
 use Rattle.facet_json_document.specs.Future.{gives, stuck, events_before, Stage, within, over}
 use Rattle.facet_json_prefix.specs.Begun.{Begun, nothing, whole, in_list, in_object, ListBegun, begins_item, past_item, ObjectBegun, no_key, key_alone, begins_member, past_member, BegunDocument}
 use Rattle.facet_json_document.proofs.WalkComes.{events_before-append}
-use Rattle.facet_json_transcode.specs.Told.{Tells, Breaks, in_front, BreaksItems, BreaksMembers}
+use Rattle.facet_json_transcode.specs.Told.{Tells, Breaks, at_once, BreaksItems, BreaksMembers}
 use Rattle.facet_json_transcode.specs.Told as told
 use Rattle.facet_json_transcode.proofs.WalkTells.{walk-tells}
 
@@ -25,7 +25,7 @@ module _ (here : Place) (rest : Tokens) where
   item-breaks : (after stage : Stage) (events : List Passed) → ValueBegun here rest after stage events →
       BreaksItems here rest (events_before events (stuck here rest))
   item-breaks after stage events (is_broken b) = told.in_item _ b
-  item-breaks after stage events (is_whole value e t) = told.past_item _ _ value t (told.in_item _ in_front)
+  item-breaks after stage events (is_whole value e t) = told.past_item _ _ value t (told.in_item _ at_once)
 
   -- A member whose value is begun, of an object.
   member-breaks : (buffer : List ℕ) (key mark : Token) (after stage : Stage) (events : List Passed) → ValueBegun here rest after stage events →
@@ -39,7 +39,7 @@ module _ (buffer : List ℕ) where
         Begun buffer place after ts events stage rest → stage ≡ within here → ValueBegun here rest after stage events
     value-begun {here = here} (nothing place after ts) e =
         let same : place ≡ here = cc in
-        is_broken in_front
+        is_broken at_once
     value-begun {here = here} (whole place after ts rest node value s t) e =
         is_whole value refl (walk-tells buffer node value (stuck here rest) t)
     value-begun (in_list place after stage first inner rest events k b) e =

@@ -32,8 +32,8 @@ pub data GivesNone (now : Now) (refusal : Refusal) : Type 0 where
 
 -- What was read is what the events tell, where they tell something, and they don't break off within it.
 pub record IsRead (V : Type 0) (tells : Future → V → Future → Type 0) (breaks : Place → Tokens → Future → Type 0)
-    (start : Future) (value : V) (behind : Future) : Type 0 where
-  pub told : (v : V) (rest : Future) → tells start v rest → (value ≡ v) × (behind ≡ rest)
+    (start : Future) (value : V) (left : Future) : Type 0 where
+  pub told : (v : V) (rest : Future) → tells start v rest → (value ≡ v) × (left ≡ rest)
   pub whole : (place : Place) (rest : Tokens) → breaks place rest start → ⊥
 
 -- It was refused: where the events tell something, for lack of memory, and where they break off within it, for that or because

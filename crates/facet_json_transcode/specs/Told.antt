@@ -65,7 +65,7 @@ mutual
 -- The events that come begin a value, and before its end nothing goes on at the place, before the tokens.
 mutual
   pub data Breaks (place : Place) (rest : Tokens) : Future → Type 0 where
-    in_front : Breaks place rest (stuck place rest)
+    at_once : Breaks place rest (stuck place rest)
     in_list : (p : Passed) (inner : Future) (kind : ContainerKind) → p.event.kind ≡ sequence_start kind →
         BreaksItems place rest inner → Breaks place rest (gives p inner)
     in_object : (p : Passed) (inner : Future) (kind : ContainerKind) → p.event.kind ≡ struct_start kind →

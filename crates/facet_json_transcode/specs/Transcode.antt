@@ -29,6 +29,6 @@ depth_after (key name) depth = depth
 depth_after (value v) depth = depth
 
 -- What is written is what the events tell, where they tell a value, and they don't break off within it.
-pub record IsWritten (start : Future) (w : Writing) (behind : Future) (after : Option Writing) : Type 0 where
-  pub told : (v : Tree) (rest : Future) → Tells start v rest → (after ≡ Some (with_tree w v)) × (behind ≡ rest)
+pub record IsWritten (start : Future) (w : Writing) (left : Future) (after : Option Writing) : Type 0 where
+  pub told : (v : Tree) (rest : Future) → Tells start v rest → (after ≡ Some (with_tree w v)) × (left ≡ rest)
   pub whole : (place : Place) (rest : Tokens) → Breaks place rest start → ⊥

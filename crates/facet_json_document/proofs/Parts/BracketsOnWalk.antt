@@ -113,8 +113,8 @@ module _ (buffer : List ℕ) (stack : List ContainerKind) where
       LeadsTo (suc (length around)) ps (passed buffer (kind ∷ around) before ts)
 
   -- the same after a key
-  abbrev LeadsBehindKey : Tokens → Type 0
-  LeadsBehindKey ts = (kind : ContainerKind) (around : List ContainerKind) (key : Token) (ps : List Passed) → IsIn kind after_colon →
+  abbrev LeadsAfterKey : Tokens → Type 0
+  LeadsAfterKey ts = (kind : ContainerKind) (around : List ContainerKind) (key : Token) (ps : List Passed) → IsIn kind after_colon →
       reads_colon buffer (kind ∷ around ++ stack) key ts ≡ events_before ps finished →
       LeadsTo (suc (length around)) ps (passed buffer (kind ∷ around) key ts)
 
@@ -149,7 +149,7 @@ module _ (buffer : List ℕ) (stack : List ContainerKind) where
 
   -- Whatever its turn, a token leads out.
   turn-leads : (kind : ContainerKind) (around : List ContainerKind) (place : Place) (before t : Token) (ts : Tokens) (ps : List Passed)
-      (way : Turn) (p : Passing) → LeadsFrom ts → LeadsBehindKey ts → IsIn kind place → Does way kind around p →
+      (way : Turn) (p : Passing) → LeadsFrom ts → LeadsAfterKey ts → IsIn kind place → Does way kind around p →
       passing kind around t.span t.kind ≡ p → follows buffer place t (kind ∷ around ++ stack) ts way ≡ events_before ps finished →
       LeadsTo (suc (length around)) ps (passed buffer (kind ∷ around) before (next t ts))
   turn-leads kind around place before t ts ps stops p later key there d is e = absurd (never-stuck place (next t ts) ps e)
@@ -189,16 +189,16 @@ module _ (buffer : List ℕ) (stack : List ContainerKind) where
     leads-from (refused f) kind around place before ps there e =
         absurd (never-stuck place (refused f) ps (sym (reads-refused buffer _ place f) ∙ e))
     leads-from (next t ts) kind around place before ps there e =
-        turn-leads kind around place before t ts ps (place_turn place t.kind) _ (leads-from ts) (leads-behind_key ts) there
+        turn-leads kind around place before t ts ps (place_turn place t.kind) _ (leads-from ts) (leads-after_key ts) there
         (does around t.span t.kind there) refl
         (takes_turn buffer (kind ∷ around ++ stack) place t ts ps _ refl e)
 
     -- So it does after a key.
-    leads-behind_key : (ts : Tokens) → LeadsBehindKey ts
-    leads-behind_key ended kind around key ps there e = absurd (never-stuck after_key ended ps (sym (colon-ended buffer _ key) ∙ e))
-    leads-behind_key (refused f) kind around key ps there e =
+    leads-after_key : (ts : Tokens) → LeadsAfterKey ts
+    leads-after_key ended kind around key ps there e = absurd (never-stuck after_key ended ps (sym (colon-ended buffer _ key) ∙ e))
+    leads-after_key (refused f) kind around key ps there e =
         absurd (never-stuck after_key (refused f) ps (sym (colon-refused buffer _ key f) ∙ e))
-    leads-behind_key (next mark ts) kind around key ps there e =
+    leads-after_key (next mark ts) kind around key ps there e =
         mark-leads kind around key mark ts ps (goes_on after_key mark.kind) (leads-from ts) there refl e
 
 -- ---- an opening bracket

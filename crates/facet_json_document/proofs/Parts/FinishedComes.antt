@@ -8,7 +8,7 @@ use Rattle.facet_json_token.specs.Tokens.{Tokens, next}
 use Rattle.facet_json_document.specs.Future.{Future, gives, finished, stuck, events_before, within, is_meaningless, reads, reads_colon}
 use Rattle.facet_json_document.specs.Place.{Place, root, before_key, after_key, after_colon, after_member, before_item, after_item, Turn, place_turn}
 use Rattle.facet_json_document.specs.Unread.{begins_value, IsStuckUnread, at_end, at_fault, misplaced}
-use Rattle.facet_json_document.proofs.WalkComes.{TakesValue, at_root, behind_colon, of_list, nowhere-stops, follows, reads-turn, turn-sensible, reads-meaningless, reads-ended, reads-refused, colon-ended, colon-refused, colon-missing}
+use Rattle.facet_json_document.proofs.WalkComes.{TakesValue, at_root, of_member, of_list, nowhere-stops, follows, reads-turn, turn-sensible, reads-meaningless, reads-ended, reads-refused, colon-ended, colon-refused, colon-missing}
 
 -- ---- events
 
@@ -38,7 +38,7 @@ nothing-left (q ∷ ps) e = cc
 -- Where a token begins a value, a value may stand.
 pub takes_value : (place : Place) (k : Kind) → begins_value (place_turn place k) ≡ true → TakesValue place
 takes_value root k e = at_root
-takes_value after_colon k e = behind_colon
+takes_value after_colon k e = of_member
 takes_value before_item k e = of_list
 takes_value before_key token.object_end e = cc
 takes_value before_key (token.string start finish has_escapes) e = cc

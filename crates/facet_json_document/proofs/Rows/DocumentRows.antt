@@ -81,9 +81,9 @@ unfolding read_by spelled node_within tree_of tokens_past cut cut_here start_of 
 what_follows_row = has_tree _ _ _ refl
 
 -- Not even after its last letter.
-letters_behind_row : HasTree (codes "truex") plain (bool true)
+letters_after_row : HasTree (codes "truex") plain (bool true)
 unfolding read_by spelled node_within tree_of tokens_past cut cut_here start_of gap_len_from parts number
-letters_behind_row = has_tree _ _ _ refl
+letters_after_row = has_tree _ _ _ refl
 
 -- Inside of a list it is.
 letters_inside_row : HasNone (codes "[truex]") plain

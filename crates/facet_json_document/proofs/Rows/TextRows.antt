@@ -97,10 +97,10 @@ unfolding text escaped encode_utf8 digits
 nested_row = refl
 
 -- An escape after a run of letters.
-escape_behind_run_row :
+escape_after_run_row :
     text default_options 0 (text_value (codes "aaaaaaaaaaaaaaa" ++ delete ∷ [])) ≡ codes "\"aaaaaaaaaaaaaaa\\u007f\""
 unfolding text escaped
-escape_behind_run_row = refl
+escape_after_run_row = refl
 
 -- Decimals as they stand.
 decimals_row :

@@ -39,7 +39,7 @@ jsonc_gap_ends : (input : Input) (b : ℕ) (bytes : List ℕ) → is_space b ≡
     gap_len jsonc input (b ∷ bytes) ≡ 0
 jsonc_gap_ends input b bytes e f = gap_len-none jsonc input (b ∷ bytes) (rw e (no_comment input b bytes f))
 
--- Two lengths that are alike, or end at a slash, are so with one more byte in prefix.
+-- Two lengths that are alike, or end at a slash, are so with one more byte in front.
 gaps_at : (input : Input) (b : ℕ) (bytes : List ℕ) (is_blank is_slash : Bool) → is_space b ≡ is_blank →
     (b == slash) ≡ is_slash → AlikeOrSlash (gap_len plain input bytes) (gap_len jsonc input bytes) bytes →
     AlikeOrSlash (gap_len plain input (b ∷ bytes)) (gap_len jsonc input (b ∷ bytes)) (b ∷ bytes)
@@ -92,7 +92,7 @@ cut-either buffer at t e = cut_at buffer at t (gaps_alike whole (drop at buffer)
 
 -- ---- the tokens
 
--- The second tokens have the first in prefix: they may go on where those end or are refused.
+-- The second tokens have the first in front: they may go on where those end or are refused.
 pub data Extends : Tokens → Tokens → Type 0 where
   one_more : (t : Token) (front all : Tokens) → Extends front all → Extends (next t front) (next t all)
   at_end : (all : Tokens) → Extends ended all
@@ -116,7 +116,7 @@ tokens_past-extends buffer zero at (b ∷ left) =
     follow_extends buffer at left (cut buffer at plain) (cut buffer at jsonc) (cut-either buffer at)
     (λ inside. tokens_past-extends buffer inside (suc at) left)
 
--- The JSONC tokens have the plain tokens in prefix.
+-- The JSONC tokens have the plain tokens in front.
 pub tokens-extends : (buffer : List ℕ) → Extends (tokens buffer plain) (tokens buffer jsonc)
 tokens-extends buffer = tokens_past-extends buffer 0 0 buffer
 

@@ -43,7 +43,7 @@ pub data IsUnreadWithin (limit : Option ℕ) (V : Type 0) (tells : Future → V 
 abbrev pub IsValueUnreadWithin : Option ℕ → List ℕ → Future → Refusal → Type 0
 IsValueUnreadWithin limit = IsUnreadWithin limit Tree Tells Breaks
 
--- The value was read, and from its start on the same is beyond as behind it.
+-- The value was read, and from its start on the same is beyond as after it.
 pub record IsReadWithin (depth : ℕ) (start : Future) (value : Tree) : Type 0 where
   pub behind : Future
   pub read : IsValueRead start value behind

@@ -22,9 +22,9 @@ token_of kind offset len = record { kind = kind; span = span_at offset len }
 -- ---- literals
 
 -- What follows the letters of a literal is not looked at.
-letters_behind_row : cut (codes "truex") 0 plain ≡ token_at true_literal 0 4
+letters_after_row : cut (codes "truex") 0 plain ≡ token_at true_literal 0 4
 unfolding cut cut_here start_of parts gap_len_from
-letters_behind_row = refl
+letters_after_row = refl
 
 -- The first letter that differs is the fault.
 wrong_letter_row : cut (codes "trux") 0 plain ≡ fault_at (unexpected_char 0x78) 3 1
@@ -321,7 +321,7 @@ slash_star_slash_open : IsOpen (codes "/*/") 0 jsonc
 unfolding gap_len_from
 slash_star_slash_open = IsBeginning.block (codes "/") (OpensBlock.one slash)
 
--- White space in prefix is passed.
+-- White space in front is passed.
 space_in_front_open : IsOpen (codes " nul") 0 plain
 unfolding gap_len_from
 space_in_front_open =

@@ -1,7 +1,7 @@
 -- A window of digits alone is passed, and in another the run ends.
 use Rattle.std.proofs.Common.{◌+◌, drop, ap, arith}
 use lib.Count.{count_trailing_zeros}
-use Rattle.facet_format.specs.Window.{is_no_digit}
+use Rattle.facet_format.specs.Inner.Window.{is_no_digit}
 use Rattle.facet_format.proofs.Windows.{mask_through, mask_stops, mask_within}
 use Rattle.facet_format.proofs.NumberSteps.{digits-run}
 use Rattle.facet_format.proofs.numeral.digits_end.Goals as goal

@@ -1,7 +1,7 @@
 -- One subtraction and one comparison, lane by lane.
 use Rattle.std.proofs.Common.{◌+◌, ◌-◌, ◌%◌, arith}
 use Rattle.std.proofs.lemmas.Simd.{zip2_splat}
-use Rattle.facet_format.specs.Window.{is_no_digit}
+use Rattle.facet_format.specs.Inner.Window.{is_no_digit}
 use Rattle.facet_format.proofs.Lanes.{at_most, from_splat, masked}
 use Rattle.facet_json_plain.proofs.whole.no_digits.Goals as goal
 

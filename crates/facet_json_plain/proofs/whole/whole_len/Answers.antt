@@ -1,7 +1,7 @@
 -- The first bit of the mask is where the digits end, and the byte there begins no other part.
 use Rattle.std.proofs.Common.{drop, ap, sym, ◌∙◌, arith}
 use lib.Count.{count_trailing_zeros}
-use Rattle.facet_format.specs.Window.{is_no_digit}
+use Rattle.facet_format.specs.Inner.Window.{is_no_digit}
 use Rattle.facet_format.proofs.NumberSteps.{digits-run}
 use Rattle.facet_json_token.proofs.Windows.{mask_stops, mask_within}
 use Rattle.facet_json_plain.proofs.WholeNumbers.{no-more_parts}

@@ -17,12 +17,12 @@ returns-then-is_first-clause-read g c =
 
 pub returns-clause-read : goal.returns-clause-read
 returns-clause-read g c =
-    let read = rw c.behind.ensures at c.put.ensures.read in
+    let read = rw c.after_first.ensures at c.put.ensures.read in
     on_ok_weaker c.put.result (λ h. others-read (cond c.args.borrows g.T.Facet.reading_borrowed g.T.Facet.reading) (g.R.Fields.step c.args.borrows) (keys c.args.names.now) c.args.key.now (option_map g.T.Facet.view c.args.slots.now.0, g.R.Fields.seen c.args.slots.now.1) c.args.parser.now c.put.new.parser _ (sym c.is_first.ensures ∙ c.if-is_first.false) h) read
 
 pub returns-clause-unread : goal.returns-clause-unread
 returns-clause-unread g c =
-    let unread = rw c.behind.ensures at c.put.ensures.unread in
+    let unread = rw c.after_first.ensures at c.put.ensures.unread in
     IfErr-weaker c.put.result _ _ (λ e h. others-unread (cond c.args.borrows g.T.Facet.reading_borrowed g.T.Facet.reading) (g.R.Fields.step c.args.borrows) (keys c.args.names.now) c.args.key.now (option_map g.T.Facet.view c.args.slots.now.0, g.R.Fields.seen c.args.slots.now.1) c.args.parser.now (refusal_of e) (sym c.is_first.ensures ∙ c.if-is_first.false) h) unread
 
 pub returns-in_err-value_in-clause-read : goal.returns-in_err-value_in-clause-read

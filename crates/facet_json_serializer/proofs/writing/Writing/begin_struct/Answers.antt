@@ -1,7 +1,7 @@
 use Rattle.std.proofs.Common.{refl}
 use Rattle.std.proofs.lemmas.Result.{err_from_is_err_and}
-use Rattle.facet_json_serializer.specs.Writes.{runs_out}
-use Rattle.facet_json_serializer.proofs.Outcomes.{wrote, container_begun}
+use Rattle.facet_json_serializer.specs.Inner.Writes.{runs_out}
+use Rattle.facet_json_serializer.proofs.Appended.{wrote, container_begun}
 use Rattle.facet_json_serializer.proofs.writing.Writing.begin_struct.Goals as goal
 
 pub returns-in_err-begin_value : goal.returns-in_err-begin_value

@@ -1,8 +1,8 @@
 use Rattle.std.proofs.Common.{sym, ◌∙◌}
 use Rattle.std.proofs.lemmas.Result.{err_from_is_err_and}
 use Rattle.facet_json_serializer.specs.Views.{writing_of}
-use Rattle.facet_json_serializer.specs.Writes.{refuses, runs_out}
-use Rattle.facet_json_serializer.proofs.Outcomes.{wrote, list_fits, no_list_fits, end_written}
+use Rattle.facet_json_serializer.specs.Inner.Writes.{refuses, runs_out}
+use Rattle.facet_json_serializer.proofs.Appended.{wrote, list_fits, no_list_fits, end_written}
 use Rattle.facet_json_serializer.proofs.writing.Writing.end_seq.Goals as goal
 
 pub returns-in_default : goal.returns-in_default

@@ -1,7 +1,7 @@
 use Rattle.std.proofs.Common.{refl}
 use Rattle.std.proofs.lemmas.Result.{err_from_is_err_and}
-use Rattle.facet_json_serializer.specs.Writes.{runs_out}
-use Rattle.facet_json_serializer.proofs.Outcomes.{wrote, value_written}
+use Rattle.facet_json_serializer.specs.Inner.Writes.{runs_out}
+use Rattle.facet_json_serializer.proofs.Appended.{wrote, value_written}
 use Rattle.facet_format.specs.Views.{scalar_value_of}
 use Rattle.facet_json_serializer.specs.Serializer.{scalar_text}
 use Rattle.facet_json_serializer.proofs.writing.Writing.scalar_apart.Goals as goal

@@ -5,8 +5,8 @@ use Rattle.std.proofs.lemmas.Result.{err_from_is_err_and}
 use Rattle.facet_format.specs.Event as event
 use Rattle.facet_json_serializer.specs.Serializer.{scalar_text}
 use Rattle.facet_json_serializer.specs.Views.{writing_of}
-use Rattle.facet_json_serializer.specs.Writes.{runs_out}
-use Rattle.facet_json_serializer.proofs.Outcomes.{wrote, value_written, signed-text}
+use Rattle.facet_json_serializer.specs.Inner.Writes.{runs_out}
+use Rattle.facet_json_serializer.proofs.Appended.{wrote, value_written, signed-text}
 use Rattle.facet_json_serializer.proofs.writing.Writing.signed_apart.Goals as goal
 
 pub returns-in_err-begin_value : goal.returns-in_err-begin_value

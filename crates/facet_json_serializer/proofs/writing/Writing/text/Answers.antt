@@ -5,8 +5,8 @@ use Rattle.facet_format.specs.Event.{bytes_of}
 use Rattle.facet_format.specs.HeldText.{text_of}
 use Rattle.facet_json_serializer.specs.Serializer.{scalar_text}
 use Rattle.facet_json_serializer.specs.Views.{writing_of}
-use Rattle.facet_json_serializer.specs.Writes.{runs_out}
-use Rattle.facet_json_serializer.proofs.Outcomes.{wrote, after_comma_written, quoted-text}
+use Rattle.facet_json_serializer.specs.Inner.Writes.{runs_out}
+use Rattle.facet_json_serializer.proofs.Appended.{wrote, after_comma_written, quoted-text}
 use Rattle.facet_json_serializer.proofs.writing.Writing.text.Goals as goal
 
 pub returns-in_err-after_comma : goal.returns-in_err-after_comma

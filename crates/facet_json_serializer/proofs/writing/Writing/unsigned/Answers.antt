@@ -4,8 +4,8 @@ use Rattle.facet_format.specs.Bytes.{comma}
 use Rattle.facet_format.specs.Event as event
 use Rattle.facet_json_serializer.specs.Serializer.{scalar_text}
 use Rattle.facet_json_serializer.specs.Views.{writing_of}
-use Rattle.facet_json_serializer.specs.Writes.{runs_out}
-use Rattle.facet_json_serializer.proofs.Outcomes.{wrote, comma_written, unsigned-text}
+use Rattle.facet_json_serializer.specs.Inner.Writes.{runs_out}
+use Rattle.facet_json_serializer.proofs.Appended.{wrote, comma_written, unsigned-text}
 use Rattle.facet_json_serializer.proofs.writing.Writing.unsigned.Goals as goal
 
 pub returns-in_err-push_comma_unsigned : goal.returns-in_err-push_comma_unsigned

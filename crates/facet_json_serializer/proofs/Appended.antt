@@ -7,8 +7,8 @@ use Rattle.facet_json_document.specs.Text.{Options, text, new_line, separator, l
 use Rattle.facet_json_document.specs.Quoted.{quoted}
 use Rattle.facet_format.specs.SerializerCall.{Call}
 use Rattle.facet_json_serializer.specs.Serializer.{Opened, in_struct, in_list, Writing, Addition, addition, appended, before_value, after_value, key_added, struct_ended, list_ended, scalar_text, key_outside_struct, no_struct_to_end, no_list_to_end}
-use Rattle.facet_json_serializer.specs.Open.{struct_mark, list_mark, around, with_first_passed}
-use Rattle.facet_json_serializer.specs.Writes.{Writes, writes, value_begun, with_text}
+use Rattle.facet_json_serializer.specs.Inner.Open.{struct_mark, list_mark, around, with_first_passed}
+use Rattle.facet_json_serializer.specs.Inner.Writes.{Writes, writes, value_begun, with_text}
 
 -- all that a call appends is there
 pub wrote : (w n : Writing) (call : Call) (a : Addition) → addition w.options w.stack call ≡ Ok a → n ≡ appended w a

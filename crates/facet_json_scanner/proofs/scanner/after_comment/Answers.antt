@@ -5,7 +5,7 @@ use Rattle.facet_json_scanner.specs.Inner.Found.{state_of}
 use Rattle.facet_json_scanner.specs.declared.scanner.token.Found.TheVariants as found
 use Rattle.facet_json_scanner.proofs.FoundPastGap.{found-no_gap, found-piece}
 use Rattle.facet_json_scanner.proofs.NoPiece.{open_no_piece}
-use Rattle.facet_json_scanner.proofs.scanner.behind_comment.Goals as goal
+use Rattle.facet_json_scanner.proofs.scanner.after_comment.Goals as goal
 
 pub returns-in-Closed-clause-here : goal.returns-in-Closed-clause-here
 returns-in-Closed-clause-here c = λ h.

@@ -8,7 +8,7 @@ use Rattle.facet_json_token.specs.Views.{mode_of}
 use Rattle.facet_json_scanner.specs.Views.{span_answered, IndicesWithin}
 use Rattle.facet_json_token.proofs.CutBounds.{cut-fits}
 use Rattle.facet_json_scanner.proofs.AnswersOfCuts.{answered-cut_or_end, answered-end_within, fits-within}
-use Rattle.facet_json_scanner.proofs.scanner.cut_front.Goals as goal
+use Rattle.facet_json_scanner.proofs.scanner.cut_prefix.Goals as goal
 
 pub returns-clause-token : goal.returns-clause-token
 returns-clause-token c =

@@ -1,6 +1,6 @@
 use Rattle.std.proofs.Common.{◌≡◌, length, take, arith, length-take-le}
 use Rattle.std.proofs.lemmas.Simd.{take_more_put_chunk, length-put_chunk}
-use Rattle.facet_json_escape.proofs.place.place_front.Goals as goal
+use Rattle.facet_json_escape.proofs.place.place_first.Goals as goal
 
 pub returns : goal.returns
 returns g c =

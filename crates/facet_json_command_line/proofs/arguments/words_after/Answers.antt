@@ -2,7 +2,7 @@ use Rattle.std.proofs.Common.{suc, ◌∷◌, ◌++◌, take, drop, sym, ap, sub
 use Rattle.facet_json_command_line.specs.Arguments.{AreWords, no_words}
 use Rattle.facet_json_command_line.specs.Views.{words_of}
 use Rattle.facet_json_command_line.proofs.Operands.{words_split}
-use Rattle.facet_json_command_line.proofs.arguments.words_behind.Goals as goal
+use Rattle.facet_json_command_line.proofs.arguments.words_after.Goals as goal
 
 pub loop-word-init : goal.loop-word-init
 loop-word-init c = no_words
