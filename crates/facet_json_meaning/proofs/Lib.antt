@@ -31,5 +31,6 @@ pub mod TextsWithin
 pub mod TreeLaws
 pub mod TreeOnWalk
 pub mod TruthLaws
+pub mod WalkPlaces
 pub mod WholeNumbers
 pub mod WideNumbers
