@@ -1,6 +1,5 @@
 pub mod BorrowedLaws
 pub mod FirstEvents
-pub mod HeldTexts
 pub mod Keeping
 pub mod LeafLaws
 pub mod LeafReadings
