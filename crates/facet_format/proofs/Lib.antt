@@ -1,6 +1,8 @@
+pub mod AsciiTexts
 pub mod CursorAgrees
 pub mod CursorRows
 pub mod CursorSteps
+pub mod HeldTexts
 pub mod KeptLaws
 pub mod Lanes
 pub mod NumberPrefixes

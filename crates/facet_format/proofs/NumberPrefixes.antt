@@ -25,7 +25,7 @@ fraction_len-bound : (bytes : List ℕ) → fraction_len bytes ≤ length bytes
 fraction_len-bound [] = omega arith
 fraction_len-bound (b ∷ bytes) = cond_bound (b == dot) _ _ (digits_len-bound bytes)
 
-sign_len-bound : (bytes : List ℕ) → sign_len bytes ≤ length bytes
+pub sign_len-bound : (bytes : List ℕ) → sign_len bytes ≤ length bytes
 sign_len-bound [] = omega arith
 sign_len-bound (b ∷ bytes) = cond_bound (is_sign b) 0 (length bytes) (omega arith)
 

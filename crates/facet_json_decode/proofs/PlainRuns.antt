@@ -2,7 +2,7 @@
 use Rattle.std.proofs.Common.{◌≡◌, ℕ, zero, suc, ◌+◌, ◌-◌, ◌<◌, ◌≤◌, Bool, true, false, not, ◌||◌, cond, List, [], ◌∷◌, length, take, drop, get_or, refl, sym, ap, ◌∙◌, arith}
 use Rattle.std.specs.Prelude.{◌==◌, slice_range}
 use Rattle.std.specs.List.{prefix_len, list_any}
-use Rattle.std.proofs.lemmas.Bool.{eqb-true}
+use Rattle.std.proofs.lemmas.Bool.{eqb-true, not-false}
 use Rattle.std.proofs.lemmas.List.{get_or-drop, length-drop}
 use Rattle.std.proofs.lemmas.List.Sums.{prefix_len_stops}
 use Rattle.facet_format.specs.Bytes.{backslash}
@@ -24,10 +24,6 @@ take-plain (suc n) (b ∷ bytes) le = by (b == backslash) le (take-plain n bytes
 pub run-plain : (buf : List ℕ) (at stop : ℕ) → at ≤ stop → stop ≤ at + prefix_len is_plain (drop at buf) → IsPlain (slice_range buf at stop)
 run-plain buf at stop a b = take-plain (stop - at) (drop at buf) (omega arith)
 
-from_not : (b : Bool) → not b ≡ false → b ≡ true
-from_not true e = refl
-from_not false e = cc
-
 -- Where the run ends within the bytes, a backslash stands.
 pub run-stops : (buf : List ℕ) (at stop : ℕ) → stop ≡ at + prefix_len is_plain (drop at buf) → stop < length buf → get_or buf stop 0 ≡ backslash
 run-stops buf at stop e room =
@@ -35,4 +31,4 @@ run-stops buf at stop e room =
     let k = prefix_len is_plain rest in
     let here : get_or rest k 0 ≡ get_or buf stop 0 = get_or-drop at buf k 0 ∙ ap (λ n. get_or buf n 0) (sym e) in
     let fails = prefix_len_stops is_plain rest 0 (omega (arith, length-drop at buf, e)) in
-    eqb-true (get_or buf stop 0) backslash (from_not (get_or buf stop 0 == backslash) (ap is_plain (sym here) ∙ fails))
+    eqb-true (get_or buf stop 0) backslash (not-false (get_or buf stop 0 == backslash) (ap is_plain (sym here) ∙ fails))

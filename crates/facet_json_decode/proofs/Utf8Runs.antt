@@ -5,21 +5,15 @@ use Rattle.std.proofs.lemmas.Bool.{cases_lt, and_parts}
 use Rattle.std.proofs.lemmas.Bool.Decides.{nat_tests}
 use Rattle.std.proofs.lemmas.List.{take-take}
 use Rattle.std.proofs.lemmas.List.Edits.{length-between, get_or-between}
-use Rattle.std.proofs.lemmas.Str.{encode_ascii, IsUtf8-nil, IsUtf8-append, IsUtf8-encode, IsUtf8-take, IsUtf8-drop, IsUtf8-between, IsCharBoundary-end, IsCharBoundary-before_ascii, IsCharBoundary-after_ascii, IsCharBoundary-from_take}
+use Rattle.std.proofs.lemmas.Str.{IsUtf8-nil, IsUtf8-encode, IsUtf8-take, IsUtf8-drop, IsUtf8-between, IsCharBoundary-end, IsCharBoundary-before_ascii, IsCharBoundary-after_ascii, IsCharBoundary-from_take}
 use Rattle.std.specs.Str.{IsCharBoundary}
 use Rattle.facet_format.specs.Bytes.{backslash, lower_u}
+use Rattle.facet_format.proofs.AsciiTexts.{ascii-before}
 use Rattle.facet_json_decode.specs.Decode.{short_escape, is_hex, code_unit, Piece, itself, short, other, unit, pair, piece_at}
 use Rattle.facet_json_decode.specs.Quoted.{IsQuoted}
 use Rattle.facet_json_decode.proofs.DecodeLaws.{piece_at-begins}
 use Rattle.facet_json_decode.proofs.DecodeSteps.{range-drop}
 use Rattle.facet_json_decode.proofs.EscapeSteps.{short_of-none}
-
--- An ASCII byte before text.
-ascii-cons : (b : ℕ) (l : List ℕ) → b < 128 → IsUtf8 l → IsUtf8 (b ∷ l)
-ascii-cons b l small is =
-    let one = encode_ascii b small in
-    let first = rw one at (IsUtf8-encode b (grind (arith, nat_tests))) in
-    IsUtf8-append (b ∷ []) l first is
 
 -- A byte with a short escape is ASCII.
 short-ascii : (b c : ℕ) → short_escape b ≡ Some c → b < 128
@@ -43,23 +37,23 @@ unit-cons a b c d u l e is = by (is_hex a && is_hex b && is_hex c && is_hex d) r
         let p = and_parts (is_hex a && is_hex b && is_hex c) (is_hex d) h in
         let q = and_parts (is_hex a && is_hex b) (is_hex c) p.0 in
         let r = and_parts (is_hex a) (is_hex b) q.0 in
-        ascii-cons a (b ∷ c ∷ d ∷ l) (hex-ascii a r.0) (ascii-cons b (c ∷ d ∷ l) (hex-ascii b r.1)
-        (ascii-cons c (d ∷ l) (hex-ascii c q.1) (ascii-cons d l (hex-ascii d p.1) is)))
+        ascii-before a (b ∷ c ∷ d ∷ l) (hex-ascii a r.0) (ascii-before b (c ∷ d ∷ l) (hex-ascii b r.1)
+        (ascii-before c (d ∷ l) (hex-ascii c q.1) (ascii-before d l (hex-ascii d p.1) is)))
     by false h = let none = rw h at e in absurd (cc)
 
 -- A piece is text.
 piece-IsUtf8 : (first : List ℕ) (c : ℕ) → Piece first c → IsUtf8 first
 piece-IsUtf8 _ c (itself _ is ne) = IsUtf8-encode c is
 piece-IsUtf8 _ v (short b _ is) =
-    ascii-cons backslash (b ∷ []) (omega arith) (ascii-cons b [] (short-ascii b v is) IsUtf8-nil)
+    ascii-before backslash (b ∷ []) (omega arith) (ascii-before b [] (short-ascii b v is) IsUtf8-nil)
 piece-IsUtf8 _ c (other b ascii none ne) =
-    ascii-cons backslash (b ∷ []) (omega arith) (ascii-cons b [] (grind (arith, nat_tests)) IsUtf8-nil)
+    ascii-before backslash (b ∷ []) (omega arith) (ascii-before b [] (grind (arith, nat_tests)) IsUtf8-nil)
 piece-IsUtf8 _ v (unit a b c d u is high low) =
-    ascii-cons backslash _ (omega arith) (ascii-cons lower_u _ (omega arith) (unit-cons a b c d u [] is IsUtf8-nil))
+    ascii-before backslash _ (omega arith) (ascii-before lower_u _ (omega arith) (unit-cons a b c d u [] is IsUtf8-nil))
 piece-IsUtf8 _ v (pair a b c d high e f g h low is is_high same is_low) =
     let last = unit-cons e f g h low [] same IsUtf8-nil in
-    let second = ascii-cons backslash _ (omega arith) (ascii-cons lower_u _ (omega arith) last) in
-    ascii-cons backslash _ (omega arith) (ascii-cons lower_u _ (omega arith) (unit-cons a b c d high _ is second))
+    let second = ascii-before backslash _ (omega arith) (ascii-before lower_u _ (omega arith) last) in
+    ascii-before backslash _ (omega arith) (ascii-before lower_u _ (omega arith) (unit-cons a b c d high _ is second))
 
 -- What stands after a piece of a text is text.
 pub found-IsUtf8 : (buf : List ℕ) (stop end c n : ℕ) → stop + n ≤ end →

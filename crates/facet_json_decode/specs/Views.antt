@@ -1,25 +1,20 @@
 -- What a decoder of strings returns (RFC 8259, section 7).
-use Rattle.std.specs.Prelude.{ℕ, ◌≡◌, ◌-◌, List, ◌==◌, Bool, false, slice_range, IsUtf8}
+use Rattle.std.specs.Prelude.{ℕ, ◌≡◌, ◌-◌, List, false, slice_range, IsUtf8}
 use Rattle.facet_json_decode.specs.declared.decode.DecodeError.{DecodeError}
 use Rattle.facet_json_decode.specs.declared.decode.DecodeError.TheVariants as decode
 use Rattle.facet_format.specs.Complaint.{Refusal}
 use Rattle.facet_format.specs.Complaint as complaint
-use Rattle.std.specs.List.{list_any}
 use Rattle.facet_json_token.specs.declared.token.ScanError.{ScanError}
 use Rattle.facet_json_token.specs.declared.token.ScanErrorKind.TheVariants.{InvalidUtf8}
 use Rattle.facet_json_decode.specs.declared.decode.DecodeError.TheVariants.{Scan, OutOfMemory}
-use Rattle.facet_format.specs.Bytes.{backslash}
 use Rattle.facet_json_decode.specs.Fault.{Fault, FirstFault, fault_refusal}
+pub use Rattle.facet_json_token.specs.Cut.{has_backslash}
 use Rattle.facet_json_token.specs.Views.{scan_refusal}
 
 -- how a refused decode is passed on
 abbrev pub decode_refusal : DecodeError → Refusal
 decode_refusal (decode.Scan e) = scan_refusal e
 decode_refusal decode.OutOfMemory = complaint.no_memory
-
--- whether a backslash stands in the content
-abbrev pub has_backslash : List ℕ → Bool
-has_backslash content = list_any (λ b. b == backslash) content
 
 -- The content is text that stands for itself.
 abbrev pub IsItsText : List ℕ → Type 0

@@ -24,15 +24,15 @@ abbrev pub LiesAhead : List ℕ → ℕ → Standing → Type 0
 LiesAhead buffer from place = (from < stop place.last) × (stop place.last ≤ length buffer)
 
 -- The refusal lies within the buffer, if it has a place.
-abbrev pub IsRefusedWithin : List ℕ → Refusal → Type 0
-IsRefusedWithin buffer r = IfSome r.span (λ x. stop x ≤ length buffer)
+abbrev pub RefusalWithin : List ℕ → Refusal → Type 0
+RefusalWithin buffer r = IfSome r.span (λ x. stop x ≤ length buffer)
 
 -- A skip and a capture of the part lead ahead, and what they are refused with lies within the buffer.
 pub record IsPartWithin (buffer : List ℕ) (s : Standing) (part : Part Standing) : Type 0 where
   pub skip : (place : Standing) → skip_of part ≡ Ok place → LiesAhead buffer (stop s.last) place
-  pub no_skip : (r : Refusal) → skip_of part ≡ Err r → IsRefusedWithin buffer r
+  pub no_skip : (r : Refusal) → skip_of part ≡ Err r → RefusalWithin buffer r
   pub capture : (text : List ℕ) (place : Standing) → capture_of buffer part ≡ Ok (text, place) → LiesAhead buffer (stop s.last) place
-  pub no_capture : (r : Refusal) → capture_of buffer part ≡ Err r → IsRefusedWithin buffer r
+  pub no_capture : (r : Refusal) → capture_of buffer part ≡ Err r → RefusalWithin buffer r
 
 -- Where the last token before a place lies within the buffer, a skip and a capture lead to a place whose last token lies within it and
 -- after that one; what they are refused with lies within it.

@@ -22,7 +22,7 @@ use Rattle.facet_json_meaning.specs.Nodes.{StandsBefore, StandsAfter}
 use Rattle.facet_json_meaning.specs.Passing.{WalksPast}
 use Rattle.facet_json_meaning.specs.Reading.{IsRead, IsUnread}
 use Rattle.facet_json_meaning.specs.Optional.{is_null, is_null_token, is_null_event}
-use Rattle.facet_json_meaning.proofs.LeafReadings.{drop-get}
+use Rattle.facet_json_meaning.proofs.WalkPlaces.{drop-get}
 
 abbrev pub first_event : List ℕ → Node → Passed
 first_event buffer (scalar t) = scalar_event buffer t

@@ -1,7 +1,7 @@
 -- Types that have their value from a scalar alone: how they are read from one event.
-use Rattle.std.specs.Prelude.{ℕ, List, drop, slice_get, length}
+use Rattle.std.specs.Prelude.{ℕ, List, length}
 use Rattle.std.specs.Option.{option_and_then}
-use Rattle.std.proofs.Common.{◌≡◌, ◌⊎◌, inl, inr, ℕ, zero, suc, List, [], ◌∷◌, ◌++◌, Option, None, Some, refl, sym, ap, ◌∙◌, subst, arith}
+use Rattle.std.proofs.Common.{◌≡◌, ◌⊎◌, inl, inr, ℕ, suc, List, ◌∷◌, ◌++◌, Option, None, Some, refl, sym, ap, ◌∙◌, subst, arith}
 use Rattle.facet_format.specs.Complaint.{Refusal, no_memory}
 use Rattle.facet_format.specs.Event.{Event, EventKind, Scalar, Passed, array, object, sequence_start, sequence_end, struct_start, struct_end, field_key}
 use Rattle.facet_format.specs.Event as event
@@ -24,6 +24,7 @@ use Rattle.facet_json_meaning.specs.Nodes.{StandsBefore}
 use Rattle.facet_json_meaning.specs.Passing.{WalksPast, LacksAlone}
 use Rattle.facet_json_meaning.specs.Reading.{IsRead, IsUnread, HasDocument}
 use Rattle.facet_json_meaning.specs.Readings.{leaf, taken}
+use Rattle.facet_json_meaning.proofs.WalkPlaces.{drop-get}
 
 -- ---- the first event of a node
 
@@ -40,14 +41,6 @@ walk-first buffer (node.array first last nodes) others =
     record { first = event_at (sequence_start array) first; others = _; are = refl }
 walk-first buffer (node.object first last inside) others =
     record { first = event_at (struct_start object) first; others = _; are = refl }
-
--- What stands at a place is the first of what comes from there.
-pub drop-get : (events : List Passed) (place : ℕ) (p : Passed) (others : List Passed) → drop place events ≡ p ∷ others →
-    slice_get events place ≡ Some p
-drop-get [] zero p others e = cc
-drop-get [] (suc place) p others e = cc
-drop-get (q ∷ events) zero p others e = cc
-drop-get (q ∷ events) (suc place) p others e = drop-get events place p others e
 
 -- ---- one event
 

@@ -1,6 +1,5 @@
 pub mod BorrowedLaws
 pub mod FirstEvents
-pub mod HeldTexts
 pub mod Keeping
 pub mod LeafLaws
 pub mod LeafReadings
@@ -31,5 +30,6 @@ pub mod TextsWithin
 pub mod TreeLaws
 pub mod TreeOnWalk
 pub mod TruthLaws
+pub mod WalkPlaces
 pub mod WholeNumbers
 pub mod WideNumbers

@@ -1,7 +1,7 @@
 -- Lists: nodes of the same text are read alike, and what is written comes back.
 use Rattle.std.specs.Prelude.{ℕ, List, length}
 use Rattle.std.specs.List.{All}
-use Rattle.std.proofs.Common.{◌≡◌, ℕ, ◌+◌, true, List, [], ◌∷◌, ◌++◌, Option, Some, refl, ap, ap₂, subst, arith, append_assoc, length-append}
+use Rattle.std.proofs.Common.{◌≡◌, ℕ, ◌+◌, true, List, [], ◌∷◌, ◌++◌, Option, Some, refl, ap, ap₂, arith, append_assoc, length-append}
 use Rattle.std.specs.Option.{option_map}
 use Rattle.std.proofs.lemmas.List.Elements.{All-head, All-tail}
 use Rattle.facet_format.specs.Bytes.{left_bracket, right_bracket}
@@ -19,7 +19,7 @@ use Rattle.facet_json_written.proofs.OneValue.{IsLeft, IsLeft-past, IsLeft-as, m
 use Rattle.facet_json_meaning.specs.Laws.{SameReading, ReadsBack}
 use Rattle.facet_json_meaning.specs.Lists.{put_value, items_of, list_of, trees_by, list_by}
 use Rattle.facet_json_meaning.specs.Nodes.{same_scalars, same_arrays, same_objects, SameItems, same_none, same_first}
-use Rattle.facet_json_meaning.proofs.TextsWithin.{ReadsAnywhere, reads-anywhere, reads-alone, text-depth}
+use Rattle.facet_json_meaning.proofs.TextsWithin.{ReadsAnywhere, reads-alone, reads-inside}
 
 -- ---- nodes of the same text
 
@@ -133,18 +133,13 @@ module _ {V : Type 0} (reading : List ℕ → Node → Option V) where
 
 module _ {V : Type 0} (reading : List ℕ → Node → Option V) (tree_by : V → Tree) (readable : V → Type 0) (same : SameReading reading)
     (back : ReadsBack reading tree_by readable) where
-  one-item : (v : V) → readable v → ReadsAnywhere reading (text default_options 1 (tree_by v)) v
-  one-item v r =
-      subst (λ t. ReadsAnywhere reading t v) (text-depth 0 1 (tree_by v))
-      (reads-anywhere reading same (text default_options 0 (tree_by v)) v (back v r).1)
-
   all-items : (values : List V) → All readable values → ItemsReadAnywhere reading (items_text default_options 0 true (trees_by tree_by values)) values
   unfolding text
   all-items [] all = items-none reading
-  all-items (v ∷ []) all = items-last reading (text default_options 1 (tree_by v)) v (one-item v (All-head readable v [] all))
+  all-items (v ∷ []) all = items-last reading (text default_options 1 (tree_by v)) v (reads-inside reading tree_by readable same back v (All-head readable v [] all))
   all-items (v ∷ u ∷ values) all =
       items-more reading (text default_options 1 (tree_by v)) (items_text default_options 0 true (trees_by tree_by (u ∷ values))) v (u ∷ values)
-      (one-item v (All-head readable v (u ∷ values) all)) (all-items (u ∷ values) (All-tail readable v (u ∷ values) all))
+      (reads-inside reading tree_by readable same back v (All-head readable v (u ∷ values) all)) (all-items (u ∷ values) (All-tail readable v (u ∷ values) all))
 
   all-raw : (values : List V) → All readable values → RawItems IsDocumentText (trees_by tree_by values)
   unfolding RawItems

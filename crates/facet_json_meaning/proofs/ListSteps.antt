@@ -1,13 +1,11 @@
 -- How a list is read: the first event of an array, its items one by one, and its closing bracket.
 use Rattle.std.specs.Prelude.{ℕ, List, drop, slice_get, length}
 use Rattle.std.specs.Option.{option_map}
-use Rattle.std.proofs.Common.{◌≡◌, ◌+◌, ◌⊎◌, inl, inr, ℕ, zero, suc, Bool, true, false, List, [], ◌∷◌, ◌++◌, Option, None, Some, Ok, refl, sym, ap, ◌∙◌, arith, append_assoc, append-nil, length-append}
-use Rattle.std.proofs.lemmas.List.{drop-drop}
-use Rattle.std.proofs.Math.Seq.{drop-append_seam}
+use Rattle.std.proofs.Common.{◌≡◌, ◌+◌, ◌⊎◌, inl, inr, ℕ, suc, Bool, true, false, List, [], ◌∷◌, ◌++◌, Option, None, Some, Ok, refl, sym, ap, ◌∙◌, arith, append_assoc, append-nil, length-append}
 use Rattle.facet_format.specs.Complaint.{Refusal}
 use Rattle.facet_format.specs.Event.{Event, Passed, array, sequence_start, sequence_end, struct_start}
 use Rattle.facet_format.specs.Event as events
-use Rattle.facet_format.specs.Cursor.{Cursor, Source, Spot, event, on_walk, event_or_end, an_event, the_end, at_spot, unpeeked, peek, Answer, Step, repeats, peeks, peeks_without_memory, peeks_at_the_end, peeks_at_nothing}
+use Rattle.facet_format.specs.Cursor.{Cursor, Source, Spot, event, on_walk, event_or_end, an_event, at_spot, unpeeked, peek, Answer, Step, repeats, peeks, peeks_without_memory, peeks_at_the_end, peeks_at_nothing}
 use Rattle.facet_format.specs.Kept.{found}
 use Rattle.facet_format.specs.Standing.{IsStep}
 use Rattle.facet_json_token.specs.Token.{Token}
@@ -23,25 +21,9 @@ use Rattle.facet_json_meaning.specs.Nodes.{StandsBefore, StandsAfter}
 use Rattle.facet_json_meaning.specs.Passing.{WalksPast, LacksAlone}
 use Rattle.facet_json_meaning.specs.Reading.{IsRead, IsUnread}
 use Rattle.facet_json_meaning.specs.Lists.{put_value, items_of, list_of, nodes_of, begins_list, ends_list, BeginsList, IsNoList, ShowsEnd, FindsEnd}
-use Rattle.facet_json_meaning.proofs.LeafReadings.{drop-get}
 use Rattle.facet_json_meaning.proofs.FirstEvents.{first_event, first-passed}
-
--- ---- one event of a walk
-
--- What comes from the next place on.
-drop-suc : (events : List Passed) (place : ℕ) (p : Passed) (others : List Passed) → drop place events ≡ p ∷ others →
-    drop (suc place) events ≡ others
-drop-suc [] zero p others e = cc
-drop-suc [] (suc place) p others e = cc
-drop-suc (q ∷ events) zero p others e = cc
-drop-suc (q ∷ events) (suc place) p others e = drop-suc events place p others e
-
--- What comes after a node.
-past-node : (w : Source) (place : ℕ) (n : Node) (others : List Passed) → drop place w.events ≡ walk w.bytes n ++ others →
-    drop (place + length (walk w.bytes n)) w.events ≡ others
-past-node w place n others comes =
-    sym (drop-drop (length (walk w.bytes n)) place w.events) ∙ ap (drop (length (walk w.bytes n))) comes
-    ∙ drop-append_seam (walk w.bytes n) others
+use Rattle.facet_json_meaning.proofs.PeekOnWalk.{step-no_end}
+use Rattle.facet_json_meaning.proofs.WalkPlaces.{drop-get, drop-suc, drop-node}
 
 -- ---- within an array
 
@@ -264,7 +246,7 @@ module _ {V : Type 0} (reading : List ℕ → Node → Option V) where
         others = at.others;
         comes =
             ap (λ (s : Spot ℕ). drop s.place w.events) after.there
-            ∙ past-node w at.cursor.spot.place first (walk_items w.bytes rest ++ event_at sequence_end at.last ∷ at.others) before.comes;
+            ∙ drop-node w at.cursor.spot.place first (walk_items w.bytes rest ++ event_at sequence_end at.last ∷ at.others) before.comes;
         values = meant.1;
         meant = meant.3;
         counts =
@@ -378,15 +360,6 @@ peek-finds_end old new shown f answer so is step w c p stands free at =
     let s = step w c stands in
     let shows = step-shows w c s.0 p shown new answer free at is s.1 s.2 in
     record { shown = shows.shown ∙ sym so; stands = shows.stands }
-
-step-no_end : (w : Source) (c d : Cursor ℕ) (p : Passed) (answer : Answer) → c.refusal ≡ None →
-    slice_get w.events c.spot.place ≡ Some p → answer ≡ event (Ok None) → Step (on_walk w) c peek answer d → ⊥
-step-no_end w c d p answer free at is (repeats s call _ f a) = cc
-step-no_end w c d p answer free at is (peeks q none up) = cc
-step-no_end w c d p answer free at is (peeks_without_memory q none up takes) = cc
-step-no_end w c d p answer free at is (peeks_at_the_end none up) =
-    let there : an_event p ≡ the_end = sym (ap event_or_end at) ∙ up in cc
-step-no_end w c d p answer free at is (peeks_at_nothing q none up so) = cc
 
 -- Before an event of the walk, the end is not answered.
 pub peek-no_event : (old new : Now) (f : Bool) (answer : Answer) → answer ≡ event (Ok None) → IsStep StandsAt old peek answer new →

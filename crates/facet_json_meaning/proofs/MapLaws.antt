@@ -8,7 +8,8 @@ use Rattle.facet_json_meaning.specs.Maps.{Entries, with_entry, with_members, map
 use Rattle.facet_json_meaning.specs.Nodes.{same_scalars, same_arrays, same_objects, SameMembers, same_no_members, same_member}
 use Rattle.facet_json_meaning.proofs.LeafLaws.{same-means}
 
-and_then-same : {A B : Type 0} (f g : A → Option B) → ((a : A) → f a ≡ g a) → (o p : Option A) → o ≡ p → option_and_then f o ≡ option_and_then g p
+-- Functions that agree go on alike from what is alike.
+pub and_then-same : {A B : Type 0} (f g : A → Option B) → ((a : A) → f a ≡ g a) → (o p : Option A) → o ≡ p → option_and_then f o ≡ option_and_then g p
 and_then-same f g same None p e = ap (option_and_then g) e
 and_then-same f g same (Some a) p e = same a ∙ ap (option_and_then g) e
 

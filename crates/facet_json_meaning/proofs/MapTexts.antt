@@ -6,7 +6,7 @@ use Rattle.std.specs.Map.{keys_of}
 use Rattle.std.specs.Ordering.{match_ordering, ordering_reverse}
 use Rattle.std.specs.Str.{is_utf8}
 use Rattle.std.specs.declared.cmp.Ordering.TheVariants.{Less}
-use Rattle.std.proofs.Common.{◌≡◌, ℕ, true, List, [], ◌∷◌, Option, Some, refl, ap, ◌∙◌, subst}
+use Rattle.std.proofs.Common.{◌≡◌, ℕ, true, List, [], ◌∷◌, Option, Some, refl, ap, ◌∙◌}
 use Rattle.std.proofs.lemmas.Cmp.{nat_list_cmp_total}
 use Rattle.std.proofs.lemmas.List.Elements.{All-head, All-tail}
 use Rattle.facet_json_document.specs.Node.{Node, Members, no_members}
@@ -17,7 +17,7 @@ use Rattle.facet_json_meaning.specs.Laws.{SameReading, ReadsBack}
 use Rattle.facet_json_meaning.specs.Maps.{Entries, by_bytes, with_entry, with_members, map_of, pairs_of_entries, tree_of_entries, IsReadableMap}
 use Rattle.facet_json_meaning.proofs.MapReadings.{first-is}
 use Rattle.facet_json_meaning.proofs.ObjectTexts.{Joins, MembersAnywhere, members-none, members-join, object-whole}
-use Rattle.facet_json_meaning.proofs.TextsWithin.{ReadsAnywhere, reads-anywhere, reads-alone, text-depth}
+use Rattle.facet_json_meaning.proofs.TextsWithin.{reads-alone, reads-inside}
 
 -- ---- entries in their order
 
@@ -63,11 +63,6 @@ module _ {V : Type 0} (reading : List ℕ → Node → Option V) where
 
 module _ {V : Type 0} (reading : List ℕ → Node → Option V) (tree_by : V → Tree) (readable : V → Type 0) (same : SameReading reading)
     (back : ReadsBack reading tree_by readable) where
-  one-value : (v : V) → readable v → ReadsAnywhere reading (text default_options 1 (tree_by v)) v
-  one-value v r =
-      subst (λ t. ReadsAnywhere reading t v) (text-depth 0 1 (tree_by v))
-      (reads-anywhere reading same (text default_options 0 (tree_by v)) v (back v r).1)
-
   abbrev IsText : List ℕ × V → Type 0
   IsText e = is_utf8 e.0 ≡ true
 
@@ -80,7 +75,7 @@ module _ {V : Type 0} (reading : List ℕ → Node → Option V) (tree_by : V �
   all-members [] texts values = members-none (AreEntries reading []) (no-entries reading tree_by [] refl)
   all-members (e ∷ entries) texts values =
       members-join reading e.0 e.1 (AreEntries reading entries) (AreEntries reading (e ∷ entries)) (entry-joins reading e.0 e.1 entries) (tree_by e.1)
-      (pairs_of_entries tree_by entries) (All-head IsText e entries texts) (one-value e.1 (All-head IsBack e entries values)) (no-entries reading tree_by entries)
+      (pairs_of_entries tree_by entries) (All-head IsText e entries texts) (reads-inside reading tree_by readable same back e.1 (All-head IsBack e entries values)) (no-entries reading tree_by entries)
       (all-members entries (All-tail IsText e entries texts) (All-tail IsBack e entries values))
 
   all-raw : (entries : Entries V) → All IsBack entries → RawMembers IsDocumentText (pairs_of_entries tree_by entries)

@@ -1,8 +1,6 @@
 -- How the members of an object are passed one by one on a walk: its first event, a key with its value, and the end.
 use Rattle.std.specs.Prelude.{ℕ, List, drop, slice_get, length}
-use Rattle.std.proofs.Common.{◌≡◌, ◌+◌, ◌⊎◌, inl, inr, ℕ, zero, suc, true, false, List, [], ◌∷◌, ◌++◌, Option, None, Some, IsSome, refl, sym, ap, ◌∙◌, arith, append_assoc, length-append}
-use Rattle.std.proofs.lemmas.List.{drop-drop}
-use Rattle.std.proofs.Math.Seq.{drop-append_seam}
+use Rattle.std.proofs.Common.{◌≡◌, ◌+◌, ◌⊎◌, inl, inr, ℕ, suc, true, false, List, [], ◌∷◌, ◌++◌, Option, None, Some, IsSome, refl, sym, ap, ◌∙◌, arith, append_assoc, length-append}
 use Rattle.facet_format.specs.Complaint.{Refusal, no_memory}
 use Rattle.facet_format.specs.Event.{Event, EventKind, Passed, object, sequence_start, sequence_end, struct_start, struct_end, field_key, Text, bytes_of}
 use Rattle.facet_format.specs.Event as event
@@ -20,17 +18,10 @@ use Rattle.facet_json_transcode.proofs.WalkTells.{key-named}
 use Rattle.facet_json_meaning.specs.Nodes.{StandsBefore, StandsAfter}
 use Rattle.facet_json_meaning.specs.Passing.{WalksPast, LacksAlone}
 use Rattle.facet_json_meaning.specs.Objects.{members_of, begins_object, BeginsObject, IsNoObject, key_or_end, LacksKey}
-use Rattle.facet_json_meaning.proofs.LeafReadings.{drop-get, walk-first}
+use Rattle.facet_json_meaning.proofs.LeafReadings.{walk-first}
+use Rattle.facet_json_meaning.proofs.WalkPlaces.{drop-get, drop-suc, drop-node}
 
 -- ---- one event of a walk
-
--- What comes from the next place on.
-drop-suc : (events : List Passed) (place : ℕ) (p : Passed) (others : List Passed) → drop place events ≡ p ∷ others →
-    drop (suc place) events ≡ others
-drop-suc [] zero p others e = cc
-drop-suc [] (suc place) p others e = cc
-drop-suc (q ∷ events) zero p others e = cc
-drop-suc (q ∷ events) (suc place) p others e = drop-suc events place p others e
 
 -- The event that comes is the one that is passed, and the others come after it.
 record PassesFirst (w : Source) (c : Cursor ℕ) (given : Event) (new : Now) (p : Passed) (others : List Passed) : Type 0 where
@@ -134,13 +125,6 @@ pub record IsMember (mid : Now) (w : Source) (c : Cursor ℕ) (n : Node) (member
   pub before : StandsBefore mid w cursor value
   pub past : (new : Now) → StandsAfter new w cursor value → AtMembers new w c n rest
 
--- what comes after a value
-past-value : (w : Source) (place : ℕ) (value : Node) (others : List Passed) → drop place w.events ≡ walk w.bytes value ++ others →
-    drop (place + length (walk w.bytes value)) w.events ≡ others
-past-value w place value others comes =
-    sym (drop-drop (length (walk w.bytes value)) place w.events) ∙ ap (drop (length (walk w.bytes value))) comes
-    ∙ drop-append_seam (walk w.bytes value) others
-
 -- The text in the key's event is the key's.
 same-name : (k name : List ℕ) (given : Text) → bytes_of given ≡ k → key_or_end (field_key given) ≡ Some (Some name) → k ≡ name
 same-name k name given e is = let kind : Some (Some (bytes_of given)) ≡ Some (Some name) = is in cc
@@ -159,7 +143,7 @@ past-member w c n now new key mark value rest at d kept place comes values meant
   others = at.others;
   comes =
       ap (λ (s : Spot ℕ). drop s.place w.events) after.there
-      ∙ past-value w d.spot.place value (walk_members w.bytes rest ++ event_at struct_end at.last ∷ at.others) comes;
+      ∙ drop-node w d.spot.place value (walk_members w.bytes rest ++ event_at struct_end at.last ∷ at.others) comes;
   values = values;
   meant = meant;
   counts =

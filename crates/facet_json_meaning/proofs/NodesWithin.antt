@@ -1,6 +1,5 @@
 -- The bytes of a node spell it by themselves, whatever stands around them. So nodes whose ranges hold the same bytes are nodes of the same text.
-use Rattle.std.proofs.Common.{◌≡◌, ℕ, ◌+◌, ◌-◌, ◌≤◌, ◌<◌, true, false, List, ◌++◌, length, drop, refl, sym, ap, ap₂, ◌∙◌, subst, arith, true≢false, Option, length-drop, inl, inr}
-use Rattle.std.proofs.lemmas.Bool.{cases_lt}
+use Rattle.std.proofs.Common.{◌≡◌, ℕ, ◌+◌, ◌-◌, ◌≤◌, ◌<◌, true, false, List, ◌++◌, length, drop, refl, sym, ap, ap₂, ◌∙◌, subst, arith, true≢false, Option, length-drop}
 use Rattle.std.proofs.lemmas.List.{length-take-le, take-append-drop}
 use Rattle.facet_format.specs.Span.{stop}
 use Rattle.facet_json_token.specs.Cut.{Cut, nothing_left, token, fault, cut}
@@ -8,7 +7,7 @@ use Rattle.facet_json_token.specs.Gap.{Mode, plain, jsonc}
 use Rattle.facet_json_token.specs.Token.{Kind, Token, string, number, object_start, object_end, array_start, array_end, colon, comma}
 use Rattle.facet_json_token.specs.Tokens.{Tokens, next, tokens_from}
 use Rattle.facet_json_token.proofs.CutBounds.{TokenFits, cut-token_fits}
-use Rattle.facet_json_token.proofs.TokensSteps.{by_first, tokens_by_first, tokens_from-others, cut-end}
+use Rattle.facet_json_token.proofs.TokensSteps.{cut-token_within, by_first, tokens_by_first, tokens_from-others}
 use Rattle.facet_json_document.specs.Node.{Node, scalar, array, object, Nodes, no_nodes, item, Members, no_members, member, is_scalar, is_string, Spells, one_token, brackets, braces, SpellsItems, closed, item_and_comma, last_item, SpellsMembers, ended_members, member_and_comma, last_member}
 use Rattle.facet_json_document.specs.Refusal.{needs_meaning}
 use Rattle.facet_json_document.specs.RunLaws.{last_token}
@@ -333,14 +332,6 @@ spells-first _ _ _ (one_token t rest i) = (rest, refl)
 spells-first _ _ _ (brackets first last inner rest nodes i s) = (inner, refl)
 spells-first _ _ _ (braces first last inner rest pairs i s) = (inner, refl)
 
--- Where a token is cut, the position lies within the buffer.
-position-within : (buffer : List ℕ) (mode : Mode) (at : ℕ) (t : Token) → cut buffer at mode ≡ token t → at ≤ length buffer
-position-within buffer mode at t e =
-    elim (cases_lt at (length buffer)) [
-      | inl h ↦ omega arith
-      | inr h ↦ let none : cut buffer at mode ≡ nothing_left = cut-end buffer at mode h in cc
-    ]
-
 -- The bytes of a node alone spell a node of the same text.
 record IsAlone (buffer : List ℕ) (node : Node) : Type 0 where
   here : Node
@@ -361,7 +352,7 @@ alone buffer mode from node rest s =
     tokens_by_first buffer mode start (token t) again ∙ sym (tokens_by_first buffer mode from (token t) is) in
     let order =
     node-order buffer start (tokens_from buffer mode start) rest node (subst (λ ts. Spells ts node rest) (sym there) s)
-    (tokens-in_order buffer mode start (position-within buffer mode start t again)) in
+    (tokens-in_order buffer mode start (cut-token_within buffer start mode t again)) in
     let none : start + 0 ≡ start = omega arith in
     let w =
     node-within buffer mode start (end - start) (omega (arith, order.behind, order.within)) (tokens_from buffer mode from) rest node s 0 (omega arith)

@@ -2,7 +2,7 @@
 use Rattle.std.proofs.Common.{◌≡◌, ℕ, zero, suc, ◌+◌, List, [], ◌∷◌, ◌++◌, length, take, drop, refl, sym, ap, ◌∙◌}
 use Rattle.std.proofs.lemmas.List.{take-append-drop}
 use Rattle.facet_format.specs.Event.{Passed}
-use Rattle.facet_format.specs.Cursor.{Source}
+use Rattle.facet_format.specs.Cursor.{Cursor, Source}
 use Rattle.facet_format.specs.Part.{Part, value, part_at}
 use Rattle.facet_format.specs.Span.{stop}
 use Rattle.facet_json_document.specs.Node.{Node}
@@ -10,6 +10,8 @@ use Rattle.facet_json_document.specs.RunLaws.{last_token}
 use Rattle.facet_json_document.specs.UnreadLaws.{first_token, is_container}
 use Rattle.facet_json_document.specs.Walk.{walk}
 use Rattle.facet_json_document.proofs.Parts.WalksAreValues.{walk_is_one_value}
+use Rattle.facet_json_protocol.specs.Now.{Now}
+use Rattle.facet_json_meaning.specs.Nodes.{StandsBefore}
 use Rattle.facet_json_meaning.proofs.LeafReadings.{walk-first}
 
 -- A place from which something comes is as many events behind the start.
@@ -37,3 +39,8 @@ node-there w place node others comes =
     ap (part_at w) (sym len)
     ∙ ap (λ events. part_at (record { bytes = w.bytes; events = events }) (length front)) (sym whole)
     ∙ walk_is_one_value w.bytes node front others ∙ ap (part_of_node w.bytes node) len
+
+-- Where the parser stands before a node, the part that stands there is the node's value.
+pub part-is_node : (now : Now) (w : Source) (c : Cursor ℕ) (node : Node) → StandsBefore now w c node → (part : Part ℕ) →
+    part ≡ part_at w c.spot.place → part ≡ part_of_node w.bytes node c.spot.place
+part-is_node now w c node before part is = is ∙ node-there w c.spot.place node before.others before.comes

@@ -48,7 +48,8 @@ peek-lacks old new r answer is step = record {
   lacks = λ w c p stands free at. let s = step w c stands in step-lacks w c s.0 p r answer free at is s.1;
 }
 
-step-no_end : (w : Source) (c d : Cursor ℕ) (p : Passed) (answer : Answer) → c.refusal ≡ None →
+-- Where an event comes, a peek doesn't answer the end.
+pub step-no_end : (w : Source) (c d : Cursor ℕ) (p : Passed) (answer : Answer) → c.refusal ≡ None →
     slice_get w.events c.spot.place ≡ Some p → answer ≡ event (Ok None) → Step (on_walk w) c peek answer d → ⊥
 step-no_end w c d p answer free at is (repeats s call _ f a) = cc
 step-no_end w c d p answer free at is (peeks q none up) = cc

@@ -3,7 +3,7 @@ use Rattle.std.proofs.Common.{◌≡◌, ℕ, Bool, true, false, cond, List, Som
 use Rattle.std.specs.Str.{is_utf8}
 use Rattle.facet_format.specs.Complaint.{Refusal}
 use Rattle.facet_format.specs.Cursor.{Cursor, Source, on_walk, unpeeked, current_span, no_memory_at, capture, Answer, raw, Step, repeats, captures, captures_without_memory, captures_nothing}
-use Rattle.facet_format.specs.Part.{Part, part_at, capture_of, captured}
+use Rattle.facet_format.specs.Part.{capture_of, captured}
 use Rattle.facet_format.specs.Standing.{IsStep}
 use Rattle.facet_json_document.specs.Node.{Node}
 use Rattle.facet_json_document.specs.RunLaws.{last_token}
@@ -14,7 +14,7 @@ use Rattle.facet_json_transcode.specs.Reading.{LacksMemory}
 use Rattle.facet_json_meaning.specs.Nodes.{StandsBefore, StandsAfter}
 use Rattle.facet_json_meaning.specs.Reading.{IsRead, IsUnread}
 use Rattle.facet_json_meaning.specs.Readings.{raw_of}
-use Rattle.facet_json_meaning.proofs.PartOnWalk.{part_of_node, node-there}
+use Rattle.facet_json_meaning.proofs.PartOnWalk.{part-is_node}
 
 -- ---- what is captured
 
@@ -34,15 +34,12 @@ module _ (w : Source) (c : Cursor ℕ) (node : Node) (old : Now) (before : Stand
   abbrev bytes : List ℕ
   bytes = bytes_between w.bytes (first_token node) (last_token node)
 
-  there : (part : Part ℕ) → part ≡ part_at w c.spot.place → part ≡ part_of_node w.bytes node c.spot.place
-  there part is = is ∙ node-there w c.spot.place node before.others before.comes
-
   step-captures : (d : Cursor ℕ) (given : List ℕ) (new : Now) (answer : Answer) → answer ≡ raw (Ok (Some given)) →
       Step (on_walk w) c capture answer d → StandsAt new w d → (raw_of w.bytes node ≡ Some given) × StandsAfter new w c node
   step-captures d given new answer is (repeats s call _ f a) stands = let free = before.free in cc
   step-captures d given new answer is (captures part text place none at what) stands =
       let same : text ≡ given = cc in
-      let shown = ap (capture_of w.bytes) (sym (there part at)) ∙ what ∙ ap (λ t. Ok (t, place)) same in
+      let shown = ap (capture_of w.bytes) (sym (part-is_node old w c node before part at)) ∙ what ∙ ap (λ t. Ok (t, place)) same in
       let both = captured-text _ _ _ place bytes given (is_utf8 bytes) shown in (
         both.0,
         record { cursor = _; stands = stands; free = before.free; there = ap unpeeked both.1; kept = λ point spot e. e },
@@ -58,7 +55,7 @@ module _ (w : Source) (c : Cursor ℕ) (node : Node) (old : Now) (before : Stand
       let same : no_memory_at (current_span (on_walk w) c.spot) ≡ r = cc in
       inl (ap (λ (x : Refusal). x.complaint) (sym same))
   step-uncaptured d r answer is (captures_nothing part s none at what) =
-      inr (captured-none _ _ _ bytes s (is_utf8 bytes) (ap (capture_of w.bytes) (sym (there part at)) ∙ what))
+      inr (captured-none _ _ _ bytes s (is_utf8 bytes) (ap (capture_of w.bytes) (sym (part-is_node old w c node before part at)) ∙ what))
 
 -- The text that is answered is that of the node before which the parser stood, and it stands after it.
 pub answer-captures : (old new : Now) (given : List ℕ) (answer : Answer) → answer ≡ raw (Ok (Some given)) →

@@ -1,6 +1,6 @@
 -- Texts that read as a value wherever they stand: those that do so by themselves.
 use Rattle.std.specs.Prelude.{ℕ, List, length}
-use Rattle.std.proofs.Common.{◌≡◌, ℕ, suc, ◌+◌, Bool, true, false, List, [], ◌∷◌, ◌++◌, Option, Some, refl, sym, ap, ap₂, ◌∙◌, arith, append-nil}
+use Rattle.std.proofs.Common.{◌≡◌, ℕ, suc, ◌+◌, Bool, true, false, List, [], ◌∷◌, ◌++◌, Option, Some, refl, sym, ap, ap₂, ◌∙◌, subst, arith, append-nil}
 use Rattle.facet_format.specs.Bytes.{left_bracket, left_brace}
 use Rattle.facet_json_token.specs.Gap.{plain}
 use Rattle.facet_json_token.specs.Tokens.{ended, tokens_from}
@@ -15,7 +15,7 @@ use Rattle.facet_json_written.proofs.MovedTokens.{moved_node}
 use Rattle.facet_json_written.proofs.OneToken.{ends_number}
 use Rattle.facet_json_written.proofs.OneValue.{IsLeft}
 use Rattle.facet_json_written.proofs.RawValues.{document-moved}
-use Rattle.facet_json_meaning.specs.Laws.{SameReading, ReadsAs}
+use Rattle.facet_json_meaning.specs.Laws.{SameReading, ReadsAs, ReadsBack}
 use Rattle.facet_json_meaning.proofs.MovedNodes.{moved-same}
 
 -- From an offset of the buffer on, up to another, stands a node that reads as the value.
@@ -90,3 +90,10 @@ mutual
   members-depth depth other first (pair key value members) =
       ap₂ (λ a b. separator first ++ new_line default_options depth ++ quoted key ++ colon_text default_options ++ a ++ b) (text-depth (suc depth) (suc other) value)
       (members-depth depth other false members)
+
+-- The text of a readable value reads as the value wherever it stands within a list or an object.
+pub reads-inside : {V : Type 0} (reading : List ℕ → Node → Option V) (tree_by : V → Tree) (readable : V → Type 0) → SameReading reading →
+    ReadsBack reading tree_by readable → (v : V) → readable v → ReadsAnywhere reading (text default_options 1 (tree_by v)) v
+reads-inside reading tree_by readable same back v r =
+    subst (λ t. ReadsAnywhere reading t v) (text-depth 0 1 (tree_by v))
+    (reads-anywhere reading same (text default_options 0 (tree_by v)) v (back v r).1)

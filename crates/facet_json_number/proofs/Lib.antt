@@ -1,3 +1,3 @@
 mod DigitValues
 mod ShortNumbers
-mod SignedNumbers
+pub mod SignedNumbers

@@ -1,5 +1,6 @@
 pub mod InsideTexts
 pub mod PackedKinds
 pub mod ScannedTokens
+pub mod StoppingTokens
 pub mod TokensThere
 pub mod TurnsAtPlaces

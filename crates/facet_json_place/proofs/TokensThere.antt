@@ -1,15 +1,14 @@
 -- The token that stands at an offset, and the tokens from before the gap that ends there.
 use Rattle.std.proofs.Common.{◌≡◌, ℕ, ◌+◌, ◌≤◌, false, List, Some, length, drop, slice_get, sym, ap, ◌∙◌, subst, refl, arith, length-drop}
-use Rattle.std.proofs.lemmas.Bool.{eq-eqb}
 use Rattle.facet_format.specs.Number.{Hint, Parts, parts, parts_len, parts_hint, is_bare}
 use Rattle.facet_format.specs.Span.{stop, span_at}
-use Rattle.facet_json_token.specs.Cut.{cut, cut_here, cut_word, past_gap, common_len, token_at, punctuation, letter, opens_number, start_of}
+use Rattle.facet_json_token.specs.Cut.{cut, cut_here, past_gap, common_len, token_at, punctuation, letter, opens_number, start_of}
 use Rattle.facet_json_token.specs.Gap.{Mode}
 use Rattle.facet_json_token.specs.Token.{Kind}
 use Rattle.facet_json_token.specs.Token as token
 use Rattle.facet_json_token.specs.Tokens.{next, tokens_from}
 use Rattle.facet_json_token.proofs.CutBounds.{CutFits, TokenFits, here_fits}
-use Rattle.facet_json_token.proofs.FirstBytes.{cut_here-by, cut_here-word, cut_here-number}
+use Rattle.facet_json_token.proofs.FirstBytes.{cut_here-by, cut_here-word, cut_here-number, cut_word-is}
 use Rattle.facet_json_token.proofs.NumberCuts.{cut_number-parts}
 use Rattle.facet_json_token.proofs.TokensSteps.{tokens_from-token}
 
@@ -32,13 +31,10 @@ tokens-past_gap buffer mode from at len kind fits gap is =
     tokens_from-token buffer from mode (record { kind = kind; span = span_at at len }) fits (past_gap-cut buffer mode from at gap ∙ is)
 
 -- A literal is cut whose letters all stand there.
-all_letters : (at n : ℕ) (bytes word : List ℕ) (kind : Kind) → n ≡ length word → cut_word at bytes word kind n ≡ token_at kind at (length word)
-all_letters at n bytes word kind e = rw (eq-eqb n (length word) e) (ap (token_at kind at) e)
-
 pub word-cut : (mode : Mode) (buffer : List ℕ) (at b : ℕ) (word : List ℕ) (kind : Kind) → slice_get buffer at ≡ Some b → start_of b ≡ letter word kind →
     common_len word (drop at buffer) ≡ length word → cut_here mode at (drop at buffer) ≡ token_at kind at (length word)
 word-cut mode buffer at b word kind here begins all =
-    sym (cut_here-word mode buffer at b word kind here begins) ∙ all_letters at (common_len word (drop at buffer)) (drop at buffer) word kind all
+    sym (cut_here-word mode buffer at b word kind here begins) ∙ cut_word-is at (drop at buffer) word kind (common_len word (drop at buffer)) all
 
 -- A token that stands there fits there.
 pub there-fits : (mode : Mode) (buffer : List ℕ) (at len : ℕ) (kind : Kind) → at ≤ length buffer →

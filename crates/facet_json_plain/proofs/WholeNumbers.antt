@@ -1,5 +1,5 @@
 -- Digits, perhaps after a minus, with neither a fraction nor an exponent after them are a number.
-use Rattle.std.proofs.Common.{◌≡◌, ◌≢◌, ℕ, zero, suc, ◌+◌, ◌-◌, ◌<◌, ◌≤◌, ◌^◌, Bool, true, false, cond, List, ◌∷◌, length, take, drop, get_or, slice_get, ℤ, pos, neg_ℤ, None, Some, refl, sym, ap, subst, ◌∙◌, arith}
+use Rattle.std.proofs.Common.{◌≡◌, ◌≢◌, ℕ, suc, ◌+◌, ◌-◌, ◌<◌, ◌≤◌, ◌^◌, true, false, cond, List, ◌∷◌, length, take, drop, get_or, slice_get, ℤ, pos, neg_ℤ, None, Some, refl, sym, ap, subst, ◌∙◌, arith}
 use Rattle.std.specs.Prelude.{nat_lt, nat_le, slice_range, ◌==◌, ◌||◌}
 use Rattle.std.proofs.lemmas.Bool.{ne_eqb, lt-ltb, le-leb, or_parts}
 use Rattle.std.proofs.lemmas.List.{drop-drop, drop_more, take_rest}
@@ -7,14 +7,13 @@ use Rattle.std.proofs.lemmas.Option.{slice_get_within}
 use Rattle.facet_format.specs.Bytes.{minus, dot, is_exponent_mark}
 use Rattle.facet_format.specs.Event as event
 use Rattle.facet_format.specs.Number.{AreDigits, Hint, Parts, unsigned, signed, is_some_len, hint_of, minus_len, digits_len, sign_len, fraction_len, exponent_len, parts, parts_len, is_bare, is_number, number, digits_value, unsigned_number, negative_number, u64, u128, i64, i128}
-use Rattle.facet_format.proofs.NumberLaws.{is_number-sound, parts_hint-is}
 use Rattle.facet_format.proofs.NumberSteps.{PartsEnd-parts, PartsEnd-lengths}
 use Rattle.facet_format.proofs.NumberText.{unsigned-digits, number-unsigned, number-signed, signed-digits}
 use Rattle.facet_json_token.specs.Cut.{opens_number, start_of}
 use Rattle.facet_json_token.specs.Gap.{plain}
-use Rattle.facet_json_token.proofs.NumberCuts.{sign-bound}
 use Rattle.facet_json_token.proofs.Offsets.{drop-at_byte}
 use Rattle.facet_json_token.proofs.Starts.{start_of-number}
+use Rattle.facet_json_number.proofs.SignedNumbers.{signed-sign}
 use Rattle.facet_json_place.proofs.TokensThere.{there-fits, number-cut}
 use Rattle.facet_json_plain.specs.Inner.Whole.{IsWhole}
 use Rattle.facet_json_plain.specs.Values.{IsScalarThere}
@@ -99,24 +98,6 @@ module _ (buffer : List ℕ) (at b n : ℕ) (here : slice_get buffer at ≡ Some
       (ne_eqb (parts_len (whole_parts 0 n)) 0 (λ (e : 0 + n + 0 + 0 ≡ 0). omega (arith, w.some, e))) means (λ kind. refl)
 
 -- ---- after a minus
-
--- A minus stands in a signed number.
-with_minus : (m f x : Bool) → hint_of m f x ≡ signed → m ≡ true
-with_minus true f x e = refl
-with_minus false true x e = cc
-with_minus false false true e = cc
-with_minus false false false e = cc
-
-some-above : (n : ℕ) → is_some_len n ≡ true → 0 < n
-some-above zero e = cc
-some-above (suc n) e = omega arith
-
--- Its sign is one byte.
-signed-sign : (text : List ℕ) → is_number text signed ≡ true → 1 ≡ (parts text).sign
-signed-sign text is =
-    let p = parts text in
-    let has = with_minus (is_some_len p.sign) (is_some_len p.fraction) (is_some_len p.exponent) (parts_hint-is text signed (is_number-sound text signed is).numeral) in
-    omega (arith, some-above p.sign has, sign-bound text)
 
 module _ (buffer : List ℕ) (at n : ℕ) (here : slice_get buffer at ≡ Some minus) (w : IsWhole (drop (at + 1) buffer) n) where
   sign-stands : 1 ≡ minus_len (drop at buffer)

@@ -1,14 +1,15 @@
 -- What is refused after its longest prefix has no document.
 use Rattle.std.specs.Prelude.{ℕ, List}
-use Rattle.std.proofs.Common.{◌≡◌, ℕ, List, [], ◌∷◌, refl, sym, ap, ◌∙◌, subst}
+use Rattle.std.proofs.Common.{◌≡◌, ℕ, List, [], refl, sym, ap, ◌∙◌, subst}
 use Rattle.facet_format.specs.Complaint.{Refusal}
 use Rattle.facet_format.specs.Event.{Passed}
 use Rattle.facet_json_token.specs.Gap.{Mode}
 use Rattle.facet_json_token.specs.Tokens.{Tokens, tokens}
-use Rattle.facet_json_document.specs.Future.{Future, finished, stuck, events_before, within, reads}
+use Rattle.facet_json_document.specs.Future.{Future, stuck, events_before, within, reads}
 use Rattle.facet_json_document.specs.Place.{Place, root, after_key}
 use Rattle.facet_json_document.specs.Refusal.{IsStuck}
 use Rattle.facet_json_document.specs.Walk.{walk}
+use Rattle.facet_json_document.proofs.Parts.FinishedComes.{never-stuck}
 use Rattle.facet_json_document.proofs.StuckComes.{stuck-reads, stuck-reads_colon}
 use Rattle.facet_json_document.proofs.WalkComes.{at_root, document-comes}
 use Rattle.facet_json_prefix.specs.Begun.{RefusesAfter}
@@ -33,15 +34,10 @@ refused-comes {buffer = buffer} {events = events} r =
     let leads = begun-leads buffer [] r.prefix.begun at_root refl in
     leads.comes ∙ ap (events_before events) (read-stuck leads.from r.stuck)
 
--- What is stuck doesn't finish.
-stuck-unfinished : (here : Place) (rest : Tokens) (more : List Passed) → stuck here rest ≡ events_before more finished → ⊥
-stuck-unfinished here rest [] e = cc
-stuck-unfinished here rest (p ∷ more) e = cc
-
 -- An input that is refused has no document.
 pub refused_has_none : RefusedHasNone
 refused_has_none buffer mode refusal node value r d =
     let halts = stuck r.after.here r.after.rest in
     let left =
     tail-finished r.events (walk buffer node) halts (sym (refused-comes r.after) ∙ document-comes buffer mode node value d) in
-    stuck-unfinished r.after.here r.after.rest left.0 left.2
+    never-stuck r.after.here r.after.rest left.0 left.2

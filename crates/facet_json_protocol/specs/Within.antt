@@ -6,15 +6,12 @@ use Rattle.facet_format.specs.Complaint.{Refusal}
 use Rattle.facet_format.specs.Event.{Event}
 use Rattle.facet_format.specs.Cursor.{Answer, event, batch, skipped, raw, saved, restored, spans}
 use Rattle.facet_json_document.specs.InputPlace.{Standing}
+pub use Rattle.facet_json_document.specs.UnreadLaws.{RefusalWithin}
 use Rattle.facet_json_protocol.specs.Now.{Now}
 
 -- The last token that was passed lies within the buffer.
 abbrev pub StandsWithin : List ℕ → Standing → Type 0
 StandsWithin buffer s = stop s.last ≤ length buffer
-
--- The span of a refusal lies within the buffer.
-abbrev pub RefusalWithin : List ℕ → Refusal → Type 0
-RefusalWithin buffer refusal = IfSome refusal.span (λ s. stop s ≤ length buffer)
 
 -- All that a parser keeps lies within its input.
 pub record NowWithin (now : Now) : Type 0 where

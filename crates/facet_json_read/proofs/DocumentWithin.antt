@@ -82,19 +82,19 @@ module _ (buffer : List ℕ) (mode : Mode) (depth : ℕ) where
   refused_by r (as_ever unread shallow) (document_comes node value d comes) = inl (unread-only buffer mode r unread node value d)
   refused_by r (too_deep span comes is) (document_comes node value d e) =
       inr (in_document node value span d (sym (document-beyond node value d) ∙ comes) is)
-  refused_by r (as_ever unread shallow) (prefix_comes events here left front e) =
-      let broken : Breaks here left (future_of (fresh buffer mode)) = subst (λ f. Breaks here left f) (sym e) (begun-breaks buffer front.begun) in
+  refused_by r (as_ever unread shallow) (prefix_comes events here left prefix e) =
+      let broken : Breaks here left (future_of (fresh buffer mode)) = subst (λ f. Breaks here left f) (sym e) (begun-breaks buffer prefix.begun) in
       let same = ap (λ f. beyond f (Some depth)) e ∙ stuck-beyond events here left (Some depth) in
       elim (unread.broken here left broken) [
         | inl h ↦ inl h
         | inr s ↦ elim (shallow here left broken) [
           | inl h ↦ inl h
-          | inr none ↦ inr (has_none events (record { here = here; rest = left; front = front; stuck = s }) (sym same ∙ none))
+          | inr none ↦ inr (has_none events (record { here = here; rest = left; prefix = prefix; stuck = s }) (sym same ∙ none))
         ]
       ]
-  refused_by r (too_deep span comes is) (prefix_comes events here left front e) =
+  refused_by r (too_deep span comes is) (prefix_comes events here left prefix e) =
       let same = ap (λ f. beyond f (Some depth)) e ∙ stuck-beyond events here left (Some depth) in
-      inr (in_prefix events here left span front (sym same ∙ comes) is)
+      inr (in_prefix events here left span prefix (sym same ∙ comes) is)
 
   -- What is refused for anything but out of memory is so refused within the depth.
   pub unread-refused-within : (r : Refusal) → IsValueUnreadWithin (Some depth) buffer (future_of (fresh buffer mode)) r →

@@ -9,7 +9,7 @@ use Rattle.facet_json_document.specs.Refusal.{IsStuck}
 use Rattle.facet_json_document.specs.Future.{Future, gives, stuck}
 use Rattle.facet_json_protocol.specs.Now.{Now, ahead, future_of}
 use Rattle.facet_json_transcode.specs.Told.{tree_of_scalar, opens}
-use Rattle.facet_json_transcode.specs.Reading.{LacksMemory, StopsAt, GivesNone, lacks_memory, at_the_end, is_stuck, IsRead, IsUnread, IsValueRead, IsValueUnread}
+use Rattle.facet_json_transcode.specs.Reading.{LacksMemory, LacksOrStops, GivesNone, lacks_memory, at_the_end, is_stuck, IsRead, IsUnread, IsValueRead, IsValueUnread}
 use Rattle.facet_json_read.specs.Inner.Reading.{WentOn, AreItemsUnread, AreMembersUnread}
 use Rattle.facet_json_read.proofs.FirstEventTells.{broken-opens, scalar-told, list-told, object-told, list-broken, object-broken, HasFirst, has_first, HasFirstOr, first, none, told-has, items-has, members-has, broken-has, items_broken-has, members_broken-has}
 
@@ -46,7 +46,7 @@ none-memory now r _ e (is_stuck place rest g s) (has_first p f) = cc
 
 -- Else it is that nothing goes on at the place.
 none-stops : (now : Now) (r : Refusal) (f : Future) (place : Place) (rest : Tokens) → future_of now ≡ f → GivesNone now r →
-    HasFirstOr place rest f → StopsAt now.buffer place rest r
+    HasFirstOr place rest f → LacksOrStops now.buffer place rest r
 none-stops now r f place rest e (lacks_memory h) has = inl h
 none-stops now r _ place rest e (at_the_end g) (first p f) = cc
 none-stops now r _ place rest e (at_the_end g) none = cc

@@ -1,5 +1,5 @@
 -- What stands after a key: its colon, the end, or another token.
-use Rattle.std.proofs.Common.{◌≡◌, ◌≤◌, ◌∙◌, ℕ, false, List, length, Some, Ok, refl, sym, subst}
+use Rattle.std.proofs.Common.{◌≡◌, ◌≤◌, ◌∙◌, ℕ, false, List, length, Some, Ok, sym, subst}
 use Rattle.std.proofs.lemmas.Option.{same_Some}
 use Rattle.facet_json_token.specs.declared.token.Token.{Token as RustToken}
 use Rattle.facet_json_token.specs.declared.token.Token.TheVariants as code
@@ -17,13 +17,7 @@ use Rattle.facet_json_document.specs.Place.{after_key, goes_on}
 use Rattle.facet_json_document.specs.Refusal.{at_end}
 use Rattle.facet_json_reader.specs.Views.{IsColon, StopsAt}
 use Rattle.facet_json_place.proofs.ScannedTokens.{IsCut, ends, stands, is_cut}
-
--- Another token than a colon is none.
-no_colon : (t : RustToken) (kind : Kind) → (t ≡ code.Colon → ⊥) → kind_of t ≡ Some kind → goes_on after_key kind ≡ false
-no_colon code.Colon kind isnt k = absurd (isnt refl)
-no_colon code.Eof kind isnt k = cc
-no_colon (code.NeedMore n) kind isnt k = cc
-no_colon _ kind isnt k = subst (λ x. goes_on after_key x ≡ false) (same_Some _ _ k) refl
+use Rattle.facet_json_place.proofs.StoppingTokens.{none-at_end, stopped-after_key}
 
 module _ (buffer : List ℕ) (position : ℕ) (mode : Mode) (t : SpannedToken) where
   colon_by : IsCut buffer position mode t → t.token ≡ code.Colon → IsColon buffer mode position (span_of t.span)
@@ -38,25 +32,11 @@ module _ (buffer : List ℕ) (position : ℕ) (mode : Mode) (t : SpannedToken) w
       t.token ≡ code.Colon → IsColon buffer mode position (span_of t.span)
   colon-stands p e is = colon_by (is_cut buffer position mode t p e) is
 
-  ended_by : IsCut buffer position mode t → t.token ≡ code.Eof → span_of t.span ≡ span_at (length buffer) 0 →
-      StopsAt buffer after_key (tokens_from buffer mode position) (refusal_at (unexpected_token (codes "Eof") (codes "':'")) (span_of t.span))
-  ended_by (ends is_end none) is s = rw (none, s) (at_end after_key)
-  ended_by (stands scans) is s =
-      let none = subst (λ (u : RustToken). kind_of u ≡ Some scans.kind) is scans.is_kind in cc
-
   -- The input ends.
   pub colon-ends : position ≤ length buffer → scanned (Ok t) ≡ Some (cut buffer position mode) →
       t.token ≡ code.Eof → span_of t.span ≡ span_at (length buffer) 0 →
       StopsAt buffer after_key (tokens_from buffer mode position) (refusal_at (unexpected_token (codes "Eof") (codes "':'")) (span_of t.span))
-  colon-ends p e is s = ended_by (is_cut buffer position mode t p e) is s
-
-  other_by : IsCut buffer position mode t → (t.token ≡ code.Colon → ⊥) → (t.token ≡ code.Eof → ⊥) → (r : Refusal) →
-      ((kind : Kind) (rest : Tokens) → kind_of t.token ≡ Some kind → goes_on after_key kind ≡ false →
-      StopsAt buffer after_key (next (record { kind = kind; span = span_of t.span }) rest) r) →
-      StopsAt buffer after_key (tokens_from buffer mode position) r
-  other_by (ends is_end none) no_mark no_end r stops = absurd (no_end is_end)
-  other_by (stands s) no_mark no_end r stops =
-      let at = s.tokens in rw at (stops s.kind _ s.is_kind (no_colon t.token s.kind no_mark s.is_kind))
+  colon-ends p e is s = let none = none-at_end buffer position mode t p e is in rw (none, s) (at_end after_key)
 
   -- Another token is next.
   pub colon-other : position ≤ length buffer → scanned (Ok t) ≡ Some (cut buffer position mode) →
@@ -64,4 +44,5 @@ module _ (buffer : List ℕ) (position : ℕ) (mode : Mode) (t : SpannedToken) w
       ((kind : Kind) (rest : Tokens) → kind_of t.token ≡ Some kind → goes_on after_key kind ≡ false →
       StopsAt buffer after_key (next (record { kind = kind; span = span_of t.span }) rest) r) →
       StopsAt buffer after_key (tokens_from buffer mode position) r
-  colon-other p e no_mark no_end r stops = other_by (is_cut buffer position mode t p e) no_mark no_end r stops
+  colon-other p e no_mark no_end r stops =
+      stopped-after_key buffer position mode t (λ ts. StopsAt buffer after_key ts r) p e no_mark no_end stops

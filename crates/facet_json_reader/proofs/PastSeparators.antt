@@ -19,11 +19,12 @@ use Rattle.facet_json_token.specs.Tokens.{Tokens, ended, next, tokens_from}
 use Rattle.facet_json_token.specs.Cut.{cut}
 use Rattle.facet_json_token.specs.Views.{kind_of, scanned}
 use Rattle.facet_json_document.specs.Future.{Future, finished, within, over, reads}
-use Rattle.facet_json_document.specs.Place.{stops, leads_on, goes_on}
+use Rattle.facet_json_document.specs.Place.{stops, goes_on}
 use Rattle.facet_json_place.specs.Views.{place_of, turn_of, turn_by}
 use Rattle.facet_json_reader.specs.Views.{stage_of, comes_at, coming, IsTurn, StopsAt, IsRefusedBefore}
 use Rattle.facet_json_reader.proofs.EventsAtTurns.{stops-refused}
 use Rattle.facet_json_place.proofs.ScannedTokens.{IsCut, ends, stands, is_cut}
+use Rattle.facet_json_place.proofs.StoppingTokens.{stopped-at_place}
 
 -- ---- the end
 
@@ -60,18 +61,6 @@ module _ (buffer : List ℕ) (mode : Mode) (p : RustPlace) (position : ℕ) (t :
   is-turn w h e turns goes = turn_by_cut w (is_cut buffer position mode t h e) turns goes
 
 module _ (buffer : List ℕ) (mode : Mode) (stack : List ContainerKind) (p : RustPlace) (position : ℕ) (t : SpannedToken) where
-  stopped_by_cut : (last : Span) (refusal : Refusal) → IsCut buffer position mode t →
-      turn_of turns.Stops ≡ turn_by (place_of p) (kind_of t.token) →
-      (t.token ≡ code.Eof → StopsAt buffer (place_of p) ended refusal) →
-      ((kind : Kind) (rest : Tokens) → kind_of t.token ≡ Some kind → goes_on (place_of p) kind ≡ false →
-      StopsAt buffer (place_of p) (next (record { kind = kind; span = span_of t.span }) rest) refusal) →
-      IsRefusedBefore buffer last (comes_at buffer mode stack (within (place_of p)) position) refusal
-  stopped_by_cut last refusal (ends is_end none) e at_end at_token =
-      stops-refused buffer mode stack (place_of p) position last ended refusal none (at_end is_end)
-  stopped_by_cut last refusal (stands s) e at_end at_token =
-      let never = ap leads_on (sym (e ∙ ap (turn_by (place_of p)) s.is_kind)) in
-      stops-refused buffer mode stack (place_of p) position last _ refusal s.tokens (at_token s.kind _ s.is_kind never)
-
   -- A token without a turn, or the end, is refused.
   pub stopped-refused : (last : Span) (refusal : Refusal) → position ≤ length buffer →
       scanned (Ok t) ≡ Some (cut buffer position mode) →
@@ -81,7 +70,8 @@ module _ (buffer : List ℕ) (mode : Mode) (stack : List ContainerKind) (p : Rus
       StopsAt buffer (place_of p) (next (record { kind = kind; span = span_of t.span }) rest) refusal) →
       IsRefusedBefore buffer last (comes_at buffer mode stack (within (place_of p)) position) refusal
   stopped-refused last refusal h e turns at_end at_token =
-      stopped_by_cut last refusal (is_cut buffer position mode t h e) turns at_end at_token
+      stops-refused buffer mode stack (place_of p) position last (tokens_from buffer mode position) refusal refl
+      (stopped-at_place buffer position mode t p (λ ts. StopsAt buffer (place_of p) ts refusal) h e turns at_end at_token)
 
 -- ---- after separators
 

@@ -1,5 +1,5 @@
 -- Fields: nodes of the same text are read alike.
-use Rattle.std.proofs.Common.{◌≡◌, ℕ, List, Option, None, Some, refl, ap, ◌∙◌}
+use Rattle.std.proofs.Common.{◌≡◌, ℕ, List, Option, refl, ap, ◌∙◌}
 use Rattle.std.specs.Option.{option_and_then}
 use Rattle.facet_json_document.specs.Meaning.{text_of, meaning}
 use Rattle.facet_json_document.specs.Node.{Members}
@@ -7,6 +7,7 @@ use Rattle.facet_json_meaning.specs.Laws.{SameReading}
 use Rattle.facet_json_meaning.specs.Nodes.{same_scalars, same_arrays, same_objects, SameMembers, same_no_members, same_member}
 use Rattle.facet_json_meaning.specs.Optional.{optional}
 use Rattle.facet_json_meaning.proofs.LeafLaws.{same-means}
+use Rattle.facet_json_meaning.proofs.MapLaws.{and_then-same}
 use Rattle.facet_json_meaning.proofs.OptionalLaws.{optional-same}
 use Rattle.facet_json_record.specs.Fields.{Reading, Table, none, need, maybe, seen_by, begins_with, other_names, field_step, after_members, fields_of}
 
@@ -30,10 +31,6 @@ need-same {reading = reading} {t = t} same more = record { same = step-same read
 pub maybe-same : {V W : Type 0} {reading : Reading V} {t : Table W} → SameReading reading → SameSteps t → SameSteps (maybe reading t)
 maybe-same {reading = reading} {t = t} same more =
     record { same = step-same (optional reading) t.step (optional-same reading same) more.same }
-
-and_then-same : {A B : Type 0} (f g : A → Option B) → ((a : A) → f a ≡ g a) → (o p : Option A) → o ≡ p → option_and_then f o ≡ option_and_then g p
-and_then-same f g same None p e = ap (option_and_then g) e
-and_then-same f g same (Some a) p e = same a ∙ ap (option_and_then g) e
 
 members-same : {S : Type 0} (step : List ℕ → S → Reading S) → ((key : List ℕ) (seen : S) → SameReading (step key seen)) → (these those : List ℕ)
     (members others : Members) → SameMembers these those members others → (seen : S) →

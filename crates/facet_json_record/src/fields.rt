@@ -171,7 +171,14 @@ impl<'de, T: Facet<'de>, R: Fields<'de>> Fields<'de> for Need<T, R> {
             slots.0 = Some(value_in::<T>(alloc, parser, borrows)?);
             return Ok(());
         }
-        R::put(&mut slots.1, after_first(names), key, alloc, parser, borrows)
+        R::put(
+            &mut slots.1,
+            after_first(names),
+            key,
+            alloc,
+            parser,
+            borrows,
+        )
     }
 
     fn finish<'t>(
@@ -228,7 +235,14 @@ impl<'de, T: Facet<'de>, R: Fields<'de>> Fields<'de> for Maybe<T, R> {
             slots.0 = Some(value_in::<Option<T>>(alloc, parser, borrows)?);
             return Ok(());
         }
-        R::put(&mut slots.1, after_first(names), key, alloc, parser, borrows)
+        R::put(
+            &mut slots.1,
+            after_first(names),
+            key,
+            alloc,
+            parser,
+            borrows,
+        )
     }
 
     fn finish<'t>(

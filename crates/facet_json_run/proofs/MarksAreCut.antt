@@ -6,9 +6,10 @@ use Rattle.facet_json_token.specs.declared.token.ScanError.{ScanError}
 use Rattle.facet_json_token.specs.Views.{scanned}
 use Rattle.facet_json_token.specs.Gap.{Mode, plain, jsonc, whole, gap_len, gap_len_from}
 use Rattle.facet_json_token.specs.Token.{Kind}
-use Rattle.facet_json_token.specs.Cut.{IsStructural, object_starts, object_ends, array_starts, array_ends, colon_stands, comma_stands, punctuation, start_of, token_at, cut_here, past_gap, cut}
+use Rattle.facet_json_token.specs.Cut.{IsStructural, object_starts, object_ends, array_starts, array_ends, colon_stands, comma_stands, punctuation, token_at, cut_here, past_gap, cut}
 use Rattle.facet_json_token.proofs.FirstBytes.{cut_here-by, no_end}
 use Rattle.facet_json_token.proofs.Offsets.{drop-at_byte}
+use Rattle.facet_json_token.proofs.Starts.{start_of-structural}
 
 -- No gap begins with such a byte.
 no_gap : (mode : Mode) (b : ℕ) (kind : Kind) (rest : List ℕ) → IsStructural b kind → gap_len mode whole (b ∷ rest) ≡ 0
@@ -32,16 +33,6 @@ no_gap jsonc _ _ (c ∷ rest) colon_stands = refl
 no_gap jsonc _ _ [] comma_stands = refl
 no_gap jsonc _ _ (c ∷ rest) comma_stands = refl
 
--- It begins the token of its kind.
-begins_mark : (b : ℕ) (kind : Kind) → IsStructural b kind → start_of b ≡ punctuation kind
-unfolding start_of
-begins_mark _ _ object_starts = refl
-begins_mark _ _ object_ends = refl
-begins_mark _ _ array_starts = refl
-begins_mark _ _ array_ends = refl
-begins_mark _ _ colon_stands = refl
-begins_mark _ _ comma_stands = refl
-
 -- Where it stands at a position, it is cut there.
 pub mark-is_cut : (buffer : List ℕ) (at b : ℕ) (mode : Mode) (kind : Kind) → IsStructural b kind → slice_get buffer at ≡ Some b →
     token_at kind at 1 ≡ cut buffer at mode
@@ -50,7 +41,7 @@ mark-is_cut buffer at b mode kind is here =
     let gap : gap_len mode whole (drop at buffer) ≡ 0 =
     ap (gap_len mode whole) (drop-at_byte buffer at b here) ∙ no_gap mode b kind (drop (at + 1) buffer) is in
     let past : at ≡ past_gap buffer at mode = omega (arith, gap) in
-    cut_here-by mode buffer at b (punctuation kind) here (begins_mark b kind is)
+    cut_here-by mode buffer at b (punctuation kind) here (start_of-structural b kind is)
     ∙ ap (λ n. cut_here mode n (drop n buffer)) past
 
 -- Such an answer is not the end.

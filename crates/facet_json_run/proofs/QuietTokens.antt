@@ -1,13 +1,13 @@
 -- Tokens that open and close nothing are passed, and a run goes on after them.
-use Rattle.std.proofs.Common.{◌≡◌, ℕ, ◌+◌, ◌≤◌, ◌<◌, List, ◌∷◌, length, drop, Some, slice_get, refl, sym, ap, ◌∙◌, arith, drop-drop}
+use Rattle.std.proofs.Common.{◌≡◌, ℕ, ◌+◌, ◌≤◌, ◌<◌, List, ◌∷◌, length, drop, Some, slice_get, refl, sym, ap, ◌∙◌, arith}
 use Rattle.facet_format.specs.Event.{ContainerKind}
 use Rattle.facet_format.specs.Span.{Span, stop, span_at}
-use Rattle.facet_json_token.specs.Gap.{Mode, whole, gap_len}
+use Rattle.facet_json_token.specs.Gap.{Mode}
 use Rattle.facet_json_token.specs.Cut.{IsStructural, cut, cut_here, past_gap, token_at}
 use Rattle.facet_json_token.specs.Token.{Kind, Token}
 use Rattle.facet_json_token.specs.Tokens.{next, tokens_from}
 use Rattle.facet_json_token.proofs.CutBounds.{past_gap-bound}
-use Rattle.facet_json_token.proofs.Gaps.{gap_len-none, gap_len-ends}
+use Rattle.facet_json_token.proofs.Gaps.{past_gap-again, cut-past_gap}
 use Rattle.facet_json_token.proofs.TokensSteps.{tokens_by_first, tokens_from-token}
 use Rattle.facet_json_document.specs.Inner.PassedRun.{leaves, passing, passed, Outcome}
 use Rattle.facet_json_document.proofs.Runs.RunsPassed.{passed-next, passed-any}
@@ -20,14 +20,6 @@ use Rattle.facet_json_run.proofs.RunSteps.{LeadsTo, goes_on}
 abbrev pub IsQuiet : Kind → Type 0
 IsQuiet kind = (innermost : ContainerKind) (around : List ContainerKind) (s : Span) → passing innermost around s kind ≡ leaves (innermost ∷ around)
 
--- After a gap stands no gap.
-past_gap-twice : (buffer : List ℕ) (mode : Mode) (from : ℕ) → past_gap buffer (past_gap buffer from mode) mode ≡ past_gap buffer from mode
-past_gap-twice buffer mode from =
-    let n = gap_len mode whole (drop from buffer) in
-    let none = gap_len-none mode whole _ (gap_len-ends mode whole (drop from buffer)) in
-    let same : gap_len mode whole (drop (from + n) buffer) ≡ 0 = ap (gap_len mode whole) (sym (drop-drop n from buffer)) ∙ none in
-    omega (arith, same)
-
 module _ (buffer : List ℕ) (mode : Mode) where
   pub leads_on-twice : (from by to : ℕ) → LeadsOn buffer mode from by → LeadsOn buffer mode by to → LeadsOn buffer mode from to
   leads_on-twice from by to a b = record {
@@ -39,17 +31,12 @@ module _ (buffer : List ℕ) (mode : Mode) where
   pub leads_on-nowhere : (at : ℕ) → at ≤ length buffer → LeadsOn buffer mode at at
   leads_on-nowhere at h = record { past = omega arith; ends = h; same = λ kind around last. refl }
 
-  -- A gap is passed.
-  cut-past_gap : (from : ℕ) → cut buffer (past_gap buffer from mode) mode ≡ cut buffer from mode
-  unfolding cut
-  cut-past_gap from = ap (λ (p : ℕ). cut_here mode p (drop p buffer)) (past_gap-twice buffer mode from)
-
   tokens-same : (from to : ℕ) → cut buffer to mode ≡ cut buffer from mode → tokens_from buffer mode from ≡ tokens_from buffer mode to
   tokens-same from to e = tokens_by_first buffer mode from (cut buffer from mode) refl ∙ sym (tokens_by_first buffer mode to (cut buffer from mode) e)
 
   pub gap-leads_on : (from at : ℕ) → from ≤ length buffer → at ≡ past_gap buffer from mode → LeadsOn buffer mode from at
   gap-leads_on from at h e =
-      let tokens = tokens-same from at (ap (λ (p : ℕ). cut buffer p mode) e ∙ cut-past_gap from) in
+      let tokens = tokens-same from at (ap (λ (p : ℕ). cut buffer p mode) e ∙ cut-past_gap buffer from mode) in
       record {
         past = omega (arith, e);
         ends = omega (arith, e, past_gap-bound buffer from mode h);
@@ -58,7 +45,7 @@ module _ (buffer : List ℕ) (mode : Mode) where
 
   -- The gap after a gap is empty.
   at_gap : (at : ℕ) → EndsGap buffer mode at → at ≡ past_gap buffer at mode
-  at_gap at g = g.gap ∙ sym (past_gap-twice buffer mode g.from) ∙ ap (λ (p : ℕ). past_gap buffer p mode) (sym g.gap)
+  at_gap at g = g.gap ∙ sym (past_gap-again buffer g.from mode) ∙ ap (λ (p : ℕ). past_gap buffer p mode) (sym g.gap)
 
   -- A token that comes first is passed, if it is quiet.
   first-leads_on : (at to : ℕ) (t : Token) → at ≤ to → to ≤ length buffer → IsQuiet t.kind →

@@ -8,14 +8,14 @@ use Rattle.facet_json_token.specs.Gap.{Mode, jsonc, whole, piece_len, gap_len, w
 use Rattle.facet_json_token.specs.Token.{Fault}
 use Rattle.facet_json_token.specs.Cut.{Cut, nothing_left, token, fault, cut_here, past_gap, cut}
 use Rattle.facet_json_token.specs.Open.{IsBeginning, IsOpen}
-use Rattle.facet_json_token.proofs.Gaps.{gap_len-piece, gap_len-none}
+use Rattle.facet_json_token.proofs.Gaps.{gap_len-piece, gap_len-none, past_gap-again, cut-past_gap}
 use Rattle.facet_json_token.proofs.TokensSteps.{cut-end}
 use Rattle.facet_json_scanner.specs.Scanner.{Scanner, State, idle, in_line, Describes, GoesOnFrom, Answer, needs_more, refuses, answer_for, past_growing_gap, Gives, first_of, first_byte_of, stands_after}
 use Rattle.facet_json_scanner.specs.Laws.{RefusalRepeats, RefusalAtEnd, PendingAgain}
 use Rattle.facet_json_scanner.proofs.Beginnings.{described_begins}
 use Rattle.facet_json_scanner.proofs.FoundPastGap.{growing_gap-none}
 use Rattle.facet_json_scanner.proofs.NoPiece.{no_piece_but_line, open_no_piece, opens_line-none}
-use Rattle.facet_json_scanner.proofs.Refusals.{past_gap-again, growing_gap-again, cut-past_gap, shut-past_gap}
+use Rattle.facet_json_scanner.proofs.Refusals.{growing_gap-again, shut-past_gap}
 
 -- ---- after a refusal
 

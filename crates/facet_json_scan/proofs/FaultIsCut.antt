@@ -7,19 +7,18 @@ use Rattle.facet_format.specs.Number.{Parts, parts, parts_len, parts_hint, is_ba
 use Rattle.facet_format.specs.Span.{Span, span_at}
 use Rattle.facet_json_token.specs.Gap.{Mode, plain, jsonc, whole, with_line_mark, through_line_end, piece_len}
 use Rattle.facet_json_token.specs.Token.{Kind, FaultKind, Fault, unexpected_char, unexpected_eof, in_string, in_literal, in_block_comment}
-use Rattle.facet_json_token.specs.Cut.{IsStructural, object_starts, object_ends, array_starts, array_ends, colon_stands, comma_stands, IsLiteral, Cut, nothing_left, token, fault, Start, punctuation, opens_nothing, start_of, token_at, fault_at, common_len, cut_word, content_len, cut_text, cut_number, cut_slash, cut_by, cut_here, past_gap, cut}
+use Rattle.facet_json_token.specs.Cut.{IsLiteral, Cut, nothing_left, token, fault, Start, opens_nothing, start_of, token_at, fault_at, common_len, cut_word, content_len, cut_text, cut_number, cut_slash, cut_by, cut_here, past_gap, cut}
 use Rattle.facet_json_token.specs.Faults.{BeginsToken, BeginsNoNumber, IsFault}
 use Rattle.facet_json_token.specs.Laws.{FaultIsCut, FaultIsUnique}
 use Rattle.facet_format.proofs.NumberLaws.{number_is_longest, parts_len-some}
 use Rattle.facet_json_token.proofs.CutBounds.{common_len-bound}
-use Rattle.facet_json_token.proofs.Gaps.{piece_len-blank}
-use Rattle.facet_json_token.proofs.ShapesCut.{bare_behind, cut_here-shape}
-use Rattle.facet_json_token.proofs.Starts.{Begins, a_mark, a_word, a_text, a_number, a_comment, no_token, start_of-begins, start_of-number}
+use Rattle.facet_json_token.proofs.Gaps.{piece_len-blank, past_gap-ends}
+use Rattle.facet_json_token.proofs.ShapesCut.{bare_behind, cut_here-shape, cut_here-text}
+use Rattle.facet_json_token.proofs.Starts.{Begins, a_mark, a_word, a_text, a_number, a_comment, no_token, start_of-begins, start_of-structural, start_of-number}
 use Rattle.facet_json_scanner.proofs.Beginnings.{literal_starts, pieces_go_on, pieces_go_on_escaped}
 use Rattle.facet_json_scanner.proofs.GrowthOfGap.{opens_block, with_mark-none}
 use Rattle.facet_json_scanner.proofs.GrowthOfText.{IsUnended, content_len-none}
 use Rattle.facet_json_scanner.proofs.PendingWord.{common_len-prefix, prefix_of_word}
-use Rattle.facet_json_scanner.proofs.Refusals.{past_gap-ends}
 
 -- ---- what is wrong is cut
 
@@ -98,12 +97,6 @@ part_here mode at (c ∷ same) (wanted ∷ others) kind h some more =
     ∙ cut_word-broken at (length bytes) bytes word kind None (omega (arith, length-append bytes (wanted ∷ others)))
     (none_after bytes)
 
--- After a quote a string is cut.
-cut_here-quote : (mode : Mode) (at : ℕ) (bytes : List ℕ) →
-    cut_here mode at (quote ∷ bytes) ≡ cut_text at bytes (content_len false bytes)
-unfolding cut_here start_of
-cut_here-quote mode at bytes = refl
-
 -- A minus that begins no number is cut as a fault.
 minus_here : (mode : Mode) (at b : ℕ) (rest : List ℕ) → BeginsNoNumber (minus ∷ b ∷ rest) →
     cut_here mode at (minus ∷ b ∷ rest) ≡ fault_at (unexpected_char b) at 1
@@ -135,9 +128,9 @@ fault_here at _ _ _ _ (IsFault.slash_before b rest no_star no_slash) = slash_her
 fault_here at _ _ _ _ IsFault.slash_last = refl
 fault_here at _ _ _ _ (IsFault.block body h) = refl
 fault_here at _ _ _ _ (IsFault.text mode content has_escapes h) =
-    cut_here-quote mode at content ∙ ap (cut_text at content) (pieces_go_on content has_escapes h)
+    cut_here-text mode at content ∙ ap (cut_text at content) (pieces_go_on content has_escapes h)
 fault_here at _ _ _ _ (IsFault.escape mode content has_escapes h) =
-    cut_here-quote mode at (content ++ backslash ∷ [])
+    cut_here-text mode at (content ++ backslash ∷ [])
     ∙ ap (cut_text at (content ++ backslash ∷ [])) (pieces_go_on_escaped content has_escapes h)
 fault_here at _ _ _ _ (IsFault.literal mode same others rest wanted b kind h some apart) =
     differs_here mode at same others rest wanted b kind h some apart
@@ -324,20 +317,10 @@ no_space mode b bytes none = by_space (is_space b) refl
     by_space false e = refl
     by_space true e = absurd (omega (arith, none, piece_len-blank mode whole b bytes e))
 
--- A bracket, a colon or a comma begins itself.
-structural_begins : (b : ℕ) (kind : Kind) → IsStructural b kind → start_of b ≡ punctuation kind
-unfolding start_of
-structural_begins _ _ object_starts = refl
-structural_begins _ _ object_ends = refl
-structural_begins _ _ array_starts = refl
-structural_begins _ _ array_ends = refl
-structural_begins _ _ colon_stands = refl
-structural_begins _ _ comma_stands = refl
-
 -- What begins a token begins something.
 token_begins : (b : ℕ) → BeginsToken b → start_of b ≢ opens_nothing
 unfolding start_of
-token_begins _ (BeginsToken.mark b kind h) e = let is = structural_begins b kind h in cc
+token_begins _ (BeginsToken.mark b kind h) e = let is = start_of-structural b kind h in cc
 token_begins _ (BeginsToken.letter b letters kind h) e = let is = literal_starts b (b ∷ letters) letters kind h refl in cc
 token_begins _ BeginsToken.string e = cc
 token_begins _ (BeginsToken.number b h) e = let is = start_of-number b h in cc

@@ -7,12 +7,12 @@ use Rattle.facet_format.specs.Bytes.{quote, slash, star}
 use Rattle.facet_json_token.specs.Gap.{Mode, plain, jsonc}
 use Rattle.facet_format.specs.Number.{IsNumber, parts, parts_len, parts_hint, is_bare, starts_number, begins_number}
 use Rattle.facet_json_token.specs.Token.{Kind, string, number, Token, unexpected_eof, unexpected_char, in_literal}
-use Rattle.facet_json_token.specs.Cut.{IsLiteral, IsLongest, IsShape, Cut, nothing_left, token, fault, Start, start_of, token_at, fault_at, common_len, cut_word, content_len, cut_text, cut_number, cut_slash, cut_by, cut_here}
+use Rattle.facet_json_token.specs.Cut.{IsLiteral, IsLongest, IsShape, Cut, nothing_left, token, fault, Start, start_of, token_at, fault_at, common_len, cut_word, content_len, has_backslash, cut_text, cut_number, cut_slash, cut_by, cut_here}
 use Rattle.facet_json_token.specs.Laws.{ShapeIsCut, ShapeIsUnique}
 use Rattle.facet_json_token.proofs.Starts.{Begins, a_mark, a_word, a_text, a_number, a_comment, no_token, start_of-begins}
 use Rattle.facet_format.proofs.NumberPrefixes.{parts_len-bound}
 use Rattle.facet_format.proofs.NumberLaws.{number_is_longest}
-use Rattle.facet_json_token.proofs.TextShapes.{Below, content_len-below, any_backslash, ContentAt, content_at}
+use Rattle.facet_json_token.proofs.TextShapes.{Below, content_len-below, ContentAt, content_at}
 use Rattle.facet_json_token.proofs.CutBounds.{common_len-bound}
 use Rattle.facet_json_token.proofs.ShapesCut.{cut_here-shape}
 
@@ -77,7 +77,7 @@ text_shape at bytes None below h = tt
 text_shape at bytes (Some n) below h =
     let content = take n bytes in
     let rest = drop (suc n) bytes in
-    let mark = any_backslash content in
+    let mark = has_backslash content in
     let kind : ℕ → Kind = λ k. string (suc at) (suc at + k) mark in
     let long : length content ≡ n = length-take-le n bytes (omega arith) in
     let stands : IsShape at (quote ∷ (content ++ quote ∷ [])) rest (kind (length content)) =

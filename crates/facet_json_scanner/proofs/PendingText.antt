@@ -5,10 +5,10 @@ use Rattle.std.proofs.lemmas.List.{take-append-le, take_all}
 use Rattle.facet_format.specs.Bytes.{quote, backslash}
 use Rattle.facet_json_token.specs.Gap.{Mode}
 use Rattle.facet_json_token.specs.Token.{Kind, string}
-use Rattle.facet_json_token.specs.Cut.{ArePieces, token_at, cut_here, start_of, cut_text, opens_text, content_len}
+use Rattle.facet_json_token.specs.Cut.{ArePieces, token_at, cut_here, start_of, cut_text, opens_text, content_len, has_backslash}
 use Rattle.facet_json_token.specs.Open.{IsBeginning}
 use Rattle.facet_json_scanner.specs.Scanner.{in_text, Describes}
-use Rattle.facet_json_token.proofs.TextShapes.{content_len-is, pieces-mark, any_backslash}
+use Rattle.facet_json_token.proofs.TextShapes.{content_len-is, pieces-mark}
 use Rattle.facet_json_scanner.proofs.Beginnings.{begins_by}
 use Rattle.facet_json_token.proofs.FirstBytes.{cut_here-by}
 use Rattle.facet_json_token.proofs.Offsets.{drop-at_byte}
@@ -71,8 +71,8 @@ text-closed mode start _ rest _ (Describes.text _ content e h) =
     let len = content_len-is content rest e h in
     let front : take (length content) (content ++ quote ∷ rest) ≡ content =
     take-append-le (length content) content (quote ∷ rest) (omega arith) ∙ take_all (length content) content (omega arith) in
-    let escapes : any_backslash (take (length content) (content ++ quote ∷ rest)) ≡ e =
-    ap any_backslash front ∙ pieces-mark content e h in
+    let escapes : has_backslash (take (length content) (content ++ quote ∷ rest)) ≡ e =
+    ap has_backslash front ∙ pieces-mark content e h in
     let finish : suc start + length content ≡ start + suc (length content) = omega arith in
     ap (cut_text start (content ++ quote ∷ rest)) len
     ∙ ap₂ (λ f k. token_at (string (suc start) f k) start (suc (suc (length content)))) finish escapes

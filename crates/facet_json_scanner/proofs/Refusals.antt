@@ -1,7 +1,7 @@
 -- What is refused is what is cut where the refusal starts, on every buffer.
 use Rattle.std.proofs.Common.{◌≡◌, ℕ, zero, suc, ◌+◌, ◌≤◌, ◌<◌, Bool, true, false, List, [], ◌∷◌, length, drop, slice_get, Some, Result, Ok, Err, IfErr, refl, sym, ap, ◌∙◌, subst, arith, length-drop}
 use Rattle.std.proofs.lemmas.Bool.{eqb-true}
-use Rattle.std.proofs.lemmas.List.{append-nil, drop-drop}
+use Rattle.std.proofs.lemmas.List.{append-nil}
 use Rattle.facet_format.specs.Bytes.{minus}
 use Rattle.facet_format.specs.Number.{Parts, parts, parts_len, parts_hint, is_bare}
 use Rattle.facet_format.specs.Span.{Span}
@@ -11,14 +11,14 @@ use Rattle.facet_json_token.specs.declared.token.SpannedToken.{SpannedToken}
 use Rattle.facet_json_token.specs.declared.token.ScanErrorKind.{ScanErrorKind}
 use Rattle.facet_json_token.specs.declared.token.ScanErrorKind.TheVariants as scan
 use Rattle.facet_json_token.specs.declared.token.ScanError.{ScanError}
-use Rattle.facet_json_token.specs.Gap.{Mode, whole, growing, piece_len, gap_len}
+use Rattle.facet_json_token.specs.Gap.{Mode, whole, growing, piece_len}
 use Rattle.facet_json_token.specs.Token.{Token}
 use Rattle.facet_json_token.specs.Cut.{Cut, nothing_left, token, fault, start_of, opens_number, cut_number, cut_here, past_gap, cut}
 use Rattle.facet_json_token.specs.Open.{IsBeginning, IsOpen}
 use Rattle.facet_json_token.specs.Views.{scanned, fault_answer as fault_scanned}
 use Rattle.facet_json_token.proofs.FirstBytes.{cut_here-something, cut_here-number}
 use Rattle.facet_json_token.proofs.NumberCuts.{sign-bound}
-use Rattle.facet_json_token.proofs.Gaps.{gap_len-none, gap_len-ends}
+use Rattle.facet_json_token.proofs.Gaps.{past_gap-ends, past_gap-again, cut-past_gap}
 use Rattle.facet_json_token.proofs.NumberCuts.{number_at}
 use Rattle.facet_json_token.proofs.Offsets.{drop-at_byte}
 use Rattle.facet_json_token.proofs.Starts.{start_of-number}
@@ -64,13 +64,6 @@ more-no_refusal (Err f) n s P e = absurd (no_more (span_of f.span) f.kind e)
 
 -- ---- where a gap ends
 
--- No piece of a gap stands there.
-pub past_gap-ends : (buffer : List ℕ) (p : ℕ) (mode : Mode) →
-    piece_len mode whole (drop (past_gap buffer p mode) buffer) ≡ 0
-past_gap-ends buffer p mode =
-    let rest = drop p buffer in
-    rw (drop-drop (gap_len mode whole rest) p buffer) at (gap_len-ends mode whole rest)
-
 -- Where no piece of a whole input's gap stands, none of a growing one's does.
 pub growing-none : (mode : Mode) (bytes : List ℕ) → piece_len mode whole bytes ≡ 0 → piece_len mode growing bytes ≡ 0
 growing-none mode bytes none = by_piece (piece_len mode growing bytes) refl
@@ -81,26 +74,12 @@ growing-none mode bytes none = by_piece (piece_len mode growing bytes) refl
         let keeps : piece_len mode whole bytes ≡ suc n = rw append-nil at (piece_len-keeps mode bytes [] n e) in
         absurd (omega arith)
 
--- The gap from there on is empty.
-pub past_gap-again : (buffer : List ℕ) (p : ℕ) (mode : Mode) →
-    past_gap buffer (past_gap buffer p mode) mode ≡ past_gap buffer p mode
-past_gap-again buffer p mode =
-    let at = past_gap buffer p mode in
-    let none : gap_len mode whole (drop at buffer) ≡ 0 =
-    gap_len-none mode whole (drop at buffer) (past_gap-ends buffer p mode) in omega arith
-
--- That of a growing buffer too.
+-- The gap of a growing buffer from there on is empty too.
 pub growing_gap-again : (buffer : List ℕ) (p : ℕ) (mode : Mode) →
     past_growing_gap buffer (past_gap buffer p mode) mode ≡ past_gap buffer p mode
 growing_gap-again buffer p mode =
     let at = past_gap buffer p mode in
     growing_gap-none mode buffer at (growing-none mode (drop at buffer) (past_gap-ends buffer p mode))
-
--- From there on the same is cut.
-pub cut-past_gap : (buffer : List ℕ) (p : ℕ) (mode : Mode) →
-    cut buffer (past_gap buffer p mode) mode ≡ cut buffer p mode
-unfolding cut
-cut-past_gap buffer p mode = ap (λ n. cut_here mode n (drop n buffer)) (past_gap-again buffer p mode)
 
 -- A buffer that isn't open isn't open there.
 pub shut-past_gap : (buffer : List ℕ) (p : ℕ) (mode : Mode) → p ≤ length buffer → (IsOpen buffer p mode → ⊥) →

@@ -12,9 +12,10 @@ use Rattle.facet_format.specs.Number.{Hint, parts, parts_len, parts_hint, is_bar
 use Rattle.facet_format.specs.Span.{stop, span_at}
 use Rattle.facet_json_token.specs.Gap.{Mode, plain, jsonc}
 use Rattle.facet_json_token.specs.Token.{Kind, Token}
-use Rattle.facet_json_token.specs.Cut.{Cut, nothing_left, token, Start, punctuation, letter, opens_text, opens_number, opens_comment, opens_nothing, start_of, cut_by, cut_here, cut_word, cut_text, cut_number, cut_bare_minus, cut_slash, common_len}
+use Rattle.facet_json_token.specs.Cut.{Cut, nothing_left, token, Start, punctuation, letter, opens_text, opens_number, opens_comment, opens_nothing, start_of, cut_by, cut_here, cut_word, cut_text, cut_number, cut_slash, common_len}
 use Rattle.facet_json_token.specs.Open.{IsBeginning}
 use Rattle.facet_json_token.proofs.FirstBytes.{cut_here-by}
+use Rattle.facet_json_token.proofs.NumberCuts.{bare_minus-no_token}
 use Rattle.facet_json_token.proofs.Offsets.{drop-at_byte}
 use Rattle.facet_json_scanner.proofs.Beginnings.{BeginsBy, begins_by}
 use Rattle.facet_json_scanner.proofs.PendingWord.{common_len-prefix}
@@ -29,12 +30,8 @@ module _ (t : Token) where
       by false is None got = let c = rw (is, got) at cut in cc
       by false is (Some b) got = let c = rw (is, got) at cut in cc
 
-  minus_no_token : (at : ℕ) (bytes : List ℕ) → cut_bare_minus at bytes ≡ token t → ⊥
-  minus_no_token at [] cut = cc
-  minus_no_token at (b ∷ bytes) cut = cc
-
   number_ends : (at n : ℕ) (bytes : List ℕ) (hint : Hint) (bare : Bool) → cut_number at bytes n hint bare ≡ token t → stop t.span ≡ at + n
-  number_ends at n bytes hint true cut = absurd (minus_no_token at bytes cut)
+  number_ends at n bytes hint true cut = absurd (bare_minus-no_token at bytes t cut)
   number_ends at n bytes hint false cut = let same : span_at at n ≡ t.span = cc in sym (ap stop same)
 
   slash_no_token : (mode : Mode) (at : ℕ) (bytes : List ℕ) → cut_slash mode at bytes ≡ token t → ⊥

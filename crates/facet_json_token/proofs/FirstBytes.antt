@@ -72,6 +72,11 @@ start_of-nothing b h0 h1 h2 h3 h4 h5 h6 h7 h8 h9 no_minus no_slash no_digit =
     ∙ ap (λ v. cond v opens_number (cond (eqb b slash) opens_comment opens_nothing)) starts
     ∙ ap (λ v. cond v opens_comment opens_nothing) (ne_eqb b slash no_slash)
 
+-- a word that is all there is cut as its token
+pub cut_word-is : (at : ℕ) (bytes word : List ℕ) (kind : Kind) (n : ℕ) → n ≡ length word →
+    cut_word at bytes word kind n ≡ token_at kind at (length word)
+cut_word-is at bytes word kind n e = rw (eq-eqb n (length word) e) (ap (token_at kind at) e)
+
 -- a letter begins a literal
 pub cut_here-word : (mode : Mode) (buffer : List ℕ) (at b : ℕ) (word : List ℕ) (kind : Kind) →
     slice_get buffer at ≡ Some b → start_of b ≡ letter word kind →

@@ -1,7 +1,9 @@
 -- A gap piece by piece: how it goes on after a piece, and that it is no longer than the bytes.
 use Rattle.std.proofs.Common.{◌≡◌, ℕ, zero, suc, ◌+◌, ◌≤◌, true, List, [], ◌∷◌, length, drop, refl, ap, ◌∙◌, arith}
+use Rattle.std.proofs.lemmas.List.{drop-drop}
 use Rattle.facet_format.specs.Bytes.{is_space}
-use Rattle.facet_json_token.specs.Gap.{Mode, plain, jsonc, Input, piece_len, gap_len_from, gap_len}
+use Rattle.facet_json_token.specs.Cut.{cut, cut_here, past_gap}
+use Rattle.facet_json_token.specs.Gap.{Mode, plain, jsonc, Input, whole, piece_len, gap_len_from, gap_len}
 
 -- ---- by its first piece
 
@@ -86,3 +88,23 @@ gap_len_from-ends mode input zero (b ∷ bytes) =
 pub gap_len-ends : (mode : Mode) (input : Input) (bytes : List ℕ) →
     piece_len mode input (drop (gap_len mode input bytes) bytes) ≡ 0
 gap_len-ends mode input bytes = gap_len_from-ends mode input 0 bytes
+
+-- ---- the position after it
+
+-- No piece of a gap stands there.
+pub past_gap-ends : (buffer : List ℕ) (p : ℕ) (mode : Mode) → piece_len mode whole (drop (past_gap buffer p mode) buffer) ≡ 0
+past_gap-ends buffer p mode =
+    let rest = drop p buffer in
+    rw (drop-drop (gap_len mode whole rest) p buffer) at (gap_len-ends mode whole rest)
+
+-- The gap from there on is empty.
+pub past_gap-again : (buffer : List ℕ) (p : ℕ) (mode : Mode) → past_gap buffer (past_gap buffer p mode) mode ≡ past_gap buffer p mode
+past_gap-again buffer p mode =
+    let at = past_gap buffer p mode in
+    let none : gap_len mode whole (drop at buffer) ≡ 0 = gap_len-none mode whole (drop at buffer) (past_gap-ends buffer p mode) in
+    omega arith
+
+-- From there on the same is cut.
+pub cut-past_gap : (buffer : List ℕ) (p : ℕ) (mode : Mode) → cut buffer (past_gap buffer p mode) mode ≡ cut buffer p mode
+unfolding cut
+cut-past_gap buffer p mode = ap (λ n. cut_here mode n (drop n buffer)) (past_gap-again buffer p mode)

@@ -3,8 +3,8 @@ use Rattle.std.proofs.Common.{◌≡◌, ℕ, ◌+◌, ◌≤◌, false, ◌==�
 use Rattle.std.proofs.lemmas.Bool.{cond_both}
 use Rattle.facet_format.specs.Bytes.{minus}
 use Rattle.facet_format.specs.Number.{Hint, Parts, parts, parts_len, parts_hint, is_bare}
-use Rattle.facet_json_token.specs.Token.{number}
-use Rattle.facet_json_token.specs.Cut.{Cut, token_at, cut_number}
+use Rattle.facet_json_token.specs.Token.{Token, number}
+use Rattle.facet_json_token.specs.Cut.{Cut, token, token_at, cut_bare_minus, cut_number}
 
 -- what is cut of a number with these parts
 abbrev pub number_at : ℕ → List ℕ → Parts → Cut
@@ -18,6 +18,11 @@ cut_number-parts q p rest hint at len same long what more =
     ap₂ (λ n h. token_at (number at (at + n) h) at n) long what
     ∙ ap (cut_number at rest (parts_len q) (parts_hint q)) (sym more)
     ∙ ap (λ r. cut_number at rest (parts_len r) (parts_hint r) (is_bare r)) same
+
+-- A minus alone is no token.
+pub bare_minus-no_token : (at : ℕ) (bytes : List ℕ) (t : Token) → cut_bare_minus at bytes ≡ token t → ⊥
+bare_minus-no_token at [] t e = cc
+bare_minus-no_token at (b ∷ bytes) t e = cc
 
 -- A number's sign is one byte at most.
 pub sign-bound : (bytes : List ℕ) → (parts bytes).sign ≤ 1

@@ -6,12 +6,12 @@ use Rattle.facet_format.specs.Bytes.{quote}
 use Rattle.facet_format.specs.Number.{Hint, IsNumber, parts, parts_len, parts_hint, is_bare, begins_number}
 use Rattle.facet_json_token.specs.Gap.{Mode}
 use Rattle.facet_json_token.specs.Token.{Kind, string, number}
-use Rattle.facet_json_token.specs.Cut.{IsStructural, object_starts, object_ends, array_starts, array_ends, colon_stands, comma_stands, ArePieces, IsLiteral, null_stands, true_stands, false_stands, IsLongest, IsShape, start_of, token_at, content_len, cut_text, cut_number, cut_by, cut_here}
+use Rattle.facet_json_token.specs.Cut.{IsStructural, object_starts, object_ends, array_starts, array_ends, colon_stands, comma_stands, ArePieces, IsLiteral, null_stands, true_stands, false_stands, IsLongest, IsShape, start_of, token_at, content_len, has_backslash, cut_text, cut_number, cut_by, cut_here}
 use Rattle.facet_format.proofs.NumberPrefixes.{parts-take, is_bare-some}
 use Rattle.facet_format.proofs.NumberLaws.{number_is_longest, parts_len-is, parts_hint-is, begins_number-is, is_bare-number}
 use Rattle.facet_json_token.proofs.NumberCuts.{sign-bound}
 use Rattle.facet_json_token.proofs.Starts.{start_of-number}
-use Rattle.facet_json_token.proofs.TextShapes.{any_backslash, content_len-is, pieces-mark}
+use Rattle.facet_json_token.proofs.TextShapes.{content_len-is, pieces-mark}
 
 -- A bracket, a colon or a comma is cut.
 structural_is_cut : (mode : Mode) (at b : ℕ) (rest : List ℕ) (kind : Kind) → IsStructural b kind →
@@ -33,7 +33,7 @@ literal_is_cut mode at _ rest _ true_stands = refl
 literal_is_cut mode at _ rest _ false_stands = refl
 
 -- After a quote a string is cut.
-cut_here-text : (mode : Mode) (at : ℕ) (bytes : List ℕ) →
+pub cut_here-text : (mode : Mode) (at : ℕ) (bytes : List ℕ) →
     cut_here mode at (quote ∷ bytes) ≡ cut_text at bytes (content_len false bytes)
 unfolding cut_here start_of
 cut_here-text mode at bytes = refl
@@ -46,8 +46,8 @@ text_is_cut mode at content rest has_escapes h =
     let n = length content in
     let bytes = content ++ quote ∷ rest in
     let all : content ++ quote ∷ [] ++ rest ≡ bytes = append_assoc content (quote ∷ []) rest in
-    let front : any_backslash (take n bytes) ≡ has_escapes =
-    ap any_backslash (take_at content (quote ∷ rest) n refl) ∙ pieces-mark content has_escapes h in
+    let front : has_backslash (take n bytes) ≡ has_escapes =
+    ap has_backslash (take_at content (quote ∷ rest) n refl) ∙ pieces-mark content has_escapes h in
     let long : suc (suc n) ≡ suc (length (content ++ quote ∷ [])) = omega (arith, length-append content (quote ∷ [])) in
     ap (λ l. cut_here mode at (quote ∷ l)) all ∙ cut_here-text mode at bytes
     ∙ ap (cut_text at bytes) (content_len-is content rest has_escapes h)

@@ -33,6 +33,16 @@ start_of-begins b =
     (pick b 0x74 _ _ (a_word _ _ _ true_stands) (pick b 0x66 _ _ (a_word _ _ _ false_stands)
     (cond_both (starts_number b) _ _ (Begins b) (a_number b) (λ e. pick b slash _ _ a_comment (no_token b e))))))))))))
 
+-- A bracket, a colon or a comma begins itself.
+pub start_of-structural : (b : ℕ) (kind : Kind) → IsStructural b kind → start_of b ≡ punctuation kind
+unfolding start_of
+start_of-structural _ _ object_starts = refl
+start_of-structural _ _ object_ends = refl
+start_of-structural _ _ array_starts = refl
+start_of-structural _ _ array_ends = refl
+start_of-structural _ _ colon_stands = refl
+start_of-structural _ _ comma_stands = refl
+
 -- What begins with a minus or a digit is taken to be a number.
 begins-number : (b : ℕ) (start : Start) → Begins b start → starts_number b ≡ true → start ≡ opens_number
 begins-number _ _ (a_number _ h) e = refl

@@ -1,14 +1,9 @@
 -- A string's content is measured up to the first quote that no backslash escapes: its length, and that it is pieces.
 use Rattle.std.proofs.Common.{◌≡◌, ℕ, zero, suc, ◌<◌, Bool, true, false, cond, ◌==◌, List, [], ◌∷◌, ◌++◌, length, take, Option, Some, None, refl, sym, ap, subst, arith}
-use Rattle.std.specs.List.{list_any}
 use Rattle.std.proofs.lemmas.Bool.{cond_both, eqb-true}
 use Rattle.facet_format.specs.Bytes.{quote, backslash}
 use Rattle.facet_json_token.specs.Gap.{one_more}
-use Rattle.facet_json_token.specs.Cut.{ArePieces, content_len}
-
--- whether a backslash is among the bytes
-abbrev pub any_backslash : List ℕ → Bool
-any_backslash bytes = list_any (λ b. b == backslash) bytes
+use Rattle.facet_json_token.specs.Cut.{ArePieces, content_len, has_backslash}
 
 -- ---- its length is within the bytes
 
@@ -50,7 +45,7 @@ content_len-is _ rest _ (ArePieces.escape b others has_escapes h) =
 
 -- The mark of pieces says whether a backslash is among them.
 pub pieces-mark : (content : List ℕ) (has_escapes : Bool) → ArePieces content has_escapes →
-    any_backslash content ≡ has_escapes
+    has_backslash content ≡ has_escapes
 pieces-mark _ _ ArePieces.none = refl
 pieces-mark _ _ (ArePieces.byte b others has_escapes no_quote no_backslash h) =
     rw no_backslash (pieces-mark others has_escapes h)
@@ -63,11 +58,11 @@ abbrev pub ContentAt : Bool → List ℕ → Option ℕ → Type 0
 ContentAt true bytes None = Unit {0}
 ContentAt false bytes None = Unit {0}
 ContentAt false bytes (Some n) =
-    ArePieces (take n bytes) (any_backslash (take n bytes)) × (take (suc n) bytes ≡ take n bytes ++ quote ∷ [])
+    ArePieces (take n bytes) (has_backslash (take n bytes)) × (take (suc n) bytes ≡ take n bytes ++ quote ∷ [])
 ContentAt true [] (Some n) = ⊥
 ContentAt true (b ∷ bytes) (Some zero) = ⊥
 ContentAt true (b ∷ bytes) (Some (suc n)) =
-    ArePieces (take n bytes) (any_backslash (take n bytes)) × (take (suc n) bytes ≡ take n bytes ++ quote ∷ [])
+    ArePieces (take n bytes) (has_backslash (take n bytes)) × (take (suc n) bytes ≡ take n bytes ++ quote ∷ [])
 
 -- One byte more in front, escaped.
 content_escaped : (b : ℕ) (bytes : List ℕ) (o : Option ℕ) → ContentAt false bytes o →
@@ -80,7 +75,7 @@ content_byte : (b : ℕ) (bytes : List ℕ) (o : Option ℕ) → (b == quote) �
     ContentAt false bytes o → ContentAt false (b ∷ bytes) (one_more o)
 content_byte b bytes None no_quote no_backslash h = tt
 content_byte b bytes (Some n) no_quote no_backslash h =
-    let pieces : ArePieces (b ∷ take n bytes) (any_backslash (b ∷ take n bytes)) =
+    let pieces : ArePieces (b ∷ take n bytes) (has_backslash (b ∷ take n bytes)) =
     rw no_backslash (ArePieces.byte b (take n bytes) _ no_quote no_backslash h.0) in
     (pieces, ap (λ l. b ∷ l) h.1)
 

@@ -2,7 +2,7 @@
 use Rattle.std.proofs.Common.{◌≡◌, ℕ, zero, suc, ◌+◌, ◌-◌, ◌<◌, ◌≤◌, Bool, true, false, not, ◌||◌, cond, eqb, List, [], ◌∷◌, length, get_or, take, drop, slice_get, Option, Some, None, refl, ap, ap₂, sym, ◌∙◌, arith}
 use Rattle.std.proofs.lemmas.List.{drop-drop, drop_all, get_or-drop, length-drop}
 use Rattle.std.proofs.lemmas.List.Sums.{prefix_len_stops}
-use Rattle.std.proofs.lemmas.Bool.{and_right, or_right, ne_eqb, eqb-true}
+use Rattle.std.proofs.lemmas.Bool.{and_right, or_right, ne_eqb, eqb-true, not-false}
 use Rattle.std.proofs.lemmas.Option.{slice_get_within, slice_get-get_or, get_or_from_slice_get}
 use Rattle.std.specs.List.{list_any, prefix_len}
 use Rattle.std.specs.Option.{option_map}
@@ -74,10 +74,6 @@ marks-of_run buffer start end e =
     let len : end - start ≡ prefix_len is_plain (drop start buffer) = omega (arith, e) in
     sym (ap (λ n. list_any (λ x. eqb x backslash) (take n (drop start buffer))) len ∙ mark-run (drop start buffer))
 
-from_not : (b : Bool) → not b ≡ false → b ≡ true
-from_not true e = refl
-from_not false e = cc
-
 -- what stands where the run ends is no plain byte
 pub stop-after_run : (buffer : List ℕ) (from end b : ℕ) → end ≡ from + prefix_len is_plain (drop from buffer) →
     slice_get buffer end ≡ Some b → is_stop b ≡ true
@@ -88,7 +84,7 @@ stop-after_run buffer from end b e h =
     let here : get_or rest k b ≡ b =
     get_or-drop from buffer k b ∙ ap (λ n. get_or buffer n b) (sym e) ∙ get_or_from_slice_get buffer end b b h in
     let fails = prefix_len_stops is_plain rest b (omega (arith, length-drop from buffer, e)) in
-    from_not (is_stop b) (ap is_plain (sym here) ∙ fails)
+    not-false (is_stop b) (ap is_plain (sym here) ∙ fails)
 
 -- a backslash and the byte after it, where there is one, are passed
 pub content-after_escape : (buffer : List ℕ) (at : ℕ) → slice_get buffer at ≡ Some backslash → at + 2 ≤ length buffer →

@@ -97,9 +97,9 @@ tokens_from-nothing buffer position mode e = ended_at buffer mode position (drop
 -- ---- by what is cut first
 
 -- Where a token is cut, the position lies within the buffer.
-token_within : (buffer : List ℕ) (position : ℕ) (mode : Mode) (t : Token) → cut buffer position mode ≡ token t →
+pub cut-token_within : (buffer : List ℕ) (position : ℕ) (mode : Mode) (t : Token) → cut buffer position mode ≡ token t →
     position ≤ length buffer
-token_within buffer position mode t e =
+cut-token_within buffer position mode t e =
     elim (cases_lt position (length buffer)) [
       | inl h ↦ omega arith
       | inr h ↦ let none : cut buffer position mode ≡ nothing_left = cut-end buffer position mode h in cc
@@ -117,7 +117,7 @@ pub tokens_by_first : (buffer : List ℕ) (mode : Mode) (position : ℕ) (c : Cu
 tokens_by_first buffer mode position nothing_left e = tokens_from-nothing buffer position mode e
 tokens_by_first buffer mode position (fault f) e = tokens_from-fault buffer position mode f e
 tokens_by_first buffer mode position (token t) e =
-    tokens_from-token buffer position mode t (token_within buffer position mode t e) e
+    tokens_from-token buffer position mode t (cut-token_within buffer position mode t e) e
 
 -- The tokens after the first are those from its end on.
 after_first : (buffer : List ℕ) (mode : Mode) (c : Cut) (t : Token) (others : Tokens) → by_first buffer mode c ≡ next t others →

@@ -96,10 +96,14 @@ content_len escaped [] = None
 content_len true (b ∷ bytes) = one_more (content_len false bytes)
 content_len false (b ∷ bytes) = cond (b == quote) (Some 0) (one_more (content_len (b == backslash) bytes))
 
+-- whether a backslash stands in the content
+abbrev pub has_backslash : List ℕ → Bool
+has_backslash content = list_any (λ b. b == backslash) content
+
 -- a string with this content, where its quote is followed by these bytes
 abbrev pub cut_text : ℕ → List ℕ → Option ℕ → Cut
 cut_text at bytes None = fault_at (unexpected_eof in_string) at (suc (length bytes))
-cut_text at bytes (Some n) = token_at (string (suc at) (suc at + n) (list_any (λ b. b == backslash) (take n bytes))) at (suc (suc n))
+cut_text at bytes (Some n) = token_at (string (suc at) (suc at + n) (has_backslash (take n bytes))) at (suc (suc n))
 
 abbrev pub cut_bare_minus : ℕ → List ℕ → Cut
 cut_bare_minus at [] = fault_at (unexpected_eof in_number) at 1

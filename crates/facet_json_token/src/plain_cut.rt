@@ -125,7 +125,7 @@ fn comment_len(buffer: &[u8], at: usize) -> usize
 }
 
 /// The offset after the first `*/` from `from` on.
-fn block_end(buffer: &[u8], from: usize) -> Option<usize>
+pub fn block_end(buffer: &[u8], from: usize) -> Option<usize>
     requires { from ≤ length buffer.now }
     ensures end { result ≡ option_map (λ n. from + n) (through_block_end (drop from buffer.now)) }
     ensures range { IfSome result (λ end. (from ≤ end) × (end ≤ length buffer.now)) }

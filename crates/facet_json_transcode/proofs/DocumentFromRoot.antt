@@ -49,10 +49,10 @@ module _ (buffer : List ℕ) (mode : Mode) where
   unread_by : (r : Refusal) → IsValueUnread buffer (future_of (fresh buffer mode)) r → RootComes buffer mode →
       LacksMemory r ⊎ Refuses buffer mode r
   unread_by r unread (document_comes node value d comes) = inl (unread-only r unread node value d)
-  unread_by r unread (prefix_comes events here left front e) =
-      elim (unread.broken here left (subst (λ f. Breaks here left f) (sym e) (begun-breaks buffer front.begun))) [
+  unread_by r unread (prefix_comes events here left prefix e) =
+      elim (unread.broken here left (subst (λ f. Breaks here left f) (sym e) (begun-breaks buffer prefix.begun))) [
         | inl h ↦ inl h
-        | inr s ↦ inr (record { events = events; after = record { here = here; rest = left; front = front; stuck = s } })
+        | inr s ↦ inr (record { events = events; after = record { here = here; rest = left; prefix = prefix; stuck = s } })
       ]
 
   -- What is refused for anything but out of memory is so refused after the longest prefix.

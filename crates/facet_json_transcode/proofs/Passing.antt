@@ -12,7 +12,7 @@ use Rattle.facet_json_serializer.specs.Serializer as serializer
 use Rattle.facet_json_serializer.specs.TreeCalls.{and_then, after_calls, tree_calls, with_tree}
 use Rattle.facet_json_serializer.proofs.TreesByCalls.{tree_by_calls}
 use Rattle.facet_json_transcode.specs.Told.{Tells}
-use Rattle.facet_json_transcode.specs.Reading.{LacksMemory, StopsAt, GivesNone, lacks_memory, at_the_end, is_stuck, IsValueUnread}
+use Rattle.facet_json_transcode.specs.Reading.{LacksMemory, LacksOrStops, GivesNone, lacks_memory, at_the_end, is_stuck, IsValueUnread}
 use Rattle.facet_json_transcode.specs.Transcode.{call_of, depth_after, IsWritten}
 use Rattle.facet_json_transcode.proofs.ValuePasses.{nothing, Before, value, After, over, goes_on, AddAlike, steps}
 use Rattle.facet_json_transcode.proofs.Cuts.{Cut, GoesOn, uncut, cut, past, value-ends}
@@ -196,7 +196,7 @@ none-lacks now r p f comes (at_the_end g) = cc
 none-lacks now r p f comes (is_stuck place rest g s) = cc
 
 cut-stops : (now : Now) (r : Refusal) (o : Option Cut) (c : Cut) (f g : Future) → o ≡ Some c → GoesOn o f g → future_of now ≡ f → GivesNone now r →
-    StopsAt now.buffer c.place c.tokens r
+    LacksOrStops now.buffer c.place c.tokens r
 cut-stops now r _ c _ _ is (uncut f) at none = cc
 cut-stops now r _ c _ _ is (cut d) at (lacks_memory h) = inl h
 cut-stops now r _ c _ _ is (cut d) at (at_the_end e) = cc
@@ -222,5 +222,5 @@ none-unread start w depth now writing buffer r same passing none = record {
   broken = λ place rest broken.
       let e = value-ends place rest start finished broken in
       let s = passing (Some (record { place = place; tokens = rest; first = e.first; others = e.others })) e.whole e.value finished e.on e.told in
-      subst (λ b. StopsAt b place rest r) same (cut-stops now r _ _ (future_of now) s.ahead refl s.on refl none);
+      subst (λ b. LacksOrStops b place rest r) same (cut-stops now r _ _ (future_of now) s.ahead refl s.on refl none);
 }

@@ -16,8 +16,8 @@ abbrev pub LacksMemory : Refusal → Type 0
 LacksMemory refusal = refusal.complaint ≡ out_of_memory
 
 -- Memory ran out, or no document goes on with the tokens at the place, and it is refused so.
-abbrev pub StopsAt : List ℕ → Place → Tokens → Refusal → Type 0
-StopsAt buffer place rest refusal = LacksMemory refusal ⊎ IsStuck buffer place rest refusal
+abbrev pub LacksOrStops : List ℕ → Place → Tokens → Refusal → Type 0
+LacksOrStops buffer place rest refusal = LacksMemory refusal ⊎ IsStuck buffer place rest refusal
 
 -- ---- one event
 
@@ -41,7 +41,7 @@ pub record IsRead (V : Type 0) (tells : Future → V → Future → Type 0) (bre
 pub record IsUnread (V : Type 0) (tells : Future → V → Future → Type 0) (breaks : Place → Tokens → Future → Type 0)
     (buffer : List ℕ) (start : Future) (refusal : Refusal) : Type 0 where
   pub told : (v : V) (rest : Future) → tells start v rest → LacksMemory refusal
-  pub broken : (place : Place) (rest : Tokens) → breaks place rest start → StopsAt buffer place rest refusal
+  pub broken : (place : Place) (rest : Tokens) → breaks place rest start → LacksOrStops buffer place rest refusal
 
 abbrev pub IsValueRead : Future → Tree → Future → Type 0
 IsValueRead = IsRead Tree Tells Breaks

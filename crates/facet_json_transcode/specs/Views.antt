@@ -23,14 +23,14 @@ LacksMemory (Read e) = reading.LacksMemory (refusal_of e)
 LacksMemory (Write e) = serializer.refusal_of e ≡ out_of_memory
 
 -- Memory ran out, or no document goes on with the tokens at the place, and the parser refuses it so.
-abbrev pub StopsAt : List ℕ → Place → Tokens → TranscodeError → Type 0
-StopsAt buffer place rest (Read e) = reading.StopsAt buffer place rest (refusal_of e)
-StopsAt buffer place rest (Write e) = serializer.refusal_of e ≡ out_of_memory
+abbrev pub LacksOrStops : List ℕ → Place → Tokens → TranscodeError → Type 0
+LacksOrStops buffer place rest (Read e) = reading.LacksOrStops buffer place rest (refusal_of e)
+LacksOrStops buffer place rest (Write e) = serializer.refusal_of e ≡ out_of_memory
 
 -- Where the events tell a value it is out of memory, and where they break off within one that or how the input is refused there.
 pub record IsUnwritten (buffer : List ℕ) (start : Future) (e : TranscodeError) : Type 0 where
   pub told : (v : Tree) (rest : Future) → Tells start v rest → LacksMemory e
-  pub broken : (place : Place) (rest : Tokens) → Breaks place rest start → StopsAt buffer place rest e
+  pub broken : (place : Place) (rest : Tokens) → Breaks place rest start → LacksOrStops buffer place rest e
 
 -- Memory ran out, or the input has no document and is refused so.
 abbrev pub IsRefused : List ℕ → Mode → TranscodeError → Type 0

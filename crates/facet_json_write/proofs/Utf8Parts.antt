@@ -6,8 +6,9 @@ use Rattle.std.specs.Str.{all_scalars}
 use Rattle.std.specs.Fmt.{decimal, signed_decimal, digits, digits_onto, digit_glyph}
 use Rattle.std.proofs.lemmas.Bool.{and_parts, cases_lt, cases_eq, lt-ltb, le-ltb}
 use Rattle.std.proofs.lemmas.Bool.Decides.{nat_tests}
-use Rattle.std.proofs.lemmas.Str.{IsUtf8-append, IsUtf8-nil, IsUtf8-encode, encode_ascii}
+use Rattle.std.proofs.lemmas.Str.{IsUtf8-append, IsUtf8-nil, IsUtf8-encode}
 use Rattle.facet_format.specs.Bytes.{quote}
+use Rattle.facet_format.proofs.AsciiTexts.{ascii-before}
 use Rattle.facet_json_document.specs.Quoted.{escaped, quoted, hex_digit, hex_byte}
 use Rattle.facet_json_document.specs.Text.{BytesFormat, as_array, as_hex, Options, more_numbers, numbers, shortened, hex, bytes_text, indents, new_line, separator, line_at_end, colon_text, bool_text}
 use Rattle.facet_json_document.specs.TextLaws.{escaped_character}
@@ -20,13 +21,6 @@ either-IsUtf8 false xs ys one other = other
 
 -- ---- ASCII
 
--- an ASCII byte before text
-pub ascii-then : (b : ℕ) (bytes : List ℕ) → b < 128 → IsUtf8 bytes → IsUtf8 (b ∷ bytes)
-ascii-then b bytes small is =
-    let one = encode_ascii b small in
-    let first = rw one at (IsUtf8-encode b (grind (arith, nat_tests))) in
-    IsUtf8-append (b ∷ []) bytes first is
-
 abbrev pub are_ascii : List ℕ → Bool
 are_ascii bytes = list_all (λ b. nat_lt b 128) bytes
 
@@ -34,7 +28,7 @@ are_ascii bytes = list_all (λ b. nat_lt b 128) bytes
 pub ascii-IsUtf8 : (bytes : List ℕ) → are_ascii bytes ≡ true → IsUtf8 bytes
 ascii-IsUtf8 [] e = IsUtf8-nil
 ascii-IsUtf8 (b ∷ bytes) e =
-    let p = and_parts (nat_lt b 128) (are_ascii bytes) e in ascii-then b bytes (ltb-true b 128 p.0) (ascii-IsUtf8 bytes p.1)
+    let p = and_parts (nat_lt b 128) (are_ascii bytes) e in ascii-before b bytes (ltb-true b 128 p.0) (ascii-IsUtf8 bytes p.1)
 
 -- ---- whole numbers
 
@@ -44,7 +38,7 @@ glyph-ascii d small = grind (arith, nat_tests)
 digits_onto-IsUtf8 : (k n : ℕ) (after : List ℕ) → IsUtf8 after → IsUtf8 (digits_onto k 10 false n after)
 digits_onto-IsUtf8 zero n after is = is
 digits_onto-IsUtf8 (suc k) n after is =
-    let more = ascii-then (digit_glyph false (n % 10)) after (glyph-ascii (n % 10) (omega arith)) is in
+    let more = ascii-before (digit_glyph false (n % 10)) after (glyph-ascii (n % 10) (omega arith)) is in
     either-IsUtf8 (n / 10 == 0) _ _ more (digits_onto-IsUtf8 k (n / 10) _ more)
 
 -- decimal digits
@@ -55,7 +49,7 @@ decimal-IsUtf8 n = digits_onto-IsUtf8 64 n [] IsUtf8-nil
 -- after a minus where the number is negative
 pub signed-IsUtf8 : (n : ℤ) → IsUtf8 (signed_decimal n)
 signed-IsUtf8 (pos n) = decimal-IsUtf8 n
-signed-IsUtf8 (negsuc n) = ascii-then 45 (decimal (suc n)) (omega arith) (decimal-IsUtf8 (suc n))
+signed-IsUtf8 (negsuc n) = ascii-before 45 (decimal (suc n)) (omega arith) (decimal-IsUtf8 (suc n))
 
 -- ---- texts between quotes
 
@@ -93,7 +87,7 @@ quoted-IsUtf8 t is =
     let cs = is.0 in
     let content = characters-IsUtf8 cs is.1.0 in
     let closed = IsUtf8-append (flat_map escaped_character cs) (quote ∷ []) content (ascii-IsUtf8 (quote ∷ []) refl) in
-    let whole = ascii-then quote (flat_map escaped_character cs ++ quote ∷ []) (omega arith) closed in
+    let whole = ascii-before quote (flat_map escaped_character cs ++ quote ∷ []) (omega arith) closed in
     subst (λ bytes. IsUtf8 (quoted bytes)) is.1.1 (subst IsUtf8 (sym (quoted_by_characters cs is.1.0)) whole)
 
 -- ---- bytes
@@ -121,8 +115,8 @@ digits-IsUtf8 (b ∷ bytes) e =
     let p = and_parts (nat_lt b 0x100) (are_bytes bytes) e in
     let small = ltb-true b 0x100 p.0 in
     let others = digits-IsUtf8 bytes p.1 in
-    ascii-then (hex_digit (b / 16)) _ (hex_digit-ascii (b / 16) (omega arith))
-    (ascii-then (hex_digit (b % 16)) _ (hex_digit-ascii (b % 16) (omega arith)) others)
+    ascii-before (hex_digit (b / 16)) _ (hex_digit-ascii (b / 16) (omega arith))
+    (ascii-before (hex_digit (b % 16)) _ (hex_digit-ascii (b % 16) (omega arith)) others)
 
 shortened-IsUtf8 : (bytes : List ℕ) (head tail : ℕ) → are_bytes bytes ≡ true → IsUtf8 (shortened bytes head tail)
 shortened-IsUtf8 bytes head tail e =
@@ -144,7 +138,7 @@ hex-IsUtf8 bytes (Some limit) head tail e =
 more_numbers-IsUtf8 : (bytes : List ℕ) → IsUtf8 (more_numbers bytes)
 more_numbers-IsUtf8 [] = IsUtf8-nil
 more_numbers-IsUtf8 (b ∷ bytes) =
-    ascii-then 44 _ (omega arith) (IsUtf8-append (decimal b) (more_numbers bytes) (decimal-IsUtf8 b) (more_numbers-IsUtf8 bytes))
+    ascii-before 44 _ (omega arith) (IsUtf8-append (decimal b) (more_numbers bytes) (decimal-IsUtf8 b) (more_numbers-IsUtf8 bytes))
 
 numbers-IsUtf8 : (bytes : List ℕ) → IsUtf8 (numbers bytes)
 numbers-IsUtf8 [] = IsUtf8-nil
@@ -153,7 +147,7 @@ numbers-IsUtf8 (b ∷ bytes) = IsUtf8-append (decimal b) (more_numbers bytes) (d
 -- bytes in either format
 pub bytes-IsUtf8 : (format : BytesFormat) (bytes : List ℕ) → are_bytes bytes ≡ true → IsUtf8 (bytes_text format bytes)
 bytes-IsUtf8 as_array bytes e =
-    ascii-then 91 _ (omega arith) (IsUtf8-append (numbers bytes) (93 ∷ []) (numbers-IsUtf8 bytes) (ascii-IsUtf8 (93 ∷ []) refl))
+    ascii-before 91 _ (omega arith) (IsUtf8-append (numbers bytes) (93 ∷ []) (numbers-IsUtf8 bytes) (ascii-IsUtf8 (93 ∷ []) refl))
 bytes-IsUtf8 (as_hex limit head tail) bytes e =
     let inner = hex bytes limit head tail in
     IsUtf8-append (codes "\"0x" ++ inner) (codes "\"")
@@ -167,7 +161,7 @@ indents-IsUtf8 (suc n) indent is = IsUtf8-append indent (indents n indent) is (i
 
 pub new_line-IsUtf8 : (o : Options) (depth : ℕ) → IsUtf8 o.indent → IsUtf8 (new_line o depth)
 new_line-IsUtf8 o depth is =
-    either-IsUtf8 o.pretty _ _ (ascii-then 10 _ (omega arith) (indents-IsUtf8 depth o.indent is)) IsUtf8-nil
+    either-IsUtf8 o.pretty _ _ (ascii-before 10 _ (omega arith) (indents-IsUtf8 depth o.indent is)) IsUtf8-nil
 
 pub separator-IsUtf8 : (first : Bool) → IsUtf8 (separator first)
 separator-IsUtf8 true = IsUtf8-nil

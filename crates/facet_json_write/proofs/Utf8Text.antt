@@ -7,13 +7,14 @@ use Rattle.std.proofs.lemmas.Str.{IsUtf8-append, IsUtf8-encode, IsUtf8-from_is_u
 use Rattle.facet_format.specs.Number.{Number, float, number, is_number, parts, value_by}
 use Rattle.facet_format.specs.Number as numbers
 use Rattle.facet_format.proofs.NumberText.{number-IsUtf8}
+use Rattle.facet_format.proofs.AsciiTexts.{ascii-before}
 use Rattle.facet_json_document.specs.Quoted.{quoted}
 use Rattle.facet_json_document.specs.Text.{Options, text, items_text, members_text, new_line, separator, line_at_end, colon_text}
 use Rattle.facet_json_document.specs.Tree.{Tree, null, unit, bool, char, i64, u64, i128, u128, decimal, bytes, raw, list, pairs, Trees, no_trees, tree, Pairs, no_pairs, pair}
 use Rattle.facet_json_document.specs.Tree as trees
 use Rattle.facet_json_written.specs.AsRead.{WellFormed, ItemsWellFormed, MembersWellFormed, RawParts, RawItems, RawMembers}
 use Rattle.facet_json_write.specs.Write.{IsOfRust}
-use Rattle.facet_json_write.proofs.Utf8Parts.{ascii-then, ascii-IsUtf8, decimal-IsUtf8, signed-IsUtf8, quoted-IsUtf8, bytes-IsUtf8, new_line-IsUtf8, separator-IsUtf8, line_at_end-IsUtf8, colon-IsUtf8, bool-IsUtf8}
+use Rattle.facet_json_write.proofs.Utf8Parts.{ascii-IsUtf8, decimal-IsUtf8, signed-IsUtf8, quoted-IsUtf8, bytes-IsUtf8, new_line-IsUtf8, separator-IsUtf8, line_at_end-IsUtf8, colon-IsUtf8, bool-IsUtf8}
 
 -- a text with a value is a number
 valued-is_number : (t : List ℕ) (value : Number) → number t float ≡ Some value → is_number t float ≡ true
@@ -43,8 +44,8 @@ mutual
   text-utf8 o depth (trees.text t) indent well texts = quoted-IsUtf8 t (IsUtf8-from_is_utf8 t well)
   text-utf8 o depth (bytes b) indent well texts = bytes-IsUtf8 o.bytes_format b well
   text-utf8 o depth (raw t) indent well texts = IsUtf8-from_is_utf8 t texts
-  text-utf8 o depth (list items) indent well texts = ascii-then 91 _ (omega arith) (items-utf8 o depth true items indent well texts)
-  text-utf8 o depth (pairs members) indent well texts = ascii-then 123 _ (omega arith) (members-utf8 o depth true members indent well texts)
+  text-utf8 o depth (list items) indent well texts = ascii-before 91 _ (omega arith) (items-utf8 o depth true items indent well texts)
+  text-utf8 o depth (pairs members) indent well texts = ascii-before 123 _ (omega arith) (members-utf8 o depth true members indent well texts)
 
   items-utf8 : (o : Options) (depth : ℕ) (first : Bool) (items : Trees) → IsUtf8 o.indent → ItemsWellFormed items → RawItems IsText items
       → IsUtf8 (items_text o depth first items)

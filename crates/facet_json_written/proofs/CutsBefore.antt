@@ -1,12 +1,14 @@
 -- A token is cut alike further on, and where bytes follow that do not go on with a number.
-use Rattle.std.proofs.Common.{◌≡◌, ℕ, suc, ◌+◌, Bool, true, false, cond, ◌==◌, List, [], ◌∷◌, ◌++◌, length, take, slice_get, Option, Some, None, refl, sym, ap, ap₂, ◌∙◌, arith, eqb-true, eq-eqb}
+use Rattle.std.proofs.Common.{◌≡◌, ℕ, suc, ◌+◌, Bool, true, false, cond, ◌==◌, List, [], ◌∷◌, ◌++◌, length, take, slice_get, Option, Some, None, refl, sym, ap, ap₂, ◌∙◌, arith, eqb-true}
 use Rattle.std.specs.List.{list_any}
 use Rattle.std.proofs.lemmas.List.{take-append-le}
 use Rattle.facet_format.specs.Bytes.{quote, backslash}
 use Rattle.facet_format.specs.Number.{Hint, parts, parts_len, parts_hint, is_bare}
-use Rattle.facet_json_token.specs.Cut.{IsStructural, object_starts, object_ends, array_starts, array_ends, colon_stands, comma_stands, IsLiteral, null_stands, true_stands, false_stands, Cut, token, Start, start_of, token_at, fault_at, common_len, cut_word, content_len, cut_text, cut_bare_minus, cut_number, cut_by, cut_here}
+use Rattle.facet_json_token.specs.Cut.{IsStructural, object_starts, object_ends, array_starts, array_ends, colon_stands, comma_stands, IsLiteral, null_stands, true_stands, false_stands, Cut, token, Start, start_of, token_at, fault_at, common_len, cut_word, content_len, cut_text, cut_number, cut_by, cut_here}
 use Rattle.facet_json_token.specs.Gap.{plain, one_more}
 use Rattle.facet_json_token.specs.Token.{Kind, Token, string, number, unexpected_char, unexpected_eof, in_literal}
+use Rattle.facet_json_token.proofs.FirstBytes.{cut_word-is}
+use Rattle.facet_json_token.proofs.NumberCuts.{bare_minus-no_token}
 use Rattle.facet_json_token.proofs.Starts.{Begins, a_mark, a_word, a_text, a_number, a_comment, no_token, start_of-begins}
 use Rattle.facet_json_token.proofs.TextShapes.{Below, content_len-below}
 use Rattle.facet_json_written.proofs.MovedTokens.{moved_kind, moved}
@@ -60,11 +62,6 @@ cut_word-whole at bytes word kind n t e = by (n == length word) refl (slice_get 
     by false same None e = cc
     by false same (Some b) e = cc
 
--- A word that is all there is cut as its token.
-pub cut_word-is : (at : ℕ) (bytes word : List ℕ) (kind : Kind) (n : ℕ) → n ≡ length word →
-    cut_word at bytes word kind n ≡ token_at kind at (length word)
-cut_word-is at bytes word kind n e = rw (eq-eqb n (length word) e) (ap (token_at kind at) e)
-
 word-moved : (n at : ℕ) (bytes after word : List ℕ) (kind : Kind) (t : Token) → IsLiteral word kind →
     cut_word at bytes word kind (common_len word bytes) ≡ token t →
     cut_word (n + at) (bytes ++ after) word kind (common_len word (bytes ++ after)) ≡ token (moved n t)
@@ -111,10 +108,6 @@ text-moved n at bytes after t (Some k) same below e =
     ∙ ap (moved_cut n) e
 
 -- ---- numbers
-
-pub bare_minus-no_token : (at : ℕ) (bytes : List ℕ) (t : Token) → cut_bare_minus at bytes ≡ token t → ⊥
-bare_minus-no_token at [] t e = cc
-bare_minus-no_token at (b ∷ bytes) t e = cc
 
 number-moved : (n at : ℕ) (bytes others : List ℕ) (len : ℕ) (hint : Hint) (bare : Bool) (t : Token) →
     cut_number at bytes len hint bare ≡ token t → cut_number (n + at) others len hint bare ≡ token (moved n t)

@@ -10,9 +10,11 @@ use Rattle.facet_json_token.specs.Cut.{object_starts, object_ends, array_starts,
 use Rattle.facet_json_token.specs.Gap.{Mode, plain, jsonc, whole, one_more, through_block_end, through_line_end, with_mark, with_line_mark, comment_len, piece_len, gap_len_from, gap_len}
 use Rattle.facet_json_token.specs.Token.{Kind, Token, string, number, unexpected_char, unexpected_eof, in_block_comment}
 use Rattle.facet_json_token.proofs.CutBounds.{TokenFits, CutFits, here_fits, past_gap-bound}
+use Rattle.facet_json_token.proofs.FirstBytes.{cut_word-is}
 use Rattle.facet_json_token.proofs.Gaps.{gap_len-none, gap_len-some, gap_len-ends}
+use Rattle.facet_json_token.proofs.NumberCuts.{bare_minus-no_token}
 use Rattle.facet_json_token.proofs.Starts.{number_byte, Begins, a_mark, a_word, a_text, a_number, a_comment, no_token, start_of-begins}
-use Rattle.facet_json_written.proofs.CutsBefore.{structural-stays, literal-stays, cut_word-whole, cut_word-is, bare_minus-no_token}
+use Rattle.facet_json_written.proofs.CutsBefore.{structural-stays, literal-stays, cut_word-whole}
 use Rattle.facet_json_written.proofs.MovedTokens.{moved}
 
 -- ---- gaps

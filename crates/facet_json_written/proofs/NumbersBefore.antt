@@ -1,10 +1,10 @@
 -- A number is measured alike where bytes follow that do not go on with it.
-use Rattle.std.proofs.Common.{◌≡◌, ℕ, suc, ◌+◌, ◌≤◌, Bool, true, false, cond, ◌==◌, ◌||◌, List, [], ◌∷◌, ◌++◌, length, drop, refl, ap, ◌∙◌, arith}
+use Rattle.std.proofs.Common.{◌≡◌, ℕ, suc, ◌+◌, ◌≤◌, true, false, cond, ◌==◌, ◌||◌, List, [], ◌∷◌, ◌++◌, length, drop, refl, ap, ◌∙◌, arith}
 use Rattle.std.proofs.lemmas.Bool.{not-true, or_parts}
 use Rattle.std.proofs.lemmas.List.{drop-append-le}
 use Rattle.facet_format.specs.Bytes.{is_digit, is_exponent_mark, is_sign, minus, dot}
 use Rattle.facet_format.specs.Number.{digits_len, minus_len, fraction_len, sign_len, exponent_len, parts}
-use Rattle.facet_format.proofs.NumberPrefixes.{parts_len-bound, power_len, from_sign, from_digits, from_fraction, from_exponent}
+use Rattle.facet_format.proofs.NumberPrefixes.{sign_len-bound, parts_len-bound, power_len, from_sign, from_digits, from_fraction, from_exponent}
 use Rattle.facet_json_written.proofs.OneToken.{ends_number}
 
 -- ---- bytes that do not go on with a number begin with none of its parts
@@ -53,20 +53,11 @@ fraction_len-stays [] [] e = refl
 fraction_len-stays [] (b ∷ after) e = rw ((no_part b after e).no_dot)
 fraction_len-stays (b ∷ bytes) after e = ap (λ n. cond (b == dot) (suc n) 0) (digits_len-stays bytes after e)
 
--- A sign is no longer than the bytes.
-sign_len-within : (bytes : List ℕ) → sign_len bytes ≤ length bytes
-sign_len-within [] = omega arith
-sign_len-within (b ∷ bytes) = at (is_sign b)
-  where
-    at : (t : Bool) → cond t 1 0 ≤ suc (length bytes)
-    at true = omega arith
-    at false = omega arith
-
 power_len-stays : StaysBefore power_len
 power_len-stays bytes after e =
     ap (λ n. n + digits_len (drop n (bytes ++ after))) (sign_len-stays bytes after e)
     ∙ ap (λ n. sign_len bytes + n)
-    (stays_past digits_len digits_len-stays (sign_len bytes) bytes after (sign_len-within bytes) e)
+    (stays_past digits_len digits_len-stays (sign_len bytes) bytes after (sign_len-bound bytes) e)
 
 exponent_len-stays : StaysBefore exponent_len
 exponent_len-stays [] [] e = refl

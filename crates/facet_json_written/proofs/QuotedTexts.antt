@@ -11,16 +11,15 @@ use Rattle.std.proofs.lemmas.Str.{encode_ascii, IsUtf8-encode, IsUtf8-from_is_ut
 use Rattle.facet_format.specs.Bytes.{quote, backslash}
 use Rattle.facet_format.specs.Span.{span_at}
 use Rattle.facet_json_token.specs.Cut.{IsShape}
-use Rattle.facet_json_token.specs.Token.{Kind, Token, string}
-use Rattle.facet_json_token.specs.Token as token
+use Rattle.facet_json_token.specs.Token.{Token, string}
 use Rattle.facet_json_decode.specs.Decode.{code_unit, Piece, Decodes, empty, piece, decoded}
 use Rattle.facet_json_decode.specs.Decode as decode
 use Rattle.facet_json_decode.proofs.DecodeLaws.{decoded-decodes}
-use Rattle.facet_json_document.specs.Node.{is_string, is_scalar}
 use Rattle.facet_json_document.specs.Quoted.{hex_digit, escaped, quoted}
 use Rattle.facet_json_document.specs.TextLaws.{escaped_character}
 use Rattle.facet_json_document.specs.Tree.{text}
 use Rattle.facet_json_document.proofs.Writing.QuotedByCharacters.{escaped-characters}
+use Rattle.facet_json_document.proofs.Runs.SpelledRuns.{string-is_scalar}
 use Rattle.facet_json_written.specs.ReadBack.{QuotedDecodesAlone}
 use Rattle.facet_json_written.proofs.EscapedBytes.{Form, short, by_number, itself, form, escaped-pieces}
 use Rattle.facet_json_written.proofs.OneToken.{IsOneScalar, IsOneString}
@@ -111,24 +110,10 @@ quoted-one_string t is before after =
 
 -- ---- as a scalar
 
--- A string's token is a scalar's.
-string-scalar : (kind : Kind) → is_string kind ≡ true → is_scalar kind ≡ true
-string-scalar (string start finish has_escapes) e = refl
-string-scalar token.object_start e = cc
-string-scalar token.object_end e = cc
-string-scalar token.array_start e = cc
-string-scalar token.array_end e = cc
-string-scalar token.colon e = cc
-string-scalar token.comma e = cc
-string-scalar token.null e = cc
-string-scalar token.true_literal e = cc
-string-scalar token.false_literal e = cc
-string-scalar (token.number start finish hint) e = cc
-
 -- One string's token is one scalar's.
 string-one_scalar : (bytes content : List ℕ) → IsOneString bytes content → IsOneScalar bytes (text content)
 string-one_scalar bytes content is before after ends =
-    let one = is before after in (one.0, one.1, string-scalar one.0.kind one.2, one.3)
+    let one = is before after in (one.0, one.1, string-is_scalar one.0.kind one.2, one.3)
 
 -- A quoted text is one scalar's token, which means the text.
 pub quoted-one_scalar : (t : List ℕ) → is_utf8 t ≡ true → IsOneScalar (quoted t) (text t)

@@ -12,7 +12,7 @@ use Rattle.facet_json_document.specs.Language.{Language, gaps}
 use Rattle.facet_json_document.specs.Place.{Place}
 use Rattle.facet_json_document.specs.Run.{Run, one_token, brackets, RunsInside, nothing as no_runs, separator as mark, a_run}
 use Rattle.facet_json_document.specs.Unread.{IsStuckUnread, at_end, at_fault, misplaced, HasColon, colon_stands, colon_missing, PartFrom, separator, a_value, a_broken_value, a_key, a_closing, none_of_them, PartIn, PartAt}
-use Rattle.facet_json_document.specs.UnreadLaws.{IsRefusedWithin, LiesAhead, PartsWithin}
+use Rattle.facet_json_document.specs.UnreadLaws.{RefusalWithin, LiesAhead, PartsWithin}
 use Rattle.facet_json_document.proofs.InOrder.{InOrder, at_a_fault, at_a_token}
 use Rattle.facet_json_document.proofs.Runs.BreaksWithin.{break-within}
 use Rattle.facet_json_document.proofs.TokensInOrder.{in_order-weaker, in_order-within, tokens-in_order}
@@ -60,18 +60,18 @@ module _ (buffer : List ℕ) where
   data LiesWithin (from : ℕ) : Part Standing → Type 0 where
     value_within : (has : Bool) (start finish : ℕ) (place : Standing) → start ≤ length buffer → finish ≤ length buffer →
         LiesAhead buffer from place → LiesWithin from (value has start finish place)
-    broken_within : (r : Refusal) → IsRefusedWithin buffer r → LiesWithin from (broken r)
+    broken_within : (r : Refusal) → RefusalWithin buffer r → LiesWithin from (broken r)
     key_within : (start : ℕ) (place : Standing) → start ≤ length buffer → LiesAhead buffer from place →
         LiesWithin from (key start (Ok place))
-    key_alone_within : (start : ℕ) (r : Refusal) → start ≤ length buffer → IsRefusedWithin buffer r →
+    key_alone_within : (start : ℕ) (r : Refusal) → start ≤ length buffer → RefusalWithin buffer r →
         LiesWithin from (key start (Err r))
     closing_within : (start : ℕ) (place : Standing) → start ≤ length buffer → LiesAhead buffer from place →
         LiesWithin from (closing start place)
-    nothing_within : (r : Refusal) → IsRefusedWithin buffer r → LiesWithin from (nothing r)
+    nothing_within : (r : Refusal) → RefusalWithin buffer r → LiesWithin from (nothing r)
 
   -- Where no document goes on, tokens in order are refused within the buffer.
   stuck-within : (from : ℕ) (place : Place) (ts : Tokens) (r : Refusal) → IsStuckUnread buffer place ts r → InOrder buffer from ts →
-      IsRefusedWithin buffer r
+      RefusalWithin buffer r
   stuck-within from place _ _ (at_end _) o = omega arith
   stuck-within from place _ _ (at_fault _ f) (at_a_fault _ _ w) = w
   stuck-within from place _ _ (misplaced _ t rest e) (at_a_token _ _ _ b w more) = w
@@ -121,9 +121,9 @@ module _ (buffer : List ℕ) where
   -- ---- skips
 
   -- Where one refusal lies within the buffer, so does the same refusal of an answer.
-  same-refused : (P : Type 0) (a b : Refusal) → ◌≡◌ {A = Result P Refusal} (Err a) (Err b) → IsRefusedWithin buffer a →
-      IsRefusedWithin buffer b
-  same-refused P a b e h = let same : a ≡ b = cc in subst (IsRefusedWithin buffer) same h
+  same-refused : (P : Type 0) (a b : Refusal) → ◌≡◌ {A = Result P Refusal} (Err a) (Err b) → RefusalWithin buffer a →
+      RefusalWithin buffer b
+  same-refused P a b e h = let same : a ≡ b = cc in subst (RefusalWithin buffer) same h
 
   -- A skip leads ahead.
   skip-ahead : (from : ℕ) (part : Part Standing) (place : Standing) → LiesWithin from part → skip_of part ≡ Ok place →
@@ -139,7 +139,7 @@ module _ (buffer : List ℕ) where
   skip-ahead from _ place (nothing_within r h) e = cc
 
   -- It is refused within the buffer.
-  no_skip-within : (from : ℕ) (part : Part Standing) (r : Refusal) → LiesWithin from part → skip_of part ≡ Err r → IsRefusedWithin buffer r
+  no_skip-within : (from : ℕ) (part : Part Standing) (r : Refusal) → LiesWithin from part → skip_of part ≡ Err r → RefusalWithin buffer r
   no_skip-within from _ r (value_within has start finish there h k ahead) e = cc
   no_skip-within from _ r (broken_within s h) e = same-refused Standing s r e h
   no_skip-within from _ r (key_within start there h ahead) e = cc
@@ -158,7 +158,7 @@ module _ (buffer : List ℕ) where
 
   -- A text that is not UTF-8 is refused within the buffer.
   captured-refused : (start finish : ℕ) (there : Standing) (content : List ℕ) (valid : Bool) (r : Refusal) → start ≤ length buffer →
-      finish ≤ length buffer → captured start finish there content valid ≡ Err r → IsRefusedWithin buffer r
+      finish ≤ length buffer → captured start finish there content valid ≡ Err r → RefusalWithin buffer r
   captured-refused start finish there content true r h k e = cc
   captured-refused start finish there content false r h k e = same-refused (List ℕ × Standing) _ r e (omega arith)
 
@@ -175,7 +175,7 @@ module _ (buffer : List ℕ) where
 
   -- It is refused within the buffer.
   no_capture-within : (from : ℕ) (part : Part Standing) (r : Refusal) → LiesWithin from part → capture_of buffer part ≡ Err r →
-      IsRefusedWithin buffer r
+      RefusalWithin buffer r
   no_capture-within from _ r (value_within has start finish there h k ahead) e = captured-refused start finish there _ _ r h k e
   no_capture-within from _ r (broken_within s h) e = same-refused (List ℕ × Standing) s r e h
   no_capture-within from _ r (key_within start there h ahead) e = same-refused (List ℕ × Standing) _ r e (omega arith)
@@ -194,7 +194,7 @@ module _ (buffer : List ℕ) (language : Language) (s : Standing) (part : Part S
   skip-within place e = skip-ahead buffer (stop s.last) part place part-within e
 
   -- A skip is refused within the buffer.
-  pub skip-refused-within : (r : Refusal) → skip_of part ≡ Err r → IsRefusedWithin buffer r
+  pub skip-refused-within : (r : Refusal) → skip_of part ≡ Err r → RefusalWithin buffer r
   skip-refused-within r e = no_skip-within buffer (stop s.last) part r part-within e
 
   -- A capture leads to a place whose last token lies within the buffer and after the last one.
@@ -202,7 +202,7 @@ module _ (buffer : List ℕ) (language : Language) (s : Standing) (part : Part S
   capture-within text place e = capture-ahead buffer (stop s.last) part text place part-within e
 
   -- A capture is refused within the buffer.
-  pub capture-refused-within : (r : Refusal) → capture_of buffer part ≡ Err r → IsRefusedWithin buffer r
+  pub capture-refused-within : (r : Refusal) → capture_of buffer part ≡ Err r → RefusalWithin buffer r
   capture-refused-within r e = no_capture-within buffer (stop s.last) part r part-within e
 
 pub parts_within : PartsWithin

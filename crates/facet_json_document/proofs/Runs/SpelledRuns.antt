@@ -9,9 +9,9 @@ use Rattle.facet_json_document.specs.Run.{is_separator, Run, one_token, brackets
 use Rattle.facet_json_document.specs.RunLaws.{last_token, SpelledIsRun}
 
 -- A string is a scalar.
-key_is_scalar : (k : Kind) → is_string k ≡ true → is_scalar k ≡ true
-key_is_scalar (string start finish has_escapes) e = refl
-key_is_scalar _ e = cc
+pub string-is_scalar : (k : Kind) → is_string k ≡ true → is_scalar k ≡ true
+string-is_scalar (string start finish has_escapes) e = refl
+string-is_scalar _ e = cc
 
 -- A comma or colon before others is passed.
 one_mark : (t : Token) (kind : Kind) (ts rest : Tokens) → t.kind ≡ kind → is_separator kind ≡ true → RunsInside ts rest →
@@ -22,7 +22,7 @@ one_mark t kind ts rest e mark more = separator t ts rest (ap is_separator e ∙
 key_inside : (key mark : Token) (ts rest : Tokens) → is_string key.kind ≡ true → mark.kind ≡ colon → RunsInside ts rest →
     RunsInside (next key (next mark ts)) rest
 key_inside key mark ts rest k c more =
-    a_run _ (next mark ts) rest key (one_token key (next mark ts) (key_is_scalar key.kind k)) (one_mark mark colon ts rest c refl more)
+    a_run _ (next mark ts) rest key (one_token key (next mark ts) (string-is_scalar key.kind k)) (one_mark mark colon ts rest c refl more)
 
 -- What stands in a list or an object, and the bracket that closes it.
 record IsClosed (kind : Kind) (ts : Tokens) (last : Token) (rest : Tokens) : Type 0 where

@@ -10,7 +10,7 @@ ghost use Rattle.facet_json_scanner.specs.Inner.Found.{PieceHere, PieceWithin};
 
 use crate::scanner::pending::State;
 use facet_json_token::Mode;
-use facet_json_token::plain_cut::line_end;
+use facet_json_token::plain_cut::{block_end, line_end};
 
 /// What of a gap stands at a place.
 #[derive(Drop)]
@@ -88,16 +88,16 @@ pub fn block_from(buffer: &[u8], start: usize, at: usize, after_star: bool) -> P
         → PieceHere jsonc buffer.now start result }
     ensures within { PieceWithin start (length buffer.now) result }
 {
-    let mut end = at;
-    let mut ends_in_star = after_star;
-    while let Some(byte) = buffer.get(end) {
-        if *byte == b'/' && ends_in_star {
-            return Piece::Closed(end + 1);
-        }
-        ends_in_star = *byte == b'*';
-        end += 1;
+    let Some(first) = buffer.get(at) else {
+        return Piece::Open(State::Block { after_star });
+    };
+    if *first == b'/' && after_star {
+        return Piece::Closed(at + 1);
     }
-    Piece::Open(State::Block {
-        after_star: ends_in_star,
-    })
+    match block_end(buffer, at) {
+        Some(end) => Piece::Closed(end),
+        None => Piece::Open(State::Block {
+            after_star: buffer[buffer.len() - 1] == b'*',
+        }),
+    }
 }

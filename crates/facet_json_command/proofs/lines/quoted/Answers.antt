@@ -5,7 +5,7 @@ use Rattle.facet_json_document.specs.Quoted.{quoted}
 use Rattle.facet_json_document.specs.Text.{default_options, text}
 use Rattle.facet_json_command.proofs.lines.quoted.Goals as goal
 use Rattle.facet_json_tree.proofs.TreeViews.{tree_view-Text}
-use Rattle.facet_json_meaning.proofs.HeldTexts.{held-bytes}
+use Rattle.facet_format.proofs.HeldTexts.{held-bytes}
 
 -- the text of a tree that is a text
 text_quoted : (bytes : List ℕ) → text default_options 0 (tree.text bytes) ≡ quoted bytes

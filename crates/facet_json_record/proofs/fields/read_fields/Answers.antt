@@ -3,7 +3,7 @@ use Rattle.std.proofs.lemmas.Result.{IfOk-weaker, IfErr-weaker, err_from_is_err_
 use Rattle.facet_format.specs.Event.{bytes_of}
 use Rattle.facet_format.specs.HeldText.{text_of}
 use Rattle.facet_format.specs.Views.{refusal_of}
-use Rattle.facet_json_meaning.proofs.HeldTexts.{held-bytes}
+use Rattle.facet_format.proofs.HeldTexts.{held-bytes}
 use Rattle.facet_json_record.specs.Fields.{keys, table}
 use Rattle.facet_json_record.proofs.FieldSteps.{way-begin, way-goes_on, fields-not_begun, fields-no_key, fields-no_value, fields-end, fields-missing}
 use Rattle.facet_json_record.proofs.fields.read_fields.Goals as goal

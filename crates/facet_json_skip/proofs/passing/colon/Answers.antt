@@ -1,15 +1,11 @@
-use Rattle.std.proofs.Common.{◌≡◌, ◌∙◌, refl, sym, rules}
+use Rattle.std.proofs.Common.{refl, rules}
 use Rattle.std.proofs.lemmas.Result.{err_from_is_err_and}
-use Rattle.facet_json_token.specs.declared.token.Token.TheVariants as code
 use Rattle.facet_json_token.specs.Views.{mode_of}
 use Rattle.facet_json_document.specs.Place.{after_key}
 use Rattle.facet_json_document.specs.Unread.{colon_missing}
-use Rattle.facet_json_skip.proofs.UnreadTokens.{unread-fault, has-colon, colon-ended, colon-missing, cut-within}
+use Rattle.facet_json_reader.proofs.ColonAfterKey.{colon-stands}
+use Rattle.facet_json_skip.proofs.UnreadTokens.{unread-fault, has-colon, colon-ended, colon-missing}
 use Rattle.facet_json_skip.proofs.passing.colon.Goals as goal
-
--- A colon is not the end.
-no_end : code.Colon ≡ code.Eof → ⊥
-no_end e = cc
 
 pub returns-in_err-token-clause-colon : goal.returns-in_err-token-clause-colon
 returns-in_err-token-clause-colon c =
@@ -24,7 +20,7 @@ returns-in-Colon-clause-colon c =
 
 pub returns-in-Colon-clause-within : goal.returns-in-Colon-clause-within
 returns-in-Colon-clause-within c =
-    cut-within c.args.input.now c.args.position (mode_of c.args.mode) c.in_ok-token.token c.requires c.in_ok-token.ensures.answer (λ e. no_end (sym c.in-Colon.is ∙ e))
+    (colon-stands c.args.input.now c.args.position (mode_of c.args.mode) c.in_ok-token.token c.requires c.in_ok-token.ensures.answer c.in-Colon.is).ends
 
 pub returns-in-Eof-clause-colon : goal.returns-in-Eof-clause-colon
 returns-in-Eof-clause-colon c =
