@@ -1,31 +1,22 @@
 -- What a scanner answers after a refusal.
-use Rattle.std.proofs.Common.{◌≡◌, ◌≢◌, ℕ, ◌-◌, ◌≤◌, ◌<◌, List, ◌∷◌, length, take, drop, Option, Some, inl, inr, refl, sym, ap, ◌∙◌, subst, arith, length-drop}
-use Rattle.std.proofs.lemmas.Bool.{cases_lt}
-use Rattle.std.proofs.lemmas.List.{drop_all, take_all}
-use Rattle.facet_format.specs.Bytes.{slash}
+use Rattle.std.proofs.Common.{◌≡◌, ◌≢◌, ℕ, ◌-◌, List, length, take, drop, Option, Some, refl, sym, ap, ◌∙◌, subst, arith}
+use Rattle.std.proofs.lemmas.List.{take_all}
 use Rattle.facet_format.specs.Span.{span_at}
-use Rattle.facet_json_token.specs.Gap.{Mode, jsonc, whole, piece_len, gap_len, with_line_mark}
+use Rattle.facet_json_token.specs.Gap.{Mode}
 use Rattle.facet_json_token.specs.Token.{Fault}
-use Rattle.facet_json_token.specs.Cut.{Cut, nothing_left, token, fault, cut_here, past_gap, cut}
-use Rattle.facet_json_token.specs.Open.{IsBeginning, IsOpen}
-use Rattle.facet_json_token.proofs.Gaps.{gap_len-piece, gap_len-none, past_gap-again, cut-past_gap}
-use Rattle.facet_json_token.proofs.TokensSteps.{cut-end}
-use Rattle.facet_json_scanner.specs.Scanner.{Scanner, State, idle, in_line, Describes, GoesOnFrom, Answer, needs_more, refuses, answer_for, past_growing_gap, Gives, first_of, first_byte_of, stands_after}
+use Rattle.facet_json_token.specs.Cut.{Cut, nothing_left, token, fault, past_gap, cut}
+use Rattle.facet_json_token.specs.Open.{IsOpen}
+use Rattle.facet_json_token.proofs.Gaps.{past_gap-again, cut-past_gap}
+use Rattle.facet_json_scanner.specs.Scanner.{Scanner, idle, Describes, GoesOnFrom, Answer, needs_more, refuses, answer_for, Gives, first_of, first_byte_of, stands_after}
 use Rattle.facet_json_scanner.specs.Laws.{RefusalRepeats, RefusalAtEnd, PendingAgain}
-use Rattle.facet_json_scanner.proofs.Beginnings.{described_begins}
-use Rattle.facet_json_scanner.proofs.FoundPastGap.{growing_gap-none}
-use Rattle.facet_json_scanner.proofs.NoPiece.{no_piece_but_line, open_no_piece, opens_line-none}
 use Rattle.facet_json_scanner.proofs.Refusals.{growing_gap-again, shut-past_gap}
+use Rattle.facet_json_pieces.proofs.Pending.{something_within, pending_here}
 
 -- ---- after a refusal
 
--- Where a fault is cut, the position lies within the buffer.
-fault_within : (buffer : List ℕ) (p : ℕ) (mode : Mode) (f : Fault) → cut buffer p mode ≡ fault f → p < length buffer
-fault_within buffer p mode f e =
-    elim (cases_lt p (length buffer)) [
-      | inl h ↦ h
-      | inr h ↦ let none : cut buffer p mode ≡ nothing_left = cut-end buffer p mode h in cc
-    ]
+-- A fault is something.
+fault_cut : (buffer : List ℕ) (p : ℕ) (mode : Mode) (f : Fault) → cut buffer p mode ≡ fault f → cut buffer p mode ≢ nothing_left
+fault_cut buffer p mode f e none = cc
 
 -- A refusal is the answer of a fault.
 refused_cut : (last : ℕ) (c : Cut) (f : Fault) → Some (refuses f) ≡ Some (answer_for last c) → c ≡ fault f
@@ -75,7 +66,7 @@ refusal_repeats buffer p mode f new (Gives.decided shut is to) q answer after fr
     let e : cut buffer p mode ≡ fault f = refused_cut (length buffer) (cut buffer p mode) f is in
     let at = past_gap buffer p mode in
     let left : new ≡ idle at mode = to ∙ ap (λ c. idle (stands_after buffer p mode c) mode) e in
-    let room = fault_within buffer p mode f e in
+    let room = something_within buffer p mode (fault_cut buffer p mode f e) in
     let here : q ≡ at = idle_goes_on buffer at mode q (subst (λ s. GoesOnFrom s buffer q) left from) in
     let again : Gives buffer at mode answer after =
     subst (λ n. Gives buffer n mode answer after) here (subst (λ s. Gives buffer q s.mode answer after) left gives) in
@@ -97,40 +88,6 @@ refusal_at_end buffer s f answer after end e gives =
     ap (λ l. past_gap l (first_of s) s.mode) (sym all) in
     rw same at (from_fault buffer (first_of s) s.mode f answer after here (rw (← same) at gives))
 
--- Where a fault is cut, the gap before it is not all that is left.
-gap_not_all : (buffer : List ℕ) (p : ℕ) (mode : Mode) (f : Fault) → cut buffer p mode ≡ fault f →
-    gap_len mode whole (drop p buffer) ≢ length (drop p buffer)
-unfolding cut cut_here
-gap_not_all buffer p mode f e all =
-    let at = past_gap buffer p mode in
-    let room = fault_within buffer p mode f e in
-    let ends : length buffer ≤ at = omega (arith, all, length-drop p buffer) in
-    let none : cut buffer p mode ≡ nothing_left = ap (cut_here mode at) (drop_all at buffer ends) in cc
-
--- An open line comment is all gap of a whole input, so what is pending before a fault is none.
-no_line : (mode : Mode) (state : State) (bytes : List ℕ) → Describes mode state bytes →
-    gap_len mode whole bytes ≢ length bytes → state ≡ in_line → ⊥
-no_line _ _ _ (Describes.line body h) more e =
-    let bytes = slash ∷ slash ∷ body in
-    let all : piece_len jsonc whole bytes ≡ length bytes = ap (with_line_mark whole body) (opens_line-none body h) in
-    let rest : gap_len jsonc whole (drop (length bytes) bytes) ≡ 0 =
-    gap_len-none jsonc whole _ (ap (piece_len jsonc whole) (drop_all (length bytes) bytes (omega arith))) in
-    more (omega (arith, rest, gap_len-piece jsonc whole (length bytes) bytes all (omega arith)))
-no_line mode state bytes d more e = cc
-
--- What is pending stands where no gap is before it, and the buffer is open there.
-pending_here : (buffer : List ℕ) (start : ℕ) (mode : Mode) (state : State) (f : Fault) →
-    Describes mode state (drop start buffer) → cut buffer start mode ≡ fault f →
-    (past_gap buffer start mode ≡ start) × IsOpen buffer start mode
-pending_here buffer start mode state f d e =
-    let bytes = drop start buffer in
-    let other = no_line mode state bytes d (gap_not_all buffer start mode f e) in
-    let none : gap_len mode whole bytes ≡ 0 =
-    gap_len-none mode whole bytes (no_piece_but_line mode whole state bytes d other) in
-    let grows : past_growing_gap buffer start mode ≡ start =
-    growing_gap-none mode buffer start (open_no_piece mode state bytes d) in
-    (omega arith, subst (λ n. IsBeginning mode (drop n buffer)) (sym grows) (described_begins mode state bytes d))
-
 -- Where what was pending fits, the call after the refusal needs more bytes of it again.
 pub pending_again : PendingAgain
 pending_again buffer s start state f end is d e =
@@ -141,5 +98,6 @@ pending_again buffer s start state f end is d e =
     let cuts : cut buffer start s.mode ≡ fault f =
     sym (ap (λ l. cut l (first_of s) s.mode) all ∙ ap (λ n. cut buffer n s.mode) first) ∙ e in
     let here =
-    pending_here buffer start s.mode state f (subst (λ l. Describes s.mode state (drop start l)) all d) cuts in
+    pending_here buffer start s.mode state (subst (λ l. Describes s.mode state (drop start l)) all d)
+    (fault_cut buffer start s.mode f cuts) in
     (same ∙ here.0, subst (λ n. IsOpen buffer n s.mode) (sym (same ∙ here.0)) here.1)

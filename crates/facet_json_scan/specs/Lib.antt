@@ -7,5 +7,7 @@ pub use Rattle.facet_json_token.specs.Tokens
 pub use Rattle.facet_json_decode.specs.Decode
 pub use Rattle.facet_json_decode.specs.Fault
 pub use Rattle.facet_json_scanner.specs.Scanner
+pub use Rattle.facet_json_pieces.specs.Source
+pub use Rattle.facet_json_pieces.specs.Listed
 pub mod Views
 pub mod Laws

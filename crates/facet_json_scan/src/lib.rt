@@ -1,6 +1,6 @@
 //! JSON text (RFC 8259, with lenient readings, and JSONC comments) to tokens, strings' contents to texts, and numbers'
 //! texts to values, proved. `Scanner` cuts tokens off a buffer that grows, `cut` one token at a position, `decode_string`
-//! and its kin read a string's content, and `parse_number` a number's text.
+//! and its kin read a string's content, and `parse_number` a number's text. `scan_reader` reads and scans all that a source has.
 #![tactic(auto)]
 
 pub mod laws;
@@ -12,5 +12,6 @@ pub use facet_json_decode::{
     decode_string_unchecked,
 };
 pub use facet_json_number::{ParsedNumber, parse_number, parse_number_unchecked};
+pub use facet_json_pieces::{ByteSource, Marked, ScanReadError, Scanned, scan_reader};
 pub use facet_json_scanner::Scanner;
 pub use facet_json_token::{Mode, ScanError, ScanErrorKind, ScanResult, SpannedToken, Token, cut};
