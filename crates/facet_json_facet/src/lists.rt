@@ -31,7 +31,7 @@ impl<'de, T: Facet<'de>> Facet<'de> for Vec<T> {
     ghost use Rattle.std.specs.Prelude.{List, false, map};
     ghost use Rattle.std.specs.List.{All};
     ghost use Rattle.facet_json_meaning.specs.Lists.{list_of, list_by};
-    ghost use Rattle.facet_json_meaning.proofs.ListLaws.{list-same, list-reads_back};
+    ghost use Rattle.facet_json_meaning.proofs.Sequences.ListLaws.{list-same, list-reads_back};
 
     ghost View = { List T.View };
 

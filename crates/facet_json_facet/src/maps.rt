@@ -17,8 +17,8 @@ use std::collections::BTreeMap;
 impl<'de, T: Facet<'de>> Facet<'de> for BTreeMap<String, T> {
     ghost use Rattle.std.specs.Prelude.{false};
     ghost use Rattle.facet_json_meaning.specs.Maps.{Entries, seen_entries, map_of, tree_of_entries, IsReadableMap};
-    ghost use Rattle.facet_json_meaning.proofs.MapLaws.{map-same};
-    ghost use Rattle.facet_json_meaning.proofs.MapTexts.{map-reads_back};
+    ghost use Rattle.facet_json_meaning.proofs.Objects.MapLaws.{map-same};
+    ghost use Rattle.facet_json_meaning.proofs.Objects.MapTexts.{map-reads_back};
 
     ghost View = { Entries T.View };
 

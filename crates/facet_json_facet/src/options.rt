@@ -17,7 +17,7 @@ impl<'de, T: Facet<'de>> Facet<'de> for Option<T> {
     ghost use Rattle.std.specs.Prelude.{Option, false};
     ghost use Rattle.std.specs.Option.{option_map};
     ghost use Rattle.facet_json_meaning.specs.Optional.{optional, optional_tree, OptionalReadable};
-    ghost use Rattle.facet_json_meaning.proofs.OptionalLaws.{optional-same, optional-reads_back};
+    ghost use Rattle.facet_json_meaning.proofs.Nullable.OptionalLaws.{optional-same, optional-reads_back};
 
     ghost View = { Option T.View };
 

@@ -22,7 +22,7 @@ impl<'de> Facet<'de> for RawJson<'de> {
     ghost use Rattle.facet_format.specs.Event.{bytes_of};
     ghost use Rattle.facet_json_document.specs.Tree.{raw as raw_tree};
     ghost use Rattle.facet_json_meaning.specs.Readings.{raw_of, IsBareDocument};
-    ghost use Rattle.facet_json_meaning.proofs.RawLaws.{raw-same, raw-reads_back};
+    ghost use Rattle.facet_json_meaning.proofs.Leaves.RawLaws.{raw-same, raw-reads_back};
 
     ghost View = { List ℕ };
 

@@ -12,8 +12,8 @@ impl<'de> Facet<'de> for i8 {
     ghost use Rattle.facet_json_document.specs.Tree.{i64 as i64_tree};
     ghost use Rattle.facet_json_written.specs.AsRead.{IsWithin};
     ghost use Rattle.facet_json_meaning.specs.Readings.{leaf, signed_of};
-    ghost use Rattle.facet_json_meaning.proofs.LeafLaws.{leaf-same};
-    ghost use Rattle.facet_json_meaning.proofs.WholeNumbers.{i8-reads_back};
+    ghost use Rattle.facet_json_meaning.proofs.Leaves.LeafLaws.{leaf-same};
+    ghost use Rattle.facet_json_meaning.proofs.Leaves.WholeNumbers.{i8-reads_back};
 
     ghost View = { ℤ };
 
@@ -60,8 +60,8 @@ impl<'de> Facet<'de> for i16 {
     ghost use Rattle.facet_json_document.specs.Tree.{i64 as i64_tree};
     ghost use Rattle.facet_json_written.specs.AsRead.{IsWithin};
     ghost use Rattle.facet_json_meaning.specs.Readings.{leaf, signed_of};
-    ghost use Rattle.facet_json_meaning.proofs.LeafLaws.{leaf-same};
-    ghost use Rattle.facet_json_meaning.proofs.WholeNumbers.{i16-reads_back};
+    ghost use Rattle.facet_json_meaning.proofs.Leaves.LeafLaws.{leaf-same};
+    ghost use Rattle.facet_json_meaning.proofs.Leaves.WholeNumbers.{i16-reads_back};
 
     ghost View = { ℤ };
 
@@ -108,8 +108,8 @@ impl<'de> Facet<'de> for i32 {
     ghost use Rattle.facet_json_document.specs.Tree.{i64 as i64_tree};
     ghost use Rattle.facet_json_written.specs.AsRead.{IsWithin};
     ghost use Rattle.facet_json_meaning.specs.Readings.{leaf, signed_of};
-    ghost use Rattle.facet_json_meaning.proofs.LeafLaws.{leaf-same};
-    ghost use Rattle.facet_json_meaning.proofs.WholeNumbers.{i32-reads_back};
+    ghost use Rattle.facet_json_meaning.proofs.Leaves.LeafLaws.{leaf-same};
+    ghost use Rattle.facet_json_meaning.proofs.Leaves.WholeNumbers.{i32-reads_back};
 
     ghost View = { ℤ };
 
@@ -156,8 +156,8 @@ impl<'de> Facet<'de> for i64 {
     ghost use Rattle.facet_json_document.specs.Tree.{i64 as i64_tree};
     ghost use Rattle.facet_json_written.specs.AsRead.{IsWithin};
     ghost use Rattle.facet_json_meaning.specs.Readings.{leaf, signed_of};
-    ghost use Rattle.facet_json_meaning.proofs.LeafLaws.{leaf-same};
-    ghost use Rattle.facet_json_meaning.proofs.WholeNumbers.{i64-reads_back};
+    ghost use Rattle.facet_json_meaning.proofs.Leaves.LeafLaws.{leaf-same};
+    ghost use Rattle.facet_json_meaning.proofs.Leaves.WholeNumbers.{i64-reads_back};
 
     ghost View = { ℤ };
 
@@ -204,8 +204,8 @@ impl<'de> Facet<'de> for isize {
     ghost use Rattle.facet_json_document.specs.Tree.{i64 as i64_tree};
     ghost use Rattle.facet_json_written.specs.AsRead.{IsWithin};
     ghost use Rattle.facet_json_meaning.specs.Readings.{leaf, signed_of};
-    ghost use Rattle.facet_json_meaning.proofs.LeafLaws.{leaf-same};
-    ghost use Rattle.facet_json_meaning.proofs.WholeNumbers.{i64-reads_back};
+    ghost use Rattle.facet_json_meaning.proofs.Leaves.LeafLaws.{leaf-same};
+    ghost use Rattle.facet_json_meaning.proofs.Leaves.WholeNumbers.{i64-reads_back};
 
     ghost View = { ℤ };
 

@@ -22,8 +22,8 @@ impl<'de> Facet<'de> for String {
     ghost use Rattle.std.specs.Str.{is_utf8};
     ghost use Rattle.facet_json_document.specs.Tree.{text as text_tree};
     ghost use Rattle.facet_json_meaning.specs.Readings.{leaf, text_of};
-    ghost use Rattle.facet_json_meaning.proofs.LeafLaws.{leaf-same};
-    ghost use Rattle.facet_json_meaning.proofs.TextLaws.{text-reads_back};
+    ghost use Rattle.facet_json_meaning.proofs.Leaves.LeafLaws.{leaf-same};
+    ghost use Rattle.facet_json_meaning.proofs.Leaves.TextLaws.{text-reads_back};
 
     ghost View = { List ℕ };
 
@@ -74,7 +74,7 @@ impl<'de> Facet<'de> for &'de str {
     ghost use Rattle.std.specs.Prelude.{ℕ, List, true};
     ghost use Rattle.facet_json_document.specs.Tree.{text as text_tree};
     ghost use Rattle.facet_json_meaning.specs.Borrowed.{borrowed_text, unread_text};
-    ghost use Rattle.facet_json_meaning.proofs.BorrowedLaws.{borrowed-same, unread-same, unread-reads_back};
+    ghost use Rattle.facet_json_meaning.proofs.Leaves.BorrowedLaws.{borrowed-same, unread-same, unread-reads_back};
 
     ghost View = { List ℕ };
 

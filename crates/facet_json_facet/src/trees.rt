@@ -23,7 +23,7 @@ impl<'de> Facet<'de> for Tree {
     ghost use Rattle.facet_json_document.specs.Meaning.{tree_of as tree_of_node};
     ghost use Rattle.facet_json_document.specs.Tree.{Tree as SpecTree};
     ghost use Rattle.facet_json_meaning.specs.Trees.{IsReadableTree};
-    ghost use Rattle.facet_json_meaning.proofs.TreeLaws.{tree-same, tree-reads_back};
+    ghost use Rattle.facet_json_meaning.proofs.OfTrees.TreeLaws.{tree-same, tree-reads_back};
     ghost use Rattle.facet_json_tree.specs.Views.{tree_view};
 
     ghost View = { SpecTree };

@@ -15,8 +15,8 @@ impl<'de> Facet<'de> for bool {
     ghost use Rattle.std.specs.Prelude.{Bool, true};
     ghost use Rattle.facet_json_document.specs.Tree.{bool as bool_tree};
     ghost use Rattle.facet_json_meaning.specs.Readings.{bool_of, leaf};
-    ghost use Rattle.facet_json_meaning.proofs.LeafLaws.{leaf-same};
-    ghost use Rattle.facet_json_meaning.proofs.TruthLaws.{bool-reads_back};
+    ghost use Rattle.facet_json_meaning.proofs.Leaves.LeafLaws.{leaf-same};
+    ghost use Rattle.facet_json_meaning.proofs.Leaves.TruthLaws.{bool-reads_back};
 
     ghost View = { Bool };
 

@@ -11,8 +11,8 @@ impl<'de> Facet<'de> for u8 {
     ghost use Rattle.std.specs.Prelude.{ℕ, true, ◌<◌, ◌^◌};
     ghost use Rattle.facet_json_document.specs.Tree.{u64 as u64_tree};
     ghost use Rattle.facet_json_meaning.specs.Readings.{leaf, unsigned_of};
-    ghost use Rattle.facet_json_meaning.proofs.LeafLaws.{leaf-same};
-    ghost use Rattle.facet_json_meaning.proofs.WholeNumbers.{u8-reads_back};
+    ghost use Rattle.facet_json_meaning.proofs.Leaves.LeafLaws.{leaf-same};
+    ghost use Rattle.facet_json_meaning.proofs.Leaves.WholeNumbers.{u8-reads_back};
 
     ghost View = { ℕ };
 
@@ -58,8 +58,8 @@ impl<'de> Facet<'de> for u16 {
     ghost use Rattle.std.specs.Prelude.{ℕ, true, ◌<◌, ◌^◌};
     ghost use Rattle.facet_json_document.specs.Tree.{u64 as u64_tree};
     ghost use Rattle.facet_json_meaning.specs.Readings.{leaf, unsigned_of};
-    ghost use Rattle.facet_json_meaning.proofs.LeafLaws.{leaf-same};
-    ghost use Rattle.facet_json_meaning.proofs.WholeNumbers.{u16-reads_back};
+    ghost use Rattle.facet_json_meaning.proofs.Leaves.LeafLaws.{leaf-same};
+    ghost use Rattle.facet_json_meaning.proofs.Leaves.WholeNumbers.{u16-reads_back};
 
     ghost View = { ℕ };
 
@@ -105,8 +105,8 @@ impl<'de> Facet<'de> for u32 {
     ghost use Rattle.std.specs.Prelude.{ℕ, true, ◌<◌, ◌^◌};
     ghost use Rattle.facet_json_document.specs.Tree.{u64 as u64_tree};
     ghost use Rattle.facet_json_meaning.specs.Readings.{leaf, unsigned_of};
-    ghost use Rattle.facet_json_meaning.proofs.LeafLaws.{leaf-same};
-    ghost use Rattle.facet_json_meaning.proofs.WholeNumbers.{u32-reads_back};
+    ghost use Rattle.facet_json_meaning.proofs.Leaves.LeafLaws.{leaf-same};
+    ghost use Rattle.facet_json_meaning.proofs.Leaves.WholeNumbers.{u32-reads_back};
 
     ghost View = { ℕ };
 
@@ -152,8 +152,8 @@ impl<'de> Facet<'de> for u64 {
     ghost use Rattle.std.specs.Prelude.{ℕ, true, ◌<◌, ◌^◌};
     ghost use Rattle.facet_json_document.specs.Tree.{u64 as u64_tree};
     ghost use Rattle.facet_json_meaning.specs.Readings.{leaf, unsigned_of};
-    ghost use Rattle.facet_json_meaning.proofs.LeafLaws.{leaf-same};
-    ghost use Rattle.facet_json_meaning.proofs.WholeNumbers.{u64-reads_back};
+    ghost use Rattle.facet_json_meaning.proofs.Leaves.LeafLaws.{leaf-same};
+    ghost use Rattle.facet_json_meaning.proofs.Leaves.WholeNumbers.{u64-reads_back};
 
     ghost View = { ℕ };
 
@@ -199,8 +199,8 @@ impl<'de> Facet<'de> for usize {
     ghost use Rattle.std.specs.Prelude.{ℕ, true, ◌<◌, ◌^◌};
     ghost use Rattle.facet_json_document.specs.Tree.{u64 as u64_tree};
     ghost use Rattle.facet_json_meaning.specs.Readings.{leaf, unsigned_of};
-    ghost use Rattle.facet_json_meaning.proofs.LeafLaws.{leaf-same};
-    ghost use Rattle.facet_json_meaning.proofs.WholeNumbers.{u64-reads_back};
+    ghost use Rattle.facet_json_meaning.proofs.Leaves.LeafLaws.{leaf-same};
+    ghost use Rattle.facet_json_meaning.proofs.Leaves.WholeNumbers.{u64-reads_back};
 
     ghost View = { ℕ };
 

@@ -16,8 +16,8 @@ impl<'de> Facet<'de> for u128 {
     ghost use Rattle.std.specs.Prelude.{ℕ, true, ◌<◌, ◌^◌};
     ghost use Rattle.facet_json_document.specs.Tree.{u128 as u128_tree};
     ghost use Rattle.facet_json_meaning.specs.Readings.{leaf, u128_of};
-    ghost use Rattle.facet_json_meaning.proofs.LeafLaws.{leaf-same};
-    ghost use Rattle.facet_json_meaning.proofs.WideNumbers.{u128-reads_back};
+    ghost use Rattle.facet_json_meaning.proofs.Leaves.LeafLaws.{leaf-same};
+    ghost use Rattle.facet_json_meaning.proofs.Leaves.WideNumbers.{u128-reads_back};
 
     ghost View = { ℕ };
 
@@ -60,8 +60,8 @@ impl<'de> Facet<'de> for i128 {
     ghost use Rattle.facet_json_document.specs.Tree.{i128 as i128_tree};
     ghost use Rattle.facet_json_written.specs.AsRead.{IsWithin};
     ghost use Rattle.facet_json_meaning.specs.Readings.{leaf, i128_of};
-    ghost use Rattle.facet_json_meaning.proofs.LeafLaws.{leaf-same};
-    ghost use Rattle.facet_json_meaning.proofs.WideNumbers.{i128-reads_back};
+    ghost use Rattle.facet_json_meaning.proofs.Leaves.LeafLaws.{leaf-same};
+    ghost use Rattle.facet_json_meaning.proofs.Leaves.WideNumbers.{i128-reads_back};
 
     ghost View = { ℤ };
 

@@ -5,8 +5,8 @@ use Rattle.std.proofs.lemmas.Bool.{le-leb}
 use Rattle.facet_json_document.specs.Tree.{u64}
 use Rattle.facet_json_meaning.specs.Laws.{SameReading, ReadsBack}
 use Rattle.facet_json_meaning.specs.Readings.{unsigned_of}
-use Rattle.facet_json_meaning.proofs.LeafLaws.{leaf-same}
-use Rattle.facet_json_meaning.proofs.WholeNumbers.{u8-reads_back}
+use Rattle.facet_json_meaning.proofs.Leaves.LeafLaws.{leaf-same}
+use Rattle.facet_json_meaning.proofs.Leaves.WholeNumbers.{u8-reads_back}
 use Rattle.facet_json_facet_tests.specs.Percents.{percent_in, percent}
 
 pub percent-some : (n : ℕ) → n ≤ 100 → percent_in n ≡ Some n

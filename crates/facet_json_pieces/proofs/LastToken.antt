@@ -15,7 +15,7 @@ use Rattle.facet_json_token.proofs.CutBounds.{cut-token_fits}
 use Rattle.facet_json_token.proofs.TokensSteps.{cut-end}
 use Rattle.facet_json_scanner.specs.Scanner.{Scanner, answer_for, first_of, Describes, GoesOnFrom}
 use Rattle.facet_json_scanner.specs.Views.{answered}
-use Rattle.facet_json_scanner.proofs.Beginnings.{described_begins}
+use Rattle.facet_json_scanner.proofs.Pieces.Beginnings.{described_begins}
 use Rattle.facet_json_scanner.proofs.WholeTokens.{token-shut}
 use Rattle.facet_json_pieces.specs.Listed.{list_of, AreAllOf, StandsWithin}
 use Rattle.facet_json_pieces.specs.Inner.Stands.{is_cut, Stands, IsFinished}

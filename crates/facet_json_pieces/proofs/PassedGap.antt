@@ -8,7 +8,7 @@ use Rattle.facet_json_token.specs.Cut.{past_gap, cut_here, cut}
 use Rattle.facet_json_token.specs.Tokens.{Tokens, AreCuts}
 use Rattle.facet_json_token.proofs.Gaps.{gap_len-none, gap_len-some}
 use Rattle.facet_json_scanner.specs.Scanner.{past_growing_gap}
-use Rattle.facet_json_scanner.proofs.GrowthOfGap.{piece_len-keeps}
+use Rattle.facet_json_scanner.proofs.Growth.GrowthOfGap.{piece_len-keeps}
 
 -- ---- a piece is no longer than the bytes
 

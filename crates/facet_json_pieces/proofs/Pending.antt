@@ -9,7 +9,7 @@ use Rattle.facet_json_token.specs.Open.{IsBeginning, IsOpen}
 use Rattle.facet_json_token.proofs.Gaps.{gap_len-piece, gap_len-none}
 use Rattle.facet_json_token.proofs.TokensSteps.{cut-end}
 use Rattle.facet_json_scanner.specs.Scanner.{State, in_line, Describes, past_growing_gap}
-use Rattle.facet_json_scanner.proofs.Beginnings.{described_begins}
+use Rattle.facet_json_scanner.proofs.Pieces.Beginnings.{described_begins}
 use Rattle.facet_json_scanner.proofs.FoundPastGap.{growing_gap-none}
 use Rattle.facet_json_scanner.proofs.NoPiece.{no_piece_but_line, open_no_piece, opens_line-none}
 

@@ -19,7 +19,7 @@ use Rattle.facet_json_token.proofs.Gaps.{gap_len-bound}
 use Rattle.facet_json_scanner.specs.Scanner.{Scanner, State, cuts, refuses, answer_for, idle, waiting, first_of, stands_after, Describes, GoesOnFrom, past_growing_gap, Gives}
 use Rattle.facet_json_scanner.specs.Views.{answered}
 use Rattle.facet_json_scanner.proofs.FoundPastGap.{same_gap}
-use Rattle.facet_json_scanner.proofs.GrowthOfCut.{cut_stays}
+use Rattle.facet_json_scanner.proofs.Growth.GrowthOfCut.{cut_stays}
 use Rattle.facet_json_pieces.specs.Listed.{token_then, list_of, last_of, refused_by, AreAllOf, StandsWithin}
 use Rattle.facet_json_pieces.specs.Inner.Stands.{is_cut, Stands, IsRefused}
 use Rattle.facet_json_pieces.proofs.Growth.{goes_on-first}

@@ -7,8 +7,8 @@ use Rattle.facet_json_protocol.specs.Now.{Now, StandsAt}
 use Rattle.facet_json_meaning.specs.Nodes.{KeepsOn}
 use Rattle.facet_json_meaning.specs.Passing.{MovesOn}
 use Rattle.facet_json_meaning.proofs.Keeping.{keeps-then}
-use Rattle.facet_json_meaning.proofs.NextOnWalk.{answer-walks}
-use Rattle.facet_json_meaning.proofs.TreeOnWalk.{moves_trans, moves_past}
+use Rattle.facet_json_meaning.proofs.Walks.NextOnWalk.{answer-walks}
+use Rattle.facet_json_meaning.proofs.OfTrees.TreeOnWalk.{moves_trans, moves_past}
 use Rattle.facet_json_read.specs.Inner.Reading.{LeadsOn}
 
 -- ---- on a walk

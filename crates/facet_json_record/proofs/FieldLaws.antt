@@ -6,9 +6,9 @@ use Rattle.facet_json_document.specs.Node.{Members}
 use Rattle.facet_json_meaning.specs.Laws.{SameReading}
 use Rattle.facet_json_meaning.specs.Nodes.{same_scalars, same_arrays, same_objects, SameMembers, same_no_members, same_member}
 use Rattle.facet_json_meaning.specs.Optional.{optional}
-use Rattle.facet_json_meaning.proofs.LeafLaws.{same-means}
-use Rattle.facet_json_meaning.proofs.MapLaws.{and_then-same}
-use Rattle.facet_json_meaning.proofs.OptionalLaws.{optional-same}
+use Rattle.facet_json_meaning.proofs.Leaves.LeafLaws.{same-means}
+use Rattle.facet_json_meaning.proofs.Objects.MapLaws.{and_then-same}
+use Rattle.facet_json_meaning.proofs.Nullable.OptionalLaws.{optional-same}
 use Rattle.facet_json_record.specs.Fields.{Reading, Table, none, need, maybe, seen_by, begins_with, other_names, field_step, after_members, fields_of}
 
 -- What a member adds is told by its text.

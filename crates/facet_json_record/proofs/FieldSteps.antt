@@ -13,9 +13,9 @@ use Rattle.facet_json_meaning.specs.Nodes.{StandsBefore, KeepsOn}
 use Rattle.facet_json_meaning.specs.Objects.{members_of, BeginsObject, IsNoObject, PassesKey, LacksKey}
 use Rattle.facet_json_meaning.specs.Reading.{IsRead, IsUnread}
 use Rattle.facet_json_meaning.proofs.Keeping.{keeps-then}
-use Rattle.facet_json_meaning.proofs.NextOnWalk.{goes-keeps}
+use Rattle.facet_json_meaning.proofs.Walks.NextOnWalk.{goes-keeps}
 use Rattle.facet_json_record.specs.Fields.{Reading, Table, after_members, fields_of}
-use Rattle.facet_json_meaning.proofs.MembersOnWalk.{AtMembers, object-begins, at-key, key-comes, at-end}
+use Rattle.facet_json_meaning.proofs.Objects.MembersOnWalk.{AtMembers, object-begins, at-key, key-comes, at-end}
 
 module _ {V : Type 0} (t : Table V) (names : List (List ℕ)) where
   -- So much is known of the fields of the node before which the parser stood, and it stands before the members that are left.

@@ -12,13 +12,13 @@ use Rattle.facet_json_written.specs.AsRead.{RawParts, RawMembers, IsDocumentText
 use Rattle.facet_json_written.proofs.Rfc.Encoded.{ascii}
 use Rattle.facet_json_meaning.specs.Laws.{SameReading, ReadsBack}
 use Rattle.facet_json_meaning.specs.Optional.{optional}
-use Rattle.facet_json_meaning.proofs.OptionalLaws.{optional-same, optional-reads_back}
-use Rattle.facet_json_meaning.proofs.TextsWithin.{ReadsAnywhere, reads-anywhere, reads-alone, text-depth}
+use Rattle.facet_json_meaning.proofs.Nullable.OptionalLaws.{optional-same, optional-reads_back}
+use Rattle.facet_json_meaning.proofs.Nodes.TextsWithin.{ReadsAnywhere, reads-anywhere, reads-alone, text-depth}
 use Rattle.facet_json_record.specs.Fields.{Reading, fields_of}
 use Rattle.facet_json_record.specs.Shapes.{Shape, ShapeLaws, shape, nullable, FieldList, no_more, needs, may_have, struct_of, is_text, lacks, are_names}
 use Rattle.facet_json_record.proofs.FieldLaws.{SameSteps, none-same, need-same, maybe-same, fields-same}
 use Rattle.facet_json_record.proofs.FieldsBack.{FieldsAre, none-are, need-are, maybe-are}
-use Rattle.facet_json_meaning.proofs.ObjectTexts.{MembersAnywhere, members-none, members-join, object-whole}
+use Rattle.facet_json_meaning.proofs.Objects.ObjectTexts.{MembersAnywhere, members-none, members-join, object-whole}
 
 -- ---- types
 

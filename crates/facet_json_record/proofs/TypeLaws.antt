@@ -1,17 +1,17 @@
 -- The laws of each type.
 use Rattle.std.proofs.Common.{ℕ}
 use Rattle.facet_json_meaning.specs.Readings.{bool_of, unsigned_of, signed_of, text_of, u128_of, i128_of, raw_of}
-use Rattle.facet_json_meaning.proofs.BorrowedLaws.{borrowed-same, unread-same, unread-reads_back}
-use Rattle.facet_json_meaning.proofs.LeafLaws.{leaf-same}
-use Rattle.facet_json_meaning.proofs.ListLaws.{list-same, list-reads_back}
-use Rattle.facet_json_meaning.proofs.MapLaws.{map-same}
-use Rattle.facet_json_meaning.proofs.MapTexts.{map-reads_back}
-use Rattle.facet_json_meaning.proofs.RawLaws.{raw-same, raw-reads_back}
-use Rattle.facet_json_meaning.proofs.TextLaws.{text-reads_back}
-use Rattle.facet_json_meaning.proofs.TreeLaws.{tree-same, tree-reads_back}
-use Rattle.facet_json_meaning.proofs.TruthLaws.{bool-reads_back}
-use Rattle.facet_json_meaning.proofs.WholeNumbers.{u8-reads_back, u16-reads_back, u32-reads_back, u64-reads_back, i8-reads_back, i16-reads_back, i32-reads_back, i64-reads_back}
-use Rattle.facet_json_meaning.proofs.WideNumbers.{u128-reads_back, i128-reads_back}
+use Rattle.facet_json_meaning.proofs.Leaves.BorrowedLaws.{borrowed-same, unread-same, unread-reads_back}
+use Rattle.facet_json_meaning.proofs.Leaves.LeafLaws.{leaf-same}
+use Rattle.facet_json_meaning.proofs.Sequences.ListLaws.{list-same, list-reads_back}
+use Rattle.facet_json_meaning.proofs.Objects.MapLaws.{map-same}
+use Rattle.facet_json_meaning.proofs.Objects.MapTexts.{map-reads_back}
+use Rattle.facet_json_meaning.proofs.Leaves.RawLaws.{raw-same, raw-reads_back}
+use Rattle.facet_json_meaning.proofs.Leaves.TextLaws.{text-reads_back}
+use Rattle.facet_json_meaning.proofs.OfTrees.TreeLaws.{tree-same, tree-reads_back}
+use Rattle.facet_json_meaning.proofs.Leaves.TruthLaws.{bool-reads_back}
+use Rattle.facet_json_meaning.proofs.Leaves.WholeNumbers.{u8-reads_back, u16-reads_back, u32-reads_back, u64-reads_back, i8-reads_back, i16-reads_back, i32-reads_back, i64-reads_back}
+use Rattle.facet_json_meaning.proofs.Leaves.WideNumbers.{u128-reads_back, i128-reads_back}
 use Rattle.facet_json_record.specs.Shapes.{Shape, ShapeLaws}
 use Rattle.facet_json_record.specs.Types as types
 

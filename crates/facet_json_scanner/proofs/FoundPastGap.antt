@@ -11,8 +11,8 @@ use Rattle.facet_json_scanner.specs.Scanner.{Describes, answer_for, past_growing
 use Rattle.facet_json_scanner.specs.Inner.Found.{FoundHere, FoundFrom, state_of}
 use Rattle.facet_json_token.proofs.GapSteps.{past_gap-piece}
 use Rattle.facet_json_token.proofs.Gaps.{piece_len-blank, gap_len-none, gap_len-some, gap_len-piece, gap_len-bound}
-use Rattle.facet_json_scanner.proofs.GrowthOfGap.{piece_len-keeps}
-use Rattle.facet_json_scanner.proofs.GrowthOfCut.{past_gap-stays}
+use Rattle.facet_json_scanner.proofs.Growth.GrowthOfGap.{piece_len-keeps}
+use Rattle.facet_json_scanner.proofs.Growth.GrowthOfCut.{past_gap-stays}
 
 -- Where no piece stands, the growing gap ends.
 pub growing_gap-none : (mode : Mode) (buffer : List ℕ) (p : ℕ) → piece_len mode growing (drop p buffer) ≡ 0 →

@@ -9,7 +9,7 @@ use Rattle.facet_json_token.specs.Open.{IsBeginning}
 use Rattle.facet_json_scanner.specs.Scanner.{State, Part, EndsIn, in_text, in_word, in_number, in_line, Describes}
 use Rattle.facet_format.proofs.NumberLaws.{begins_number-is}
 use Rattle.facet_json_token.proofs.Starts.{number_byte}
-use Rattle.facet_json_scanner.proofs.Beginnings.{literal_starts}
+use Rattle.facet_json_scanner.proofs.Pieces.Beginnings.{literal_starts}
 
 -- A byte that is neither blank nor a slash is in no gap.
 pub no_piece : (mode : Mode) (input : Input) (b : ℕ) (bytes : List ℕ) → is_space b ≡ false → (b == slash) ≡ false →

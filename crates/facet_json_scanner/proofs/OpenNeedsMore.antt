@@ -3,7 +3,7 @@ use Rattle.std.proofs.Common.{◌≡◌, ℕ, ◌-◌, List, length, drop, Optio
 use Rattle.facet_json_token.specs.Gap.{Mode}
 use Rattle.facet_format.specs.Span.{span_at}
 use Rattle.facet_json_scanner.specs.Scanner.{State, Scanner, Describes, Answer, needs_more, waiting, past_growing_gap, Gives}
-use Rattle.facet_json_scanner.proofs.Beginnings.{described_begins}
+use Rattle.facet_json_scanner.proofs.Pieces.Beginnings.{described_begins}
 
 -- More is needed from the first byte of what is open.
 pub gives-open : (buffer : List ℕ) (p start : ℕ) (mode : Mode) (state : State) (answer : Option Answer) (new : Scanner) →

@@ -29,9 +29,9 @@ use Rattle.facet_json_scanner.specs.Views.{answered, fault_answered}
 use Rattle.facet_json_scanner.specs.Inner.Found.{position_after, FoundFrom, RefusedAt, RefusedThere}
 use Rattle.facet_json_scanner.proofs.AnswersOfCuts.{found-here}
 use Rattle.facet_json_scanner.proofs.FoundPastGap.{growing_gap-none, same_gap, found-no_gap}
-use Rattle.facet_json_scanner.proofs.GrowthOfGap.{piece_len-keeps}
+use Rattle.facet_json_scanner.proofs.Growth.GrowthOfGap.{piece_len-keeps}
 use Rattle.facet_json_scanner.proofs.NoPiece.{no_piece}
-use Rattle.facet_json_scanner.proofs.PendingNumber.{number-shut}
+use Rattle.facet_json_scanner.proofs.Pieces.PendingNumber.{number-shut}
 
 -- ---- which answers are refusals
 

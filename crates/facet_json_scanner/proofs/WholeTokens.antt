@@ -17,8 +17,8 @@ use Rattle.facet_json_token.specs.Open.{IsBeginning}
 use Rattle.facet_json_token.proofs.FirstBytes.{cut_here-by}
 use Rattle.facet_json_token.proofs.NumberCuts.{bare_minus-no_token}
 use Rattle.facet_json_token.proofs.Offsets.{drop-at_byte}
-use Rattle.facet_json_scanner.proofs.Beginnings.{BeginsBy, begins_by}
-use Rattle.facet_json_scanner.proofs.PendingWord.{common_len-prefix}
+use Rattle.facet_json_scanner.proofs.Pieces.Beginnings.{BeginsBy, begins_by}
+use Rattle.facet_json_scanner.proofs.Pieces.PendingWord.{common_len-prefix}
 
 module _ (t : Token) where
   -- what is no token

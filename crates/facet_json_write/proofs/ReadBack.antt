@@ -3,7 +3,7 @@ use Rattle.std.proofs.Common.{◌≡◌, ℕ, List, Result, Ok, Err, sym, subst}
 use Rattle.std.specs.Prelude.{IfOk}
 use Rattle.facet_json_document.specs.Text.{Options, text}
 use Rattle.facet_json_document.specs.Tree.{Tree}
-use Rattle.facet_json_written.proofs.TreeTexts.{written_is_read}
+use Rattle.facet_json_written.proofs.Values.TreeTexts.{written_is_read}
 use Rattle.facet_json_written.specs.ReadBack.{IsReadBack}
 use Rattle.facet_json_write.specs.Write.{IsOfRust, IsReadable}
 

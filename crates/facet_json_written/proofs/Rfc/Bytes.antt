@@ -6,7 +6,7 @@ use Rattle.facet_format.specs.Bytes.{left_bracket, right_bracket, comma}
 use Rattle.facet_json_document.specs.Text.{BytesFormat, as_array, as_hex, hex, bytes_text, more_numbers}
 use Rattle.facet_json_written.specs.RfcText.{InUtf8, IsRfcValue, IsRfcText}
 use Rattle.facet_json_written.specs.RfcText as rfc
-use Rattle.facet_json_written.proofs.HexTexts.{hex_text-quoted, hex_text-utf8}
+use Rattle.facet_json_written.proofs.Scalars.HexTexts.{hex_text-quoted, hex_text-utf8}
 use Rattle.facet_json_written.proofs.Rfc.Structural.{with_spaces_before, with_spaces_after}
 use Rattle.facet_json_written.proofs.Rfc.Encoded.{ascii, mapped, joined3}
 use Rattle.facet_json_written.proofs.Rfc.Values.{ItemsGoOn, items_end, items_go_on, array_of, no_items, value_text}

@@ -2,7 +2,7 @@
 use Rattle.std.proofs.Common.{◌≡◌, ℕ, List, [], ◌++◌, refl, append_assoc, append-nil}
 use Rattle.facet_format.specs.Bytes.{comma}
 use Rattle.facet_json_written.specs.RfcText.{AreSpaces, Spaced, IsStructural, IsEnclosed}
-use Rattle.facet_json_written.proofs.Spaces.{spaces-append}
+use Rattle.facet_json_written.proofs.Scalars.Spaces.{spaces-append}
 
 -- Such characters, with no white space around them.
 pub unspaced : {P : List ℕ → Type 0} (cs : List ℕ) → P cs → Spaced P cs

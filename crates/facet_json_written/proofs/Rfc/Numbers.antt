@@ -8,7 +8,7 @@ use Rattle.facet_format.specs.Bytes.{is_digit, minus}
 use Rattle.facet_format.specs.Number.{AreDigits, none, digit, IsMinus}
 use Rattle.facet_json_written.specs.AsRead.{IsWithin}
 use Rattle.facet_json_written.specs.RfcText.{InUtf8, is_first_digit, IsWhole, nought, IsFraction, IsExponent, IsRfcNumber}
-use Rattle.facet_json_written.proofs.WholeNumbers.{decimal-digits}
+use Rattle.facet_json_written.proofs.Scalars.WholeNumbers.{decimal-digits}
 use Rattle.facet_json_written.proofs.Rfc.Encoded.{is_ascii, ascii}
 
 -- ---- digits

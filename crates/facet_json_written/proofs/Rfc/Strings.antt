@@ -12,7 +12,7 @@ use Rattle.facet_json_document.specs.Quoted.{hex_digit, escaped, quoted}
 use Rattle.facet_json_document.specs.TextLaws.{escaped_character}
 use Rattle.facet_json_document.proofs.Writing.QuotedByCharacters.{quoted_by_characters}
 use Rattle.facet_json_written.specs.RfcText.{InUtf8, is_unescaped, IsContent, empty, unescaped, short, unit, IsRfcString}
-use Rattle.facet_json_written.proofs.EscapedBytes.{Form, by_number, itself, form}
+use Rattle.facet_json_written.proofs.Scalars.EscapedBytes.{Form, by_number, itself, form}
 use Rattle.std.proofs.lemmas.Bool.Decides.{nat_tests}
 use Rattle.facet_json_written.specs.RfcLaws.{QuotedIsRfc}
 use Rattle.facet_json_written.proofs.Rfc.Encoded.{is_ascii, ascii, joined, joined3}

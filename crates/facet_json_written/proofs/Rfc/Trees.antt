@@ -14,7 +14,7 @@ use Rattle.facet_json_written.proofs.Rfc.Bytes.{value-bytes}
 use Rattle.facet_json_written.proofs.Rfc.Numbers.{number-decimal, number-signed}
 use Rattle.facet_json_written.proofs.Rfc.Strings.{quoted-character, quoted_is_rfc}
 use Rattle.facet_json_written.proofs.Rfc.Values.{ItemsGoOn, items_end, items_go_on, array_of, no_items, MembersGoOn, members_end, members_go_on, object_of, no_members, member_of, value_text}
-use Rattle.facet_json_written.proofs.Spaces.{new_line-blank}
+use Rattle.facet_json_written.proofs.Scalars.Spaces.{new_line-blank}
 
 a_value : {cs : List ℕ} → InUtf8 IsRfcValue cs → InUtf8 IsRfcText cs
 a_value v = mapped value_text v

@@ -3,8 +3,8 @@ use Rattle.std.proofs.lemmas.List.{map-append}
 use Rattle.std.proofs.lemmas.Result.{err_from_is_err_and}
 use Rattle.facet_format.specs.Views.{refusal_of}
 use Rattle.facet_json_meaning.proofs.Keeping.{keeps-then}
-use Rattle.facet_json_meaning.proofs.ListSteps.{ReadSoFar, list-begins, list-none, list-goes_on, list-stops, list-more, list-unread, list-ends, list-unseen, list-open}
-use Rattle.facet_json_meaning.proofs.NextOnWalk.{goes-keeps}
+use Rattle.facet_json_meaning.proofs.Sequences.ListSteps.{ReadSoFar, list-begins, list-none, list-goes_on, list-stops, list-more, list-unread, list-ends, list-unseen, list-open}
+use Rattle.facet_json_meaning.proofs.Walks.NextOnWalk.{goes-keeps}
 use Rattle.facet_json_facet.proofs.lists.list_in.Goals as goal
 
 pub returns-in_err-begin_list-clause-unread : goal.returns-in_err-begin_list-clause-unread

@@ -1,7 +1,7 @@
 use Rattle.std.proofs.Common.{◌<◌, cond, map}
 use Rattle.facet_json_protocol.specs.Now.{ahead}
 use Rattle.facet_json_meaning.specs.Nodes.{KeepsOn}
-use Rattle.facet_json_meaning.proofs.ListSteps.{ReadSoFar}
+use Rattle.facet_json_meaning.proofs.Sequences.ListSteps.{ReadSoFar}
 use Rattle.facet_json_facet.proofs.lists.list_in.Given as goal
 
 abbrev pub invariant-loop-items : goal.invariant-loop-items

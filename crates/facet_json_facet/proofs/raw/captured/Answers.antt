@@ -1,6 +1,6 @@
 use Rattle.std.proofs.Common.{refl, rules}
 use Rattle.std.proofs.lemmas.Result.{err_from_is_err_and}
-use Rattle.facet_json_meaning.proofs.RawOnWalk.{answer-captures, answer-uncaptured}
+use Rattle.facet_json_meaning.proofs.Walks.RawOnWalk.{answer-captures, answer-uncaptured}
 use Rattle.facet_json_facet.proofs.raw.captured.Goals as goal
 
 pub returns-in_err-text-clause-unread : goal.returns-in_err-text-clause-unread

@@ -5,7 +5,7 @@ use Rattle.std.proofs.lemmas.Result.{err_from_is_err_and}
 use Rattle.facet_format.specs.Views.{refusal_of}
 use Rattle.facet_json_meaning.specs.Reading.{IsRead}
 use Rattle.facet_json_meaning.specs.Readings.{whole_of, leaf}
-use Rattle.facet_json_meaning.proofs.LeafReadings.{leaf-read, leaf-unread, leaf-document, none-unread}
+use Rattle.facet_json_meaning.proofs.Leaves.LeafReadings.{leaf-read, leaf-unread, leaf-document, none-unread}
 use Rattle.facet_json_facet.proofs.whole.next_whole.Goals as goal
 
 pub returns-in_err-event-clause-unread : goal.returns-in_err-event-clause-unread

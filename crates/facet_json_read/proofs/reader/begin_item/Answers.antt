@@ -1,5 +1,5 @@
 use Rattle.std.proofs.lemmas.Result.{err_from_is_err_and}
-use Rattle.facet_json_meaning.proofs.NextOnWalk.{goes-keeps}
+use Rattle.facet_json_meaning.proofs.Walks.NextOnWalk.{goes-keeps}
 use Rattle.facet_json_read.proofs.BeyondEvents.{none-leveled}
 use Rattle.facet_json_read.proofs.ItemsRead.{not_list_end, items-none}
 use Rattle.facet_json_read.proofs.MovingOn.{moves-next}

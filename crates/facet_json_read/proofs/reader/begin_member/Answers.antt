@@ -4,7 +4,7 @@ use Rattle.std.proofs.lemmas.Result.{err_from_is_err_and}
 use Rattle.facet_json_read.proofs.BeyondEvents.{none-leveled}
 use Rattle.facet_json_read.proofs.MembersRead.{members-none}
 use Rattle.facet_json_read.proofs.ReadingWithin.{within-same, lacks-within, none-members-within, no_key-within, member-within}
-use Rattle.facet_json_meaning.proofs.TreeOnWalk.{moves_trans}
+use Rattle.facet_json_meaning.proofs.OfTrees.TreeOnWalk.{moves_trans}
 use Rattle.facet_json_read.proofs.MovingOn.{moves-next}
 use Rattle.facet_json_read.proofs.reader.begin_member.Goals as goal
 

@@ -1,7 +1,7 @@
 use Rattle.std.proofs.Common.{Result, Ok, Err}
 use Rattle.std.specs.Prelude.{IfOk, IfErr}
 use Rattle.std.proofs.lemmas.Result.{IfOk-weaker, IfErr-weaker}
-use Rattle.facet_json_meaning.proofs.TreeOnWalk.{read_of_told, unread_of_told, document_of_told}
+use Rattle.facet_json_meaning.proofs.OfTrees.TreeOnWalk.{read_of_told, unread_of_told, document_of_told}
 use Rattle.facet_json_read.proofs.ReadingWithin.{unlimited-unread}
 use Rattle.facet_json_read.proofs.reader.read_tree.Goals as goal
 

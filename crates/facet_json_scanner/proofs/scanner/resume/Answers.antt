@@ -7,7 +7,7 @@ use Rattle.facet_json_scanner.specs.Inner.Found.{state_of, part_of}
 use Rattle.facet_json_scanner.proofs.Segments.{between, between-rest}
 use Rattle.facet_json_scanner.proofs.FoundPastGap.{found-no_gap}
 use Rattle.facet_json_scanner.proofs.NoPiece.{text_no_piece, number_no_piece}
-use Rattle.facet_json_scanner.proofs.PendingNumber.{number-ends}
+use Rattle.facet_json_scanner.proofs.Pieces.PendingNumber.{number-ends}
 use Rattle.facet_json_scanner.proofs.scanner.resume.Goals as goal
 
 pub returns-in-Text-clause-here : goal.returns-in-Text-clause-here

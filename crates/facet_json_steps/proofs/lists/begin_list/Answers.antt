@@ -1,8 +1,8 @@
 use Rattle.std.proofs.lemmas.Result.{err_from_is_err_and, IfErr-weaker, on_ok_weaker}
 use Rattle.facet_format.specs.Views.{refusal_of}
 use Rattle.facet_json_meaning.specs.Lists.{nodes_of}
-use Rattle.facet_json_meaning.proofs.LeafReadings.{none-unread}
-use Rattle.facet_json_meaning.proofs.ListSteps.{no_list-begins}
+use Rattle.facet_json_meaning.proofs.Leaves.LeafReadings.{none-unread}
+use Rattle.facet_json_meaning.proofs.Sequences.ListSteps.{no_list-begins}
 use Rattle.facet_json_steps.proofs.lists.begin_list.Goals as goal
 
 pub returns-in_err-next_of_value-clause-refused : goal.returns-in_err-next_of_value-clause-refused

@@ -1,8 +1,8 @@
 use Rattle.std.proofs.Common.{refl, rules}
 use Rattle.std.proofs.lemmas.Result.{err_from_is_err_and}
 use Rattle.facet_format.specs.Views.{event_of}
-use Rattle.facet_json_meaning.proofs.ListSteps.{peek-finds_end, peek-no_event}
-use Rattle.facet_json_meaning.proofs.PeekOnWalk.{peek-lacks}
+use Rattle.facet_json_meaning.proofs.Sequences.ListSteps.{peek-finds_end, peek-no_event}
+use Rattle.facet_json_meaning.proofs.Walks.PeekOnWalk.{peek-lacks}
 use Rattle.facet_json_steps.proofs.lists.end_comes.Goals as goal
 
 pub returns-in_err-event-clause-lacks : goal.returns-in_err-event-clause-lacks

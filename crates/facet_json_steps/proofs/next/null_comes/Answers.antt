@@ -1,7 +1,7 @@
 use Rattle.std.proofs.Common.{refl, sym, rules}
 use Rattle.std.proofs.lemmas.Result.{err_from_is_err_and}
 use Rattle.facet_format.specs.Views.{event_of}
-use Rattle.facet_json_meaning.proofs.PeekOnWalk.{peek-finds, peek-lacks, peek-no_end}
+use Rattle.facet_json_meaning.proofs.Walks.PeekOnWalk.{peek-finds, peek-lacks, peek-no_end}
 use Rattle.facet_json_steps.proofs.next.null_comes.Goals as goal
 
 pub returns-in_err-event-clause-lacks : goal.returns-in_err-event-clause-lacks

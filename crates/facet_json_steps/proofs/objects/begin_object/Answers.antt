@@ -1,8 +1,8 @@
 use Rattle.std.proofs.lemmas.Result.{IfErr-weaker, err_from_is_err_and, on_ok_weaker}
 use Rattle.facet_format.specs.Views.{refusal_of}
 use Rattle.facet_json_meaning.specs.Objects.{members_of}
-use Rattle.facet_json_meaning.proofs.LeafReadings.{none-unread}
-use Rattle.facet_json_meaning.proofs.MembersOnWalk.{object-unread}
+use Rattle.facet_json_meaning.proofs.Leaves.LeafReadings.{none-unread}
+use Rattle.facet_json_meaning.proofs.Objects.MembersOnWalk.{object-unread}
 use Rattle.facet_json_steps.proofs.objects.begin_object.Goals as goal
 
 pub returns-in_err-next_of_value-clause-unread : goal.returns-in_err-next_of_value-clause-unread

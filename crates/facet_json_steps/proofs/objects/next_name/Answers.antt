@@ -1,7 +1,7 @@
 use Rattle.std.proofs.Common.{inr, rules}
 use Rattle.std.proofs.lemmas.Result.{IfOk-weaker, IfErr-weaker, err_from_is_err_and}
 use Rattle.facet_format.specs.Views.{refusal_of}
-use Rattle.facet_json_meaning.proofs.MembersOnWalk.{none-key, other-key}
+use Rattle.facet_json_meaning.proofs.Objects.MembersOnWalk.{none-key, other-key}
 use Rattle.facet_json_steps.proofs.objects.next_name.Goals as goal
 
 pub returns-in_err-next_of_value-clause-lacks : goal.returns-in_err-next_of_value-clause-lacks

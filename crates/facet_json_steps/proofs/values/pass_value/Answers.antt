@@ -1,6 +1,6 @@
 use Rattle.std.proofs.Common.{refl, rules}
 use Rattle.std.proofs.lemmas.Result.{err_from_is_err_and}
-use Rattle.facet_json_meaning.proofs.SkipOnWalk.{answer-skips, answer-unskipped}
+use Rattle.facet_json_meaning.proofs.Walks.SkipOnWalk.{answer-skips, answer-unskipped}
 use Rattle.facet_json_steps.proofs.values.pass_value.Goals as goal
 
 pub returns-in_err-skip_value-clause-unread : goal.returns-in_err-skip_value-clause-unread

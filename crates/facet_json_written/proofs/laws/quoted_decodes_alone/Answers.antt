@@ -1,4 +1,4 @@
-use Rattle.facet_json_written.proofs.QuotedTexts as laws
+use Rattle.facet_json_written.proofs.Scalars.QuotedTexts as laws
 use Rattle.facet_json_written.proofs.laws.quoted_decodes_alone.Goals as goal
 
 pub returns : goal.returns

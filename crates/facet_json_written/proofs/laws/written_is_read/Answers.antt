@@ -1,4 +1,4 @@
-use Rattle.facet_json_written.proofs.TreeTexts as laws
+use Rattle.facet_json_written.proofs.Values.TreeTexts as laws
 use Rattle.facet_json_written.proofs.laws.written_is_read.Goals as goal
 
 pub returns : goal.returns

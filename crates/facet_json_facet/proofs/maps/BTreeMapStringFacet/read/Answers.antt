@@ -1,8 +1,8 @@
 use Rattle.std.proofs.Common.{string_bytes, rules}
 use Rattle.std.proofs.lemmas.Result.{err_from_is_err_and}
 use Rattle.facet_format.specs.Views.{refusal_of}
-use Rattle.facet_json_meaning.proofs.MapEntries.{entries-begin, entry-read}
-use Rattle.facet_json_meaning.proofs.MapReadings.{map-not_begun, map-no_value, map-no_key, map-ends}
+use Rattle.facet_json_meaning.proofs.Objects.MapEntries.{entries-begin, entry-read}
+use Rattle.facet_json_meaning.proofs.Objects.MapReadings.{map-not_begun, map-no_value, map-no_key, map-ends}
 use Rattle.facet_json_facet.proofs.maps.BTreeMapStringFacet.read.Goals as goal
 
 pub returns-in_err-begin_object-clause-unread : goal.returns-in_err-begin_object-clause-unread

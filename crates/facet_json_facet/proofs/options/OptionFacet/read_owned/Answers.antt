@@ -2,8 +2,8 @@ use Rattle.std.proofs.Common.{rules}
 use Rattle.std.proofs.lemmas.Result.{err_from_is_err_and}
 use Rattle.facet_format.specs.Views.{refusal_of}
 use Rattle.facet_json_meaning.specs.Optional.{optional}
-use Rattle.facet_json_meaning.proofs.LeafReadings.{none-unread}
-use Rattle.facet_json_meaning.proofs.OptionalReadings.{null-read, null-unread, value-read, value-unread}
+use Rattle.facet_json_meaning.proofs.Leaves.LeafReadings.{none-unread}
+use Rattle.facet_json_meaning.proofs.Nullable.OptionalReadings.{null-read, null-unread, value-read, value-unread}
 use Rattle.facet_json_facet.proofs.options.OptionFacet.read_owned.Goals as goal
 
 pub returns-in_err-null_comes-clause-unread : goal.returns-in_err-null_comes-clause-unread

@@ -6,7 +6,7 @@ use Rattle.std.proofs.lemmas.Int.{to_z-of_z}
 use Rattle.std.proofs.lemmas.Result.{err_from_is_err_and}
 use Rattle.facet_format.specs.Views.{refusal_of}
 use Rattle.facet_json_meaning.specs.Readings.{whole_of, signed_in}
-use Rattle.facet_json_meaning.proofs.WholeNumbers.{read-and_then, read-none, unread-and_then, signed-holds, signed-lacks}
+use Rattle.facet_json_meaning.proofs.Leaves.WholeNumbers.{read-and_then, read-none, unread-and_then, signed-holds, signed-lacks}
 use Rattle.facet_json_facet.proofs.signed.I32Facet.read_owned.Goals as goal
 
 pub returns-in_err-number-clause-unread : goal.returns-in_err-number-clause-unread

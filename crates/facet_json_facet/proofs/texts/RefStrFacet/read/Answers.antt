@@ -2,8 +2,8 @@ use Rattle.std.proofs.Common.{rules}
 use Rattle.std.proofs.lemmas.Result.{err_from_is_err_and, IfOk-weaker, IfErr-weaker}
 use Rattle.facet_format.specs.Views.{refusal_of}
 use Rattle.facet_json_meaning.specs.Borrowed.{borrowed_text}
-use Rattle.facet_json_meaning.proofs.BorrowedLaws.{borrowed-read, borrowed-unread, borrowed-document}
-use Rattle.facet_json_meaning.proofs.LeafReadings.{none-unread}
+use Rattle.facet_json_meaning.proofs.Leaves.BorrowedLaws.{borrowed-read, borrowed-unread, borrowed-document}
+use Rattle.facet_json_meaning.proofs.Leaves.LeafReadings.{none-unread}
 use Rattle.facet_json_facet.proofs.texts.RefStrFacet.read.Goals as goal
 
 pub returns-in_err-next_of_value-clause-unread : goal.returns-in_err-next_of_value-clause-unread

@@ -2,7 +2,7 @@ use Rattle.std.proofs.Common.{rules}
 use Rattle.std.proofs.lemmas.Result.{err_from_is_err_and, IfOk-weaker, IfErr-weaker}
 use Rattle.facet_format.specs.Views.{refusal_of}
 use Rattle.facet_json_meaning.specs.Readings.{i128_of, leaf}
-use Rattle.facet_json_meaning.proofs.LeafReadings.{leaf-read, leaf-unread, leaf-document, none-unread}
+use Rattle.facet_json_meaning.proofs.Leaves.LeafReadings.{leaf-read, leaf-unread, leaf-document, none-unread}
 use Rattle.facet_json_facet.proofs.wide.I128Facet.read_owned.Goals as goal
 
 pub returns-in_err-next_of_value-clause-unread : goal.returns-in_err-next_of_value-clause-unread

@@ -5,7 +5,7 @@ use mir.Val.{to_z, of_z}
 use Rattle.std.proofs.lemmas.Int.{to_z-of_z}
 use Rattle.facet_json_document.specs.Tree.{i128}
 use Rattle.facet_json_write.proofs.ScalarCalls.{scalar-called}
-use Rattle.facet_json_meaning.proofs.WideNumbers.{wide-within}
+use Rattle.facet_json_meaning.proofs.Leaves.WideNumbers.{wide-within}
 use Rattle.facet_json_facet.proofs.ScalarsOfRust.{i128-of_rust}
 use Rattle.facet_json_facet.proofs.wide.I128Facet.write.Goals as goal
 

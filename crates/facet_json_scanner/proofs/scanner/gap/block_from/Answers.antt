@@ -6,7 +6,7 @@ use Rattle.facet_json_token.specs.Gap.{jsonc}
 use Rattle.facet_json_scanner.specs.Scanner.{Describes, in_block}
 use Rattle.facet_json_token.proofs.Offsets.{slice_get-from_read}
 use Rattle.facet_json_scanner.proofs.Segments.{between, between-all}
-use Rattle.facet_json_scanner.proofs.PendingComment.{block-ends_here, block-ends, block-goes_on}
+use Rattle.facet_json_scanner.proofs.Pieces.PendingComment.{block-ends_here, block-ends, block-goes_on}
 use Rattle.facet_json_scanner.proofs.scanner.gap.block_from.Goals as goal
 
 -- what the test for the end says where it fails

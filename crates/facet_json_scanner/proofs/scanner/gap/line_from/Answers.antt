@@ -1,5 +1,5 @@
 -- The line feed that is found ends the comment, and where none is found it goes on.
-use Rattle.facet_json_scanner.proofs.PendingComment.{line-ends, line-goes_on}
+use Rattle.facet_json_scanner.proofs.Pieces.PendingComment.{line-ends, line-goes_on}
 use Rattle.facet_json_scanner.proofs.scanner.gap.line_from.Goals as goal
 
 pub returns-in-Some-clause-here : goal.returns-in-Some-clause-here

@@ -10,7 +10,7 @@ use Rattle.facet_json_token.proofs.FirstBytes.{cut_here-something}
 use Rattle.facet_json_token.proofs.Offsets.{slice_get-from_read, drop-at_byte}
 use Rattle.facet_json_scanner.proofs.Segments.{between, between-more, between-rest, between-all}
 use Rattle.facet_json_token.proofs.NumberCuts.{number_at}
-use Rattle.facet_json_scanner.proofs.PendingNumber.{number-found}
+use Rattle.facet_json_scanner.proofs.Pieces.PendingNumber.{number-found}
 use Rattle.facet_json_scanner.proofs.scanner.token.number_from.Goals as goal
 
 pub returns-in_default-after-clause-here : goal.returns-in_default-after-clause-here

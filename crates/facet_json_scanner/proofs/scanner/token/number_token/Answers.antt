@@ -10,7 +10,7 @@ use Rattle.facet_json_token.specs.Cut.{token_at}
 use Rattle.facet_json_scanner.specs.Inner.Found.{part_of}
 use Rattle.facet_json_scanner.proofs.AnswersOfCuts.{answered-ends, number-answered}
 use Rattle.facet_json_token.proofs.NumberCuts.{number_at}
-use Rattle.facet_json_scanner.proofs.PendingNumber.{number-token}
+use Rattle.facet_json_scanner.proofs.Pieces.PendingNumber.{number-token}
 use Rattle.facet_json_scanner.proofs.Refusals.{token-no_refusal, minus-refused}
 use Rattle.facet_json_scanner.proofs.scanner.token.number_token.Goals as goal
 use Rattle.facet_json_scanner.proofs.scanner.token.number_token.Goals.{else-is_negative-via-then-is_negative+else-end-start, else-is_negative-via-else-is_negative}

@@ -6,7 +6,7 @@ use Rattle.facet_json_token.specs.Token.{string}
 use Rattle.facet_json_token.specs.Cut.{ArePieces, token_at}
 use Rattle.facet_json_scanner.specs.Scanner.{Describes, in_text}
 use Rattle.facet_json_scanner.proofs.AnswersOfCuts.{found-here, answered-ends}
-use Rattle.facet_json_scanner.proofs.PendingText.{text-whole}
+use Rattle.facet_json_scanner.proofs.Pieces.PendingText.{text-whole}
 use Rattle.facet_json_scanner.proofs.Refusals.{token-no_refusal}
 use Rattle.facet_json_scanner.proofs.Segments.{between-first}
 use Rattle.facet_json_scanner.proofs.scanner.token.string_from.Goals as goal

@@ -9,7 +9,7 @@ use Rattle.facet_json_scanner.specs.Scanner.{Describes, in_text}
 use Rattle.facet_json_token.proofs.Offsets.{slice_get-from_read}
 use Rattle.facet_json_token.proofs.TextSteps.{no_quote}
 use Rattle.facet_json_scanner.proofs.Segments.{between, between-more}
-use Rattle.facet_json_scanner.proofs.PendingText.{text-step, text-found}
+use Rattle.facet_json_scanner.proofs.Pieces.PendingText.{text-step, text-found}
 use Rattle.facet_json_scanner.proofs.AnswersOfCuts.{found-here, answered-ends}
 use Rattle.facet_json_scanner.proofs.Refusals.{token-no_refusal}
 use Rattle.facet_json_scanner.proofs.scanner.token.text_from.Goals as goal

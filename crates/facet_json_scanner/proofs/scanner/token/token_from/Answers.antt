@@ -11,8 +11,8 @@ use Rattle.facet_json_token.specs.Views.{mode_of}
 use Rattle.facet_json_token.proofs.Offsets.{drop-at_byte, slice_get-from_read}
 use Rattle.facet_json_token.proofs.FirstBytes.{starts_number-range, cut_here-something}
 use Rattle.facet_json_scanner.proofs.Segments.{between-first}
-use Rattle.facet_json_scanner.proofs.PendingNumber.{first-ends}
-use Rattle.facet_json_scanner.proofs.Beginnings.{others_shut, nothing_shut}
+use Rattle.facet_json_scanner.proofs.Pieces.PendingNumber.{first-ends}
+use Rattle.facet_json_scanner.proofs.Pieces.Beginnings.{others_shut, nothing_shut}
 use Rattle.facet_json_scanner.proofs.AnswersOfCuts.{found-here, answered-ends, cut_here-ends}
 use Rattle.facet_json_scanner.proofs.scanner.token.token_from.Goals as goal
 use Rattle.facet_json_scanner.proofs.scanner.token.token_from.Goals.{in_default-first-via-then-first-lt48, in_default-first-via-else-first-lt48+else-first-lt58}

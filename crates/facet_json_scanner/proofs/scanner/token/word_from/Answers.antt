@@ -6,7 +6,7 @@ use Rattle.facet_json_token.specs.Open.{IsBeginning}
 use Rattle.facet_json_token.specs.Cut.{common_len, cut_word}
 use Rattle.facet_json_token.proofs.Offsets.{drop-at_byte}
 use Rattle.facet_json_token.proofs.FirstBytes.{cut_here-word, cut_here-something}
-use Rattle.facet_json_scanner.proofs.PendingWord.{word-open, word-shut}
+use Rattle.facet_json_scanner.proofs.Pieces.PendingWord.{word-open, word-shut}
 use Rattle.facet_json_scanner.proofs.AnswersOfCuts.{EndsWithin, found-here, answered-ends, cut_here-ends}
 use Rattle.facet_json_token.specs.Gap.{plain}
 use Rattle.facet_json_scanner.proofs.scanner.token.word_from.Goals as goal

@@ -4,7 +4,7 @@ use Rattle.std.proofs.lemmas.Bool.{ne_eqb}
 use Rattle.facet_format.specs.Bytes.{is_digit, is_exponent_mark, dot}
 use Rattle.facet_json_scanner.specs.Scanner.{in_digits, in_fraction, at_mark, in_exponent, GoesOnWith, EndsBefore}
 use Rattle.facet_json_scanner.specs.Inner.Found.{part_of}
-use Rattle.facet_json_scanner.proofs.NumberParts.{digit-after_digits, dot-after_digits, mark-after_digits, shut-digits, digit-after_fraction, mark-after_fraction, shut-fraction, sign-after_mark, digit-after_mark, shut-mark, digit-after_exponent, shut-exponent}
+use Rattle.facet_json_scanner.proofs.Pieces.NumberParts.{digit-after_digits, dot-after_digits, mark-after_digits, shut-digits, digit-after_fraction, mark-after_fraction, shut-fraction, sign-after_mark, digit-after_mark, shut-mark, digit-after_exponent, shut-exponent}
 use Rattle.facet_json_scanner.proofs.scanner.pending.Part.after.Goals as goal
 use Rattle.facet_json_scanner.proofs.scanner.pending.Part.after.Goals.{then-is_digit-3, else-is_digit-3}
 

@@ -1,0 +1,16 @@
+-- Texts come back from their text.
+use Rattle.std.proofs.Common.{◌≡◌, ℕ, true, List, Some, refl}
+use Rattle.std.specs.Str.{is_utf8}
+use Rattle.facet_json_document.specs.Text.{as_array}
+use Rattle.facet_json_document.specs.Tree.{Tree, text}
+use Rattle.facet_json_written.specs.AsRead.{ReadsAs, text_is_itself, RawParts, WellFormed}
+use Rattle.facet_json_meaning.specs.Laws.{ReadsBack}
+use Rattle.facet_json_meaning.specs.Readings.{leaf, text_of}
+use Rattle.facet_json_meaning.proofs.Leaves.LeafLaws.{leaf-back}
+
+as_read-text : (t : List ℕ) (read : Tree) → ReadsAs as_array (text t) read → text_of read ≡ Some t
+as_read-text t _ (text_is_itself _) = refl
+
+pub text-reads_back : ReadsBack (leaf text_of) text (λ (t : List ℕ). is_utf8 t ≡ true)
+unfolding WellFormed RawParts
+text-reads_back t utf8 = leaf-back text_of (λ ts. refl) (λ ps. refl) t (text t) utf8 tt (as_read-text t)

@@ -1,0 +1,3 @@
+-- Values that may be null.
+pub mod OptionalLaws
+pub mod OptionalReadings

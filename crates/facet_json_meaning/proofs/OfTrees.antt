@@ -1,0 +1,4 @@
+-- Trees as values.
+pub mod ReadableTrees
+pub mod TreeLaws
+pub mod TreeOnWalk

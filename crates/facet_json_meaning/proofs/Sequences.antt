@@ -1,0 +1,3 @@
+-- Lists.
+pub mod ListLaws
+pub mod ListSteps

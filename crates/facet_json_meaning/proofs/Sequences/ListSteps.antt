@@ -1,0 +1,368 @@
+-- How a list is read: the first event of an array, its items one by one, and its closing bracket.
+use Rattle.std.specs.Prelude.{ℕ, List, drop, slice_get, length}
+use Rattle.std.specs.Option.{option_map}
+use Rattle.std.proofs.Common.{◌≡◌, ◌+◌, ◌⊎◌, inl, inr, ℕ, suc, Bool, true, false, List, [], ◌∷◌, ◌++◌, Option, None, Some, Ok, refl, sym, ap, ◌∙◌, arith, append_assoc, append-nil, length-append}
+use Rattle.facet_format.specs.Complaint.{Refusal}
+use Rattle.facet_format.specs.Event.{Event, Passed, array, sequence_start, sequence_end, struct_start}
+use Rattle.facet_format.specs.Event as events
+use Rattle.facet_format.specs.Cursor.{Cursor, Source, Spot, event, on_walk, event_or_end, an_event, at_spot, unpeeked, peek, Answer, Step, repeats, peeks, peeks_without_memory, peeks_at_the_end, peeks_at_nothing}
+use Rattle.facet_format.specs.Kept.{found}
+use Rattle.facet_format.specs.Standing.{IsStep}
+use Rattle.facet_json_token.specs.Token.{Token}
+use Rattle.facet_json_document.specs.Node.{Node, scalar, Nodes, no_nodes, item}
+use Rattle.facet_json_document.specs.Node as node
+use Rattle.facet_json_document.specs.Tree.{Trees}
+use Rattle.facet_json_document.specs.Meaning.{tree_of, trees_of}
+use Rattle.facet_json_document.specs.Walk.{walk, walk_items, event_at, scalar_event}
+use Rattle.facet_json_document.proofs.TreesOfParts.{list_meant, item_meant}
+use Rattle.facet_json_protocol.specs.Now.{Now, StandsAt}
+use Rattle.facet_json_transcode.specs.Reading.{LacksMemory}
+use Rattle.facet_json_meaning.specs.Nodes.{StandsBefore, StandsAfter}
+use Rattle.facet_json_meaning.specs.Passing.{WalksPast, LacksAlone}
+use Rattle.facet_json_meaning.specs.Reading.{IsRead, IsUnread}
+use Rattle.facet_json_meaning.specs.Lists.{put_value, items_of, list_of, nodes_of, begins_list, ends_list, BeginsList, IsNoList, ShowsEnd, FindsEnd}
+use Rattle.facet_json_meaning.proofs.Walks.FirstEvents.{first_event, first-passed}
+use Rattle.facet_json_meaning.proofs.Walks.PeekOnWalk.{step-no_end}
+use Rattle.facet_json_meaning.proofs.WalkPlaces.{drop-get, drop-suc, drop-node}
+
+-- ---- within an array
+
+-- The parser stands before these items of an array, which is the node, or before its closing bracket.
+pub record AtItems (now : Now) (w : Source) (c : Cursor ℕ) (n : Node) (nodes : Nodes) : Type 0 where
+  pub cursor : Cursor ℕ
+  pub stands : StandsAt now w cursor
+  pub free : cursor.refusal ≡ None
+  pub last : Token
+  pub others : List Passed
+  pub comes : drop cursor.spot.place w.events ≡ walk_items w.bytes nodes ++ event_at sequence_end last ∷ others
+  pub values : Trees
+  pub meant : trees_of w.bytes nodes ≡ Some values
+  pub counts : cursor.spot.place + length (walk_items w.bytes nodes) + 1 ≡ c.spot.place + length (walk w.bytes n)
+  pub kept : (point : ℕ) (spot : Spot ℕ) → found point c.kept ≡ Some spot → found point cursor.kept ≡ Some spot
+
+-- An event is there.
+at-event : (now : Now) (w : Source) (c : Cursor ℕ) (n : Node) (nodes : Nodes) (at : AtItems now w c n nodes) →
+    (p : Passed) × (slice_get w.events at.cursor.spot.place ≡ Some p)
+unfolding walk_items walk
+at-event now w c n no_nodes at = (_, drop-get w.events at.cursor.spot.place _ _ at.comes)
+at-event now w c n (item (scalar t) nodes) at = (_, drop-get w.events at.cursor.spot.place _ _ at.comes)
+at-event now w c n (item (node.array first last inside) nodes) at = (_, drop-get w.events at.cursor.spot.place _ _ at.comes)
+at-event now w c n (item (node.object first last inside) nodes) at = (_, drop-get w.events at.cursor.spot.place _ _ at.comes)
+
+-- An item comes first.
+pub record IsItem (nodes : Nodes) : Type 0 where
+  pub first : Node
+  pub rest : Nodes
+  pub are : nodes ≡ item first rest
+
+-- An array ends only after its items.
+ends-after : (now : Now) (w : Source) (c : Cursor ℕ) (n : Node) (nodes : Nodes) (at : AtItems now w c n nodes) (p : Passed) →
+    slice_get w.events at.cursor.spot.place ≡ Some p → ends_list p.event.kind ≡ true → nodes ≡ no_nodes
+unfolding walk_items walk
+ends-after now w c n no_nodes at p there is = refl
+ends-after now w c n (item (scalar t) nodes) at p there is =
+    let stands = drop-get w.events at.cursor.spot.place (scalar_event w.bytes t) _ at.comes in
+    let same : scalar_event w.bytes t ≡ p = cc in
+    let kind = ap (λ (x : Passed). ends_list x.event.kind) same ∙ is in cc
+ends-after now w c n (item (node.array first last inside) nodes) at p there is =
+    let stands = drop-get w.events at.cursor.spot.place (event_at (sequence_start array) first) _ at.comes in
+    let same : event_at (sequence_start array) first ≡ p = cc in
+    let kind = ap (λ (x : Passed). ends_list x.event.kind) same ∙ is in cc
+ends-after now w c n (item (node.object first last inside) nodes) at p there is =
+    let stands = drop-get w.events at.cursor.spot.place (event_at (struct_start events.object) first) _ at.comes in
+    let same : event_at (struct_start events.object) first ≡ p = cc in
+    let kind = ap (λ (x : Passed). ends_list x.event.kind) same ∙ is in cc
+
+goes-on : (now : Now) (w : Source) (c : Cursor ℕ) (n : Node) (nodes : Nodes) (at : AtItems now w c n nodes) (p : Passed) →
+    slice_get w.events at.cursor.spot.place ≡ Some p → ends_list p.event.kind ≡ false → IsItem nodes
+unfolding walk_items
+goes-on now w c n no_nodes at p there is =
+    let stands = drop-get w.events at.cursor.spot.place (event_at sequence_end at.last) _ at.comes in
+    let same : event_at sequence_end at.last ≡ p = cc in
+    let kind = ap (λ (x : Passed). ends_list x.event.kind) same ∙ is in cc
+goes-on now w c n (item first rest) at p there is = record { first = first; rest = rest; are = refl }
+
+-- ---- what is read so far
+
+none-first : {V : Type 0} (o : Option (List V)) → o ≡ option_map (λ vs. [] ++ vs) o
+none-first None = refl
+none-first (Some vs) = refl
+
+one-first : {V : Type 0} (values : List V) (v : V) (o : Option (List V)) →
+    option_map (λ vs. values ++ vs) (put_value (Some v) o) ≡ option_map (λ vs. (values ++ v ∷ []) ++ vs) o
+one-first values v None = refl
+one-first values v (Some vs) = ap Some (sym (append_assoc values (v ∷ []) vs))
+
+-- ---- no array
+
+no_nodes_of : (buffer : List ℕ) (n : Node) → begins_list (first_event buffer n).event.kind ≡ false → nodes_of buffer n ≡ None
+no_nodes_of buffer (scalar t) e = refl
+no_nodes_of buffer (node.array first last nodes) e = cc
+no_nodes_of buffer (node.object first last inside) e = refl
+
+-- No array begins with the event that is passed.
+pub no_list-begins : (old new : Now) (given : Event) (r : Refusal) → begins_list given.kind ≡ false → WalksPast old given new → IsNoList old r
+no_list-begins old new given r is walks w c n before =
+    inr (no_nodes_of w.bytes n (ap (λ (e : Event). begins_list e.kind) (first-passed old new given w c n walks before) ∙ is))
+
+-- ---- what is read
+
+module _ {V : Type 0} (reading : List ℕ → Node → Option V) where
+  -- The node's items are these values, and then those that are read from these nodes, which come next.
+  pub record LeftItems (values : List V) (now : Now) (w : Source) (c : Cursor ℕ) (n : Node) : Type 0 where
+    pub nodes : Nodes
+    pub is : list_of reading w.bytes n ≡ option_map (λ vs. values ++ vs) (items_of reading w.bytes nodes)
+    pub at : AtItems now w c n nodes
+
+  -- Before whatever node the parser stood, it is an array, of which these items are read.
+  pub record ReadSoFar (old : Now) (values : List V) (now : Now) : Type 0 where
+    pub left : (w : Source) (c : Cursor ℕ) (n : Node) → StandsBefore old w c n → LeftItems values now w c n
+
+  -- The same, where an item comes next.
+  pub record BeforeItem (old : Now) (values : List V) (now : Now) : Type 0 where
+    pub left : (w : Source) (c : Cursor ℕ) (n : Node) → StandsBefore old w c n →
+        (l : LeftItems values now w c n) × IsItem l.nodes
+
+  -- The same, where the closing bracket comes next.
+  pub record BeforeEnd (old : Now) (values : List V) (now : Now) : Type 0 where
+    pub left : (w : Source) (c : Cursor ℕ) (n : Node) → StandsBefore old w c n →
+        (l : LeftItems values now w c n) × (l.nodes ≡ no_nodes)
+
+  -- ---- the first event
+
+  begun : (old new : Now) (given : Event) (w : Source) (c : Cursor ℕ) (n : Node) → begins_list given.kind ≡ true → WalksPast old given new →
+      StandsBefore old w c n → LeftItems [] new w c n
+  unfolding walk tree_of
+  begun old new given w c (scalar t) is walks before =
+      let kind = ap (λ (e : Event). begins_list e.kind) (first-passed old new given w c (scalar t) walks before) ∙ is in cc
+  begun old new given w c (node.object first last inside) is walks before =
+      let kind = ap (λ (e : Event). begins_list e.kind) (first-passed old new given w c (node.object first last inside) walks before) ∙ is in cc
+  begun old new given w c (node.array first last nodes) is walks before =
+      let passed = walks w c before.stands before.free in
+      let values = list_meant (trees_of w.bytes nodes) before.value before.meant in
+      record {
+        nodes = nodes;
+        is = none-first (items_of reading w.bytes nodes);
+        at = record {
+          cursor = at_spot c (unpeeked (suc c.spot.place));
+          stands = passed.stands;
+          free = before.free;
+          last = last;
+          others = before.others;
+          comes =
+              drop-suc w.events c.spot.place _ _ before.comes
+              ∙ append_assoc (walk_items w.bytes nodes) (event_at sequence_end last ∷ []) before.others;
+          values = values.0;
+          meant = values.1;
+          counts = omega (arith, length-append (walk_items w.bytes nodes) (event_at sequence_end last ∷ []));
+          kept = λ point spot e. e;
+        };
+      }
+
+  -- An array begins, and nothing of it is read yet.
+  pub list-begins : (old new : Now) → BeginsList old new → ReadSoFar old [] new
+  list-begins old new b = record { left = λ w c n before. begun old new b.given w c n b.begins b.walks before }
+
+  no_list : (buffer : List ℕ) (n : Node) → nodes_of buffer n ≡ None → list_of reading buffer n ≡ None
+  no_list buffer (scalar t) e = refl
+  no_list buffer (node.array first last nodes) e = cc
+  no_list buffer (node.object first last inside) e = refl
+
+  -- No array begins.
+  pub list-none : (old : Now) (r : Refusal) → IsNoList old r → IsUnread (list_of reading) old r
+  list-none old r h w c n before = elim (h w c n before) [ inl lacks ↦ inl lacks | inr none ↦ inr (no_list w.bytes n none) ]
+
+  -- ---- a look at what comes
+
+  -- A peek changes nothing.
+  at-peeked : (now new : Now) (w : Source) (c : Cursor ℕ) (n : Node) (nodes : Nodes) (f : Bool) (at : AtItems now w c n nodes) (p : Passed) →
+      ShowsEnd w at.cursor p f new → AtItems new w c n nodes
+  at-peeked now new w c n nodes f at p shows = record {
+    cursor = _;
+    stands = shows.stands;
+    free = at.free;
+    last = at.last;
+    others = at.others;
+    comes = at.comes;
+    values = at.values;
+    meant = at.meant;
+    counts = at.counts;
+    kept = at.kept;
+  }
+
+  pub list-goes_on : (old now new : Now) (values : List V) (f : Bool) → f ≡ false → ReadSoFar old values now → FindsEnd now f new →
+      BeforeItem old values new
+  list-goes_on old now new values f is so finds = record {
+    left = λ w c n before.
+        let l = so.left w c n before in
+        let there = at-event now w c n l.nodes l.at in
+        let shows = finds w l.at.cursor there.0 l.at.stands l.at.free there.1 in (
+          record { nodes = l.nodes; is = l.is; at = at-peeked now new w c n l.nodes f l.at there.0 shows },
+          goes-on now w c n l.nodes l.at there.0 there.1 (shows.shown ∙ is),
+        );
+  }
+
+  pub list-stops : (old now new : Now) (values : List V) (f : Bool) → f ≡ true → ReadSoFar old values now → FindsEnd now f new →
+      BeforeEnd old values new
+  list-stops old now new values f is so finds = record {
+    left = λ w c n before.
+        let l = so.left w c n before in
+        let there = at-event now w c n l.nodes l.at in
+        let shows = finds w l.at.cursor there.0 l.at.stands l.at.free there.1 in (
+          record { nodes = l.nodes; is = l.is; at = at-peeked now new w c n l.nodes f l.at there.0 shows },
+          ends-after now w c n l.nodes l.at there.0 there.1 (shows.shown ∙ is),
+        );
+  }
+
+  -- ---- an item
+
+  -- What stands before an item.
+  item-before : (now : Now) (w : Source) (c : Cursor ℕ) (n first : Node) (rest : Nodes) (at : AtItems now w c n (item first rest)) →
+      StandsBefore now w at.cursor first
+  unfolding walk_items
+  item-before now w c n first rest at =
+      let meant = item_meant w.bytes first rest at.values at.meant in
+      record {
+        stands = at.stands;
+        free = at.free;
+        others = walk_items w.bytes rest ++ event_at sequence_end at.last ∷ at.others;
+        comes = at.comes ∙ append_assoc (walk w.bytes first) (walk_items w.bytes rest) (event_at sequence_end at.last ∷ at.others);
+        value = meant.0;
+        meant = meant.2;
+      }
+
+  -- What comes after an item.
+  item-after : (now new : Now) (w : Source) (c : Cursor ℕ) (n first : Node) (rest : Nodes) (at : AtItems now w c n (item first rest)) →
+      StandsAfter new w at.cursor first → AtItems new w c n rest
+  unfolding walk_items item-before
+  item-after now new w c n first rest at after =
+      let meant = item_meant w.bytes first rest at.values at.meant in
+      let before = item-before now w c n first rest at in
+      record {
+        cursor = after.cursor;
+        stands = after.stands;
+        free = after.free;
+        last = at.last;
+        others = at.others;
+        comes =
+            ap (λ (s : Spot ℕ). drop s.place w.events) after.there
+            ∙ drop-node w at.cursor.spot.place first (walk_items w.bytes rest ++ event_at sequence_end at.last ∷ at.others) before.comes;
+        values = meant.1;
+        meant = meant.3;
+        counts =
+            let there : after.cursor.spot.place ≡ at.cursor.spot.place + length (walk w.bytes first) = ap (λ (s : Spot ℕ). s.place) after.there in
+            omega (arith, there, at.counts, length-append (walk w.bytes first) (walk_items w.bytes rest));
+        kept = λ point spot e. after.kept point spot (at.kept point spot e);
+      }
+
+  more-read : (now new : Now) (values : List V) (v : V) (w : Source) (c : Cursor ℕ) (n : Node) (nodes : Nodes) →
+      list_of reading w.bytes n ≡ option_map (λ vs. values ++ vs) (items_of reading w.bytes nodes) → AtItems now w c n nodes → IsItem nodes →
+      IsRead reading now v new → LeftItems (values ++ v ∷ []) new w c n
+  more-read now new values v w c n no_nodes is at i read = let none = i.are in cc
+  more-read now new values v w c n (item first rest) is at i read =
+      let here = read w at.cursor first (item-before now w c n first rest at) in
+      record {
+        nodes = rest;
+        is =
+            is ∙ ap (λ o. option_map (λ vs. values ++ vs) (put_value o (items_of reading w.bytes rest))) here.0
+            ∙ one-first values v (items_of reading w.bytes rest);
+        at = item-after now new w c n first rest at here.1;
+      }
+
+  -- An item is read.
+  pub list-more : (old now new : Now) (values : List V) (v : V) → BeforeItem old values now → IsRead reading now v new →
+      ReadSoFar old (values ++ v ∷ []) new
+  list-more old now new values v b read = record {
+    left = λ w c n before. let l = b.left w c n before in more-read now new values v w c n l.0.nodes l.0.is l.0.at l.1 read;
+  }
+
+  item-none : (now : Now) (values : List V) (r : Refusal) (w : Source) (c : Cursor ℕ) (n : Node) (nodes : Nodes) →
+      list_of reading w.bytes n ≡ option_map (λ vs. values ++ vs) (items_of reading w.bytes nodes) → AtItems now w c n nodes → IsItem nodes →
+      IsUnread reading now r → LacksMemory r ⊎ (list_of reading w.bytes n ≡ None)
+  item-none now values r w c n no_nodes is at i unread = let none = i.are in cc
+  item-none now values r w c n (item first rest) is at i unread = elim (unread w at.cursor first (item-before now w c n first rest at)) [
+    | inl lacks ↦ inl lacks
+    | inr none ↦ inr (is ∙ ap (λ o. option_map (λ vs. values ++ vs) (put_value o (items_of reading w.bytes rest))) none)
+  ]
+
+  -- An item is refused.
+  pub list-unread : (old now : Now) (values : List V) (r : Refusal) → BeforeItem old values now → IsUnread reading now r →
+      IsUnread (list_of reading) old r
+  list-unread old now values r b unread w c n before =
+      let l = b.left w c n before in item-none now values r w c n l.0.nodes l.0.is l.0.at l.1 unread
+
+  -- ---- the end
+
+  closed : (now new : Now) (given : Event) (values : List V) (w : Source) (c : Cursor ℕ) (n : Node) (nodes : Nodes) →
+      list_of reading w.bytes n ≡ option_map (λ vs. values ++ vs) (items_of reading w.bytes nodes) → AtItems now w c n nodes → nodes ≡ no_nodes →
+      WalksPast now given new → (list_of reading w.bytes n ≡ Some values) × StandsAfter new w c n
+  unfolding walk_items
+  closed now new given values w c n (item first rest) is at none walks = cc
+  closed now new given values w c n no_nodes is at none walks =
+      let passed = walks w at.cursor at.stands at.free in (
+        is ∙ ap Some (append-nil values),
+        record {
+          cursor = at_spot at.cursor (unpeeked (suc at.cursor.spot.place));
+          stands = passed.stands;
+          free = at.free;
+          there = ap unpeeked (omega (arith, at.counts));
+          kept = at.kept;
+        },
+      )
+
+  -- The closing bracket is passed.
+  pub list-ends : (old now new : Now) (given : Event) (values : List V) → BeforeEnd old values now → WalksPast now given new →
+      IsRead (list_of reading) old values new
+  list-ends old now new given values b walks w c n before =
+      let l = b.left w c n before in closed now new given values w c n l.0.nodes l.0.is l.0.at l.1 walks
+
+  -- ---- no event
+
+  at-lacks : (now : Now) (r : Refusal) (w : Source) (c : Cursor ℕ) (n : Node) (nodes : Nodes) → AtItems now w c n nodes → LacksAlone now r →
+      LacksMemory r
+  at-lacks now r w c n nodes at lacks =
+      let there = at-event now w c n nodes at in lacks.lacks w at.cursor there.0 at.stands at.free there.1
+
+  -- What comes can't be looked at.
+  pub list-unseen : (old now : Now) (values : List V) (r : Refusal) → ReadSoFar old values now → LacksAlone now r →
+      IsUnread (list_of reading) old r
+  list-unseen old now values r so lacks w c n before =
+      let l = so.left w c n before in inl (at-lacks now r w c n l.nodes l.at lacks)
+
+  -- The closing bracket can't be passed.
+  pub list-open : (old now : Now) (values : List V) (r : Refusal) → BeforeEnd old values now → LacksAlone now r →
+      IsUnread (list_of reading) old r
+  list-open old now values r b lacks w c n before =
+      let l = b.left w c n before in inl (at-lacks now r w c n l.0.nodes l.0.at lacks)
+
+-- Memory ran out.
+pub lacks-unread : {V : Type 0} (reading : List ℕ → Node → Option V) (old : Now) (r : Refusal) → LacksMemory r → IsUnread reading old r
+lacks-unread reading old r lacks w c n before = inl lacks
+
+-- ---- the parser's answer for a look at what comes
+
+step-shows : (w : Source) (c d : Cursor ℕ) (p : Passed) (shown : Event) (new : Now) (answer : Answer) → c.refusal ≡ None →
+    slice_get w.events c.spot.place ≡ Some p → answer ≡ event (Ok (Some shown)) → Step (on_walk w) c peek answer d → StandsAt new w d →
+    ShowsEnd w c p (ends_list shown.kind) new
+step-shows w c d p shown new answer free at is (repeats s call _ f a) stands = cc
+step-shows w c d p shown new answer free at is (peeks q none up) stands =
+    let both : an_event p ≡ an_event q = sym (ap event_or_end at) ∙ up in
+    let same : p.event ≡ shown = cc in
+    record { shown = ap (λ (x : Event). ends_list x.kind) same; stands = stands }
+step-shows w c d p shown new answer free at is (peeks_without_memory q none up takes) stands = cc
+step-shows w c d p shown new answer free at is (peeks_at_the_end none up) stands = cc
+step-shows w c d p shown new answer free at is (peeks_at_nothing q none up so) stands = cc
+
+-- The event that is answered is the next one.
+pub peek-finds_end : (old new : Now) (shown : Event) (f : Bool) (answer : Answer) → f ≡ ends_list shown.kind →
+    answer ≡ event (Ok (Some shown)) → IsStep StandsAt old peek answer new → FindsEnd old f new
+peek-finds_end old new shown f answer so is step w c p stands free at =
+    let s = step w c stands in
+    let shows = step-shows w c s.0 p shown new answer free at is s.1 s.2 in
+    record { shown = shows.shown ∙ sym so; stands = shows.stands }
+
+-- Before an event of the walk, the end is not answered.
+pub peek-no_event : (old new : Now) (f : Bool) (answer : Answer) → answer ≡ event (Ok None) → IsStep StandsAt old peek answer new →
+    FindsEnd old f new
+peek-no_event old new f answer is step w c p stands free at =
+    let s = step w c stands in absurd (step-no_end w c s.0 p answer free at is s.1)

@@ -1,0 +1,9 @@
+-- What is written of a scalar, and the token that it is.
+pub mod EscapedBytes
+pub mod HexTexts
+pub mod Literals
+pub mod Numbers
+pub mod OneToken
+pub mod QuotedTexts
+pub mod Spaces
+pub mod WholeNumbers

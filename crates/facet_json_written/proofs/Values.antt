@@ -1,0 +1,6 @@
+-- Bytes that are read as one value.
+pub mod Containers
+pub mod OneValue
+pub mod RawValues
+pub mod Readings
+pub mod TreeTexts
