@@ -20,6 +20,8 @@ pub use Rattle.facet_json_token.specs.Tokens
 pub use Rattle.facet_json_decode.specs.Decode
 pub use Rattle.facet_json_decode.specs.Fault
 pub use Rattle.facet_json_scanner.specs.Scanner
+pub use Rattle.facet_json_pieces.specs.Source as Sources
+pub use Rattle.facet_json_pieces.specs.Listed
 pub use Rattle.facet_json_document.specs.Node
 pub use Rattle.facet_json_document.specs.Tree
 pub use Rattle.facet_json_document.specs.Meaning

@@ -1,8 +1,9 @@
-//! Tokens, strings' contents and numbers by themselves: what the crate `facet_json_scan` gives.
+//! Tokens, also of bytes that come in pieces, strings' contents and numbers by themselves: what the crate `facet_json_scan` gives.
 
 pub use facet_json_scan::{
-    DecodeError, Mode, NumberHint, ParsedNumber, ScanError, ScanErrorKind, ScanResult, Scanner,
-    SpannedToken, Token, check_content, cut, decode_string, decode_string_borrowed,
-    decode_string_borrowed_unchecked, decode_string_owned, decode_string_owned_unchecked,
-    decode_string_unchecked, parse_number, parse_number_unchecked,
+    ByteSource, DecodeError, Marked, Mode, NumberHint, ParsedNumber, ScanError, ScanErrorKind,
+    ScanReadError, ScanResult, Scanned, Scanner, SpannedToken, Token, check_content, cut,
+    decode_string, decode_string_borrowed, decode_string_borrowed_unchecked, decode_string_owned,
+    decode_string_owned_unchecked, decode_string_unchecked, parse_number, parse_number_unchecked,
+    scan_reader,
 };
