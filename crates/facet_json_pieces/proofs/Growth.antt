@@ -69,11 +69,11 @@ stands-grown buffer more tokens s h = record {
 }
 
 -- What holds whatever bytes follow holds of the known bytes that begin with these.
-pub consumes-front : (a b : Option (List ℕ)) (bytes : List ℕ) (P : List ℕ → Type 0) → Consumes a b bytes →
+pub consumes-prefix : (a b : Option (List ℕ)) (bytes : List ℕ) (P : List ℕ → Type 0) → Consumes a b bytes →
     ((more : List ℕ) → P (bytes ++ more)) → IfSome a P
-consumes-front None b bytes P read all = tt
-consumes-front (Some input) None bytes P read all = absurd read
-consumes-front (Some input) (Some left) bytes P read all = subst P (sym read) (all left)
+consumes-prefix None b bytes P read all = tt
+consumes-prefix (Some input) None bytes P read all = absurd read
+consumes-prefix (Some input) (Some left) bytes P read all = subst P (sym read) (all left)
 
 -- ---- a refusal, whatever follows
 

@@ -49,10 +49,10 @@ module _ (buffer : List ℕ) (tokens : List SpannedToken) (s new : Scanner) (h :
       list_of-more tokens u (Some others) ∙ ap (λ a. list_of tokens (token_then a (Some others))) is in
       subst (AreAllOf (buffer ++ more) s.mode) (sym same) are
 
-  -- The scanner stands behind it.
-  behind_token : (u : SpannedToken) (t : Token) → answered (Ok u) ≡ Some (cuts t) → cut buffer h.start s.mode ≡ token t →
+  -- The scanner stands after it.
+  after_token : (u : SpannedToken) (t : Token) → answered (Ok u) ≡ Some (cuts t) → cut buffer h.start s.mode ≡ token t →
       (IsOpen buffer h.start s.mode → ⊥) → StandsWithin (length buffer) u → Stands buffer (tokens ++ u ∷ []) (idle (stop t.span) s.mode)
-  behind_token u t is here shut fits =
+  after_token u t is here shut fits =
       let f = cut-token_fits buffer h.start s.mode t h.within here in
       record {
         start = stop t.span;
@@ -81,7 +81,7 @@ module _ (buffer : List ℕ) (tokens : List SpannedToken) (s new : Scanner) (h :
           let f = cut-token_fits buffer h.start s.mode t h.within here in
           let first = goes_on-first s buffer h.start h.goes_on in
           let last : first_of new ≡ stop t.span = ap first_of to in (
-            subst (Stands buffer (tokens ++ u ∷ [])) (sym to) (behind_token u t is here shut fits),
+            subst (Stands buffer (tokens ++ u ∷ [])) (sym to) (after_token u t is here shut fits),
             omega (arith, f.behind, f.some, first, last),
             omega (arith, f.within, last),
           )
@@ -89,9 +89,9 @@ module _ (buffer : List ℕ) (tokens : List SpannedToken) (s new : Scanner) (h :
   -- ---- no token
 
   -- The scanner waits for more bytes of what is open.
-  behind_open : (state : State) → Describes s.mode state (drop (past_growing_gap buffer h.start s.mode) buffer) →
+  after_open : (state : State) → Describes s.mode state (drop (past_growing_gap buffer h.start s.mode) buffer) →
       Stands buffer tokens (waiting (length buffer) s.mode (past_growing_gap buffer h.start s.mode) state)
-  behind_open state d =
+  after_open state d =
       let past = past_growing_gap buffer h.start s.mode in
       record {
         start = past;
@@ -103,10 +103,10 @@ module _ (buffer : List ℕ) (tokens : List SpannedToken) (s new : Scanner) (h :
         so_far = λ more others are. h.so_far more others (cuts-passed buffer more h.start s.mode others h.within are);
       }
 
-  -- The scanner stands at the end, behind a gap.
-  behind_gap : cut buffer h.start s.mode ≡ nothing_left → (IsOpen buffer h.start s.mode → ⊥) →
+  -- The scanner stands at the end, after a gap.
+  after_gap : cut buffer h.start s.mode ≡ nothing_left → (IsOpen buffer h.start s.mode → ⊥) →
       Stands buffer tokens (idle (length buffer) s.mode)
-  behind_gap here shut =
+  after_gap here shut =
       let ends : past_growing_gap buffer h.start s.mode ≡ length buffer =
       sym (same_gap s.mode buffer h.start h.within shut) ∙ gap_to_end buffer h.start s.mode h.within here in
       record {
@@ -124,13 +124,13 @@ module _ (buffer : List ℕ) (tokens : List SpannedToken) (s new : Scanner) (h :
   pub rest-step : (u : SpannedToken) → is_cut (answered (Ok u)) ≡ false → Gives buffer h.start s.mode (answered (Ok u)) new →
       Stands buffer tokens new × (new.position ≡ length buffer)
   rest-step u told (Gives.still_open state i d is to) =
-      (subst (Stands buffer tokens) (sym to) (behind_open state d), ap (λ n. n.position) to)
+      (subst (Stands buffer tokens) (sym to) (after_open state d), ap (λ n. n.position) to)
   rest-step u told (Gives.decided shut is to) = by (cut buffer h.start s.mode) refl is to
     where
       by : (c : Cut) → cut buffer h.start s.mode ≡ c → answered (Ok u) ≡ Some (answer_for (length buffer) c) →
           new ≡ idle (stands_after buffer h.start s.mode c) s.mode → Stands buffer tokens new × (new.position ≡ length buffer)
       by nothing_left here is to =
-          (subst (Stands buffer tokens) (sym to) (behind_gap here shut), ap (λ n. n.position) to)
+          (subst (Stands buffer tokens) (sym to) (after_gap here shut), ap (λ n. n.position) to)
       by (token t) here is to = let c = sym (ap is_cut is) ∙ told in cc
       by (fault f) here is to = absurd (token-no_refusal (span_of u.span) u.token f is)
 

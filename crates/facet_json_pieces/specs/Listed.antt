@@ -36,7 +36,7 @@ abbrev pub refused_by : Option Answer → Option Tokens
 refused_by (Some (refuses f)) = Some (refused f)
 refused_by _ = None
 
--- what stands behind the last token: the end, or the refusal
+-- what stands after the last token: the end, or the refusal
 abbrev pub last_of : Option ScanError → Option Tokens
 last_of None = Some ended
 last_of (Some e) = refused_by (answered (Err e))

@@ -9,7 +9,7 @@ pub struct Scanned {
     pub buf: Vec<u8>,
     /// The tokens in order. None of them is `Eof` or `NeedMore`. Their offsets are in bytes of `buf`.
     pub tokens: Vec<SpannedToken>,
-    /// What is wrong behind the last token, if no token stands there.
+    /// What is wrong after the last token, if no token stands there.
     pub refusal: Option<ScanError>,
 }
 

@@ -22,7 +22,7 @@ pub trait ByteSource {
     // Whether a read has given nothing, though there was room.
     ghost ended: { Self → Bool };
 
-    /// Puts the next bytes at the front of the piece, and gives how many: fewer than there is room for, where the source likes,
+    /// Puts the next bytes at the start of the piece, and gives how many: fewer than there is room for, where the source likes,
     /// but none only at its end.
     ///
     /// # Errors
@@ -43,9 +43,12 @@ pub trait ByteSource {
 /// ```
 #[derive(Drop)]
 pub struct Marked<'r, R> {
-    reader: &'r mut R,
-    failed: bool,
-    ended: bool,
+    /// The reader whose bytes these are.
+    pub reader: &'r mut R,
+    /// Whether a read has failed.
+    pub failed: bool,
+    /// Whether a read has given nothing, though there was room.
+    pub ended: bool,
 }
 
 impl<'r, R: Read> Marked<'r, R> {

@@ -1,4 +1,4 @@
--- Each token is kept, and the scanner stands behind it.
+-- Each token is kept, and the scanner stands after it.
 use Rattle.std.proofs.Common.{◌<◌, ◌≤◌, length, sym, ◌∙◌, subst, arith}
 use Rattle.facet_json_scanner.specs.Scanner.{first_of}
 use Rattle.facet_json_pieces.specs.Inner.Stands.{Stands, IsRefused}

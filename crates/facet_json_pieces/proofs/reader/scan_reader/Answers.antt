@@ -6,7 +6,7 @@ use Rattle.std.specs.Io.KnownBytes.{Consumes}
 use Rattle.std.proofs.KnownBytes.{Consumes-nil, Consumes-trans}
 use Rattle.facet_json_pieces.specs.Listed.{mode_with, list_of, last_of, AreAllOf}
 use Rattle.facet_json_pieces.specs.Inner.Stands.{Stands}
-use Rattle.facet_json_pieces.proofs.Growth.{stands-first, stands-grown, consumes-front, scanned-refused, scanned-stands}
+use Rattle.facet_json_pieces.proofs.Growth.{stands-first, stands-grown, consumes-prefix, scanned-refused, scanned-stands}
 use Rattle.facet_json_pieces.proofs.reader.scan_reader.Goals as goal
 
 pub loop-tokens-init : goal.loop-tokens-init
@@ -25,7 +25,7 @@ returns-then-is_some-clause-tokens g c =
     let tokens = c.scan_ahead.new.tokens.items in
     let refusal = c.in_ok-refusal.refusal in
     let mode = mode_with c.args.comments in
-    consumes-front _ _ items (λ input. AreAllOf input mode (list_of tokens (last_of refusal))) c.loop-tokens.invariant.read
+    consumes-prefix _ _ items (λ input. AreAllOf input mode (list_of tokens (last_of refusal))) c.loop-tokens.invariant.read
     (λ more.
     scanned-refused _ items more _ mode tokens _ refusal c.as_slice.ensures.value c.loop-tokens.invariant.mode
     (sym c.is_some.ensures ∙ c.if-is_some.true) c.in_ok-refusal.ensures.scanned)
