@@ -1,5 +1,5 @@
 -- Runs of the cursor by computation: lists of calls on the walk of `[1]`, and their answers.
-use Rattle.std.proofs.Common.{◌≡◌, ℕ, true, false, List, [], ◌∷◌, Some, None, refl, arith}
+use Rattle.std.proofs.Common.{◌≡◌, ℕ, true, false, [], ◌∷◌, Some, None, refl, arith}
 use Rattle.std.specs.Prelude.{Ok, Err, codes}
 use Rattle.facet_format.specs.Span.{span_at}
 use Rattle.std.specs.Str.{is_utf8, chars}

@@ -11,7 +11,7 @@ use Rattle.std.proofs.lemmas.Str.{encode_ascii, IsUtf8-encode, IsUtf8-from_is_ut
 use Rattle.facet_format.specs.Bytes.{quote, backslash}
 use Rattle.facet_format.specs.Span.{span_at}
 use Rattle.facet_json_token.specs.Cut.{IsShape}
-use Rattle.facet_json_token.specs.Token.{Token, string}
+use Rattle.facet_json_token.specs.Token.{string}
 use Rattle.facet_json_decode.specs.Decode.{code_unit, Piece, Decodes, empty, piece, decoded}
 use Rattle.facet_json_decode.specs.Decode as decode
 use Rattle.facet_json_decode.proofs.DecodeLaws.{decoded-decodes}

@@ -1,5 +1,5 @@
 -- White space leaves the end of the gap where it is, and a byte above a space ends it.
-use Rattle.std.proofs.Common.{sym, ◌∙◌, refl, rules}
+use Rattle.std.proofs.Common.{◌∙◌, refl, rules}
 use Rattle.std.proofs.lemmas.Bool.{ne_eqb}
 use Rattle.facet_format.specs.Bytes.{slash}
 use Rattle.facet_json_token.specs.Views.{mode_of}

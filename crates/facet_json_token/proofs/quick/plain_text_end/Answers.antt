@@ -1,5 +1,5 @@
 -- The run of plain bytes ends at the quote that closes the string.
-use Rattle.std.proofs.Common.{◌≡◌, ◌+◌, false, drop, Some, ap, sym, ◌∙◌, refl, rules}
+use Rattle.std.proofs.Common.{◌≡◌, ◌+◌, false, drop, Some, sym, ◌∙◌, refl, rules}
 use Rattle.std.specs.Option.{option_map}
 use Rattle.facet_format.specs.Bytes.{quote}
 use Rattle.facet_json_token.specs.Cut.{content_len, opens_text, start_of}
