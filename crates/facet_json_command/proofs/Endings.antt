@@ -27,7 +27,7 @@ unread_lists mode (Some input) held Usage failed = failed
 
 -- ---- `events`
 
-io_is_not_usage : Io ≡ Usage → ⊥
+pub io_is_not_usage : Io ≡ Usage → ⊥
 io_is_not_usage same = subst IsFailure same tt
 
 pub events_end : (mode : Mode) (remaining : Option (List ℕ)) (items : List ℕ) (a b c : Option (List ℕ)) (printed final : Outcome) →

@@ -1,4 +1,5 @@
 pub mod Printing
+pub mod TokenListing
 pub mod Listing
 pub mod Endings
 pub mod Unasked

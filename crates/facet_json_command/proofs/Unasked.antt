@@ -1,6 +1,6 @@
 -- What is answered where memory is wanted before anything is read.
 use Rattle.std.proofs.Common.{◌≡◌, ℕ, List, [], Option, Some, None, IfSome, ◌⊎◌, refl, inl, inr}
-use Rattle.facet_json_command_line.specs.Arguments.{Command, fmt, events, drive}
+use Rattle.facet_json_command_line.specs.Arguments.{Command, fmt, events, tokens, drive}
 use Rattle.facet_json_command_line.specs.declared.outcome.Outcome.{Outcome}
 use Rattle.facet_json_command_line.specs.declared.outcome.Outcome.TheVariants.{Done, Refused}
 use Rattle.facet_json_token.specs.Gap.{Mode}
@@ -13,6 +13,7 @@ no_memory_answers command None held outcome is = tt
 no_memory_answers (fmt mode pretty) (Some input) None outcome is = tt
 no_memory_answers (fmt mode pretty) (Some input) (Some before) outcome is = rw is (inl refl, refl)
 no_memory_answers (events mode) (Some input) held outcome is = rw is (inl (refl, ([], appends_nothing held)))
+no_memory_answers (tokens mode) (Some input) held outcome is = rw is (inl (refl, ([], appends_nothing held)))
 no_memory_answers (drive mode calls) (Some input) None outcome is = tt
 no_memory_answers (drive mode calls) (Some input) (Some before) outcome is = rw is refl
 

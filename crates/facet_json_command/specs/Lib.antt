@@ -5,3 +5,5 @@ pub use Rattle.facet_json_command_line.specs.Report
 pub mod Views
 pub mod Run
 pub mod Lines
+pub mod TokenLines
+pub mod TokenViews

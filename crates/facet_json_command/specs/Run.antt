@@ -1,10 +1,11 @@
 -- What a run of the program owes.
-use Rattle.std.specs.Prelude.{◌≡◌, ℕ, ◌⊎◌, Bool, List, [], ◌∷◌, ◌++◌, map, Option, Some, None, Result, Ok, Err, IfSome}
+use Rattle.std.specs.Prelude.{◌≡◌, ℕ, ◌⊎◌, Bool, List, [], ◌∷◌, ◌++◌, length, map, Option, Some, None, Result, Ok, Err, IfSome}
 use Rattle.std.specs.Option.{option_map}
 use Rattle.std.specs.List.{flat_map}
 use Rattle.std.specs.Io.KnownBytes.{Appends}
 use Rattle.facet_format.specs.declared.span.Span.{Span}
 use Rattle.facet_json_token.specs.Gap.{Mode}
+use Rattle.facet_json_token.specs.Tokens.{Tokens, AreCuts}
 use Rattle.facet_json_document.specs.Node.{Node}
 use Rattle.facet_json_document.specs.Tree.{Tree}
 use Rattle.facet_json_document.specs.Document.{IsDocument}
@@ -16,8 +17,9 @@ use Rattle.facet_format.specs.Event.{Event}
 use Rattle.facet_format.specs.Cursor.{Call, next, Answer, event}
 use Rattle.facet_json_document.specs.Text.{Options, default_options, text}
 use Rattle.facet_format.specs.Views.{span_of}
-use Rattle.facet_json_command_line.specs.Arguments.{Command, fmt, events, drive}
+use Rattle.facet_json_command_line.specs.Arguments.{Command, fmt, events, tokens, drive}
 use Rattle.facet_json_command.specs.Lines.{event_line, answer_lines}
+use Rattle.facet_json_command.specs.TokenLines.{token_lines, EndAs}
 use Rattle.facet_json_command_line.specs.declared.outcome.Outcome.{Outcome}
 use Rattle.facet_json_command_line.specs.declared.outcome.Outcome.TheVariants.{Done, Refused, Io, Usage}
 pub use Rattle.facet_json_command_line.specs.Outcome.{IsFailure}
@@ -99,6 +101,21 @@ Lists mode input before after (Refused code span) =
 Lists mode input before after Io = Unit {0}
 Lists mode input before after Usage = ⊥
 
+-- These are all tokens of the input, whose lines are printed, and the run ends as they do.
+pub record AreTokensListed (mode : Mode) (input : List ℕ) (before after : Option (List ℕ)) (outcome : Outcome) : Type 0 where
+  pub these : Tokens
+  pub cuts : AreCuts input mode 0 these
+  pub printed : Appends before after (token_lines (length input) these)
+  pub ends : EndAs these outcome
+
+-- What `tokens` answers to an input, where the writer held the known bytes before and then holds those after.
+abbrev pub ListsTokens : Mode → List ℕ → Option (List ℕ) → Option (List ℕ) → Outcome → Type 0
+ListsTokens mode input before after Done = AreTokensListed mode input before after Done
+ListsTokens mode input before after (Refused code span) =
+    ((code ≡ 9) × Grows before after) ⊎ AreTokensListed mode input before after (Refused code span)
+ListsTokens mode input before after Io = Unit {0}
+ListsTokens mode input before after Usage = ⊥
+
 -- how a run ends that printed so
 abbrev pub outcome_of : {T : Type 0} → Result T Outcome → Outcome
 outcome_of (Ok done) = Done
@@ -117,16 +134,19 @@ Drives mode calls input before after Usage = ⊥
 abbrev pub Answers : Command → List ℕ → Option (List ℕ) → Option (List ℕ) → Outcome → Type 0
 Answers (fmt mode pretty) input before after outcome = IfSome before (λ held. Formats mode pretty input held after outcome)
 Answers (events mode) input before after outcome = Lists mode input before after outcome
+Answers (tokens mode) input before after outcome = ListsTokens mode input before after outcome
 Answers (drive mode calls) input before after outcome = IfSome before (λ held. Drives mode calls input held after outcome)
 
 -- where the command is `fmt`
 abbrev pub ForFmt : Command → (Mode → Type 0) → Type 0
 ForFmt (fmt mode pretty) P = P mode
 ForFmt (events mode) P = Unit {0}
+ForFmt (tokens mode) P = Unit {0}
 ForFmt (drive mode calls) P = Unit {0}
 
 -- where the command is `drive`
 abbrev pub ForDrive : Command → Type 0 → Type 0
 ForDrive (fmt mode pretty) P = Unit {0}
 ForDrive (events mode) P = Unit {0}
+ForDrive (tokens mode) P = Unit {0}
 ForDrive (drive mode calls) P = P

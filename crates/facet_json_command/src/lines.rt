@@ -241,7 +241,7 @@ fn write_refusal<W: Write>(writer: &mut W, error: ParseError<'_>) -> Result<(), 
 }
 
 /// Writes a line of a name and where it stands.
-fn write_place<W: Write>(writer: &mut W, name: &str, span: Span) -> Result<(), Outcome>
+pub fn write_place<W: Write>(writer: &mut W, name: &str, span: Span) -> Result<(), Outcome>
     ensures { Prints (W.contents writer.old) (W.contents writer.new) (place_line name.now (span_of span)) result }
 {
     let offset = span.offset;
@@ -250,7 +250,7 @@ fn write_place<W: Write>(writer: &mut W, name: &str, span: Span) -> Result<(), O
 }
 
 /// Writes a line of a name, where it stands, and a value.
-fn write_value<W: Write, D: Display + Drop>(
+pub fn write_value<W: Write, D: Display + Drop>(
     writer: &mut W,
     name: &str,
     span: Span,

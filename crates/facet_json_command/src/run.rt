@@ -17,9 +17,10 @@ ghost use Rattle.facet_json_command_line.specs.declared.outcome.Outcome.TheVaria
 ghost use Rattle.facet_json_command_line.specs.Arguments.{Command as SpecCommand, AskFor, AskForNothing, fmt, drive as drives};
 ghost use Rattle.facet_json_command.specs.Views.{words_of, command_view};
 ghost use Rattle.facet_json_command.specs.Lines.{answer_lines};
-ghost use Rattle.facet_json_command.specs.Run.{HasDocument, layout, IsReformatted, IsFailure, IsRefusal, Formats, Grows, Prints, Lists, Drives, Answers, ForFmt, ForDrive, outcome_of};
+ghost use Rattle.facet_json_command.specs.Run.{HasDocument, layout, IsReformatted, IsFailure, IsRefusal, Formats, Grows, Prints, Lists, ListsTokens, Drives, Answers, ForFmt, ForDrive, outcome_of};
 
 use crate::lines::{write_answer, write_event};
+use crate::tokens::{scan_all, write_scanned};
 use facet_format::FormatParser;
 use facet_json_command_line::arguments::{Command, command_of};
 use facet_json_command_line::outcome::{OUT_OF_MEMORY, Outcome, failure};
@@ -76,6 +77,7 @@ fn obey<R: Read, W: Write>(
     match command {
         Command::Fmt { mode, pretty } => format(alloc, mode, pretty, reader, writer),
         Command::Events { mode } => print_events(alloc, mode, reader, writer),
+        Command::Tokens { mode } => print_tokens(alloc, mode, reader, writer),
         Command::Drive { mode, calls } => {
             print_answers(alloc, mode, calls.as_slice(), reader, writer)
         }
@@ -241,6 +243,27 @@ fn list_ahead<W: Write>(
             Ok(None) => return Ok(()),
             Err(error) => return Err(Outcome::Refused(error.kind.code(), Some(error.span))),
         }
+    }
+}
+
+/// Reads and scans all there is, and prints its tokens.
+fn print_tokens<R: Read, W: Write>(
+    alloc: Global,
+    mode: Mode,
+    reader: &mut R,
+    writer: &mut W,
+) -> Outcome
+    ensures ends { result ≢ outcome.Usage }
+    ensures listed { IfSome (R.remaining reader.old) (λ input.
+        ListsTokens (mode_of mode) input (W.contents writer.old) (W.contents writer.new) result) }
+    ensures grows { result ≢ outcome.Io → Grows (W.contents writer.old) (W.contents writer.new) }
+{
+    match scan_all(alloc, mode, reader) {
+        Ok(scanned) => {
+            let written = write_scanned(&scanned, writer);
+            finish(written, writer)
+        }
+        Err(outcome) => outcome,
     }
 }
 

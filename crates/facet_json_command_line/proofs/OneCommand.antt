@@ -4,7 +4,7 @@ use Rattle.std.specs.Str.Parse.{digits_value}
 use Rattle.facet_format.specs.Cursor.{Call, next, peek, events, skip, capture, save, restore, span}
 use Rattle.facet_json_token.specs.Gap.{Mode}
 use Rattle.facet_json_command_line.specs.Script.{comma, IsWordOf, IsScript, one_word, word_first}
-use Rattle.facet_json_command_line.specs.Arguments.{Command, fmt, events as list, drive, AreWords, AreArguments, AskFor}
+use Rattle.facet_json_command_line.specs.Arguments.{Command, fmt, events as list, tokens, drive, AreWords, AreArguments, AskFor}
 use Rattle.facet_json_command_line.proofs.Cuts.{same_tail, one_cut, has_byte}
 use Rattle.facet_json_command_line.proofs.Calls.{word_lacks}
 use Rattle.facet_json_command_line.proofs.Operands.{name_is, one_reading}
@@ -71,6 +71,10 @@ events_once : (args : List (List ℕ)) (mode other : Mode) → AskFor (list mode
 events_once args mode other first second =
     (arguments_once args (codes "events") (codes "events") mode other false false [] [] first second).1
 
+tokens_once : (args : List (List ℕ)) (mode other : Mode) → AskFor (tokens mode) args → AskFor (tokens other) args → mode ≡ other
+tokens_once args mode other first second =
+    (arguments_once args (codes "tokens") (codes "tokens") mode other false false [] [] first second).1
+
 drive_once : (args : List (List ℕ)) (mode other : Mode) (calls others : List Call) → AskFor (drive mode calls) args →
     AskFor (drive other others) args → (mode ≡ other) × (calls ≡ others)
 drive_once args mode other calls others first second =
@@ -95,6 +99,22 @@ events_is_not_drive args mode other calls first second =
     differ (codes "events") (codes "drive") (λ e. absurd (omega (arith, e)))
     (arguments_once args (codes "events") (codes "drive") mode other false false [] (second.0 ∷ []) first second.1).0
 
+fmt_is_not_tokens : (args : List (List ℕ)) (mode other : Mode) (pretty : Bool) → AskFor (fmt mode pretty) args → AskFor (tokens other) args → ⊥
+fmt_is_not_tokens args mode other pretty first second =
+    differ (codes "fmt") (codes "tokens") (λ e. absurd (omega (arith, e)))
+    (arguments_once args (codes "fmt") (codes "tokens") mode other pretty false [] [] first second).0
+
+events_is_not_tokens : (args : List (List ℕ)) (mode other : Mode) → AskFor (list mode) args → AskFor (tokens other) args → ⊥
+events_is_not_tokens args mode other first second =
+    differ (codes "events") (codes "tokens") (λ e. absurd (omega (arith, e)))
+    (arguments_once args (codes "events") (codes "tokens") mode other false false [] [] first second).0
+
+tokens_is_not_drive : (args : List (List ℕ)) (mode other : Mode) (calls : List Call) → AskFor (tokens mode) args →
+    AskFor (drive other calls) args → ⊥
+tokens_is_not_drive args mode other calls first second =
+    differ (codes "tokens") (codes "drive") (λ e. absurd (omega (arith, e)))
+    (arguments_once args (codes "tokens") (codes "drive") mode other false false [] (second.0 ∷ []) first second.1).0
+
 pub one_command : (args : List (List ℕ)) (command other : Command) → AskFor command args → AskFor other args → command ≡ other
 one_command args (fmt mode pretty) (fmt other layout) first second =
     let same = fmt_once args mode other pretty layout first second in ap (λ m. fmt m pretty) same.0 ∙ ap (fmt other) same.1
@@ -103,6 +123,13 @@ one_command args (fmt mode pretty) (drive other calls) first second = absurd (fm
 one_command args (list mode) (fmt other layout) first second = absurd (fmt_is_not_events args other mode layout second first)
 one_command args (list mode) (list other) first second = ap list (events_once args mode other first second)
 one_command args (list mode) (drive other calls) first second = absurd (events_is_not_drive args mode other calls first second)
+one_command args (fmt mode pretty) (tokens other) first second = absurd (fmt_is_not_tokens args mode other pretty first second)
+one_command args (list mode) (tokens other) first second = absurd (events_is_not_tokens args mode other first second)
+one_command args (tokens mode) (fmt other layout) first second = absurd (fmt_is_not_tokens args other mode layout second first)
+one_command args (tokens mode) (list other) first second = absurd (events_is_not_tokens args other mode second first)
+one_command args (tokens mode) (tokens other) first second = ap tokens (tokens_once args mode other first second)
+one_command args (tokens mode) (drive other calls) first second = absurd (tokens_is_not_drive args mode other calls first second)
+one_command args (drive mode calls) (tokens other) first second = absurd (tokens_is_not_drive args other mode calls second first)
 one_command args (drive mode calls) (fmt other layout) first second = absurd (fmt_is_not_drive args other mode layout calls second first)
 one_command args (drive mode calls) (list other) first second = absurd (events_is_not_drive args other mode calls second first)
 one_command args (drive mode calls) (drive other others) first second =

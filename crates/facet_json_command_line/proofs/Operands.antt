@@ -3,7 +3,7 @@ use Rattle.std.proofs.Common.{◌≡◌, ◌≢◌, ℕ, zero, suc, ◌<◌, ◌
 use Rattle.facet_json_token.specs.Gap.{Mode, plain, jsonc}
 use Rattle.facet_format.specs.Cursor.{Call}
 use Rattle.facet_json_command_line.specs.Script.{IsScript}
-use Rattle.facet_json_command_line.specs.Arguments.{fmt, events, drive, comments, indented, AreWords, no_words, operand, with_comments, with_indent, AreArguments, AskForNothing}
+use Rattle.facet_json_command_line.specs.Arguments.{fmt, events, tokens, drive, comments, indented, AreWords, no_words, operand, with_comments, with_indent, AreArguments, AskForNothing}
 use Rattle.facet_json_command_line.specs.Views.{words_of}
 use Rattle.facet_json_command_line.proofs.Cuts.{same_tail}
 
@@ -243,15 +243,19 @@ one_is_none word same = let lengths : 1 ≡ 0 = ap length same in absurd (omega 
 none_is_one : (word : List ℕ) → [] ≡ word ∷ [] → ⊥
 none_is_one word same = one_is_none word (sym same)
 
--- without an operand only two names ask for something, and one of them where the option of the layout stands there
+-- without an operand only three names ask for something, and two of them not where the option of the layout stands there
 pub bare_asks_nothing : (name : List ℕ) (rest : List (List ℕ)) (mode : Mode) (pretty : Bool) → AreWords mode pretty [] rest → name ≢ codes "fmt" →
-    (name ≡ codes "events" → pretty ≡ true) → AskForNothing (name ∷ rest)
-bare_asks_nothing name rest mode pretty words f e (fmt other layout) args = f (name_is name (codes "fmt") rest args.0 args.1)
-bare_asks_nothing name rest mode pretty words f e (events other) args =
+    (name ≡ codes "events" → pretty ≡ true) → (name ≡ codes "tokens" → pretty ≡ true) → AskForNothing (name ∷ rest)
+bare_asks_nothing name rest mode pretty words f e t (fmt other layout) args = f (name_is name (codes "fmt") rest args.0 args.1)
+bare_asks_nothing name rest mode pretty words f e t (events other) args =
     let there = e (name_is name (codes "events") rest args.0 args.1) in
     let none = (words_are name (codes "events") rest mode other pretty false [] [] words args).0 in
     cc
-bare_asks_nothing name rest mode pretty words f e (drive other calls) args =
+bare_asks_nothing name rest mode pretty words f e t (tokens other) args =
+    let there = t (name_is name (codes "tokens") rest args.0 args.1) in
+    let none = (words_are name (codes "tokens") rest mode other pretty false [] [] words args).0 in
+    cc
+bare_asks_nothing name rest mode pretty words f e t (drive other calls) args =
     none_is_one args.0 (words_are name (codes "drive") rest mode other pretty false [] (args.0 ∷ []) words args.1).1
 
 -- with an operand only a script of that name asks for something, without the option of the layout
@@ -261,6 +265,8 @@ operand_asks_nothing name script rest mode pretty words none (fmt other layout) 
     one_is_none script (words_are name (codes "fmt") rest mode other pretty layout (script ∷ []) [] words args).1
 operand_asks_nothing name script rest mode pretty words none (events other) args =
     one_is_none script (words_are name (codes "events") rest mode other pretty false (script ∷ []) [] words args).1
+operand_asks_nothing name script rest mode pretty words none (tokens other) args =
+    one_is_none script (words_are name (codes "tokens") rest mode other pretty false (script ∷ []) [] words args).1
 operand_asks_nothing name script rest mode pretty words none (drive other calls) args =
     let same = words_are name (codes "drive") rest mode other pretty false (script ∷ []) (args.0 ∷ []) words args.1 in
     none (name_is name (codes "drive") rest args.1.0 args.1.1) same.0 calls

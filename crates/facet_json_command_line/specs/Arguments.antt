@@ -10,6 +10,8 @@ pub data Command : Type 0 where
   fmt : Mode → (pretty : Bool) → Command
   -- to print the events of the document
   events : Mode → Command
+  -- to print its tokens
+  tokens : Mode → Command
   -- to make calls of a parser, and print their answers
   drive : Mode → List Call → Command
 
@@ -40,6 +42,7 @@ AreArguments args name mode pretty operands = (words : List (List ℕ)) × (args
 abbrev pub AskFor : Command → List (List ℕ) → Type 0
 AskFor (fmt mode pretty) args = AreArguments args (codes "fmt") mode pretty []
 AskFor (events mode) args = AreArguments args (codes "events") mode false []
+AskFor (tokens mode) args = AreArguments args (codes "tokens") mode false []
 AskFor (drive mode calls) args =
     (script : List ℕ) × AreArguments args (codes "drive") mode false (script ∷ []) × IsScript script calls
 

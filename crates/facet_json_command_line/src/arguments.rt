@@ -1,6 +1,6 @@
 //! What the arguments after the program's name ask for.
 
-ghost use Rattle.std.specs.Prelude.{◌≡◌, ◌≤◌, ◌⊎◌, ℕ, Bool, true, false, List, [], ◌∷◌, ◌++◌, length, None, IfOk, IfErr, MatchOption, MatchResult};
+ghost use Rattle.std.specs.Prelude.{◌≡◌, ◌≢◌, ◌≤◌, ◌⊎◌, ℕ, Bool, true, false, List, [], ◌∷◌, ◌++◌, length, codes, None, IfOk, IfErr, MatchOption, MatchResult};
 ghost use Rattle.facet_json_token.specs.Gap.{Mode as SpecMode};
 ghost use Rattle.facet_json_token.specs.Views.{mode_of};
 ghost use Rattle.facet_json_token.specs.declared.mode.Mode.TheVariants as modes;
@@ -26,6 +26,11 @@ pub enum Command {
     },
     /// Print the events of the input's document.
     Events {
+        /// How the input is read.
+        mode: Mode,
+    },
+    /// Print the tokens of the input.
+    Tokens {
         /// How the input is read.
         mode: Mode,
     },
@@ -171,12 +176,24 @@ fn bare(name: &str, mode: Mode, pretty: bool) -> Result<Command, Outcome>
 {
     match name {
         "fmt" => Ok(Command::Fmt { mode, pretty }),
-        "events" => {
+        _ => {
             if pretty {
                 return Err(Outcome::Usage);
             }
-            Ok(Command::Events { mode })
+            listing(name, mode)
         }
+    }
+}
+
+/// The command of this name that lists something, without an operand and the option of the layout.
+fn listing(name: &str, mode: Mode) -> Result<Command, Outcome>
+    ensures { (rest : List (List ℕ)) → name.now ≢ codes "fmt" → AreWords (mode_of mode) false [] rest → MatchResult result
+        (λ c. AskFor (command_view c) (name.now ∷ rest))
+        (λ o. (o ≡ outcome.Usage) × AskForNothing (name.now ∷ rest)) }
+{
+    match name {
+        "events" => Ok(Command::Events { mode }),
+        "tokens" => Ok(Command::Tokens { mode }),
         _ => Err(Outcome::Usage),
     }
 }
