@@ -78,7 +78,7 @@ fn bytes_read(alloc: Global, input: &[u8]) -> Option<usize> {
 }
 
 #[test]
-fn nothing_is_read_behind_a_refusal(rt: HostRuntime) {
+fn nothing_is_read_after_a_refusal(rt: HostRuntime) {
     assert!(rt; bytes_read(rt.alloc(), b"[1 x2,3]") == Some(4));
     assert!(rt; bytes_read(rt.alloc(), b"[1, 2,3]") == Some(8));
 }
