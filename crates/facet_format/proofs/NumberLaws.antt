@@ -237,14 +237,14 @@ is_bare-number bytes hint n =
 -- ---- what is measured is a number
 
 -- A minus that is measured is one.
-minus-taken : (bytes : List ℕ) → IsMinus (take (minus_len bytes) bytes) (is_some_len (minus_len bytes))
+pub minus-taken : (bytes : List ℕ) → IsMinus (take (minus_len bytes) bytes) (is_some_len (minus_len bytes))
 minus-taken [] = IsMinus.absent
 minus-taken (b ∷ bytes) =
     cond_both (b == minus) 1 0 (λ n. IsMinus (take n (b ∷ bytes)) (is_some_len n))
     (λ e. subst (λ x. IsMinus (x ∷ []) true) (sym (eqb-true b minus e)) IsMinus.present) (λ e. IsMinus.absent)
 
 -- Digits that are measured are digits.
-digits-taken : (bytes : List ℕ) → AreDigits (take (digits_len bytes) bytes)
+pub digits-taken : (bytes : List ℕ) → AreDigits (take (digits_len bytes) bytes)
 digits-taken [] = AreDigits.none
 digits-taken (b ∷ bytes) =
     cond_both (is_digit b) (suc (digits_len bytes)) 0 (λ n. AreDigits (take n (b ∷ bytes)))
@@ -260,7 +260,7 @@ fraction-taken (b ∷ bytes) =
     (λ e. IsFraction.absent)
 
 -- An exponent's sign that is measured is one.
-sign-taken : (bytes : List ℕ) → IsExponentSign (take (sign_len bytes) bytes)
+pub sign-taken : (bytes : List ℕ) → IsExponentSign (take (sign_len bytes) bytes)
 sign-taken [] = IsExponentSign.absent
 sign-taken (b ∷ bytes) =
     cond_both (is_sign b) 1 0 (λ n. IsExponentSign (take n (b ∷ bytes))) (IsExponentSign.present b)

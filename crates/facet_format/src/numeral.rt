@@ -63,6 +63,14 @@ impl Parts {
         self.sign
     }
 
+    /// Where the fraction starts, or would start: after the digits.
+    #[inline(always)]
+    pub fn fraction_start(self) -> usize
+        ensures { result ≡ self.sign + self.digits }
+    {
+        self.digits_start() + self.digits
+    }
+
     /// Where the exponent starts, or would start.
     #[inline(always)]
     pub fn exponent_start(self) -> usize

@@ -5,12 +5,15 @@ use Rattle.facet_json_token.specs.Gap.{Mode}
 use Rattle.facet_json_token.specs.Token.{Token}
 use Rattle.facet_format.specs.Span.{stop}
 use Rattle.facet_json_token.specs.Tokens.{Tokens, ended, refused, next, tokens_from}
-use Rattle.facet_json_document.specs.Place.{Place, after_key, after_colon, Turn, stops, passes, says, says_scalar, names, goes_on}
+use Rattle.facet_json_document.specs.Language.{Language, lenient, rules, Rules, lenient_rules, strict_rules}
+use Rattle.facet_json_document.specs.Place.{Place, after_key, after_colon, after_root, Turn, stops, passes, says, says_scalar, names, goes_on, led}
 use Rattle.facet_format.specs.Event.{ContainerKind, Passed}
 use Rattle.facet_json_document.specs.Walk.{event_at, scalar_event, key_event}
-use Rattle.facet_json_document.specs.Future.{Future, gives, finished, stuck, Stage, within, over, after_value, stack_after, stage_after, turn, reads, reads_colon}
+use Rattle.facet_json_document.specs.Future.{Future, gives, finished, stuck, Stage, within, over, after_value, stack_after, stage_after, turn, behind_root, reads, reads_by, reads_colon_by}
 use Rattle.facet_json_document.proofs.InOrder.{InOrder, at_a_token}
-use Rattle.facet_json_document.proofs.TokensInOrder.{in_order-weaker, tokens-in_order}
+use Rattle.facet_json_document.specs.StrictTokens.{tokens_in}
+use Rattle.facet_json_document.proofs.TokensIn.{tokens_in-in_order}
+use Rattle.facet_json_document.proofs.TokensInOrder.{in_order-weaker}
 use Rattle.facet_json_document.proofs.WalkComes.{follows, reads-turn}
 
 -- Each event ends after the one before, the first after this offset, and the tokens after them are in order.
@@ -28,22 +31,22 @@ sound-weaker buffer _ from less h (sound_end _) = sound_end less
 sound-weaker buffer _ from less h (sound_stuck _ place rest o) =
     sound_stuck less place rest (in_order-weaker buffer rest from less h o)
 
-module _ (buffer : List ℕ) where
+module _ (by : Rules) (buffer : List ℕ) where
   -- From wherever tokens in order are read, what comes is sound.
   abbrev SoundFrom : Tokens → Type 0
   SoundFrom ts = (stack : List ContainerKind) (stage : Stage) (from : ℕ) → InOrder buffer from ts →
-      IsSound buffer from (reads buffer stack stage ts)
+      IsSound buffer from (reads_by by buffer stack stage ts)
 
   -- the same after a key, which ends there
   abbrev SoundAfterKey : Tokens → Type 0
   SoundAfterKey ts = (stack : List ContainerKind) (key : Token) → InOrder buffer (stop key.span) ts →
-      IsSound buffer (stop key.span) (reads_colon buffer stack key ts)
+      IsSound buffer (stop key.span) (reads_colon_by by buffer stack key ts)
 
   turn-sound : (stack : List ContainerKind) (place : Place) (t : Token) (ts : Tokens) (way : Turn) (from : ℕ) → SoundFrom ts →
-      SoundAfterKey ts → InOrder buffer from (next t ts) → IsSound buffer from (follows buffer place t stack ts way)
+      SoundAfterKey ts → InOrder buffer from (next t ts) → IsSound buffer from (follows by buffer place t stack ts way)
   turn-sound stack place t ts stops from h g o = sound_stuck from place (next t ts) o
   turn-sound stack place t ts (passes other) from h g (at_a_token _ _ _ b w more) =
-      sound-weaker buffer _ (stop t.span) from (omega arith) (h stack (within other) (stop t.span) more)
+      sound-weaker buffer _ (stop t.span) from (omega arith) (h stack (within (led by other)) (stop t.span) more)
   turn-sound stack place t ts (says kind) from h g (at_a_token _ _ _ b w more) =
       sound_event from (event_at kind t) _ b (omega arith) w (h (stack_after kind stack) (stage_after kind stack) (stop t.span) more)
   turn-sound stack place t ts says_scalar from h g (at_a_token _ _ _ b w more) =
@@ -52,33 +55,44 @@ module _ (buffer : List ℕ) where
       sound-weaker buffer _ (stop t.span) from (omega arith) (g stack t more)
 
   mark-sound : (stack : List ContainerKind) (key mark : Token) (ts : Tokens) (b : Bool) → SoundFrom ts → goes_on after_key mark.kind ≡ b →
-      InOrder buffer (stop key.span) (next mark ts) → IsSound buffer (stop key.span) (reads_colon buffer stack key (next mark ts))
-  unfolding reads_colon
-  mark-sound stack key mark ts false h c o = rw (c, reads_colon) (sound_stuck _ _ (next mark ts) o)
+      InOrder buffer (stop key.span) (next mark ts) → IsSound buffer (stop key.span) (reads_colon_by by buffer stack key (next mark ts))
+  unfolding reads_colon_by
+  mark-sound stack key mark ts false h c o = rw (c, reads_colon_by) (sound_stuck _ _ (next mark ts) o)
   mark-sound stack key mark ts true h c (at_a_token _ _ _ b w more) =
       let rest = h stack (within after_colon) (stop mark.span) more in
-      rw (c, reads_colon) (sound_event (stop key.span) (key_event buffer key mark) _ b (omega arith) w rest)
+      rw (c, reads_colon_by) (sound_event (stop key.span) (key_event buffer key mark) _ b (omega arith) w rest)
+
+  -- What comes behind the root is sound.
+  behind-sound : (r : Rules) (ts : Tokens) (from : ℕ) → InOrder buffer from ts → IsSound buffer from (behind_root r ts)
+  behind-sound lenient_rules ts from o = sound_end from
+  behind-sound strict_rules ended from o = sound_end from
+  behind-sound strict_rules (refused f) from o = sound_stuck from after_root (refused f) o
+  behind-sound strict_rules (next t ts) from o = sound_stuck from after_root (next t ts) o
 
   mutual
-    unfolding reads
+    unfolding reads_by
 
     -- What is read from tokens in order is sound.
     reads-sound : (ts : Tokens) → SoundFrom ts
-    reads-sound ts stack over from o = sound_end from
+    reads-sound ts stack over from o = behind-sound by ts from o
     reads-sound ended stack (within place) from o = sound_stuck from place ended o
     reads-sound (refused f) stack (within place) from o = sound_stuck from place (refused f) o
     reads-sound (next t ts) stack (within place) from o =
         let way = turn buffer place t in
         let here = turn-sound stack place t ts way from (reads-sound ts) (colon-sound ts) o in
-        rw (reads-turn buffer stack place t ts way refl) here
+        rw (reads-turn by buffer stack place t ts way refl) here
 
     colon-sound : (ts : Tokens) → SoundAfterKey ts
     colon-sound ended stack key o = sound_stuck _ _ ended o
     colon-sound (refused f) stack key o = sound_stuck _ _ (refused f) o
     colon-sound (next mark ts) stack key o = mark-sound stack key mark ts (goes_on after_key mark.kind) (reads-sound ts) refl o
 
--- What comes from a position on is sound.
+-- What comes from a position on is sound, in either language.
+pub comes-sound : (language : Language) (buffer : List ℕ) (stack : List ContainerKind) (stage : Stage) (position : ℕ) →
+    position ≤ length buffer → IsSound buffer position (reads_by (rules language) buffer stack stage (tokens_in language buffer position))
+comes-sound language buffer stack stage position h =
+    reads-sound (rules language) buffer _ stack stage position (tokens_in-in_order language buffer position h)
+
 pub position-sound : (buffer : List ℕ) (mode : Mode) (stack : List ContainerKind) (stage : Stage) (position : ℕ) →
     position ≤ length buffer → IsSound buffer position (reads buffer stack stage (tokens_from buffer mode position))
-position-sound buffer mode stack stage position h =
-    reads-sound buffer (tokens_from buffer mode position) stack stage position (tokens-in_order buffer mode position h)
+position-sound buffer mode stack stage position h = comes-sound (lenient mode) buffer stack stage position h

@@ -6,8 +6,10 @@ pub mod Rows
 pub mod Runs
 pub mod Spelled
 pub mod Spelling
+pub mod StrictComes
 pub mod StuckComes
 pub mod StuckOnce
+pub mod TokensIn
 pub mod TokensInOrder
 pub mod TreesOfParts
 pub mod WalkComes

@@ -2,8 +2,9 @@
 use Rattle.std.specs.Prelude.{ℕ, Bool, true, false, cond, List, [], ◌∷◌, ◌&&◌, is_none}
 use Rattle.facet_json_token.specs.Token.{Token}
 use Rattle.facet_json_token.specs.Tokens.{Tokens, ended, refused, next}
+use Rattle.facet_json_document.specs.Language.{Rules, lenient_rules, strict_rules}
 use Rattle.facet_json_document.specs.Meaning.{meaning}
-use Rattle.facet_json_document.specs.Place.{Place, before_key, after_key, after_colon, after_member, before_item, after_item, Turn, stops, passes, says, says_scalar, names, place_turn, goes_on}
+use Rattle.facet_json_document.specs.Place.{Place, before_key, after_key, after_colon, after_member, before_item, after_item, after_root, Turn, stops, passes, says, says_scalar, names, place_turn, goes_on, led}
 use Rattle.facet_json_document.specs.Refusal.{needs_meaning}
 use Rattle.facet_format.specs.Event.{ContainerKind, object, array, EventKind, Passed}
 use Rattle.facet_format.specs.Event as event
@@ -67,25 +68,38 @@ turn buffer place t = cond (is_meaningless buffer t) stops (place_turn place t.k
 
 -- ---- all tokens
 
+-- what comes behind the root, before these tokens: nothing, and where the rules are strict none may stand there
+abbrev pub behind_root : Rules → Tokens → Future
+behind_root lenient_rules ts = finished
+behind_root strict_rules ended = finished
+behind_root strict_rules ts = stuck after_root ts
+
 unfoldable mutual
-  -- what the tokens give from a stage on, within these containers
-  pub reads : List ℕ → List ContainerKind → Stage → Tokens → Future
-  reads buffer stack over ts = finished
-  reads buffer stack (within place) ended = stuck place ended
-  reads buffer stack (within place) (refused f) = stuck place (refused f)
-  reads buffer stack (within place) (next t rest) = elim (turn buffer place t) [
+  -- what the tokens give from a stage on, by these rules and within these containers
+  pub reads_by : Rules → List ℕ → List ContainerKind → Stage → Tokens → Future
+  reads_by r buffer stack over ts = behind_root r ts
+  reads_by r buffer stack (within place) ended = stuck place ended
+  reads_by r buffer stack (within place) (refused f) = stuck place (refused f)
+  reads_by r buffer stack (within place) (next t rest) = elim (turn buffer place t) [
     | stops ↦ stuck place (next t rest)
-    | passes other ↦ reads buffer stack (within other) rest
-    | says kind ↦ gives (event_at kind t) (reads buffer (stack_after kind stack) (stage_after kind stack) rest)
-    | says_scalar ↦ gives (scalar_event buffer t) (reads buffer stack (after_value stack) rest)
-    | names ↦ reads_colon buffer stack t rest
+    | passes other ↦ reads_by r buffer stack (within (led r other)) rest
+    | says kind ↦ gives (event_at kind t) (reads_by r buffer (stack_after kind stack) (stage_after kind stack) rest)
+    | says_scalar ↦ gives (scalar_event buffer t) (reads_by r buffer stack (after_value stack) rest)
+    | names ↦ reads_colon_by r buffer stack t rest
   ]
 
   -- the same after a key
-  pub reads_colon : List ℕ → List ContainerKind → Token → Tokens → Future
-  reads_colon buffer stack key ended = stuck after_key ended
-  reads_colon buffer stack key (refused f) = stuck after_key (refused f)
-  reads_colon buffer stack key (next mark rest) = elim (goes_on after_key mark.kind) [
+  pub reads_colon_by : Rules → List ℕ → List ContainerKind → Token → Tokens → Future
+  reads_colon_by r buffer stack key ended = stuck after_key ended
+  reads_colon_by r buffer stack key (refused f) = stuck after_key (refused f)
+  reads_colon_by r buffer stack key (next mark rest) = elim (goes_on after_key mark.kind) [
     | false ↦ stuck after_key (next mark rest)
-    | true ↦ gives (key_event buffer key mark) (reads buffer stack (within after_colon) rest)
+    | true ↦ gives (key_event buffer key mark) (reads_by r buffer stack (within after_colon) rest)
   ]
+
+-- the same by lenient rules
+abbrev pub reads : List ℕ → List ContainerKind → Stage → Tokens → Future
+reads = reads_by lenient_rules
+
+abbrev pub reads_colon : List ℕ → List ContainerKind → Token → Tokens → Future
+reads_colon = reads_colon_by lenient_rules

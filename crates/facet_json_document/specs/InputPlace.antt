@@ -2,10 +2,10 @@
 use Rattle.std.specs.Prelude.{ℕ, List, []}
 use Rattle.facet_format.specs.Span.{Span, stop, span_at}
 use Rattle.facet_format.specs.Event.{ContainerKind, Passed}
-use Rattle.facet_json_token.specs.Tokens.{tokens_from}
-use Rattle.facet_json_document.specs.Language.{Language, gaps}
+use Rattle.facet_json_document.specs.Language.{Language, rules}
 use Rattle.facet_json_document.specs.Place.{root}
-use Rattle.facet_json_document.specs.Future.{Future, Stage, within, reads, stack_after, stage_after}
+use Rattle.facet_json_document.specs.StrictTokens.{tokens_in}
+use Rattle.facet_json_document.specs.Future.{Future, Stage, within, reads_by, stack_after, stage_after}
 
 pub record Standing : Type 0 where
   -- the last token that an event passed: the tokens go on at its end
@@ -24,4 +24,4 @@ past p s = record { last = p.last; stack = stack_after p.event.kind s.stack; sta
 
 -- what is given out from the standing on
 abbrev pub future_at : List ℕ → Language → Standing → Future
-future_at buffer language s = reads buffer s.stack s.stage (tokens_from buffer (gaps language) (stop s.last))
+future_at buffer language s = reads_by (rules language) buffer s.stack s.stage (tokens_in language buffer (stop s.last))

@@ -13,6 +13,8 @@ pub mod Refusal
 pub mod Run
 pub mod RunLaws
 pub mod StandsOn
+pub mod StrictDocument
+pub mod StrictTokens
 pub mod Text
 pub mod TextLaws
 pub mod Tree

@@ -7,6 +7,7 @@ use Rattle.facet_format.specs.Event as event
 use Rattle.facet_format.specs.Complaint.{Complaint, unexpected_char, unexpected_eof, unexpected_token}
 use Rattle.facet_json_token.specs.Token.{Kind, FaultKind}
 use Rattle.facet_json_token.specs.Token as token
+use Rattle.facet_json_document.specs.Language.{Rules, lenient_rules, strict_rules}
 use Rattle.facet_json_document.specs.Node.{is_scalar, is_string}
 
 -- where no value has begun yet, or what stands before, within the innermost open container
@@ -20,6 +21,11 @@ pub data Place : Type 0 where
   -- after `[`, or after a comma in an array
   before_item : Place
   after_item : Place
+  -- after a comma in an object, and in an array, where none may stand before a closing bracket
+  next_key : Place
+  next_item : Place
+  -- behind the root, where nothing may stand
+  after_root : Place
 
 -- what a token is to a document at a place
 pub data Turn : Type 0 where
@@ -52,6 +58,8 @@ place_turn before_item token.array_end = says event.sequence_end
 place_turn before_item kind = value_turn kind
 place_turn after_item token.comma = passes before_item
 place_turn after_item token.array_end = says event.sequence_end
+place_turn next_key kind = cond (is_string kind) names stops
+place_turn next_item kind = value_turn kind
 place_turn _ _ = stops
 
 abbrev pub leads_on : Turn → Bool
@@ -61,6 +69,13 @@ leads_on _ = true
 -- whether a document may go on at the place with such a token
 abbrev pub goes_on : Place → Kind → Bool
 goes_on place kind = leads_on (place_turn place kind)
+
+-- the place that a separator leads to, where the place is this one in a lenient document
+abbrev pub led : Rules → Place → Place
+led lenient_rules place = place
+led strict_rules before_key = next_key
+led strict_rules before_item = next_item
+led strict_rules place = place
 
 -- ---- refusals
 
@@ -102,6 +117,9 @@ expected_at after_colon kind = codes "value"
 expected_at after_member kind = codes "',' or '}'"
 expected_at before_item kind = expected_item kind
 expected_at after_item kind = codes "',' or ']'"
+expected_at next_key kind = codes "field name"
+expected_at next_item kind = codes "value"
+expected_at after_root kind = codes "end of input"
 
 -- the complaint at the end of the input
 abbrev pub complaint_at_end : Place → Complaint
@@ -112,6 +130,9 @@ complaint_at_end after_colon = unexpected_eof (codes "value")
 complaint_at_end after_member = unexpected_eof (codes "',' or '}'")
 complaint_at_end before_item = unexpected_eof (codes "value or ']'")
 complaint_at_end after_item = unexpected_eof (codes "',' or ']'")
+complaint_at_end next_key = unexpected_eof (codes "field name")
+complaint_at_end next_item = unexpected_eof (codes "value")
+complaint_at_end after_root = unexpected_eof (codes "end of input")
 
 -- the complaint of a fault
 abbrev pub complaint_of_fault : FaultKind → Complaint

@@ -6,9 +6,9 @@ use Rattle.facet_format.specs.Part.{Part, value, broken, key, closing, nothing}
 use Rattle.facet_format.specs.Span.{Span, span_at, stop}
 use Rattle.facet_json_token.specs.Token.{Kind, Token, Fault, number}
 use Rattle.facet_json_token.specs.Tokens.{Tokens, ended, refused, next, tokens_from}
-use Rattle.facet_json_document.specs.Language.{Language, gaps}
+use Rattle.facet_json_document.specs.Language.{Language, gaps, Rules, rules}
 use Rattle.facet_json_document.specs.Node.{is_scalar}
-use Rattle.facet_json_document.specs.Place.{Place, after_key, after_colon, Turn, passes, says, says_scalar, names, place_turn, goes_on, kind_name, expected_at, complaint_at_end, complaint_of_fault}
+use Rattle.facet_json_document.specs.Place.{Place, after_key, after_colon, Turn, passes, says, says_scalar, names, place_turn, goes_on, led, kind_name, expected_at, complaint_at_end, complaint_of_fault}
 use Rattle.facet_json_document.specs.Run.{Run, BreaksOff}
 use Rattle.facet_json_document.specs.Future.{Stage, within, over, after_value, around}
 use Rattle.facet_json_document.specs.InputPlace.{Standing}
@@ -59,27 +59,27 @@ pub data HasColon (buffer : List ℕ) (stack : List ContainerKind) : Tokens → 
   colon_missing : (ts : Tokens) (r : Refusal) → IsStuckUnread buffer after_key ts r → HasColon buffer stack ts (Err r)
 
 -- At a place within these containers the tokens begin with this part, after separators.
-pub data PartFrom (buffer : List ℕ) (stack : List ContainerKind) : Place → Tokens → Part Standing → Type 0 where
+pub data PartFrom (buffer : List ℕ) (by : Rules) (stack : List ContainerKind) : Place → Tokens → Part Standing → Type 0 where
   separator : (place other : Place) (t : Token) (rest : Tokens) (part : Part Standing) → place_turn place t.kind ≡ passes other →
-      PartFrom buffer stack other rest part → PartFrom buffer stack place (next t rest) part
+      PartFrom buffer by stack (led by other) rest part → PartFrom buffer by stack place (next t rest) part
   -- a run, which ends with the last token
   a_value : (place : Place) (t last : Token) (rest others : Tokens) → begins_value (place_turn place t.kind) ≡ true →
       Run (next t rest) last others →
-      PartFrom buffer stack place (next t rest)
+      PartFrom buffer by stack place (next t rest)
       (value (not (is_scalar t.kind)) t.span.offset (stop last.span) (past_value last.span stack))
   a_broken_value : (place : Place) (t : Token) (rest : Tokens) (r : Refusal) → begins_value (place_turn place t.kind) ≡ true →
-      BreaksOff buffer (next t rest) r → PartFrom buffer stack place (next t rest) (broken r)
+      BreaksOff buffer (next t rest) r → PartFrom buffer by stack place (next t rest) (broken r)
   a_key : (place : Place) (t : Token) (rest : Tokens) (result : Result Standing Refusal) → place_turn place t.kind ≡ names →
-      HasColon buffer stack rest result → PartFrom buffer stack place (next t rest) (key t.span.offset result)
+      HasColon buffer stack rest result → PartFrom buffer by stack place (next t rest) (key t.span.offset result)
   a_closing : (place : Place) (t : Token) (rest : Tokens) → closes_container (place_turn place t.kind) ≡ true →
-      PartFrom buffer stack place (next t rest) (closing t.span.offset (past_value t.span (around stack)))
+      PartFrom buffer by stack place (next t rest) (closing t.span.offset (past_value t.span (around stack)))
   none_of_them : (place : Place) (ts : Tokens) (r : Refusal) → IsStuckUnread buffer place ts r →
-      PartFrom buffer stack place ts (nothing r)
+      PartFrom buffer by stack place ts (nothing r)
 
 -- after the root, no value
 abbrev pub PartIn : List ℕ → Language → Standing → Stage → Part Standing → Type 0
 PartIn buffer language s over part = part ≡ nothing (refusal_at (unexpected_eof (codes "value")) (span_at (stop s.last) 0))
-PartIn buffer language s (within place) part = PartFrom buffer s.stack place (tokens_from buffer (gaps language) (stop s.last)) part
+PartIn buffer language s (within place) part = PartFrom buffer (rules language) s.stack place (tokens_from buffer (gaps language) (stop s.last)) part
 
 -- What stands at a place of the input.
 abbrev pub PartAt : List ℕ → Language → Standing → Part Standing → Type 0

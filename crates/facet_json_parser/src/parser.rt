@@ -9,10 +9,10 @@ ghost use Rattle.facet_format.specs.Kept.{found, without};
 ghost use Rattle.facet_format.specs.Standing.{IsStep};
 ghost use Rattle.facet_format.specs.Views.{event_of, parse_refusal, answer_of_event, answer_of_events, answer_of_skip, answer_of_capture, answer_of_save, answer_of_span};
 ghost use Rattle.facet_json_token.specs.Gap.{plain, jsonc};
-ghost use Rattle.facet_json_token.specs.Views.{mode_of};
+ghost use Rattle.facet_json_document.specs.Language.{strict};
 ghost use Rattle.facet_json_document.specs.Future.{finished};
-ghost use Rattle.facet_json_place.specs.Views.{refused_of};
-ghost use Rattle.facet_json_protocol.specs.Now.{fresh, span_of, ahead, future_of, SameInput, GoesOn, StandsAt};
+ghost use Rattle.facet_json_place.specs.Views.{language_of, refused_of};
+ghost use Rattle.facet_json_protocol.specs.Now.{fresh, fresh_in, span_of, ahead, future_of, SameInput, GoesOn, StandsAt};
 ghost use Rattle.facet_json_protocol.specs.Move.{Moves, with_kept};
 ghost use Rattle.facet_json_protocol.specs.Next.{PassesNext, ShowsNext, PassesAll, IsOver};
 ghost use Rattle.facet_json_protocol.specs.Within.{RefusalWithin, NowWithin, AnswerWithin};
@@ -87,7 +87,7 @@ impl<'de> JsonParser<'de> {
     pub fn new(alloc: Global, input: &'de [u8]) -> JsonParser<'de>
         ensures { result ≡ fresh input.now plain }
     {
-        JsonParser::in_mode(alloc, input, Mode::Plain, Trust::Nothing)
+        JsonParser::in_language(alloc, input, Language::Lenient(Mode::Plain), Trust::Nothing)
     }
 
     /// A parser of a document in which comments may stand wherever white space may: `//` to the line's end, and `/*` to
@@ -95,7 +95,7 @@ impl<'de> JsonParser<'de> {
     pub fn new_jsonc(alloc: Global, input: &'de [u8]) -> JsonParser<'de>
         ensures { result ≡ fresh input.now jsonc }
     {
-        JsonParser::in_mode(alloc, input, Mode::Jsonc, Trust::Nothing)
+        JsonParser::in_language(alloc, input, Language::Lenient(Mode::Jsonc), Trust::Nothing)
     }
 
     /// The parser that `new` makes, for a caller that knows the input to be UTF-8, as the bytes of a `str` are. It
@@ -104,7 +104,7 @@ impl<'de> JsonParser<'de> {
         requires utf8 { IsUtf8 input.now }
         ensures { result ≡ fresh input.now plain }
     {
-        JsonParser::in_mode(alloc, input, Mode::Plain, Trust::Utf8)
+        JsonParser::in_language(alloc, input, Language::Lenient(Mode::Plain), Trust::Utf8)
     }
 
     /// The parser that `new_jsonc` makes, for a caller that knows the input to be UTF-8, as the bytes of a `str` are. It
@@ -113,18 +113,40 @@ impl<'de> JsonParser<'de> {
         requires utf8 { IsUtf8 input.now }
         ensures { result ≡ fresh input.now jsonc }
     {
-        JsonParser::in_mode(alloc, input, Mode::Jsonc, Trust::Utf8)
+        JsonParser::in_language(alloc, input, Language::Lenient(Mode::Jsonc), Trust::Utf8)
+    }
+
+    /// A parser of a text that is one of RFC 8259 alone: no comma trails, strings and numbers are as the RFC has them, and nothing but white
+    /// space stands behind the root. It does not allocate.
+    pub fn new_strict(alloc: Global, input: &'de [u8]) -> JsonParser<'de>
+        ensures { result ≡ fresh_in input.now (strict plain) }
+    {
+        JsonParser::in_language(alloc, input, Language::Strict(Mode::Plain), Trust::Nothing)
+    }
+
+    /// The parser that `new_strict` makes, for a caller that knows the input to be UTF-8, as the bytes of a `str` are. It
+    /// answers as the one that checks its strings.
+    pub fn new_strict_trusted(alloc: Global, input: &'de [u8]) -> JsonParser<'de>
+        requires utf8 { IsUtf8 input.now }
+        ensures { result ≡ fresh_in input.now (strict plain) }
+    {
+        JsonParser::in_language(alloc, input, Language::Strict(Mode::Plain), Trust::Utf8)
     }
 
     /// A parser before the input.
-    fn in_mode(alloc: Global, input: &'de [u8], mode: Mode, trust: Trust) -> JsonParser<'de>
+    fn in_language(
+        alloc: Global,
+        input: &'de [u8],
+        language: Language,
+        trust: Trust,
+    ) -> JsonParser<'de>
         requires { trust ≡ Trust.Utf8 → IsUtf8 input.now }
-        ensures { result ≡ fresh input.now (mode_of mode) }
+        ensures { result ≡ fresh_in input.now (language_of language) }
     {
         JsonParser {
             alloc,
             input,
-            language: Language::Lenient(mode),
+            language,
             trust,
             standing: Standing::new(alloc),
             refusal: None,

@@ -1,12 +1,18 @@
 -- A scan says by one of six texts inside of what its input ends.
 use Rattle.std.proofs.Common.{◌≡◌, ◌+◌, ℕ, suc, Bool, true, false, cond, ◌==◌, List, [], ◌∷◌, length, drop, Option, Some, None, refl, subst}
-use Rattle.std.specs.Prelude.{slice_get}
+use Rattle.std.specs.Prelude.{slice_get, slice_range, get_or}
+use Rattle.std.specs.Option.{option_map}
 use Rattle.facet_format.specs.Bytes.{star, slash}
 use Rattle.facet_format.specs.Number.{Hint, parts, parts_len, parts_hint, is_bare}
 use Rattle.facet_json_token.specs.Gap.{Mode, plain, jsonc}
-use Rattle.facet_json_token.specs.Token.{Kind, FaultKind, unexpected_char, unexpected_eof, Fault, in_literal, in_block_comment}
+use Rattle.facet_json_token.specs.Token.{Token, Kind, object_start, object_end, array_start, array_end, colon, comma, null, true_literal, false_literal, string, number, FaultKind, unexpected_char, unexpected_eof, Fault, in_literal, in_block_comment}
 use Rattle.facet_json_token.specs.Cut.{Cut, fault, token_at, fault_at, Start, punctuation, letter, opens_text, opens_number, opens_comment, opens_nothing, start_of, common_len, content_len, cut_text, cut_number, cut_slash, cut_by, cut_here, past_gap, cut}
 use Rattle.facet_json_place.specs.declared.refusal.Inside.TheVariants as insides
+use Rattle.facet_json_strict.specs.RfcNumberTest.{is_rfc_number}
+use Rattle.facet_json_strict.specs.Strict.{wrong_at, strict_fault_of}
+use Rattle.facet_json_document.specs.Language.{Language, lenient, strict}
+use Rattle.facet_json_document.specs.StrictTokens.{cut_in}
+use Rattle.facet_json_document.proofs.TokensIn.{IsStrictFault, is_cut, of_token, strict_fault-is}
 use Rattle.facet_json_place.specs.Views.{IsInside}
 
 -- A fault's text, if there is one, is such a text.
@@ -64,3 +70,38 @@ pub cut-inside : (buffer : List ℕ) (position : ℕ) (mode : Mode) (f : Fault) 
 unfolding cut
 cut-inside buffer position mode f e =
     subst CutInside e (here_inside mode (past_gap buffer position mode) (drop (past_gap buffer position mode) buffer))
+
+-- So it is of a language: RFC 8259's own faults are characters.
+strict-inside : (buffer : List ℕ) (t : Token) (k : Kind) (f : Fault) → strict_fault_of buffer t k ≡ Some f → KindInside f.kind
+strict-inside buffer t (string start finish has_escapes) f e = by (wrong_at false (slice_range buffer start finish)) e
+  where
+    by : (o : Option ℕ) → option_map (λ n. record { kind = unexpected_char (get_or (slice_range buffer start finish) n 0); span = record { offset = start + n; len = 1 } }) o ≡ Some f → KindInside f.kind
+    by None g = cc
+    by (Some n) g =
+        let is : record { kind = unexpected_char (get_or (slice_range buffer start finish) n 0); span = record { offset = start + n; len = 1 } } ≡ f = cc in
+        subst (λ (x : Fault). KindInside x.kind) is tt
+strict-inside buffer t (number start finish hint) f e = by (is_rfc_number (slice_range buffer start finish)) e
+  where
+    by : (b : Bool) → cond b None (Some (record { kind = unexpected_char 0x3f; span = t.span })) ≡ Some f → KindInside f.kind
+    by true g = cc
+    by false g =
+        let is : record { kind = unexpected_char 0x3f; span = t.span } ≡ f = cc in
+        subst (λ (x : Fault). KindInside x.kind) is tt
+strict-inside buffer t object_start f e = cc
+strict-inside buffer t object_end f e = cc
+strict-inside buffer t array_start f e = cc
+strict-inside buffer t array_end f e = cc
+strict-inside buffer t colon f e = cc
+strict-inside buffer t comma f e = cc
+strict-inside buffer t null f e = cc
+strict-inside buffer t true_literal f e = cc
+strict-inside buffer t false_literal f e = cc
+
+strict_by : (buffer : List ℕ) (position : ℕ) (mode : Mode) (f : Fault) (c : Cut) → cut buffer position mode ≡ c → IsStrictFault buffer f c → KindInside f.kind
+strict_by buffer position mode f _ e is_cut = cut-inside buffer position mode f e
+strict_by buffer position mode f _ e (of_token t a) = strict-inside buffer t t.kind f a
+
+pub cut_in-inside : (language : Language) (buffer : List ℕ) (position : ℕ) (f : Fault) → cut_in language buffer position ≡ fault f → KindInside f.kind
+cut_in-inside (lenient mode) buffer position f e = cut-inside buffer position mode f e
+cut_in-inside (strict mode) buffer position f e =
+    strict_by buffer position mode f (cut buffer position mode) refl (strict_fault-is buffer (cut buffer position mode) f e)

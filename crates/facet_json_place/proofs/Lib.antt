@@ -1,4 +1,5 @@
 pub mod InsideTexts
+pub mod Judged
 pub mod PackedKinds
 pub mod ScannedTokens
 pub mod StoppingTokens

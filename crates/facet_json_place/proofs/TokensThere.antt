@@ -11,6 +11,9 @@ use Rattle.facet_json_token.proofs.CutBounds.{CutFits, TokenFits, here_fits}
 use Rattle.facet_json_token.proofs.FirstBytes.{cut_here-by, cut_here-word, cut_here-number, cut_word-is}
 use Rattle.facet_json_token.proofs.NumberCuts.{cut_number-parts}
 use Rattle.facet_json_token.proofs.TokensSteps.{tokens_from-token}
+use Rattle.facet_json_document.specs.Language.{Language, gaps}
+use Rattle.facet_json_document.specs.StrictTokens.{tokens_in, Allows}
+use Rattle.facet_json_document.proofs.TokensIn.{tokens_in-allowed}
 
 -- One byte of punctuation is cut as its token.
 pub mark-cut : (mode : Mode) (buffer : List ℕ) (at b : ℕ) (kind : Kind) → slice_get buffer at ≡ Some b → start_of b ≡ punctuation kind →
@@ -49,3 +52,11 @@ pub number-cut : (mode : Mode) (buffer : List ℕ) (at b len : ℕ) (q : Parts) 
     cut_here mode at (drop at buffer) ≡ token_at (token.number at (at + len) hint) at len
 number-cut mode buffer at b len q hint here begins same long what more =
     sym (cut_number-parts q (parts (drop at buffer)) (drop (at + 1) buffer) hint at len same long what more ∙ cut_here-number mode buffer at b here begins)
+
+-- So they are of a language, where the token is allowed.
+pub tokens_in-past_gap : (language : Language) (buffer : List ℕ) (from at len : ℕ) (kind : Kind) → from ≤ length buffer →
+    at ≡ past_gap buffer from (gaps language) → cut_here (gaps language) at (drop at buffer) ≡ token_at kind at len →
+    Allows language buffer (record { kind = kind; span = span_at at len }) →
+    tokens_in language buffer from ≡ next (record { kind = kind; span = span_at at len }) (tokens_in language buffer (stop (span_at at len)))
+tokens_in-past_gap language buffer from at len kind fits gap is allowed =
+    tokens_in-allowed language buffer from (record { kind = kind; span = span_at at len }) fits (past_gap-cut buffer (gaps language) from at gap ∙ is) allowed

@@ -1,5 +1,5 @@
 -- What the types of the code stand for in the definitions. The one file of the definitions that names types of the code.
-use Rattle.std.specs.Prelude.{◌≡◌, ℕ, Bool, true, false, List, [], ◌∷◌, Option, Some, None, codes}
+use Rattle.std.specs.Prelude.{◌≡◌, ◌≤◌, ◌+◌, length, Result, Ok, Err, ℕ, Bool, true, false, List, [], ◌∷◌, Option, Some, None, codes}
 use Rattle.facet_format.specs.declared.event.ContainerKind.{ContainerKind as RustContainerKind}
 use Rattle.facet_format.specs.declared.event.ContainerKind.TheVariants as containers
 use Rattle.facet_json_token.specs.declared.token.Token.{Token as RustToken}
@@ -28,9 +28,13 @@ use Rattle.facet_format.specs.Complaint as complaint
 use Rattle.facet_format.specs.Event.{ContainerKind, object, array, EventKind}
 use Rattle.facet_format.specs.Event as event
 use Rattle.facet_format.specs.Views.{span_of, container_of}
-use Rattle.facet_json_token.specs.Token.{Kind, in_string, in_number, in_literal, in_block_comment}
-use Rattle.facet_json_token.specs.Views.{mode_of}
-use Rattle.facet_json_document.specs.Language.{Language, lenient}
+use Rattle.facet_format.specs.declared.span.Span.{Span as RustSpan}
+use Rattle.facet_json_token.specs.declared.token.ScanError.{ScanError}
+use Rattle.facet_json_token.specs.Cut.{fault}
+use Rattle.facet_json_strict.specs.Strict.{strict_fault}
+use Rattle.facet_json_token.specs.Token.{Token, Fault, Kind, in_string, in_number, in_literal, in_block_comment}
+use Rattle.facet_json_token.specs.Views.{mode_of, fault_answer}
+use Rattle.facet_json_document.specs.Language.{Language, lenient, strict}
 use Rattle.facet_json_document.specs.Place.{Place, Turn, stops, passes, says, says_scalar, place_turn}
 use Rattle.facet_json_document.specs.Place as place
 
@@ -46,6 +50,8 @@ expected_text expected.ValueOrArrayEnd = codes "value or ']'"
 expected_text expected.CommaOrArrayEnd = codes "',' or ']'"
 expected_text expected.ObjectEnd = codes "'}'"
 expected_text expected.ArrayEnd = codes "']'"
+expected_text expected.FieldName = codes "field name"
+expected_text expected.EndOfInput = codes "end of input"
 
 -- how a refusal calls a token
 abbrev pub name_text : Name → List ℕ
@@ -110,6 +116,7 @@ refused_of r = complaint.refusal_at (why_of r.why) (span_of r.span)
 
 abbrev pub language_of : RustLanguage → Language
 language_of (languages.Lenient mode) = lenient (mode_of mode)
+language_of (languages.Strict mode) = strict (mode_of mode)
 
 -- ---- places
 
@@ -120,6 +127,9 @@ place_of places.AfterColon = place.after_colon
 place_of places.AfterMember = place.after_member
 place_of places.BeforeItem = place.before_item
 place_of places.AfterItem = place.after_item
+place_of places.NextKey = place.next_key
+place_of places.NextItem = place.next_item
+place_of places.AfterRoot = place.after_root
 
 -- the event of a bracket that opens a container
 abbrev pub opening : RustContainerKind → EventKind
@@ -153,3 +163,16 @@ is_text _ = false
 abbrev pub innermost_of : Option RustContainerKind → List ContainerKind → Type 0
 innermost_of None stack = stack ≡ []
 innermost_of (Some kind) stack = (others : List ContainerKind) × (stack ≡ container_of kind ∷ others)
+
+-- ---- what RFC 8259 has
+
+-- The slices of a string or a number stand there: a number's is all of its bytes.
+abbrev pub HasSlices : List ℕ → RustSpan → RustToken → Type 0
+HasSlices buffer s (code.String start finish has_escapes) = (start ≤ finish) × (finish ≤ length buffer)
+HasSlices buffer s (code.Number start finish h) = (start ≤ finish) × (finish ≤ length buffer) × (start ≡ s.offset) × (finish ≡ s.offset + s.len)
+HasSlices buffer s _ = Unit {0}
+
+-- The token is allowed, or refused for what is wrong with it.
+abbrev pub IsJudged : List ℕ → Token → Result (Unit {0}) ScanError → Type 0
+IsJudged buffer t (Ok nothing) = strict_fault buffer t ≡ None
+IsJudged buffer t (Err e) = (f : Fault) × (strict_fault buffer t ≡ Some f) × (fault_answer e.span e.kind ≡ Some (fault f))

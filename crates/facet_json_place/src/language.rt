@@ -1,17 +1,27 @@
 //! The language that a parser reads.
 
-ghost use Rattle.std.specs.Prelude.{◌≡◌};
-ghost use Rattle.facet_json_token.specs.Views.{mode_of};
-ghost use Rattle.facet_json_document.specs.Language.{gaps};
-ghost use Rattle.facet_json_place.specs.Views.{language_of};
+ghost use Rattle.std.specs.Prelude.{◌≡◌, ◌≤◌, Bool, true, Some, None, length, IfOk, IfErr, IfSome, IsSome, MatchResult};
+ghost use Rattle.facet_format.specs.Number.{Hint};
+ghost use Rattle.facet_format.specs.Span.{Span as SpecSpan, span_at};
+ghost use Rattle.facet_format.specs.Views.{span_of};
+ghost use Rattle.facet_json_token.specs.Token.{number, string};
+ghost use Rattle.facet_json_token.specs.Views.{mode_of, kind_of, scanned};
+ghost use Rattle.facet_json_document.specs.Language.{strict, gaps, rules};
+ghost use Rattle.facet_json_document.specs.Place.{led};
+ghost use Rattle.facet_json_document.specs.StrictTokens.{Allows, cut_in};
+ghost use Rattle.facet_json_place.specs.Views.{language_of, place_of, HasSlices, IsJudged};
 
-use facet_json_token::Mode;
+use crate::place::Place;
+use facet_json_strict::{check_number_strict, check_string_strict};
+use facet_json_token::{Mode, ScanError, ScanResult, SpannedToken, Token, cut};
 
-/// What a parser takes as a document: more than what may stand between its tokens, which is the scanner's mode.
+/// What a parser takes as a document. What may stand between its tokens is the scanner's mode.
 #[derive(Debug, Clone, Copy, PartialEq, Eq)]
 pub enum Language {
-    /// RFC 8259, and commas that may trail, with these gaps between tokens.
+    /// The lenient readings of RFC 8259, with these gaps between tokens.
     Lenient(Mode),
+    /// RFC 8259 alone, but for these gaps between tokens.
+    Strict(Mode),
 }
 
 impl Language {
@@ -22,6 +32,91 @@ impl Language {
     {
         match self {
             Language::Lenient(mode) => mode,
+            Language::Strict(mode) => mode,
         }
+    }
+
+    /// The place that a separator leads to, which leads to this one in a lenient document.
+    #[inline(always)]
+    pub fn led(self, place: Place) -> Place
+        ensures { place_of result ≡ led (rules (language_of self)) (place_of place) }
+    {
+        match self {
+            Language::Lenient(_) => place,
+            Language::Strict(_) => match place {
+                Place::BeforeKey => Place::NextKey,
+                Place::BeforeItem => Place::NextItem,
+                other => other,
+            },
+        }
+    }
+
+    /// Whether a text may stand there: where RFC 8259 alone is read, not each one may.
+    #[inline(always)]
+    pub fn allows_text(self, buffer: &[u8], start: usize, end: usize) -> bool
+        requires in_order { start ≤ end }
+        requires within { end ≤ length buffer.now }
+        ensures { result ≡ true → (s : SpecSpan) (mark : Bool) → Allows (language_of self) buffer.now (record { kind = string start end mark; span = s }) }
+    {
+        match self {
+            Language::Lenient(_) => true,
+            Language::Strict(_) => check_string_strict(buffer, start, end).is_ok(),
+        }
+    }
+
+    /// Whether a number may stand there.
+    #[inline(always)]
+    pub fn allows_number(self, buffer: &[u8], start: usize, end: usize) -> bool
+        requires in_order { start ≤ end }
+        requires within { end ≤ length buffer.now }
+        ensures { result ≡ true → (s : SpecSpan) (hint : Hint) → Allows (language_of self) buffer.now (record { kind = number start end hint; span = s }) }
+    {
+        match self {
+            Language::Lenient(_) => true,
+            Language::Strict(_) => match check_number_strict(buffer, start, end) {
+                Ok(()) => true,
+                Err(_) => false,
+            },
+        }
+    }
+
+    /// What stands at `position`: where RFC 8259 alone is read, a string or a number that it has not is refused.
+    #[inline(always)]
+    pub fn cut(self, buffer: &[u8], position: usize) -> ScanResult
+        requires { position ≤ length buffer.now }
+        ensures answer { scanned result ≡ Some (cut_in (language_of self) buffer.now position) }
+        ensures end { IfOk result (λ t. t.token ≡ Token.Eof → span_of t.span ≡ span_at (length buffer.now) 0) }
+    {
+        match self {
+            Language::Lenient(mode) => cut(buffer, position, mode),
+            Language::Strict(mode) => cut_strict(buffer, position, mode),
+        }
+    }
+}
+
+/// The same where strings and numbers are those of RFC 8259 alone.
+#[inline(never)]
+fn cut_strict(buffer: &[u8], position: usize, mode: Mode) -> ScanResult
+    requires { position ≤ length buffer.now }
+    ensures answer { scanned result ≡ Some (cut_in (strict (mode_of mode)) buffer.now position) }
+    ensures end { IfOk result (λ t. t.token ≡ Token.Eof → span_of t.span ≡ span_at (length buffer.now) 0) }
+{
+    let token = cut(buffer, position, mode)?;
+    match judge(buffer, &token) {
+        Ok(()) => Ok(token),
+        Err(error) => Err(error),
+    }
+}
+
+/// Whether RFC 8259 has a token, as far as it is told before it is decoded.
+fn judge(buffer: &[u8], token: &SpannedToken) -> Result<(), ScanError>
+    requires { HasSlices buffer.now token.now.span token.now.token }
+    ensures judged { IfSome (kind_of token.now.token) (λ k. IsJudged buffer.now (record { kind = k; span = span_of token.now.span }) result) }
+    ensures some { IfErr result (λ _. IsSome (kind_of token.now.token)) }
+{
+    match token.token {
+        Token::String { start, end, .. } => check_string_strict(buffer, start, end),
+        Token::Number { start, end, .. } => check_number_strict(buffer, start, end),
+        _ => Ok(()),
     }
 }

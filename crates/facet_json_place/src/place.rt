@@ -3,7 +3,7 @@
 ghost use Rattle.std.specs.Prelude.{◌≡◌, true, Some};
 ghost use Rattle.facet_json_token.specs.Token.{Kind};
 ghost use Rattle.facet_json_token.specs.Views.{kind_of};
-ghost use Rattle.facet_json_document.specs.Place.{root, after_colon, before_key, after_member, before_item, after_item, complaint_at_end, expected_at};
+ghost use Rattle.facet_json_document.specs.Place.{root, after_colon, before_key, after_member, before_item, after_item, next_key, next_item, complaint_at_end, expected_at};
 ghost use Rattle.facet_json_place.specs.Views.{place_of, turn_of, turn_by, expected_text, why_of, is_text};
 
 use crate::refusal::{Expected, Why};
@@ -26,6 +26,12 @@ pub enum Place {
     BeforeItem,
     /// After an item.
     AfterItem,
+    /// After a comma in an object, where none may trail.
+    NextKey,
+    /// After a comma in an array, where none may trail.
+    NextItem,
+    /// Behind the root, where nothing may stand.
+    AfterRoot,
 }
 
 /// What follows from a token at a place.
@@ -51,11 +57,13 @@ impl Place {
         ensures { why_of result ≡ complaint_at_end (place_of self) }
     {
         Why::End(match self {
-            Place::Root | Place::AfterColon => Expected::Value,
+            Place::Root | Place::AfterColon | Place::NextItem => Expected::Value,
             Place::BeforeKey => Expected::FieldNameOrEnd,
             Place::AfterMember => Expected::CommaOrObjectEnd,
             Place::BeforeItem => Expected::ValueOrArrayEnd,
             Place::AfterItem => Expected::CommaOrArrayEnd,
+            Place::NextKey => Expected::FieldName,
+            Place::AfterRoot => Expected::EndOfInput,
         })
     }
 
@@ -64,11 +72,13 @@ impl Place {
         ensures { (kind : Kind) → kind_of token.now ≡ Some kind → expected_text result ≡ expected_at (place_of self) kind }
     {
         match self {
-            Place::Root | Place::AfterColon => Expected::Value,
+            Place::Root | Place::AfterColon | Place::NextItem => Expected::Value,
             Place::BeforeKey => Expected::FieldNameOrEnd,
             Place::AfterMember => Expected::CommaOrObjectEnd,
             Place::BeforeItem => expected_item(token),
             Place::AfterItem => Expected::CommaOrArrayEnd,
+            Place::NextKey => Expected::FieldName,
+            Place::AfterRoot => Expected::EndOfInput,
         }
     }
 
@@ -78,11 +88,13 @@ impl Place {
         ensures names { result ≡ Turn.Names → is_text token.now ≡ true }
     {
         match self {
-            Place::Root | Place::AfterColon => value_turn(token),
+            Place::Root | Place::AfterColon | Place::NextItem => value_turn(token),
             Place::BeforeKey => key_turn(token),
             Place::AfterMember => member_turn(token),
             Place::BeforeItem => first_item_turn(token),
             Place::AfterItem => item_turn(token),
+            Place::NextKey => next_key_turn(token),
+            Place::AfterRoot => Turn::Stops,
         }
     }
 }
@@ -102,6 +114,7 @@ fn expected_item(token: &Token) -> Expected
 fn value_turn(token: &Token) -> Turn
     ensures root { turn_of result ≡ turn_by root (kind_of token.now) }
     ensures colon { turn_of result ≡ turn_by after_colon (kind_of token.now) }
+    ensures item { turn_of result ≡ turn_by next_item (kind_of token.now) }
     ensures names { result ≡ Turn.Names → is_text token.now ≡ true }
 {
     match token {
@@ -123,6 +136,17 @@ fn key_turn(token: &Token) -> Turn
 {
     match token {
         Token::ObjectEnd => Turn::Closes(ContainerKind::Object),
+        Token::String { .. } => Turn::Names,
+        _ => Turn::Stops,
+    }
+}
+
+/// The turn of a token after a comma in an object, where none may trail.
+fn next_key_turn(token: &Token) -> Turn
+    ensures turn { turn_of result ≡ turn_by next_key (kind_of token.now) }
+    ensures names { result ≡ Turn.Names → is_text token.now ≡ true }
+{
+    match token {
         Token::String { .. } => Turn::Names,
         _ => Turn::Stops,
     }

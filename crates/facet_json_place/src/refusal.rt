@@ -29,6 +29,10 @@ pub enum Expected {
     ObjectEnd,
     /// The end of an array.
     ArrayEnd,
+    /// A key.
+    FieldName,
+    /// The end of the input.
+    EndOfInput,
 }
 
 impl Expected {
@@ -45,6 +49,8 @@ impl Expected {
             Expected::CommaOrArrayEnd => "',' or ']'",
             Expected::ObjectEnd => "'}'",
             Expected::ArrayEnd => "']'",
+            Expected::FieldName => "field name",
+            Expected::EndOfInput => "end of input",
         }
     }
 }

@@ -5,4 +5,5 @@ pub mod PrefixGivesWalk
 pub mod RefusedHasNone
 pub mod RefusedOnce
 pub mod SomeRefusal
+pub mod StrictRoot
 pub mod ValueOrPrefix

@@ -5,6 +5,7 @@ use Rattle.std.proofs.lemmas.List.{append-nil}
 use Rattle.facet_json_token.specs.Gap.{Mode}
 use Rattle.facet_json_token.specs.Token.{Token}
 use Rattle.facet_json_token.specs.Tokens.{Tokens, ended, refused, next, tokens}
+use Rattle.facet_json_document.specs.Language.{lenient_rules}
 use Rattle.facet_json_document.specs.Node.{Node, Spells}
 use Rattle.facet_json_document.specs.Tree.{Tree}
 use Rattle.facet_json_document.specs.Meaning.{tree_of}
@@ -14,7 +15,7 @@ use Rattle.facet_json_document.specs.Place.{Place, root, before_key, after_key, 
 use Rattle.facet_format.specs.Event.{ContainerKind, object, array, Passed}
 use Rattle.facet_format.specs.Event as event
 use Rattle.facet_json_document.specs.Walk.{event_at, key_event, walk}
-use Rattle.facet_json_document.specs.Future.{Future, gives, finished, stuck, events_before, Stage, within, over, after_value, stack_after, stage_after, turn, reads, reads_colon}
+use Rattle.facet_json_document.specs.Future.{Future, gives, finished, stuck, events_before, Stage, within, over, after_value, stack_after, stage_after, turn, reads, reads_by, reads_colon, reads_colon_by}
 use Rattle.facet_json_prefix.specs.Begun.{Begun, nothing, whole, in_list, in_object, ListBegun, begins_item, past_item, ObjectBegun, no_key, key_alone, begins_member, past_member, BegunDocument, LongestPrefix}
 use Rattle.facet_json_prefix.specs.EventLaws.{RootComes, document_comes, prefix_comes, InputComes, OneGiven}
 use Rattle.facet_json_document.proofs.WalkComes.{TakesValue, at_root, of_member, of_list, events_before-append, follows, reads-turn, reads-array, reads-object, reads-item_comma, reads-member_comma, reads-key, reads-names, walk-comes, document-comes}
@@ -57,16 +58,16 @@ module _ (buffer : List ℕ) where
       from = at_stage stack (ap (λ s. reads buffer stack s rest) (sym e));
     }
     begun-leads stack (in_list place after here first inner rest events k b) at e =
-        leads_after buffer (event_at (event.sequence_start array) first ∷ []) _ _ events _ here rest (reads-array buffer stack place first inner at k) refl (list-leads stack b)
+        leads_after buffer (event_at (event.sequence_start array) first ∷ []) _ _ events _ here rest (reads-array lenient_rules buffer stack place first inner at k) refl (list-leads stack b)
     begun-leads stack (in_object place after here first inner rest events k b) at e =
-        leads_after buffer (event_at (event.struct_start object) first ∷ []) _ _ events _ here rest (reads-object buffer stack place first inner at k) refl (object-leads stack b)
+        leads_after buffer (event_at (event.struct_start object) first ∷ []) _ _ events _ here rest (reads-object lenient_rules buffer stack place first inner at k) refl (object-leads stack b)
 
     list-leads : (stack : List ContainerKind) {here : Stage} {ts rest : Tokens} {events : List Passed} →
         ListBegun buffer ts events here rest → Leads buffer (reads buffer (array ∷ stack) (within before_item) ts) events here rest
     list-leads stack (begins_item ts rest events here b) = begun-leads (array ∷ stack) b of_list refl
     list-leads stack (past_item ts others rest node value separator events total here s t k b a) =
         leads_after buffer (walk buffer node) _ _ events total here rest
-        (walk-comes buffer value s t (array ∷ stack) before_item of_list ∙ ap (events_before (walk buffer node)) (reads-item_comma buffer (array ∷ stack) separator others k))
+        (walk-comes buffer value s t (array ∷ stack) before_item of_list ∙ ap (events_before (walk buffer node)) (reads-item_comma lenient_rules buffer (array ∷ stack) separator others k))
         a (list-leads stack b)
 
     object-leads : (stack : List ContainerKind) {here : Stage} {ts rest : Tokens} {events : List Passed} →
@@ -75,16 +76,16 @@ module _ (buffer : List ℕ) where
         record { behind = reads buffer (object ∷ stack) (within before_key) ts; comes = refl; from = at_stage (object ∷ stack) refl }
     object-leads stack (key_alone key rest name k n) = record {
       behind = reads_colon buffer (object ∷ stack) key rest;
-      comes = reads-names buffer (object ∷ stack) key rest name k n;
+      comes = reads-names lenient_rules buffer (object ∷ stack) key rest name k n;
       from = at_key (object ∷ stack) key refl refl;
     }
     object-leads stack (begins_member key mark ts rest name events here k n c b) =
-        leads_after buffer (key_event buffer key mark ∷ []) _ _ events _ here rest (reads-key buffer (object ∷ stack) key mark ts name k n c) refl (begun-leads (object ∷ stack) b of_member refl)
+        leads_after buffer (key_event buffer key mark ∷ []) _ _ events _ here rest (reads-key lenient_rules buffer (object ∷ stack) key mark ts name k n c) refl (begun-leads (object ∷ stack) b of_member refl)
     object-leads stack (past_member key mark ts others rest name node value separator events total here k n c s t p b a) =
         leads_after buffer (key_event buffer key mark ∷ walk buffer node) _ _ events total here rest
-        (reads-key buffer (object ∷ stack) key mark ts name k n c
+        (reads-key lenient_rules buffer (object ∷ stack) key mark ts name k n c
         ∙ ap (gives (key_event buffer key mark)) (walk-comes buffer value s t (object ∷ stack) after_colon of_member
-        ∙ ap (events_before (walk buffer node)) (reads-member_comma buffer (object ∷ stack) separator others p)))
+        ∙ ap (events_before (walk buffer node)) (reads-member_comma lenient_rules buffer (object ∷ stack) separator others p)))
         a (object-leads stack b)
 
   -- ---- where nothing comes any more
@@ -107,7 +108,7 @@ module _ (buffer : List ℕ) where
 
   turn-count : (stack : List ContainerKind) (place : Place) (t : Token) (ts : Tokens) (way : Turn) → EndsAmong ts →
       EndsAfterKey ts → (events : List Passed) (here : Place) (rest : Tokens) →
-      follows buffer place t stack ts way ≡ events_before events (stuck here rest) → count rest + length events ≤ suc (count ts)
+      follows lenient_rules buffer place t stack ts way ≡ events_before events (stuck here rest) → count rest + length events ≤ suc (count ts)
   turn-count stack place t ts stops h g [] here rest e = none_given (next t ts) rest place here e
   turn-count stack place t ts stops h g (p ∷ events) here rest e = cc
   turn-count stack place t ts (passes other) h g events here rest e = omega (arith, h stack (within other) events here rest e)
@@ -126,21 +127,21 @@ module _ (buffer : List ℕ) where
   mark-count : (stack : List ContainerKind) (key mark : Token) (ts : Tokens) (b : Bool) → EndsAmong ts → goes_on after_key mark.kind ≡ b →
       (events : List Passed) (here : Place) (rest : Tokens) →
       reads_colon buffer stack key (next mark ts) ≡ events_before events (stuck here rest) → count rest + length events ≤ suc (count ts)
-  unfolding reads_colon
+  unfolding reads_colon_by
   mark-count stack key mark ts false h c [] here rest e =
-      let same : stuck after_key (next mark ts) ≡ stuck here rest = rw (c, reads_colon) at e in
+      let same : stuck after_key (next mark ts) ≡ stuck here rest = rw (c, reads_colon_by) at e in
       none_given (next mark ts) rest after_key here same
   mark-count stack key mark ts false h c (p ∷ events) here rest e =
-      let same : stuck after_key (next mark ts) ≡ gives p (events_before events (stuck here rest)) = rw (c, reads_colon) at e in cc
+      let same : stuck after_key (next mark ts) ≡ gives p (events_before events (stuck here rest)) = rw (c, reads_colon_by) at e in cc
   mark-count stack key mark ts true h c [] here rest e =
-      let same : gives (key_event buffer key mark) (reads buffer stack (within after_colon) ts) ≡ stuck here rest = rw (c, reads_colon) at e in cc
+      let same : gives (key_event buffer key mark) (reads buffer stack (within after_colon) ts) ≡ stuck here rest = rw (c, reads_colon_by) at e in cc
   mark-count stack key mark ts true h c (p ∷ events) here rest e =
-      let same : gives (key_event buffer key mark) (reads buffer stack (within after_colon) ts) ≡ gives p (events_before events (stuck here rest)) = rw (c, reads_colon) at e in
+      let same : gives (key_event buffer key mark) (reads buffer stack (within after_colon) ts) ≡ gives p (events_before events (stuck here rest)) = rw (c, reads_colon_by) at e in
       let behind : reads buffer stack (within after_colon) ts ≡ events_before events (stuck here rest) = cc in
       omega (arith, h stack (within after_colon) events here rest behind)
 
   mutual
-    unfolding reads
+    unfolding reads_by
 
     -- Each event that is given takes a token at least.
     pub stuck-count : (ts : Tokens) → EndsAmong ts
@@ -152,7 +153,7 @@ module _ (buffer : List ℕ) where
     stuck-count (refused f) stack (within place) (p ∷ events) here rest e = cc
     stuck-count (next t ts) stack (within place) events here rest e =
         turn-count stack place t ts (turn buffer place t) (stuck-count ts) (colon-count ts) events here rest
-        (sym (reads-turn buffer stack place t ts (turn buffer place t) refl) ∙ e)
+        (sym (reads-turn lenient_rules buffer stack place t ts (turn buffer place t) refl) ∙ e)
 
     pub colon-count : (ts : Tokens) → EndsAfterKey ts
     colon-count ended stack key [] here rest e = none_given ended rest after_key here e
@@ -171,7 +172,7 @@ module _ (buffer : List ℕ) where
 
   -- A token that is not passed is stuck where it stands.
   turn-stays : (stack : List ContainerKind) (place : Place) (t : Token) (ts : Tokens) (way : Turn) (here : Place) (rest : Tokens) →
-      follows buffer place t stack ts way ≡ stuck here rest → suc (count ts) ≤ count rest → stuck place (next t ts) ≡ stuck here rest
+      follows lenient_rules buffer place t stack ts way ≡ stuck here rest → suc (count ts) ≤ count rest → stuck place (next t ts) ≡ stuck here rest
   turn-stays stack place t ts stops here rest e h = e
   turn-stays stack place t ts (passes other) here rest e h = absurd (omega (arith, stuck-count ts stack (within other) [] here rest e))
   turn-stays stack place t ts (says kind) here rest e h = cc
@@ -180,23 +181,23 @@ module _ (buffer : List ℕ) where
 
   mark-stays : (stack : List ContainerKind) (key mark : Token) (ts : Tokens) (b : Bool) (here : Place) (rest : Tokens) →
       goes_on after_key mark.kind ≡ b → reads_colon buffer stack key (next mark ts) ≡ stuck here rest → stuck after_key (next mark ts) ≡ stuck here rest
-  unfolding reads_colon
-  mark-stays stack key mark ts false here rest c e = rw (c, reads_colon) at e
+  unfolding reads_colon_by
+  mark-stays stack key mark ts false here rest c e = rw (c, reads_colon_by) at e
   mark-stays stack key mark ts true here rest c e =
-      let no : gives (key_event buffer key mark) (reads buffer stack (within after_colon) ts) ≡ stuck here rest = rw (c, reads_colon) at e in cc
+      let no : gives (key_event buffer key mark) (reads buffer stack (within after_colon) ts) ≡ stuck here rest = rw (c, reads_colon_by) at e in cc
 
   stage-stays : (stack : List ContainerKind) (place : Place) (ts : Tokens) (here : Place) (rest : Tokens) →
       reads buffer stack (within place) ts ≡ stuck here rest → count ts ≤ count rest → stuck place ts ≡ stuck here rest
-  unfolding reads
+  unfolding reads_by
   stage-stays stack place ended here rest e h = e
   stage-stays stack place (refused f) here rest e h = e
   stage-stays stack place (next t ts) here rest e h =
       turn-stays stack place t ts (turn buffer place t) here rest
-      (sym (reads-turn buffer stack place t ts (turn buffer place t) refl) ∙ e) h
+      (sym (reads-turn lenient_rules buffer stack place t ts (turn buffer place t) refl) ∙ e) h
 
   colon-stays : (stack : List ContainerKind) (key : Token) (ts : Tokens) (here : Place) (rest : Tokens) →
       reads_colon buffer stack key ts ≡ stuck here rest → stuck after_key ts ≡ stuck here rest
-  unfolding reads_colon
+  unfolding reads_colon_by
   colon-stays stack key ended here rest e = e
   colon-stays stack key (refused f) here rest e = e
   colon-stays stack key (next mark ts) here rest e = mark-stays stack key mark ts (goes_on after_key mark.kind) here rest refl e
@@ -281,7 +282,7 @@ tail-finished (p ∷ first) (q ∷ w) future e =
 
 -- After the end of the root nothing comes.
 over-finished : (buffer : List ℕ) (ts : Tokens) → reads buffer [] over ts ≡ finished
-unfolding reads
+unfolding reads_by
 over-finished buffer ts = refl
 
 -- A prefix gives the first events of the walk of each value that goes on from it.

@@ -6,7 +6,8 @@ use Rattle.facet_format.specs.Event.{ContainerKind, Passed}
 use Rattle.facet_format.specs.Span.{stop}
 use Rattle.facet_json_token.specs.Token.{Token}
 use Rattle.facet_json_token.specs.Tokens.{Tokens, ended, refused, next}
-use Rattle.facet_json_document.specs.Future.{Future, gives, finished, stuck, events_before, Stage, within, over, after_value, stack_after, stage_after, turn, reads, reads_colon}
+use Rattle.facet_json_document.specs.Language.{lenient_rules}
+use Rattle.facet_json_document.specs.Future.{Future, gives, finished, stuck, events_before, Stage, within, over, after_value, stack_after, stage_after, turn, reads, reads_by, reads_colon, reads_colon_by}
 use Rattle.facet_json_document.proofs.InOrder.{InOrder, at_a_token}
 use Rattle.facet_json_document.specs.Place.{Place, after_key, after_colon, Turn, stops, passes, says, says_scalar, names, goes_on}
 use Rattle.facet_json_document.specs.Order.{count}
@@ -83,7 +84,7 @@ module _ (buffer : List ℕ) where
       IsLater from (reads_colon buffer stack key ts)
 
   turn-later : (stack : List ContainerKind) (place : Place) (t : Token) (ts : Tokens) (way : Turn) (from : ℕ) → LaterFrom ts →
-      LaterAfterKey ts → InOrder buffer from (next t ts) → IsLater from (follows buffer place t stack ts way)
+      LaterAfterKey ts → InOrder buffer from (next t ts) → IsLater from (follows lenient_rules buffer place t stack ts way)
   turn-later stack place t ts stops from h g o = stuck_later place (next t ts)
   turn-later stack place t ts (passes other) from h g (at_a_token _ _ _ b w more) =
       later-weaker (stop t.span) from _ (omega arith) (h stack (within other) (stop t.span) more)
@@ -97,20 +98,20 @@ module _ (buffer : List ℕ) where
 
   mark-later : (stack : List ContainerKind) (key mark : Token) (ts : Tokens) (b : Bool) (from : ℕ) → LaterFrom ts →
       goes_on after_key mark.kind ≡ b → InOrder buffer from (next mark ts) → IsLater from (reads_colon buffer stack key (next mark ts))
-  unfolding reads_colon
-  mark-later stack key mark ts false from h c o = rw (c, reads_colon) (stuck_later _ (next mark ts))
+  unfolding reads_colon_by
+  mark-later stack key mark ts false from h c o = rw (c, reads_colon_by) (stuck_later _ (next mark ts))
   mark-later stack key mark ts true from h c (at_a_token _ _ _ b w more) =
-      rw (c, reads_colon) (one_later (key_event buffer key mark) _ b (later-weaker (stop mark.span) from _ (omega arith) (h stack (within after_colon) (stop mark.span) more)))
+      rw (c, reads_colon_by) (one_later (key_event buffer key mark) _ b (later-weaker (stop mark.span) from _ (omega arith) (h stack (within after_colon) (stop mark.span) more)))
 
   mutual
-    unfolding reads
+    unfolding reads_by
 
     reads-later : (ts : Tokens) → LaterFrom ts
     reads-later ts stack over from o = none_later
     reads-later ended stack (within place) from o = stuck_later place ended
     reads-later (refused f) stack (within place) from o = stuck_later place (refused f)
     reads-later (next t ts) stack (within place) from o =
-        rw (reads-turn buffer stack place t ts (turn buffer place t) refl) (turn-later stack place t ts (turn buffer place t) from (reads-later ts) (colon-later ts) o)
+        rw (reads-turn lenient_rules buffer stack place t ts (turn buffer place t) refl) (turn-later stack place t ts (turn buffer place t) from (reads-later ts) (colon-later ts) o)
 
     colon-later : (ts : Tokens) → LaterAfterKey ts
     colon-later ended stack key from o = stuck_later _ ended

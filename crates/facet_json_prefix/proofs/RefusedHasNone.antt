@@ -5,6 +5,7 @@ use Rattle.facet_format.specs.Complaint.{Refusal}
 use Rattle.facet_format.specs.Event.{Passed}
 use Rattle.facet_json_token.specs.Gap.{Mode}
 use Rattle.facet_json_token.specs.Tokens.{Tokens, tokens}
+use Rattle.facet_json_document.specs.Language.{lenient_rules}
 use Rattle.facet_json_document.specs.Future.{Future, stuck, events_before, within, reads}
 use Rattle.facet_json_document.specs.Place.{Place, root, after_key}
 use Rattle.facet_json_document.specs.Refusal.{IsStuck}
@@ -20,11 +21,11 @@ use Rattle.facet_json_prefix.proofs.LongestPrefix.{IsReadAt, at_stage, at_key, b
 read-stuck : {buffer : List ℕ} {future : Future} {place : Place} {ts : Tokens} {refusal : Refusal} →
     IsReadAt buffer future (within place) ts → IsStuck buffer place ts refusal → future ≡ stuck place ts
 read-stuck {buffer = buffer} {place = place} {ts = ts} {refusal = refusal} (at_stage stack f) s =
-    f ∙ stuck-reads buffer stack place ts refusal s
+    f ∙ stuck-reads lenient_rules buffer stack place ts refusal s
 read-stuck {buffer = buffer} {place = place} {ts = ts} {refusal = refusal} (at_key stack key here f) s =
     let same : place ≡ after_key = cc in
     let there = subst (λ p. IsStuck buffer p ts refusal) same s in
-    f ∙ stuck-reads_colon buffer stack key ts refusal there ∙ sym (ap (λ p. stuck p ts) same)
+    f ∙ stuck-reads_colon lenient_rules buffer stack key ts refusal there ∙ sym (ap (λ p. stuck p ts) same)
 
 -- Of an input that is refused the events come, and then nothing.
 pub refused-comes : {buffer : List ℕ} {mode : Mode} {events : List Passed} {refusal : Refusal} →

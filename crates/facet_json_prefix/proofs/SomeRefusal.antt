@@ -7,14 +7,15 @@ use Rattle.facet_json_token.specs.Token as token
 use Rattle.facet_json_token.specs.Gap.{Mode}
 use Rattle.facet_json_prefix.specs.Begun.{LongestPrefix, RefusesAfter}
 use Rattle.facet_json_token.specs.Tokens.{Tokens, ended, refused, next, tokens}
+use Rattle.facet_json_document.specs.Language.{Rules, lenient_rules, strict_rules}
 use Rattle.facet_json_document.specs.Tree.{Tree, text}
 use Rattle.facet_json_document.specs.Meaning.{meaning_of, meaning}
-use Rattle.facet_json_document.specs.Place.{Place, root, after_key, after_colon, Turn, stops, passes, says, says_scalar, names, place_turn, leads_on, goes_on}
+use Rattle.facet_json_document.specs.Place.{Place, root, after_key, after_colon, after_root, Turn, stops, passes, says, says_scalar, names, place_turn, leads_on, goes_on, led}
 use Rattle.facet_format.specs.Complaint.{Refusal}
 use Rattle.facet_json_document.specs.Refusal.{needs_meaning, IsStuck, at_end, at_fault, meaningless, misplaced, Complains, of_number, of_plain_string, of_escaped_string}
 use Rattle.facet_format.specs.Event.{ContainerKind, Passed}
 use Rattle.facet_json_document.specs.Walk.{key_event}
-use Rattle.facet_json_document.specs.Future.{gives, stuck, events_before, Stage, within, over, after_value, stack_after, stage_after, is_meaningless, turn, reads, reads_colon}
+use Rattle.facet_json_document.specs.Future.{gives, stuck, events_before, Stage, within, over, after_value, stack_after, stage_after, is_meaningless, turn, behind_root, reads, reads_by, reads_colon, reads_colon_by}
 use Rattle.facet_json_document.proofs.WalkComes.{follows, reads-turn}
 use Rattle.facet_json_decode.specs.Decode.{decoded}
 use Rattle.facet_json_decode.specs.Laws.{HasTextOrFault}
@@ -81,15 +82,16 @@ module _ (buffer : List ℕ) where
   stops_by place t rest true e s = without_by t rest place (needs_meaning t.kind) (meaning buffer t) refl refl e
   stops_by place t rest false e s = never_by place t rest false e (ap leads_on s)
 
+module _ (by : Rules) (buffer : List ℕ) where
   -- Wherever these tokens are stuck at the end, some refusal is allowed.
   abbrev StuckRefuses : Tokens → Type 0
   StuckRefuses ts = (stack : List ContainerKind) (stage : Stage) (events : List Passed) (here : Place) (rest : Tokens) →
-      reads buffer stack stage ts ≡ events_before events (stuck here rest) → IsRefusable buffer here rest
+      reads_by by buffer stack stage ts ≡ events_before events (stuck here rest) → IsRefusable buffer here rest
 
   -- the same after a key
   abbrev StuckAfterKeyRefuses : Tokens → Type 0
   StuckAfterKeyRefuses ts = (stack : List ContainerKind) (key : Token) (events : List Passed) (here : Place) (rest : Tokens) →
-      reads_colon buffer stack key ts ≡ events_before events (stuck here rest) → IsRefusable buffer here rest
+      reads_colon_by by buffer stack key ts ≡ events_before events (stuck here rest) → IsRefusable buffer here rest
 
   -- What is stuck at one place is stuck at no other.
   there : (place here : Place) (ts rest : Tokens) → stuck place ts ≡ stuck here rest → IsRefusable buffer place ts →
@@ -101,53 +103,64 @@ module _ (buffer : List ℕ) where
 
   turn-refuses : (stack : List ContainerKind) (place : Place) (t : Token) (ts : Tokens) (way : Turn) → StuckRefuses ts → StuckAfterKeyRefuses ts →
       (way ≡ stops → IsRefusable buffer place (next t ts)) → (events : List Passed) (here : Place) (rest : Tokens) →
-      follows buffer place t stack ts way ≡ events_before events (stuck here rest) → IsRefusable buffer here rest
+      follows by buffer place t stack ts way ≡ events_before events (stuck here rest) → IsRefusable buffer here rest
   turn-refuses stack place t ts stops h g r [] here rest e = there place here (next t ts) rest e (r refl)
   turn-refuses stack place t ts stops h g r (p ∷ events) here rest e = cc
-  turn-refuses stack place t ts (passes other) h g r events here rest e = h stack (within other) events here rest e
+  turn-refuses stack place t ts (passes other) h g r events here rest e = h stack (within (led by other)) events here rest e
   turn-refuses stack place t ts (says kind) h g r [] here rest e = cc
   turn-refuses stack place t ts (says kind) h g r (p ∷ events) here rest e =
       let others = stack_after kind stack in
       let stage = stage_after kind stack in
-      let same : reads buffer others stage ts ≡ events_before events (stuck here rest) = cc in
+      let same : reads_by by buffer others stage ts ≡ events_before events (stuck here rest) = cc in
       h others stage events here rest same
   turn-refuses stack place t ts says_scalar h g r [] here rest e = cc
   turn-refuses stack place t ts says_scalar h g r (p ∷ events) here rest e =
-      let same : reads buffer stack (after_value stack) ts ≡ events_before events (stuck here rest) = cc in
+      let same : reads_by by buffer stack (after_value stack) ts ≡ events_before events (stuck here rest) = cc in
       h stack (after_value stack) events here rest same
   turn-refuses stack place t ts names h g r events here rest e = g stack t events here rest e
 
   mark-refuses : (stack : List ContainerKind) (key mark : Token) (ts : Tokens) (b : Bool) → StuckRefuses ts → goes_on after_key mark.kind ≡ b →
       (events : List Passed) (here : Place) (rest : Tokens) →
-      reads_colon buffer stack key (next mark ts) ≡ events_before events (stuck here rest) → IsRefusable buffer here rest
-  unfolding reads_colon
+      reads_colon_by by buffer stack key (next mark ts) ≡ events_before events (stuck here rest) → IsRefusable buffer here rest
+  unfolding reads_colon_by
   mark-refuses stack key mark ts false h c [] here rest e =
-      let same : stuck after_key (next mark ts) ≡ stuck here rest = rw (c, reads_colon) at e in
-      there after_key here (next mark ts) rest same (never_by after_key mark ts (is_meaningless buffer mark) refl c)
+      let same : stuck after_key (next mark ts) ≡ stuck here rest = rw (c, reads_colon_by) at e in
+      there after_key here (next mark ts) rest same (never_by buffer after_key mark ts (is_meaningless buffer mark) refl c)
   mark-refuses stack key mark ts false h c (p ∷ events) here rest e =
-      let same : stuck after_key (next mark ts) ≡ gives p (events_before events (stuck here rest)) = rw (c, reads_colon) at e in cc
+      let same : stuck after_key (next mark ts) ≡ gives p (events_before events (stuck here rest)) = rw (c, reads_colon_by) at e in cc
   mark-refuses stack key mark ts true h c [] here rest e =
-      let same : gives (key_event buffer key mark) (reads buffer stack (within after_colon) ts) ≡ stuck here rest = rw (c, reads_colon) at e in cc
+      let same : gives (key_event buffer key mark) (reads_by by buffer stack (within after_colon) ts) ≡ stuck here rest = rw (c, reads_colon_by) at e in cc
   mark-refuses stack key mark ts true h c (p ∷ events) here rest e =
-      let same : gives (key_event buffer key mark) (reads buffer stack (within after_colon) ts) ≡ gives p (events_before events (stuck here rest)) = rw (c, reads_colon) at e in
-      let behind : reads buffer stack (within after_colon) ts ≡ events_before events (stuck here rest) = cc in
+      let same : gives (key_event buffer key mark) (reads_by by buffer stack (within after_colon) ts) ≡ gives p (events_before events (stuck here rest)) = rw (c, reads_colon_by) at e in
+      let behind : reads_by by buffer stack (within after_colon) ts ≡ events_before events (stuck here rest) = cc in
       h stack (within after_colon) events here rest behind
 
+  behind-refuses : (r : Rules) (ts : Tokens) (events : List Passed) (here : Place) (rest : Tokens) →
+      behind_root r ts ≡ events_before events (stuck here rest) → IsRefusable buffer here rest
+  behind-refuses lenient_rules ts [] here rest e = cc
+  behind-refuses lenient_rules ts (p ∷ events) here rest e = cc
+  behind-refuses strict_rules ended [] here rest e = cc
+  behind-refuses strict_rules ended (p ∷ events) here rest e = cc
+  behind-refuses strict_rules (refused f) [] here rest e = there after_root here (refused f) rest e (_, at_fault after_root f)
+  behind-refuses strict_rules (refused f) (p ∷ events) here rest e = cc
+  behind-refuses strict_rules (next t ts) [] here rest e =
+      there after_root here (next t ts) rest e (never_by buffer after_root t ts (is_meaningless buffer t) refl refl)
+  behind-refuses strict_rules (next t ts) (p ∷ events) here rest e = cc
+
   mutual
-    unfolding reads
+    unfolding reads_by
 
     -- Where nothing comes any more, some refusal is allowed.
-    stuck-refuses : (ts : Tokens) → StuckRefuses ts
-    stuck-refuses ts stack over [] here rest e = cc
-    stuck-refuses ts stack over (p ∷ events) here rest e = cc
+    pub stuck-refuses : (ts : Tokens) → StuckRefuses ts
+    stuck-refuses ts stack over events here rest e = behind-refuses by ts events here rest e
     stuck-refuses ended stack (within place) [] here rest e = there place here ended rest e (_, at_end place)
     stuck-refuses ended stack (within place) (p ∷ events) here rest e = cc
     stuck-refuses (refused f) stack (within place) [] here rest e = there place here (refused f) rest e (_, at_fault place f)
     stuck-refuses (refused f) stack (within place) (p ∷ events) here rest e = cc
     stuck-refuses (next t ts) stack (within place) events here rest e =
         turn-refuses stack place t ts (turn buffer place t) (stuck-refuses ts) (colon-refuses ts)
-        (stops_by place t ts (is_meaningless buffer t) refl) events here rest
-        (sym (reads-turn buffer stack place t ts (turn buffer place t) refl) ∙ e)
+        (stops_by buffer place t ts (is_meaningless buffer t) refl) events here rest
+        (sym (reads-turn by buffer stack place t ts (turn buffer place t) refl) ∙ e)
 
     colon-refuses : (ts : Tokens) → StuckAfterKeyRefuses ts
     colon-refuses ended stack key [] here rest e = there after_key here ended rest e (_, at_end after_key)
@@ -163,5 +176,5 @@ pub prefix-refuses : (buffer : List ℕ) (mode : Mode) (events : List Passed) (h
     reads buffer [] (within root) (tokens buffer mode) ≡ events_before events (stuck here rest) →
     (r : Refusal) × RefusesAfter buffer mode events r
 prefix-refuses buffer mode events here rest prefix e =
-    let found = stuck-refuses buffer (tokens buffer mode) [] (within root) events here rest e in
+    let found = stuck-refuses lenient_rules buffer (tokens buffer mode) [] (within root) events here rest e in
     (found.0, record { here = here; rest = rest; prefix = prefix; stuck = found.1 })

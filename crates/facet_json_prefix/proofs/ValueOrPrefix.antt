@@ -5,6 +5,7 @@ use Rattle.std.specs.Option.{option_map}
 use Rattle.facet_json_token.specs.Token.{Kind, Token}
 use Rattle.facet_json_token.specs.Token as token
 use Rattle.facet_json_token.specs.Tokens.{Tokens, ended, refused, next}
+use Rattle.facet_json_document.specs.Language.{lenient_rules}
 use Rattle.facet_json_document.specs.Node.{Node, scalar, Nodes, no_nodes, item, Members, no_members, member, is_scalar, is_string, Spells, one_token, brackets, braces, SpellsItems, closed, item_and_comma, last_item, SpellsMembers, ended_members, member_and_comma, last_member}
 use Rattle.facet_json_document.specs.Node as shapes
 use Rattle.facet_json_document.specs.Tree.{Tree, Trees, no_trees, Pairs, no_pairs}
@@ -183,7 +184,7 @@ module _ (buffer : List ℕ) where
   list_stands stack place t rest at k (items_stop events here left b e) =
       let start = event_at (event.sequence_start array) t in
       value_stops (start ∷ events) here left (in_list place (after_value stack) (within here) t rest left events k b)
-      (reads-array buffer stack place t rest at k ∙ ap (gives start) e)
+      (reads-array lenient_rules buffer stack place t rest at k ∙ ap (gives start) e)
 
   -- An object, by what stands after its brace.
   object_stands : (stack : List ContainerKind) (place : Place) (t : Token) (rest : Tokens) → TakesValue place →
@@ -194,7 +195,7 @@ module _ (buffer : List ℕ) where
   object_stands stack place t rest at k (members_stop events here left b e) =
       let start = event_at (event.struct_start object) t in
       value_stops (start ∷ events) here left (in_object place (after_value stack) (within here) t rest left events k b)
-      (reads-object buffer stack place t rest at k ∙ ap (gives start) e)
+      (reads-object lenient_rules buffer stack place t rest at k ∙ ap (gives start) e)
 
   -- ---- items
 
@@ -223,7 +224,7 @@ module _ (buffer : List ℕ) where
       items_stop (walk buffer node ++ events) here rest
       (past_item ts others rest node value separator events (walk buffer node ++ events) (within here) s t k b refl)
       (walk-comes buffer value s t (array ∷ stack) before_item of_list
-      ∙ ap (events_before (walk buffer node)) (reads-item_comma buffer (array ∷ stack) separator others k ∙ e)
+      ∙ ap (events_before (walk buffer node)) (reads-item_comma lenient_rules buffer (array ∷ stack) separator others k ∙ e)
       ∙ sym (events_before-append (walk buffer node) events (stuck here rest)))
 
   -- The last item, and the closing bracket.
@@ -262,7 +263,7 @@ module _ (buffer : List ℕ) where
     -- A key, its colon and what comes after them.
     key-comes : (future : Future) → reads buffer (object ∷ stack) (within after_colon) ts ≡ future →
         reads buffer (object ∷ stack) (within before_key) (next key (next mark ts)) ≡ gives (key_event buffer key mark) future
-    key-comes future e = reads-key buffer (object ∷ stack) key mark ts name k n c ∙ ap (gives (key_event buffer key mark)) e
+    key-comes future e = reads-key lenient_rules buffer (object ∷ stack) key mark ts name k n c ∙ ap (gives (key_event buffer key mark)) e
 
     -- A prefix of a member's value.
     member_begins : (events : List Passed) (here : Place) (rest : Tokens) →
@@ -295,7 +296,7 @@ module _ (buffer : List ℕ) where
         (past_member key mark ts others rest name node value separator events all (within here) k n c s t p b refl)
         (key-comes (events_before (walk buffer node ++ events) (stuck here rest))
         (walk-comes buffer value s t (object ∷ stack) after_colon of_member
-        ∙ ap (events_before (walk buffer node)) (reads-member_comma buffer (object ∷ stack) separator others p ∙ e)
+        ∙ ap (events_before (walk buffer node)) (reads-member_comma lenient_rules buffer (object ∷ stack) separator others p ∙ e)
         ∙ sym (events_before-append (walk buffer node) events (stuck here rest))))
 
     -- The last member, and the closing brace.
@@ -317,28 +318,28 @@ module _ (buffer : List ℕ) where
         place_turn place t.kind ≡ value_turn t.kind → 2 * suc (count rest) ≤ n → ValueComes buffer stack place (next t rest)
     value_out zero stack place t rest at j h = absurd (omega arith)
     value_out (suc n) stack place t rest at j h = elim (sense buffer t) [
-      | without e ↦ stops_here stack place (next t rest) (reads-meaningless buffer stack place t rest e)
+      | without e ↦ stops_here stack place (next t rest) (reads-meaningless lenient_rules buffer stack place t rest e)
       | sensible e ↦ elim (as_value t.kind) [
         | opens_list k ↦ list_stands stack place t rest at k (items_out n stack rest (omega arith))
         | opens_object k ↦ object_stands stack place t rest at k (members_out n stack rest (omega arith))
         | is_one k ↦ one_stands stack place t rest k e
-        | no_value k ↦ stops_here stack place (next t rest) (reads-stops buffer stack place t rest e (j ∙ k))
+        | no_value k ↦ stops_here stack place (next t rest) (reads-stops lenient_rules buffer stack place t rest e (j ∙ k))
       ]
     ]
 
     value_at : (n : ℕ) (stack : List ContainerKind) (place : Place) (ts : Tokens) → TakesValue place →
         ((kind : Kind) → place_turn place kind ≡ value_turn kind) → 2 * count ts + 1 ≤ n → ValueComes buffer stack place ts
     value_at zero stack place ts at j h = absurd (omega arith)
-    value_at (suc n) stack place ended at j h = stops_here stack place ended (reads-ended buffer stack place)
-    value_at (suc n) stack place (refused f) at j h = stops_here stack place (refused f) (reads-refused buffer stack place f)
+    value_at (suc n) stack place ended at j h = stops_here stack place ended (reads-ended lenient_rules buffer stack place)
+    value_at (suc n) stack place (refused f) at j h = stops_here stack place (refused f) (reads-refused lenient_rules buffer stack place f)
     value_at (suc n) stack place (next t rest) at j h = value_out n stack place t rest at (j t.kind) (omega arith)
 
     items_out : (n : ℕ) (stack : List ContainerKind) (ts : Tokens) → 2 * count ts + 1 ≤ n → ItemsCome buffer stack ts
     items_out zero stack ts h = absurd (omega arith)
-    items_out (suc n) stack ended h = list_stops stack ended (reads-ended buffer (array ∷ stack) before_item)
-    items_out (suc n) stack (refused f) h = list_stops stack (refused f) (reads-refused buffer (array ∷ stack) before_item f)
+    items_out (suc n) stack ended h = list_stops stack ended (reads-ended lenient_rules buffer (array ∷ stack) before_item)
+    items_out (suc n) stack (refused f) h = list_stops stack (refused f) (reads-refused lenient_rules buffer (array ∷ stack) before_item f)
     items_out (suc n) stack (next t rest) h = elim (sense buffer t) [
-      | without e ↦ list_stops stack (next t rest) (reads-meaningless buffer (array ∷ stack) before_item t rest e)
+      | without e ↦ list_stops stack (next t rest) (reads-meaningless lenient_rules buffer (array ∷ stack) before_item t rest e)
       | sensible e ↦ elim (as_item t.kind) [
         | closes_list k ↦ list_ends stack t rest k
         | as_any j ↦ item_out n stack (next t rest) (value_out n (array ∷ stack) before_item t rest of_list j (omega arith)) (omega arith)
@@ -349,30 +350,30 @@ module _ (buffer : List ℕ) where
         2 * count ts ≤ n → ItemsCome buffer stack ts
     item_out n stack ts (value_stops events here rest b e) h = items_stop events here rest (begins_item ts rest events (within here) b) e
     item_out n stack ts (value_stands ended node value s t) h =
-        item_stops stack ts ended node value s t (reads-ended buffer (array ∷ stack) after_item)
+        item_stops stack ts ended node value s t (reads-ended lenient_rules buffer (array ∷ stack) after_item)
     item_out n stack ts (value_stands (refused f) node value s t) h =
-        item_stops stack ts (refused f) node value s t (reads-refused buffer (array ∷ stack) after_item f)
+        item_stops stack ts (refused f) node value s t (reads-refused lenient_rules buffer (array ∷ stack) after_item f)
     item_out zero stack ts (value_stands (next u others) node value s t) h =
         absurd (omega (arith, spelled-fewer ts others node u s))
     item_out (suc n) stack ts (value_stands (next u others) node value s t) h = elim (sense buffer u) [
-      | without e ↦ item_stops stack ts (next u others) node value s t (reads-meaningless buffer (array ∷ stack) after_item u others e)
+      | without e ↦ item_stops stack ts (next u others) node value s t (reads-meaningless lenient_rules buffer (array ∷ stack) after_item u others e)
       | sensible e ↦ elim (behind_an_item u.kind) [
         | comma_item k ↦ item_goes_on stack ts others node value u s t k (items_out n stack others (omega (arith, spelled-fewer ts others node u s)))
         | ends_list k ↦ item_ends stack ts others node value u s t k
-        | no_comma k ↦ item_stops stack ts (next u others) node value s t (reads-stops buffer (array ∷ stack) after_item u others e k)
+        | no_comma k ↦ item_stops stack ts (next u others) node value s t (reads-stops lenient_rules buffer (array ∷ stack) after_item u others e k)
       ]
     ]
 
     members_out : (n : ℕ) (stack : List ContainerKind) (ts : Tokens) → 2 * count ts + 1 ≤ n → MembersCome buffer stack ts
     members_out zero stack ts h = absurd (omega arith)
-    members_out (suc n) stack ended h = object_stops stack ended (reads-ended buffer (object ∷ stack) before_key)
-    members_out (suc n) stack (refused f) h = object_stops stack (refused f) (reads-refused buffer (object ∷ stack) before_key f)
+    members_out (suc n) stack ended h = object_stops stack ended (reads-ended lenient_rules buffer (object ∷ stack) before_key)
+    members_out (suc n) stack (refused f) h = object_stops stack (refused f) (reads-refused lenient_rules buffer (object ∷ stack) before_key f)
     members_out (suc n) stack (next t rest) h = elim (sense buffer t) [
-      | without e ↦ object_stops stack (next t rest) (reads-meaningless buffer (object ∷ stack) before_key t rest e)
+      | without e ↦ object_stops stack (next t rest) (reads-meaningless lenient_rules buffer (object ∷ stack) before_key t rest e)
       | sensible e ↦ elim (as_key t.kind) [
         | closes_object k ↦ object_ends stack t rest k
-        | is_key k j ↦ key_out n stack t rest (name_meant buffer t.kind k e).0 k (name_meant buffer t.kind k e).1 (reads-turn buffer (object ∷ stack) before_key t rest names (turn-sensible buffer before_key t e ∙ j)) (omega arith)
-        | no_key_here k ↦ object_stops stack (next t rest) (reads-stops buffer (object ∷ stack) before_key t rest e k)
+        | is_key k j ↦ key_out n stack t rest (name_meant buffer t.kind k e).0 k (name_meant buffer t.kind k e).1 (reads-turn lenient_rules buffer (object ∷ stack) before_key t rest names (turn-sensible buffer before_key t e ∙ j)) (omega arith)
+        | no_key_here k ↦ object_stops stack (next t rest) (reads-stops lenient_rules buffer (object ∷ stack) before_key t rest e k)
       ]
     ]
 
@@ -380,13 +381,13 @@ module _ (buffer : List ℕ) where
         text_of (meaning buffer key) ≡ Some name →
         reads buffer (object ∷ stack) (within before_key) (next key rest) ≡ reads_colon buffer (object ∷ stack) key rest →
         2 * count rest + 2 ≤ n → MembersCome buffer stack (next key rest)
-    key_out n stack key ended name k p e h = key_stops stack key ended name k p (e ∙ colon-ended buffer (object ∷ stack) key)
+    key_out n stack key ended name k p e h = key_stops stack key ended name k p (e ∙ colon-ended lenient_rules buffer (object ∷ stack) key)
     key_out n stack key (refused f) name k p e h =
-        key_stops stack key (refused f) name k p (e ∙ colon-refused buffer (object ∷ stack) key f)
+        key_stops stack key (refused f) name k p (e ∙ colon-refused lenient_rules buffer (object ∷ stack) key f)
     key_out zero stack key (next mark ts) name k p e h = absurd (omega arith)
     key_out (suc n) stack key (next mark ts) name k p e h = elim (as_colon mark.kind) [
       | is_mark c ↦ member_out n stack key mark ts name k p c (value_at n (object ∷ stack) after_colon ts of_member (λ kind. refl) (omega arith)) (omega arith)
-      | no_mark c ↦ key_stops stack key (next mark ts) name k p (e ∙ colon-missing buffer (object ∷ stack) key mark ts c)
+      | no_mark c ↦ key_stops stack key (next mark ts) name k p (e ∙ colon-missing lenient_rules buffer (object ∷ stack) key mark ts c)
     ]
 
     member_out : (n : ℕ) (stack : List ContainerKind) (key mark : Token) (ts : Tokens) (name : List ℕ) →
@@ -395,17 +396,17 @@ module _ (buffer : List ℕ) where
     member_out n stack key mark ts name k p c (value_stops events here rest b e) h =
         member_begins stack key mark ts name k p c events here rest b e
     member_out n stack key mark ts name k p c (value_stands ended node value s t) h =
-        member_stops stack key mark ts name k p c ended node value s t (reads-ended buffer (object ∷ stack) after_member)
+        member_stops stack key mark ts name k p c ended node value s t (reads-ended lenient_rules buffer (object ∷ stack) after_member)
     member_out n stack key mark ts name k p c (value_stands (refused f) node value s t) h =
-        member_stops stack key mark ts name k p c (refused f) node value s t (reads-refused buffer (object ∷ stack) after_member f)
+        member_stops stack key mark ts name k p c (refused f) node value s t (reads-refused lenient_rules buffer (object ∷ stack) after_member f)
     member_out zero stack key mark ts name k p c (value_stands (next u others) node value s t) h =
         absurd (omega (arith, spelled-fewer ts others node u s))
     member_out (suc n) stack key mark ts name k p c (value_stands (next u others) node value s t) h = elim (sense buffer u) [
-      | without e ↦ member_stops stack key mark ts name k p c (next u others) node value s t (reads-meaningless buffer (object ∷ stack) after_member u others e)
+      | without e ↦ member_stops stack key mark ts name k p c (next u others) node value s t (reads-meaningless lenient_rules buffer (object ∷ stack) after_member u others e)
       | sensible e ↦ elim (behind_a_member u.kind) [
         | comma_member q ↦ member_goes_on stack key mark ts name k p c others node value u s t q (members_out n stack others (omega (arith, spelled-fewer ts others node u s)))
         | ends_object q ↦ member_ends stack key mark ts name k p c others node value u s t q
-        | no_comma_here q ↦ member_stops stack key mark ts name k p c (next u others) node value s t (reads-stops buffer (object ∷ stack) after_member u others e q)
+        | no_comma_here q ↦ member_stops stack key mark ts name k p c (next u others) node value s t (reads-stops lenient_rules buffer (object ∷ stack) after_member u others e q)
       ]
     ]
 

@@ -1,3 +1,4 @@
 pub mod Begun
 pub mod EventLaws
 pub mod Refusal
+pub mod StrictLaws

@@ -4,7 +4,7 @@ mod prefixes;
 
 pub use prefixes::{
     begun_is_prefix, input_comes, one_given, prefix_gives_walk, prefix_is_begun, refused_has_none,
-    refused_in_one_way,
+    refused_in_one_way, strict_input_comes, strict_is_plain,
 };
 // The names that these laws had before.
 pub use prefixes::{

@@ -49,7 +49,7 @@ module _ {P : Type 0} (w : World P) where
 module _ (buffer : List ℕ) (language : Language) (refusal : Refusal) (here : Place) (rest : Tokens)
     (only_so : (r : Refusal) → IsStuck buffer here rest r → r ≡ refusal) where
   -- These events come at the cursor's place, which is after this last token, and then no document goes on.
-  record ComesAlone (c : Cursor Standing) (last : Span) (events : List Passed) : Type 0 where
+  pub record ComesAlone (c : Cursor Standing) (last : Span) (events : List Passed) : Type 0 where
     pub free : c.refusal ≡ None
     pub last_is : c.spot.place.last ≡ last
     pub comes : future_at buffer language c.spot.place ≡ events_before events (stuck here rest)
@@ -94,7 +94,7 @@ module _ (buffer : List ℕ) (language : Language) (refusal : Refusal) (here : P
       let first = ap first_of at.comes in cc
 
   -- What comes is answered event by event, and then the refusal.
-  answers-alone : (last : Span) (events : List Passed) {c d : Cursor Standing} {calls : List Call} {answers : List Answer} →
+  pub answers-alone : (last : Span) (events : List Passed) {c d : Cursor Standing} {calls : List Call} {answers : List Answer} →
       ComesAlone c last events → AllNext calls → Run (on_input buffer language) c calls answers d →
       AnswersAlone refusal last events answers
   answers-alone last events at no_call (no_calls c) = not_asked last events

@@ -6,13 +6,14 @@ use Rattle.facet_format.specs.Complaint.{Refusal}
 use Rattle.facet_format.specs.Event.{Event}
 use Rattle.facet_format.specs.Cursor.{Call, next, Answer, event, World, Cursor, Step, repeats, passes, passes_without_memory, passes_the_end, passes_nothing, Run, one_call}
 use Rattle.facet_json_document.specs.InputPlace.{Standing}
-use Rattle.facet_json_protocol.specs.Now.{Now, fresh, on_input, ahead}
+use Rattle.facet_json_protocol.specs.Now.{Now, fresh, fresh_in, on_input, ahead}
+use Rattle.facet_json_protocol.specs.StrictHeadline.{EndsInTimeIn}
 use Rattle.facet_json_protocol.specs.Move.{Moves, MovesAll}
 use Rattle.facet_json_protocol.specs.Within.{NowWithin}
 use Rattle.facet_json_protocol.specs.Alone.{AllNext, no_call, one_next}
 use Rattle.facet_json_protocol.specs.CallLaws.{Ends, at_the_end, at_a_refusal, past_event}
 use Rattle.facet_json_protocol.proofs.MoveLaws.{with_cursor}
-use Rattle.facet_json_protocol.proofs.Spans.AnswersWithin.{fresh-within, moves-within}
+use Rattle.facet_json_protocol.proofs.Spans.AnswersWithin.{fresh-within, fresh-within-in, moves-within}
 use Rattle.facet_json_protocol.proofs.Spans.BytesAhead.{next-lowers}
 
 -- What the next event is answered with.
@@ -46,6 +47,10 @@ ahead-ends now d _ _ good (one_next _ only) h (one_call c between _ call answer 
     (λ less. ahead-ends later d calls answers (moves-within now good later move).parser only (omega (arith, less, h)) more)
 
 -- So it is of a new parser, and of more calls than the input has bytes.
+pub next-ends-in : EndsInTimeIn
+next-ends-in buffer language new calls answers only h all =
+    ahead-ends (fresh_in buffer language) new.cursor calls answers (fresh-within-in buffer language) only (omega (arith, h)) all.run
+
 pub next-ends : (buffer : List ℕ) (mode : Mode) (new : Now) (calls : List Call) (answers : List Answer) → AllNext calls →
     length buffer < length calls → MovesAll (fresh buffer mode) calls answers new → Ends answers
 next-ends buffer mode new calls answers only h all =

@@ -12,4 +12,5 @@ pub mod RunsPassed
 pub mod Spans
 pub mod StandsOnWalk
 pub mod StepLaws
+pub mod StrictAnswered
 pub mod TrustedAgrees

@@ -11,8 +11,9 @@ use Rattle.facet_json_token.specs.Token.{Token}
 use Rattle.facet_json_token.specs.Tokens.{Tokens, next}
 use Rattle.facet_json_document.specs.Future.{Stage}
 use Rattle.facet_json_document.specs.InputPlace.{Standing}
+use Rattle.facet_json_document.specs.Language.{Rules, rules}
 use Rattle.facet_json_document.specs.Node.{is_scalar}
-use Rattle.facet_json_document.specs.Place.{Place, Turn, stops, passes, says, place_turn, leads_on}
+use Rattle.facet_json_document.specs.Place.{Place, Turn, stops, passes, says, place_turn, leads_on, led}
 use Rattle.facet_json_document.specs.Run.{Run, BreaksOff}
 use Rattle.facet_json_document.specs.Unread.{misplaced, begins_value, closes_container, past_value, PartFrom, separator, a_value, a_broken_value, a_key, a_closing, none_of_them, PartIn, PartAt}
 use Rattle.facet_json_protocol.specs.Now.{Now}
@@ -39,10 +40,10 @@ data IsValueFrom (buffer : List ℕ) (stack : List ContainerKind) (first : Token
       (value (not (is_scalar first.kind)) first.span.offset (stop last.span) (past_value last.span stack))
   is_broken : (r : Refusal) → BreaksOff buffer (next first others) r → IsValueFrom buffer stack first others (broken r)
 
-module _ (buffer : List ℕ) (stack : List ContainerKind) where
+module _ (buffer : List ℕ) (by : Rules) (stack : List ContainerKind) where
   -- At the value's first token the part is that value.
   value-here : (place : Place) (first : Token) (others : Tokens) (part : Part Standing) →
-      begins_value (place_turn place first.kind) ≡ true → PartFrom buffer stack place (next first others) part →
+      begins_value (place_turn place first.kind) ≡ true → PartFrom buffer by stack place (next first others) part →
       IsValueFrom buffer stack first others part
   value-here place first others part b (separator _ other _ _ _ e more) = cc
   value-here place first others _ b (a_value _ _ last _ rest e run) = is_run last rest run
@@ -53,9 +54,9 @@ module _ (buffer : List ℕ) (stack : List ContainerKind) where
 
   -- After a separator the part stands at the next place.
   past-separator : (place other : Place) (t : Token) (ts : Tokens) (part : Part Standing) → place_turn place t.kind ≡ passes other →
-      PartFrom buffer stack place (next t ts) part → PartFrom buffer stack other ts part
+      PartFrom buffer by stack place (next t ts) part → PartFrom buffer by stack (led by other) ts part
   past-separator place other t ts part e (separator _ there _ _ _ f more) =
-      let same : there ≡ other = cc in subst (λ x. PartFrom buffer stack x ts part) same more
+      let same : there ≡ other = cc in subst (λ x. PartFrom buffer by stack (led by x) ts part) same more
   past-separator place other t ts _ e (a_value _ _ last _ rest f run) = cc
   past-separator place other t ts _ e (a_broken_value _ _ _ r f breaks) = cc
   past-separator place other t ts _ e (a_key _ _ _ result f colon) = cc
@@ -64,10 +65,10 @@ module _ (buffer : List ℕ) (stack : List ContainerKind) where
 
   -- Where the tokens go on with a value, the part is that value.
   value-from : (place : Place) (ts : Tokens) (first : Token) (others : Tokens) (part : Part Standing) →
-      GoesOnWith place ts first others → PartFrom buffer stack place ts part → IsValueFrom buffer stack first others part
+      GoesOnWith by place ts first others → PartFrom buffer by stack place ts part → IsValueFrom buffer stack first others part
   value-from place _ first others part (with_value _ _ _ b) p = value-here place first others part b p
   value-from place _ first others part (after_separator _ other t _ ts _ e more) p =
-      value-from other ts first others part more (past-separator place other t ts part e p)
+      value-from (led by other) ts first others part more (past-separator place other t ts part e p)
 
 -- Where a parser stands before a value, the part that stands there is that value.
 value-stands : (now : Now) (first : Token) (others : Tokens) (part : Part Standing) → BeforeValue now first others →
@@ -76,7 +77,7 @@ value-stands : (now : Now) (first : Token) (others : Tokens) (part : Part Standi
 value-stands now first others part at stands =
     let s = now.cursor.spot.place in
     let from = subst (λ (x : Stage). PartIn now.buffer now.language s x part) at.stage stands in
-    value-from now.buffer s.stack at.place _ first others part at.value from
+    value-from now.buffer (rules now.language) s.stack at.place _ first others part at.value from
 
 -- ---- skips
 

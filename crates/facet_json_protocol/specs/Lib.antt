@@ -6,4 +6,5 @@ pub mod Next
 pub mod Now
 pub mod ParserLaws
 pub mod SkipLaws
+pub mod StrictHeadline
 pub mod Within

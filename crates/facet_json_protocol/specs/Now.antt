@@ -17,9 +17,13 @@ pub record Now : Type 0 where
   pub language : Language
   pub cursor : Cursor Standing
 
--- a lenient parser that has read nothing
+-- a parser that has read nothing
+abbrev pub fresh_in : List ℕ → Language → Now
+fresh_in buffer language = record { buffer = buffer; language = language; cursor = start_at first_standing }
+
+-- a lenient one
 abbrev pub fresh : List ℕ → Mode → Now
-fresh buffer mode = record { buffer = buffer; language = lenient mode; cursor = start_at first_standing }
+fresh buffer mode = fresh_in buffer (lenient mode)
 
 -- ---- what comes
 

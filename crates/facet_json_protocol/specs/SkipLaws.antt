@@ -8,8 +8,8 @@ use Rattle.facet_format.specs.Span.{span_at, stop}
 use Rattle.facet_json_token.specs.Token.{Token}
 use Rattle.facet_json_token.specs.Tokens.{Tokens, next, tokens_from}
 use Rattle.facet_json_document.specs.Future.{within}
-use Rattle.facet_json_document.specs.Language.{gaps}
-use Rattle.facet_json_document.specs.Place.{Place, passes, place_turn}
+use Rattle.facet_json_document.specs.Language.{gaps, Rules, rules}
+use Rattle.facet_json_document.specs.Place.{Place, passes, place_turn, led}
 use Rattle.facet_json_document.specs.Run.{Run, BreaksOff}
 use Rattle.facet_json_document.specs.Unread.{begins_value, past_value}
 use Rattle.facet_json_protocol.specs.Now.{Now, span_of}
@@ -17,18 +17,18 @@ use Rattle.facet_json_protocol.specs.Move.{Moves}
 
 -- ---- before a value
 
--- At a place the tokens go on, after separators, with this first token of a value, and the others come after it.
-pub data GoesOnWith : Place → Tokens → Token → Tokens → Type 0 where
+-- By these rules the tokens go on at a place, after separators, with this first token of a value, and the others come after it.
+pub data GoesOnWith (by : Rules) : Place → Tokens → Token → Tokens → Type 0 where
   with_value : (place : Place) (first : Token) (others : Tokens) → begins_value (place_turn place first.kind) ≡ true →
-      GoesOnWith place (next first others) first others
+      GoesOnWith by place (next first others) first others
   after_separator : (place other : Place) (t first : Token) (ts others : Tokens) → place_turn place t.kind ≡ passes other →
-      GoesOnWith other ts first others → GoesOnWith place (next t ts) first others
+      GoesOnWith by (led by other) ts first others → GoesOnWith by place (next t ts) first others
 
 -- The parser stands before a value, which begins with this token.
 pub record BeforeValue (now : Now) (first : Token) (others : Tokens) : Type 0 where
   pub place : Place
   pub stage : now.cursor.spot.place.stage ≡ within place
-  pub value : GoesOnWith place (tokens_from now.buffer (gaps now.language) (stop now.cursor.spot.place.last)) first others
+  pub value : GoesOnWith (rules now.language) place (tokens_from now.buffer (gaps now.language) (stop now.cursor.spot.place.last)) first others
 
 -- ---- what is passed
 

@@ -13,13 +13,14 @@ use Rattle.facet_format.specs.Event.{ContainerKind, EventKind, Event, Passed, Sc
 use Rattle.facet_format.specs.Span.{Span, stop}
 use Rattle.facet_format.specs.Views.{span_of, event_of}
 use Rattle.facet_json_decode.specs.Decode.{decoded}
-use Rattle.facet_json_token.specs.Gap.{Mode}
+use Rattle.facet_json_document.specs.Language.{Language, rules}
+use Rattle.facet_json_document.specs.StrictTokens.{tokens_in, cut_in}
 use Rattle.facet_json_token.specs.Token.{Kind, Token, colon}
 use Rattle.facet_json_token.specs.Token as token
-use Rattle.facet_json_token.specs.Tokens.{Tokens, tokens_from}
-use Rattle.facet_json_document.specs.Future.{Future, gives, within, after_value, stack_after, stage_after, turn, reads, reads_colon}
+use Rattle.facet_json_token.specs.Tokens.{Tokens}
+use Rattle.facet_json_document.specs.Future.{Future, gives, within, after_value, stack_after, stage_after, turn, reads_by, reads_colon_by}
 use Rattle.facet_json_document.specs.Meaning.{meaning_of, text_of as text_in}
-use Rattle.facet_json_document.specs.Place.{Place, after_key, after_colon, Turn, stops, passes, says, says_scalar, names, place_turn}
+use Rattle.facet_json_document.specs.Place.{Place, after_key, after_colon, Turn, stops, passes, says, says_scalar, names, place_turn, led}
 use Rattle.facet_json_document.specs.Refusal.{needs_meaning, meaningless}
 use Rattle.facet_json_document.specs.Tree.{Tree}
 use Rattle.facet_json_document.specs.Tree as tree
@@ -56,41 +57,41 @@ unmade-owned buffer (token.string a b true) u =
 unmade-owned buffer (token.string a b false) u = let e = u.escaped in cc
 unmade-owned buffer _ u = let e = u.escaped in cc
 
-module _ (buffer : List ℕ) (mode : Mode) (stack : List ContainerKind) (place : Place) (position : ℕ) where
+module _ (buffer : List ℕ) (language : Language) (stack : List ContainerKind) (place : Place) (position : ℕ) where
   abbrev here : Future
-  here = comes_at buffer mode stack (within place) position
+  here = comes_at buffer language stack (within place) position
 
   -- Tokens that are refused at the place.
-  pub stops-refused : (last : Span) (ts : Tokens) (refusal : Refusal) → tokens_from buffer mode position ≡ ts →
+  pub stops-refused : (last : Span) (ts : Tokens) (refusal : Refusal) → tokens_in language buffer position ≡ ts →
       StopsAt buffer place ts refusal → IsRefusedBefore buffer last here refusal
   stops-refused last ts refusal is halts =
-      let comes = ap (reads buffer stack (within place)) is
-      ∙ stuck-reads buffer stack place ts refusal halts in
+      let comes = ap (reads_by (rules language) buffer stack (within place)) is
+      ∙ stuck-reads (rules language) buffer stack place ts refusal halts in
       subst (λ f. IsRefusedBefore buffer last f refusal) (sym comes) (at_a_stop place ts refusal halts)
 
-module _ (buffer : List ℕ) (mode : Mode) (stack : List ContainerKind) (place : Place) (position : ℕ) (t : SpannedToken) where
+module _ (buffer : List ℕ) (language : Language) (stack : List ContainerKind) (place : Place) (position : ℕ) (t : SpannedToken) where
   abbrev whole : Kind → Token
   whole kind = record { kind = kind; span = span_of t.span }
 
   abbrev rest : Tokens
-  rest = tokens_from buffer mode (stop (span_of t.span))
+  rest = tokens_in language buffer (stop (span_of t.span))
 
   abbrev all : Future
-  all = here buffer mode stack place position
+  all = here buffer language stack place position
 
   abbrev Turns : RustTurn → Type 0
-  Turns w = IsTurn buffer mode place position t w
+  Turns w = IsTurn buffer language place position t w
 
   -- ---- what comes
 
   comes_by : (w : RustTurn) (is : Turns w) (way : Turn) → turn buffer place (whole is.kind) ≡ way →
-      all ≡ follows buffer place (whole is.kind) stack rest way
+      all ≡ follows (rules language) buffer place (whole is.kind) stack rest way
   comes_by w is way e =
-      ap (reads buffer stack (within place)) is.tokens
-      ∙ reads-turn buffer stack place (whole is.kind) rest way e
+      ap (reads_by (rules language) buffer stack (within place)) is.tokens
+      ∙ reads-turn (rules language) buffer stack place (whole is.kind) rest way e
 
   mark_comes : (w : RustTurn) (is : Turns w) (way : Turn) → turn_of w ≡ way → is_mark way ≡ true →
-      all ≡ follows buffer place (whole is.kind) stack rest way
+      all ≡ follows (rules language) buffer place (whole is.kind) stack rest way
   mark_comes w is way e m =
       let turns = is.turns ∙ e in
       let plain = mark-plain place is.kind (ap is_mark turns ∙ m) in
@@ -103,17 +104,17 @@ module _ (buffer : List ℕ) (mode : Mode) (stack : List ContainerKind) (place :
       ∙ is.turns
 
   scalar_comes : (is : Turns turns.Scalar) → (needs_meaning is.kind ≡ true → IsSome (meaning_of buffer is.kind)) →
-      all ≡ gives (scalar_event buffer (whole is.kind)) (reads buffer stack (after_value stack) rest)
+      all ≡ gives (scalar_event buffer (whole is.kind)) (reads_by (rules language) buffer stack (after_value stack) rest)
   scalar_comes is h = comes_by turns.Scalar is says_scalar (meant turns.Scalar is h)
 
   names_comes : (is : Turns turns.Names) → IsSome (meaning_of buffer is.kind) →
-      all ≡ reads_colon buffer stack (whole is.kind) rest
+      all ≡ reads_colon_by (rules language) buffer stack (whole is.kind) rest
   names_comes is some = comes_by turns.Names is names (meant turns.Names is (λ n. some))
 
-  colon_comes : (key : Token) (s : Span) → IsColon buffer mode (stop (span_of t.span)) s →
-      reads_colon buffer stack key rest ≡ gives (key_event buffer key (record { kind = colon; span = s })) (reads buffer stack (within after_colon) (tokens_from buffer mode (stop s)))
-  unfolding reads_colon
-  colon_comes key s c = ap (reads_colon buffer stack key) c.tokens
+  colon_comes : (key : Token) (s : Span) → IsColon buffer language (stop (span_of t.span)) s →
+      reads_colon_by (rules language) buffer stack key rest ≡ gives (key_event buffer key (record { kind = colon; span = s })) (reads_by (rules language) buffer stack (within after_colon) (tokens_in language buffer (stop s)))
+  unfolding reads_colon_by
+  colon_comes key s c = ap (reads_colon_by (rules language) buffer stack key) c.tokens
 
   abbrev passed : EventKind → Span → Passed
   passed kind last = record { event = record { kind = kind; span = span_of t.span }; last = last }
@@ -128,7 +129,7 @@ module _ (buffer : List ℕ) (mode : Mode) (stack : List ContainerKind) (place :
   pub says-given : (w : RustTurn) (kind : EventKind) → turn_of w ≡ says kind → Turns w → (h : Held) →
       event_of h.event ≡ record { kind = kind; span = span_of t.span } → span_of h.last ≡ span_of t.span → GivesHeld all h
   says-given w kind way is h e l =
-      let after = reads buffer (stack_after kind stack) (stage_after kind stack) rest in
+      let after = reads_by (rules language) buffer (stack_after kind stack) (stage_after kind stack) rest in
       (after, mark_comes w is (says kind) way refl ∙ ap (λ p. gives p after) (as_held h kind (span_of t.span) e l))
 
   -- A scalar gives its event.
@@ -136,25 +137,25 @@ module _ (buffer : List ℕ) (mode : Mode) (stack : List ContainerKind) (place :
       (needs_meaning is.kind ≡ true → IsSome (meaning_of buffer is.kind)) → (h : Held) →
       event_of h.event ≡ record { kind = scalar value; span = span_of t.span } → span_of h.last ≡ span_of t.span → GivesHeld all h
   scalar-given is value v some h e l =
-      let after = reads buffer stack (after_value stack) rest in
+      let after = reads_by (rules language) buffer stack (after_value stack) rest in
       let event : Scalar → Event = λ x. record { kind = scalar x; span = span_of t.span } in
       (after, scalar_comes is some ∙ ap (λ p. gives p after) (as_held h _ (span_of t.span) (e ∙ ap event v) l))
 
   -- A key gives its event, with its colon.
   pub key-given : (is : Turns turns.Names) (name : Text) (mark : RustSpan) → IsTextOf buffer is.kind name →
-      IsColon buffer mode (stop (span_of t.span)) (span_of mark) → (h : Held) →
+      IsColon buffer language (stop (span_of t.span)) (span_of mark) → (h : Held) →
       event_of h.event ≡ record { kind = field_key name; span = span_of t.span } → span_of h.last ≡ span_of mark → GivesHeld all h
   key-given is name mark text c h e l =
       let means = text.means in
       let some : IsSome (meaning_of buffer is.kind) = rw means refl in
       let named : name_of is.kind (text_in (meaning_of buffer is.kind)) ≡ name = rw means (sym text.held) in
       let first : key_event buffer (whole is.kind) (record { kind = colon; span = span_of mark }) ≡ passed (field_key name) (span_of mark) = ap (λ n. passed (field_key n) (span_of mark)) named in
-      let after = reads buffer stack (within after_colon) (tokens_from buffer mode (stop (span_of mark))) in
+      let after = reads_by (rules language) buffer stack (within after_colon) (tokens_in language buffer (stop (span_of mark))) in
       (after, names_comes is some ∙ colon_comes (whole is.kind) (span_of mark) c ∙ ap (λ p. gives p after) (first ∙ as_held h _ (span_of mark) e l))
 
   -- A separator is passed, and gives nothing.
   pub passes-comes : (w : RustTurn) (other : Place) → turn_of w ≡ passes other → Turns w →
-      comes_at buffer mode stack (within other) (stop (span_of t.span)) ≡ all
+      comes_at buffer language stack (within (led (rules language) other)) (stop (span_of t.span)) ≡ all
   passes-comes w other way is = sym (mark_comes w is (passes other) way refl)
 
   -- ---- a refusal
@@ -169,7 +170,7 @@ module _ (buffer : List ℕ) (mode : Mode) (stack : List ContainerKind) (place :
   pub meaningless-refused : (w : RustTurn) (last : Span) (refusal : Refusal) (is : Turns w) →
       IsMeaningless buffer is.kind (span_of t.span) refusal → IsRefusedBefore buffer last all refusal
   meaningless-refused w last refusal is m =
-      stops-refused buffer mode stack place position last _ refusal is.tokens (meaningless place (whole is.kind) rest refusal m.judged m.meaningless m.refused)
+      stops-refused buffer language stack place position last _ refusal is.tokens (meaningless place (whole is.kind) rest refusal m.judged m.meaningless m.refused)
 
   -- A scalar that is not read.
   pub scalar-refused : (last : Span) (refusal : Refusal) (is : Turns turns.Scalar) →
@@ -183,7 +184,7 @@ module _ (buffer : List ℕ) (mode : Mode) (stack : List ContainerKind) (place :
 
   -- A key's name for which there is no memory.
   pub key-unmade : (last : Span) (mark : RustSpan) (is : Turns turns.Names) → IsUnmade buffer is.kind →
-      IsColon buffer mode (stop (span_of t.span)) (span_of mark) → IsRefusedBefore buffer last all (no_memory_at last)
+      IsColon buffer language (stop (span_of t.span)) (span_of mark) → IsRefusedBefore buffer last all (no_memory_at last)
   key-unmade last mark is u c =
       refused_memory last _ _ (names_comes is u.means ∙ colon_comes (whole is.kind) (span_of mark) c) (unmade-owned buffer is.kind u)
 
@@ -191,5 +192,5 @@ module _ (buffer : List ℕ) (mode : Mode) (stack : List ContainerKind) (place :
   pub key-stopped : (last : Span) (refusal : Refusal) (is : Turns turns.Names) → IsSome (meaning_of buffer is.kind) →
       StopsAt buffer after_key rest refusal → IsRefusedBefore buffer last all refusal
   key-stopped last refusal is some halts =
-      let comes = names_comes is some ∙ stuck-reads_colon buffer stack (whole is.kind) rest refusal halts in
+      let comes = names_comes is some ∙ stuck-reads_colon (rules language) buffer stack (whole is.kind) rest refusal halts in
       subst (λ f. IsRefusedBefore buffer last f refusal) (sym comes) (at_a_stop after_key rest refusal halts)

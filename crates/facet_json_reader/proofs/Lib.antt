@@ -1,3 +1,4 @@
+pub mod BehindRoot
 pub mod ColonAfterKey
 pub mod EventsAtTurns
 pub mod MeaninglessTokens

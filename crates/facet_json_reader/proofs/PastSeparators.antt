@@ -13,12 +13,12 @@ use Rattle.facet_format.specs.Complaint.{Refusal}
 use Rattle.facet_format.specs.Event.{ContainerKind}
 use Rattle.facet_format.specs.Span.{Span, stop}
 use Rattle.facet_format.specs.Views.{span_of}
-use Rattle.facet_json_token.specs.Gap.{Mode}
+use Rattle.facet_json_document.specs.Language.{Language, rules}
+use Rattle.facet_json_document.specs.StrictTokens.{tokens_in, cut_in}
 use Rattle.facet_json_token.specs.Token.{Kind}
-use Rattle.facet_json_token.specs.Tokens.{Tokens, ended, next, tokens_from}
-use Rattle.facet_json_token.specs.Cut.{cut}
+use Rattle.facet_json_token.specs.Tokens.{Tokens, ended, next}
 use Rattle.facet_json_token.specs.Views.{kind_of, scanned}
-use Rattle.facet_json_document.specs.Future.{Future, finished, within, over, reads}
+use Rattle.facet_json_document.specs.Future.{Future, within, over, reads_by, behind_root}
 use Rattle.facet_json_document.specs.Place.{stops, goes_on}
 use Rattle.facet_json_place.specs.Views.{place_of, turn_of, turn_by}
 use Rattle.facet_json_reader.specs.Views.{stage_of, comes_at, coming, IsTurn, StopsAt, IsRefusedBefore}
@@ -28,21 +28,23 @@ use Rattle.facet_json_place.proofs.StoppingTokens.{stopped-at_place}
 
 -- ---- the end
 
-over_reads : (buffer : List ℕ) (stack : List ContainerKind) (ts : Tokens) → reads buffer stack over ts ≡ finished
-unfolding reads
-over_reads buffer stack ts = refl
+over_reads : (language : Language) (buffer : List ℕ) (stack : List ContainerKind) (ts : Tokens) →
+    reads_by (rules language) buffer stack over ts ≡ behind_root (rules language) ts
+unfolding reads_by
+over_reads language buffer stack ts = refl
 
--- After the root nothing comes.
-pub over-finished : (buffer : List ℕ) (mode : Mode) (r : Reader) → r.stage ≡ stages.Over → coming buffer mode r ≡ finished
-over-finished buffer mode r e =
-    ap (λ s. comes_at buffer mode r.contexts (stage_of s) (stop (span_of r.last))) e
-    ∙ over_reads buffer r.contexts (tokens_from buffer mode (stop (span_of r.last)))
+-- After the root comes what comes behind it.
+pub over-comes : (buffer : List ℕ) (language : Language) (r : Reader) → r.stage ≡ stages.Over →
+    coming buffer language r ≡ behind_root (rules language) (tokens_in language buffer (stop (span_of r.last)))
+over-comes buffer language r e =
+    ap (λ s. comes_at buffer language r.contexts (stage_of s) (stop (span_of r.last))) e
+    ∙ over_reads language buffer r.contexts (tokens_in language buffer (stop (span_of r.last)))
 
 -- ---- the next token
 
-module _ (buffer : List ℕ) (mode : Mode) (p : RustPlace) (position : ℕ) (t : SpannedToken) where
-  turn_by_cut : (w : RustTurn) → IsCut buffer position mode t → turn_of w ≡ turn_by (place_of p) (kind_of t.token) →
-      (turn_of w ≡ stops → ⊥) → IsTurn buffer mode (place_of p) position t w
+module _ (buffer : List ℕ) (language : Language) (p : RustPlace) (position : ℕ) (t : SpannedToken) where
+  turn_by_cut : (w : RustTurn) → IsCut buffer position language t → turn_of w ≡ turn_by (place_of p) (kind_of t.token) →
+      (turn_of w ≡ stops → ⊥) → IsTurn buffer language (place_of p) position t w
   turn_by_cut w (ends is_end none) e goes =
       absurd (goes (e ∙ ap (λ (u : RustToken). turn_by (place_of p) (kind_of u)) is_end))
   turn_by_cut w (stands s) e goes = record {
@@ -55,23 +57,23 @@ module _ (buffer : List ℕ) (mode : Mode) (p : RustPlace) (position : ℕ) (t :
   }
 
   -- A token that has a turn is next.
-  pub is-turn : (w : RustTurn) → position ≤ length buffer → scanned (Ok t) ≡ Some (cut buffer position mode) →
+  pub is-turn : (w : RustTurn) → position ≤ length buffer → scanned (Ok t) ≡ Some (cut_in language buffer position) →
       turn_of w ≡ turn_by (place_of p) (kind_of t.token) → (turn_of w ≡ stops → ⊥) →
-      IsTurn buffer mode (place_of p) position t w
-  is-turn w h e turns goes = turn_by_cut w (is_cut buffer position mode t h e) turns goes
+      IsTurn buffer language (place_of p) position t w
+  is-turn w h e turns goes = turn_by_cut w (is_cut buffer position language t h e) turns goes
 
-module _ (buffer : List ℕ) (mode : Mode) (stack : List ContainerKind) (p : RustPlace) (position : ℕ) (t : SpannedToken) where
+module _ (buffer : List ℕ) (language : Language) (stack : List ContainerKind) (p : RustPlace) (position : ℕ) (t : SpannedToken) where
   -- A token without a turn, or the end, is refused.
   pub stopped-refused : (last : Span) (refusal : Refusal) → position ≤ length buffer →
-      scanned (Ok t) ≡ Some (cut buffer position mode) →
+      scanned (Ok t) ≡ Some (cut_in language buffer position) →
       turn_of turns.Stops ≡ turn_by (place_of p) (kind_of t.token) →
       (t.token ≡ code.Eof → StopsAt buffer (place_of p) ended refusal) →
       ((kind : Kind) (rest : Tokens) → kind_of t.token ≡ Some kind → goes_on (place_of p) kind ≡ false →
       StopsAt buffer (place_of p) (next (record { kind = kind; span = span_of t.span }) rest) refusal) →
-      IsRefusedBefore buffer last (comes_at buffer mode stack (within (place_of p)) position) refusal
+      IsRefusedBefore buffer last (comes_at buffer language stack (within (place_of p)) position) refusal
   stopped-refused last refusal h e turns at_end at_token =
-      stops-refused buffer mode stack (place_of p) position last (tokens_from buffer mode position) refusal refl
-      (stopped-at_place buffer position mode t p (λ ts. StopsAt buffer (place_of p) ts refusal) h e turns at_end at_token)
+      stops-refused buffer language stack (place_of p) position last (tokens_in language buffer position) refusal refl
+      (stopped-at_place buffer position language t p (λ ts. StopsAt buffer (place_of p) ts refusal) h e turns at_end at_token)
 
 -- ---- after separators
 

@@ -9,10 +9,10 @@ use Rattle.facet_json_token.specs.declared.token.ScanError.{ScanError}
 use Rattle.facet_format.specs.Complaint.{Refusal}
 use Rattle.facet_format.specs.Span.{stop}
 use Rattle.facet_format.specs.Views.{span_of, hint_of}
-use Rattle.facet_json_token.specs.Gap.{Mode}
+use Rattle.facet_json_document.specs.Language.{Language, rules}
+use Rattle.facet_json_document.specs.StrictTokens.{tokens_in, cut_in}
 use Rattle.facet_json_token.specs.Token.{Kind}
-use Rattle.facet_json_token.specs.Cut.{cut}
-use Rattle.facet_json_token.specs.Tokens.{tokens_from}
+use Rattle.facet_json_token.specs.Tokens.{ended}
 use Rattle.facet_json_token.specs.Views.{kind_of, scanned, scan_refusal}
 use Rattle.facet_json_token.proofs.CutBounds.{KindFits, StringFits, NumberFits}
 use Rattle.facet_json_document.specs.Place.{Place}
@@ -49,20 +49,20 @@ CanBeRead-fits buffer s (code.NeedMore n) kind w k f = cc
 CanBeRead-fits buffer s _ kind w k f = tt
 
 -- What is cut can be read.
-can_be : (buffer : List ℕ) (position : ℕ) (mode : Mode) (t : SpannedToken) → IsCut buffer position mode t →
+can_be : (buffer : List ℕ) (position : ℕ) (language : Language) (t : SpannedToken) → IsCut buffer position language t →
     CanBeRead buffer t.span t.token
-can_be buffer position mode t (ends is_end none) = rw is_end tt
-can_be buffer position mode t (stands s) = CanBeRead-fits buffer t.span t.token s.kind s.within s.is_kind s.fits
+can_be buffer position language t (ends is_end none) = rw is_end tt
+can_be buffer position language t (stands s) = CanBeRead-fits buffer t.span t.token s.kind s.within s.is_kind s.fits
 
-pub cut-readable : (buffer : List ℕ) (position : ℕ) (mode : Mode) (t : SpannedToken) → position ≤ length buffer →
-    scanned (Ok t) ≡ Some (cut buffer position mode) → CanBeRead buffer t.span t.token
-cut-readable buffer position mode t p e = can_be buffer position mode t (is_cut buffer position mode t p e)
+pub cut-readable : (buffer : List ℕ) (position : ℕ) (language : Language) (t : SpannedToken) → position ≤ length buffer →
+    scanned (Ok t) ≡ Some (cut_in language buffer position) → CanBeRead buffer t.span t.token
+cut-readable buffer position language t p e = can_be buffer position language t (is_cut buffer position language t p e)
 
 -- ---- a fault
 
 -- A fault stops the reader wherever it stands.
-pub fault-stops : (buffer : List ℕ) (position : ℕ) (mode : Mode) (e : ScanError) (place : Place) (r : Refusal) →
-    scanned (Err e) ≡ Some (cut buffer position mode) → (IsNamed e.kind → r ≡ scan_refusal e) →
-    StopsAt buffer place (tokens_from buffer mode position) r
-fault-stops buffer position mode e place r h p =
-    let f = is_refused buffer position mode e h in rw (f.passed_on r p, f.tokens) (at_fault place f.what)
+pub fault-stops : (buffer : List ℕ) (position : ℕ) (language : Language) (e : ScanError) (place : Place) (r : Refusal) → position ≤ length buffer →
+    scanned (Err e) ≡ Some (cut_in language buffer position) → (IsNamed e.kind → r ≡ scan_refusal e) →
+    StopsAt buffer place (tokens_in language buffer position) r
+fault-stops buffer position language e place r room h p =
+    let f = is_refused buffer position language e room h in rw (f.passed_on r p, f.tokens) (at_fault place f.what)

@@ -6,10 +6,10 @@ use Rattle.facet_format.specs.Event.{EventKind, Scalar, Event, Passed}
 use Rattle.facet_format.specs.Event as event
 use Rattle.facet_format.specs.Span.{Span}
 use Rattle.facet_json_token.specs.Cut.{past_gap}
-use Rattle.facet_json_token.specs.Gap.{Mode}
 use Rattle.facet_json_document.specs.Future.{Future, gives, within}
+use Rattle.facet_json_document.specs.Language.{Language, gaps}
 use Rattle.facet_json_document.specs.InputPlace.{past}
-use Rattle.facet_json_document.specs.Place.{Place, root, after_colon, before_item}
+use Rattle.facet_json_document.specs.Place.{Place, root, after_colon, before_item, before_key, next_item, next_key}
 use Rattle.facet_json_reader.specs.Views.{standing_of, comes_at, coming}
 
 -- The places where a value may stand.
@@ -17,14 +17,21 @@ abbrev pub MayBeValue : Place → Type 0
 MayBeValue root = Unit {0}
 MayBeValue after_colon = Unit {0}
 MayBeValue before_item = Unit {0}
+MayBeValue next_item = Unit {0}
 MayBeValue _ = ⊥
 
 -- Separators aside, the next token is the one at this offset, and this place is before it.
-pub record Reaches (buffer : List ℕ) (mode : Mode) (r : Reader) (place : Place) (at : ℕ) : Type 0 where
+pub record Reaches (buffer : List ℕ) (language : Language) (r : Reader) (place : Place) (at : ℕ) : Type 0 where
   pub from : ℕ
   pub fits : from ≤ length buffer
-  pub gap : at ≡ past_gap buffer from mode
-  pub comes : comes_at buffer mode r.contexts (within place) from ≡ coming buffer mode r
+  pub gap : at ≡ past_gap buffer from (gaps language)
+  pub comes : comes_at buffer language r.contexts (within place) from ≡ coming buffer language r
+
+-- The places where a key may stand.
+abbrev pub MayBeKey : Place → Type 0
+MayBeKey before_key = Unit {0}
+MayBeKey next_key = Unit {0}
+MayBeKey _ = ⊥
 
 -- This byte begins the literal of these letters, which is read as this value.
 pub data IsWord : ℕ → List ℕ → Scalar → Type 0 where
@@ -38,9 +45,9 @@ pub record Leaves (r : Reader) (kind : EventKind) (s last : Span) (e : Event) (t
   pub new : standing_of t ≡ past (record { event = e; last = last }) (standing_of r)
 
 -- The event came next where the reader stood, and it stands after it.
-pub record PassesEvent (buffer : List ℕ) (mode : Mode) (r : Reader) (e : Event) (t : Reader) : Type 0 where
+pub record PassesEvent (buffer : List ℕ) (language : Language) (r : Reader) (e : Event) (t : Reader) : Type 0 where
   pub p : Passed
   pub rest : Future
-  pub comes : coming buffer mode r ≡ gives p rest
+  pub comes : coming buffer language r ≡ gives p rest
   pub event : e ≡ p.event
   pub new : standing_of t ≡ past p (standing_of r)

@@ -19,11 +19,12 @@ use Rattle.facet_format.specs.Event as event
 use Rattle.facet_format.specs.HeldText.{text_of}
 use Rattle.facet_format.specs.Span.{Span, stop}
 use Rattle.facet_format.specs.Views.{span_of, event_of, scalar_value_of}
-use Rattle.facet_json_token.specs.Gap.{Mode}
 use Rattle.facet_json_token.specs.Token.{Kind, colon}
-use Rattle.facet_json_token.specs.Tokens.{Tokens, next, tokens_from}
+use Rattle.facet_json_token.specs.Tokens.{Tokens, next}
 use Rattle.facet_json_token.specs.Views.{kind_of}
-use Rattle.facet_json_document.specs.Future.{Future, gives, finished, stuck, Stage, within, over, reads}
+use Rattle.facet_json_document.specs.Future.{Future, gives, finished, stuck, Stage, within, over, reads_by}
+use Rattle.facet_json_document.specs.Language.{Language, rules}
+use Rattle.facet_json_document.specs.StrictTokens.{tokens_in}
 use Rattle.facet_json_document.specs.Meaning.{meaning_of}
 use Rattle.facet_json_document.specs.Place.{Place, after_key, place_turn, kind_name}
 use Rattle.facet_json_document.specs.Refusal.{needs_meaning, IsStuck}
@@ -52,23 +53,23 @@ with_opened (event.sequence_start kind) stack = array ∷ stack
 with_opened _ stack = stack
 
 -- what is given out from an offset on, at a stage within these containers
-abbrev pub comes_at : List ℕ → Mode → List ContainerKind → Stage → ℕ → Future
-comes_at buffer mode stack stage position = reads buffer stack stage (tokens_from buffer mode position)
+abbrev pub comes_at : List ℕ → Language → List ContainerKind → Stage → ℕ → Future
+comes_at buffer language stack stage position = reads_by (rules language) buffer stack stage (tokens_in language buffer position)
 
 -- what is given out from where the reader stands on
-abbrev pub coming : List ℕ → Mode → Reader → Future
-coming buffer mode r = comes_at buffer mode r.contexts (stage_of r.stage) (stop (span_of r.last))
+abbrev pub coming : List ℕ → Language → Reader → Future
+coming buffer language r = comes_at buffer language r.contexts (stage_of r.stage) (stop (span_of r.last))
 
 -- ---- tokens
 
 -- This token of the buffer is next after the offset, and this is its turn at the place.
-pub record IsTurn (buffer : List ℕ) (mode : Mode) (place : Place) (position : ℕ) (t : SpannedToken) (turn : RustTurn) : Type 0 where
+pub record IsTurn (buffer : List ℕ) (language : Language) (place : Place) (position : ℕ) (t : SpannedToken) (turn : RustTurn) : Type 0 where
   pub kind : Kind
   pub is_kind : kind_of t.token ≡ Some kind
   pub past : position < stop (span_of t.span)
   pub ends : stop (span_of t.span) ≤ length buffer
-  pub tokens : tokens_from buffer mode position
-      ≡ next (record { kind = kind; span = span_of t.span }) (tokens_from buffer mode (stop (span_of t.span)))
+  pub tokens : tokens_in language buffer position
+      ≡ next (record { kind = kind; span = span_of t.span }) (tokens_in language buffer (stop (span_of t.span)))
   pub turns : place_turn place kind ≡ turn_of turn
 
 -- The tokens don't go on with a document at the place, and are refused so.
@@ -99,15 +100,15 @@ IsNameOf buffer kind s (Ok (Some name)) = IsTextOf buffer kind (text_of name)
 IsNameOf buffer kind s (Err r) = IsMeaningless buffer kind s (refused_of r)
 
 -- A colon is next, which takes these bytes.
-pub record IsColon (buffer : List ℕ) (mode : Mode) (position : ℕ) (s : Span) : Type 0 where
+pub record IsColon (buffer : List ℕ) (language : Language) (position : ℕ) (s : Span) : Type 0 where
   pub past : position < stop s
   pub ends : stop s ≤ length buffer
-  pub tokens : tokens_from buffer mode position
-      ≡ next (record { kind = colon; span = s }) (tokens_from buffer mode (stop s))
+  pub tokens : tokens_in language buffer position
+      ≡ next (record { kind = colon; span = s }) (tokens_in language buffer (stop s))
 
-abbrev pub IsColonAt : List ℕ → Mode → ℕ → Result RustSpan Refused → Type 0
-IsColonAt buffer mode position (Ok s) = IsColon buffer mode position (span_of s)
-IsColonAt buffer mode position (Err r) = StopsAt buffer after_key (tokens_from buffer mode position) (refused_of r)
+abbrev pub IsColonAt : List ℕ → Language → ℕ → Result RustSpan Refused → Type 0
+IsColonAt buffer language position (Ok s) = IsColon buffer language position (span_of s)
+IsColonAt buffer language position (Err r) = StopsAt buffer after_key (tokens_in language buffer position) (refused_of r)
 
 -- ---- answers
 
@@ -128,7 +129,7 @@ Answers buffer last future (Ok h) = GivesHeld future h
 Answers buffer last future (Err e) = IsRefusedBefore buffer last future (refused_of e)
 
 -- Where the reader stands, the document has ended, or the next event is given, or refused.
-abbrev pub IsUpcoming : List ℕ → Mode → Reader → Result (Option Held) Refused → Type 0
-IsUpcoming buffer mode r (Ok None) = coming buffer mode r ≡ finished
-IsUpcoming buffer mode r (Ok (Some h)) = GivesHeld (coming buffer mode r) h
-IsUpcoming buffer mode r (Err e) = IsRefusedBefore buffer (span_of r.last) (coming buffer mode r) (refused_of e)
+abbrev pub IsUpcoming : List ℕ → Language → Reader → Result (Option Held) Refused → Type 0
+IsUpcoming buffer language r (Ok None) = coming buffer language r ≡ finished
+IsUpcoming buffer language r (Ok (Some h)) = GivesHeld (coming buffer language r) h
+IsUpcoming buffer language r (Err e) = IsRefusedBefore buffer (span_of r.last) (coming buffer language r) (refused_of e)

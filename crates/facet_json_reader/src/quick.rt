@@ -1,29 +1,28 @@
 //! The next event passed at once, where a few bytes decide it. In all other cases nothing is done, and the next event is read
 //! token by token, in `reader`.
 
-ghost use Rattle.std.specs.Prelude.{◌≡◌, ◌≤◌, ◌<◌, ◌+◌, ◌-◌, ℕ, List, Some, length, slice_get, true, false, IfSome, IsUtf8, MatchOption};
+ghost use Rattle.std.specs.Prelude.{◌≡◌, ◌≤◌, ◌<◌, Bool, ◌+◌, ◌-◌, ℕ, List, Some, length, slice_get, true, false, IfSome, IsUtf8, MatchOption};
 ghost use Rattle.facet_format.specs.Bytes.{quote, right_brace, right_bracket};
 ghost use Rattle.facet_format.specs.Event.{scalar, field_key, borrowed};
-ghost use Rattle.facet_format.specs.Span.{stop, span_at};
+ghost use Rattle.facet_format.specs.Span.{Span as SpecSpan, stop, span_at};
 ghost use Rattle.facet_format.specs.Views.{span_of, event_of, scalar_value_of};
 ghost use Rattle.facet_json_token.specs.Cut.{start_of, opens_number};
-ghost use Rattle.facet_json_token.specs.Gap.{Mode as SpecMode};
-ghost use Rattle.facet_json_token.specs.Token.{Kind, comma};
-ghost use Rattle.facet_json_token.specs.Views.{mode_of};
+ghost use Rattle.facet_json_token.specs.Token.{comma, string};
 ghost use Rattle.facet_json_document.specs.Future.{within};
-ghost use Rattle.facet_json_document.specs.Place.{Place as SpecPlace, before_key, passes, place_turn};
-ghost use Rattle.facet_json_place.specs.Views.{place_of, opening, closing};
+ghost use Rattle.facet_json_document.specs.Place.{Place as SpecPlace, led, passes, place_turn};
+ghost use Rattle.facet_json_document.specs.Language.{Language as SpecLanguage, rules};
+ghost use Rattle.facet_json_document.specs.StrictTokens.{Allows};
+ghost use Rattle.facet_json_place.specs.Views.{language_of, place_of, opening, closing};
 ghost use Rattle.facet_json_plain.specs.Values.{IsPlainText};
-ghost use Rattle.facet_json_reader.specs.Quick.{MayBeValue, Reaches, IsWord, Leaves, PassesEvent};
+ghost use Rattle.facet_json_reader.specs.Quick.{MayBeKey, MayBeValue, Reaches, IsWord, Leaves, PassesEvent};
 ghost use Rattle.facet_json_reader.specs.Views.{stage_of};
 
 use crate::reader::{Reader, Stage, closing, opening};
 use facet_format::{
     ContainerKind, FieldKey, FieldLocationHint, ParseEvent, ParseEventKind, ScalarValue, Span,
 };
-use facet_json_place::Place;
+use facet_json_place::{Language, Place};
 use facet_json_plain::{checked_text_at, quoted_text_at, short_number};
-use facet_json_token::Mode;
 use facet_json_token::plain_cut::common_len;
 use facet_json_token::quick::gap_end;
 use std::borrow::CowStr;
@@ -44,37 +43,38 @@ impl Reader {
     pub fn pass_quickly<'de>(
         &mut self,
         input: &'de [u8],
-        mode: Mode,
+        language: Language,
         trust: Trust,
     ) -> Option<ParseEvent<'de>>
         requires within { stop (span_of self.old.last) ≤ length input.now }
         requires utf8 { trust ≡ Trust.Utf8 → IsUtf8 input.now }
         ensures { MatchOption result (self.new ≡ self.old)
-            (λ e. PassesEvent input.now (mode_of mode) self.old (event_of e) self.new) }
+            (λ e. PassesEvent input.now (language_of language) self.old (event_of e) self.new) }
     {
         let Stage::Within(place) = self.stage else {
             return None;
         };
-        let (place, at) = self.past_separators(input, mode, place);
+        let (place, at) = self.past_separators(input, language, place);
         let first = *input.get(at)?;
         match first {
-            b'"' => self.pass_string(input, mode, trust, place, at),
+            b'"' => self.pass_string(input, language, trust, place, at),
             b'}' => self.pass_object_end(place, at),
             b']' => self.pass_array_end(place, at),
-            _ => self.pass_value(input, place, at, first),
+            _ => self.pass_value(input, language, place, at, first),
         }
     }
 
     /// Where the next token stands that is no separator, and the place before it.
     #[inline(always)]
-    fn past_separators(&self, input: &[u8], mode: Mode, place: Place) -> (Place, usize)
+    fn past_separators(&self, input: &[u8], language: Language, place: Place) -> (Place, usize)
         requires within { stop (span_of self.now.last) ≤ length input.now }
         requires place { stage_of self.now.stage ≡ within (place_of place) }
-        ensures { Reaches input.now (mode_of mode) self.now (place_of result.0) result.1 }
+        ensures { Reaches input.now (language_of language) self.now (place_of result.0) result.1 }
     {
+        let mode = language.mode();
         let at = gap_end(input, self.last.end(), mode);
         match input.get(at) {
-            Some(b',') => match after_comma(place) {
+            Some(b',') => match after_comma(language, place) {
                 Some(next) => (next, gap_end(input, at + 1, mode)),
                 None => (place, at),
             },
@@ -87,19 +87,24 @@ impl Reader {
     fn pass_string<'de>(
         &mut self,
         input: &'de [u8],
-        mode: Mode,
+        language: Language,
         trust: Trust,
         place: Place,
         at: usize,
     ) -> Option<ParseEvent<'de>>
         requires here { slice_get input.now at ≡ Some quote }
         requires utf8 { trust ≡ Trust.Utf8 → IsUtf8 input.now }
-        ensures { Reaches input.now (mode_of mode) self.old (place_of place) at → MatchOption result (self.new ≡ self.old)
-            (λ e. PassesEvent input.now (mode_of mode) self.old (event_of e) self.new) }
+        ensures { Reaches input.now (language_of language) self.old (place_of place) at → MatchOption result (self.new ≡ self.old)
+            (λ e. PassesEvent input.now (language_of language) self.old (event_of e) self.new) }
     {
         let (end, text) = text_at(input, trust, at)?;
+        if !language.allows_text(input, at + 1, end) {
+            return None;
+        }
         match place {
-            Place::BeforeKey => self.pass_key(input, mode, text, at, end),
+            Place::BeforeKey | Place::NextKey => {
+                self.pass_key(input, language, place, text, at, end)
+            }
             _ if takes_value(place) => Some(self.pass_scalar(
                 ScalarValue::Str(CowStr::Borrowed(text)),
                 Span::new(at, end + 1 - at),
@@ -111,9 +116,9 @@ impl Reader {
     /// Passes the bracket that closes an object, which stands here.
     #[inline(always)]
     fn pass_object_end<'de>(&mut self, place: Place, at: usize) -> Option<ParseEvent<'de>>
-        ensures { (buffer : List ℕ) (mode : SpecMode) → slice_get buffer at ≡ Some right_brace
-            → Reaches buffer mode self.old (place_of place) at → MatchOption result (self.new ≡ self.old)
-            (λ e. PassesEvent buffer mode self.old (event_of e) self.new) }
+        ensures { (buffer : List ℕ) (language : SpecLanguage) → slice_get buffer at ≡ Some right_brace
+            → Reaches buffer language self.old (place_of place) at → MatchOption result (self.new ≡ self.old)
+            (λ e. PassesEvent buffer language self.old (event_of e) self.new) }
     {
         match place {
             Place::BeforeKey | Place::AfterMember => Some(self.pass_end(ContainerKind::Object, at)),
@@ -124,9 +129,9 @@ impl Reader {
     /// Passes the bracket that closes an array, which stands here.
     #[inline(always)]
     fn pass_array_end<'de>(&mut self, place: Place, at: usize) -> Option<ParseEvent<'de>>
-        ensures { (buffer : List ℕ) (mode : SpecMode) → slice_get buffer at ≡ Some right_bracket
-            → Reaches buffer mode self.old (place_of place) at → MatchOption result (self.new ≡ self.old)
-            (λ e. PassesEvent buffer mode self.old (event_of e) self.new) }
+        ensures { (buffer : List ℕ) (language : SpecLanguage) → slice_get buffer at ≡ Some right_bracket
+            → Reaches buffer language self.old (place_of place) at → MatchOption result (self.new ≡ self.old)
+            (λ e. PassesEvent buffer language self.old (event_of e) self.new) }
     {
         match place {
             Place::BeforeItem | Place::AfterItem => Some(self.pass_end(ContainerKind::Array, at)),
@@ -139,13 +144,14 @@ impl Reader {
     fn pass_value<'de>(
         &mut self,
         input: &'de [u8],
+        language: Language,
         place: Place,
         at: usize,
         first: u8,
     ) -> Option<ParseEvent<'de>>
         requires here { slice_get input.now at ≡ Some first }
-        ensures { (mode : SpecMode) → Reaches input.now mode self.old (place_of place) at
-            → MatchOption result (self.new ≡ self.old) (λ e. PassesEvent input.now mode self.old (event_of e) self.new) }
+        ensures { Reaches input.now (language_of language) self.old (place_of place) at
+            → MatchOption result (self.new ≡ self.old) (λ e. PassesEvent input.now (language_of language) self.old (event_of e) self.new) }
     {
         if !takes_value(place) {
             return None;
@@ -156,7 +162,7 @@ impl Reader {
             b't' => self.pass_word(input, at, b"true", ScalarValue::Bool(true)),
             b'f' => self.pass_word(input, at, b"false", ScalarValue::Bool(false)),
             b'n' => self.pass_word(input, at, b"null", ScalarValue::Null),
-            b'-' | b'0'..=b'9' => self.pass_number_apart(input, at, first),
+            b'-' | b'0'..=b'9' => self.pass_number_apart(input, language, at, first),
             _ => None,
         }
     }
@@ -166,16 +172,20 @@ impl Reader {
     fn pass_key<'de>(
         &mut self,
         input: &[u8],
-        mode: Mode,
+        language: Language,
+        place: Place,
         name: &'de str,
         at: usize,
         end: usize,
     ) -> Option<ParseEvent<'de>>
+        requires key { MayBeKey (place_of place) }
+        requires allowed { (s : SpecSpan) (mark : Bool) → Allows (language_of language) input.now (record { kind = string (at + 1) end mark; span = s }) }
         requires text { IsPlainText input.now at end name.now }
         requires within { (at < end) × (end < length input.now) }
-        ensures { Reaches input.now (mode_of mode) self.old before_key at → MatchOption result (self.new ≡ self.old)
-            (λ e. PassesEvent input.now (mode_of mode) self.old (event_of e) self.new) }
+        ensures { Reaches input.now (language_of language) self.old (place_of place) at → MatchOption result (self.new ≡ self.old)
+            (λ e. PassesEvent input.now (language_of language) self.old (event_of e) self.new) }
     {
+        let mode = language.mode();
         let colon = gap_end(input, end + 1, mode);
         match input.get(colon) {
             Some(b':') => Some(self.pass_name(name, Span::new(at, end + 1 - at), colon)),
@@ -193,9 +203,9 @@ impl Reader {
         value: ScalarValue<'de>,
     ) -> Option<ParseEvent<'de>>
         requires { at ≤ length input.now }
-        ensures { (mode : SpecMode) (place : SpecPlace) (first : ℕ) → IsWord first word.now (scalar_value_of value.entry) → slice_get input.now at ≡ Some first
-            → MayBeValue place → Reaches input.now mode self.old place at
-            → MatchOption result (self.new ≡ self.old) (λ e. PassesEvent input.now mode self.old (event_of e) self.new) }
+        ensures { (language : SpecLanguage) (place : SpecPlace) (first : ℕ) → IsWord first word.now (scalar_value_of value.entry) → slice_get input.now at ≡ Some first
+            → MayBeValue place → Reaches input.now language self.old place at
+            → MatchOption result (self.new ≡ self.old) (λ e. PassesEvent input.now language self.old (event_of e) self.new) }
     {
         let len = word.len();
         if common_len(input, at, word) == len {
@@ -210,15 +220,16 @@ impl Reader {
     fn pass_number_apart<'de>(
         &mut self,
         input: &'de [u8],
+        language: Language,
         at: usize,
         first: u8,
     ) -> Option<ParseEvent<'de>>
         requires here { slice_get input.now at ≡ Some first }
         requires number { start_of first ≡ opens_number }
-        ensures { (mode : SpecMode) (place : SpecPlace) → MayBeValue place → Reaches input.now mode self.old place at
-            → MatchOption result (self.new ≡ self.old) (λ e. PassesEvent input.now mode self.old (event_of e) self.new) }
+        ensures { (place : SpecPlace) → MayBeValue place → Reaches input.now (language_of language) self.old place at
+            → MatchOption result (self.new ≡ self.old) (λ e. PassesEvent input.now (language_of language) self.old (event_of e) self.new) }
     {
-        let event = self.pass_number(input, at, first);
+        let event = self.pass_number(input, language, at, first);
         event
     }
 
@@ -227,15 +238,19 @@ impl Reader {
     fn pass_number<'de>(
         &mut self,
         input: &'de [u8],
+        language: Language,
         at: usize,
         first: u8,
     ) -> Option<ParseEvent<'de>>
         requires here { slice_get input.now at ≡ Some first }
         requires number { start_of first ≡ opens_number }
-        ensures { (mode : SpecMode) (place : SpecPlace) → MayBeValue place → Reaches input.now mode self.old place at
-            → MatchOption result (self.new ≡ self.old) (λ e. PassesEvent input.now mode self.old (event_of e) self.new) }
+        ensures { (place : SpecPlace) → MayBeValue place → Reaches input.now (language_of language) self.old place at
+            → MatchOption result (self.new ≡ self.old) (λ e. PassesEvent input.now (language_of language) self.old (event_of e) self.new) }
     {
         let (len, value) = short_number(input, at, first)?;
+        if !language.allows_number(input, at, at + len) {
+            return None;
+        }
         Some(self.pass_scalar(value, Span::new(at, len)))
     }
 
@@ -289,12 +304,13 @@ impl Reader {
 
 /// The place after a comma, where a comma may stand at this place.
 #[inline(always)]
-fn after_comma(place: Place) -> Option<Place>
-    ensures { IfSome result (λ next. place_turn (place_of place) comma ≡ passes (place_of next)) }
+fn after_comma(language: Language, place: Place) -> Option<Place>
+    ensures { IfSome result (λ next. (other : SpecPlace) × (place_turn (place_of place) comma ≡ passes other)
+        × (place_of next ≡ led (rules (language_of language)) other)) }
 {
     match place {
-        Place::AfterItem => Some(Place::BeforeItem),
-        Place::AfterMember => Some(Place::BeforeKey),
+        Place::AfterItem => Some(language.led(Place::BeforeItem)),
+        Place::AfterMember => Some(language.led(Place::BeforeKey)),
         _ => None,
     }
 }
@@ -304,7 +320,10 @@ fn after_comma(place: Place) -> Option<Place>
 fn takes_value(place: Place) -> bool
     ensures { result ≡ true → MayBeValue (place_of place) }
 {
-    matches!(place, Place::Root | Place::AfterColon | Place::BeforeItem)
+    matches!(
+        place,
+        Place::Root | Place::AfterColon | Place::BeforeItem | Place::NextItem
+    )
 }
 
 /// The text of the string whose quote is at `at`, where it holds no escape, and the offset of the quote that closes it.

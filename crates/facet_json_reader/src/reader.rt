@@ -4,23 +4,24 @@ ghost use Rattle.std.specs.Prelude.{◌≡◌, ◌≤◌, ℕ, true, false, [], 
 ghost use Rattle.facet_format.specs.Event.{ContainerKind as SpecContainer, takes_memory};
 ghost use Rattle.facet_format.specs.Span.{stop, span_at};
 ghost use Rattle.facet_format.specs.Views.{span_of, event_of, event_kind_of};
-ghost use Rattle.facet_json_token.specs.Gap.{Mode as SpecMode};
+ghost use Rattle.facet_json_document.specs.Language.{Language as SpecLanguage, rules, strict, strict_rules};
+ghost use Rattle.facet_json_document.specs.StrictTokens.{tokens_in};
 ghost use Rattle.facet_json_token.specs.Token.{Kind};
 ghost use Rattle.facet_json_token.specs.Tokens.{Tokens, ended, next};
 ghost use Rattle.facet_json_token.specs.Views.{kind_of, mode_of};
-ghost use Rattle.facet_json_document.specs.Future.{after_value, around, stage_after, within};
+ghost use Rattle.facet_json_document.specs.Future.{after_value, around, behind_root, finished, stage_after, within};
 ghost use Rattle.facet_json_document.specs.Place.{Place as SpecPlace, expected_at, goes_on};
 ghost use Rattle.facet_json_document.specs.InputPlace.{first_standing, past};
-ghost use Rattle.facet_json_place.specs.Views.{place_of, expected_text, refused_of, opening, closing, is_text};
+ghost use Rattle.facet_json_place.specs.Views.{language_of, place_of, expected_text, refused_of, opening, closing, is_text};
 ghost use Rattle.facet_json_reader.specs.TokenViews.{CanBeRead, IsMeaningless};
-ghost use Rattle.facet_json_reader.specs.Views.{stage_of, passed_of, standing_of, with_opened, comes_at, StopsAt, IsNamed, IsTurn, IsValueOf, IsNameOf, IsColonAt, Answers, IsUpcoming};
+ghost use Rattle.facet_json_reader.specs.Views.{stage_of, passed_of, standing_of, with_opened, comes_at, StopsAt, IsNamed, IsTurn, IsValueOf, IsNameOf, IsColonAt, IsRefusedBefore, Answers, IsUpcoming};
 
 use crate::materialized::{materialize, string_text};
 use facet_format::{
     ContainerKind, FieldKey, FieldLocationHint, ParseEvent, ParseEventKind, ScalarValue, Span,
 };
-use facet_json_place::{Contexts, Expected, Name, Place, Refused, Turn, Why};
-use facet_json_token::{Mode, SpannedToken, Token, cut};
+use facet_json_place::{Contexts, Expected, Language, Name, Place, Refused, Turn, Why};
+use facet_json_token::{Mode, SpannedToken, Token};
 use std::alloc::{AllocError, Global};
 use std::borrow::CowStr;
 
@@ -119,27 +120,28 @@ impl Reader {
         &self,
         alloc: Global,
         input: &'de [u8],
-        mode: Mode,
+        language: Language,
     ) -> Result<Option<Held<'de>>, Refused>
         requires within { stop (span_of self.now.last) ≤ length input.now }
-        ensures { IsUpcoming input.now (mode_of mode) self.now result }
+        ensures { IsUpcoming input.now (language_of language) self.now result }
     {
         let Stage::Within(mut place) = self.stage else {
+            end(alloc, input, language, self.last)?;
             return Ok(None);
         };
         let mut position = self.last.end();
         loop {
-            let token = cut(input, position, mode)?;
+            let token = language.cut(input, position)?;
             match place.turn(&token.token) {
                 Turn::Stops => return Err(stopped(alloc, input, place, &token)),
                 Turn::Passes(next) => {
                     position = token.span.end();
-                    place = next;
+                    place = language.led(next);
                 }
                 Turn::Opens(kind) => return Ok(Some(event(opening(kind), token.span, token.span))),
                 Turn::Closes(kind) => return Ok(Some(event(closing(kind), token.span, token.span))),
                 Turn::Scalar => return Ok(Some(scalar(alloc, input, &token, self.last)?)),
-                Turn::Names => return Ok(Some(key(alloc, input, mode, &token, self.last)?)),
+                Turn::Names => return Ok(Some(key(alloc, input, language, &token, self.last)?)),
             }
         }
     }
@@ -221,6 +223,35 @@ fn event<'de>(kind: ParseEventKind<'de>, span: Span, last: Span) -> Held<'de>
     }
 }
 
+/// Whether the input may end behind the root, whose last token takes these bytes: where RFC 8259 alone is read, nothing is left there.
+#[inline(always)]
+fn end(alloc: Global, input: &[u8], language: Language, last: Span) -> Result<(), Refused>
+    requires { stop (span_of last) ≤ length input.now }
+    ensures { let behind = behind_root (rules (language_of language)) (tokens_in (language_of language) input.now (stop (span_of last))) in MatchResult result
+        (λ _. behind ≡ finished)
+        (λ r. IsRefusedBefore input.now (span_of last) behind (refused_of r)) }
+{
+    match language {
+        Language::Lenient(_) => Ok(()),
+        Language::Strict(mode) => end_strict(alloc, input, mode, last),
+    }
+}
+
+/// The same where RFC 8259 alone is read.
+#[inline(never)]
+fn end_strict(alloc: Global, input: &[u8], mode: Mode, last: Span) -> Result<(), Refused>
+    requires { stop (span_of last) ≤ length input.now }
+    ensures { let behind = behind_root strict_rules (tokens_in (strict (mode_of mode)) input.now (stop (span_of last))) in MatchResult result
+        (λ _. behind ≡ finished)
+        (λ r. IsRefusedBefore input.now (span_of last) behind (refused_of r)) }
+{
+    let token = Language::Strict(mode).cut(input, last.end())?;
+    match token.token {
+        Token::Eof => Ok(()),
+        _ => Err(stopped(alloc, input, Place::AfterRoot, &token)),
+    }
+}
+
 /// A scalar's event.
 fn scalar<'de>(
     alloc: Global,
@@ -229,9 +260,9 @@ fn scalar<'de>(
     last: Span,
 ) -> Result<Held<'de>, Refused>
     requires { CanBeRead input.now token.now.span token.now.token }
-    ensures { (mode : SpecMode) (stack : List SpecContainer) (place : SpecPlace) (position : ℕ)
-        → IsTurn input.now mode place position token.now Turn.Scalar
-        → Answers input.now (span_of last) (comes_at input.now mode stack (within place) position) result }
+    ensures { (language : SpecLanguage) (stack : List SpecContainer) (place : SpecPlace) (position : ℕ)
+        → IsTurn input.now language place position token.now Turn.Scalar
+        → Answers input.now (span_of last) (comes_at input.now language stack (within place) position) result }
 {
     let value = scalar_value(alloc, input, token, last)?;
     Ok(event(ParseEventKind::Scalar(value), token.span, token.span))
@@ -241,7 +272,7 @@ fn scalar<'de>(
 fn key<'de>(
     alloc: Global,
     input: &'de [u8],
-    mode: Mode,
+    language: Language,
     token: &SpannedToken,
     last: Span,
 ) -> Result<Held<'de>, Refused>
@@ -249,11 +280,11 @@ fn key<'de>(
     requires string { is_text token.now.token ≡ true }
     requires within { stop (span_of token.now.span) ≤ length input.now }
     ensures { (stack : List SpecContainer) (place : SpecPlace) (position : ℕ)
-        → IsTurn input.now (mode_of mode) place position token.now Turn.Names
-        → Answers input.now (span_of last) (comes_at input.now (mode_of mode) stack (within place) position) result }
+        → IsTurn input.now (language_of language) place position token.now Turn.Names
+        → Answers input.now (span_of last) (comes_at input.now (language_of language) stack (within place) position) result }
 {
     let name = name_of_key(alloc, input, token)?;
-    let mark = colon(alloc, input, token.span.end(), mode)?;
+    let mark = colon(alloc, input, token.span.end(), language)?;
     let Some(name) = name else {
         return Err(Refused::out_of_memory(last));
     };
@@ -302,11 +333,11 @@ fn name_of_key<'de>(
 }
 
 /// The bytes of the colon that is the next token.
-fn colon(alloc: Global, input: &[u8], position: usize, mode: Mode) -> Result<Span, Refused>
+fn colon(alloc: Global, input: &[u8], position: usize, language: Language) -> Result<Span, Refused>
     requires { position ≤ length input.now }
-    ensures { IsColonAt input.now (mode_of mode) position result }
+    ensures { IsColonAt input.now (language_of language) position result }
 {
-    let token = cut(input, position, mode)?;
+    let token = language.cut(input, position)?;
     match token.token {
         Token::Colon => Ok(token.span),
         Token::Eof => Err(Refused {

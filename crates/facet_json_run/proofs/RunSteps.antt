@@ -13,6 +13,7 @@ use Rattle.facet_json_token.specs.Token.{Kind, Token}
 use Rattle.facet_json_token.specs.Tokens.{Tokens, ended, refused, next, tokens_from}
 use Rattle.facet_json_token.specs.Cut.{cut}
 use Rattle.facet_json_token.specs.Views.{kind_of, scanned, scan_refusal}
+use Rattle.facet_json_document.specs.Language.{lenient}
 use Rattle.facet_json_document.specs.Node.{is_scalar}
 use Rattle.facet_json_document.specs.Run.{opening, one_token}
 use Rattle.facet_json_document.specs.Inner.PassedRun.{leaves, crosses, passing, Outcome, closes, stops, passed}
@@ -92,11 +93,11 @@ module _ (buffer : List ℕ) (mode : Mode) where
         ∙ ap (λ brackets. goes_on brackets (record { kind = l.kind; span = s })) (sym is_stack) ∙ l.same
 
     -- A fault breaks the run off.
-    pub fault-stops : (e : ScanError) (refusal : Refusal) → scanned (Err e) ≡ Some (cut buffer (stop s) mode) →
+    pub fault-stops : (e : ScanError) (refusal : Refusal) → stop s ≤ length buffer → scanned (Err e) ≡ Some (cut buffer (stop s) mode) →
         (IsNamed e.kind → refusal ≡ scan_refusal e) → IsRefused buffer last (run_tokens kind first) refusal
     unfolding passed
-    fault-stops e refusal h p =
-        let f : Refuses buffer (stop s) mode e = is_refused buffer (stop s) mode e h in
+    fault-stops e refusal within h p =
+        let f : Refuses buffer (stop s) (lenient mode) e = is_refused buffer (stop s) (lenient mode) e within h in
         stopped kind first last refusal (ap stops (f.passed_on refusal p) ∙ by_tokens (refused f.what) f.tokens)
 
     -- So does the end.
@@ -112,7 +113,7 @@ module _ (buffer : List ℕ) (mode : Mode) where
         pub ends : stop (span_of t.span) ≤ length buffer
         pub leads : LeadsTo brackets (span_of t.span) (whole kind first)
 
-      goes-on : (brackets : List ContainerKind) → IsCut buffer (stop s) mode t → (t.token ≡ code.Eof → ⊥) →
+      goes-on : (brackets : List ContainerKind) → IsCut buffer (stop s) (lenient mode) t → (t.token ≡ code.Eof → ⊥) →
           ((k : Kind) → kind_of t.token ≡ Some k → passing innermost around (span_of t.span) k ≡ leaves brackets) → GoesOn brackets
       goes-on brackets (ends is_end none) no_end e = absurd (no_end is_end)
       goes-on brackets (stands c) no_end e = record {
@@ -126,9 +127,9 @@ module _ (buffer : List ℕ) (mode : Mode) where
 
       pub token-goes_on : (brackets : List ContainerKind) → (t.token ≡ code.Eof → ⊥) →
           ((k : Kind) → kind_of t.token ≡ Some k → passing innermost around (span_of t.span) k ≡ leaves brackets) → GoesOn brackets
-      token-goes_on brackets no_end e = goes-on brackets (is_cut buffer (stop s) mode t within answer) no_end e
+      token-goes_on brackets no_end e = goes-on brackets (is_cut buffer (stop s) (lenient mode) t within answer) no_end e
 
-      stops-there : (refusal : Refusal) → IsCut buffer (stop s) mode t →
+      stops-there : (refusal : Refusal) → IsCut buffer (stop s) (lenient mode) t →
           (t.token ≡ code.Eof → refusal ≡ value_expected (span_at (length buffer) 0)) →
           ((k : Kind) → kind_of t.token ≡ Some k →
           (refusal ≡ no_memory_at last) ⊎ (passing innermost around (span_of t.span) k ≡ crosses refusal)) →
@@ -147,4 +148,4 @@ module _ (buffer : List ℕ) (mode : Mode) where
           (refusal ≡ no_memory_at last) ⊎ (passing innermost around (span_of t.span) k ≡ crosses refusal)) →
           IsRefused buffer last (run_tokens kind first) refusal
       token-stops refusal span at_end e =
-          stops-there refusal (is_cut buffer (stop s) mode t within answer) (λ is_end. at_end is_end ∙ ap value_expected (span is_end)) e
+          stops-there refusal (is_cut buffer (stop s) (lenient mode) t within answer) (λ is_end. at_end is_end ∙ ap value_expected (span is_end)) e

@@ -14,13 +14,12 @@ use Rattle.facet_format.specs.Event.{ContainerKind}
 use Rattle.facet_format.specs.Part.{Part, nothing}
 use Rattle.facet_format.specs.Span.{stop}
 use Rattle.facet_format.specs.Views.{span_of}
-use Rattle.facet_json_token.specs.Gap.{Mode}
 use Rattle.facet_json_token.specs.Token.{Token}
 use Rattle.facet_json_token.specs.Tokens.{tokens_from}
 use Rattle.facet_json_document.specs.Future.{within}
 use Rattle.facet_json_document.specs.InputPlace.{Standing}
-use Rattle.facet_json_document.specs.Language.{Language, gaps}
-use Rattle.facet_json_document.specs.Place.{Place, passes}
+use Rattle.facet_json_document.specs.Language.{Language, lenient, gaps, rules}
+use Rattle.facet_json_document.specs.Place.{Place, passes, led}
 use Rattle.facet_json_document.specs.Unread.{begins_value, closes_container, IsStuckUnread, PartFrom, separator, none_of_them, PartAt}
 use Rattle.facet_json_place.specs.Views.{place_of, turn_of}
 use Rattle.facet_json_reader.specs.Views.{stage_of, standing_of, IsTurn}
@@ -41,29 +40,29 @@ closes-one containers.Array = refl
 -- ---- after separators
 
 -- After separators alone the reader's tokens go on at this place and offset, whatever its containers are.
-pub record Reaches (buffer : List ℕ) (mode : Mode) (r : Reader) (place : Place) (position : ℕ) : Type 0 where
+pub record Reaches (buffer : List ℕ) (language : Language) (r : Reader) (place : Place) (position : ℕ) : Type 0 where
   pub first : Place
   pub stage : stage_of r.stage ≡ within first
-  pub leads : (stack : List ContainerKind) (p : Part Standing) → PartFrom buffer stack place (tokens_from buffer mode position) p →
-      PartFrom buffer stack first (tokens_from buffer mode (stop (span_of r.last))) p
+  pub leads : (stack : List ContainerKind) (p : Part Standing) → PartFrom buffer (rules language) stack place (tokens_from buffer (gaps language) position) p →
+      PartFrom buffer (rules language) stack first (tokens_from buffer (gaps language) (stop (span_of r.last))) p
 
-module _ (buffer : List ℕ) (mode : Mode) (r : Reader) where
+module _ (buffer : List ℕ) (language : Language) (r : Reader) where
   -- They begin where the reader stands.
   pub reaches-first : (place : RustPlace) (position : ℕ) → r.stage ≡ stages.Within place → position ≡ stop (span_of r.last) →
-      Reaches buffer mode r (place_of place) position
+      Reaches buffer language r (place_of place) position
   reaches-first place position stage e = record {
     first = place_of place;
     stage = ap stage_of stage;
     leads = λ stack p from. rw (← e) from;
   }
 
-  module _ (place : Place) (position : ℕ) (reached : Reaches buffer mode r place position) where
-    module _ (t : SpannedToken) (w : RustTurn) (is : IsTurn buffer mode place position t w) where
+  module _ (place : Place) (position : ℕ) (reached : Reaches buffer language r place position) where
+    module _ (t : SpannedToken) (w : RustTurn) (is : IsTurn buffer (lenient (gaps language)) place position t w) where
       abbrev here : Token
       here = record { kind = is.kind; span = span_of t.span }
 
       -- A separator is passed.
-      pub reaches-next : (other : Place) → turn_of w ≡ passes other → Reaches buffer mode r other (stop (span_of t.span))
+      pub reaches-next : (other : Place) → turn_of w ≡ passes other → Reaches buffer language r (led (rules language) other) (stop (span_of t.span))
       reaches-next other way = record {
         first = reached.first;
         stage = reached.stage;
@@ -72,24 +71,24 @@ module _ (buffer : List ℕ) (mode : Mode) (r : Reader) where
             reached.leads stack p (rw at (separator place other here _ p (is.turns ∙ way) from));
       }
 
-    module _ (language : Language) (same : gaps language ≡ mode) (stack : List ContainerKind) where
+    module _ (stack : List ContainerKind) where
       -- the reader's standing, in these containers
       abbrev standing : Standing
       standing = record (standing_of r) { stack = stack }
 
       -- What stands after the separators stands where the reader does.
-      stands-there : (p : Part Standing) → PartFrom buffer stack place (tokens_from buffer mode position) p → PartAt buffer language standing p
+      stands-there : (p : Part Standing) → PartFrom buffer (rules language) stack place (tokens_from buffer (gaps language) position) p → PartAt buffer language standing p
       stands-there p from =
           let stage = reached.stage in
-          rw (stage, same) (reached.leads stack p from)
+          rw stage (reached.leads stack p from)
 
       -- Where the tokens stop, nothing stands.
-      pub nothing-stands : (refusal : Refusal) → IsStuckUnread buffer place (tokens_from buffer mode position) refusal →
+      pub nothing-stands : (refusal : Refusal) → IsStuckUnread buffer place (tokens_from buffer (gaps language) position) refusal →
           PartAt buffer language standing (nothing refusal)
       nothing-stands refusal halts = stands-there (nothing refusal) (none_of_them place _ refusal halts)
 
       -- A part that begins with the next token stands first.
-      pub stands-first : (t : SpannedToken) (w : RustTurn) (is : IsTurn buffer mode place position t w) (part : RustPart) →
+      pub stands-first : (t : SpannedToken) (w : RustTurn) (is : IsTurn buffer (lenient (gaps language)) place position t w) (part : RustPart) →
           first_of part ≡ span_of t.span → Begins place part is.kind → IsFirst buffer language standing part
       stands-first t w is part e begins = record {
         place = place;
@@ -97,5 +96,5 @@ module _ (buffer : List ℕ) (mode : Mode) (r : Reader) where
         begins = begins;
         leads = λ p from.
             let at = is.tokens in
-            stands-there p (rw at (rw (same, e) at from));
+            stands-there p (rw at (rw e at from));
       }

@@ -19,7 +19,7 @@ use Rattle.facet_json_document.specs.InputPlace.{Standing}
 use Rattle.facet_json_document.specs.Future.{around}
 use Rattle.facet_json_document.specs.Language.{Language, gaps}
 use Rattle.facet_json_document.specs.Node.{is_scalar}
-use Rattle.facet_json_document.specs.Place.{Place, root, before_key, after_key, after_colon, after_member, before_item, after_item, Turn, stops, leads_on, place_turn, value_turn, goes_on}
+use Rattle.facet_json_document.specs.Place.{Place, root, before_key, after_key, after_colon, after_member, before_item, next_key, next_item, after_item, Turn, stops, leads_on, place_turn, value_turn, goes_on}
 use Rattle.facet_json_document.specs.Run.{opening}
 use Rattle.facet_json_document.specs.Unread.{begins_value, past_value, past_key, at_end, at_fault, misplaced, HasColon, colon_stands, colon_missing, a_value, a_broken_value, a_key, a_closing, PartAt}
 use Rattle.facet_json_document.proofs.Runs.OneRun.{runs_or_breaks_off}
@@ -47,6 +47,9 @@ value-root after_member token.comma e = cc
 value-root after_member token.object_end e = cc
 value-root after_item token.comma e = cc
 value-root after_item token.array_end e = cc
+value-root next_item kind e = begins-on (value_turn kind) e
+value-root next_key (token.string a b h) e = cc
+value-root next_key _ e = cc
 value-root _ _ e = cc
 
 -- An opening bracket is no scalar.

@@ -11,7 +11,7 @@ use Rattle.facet_json_token.specs.Tokens.{next, tokens_from}
 use Rattle.facet_json_token.specs.Views.{kind_of}
 use Rattle.facet_json_document.specs.Future.{around}
 use Rattle.facet_json_document.specs.InputPlace.{Standing}
-use Rattle.facet_json_document.specs.Language.{Language, gaps}
+use Rattle.facet_json_document.specs.Language.{Language, gaps, rules}
 use Rattle.facet_json_document.specs.Place.{Place, names, place_turn}
 use Rattle.facet_json_document.specs.Unread.{begins_value, closes_container, past_value, past_key, PartFrom, PartAt}
 use Rattle.facet_json_skip.specs.declared.part.Part.{Part as RustPart}
@@ -39,7 +39,7 @@ pub record IsFirst (buffer : List ℕ) (language : Language) (s : Standing) (par
   pub kind : Kind
   pub begins : Begins place part kind
   pub leads : (p : Part Standing) →
-      PartFrom buffer s.stack place (next (first_token part kind) (tokens_from buffer (gaps language) (stop (first_of part)))) p →
+      PartFrom buffer (rules language) s.stack place (next (first_token part kind) (tokens_from buffer (gaps language) (stop (first_of part)))) p →
       PartAt buffer language s p
 
 -- after a part whose last token takes these bytes, in these containers

@@ -8,18 +8,17 @@ ghost use Rattle.facet_format.specs.Span.{stop, span_at};
 ghost use Rattle.facet_format.specs.Views.{span_of};
 ghost use Rattle.facet_json_token.specs.Token.{Kind};
 ghost use Rattle.facet_json_token.specs.Tokens.{Tokens, ended, next};
-ghost use Rattle.facet_json_token.specs.Views.{kind_of, mode_of};
-ghost use Rattle.facet_json_document.specs.Language.{Language as SpecLanguage, gaps};
+ghost use Rattle.facet_json_token.specs.Views.{kind_of};
 ghost use Rattle.facet_json_document.specs.Place.{Place as SpecPlace, expected_at, goes_on};
 ghost use Rattle.facet_json_document.specs.Unread.{unread_name, IsStuckUnread, PartAt};
-ghost use Rattle.facet_json_place.specs.Views.{place_of, expected_text, name_text, refused_of};
+ghost use Rattle.facet_json_place.specs.Views.{language_of, place_of, expected_text, name_text, refused_of};
 ghost use Rattle.facet_json_reader.specs.Views.{standing_of};
 ghost use Rattle.facet_json_skip.specs.Views.{first_of, IsFirst};
 
 use facet_format::Span;
-use facet_json_place::{Expected, Name, Place, Refused, Turn, Why};
+use facet_json_place::{Expected, Language, Name, Place, Refused, Turn, Why};
 use facet_json_reader::{Reader, Stage};
-use facet_json_token::{Mode, SpannedToken, Token, cut};
+use facet_json_token::{SpannedToken, Token, cut};
 
 /// What stands first, by its first token.
 #[derive(Debug, Drop)]
@@ -35,17 +34,18 @@ pub enum Part {
 /// Finds what stands first where the reader goes on, after separators. Nothing is decoded: where the tokens don't go on with
 /// a document, a number is refused without its value. After the root no value stands. The reader's containers are not looked
 /// at: what is found is right in whatever containers.
-pub fn find(reader: &Reader, input: &[u8], mode: Mode) -> Result<Part, Refused>
+pub fn find(reader: &Reader, input: &[u8], language: Language) -> Result<Part, Refused>
     requires { stop (span_of reader.now.last) ≤ length input.now }
-    ensures found { (language : SpecLanguage) (stack : List SpecContainer) → gaps language ≡ mode_of mode
-        → IfOk result (IsFirst input.now language (record (standing_of reader.now) { stack = stack })) }
-    ensures nothing { (language : SpecLanguage) (stack : List SpecContainer) → gaps language ≡ mode_of mode
-        → IfErr result (λ r. PartAt input.now language (record (standing_of reader.now) { stack = stack }) (nothing (refused_of r))) }
+    ensures found { (stack : List SpecContainer)
+        → IfOk result (IsFirst input.now (language_of language) (record (standing_of reader.now) { stack = stack })) }
+    ensures nothing { (stack : List SpecContainer)
+        → IfErr result (λ r. PartAt input.now (language_of language) (record (standing_of reader.now) { stack = stack }) (nothing (refused_of r))) }
     ensures within { IfOk result (λ part. stop (first_of part) ≤ length input.now) }
 {
     let Stage::Within(mut place) = reader.stage else {
         return Err(no_value(reader.last));
     };
+    let mode = language.mode();
     let mut position = reader.last.end();
     loop {
         let token = cut(input, position, mode)?;
@@ -53,7 +53,7 @@ pub fn find(reader: &Reader, input: &[u8], mode: Mode) -> Result<Part, Refused>
             Turn::Stops => return Err(stopped(place, &token)),
             Turn::Passes(next) => {
                 position = token.span.end();
-                place = next;
+                place = language.led(next);
             }
             Turn::Opens(_) => return Ok(Part::Value(token)),
             Turn::Closes(_) => return Ok(Part::Closing(token.span)),

@@ -4,7 +4,7 @@ use Rattle.std.specs.Prelude.{is_some}
 use Rattle.facet_format.specs.Event.{ContainerKind, EventKind, struct_start, sequence_start}
 use Rattle.facet_format.specs.Views.{event_kind_of}
 use Rattle.facet_json_document.specs.InputPlace.{future_at}
-use Rattle.facet_json_document.specs.Language.{Language, gaps}
+use Rattle.facet_json_document.specs.Language.{Language}
 use Rattle.facet_json_reader.specs.declared.reader.Held.{Held}
 use Rattle.facet_json_reader.specs.declared.reader.Reader.{Reader}
 use Rattle.facet_json_reader.specs.Views.{passed_of, standing_of, with_opened, coming, GivesHeld}
@@ -25,7 +25,7 @@ module _ (r opened : Reader) (h : Held) (last : opened.last ≡ r.last) (stage :
   opened-place = rw (last, stage, contexts, opened-around (event_kind_of h.event.kind) r.contexts) refl
 
   -- It is the event that comes.
-  pub opened-holds : (buffer : List ℕ) (language : Language) → GivesHeld (coming buffer (gaps language) r) h →
+  pub opened-holds : (buffer : List ℕ) (language : Language) → GivesHeld (coming buffer language r) h →
       HoldsNext buffer language (filling_of (record { reader = opened; held = Some h; shown = false })) (passed_of h)
   opened-holds buffer language comes = record {
     rest = comes.0;

@@ -8,7 +8,7 @@ use Rattle.facet_format.specs.Complaint.{Refusal}
 use Rattle.facet_format.specs.Cursor.{World, an_event, Spot, unpeeked, peeked_at, current_span, no_memory_at}
 use Rattle.facet_format.specs.Event.{EventKind, field_key, scalar, Event, Passed, holds_made, peek_takes_memory}
 use Rattle.facet_format.specs.Views.{event_of}
-use Rattle.facet_json_document.specs.Language.{Language, gaps}
+use Rattle.facet_json_document.specs.Language.{Language}
 use Rattle.facet_json_document.specs.Future.{Future, gives, finished}
 use Rattle.facet_json_document.specs.InputPlace.{Standing, past, future_at}
 use Rattle.facet_json_document.proofs.PastEvents.{comes-within}
@@ -121,7 +121,7 @@ module _ (buffer : List ℕ) (language : Language) where
 
   pub passed-sound : (r t : Reader) (held : Option Passed) (shown : Bool) (o : Option ParseEvent) → held ≡ None →
       IsSound buffer language (record { reader = standing_of r; held = held; shown = shown }) →
-      MatchOption o (t ≡ r) (λ e. PassesEvent buffer (gaps language) r (event_of e) t) →
+      MatchOption o (t ≡ r) (λ e. PassesEvent buffer language r (event_of e) t) →
       IsSound buffer language (record { reader = standing_of t; held = held; shown = shown })
   passed-sound r t held shown None none good same = rw same good
   passed-sound r t None shown (Some e) none good is =
@@ -138,7 +138,7 @@ module _ (buffer : List ℕ) (language : Language) where
   past-passes reader s (Some q) shown p rest none comes new = cc
 
   pub passed-passes : (s : RustStanding) (t : Reader) (o : Option ParseEvent) → option_map passed_of s.held ≡ None →
-      MatchOption o (t ≡ s.reader) (λ e. PassesEvent buffer (gaps language) s.reader (event_of e) t) →
+      MatchOption o (t ≡ s.reader) (λ e. PassesEvent buffer language s.reader (event_of e) t) →
       MatchOption o (record s { reader = t } ≡ s)
       (λ e. PassesOne w (spot_of (filling_of s)) (Ok (Some (event_of e))) (spot_of (filling_of (record s { reader = t }))))
   passed-passes s t None none same = ap (λ (x : Reader). record s { reader = x }) same

@@ -6,7 +6,7 @@ use Rattle.facet_format.specs.Complaint.{Refusal}
 use Rattle.facet_format.specs.Cursor.{no_memory_at}
 use Rattle.facet_format.specs.Event.{takes_memory}
 use Rattle.facet_format.specs.Views.{span_of, event_kind_of}
-use Rattle.facet_json_document.specs.Language.{Language, gaps}
+use Rattle.facet_json_document.specs.Language.{Language}
 use Rattle.facet_json_reader.specs.declared.reader.Held.{Held}
 use Rattle.facet_json_standing.specs.declared.standing.Standing.{Standing as RustStanding}
 use Rattle.facet_json_document.specs.InputPlace.{future_at}
@@ -21,7 +21,7 @@ nothing_held (Some h) e = cc
 
 -- Nothing is held, and the event comes, which takes memory.
 pub unopened-refused : (buffer : List ℕ) (language : Language) (s : RustStanding) (h : Held) (refusal : Refusal) → is_some s.held ≡ false →
-    GivesHeld (coming buffer (gaps language) s.reader) h → takes_memory (event_kind_of h.event.kind) ≡ true →
+    GivesHeld (coming buffer language s.reader) h → takes_memory (event_kind_of h.event.kind) ≡ true →
     refusal ≡ no_memory_at (span_of s.reader.last) →
     (option_map passed_of s.held ≡ None)
     × IsRefusedBefore buffer (span_of s.reader.last) (future_at buffer language (place_of (filling_of s))) refusal

@@ -104,7 +104,7 @@ impl<'de> Standing<'de> {
         if self.held.is_some() {
             return None;
         }
-        self.reader.pass_quickly(input, language.mode(), trust)
+        self.reader.pass_quickly(input, language, trust)
     }
 
     /// Answers a copy of the next event, which stays the next one, or `None` after the document's last one.
@@ -174,7 +174,7 @@ impl<'de> Standing<'de> {
             (spot_of (filling_of self.new))) }
     {
         let mode = language.mode();
-        let part = find(&self.reader, input, mode)?;
+        let part = find(&self.reader, input, language)?;
         let last = pass(alloc, input, mode, &part, self.span())?;
         self.leave(&part, last);
         Ok(())
@@ -196,7 +196,7 @@ impl<'de> Standing<'de> {
             (spot_of (filling_of self.new))) }
     {
         let mode = language.mode();
-        let part = find(&self.reader, input, mode)?;
+        let part = find(&self.reader, input, language)?;
         let (text, last) = capture(alloc, input, mode, &part, self.span())?;
         self.leave(&part, last);
         Ok(text)
@@ -241,7 +241,7 @@ impl<'de> Standing<'de> {
             × IsRefusedBefore input.now (place_of (filling_of self.old)).last
             (future_at input.now (language_of language) (place_of (filling_of self.old))) (refused_of r)) }
     {
-        let Some(held) = self.reader.upcoming(alloc, input, language.mode())? else {
+        let Some(held) = self.reader.upcoming(alloc, input, language)? else {
             return Ok(None);
         };
         match self.reader.open(&held) {

@@ -1,7 +1,9 @@
 pub mod Bytes
 pub mod Encoded
+pub mod Leaves
 pub mod Lists
 pub mod Numbers
+pub mod StrictStrings
 pub mod Strings
 pub mod Structural
 pub mod Trees

@@ -1,13 +1,17 @@
--- Texts of RFC 8259 (sections 2 to 8), rule by rule as its grammar has them. They are lists of characters, each of which is its number,
--- and know nothing of tokens; `InUtf8` says which bytes they are.
-use Rattle.std.specs.Prelude.{◌≡◌, ℕ, Bool, true, not, ◌==◌, ◌&&◌, nat_le, List, [], ◌∷◌, ◌++◌, Some, codes}
+-- Texts of RFC 8259 (sections 2 to 8), rule by rule as its grammar has them. They are lists of characters, each of which is its number;
+-- `InUtf8` says which bytes they are. Nothing of the reader is used here: the grammar knows no tokens, and each character that it names is
+-- written anew, so that what is wrong on one side is seen on the other.
+use Rattle.std.specs.Prelude.{◌≡◌, ℕ, Bool, true, not, ◌==◌, ◌&&◌, ◌||◌, nat_le, List, [], ◌∷◌, ◌++◌, codes}
 use Rattle.std.specs.List.{list_all}
 use Rattle.std.specs.Str.{all_scalars, encode_utf8_all}
-use Rattle.facet_format.specs.Bytes.{is_space, is_digit, is_exponent_mark, dot, quote, backslash, lower_u, left_bracket, right_bracket, left_brace, right_brace, colon, comma}
-use Rattle.facet_format.specs.Number.{AreDigits, IsMinus, IsExponentSign}
-use Rattle.facet_json_decode.specs.Decode.{short_escape, is_hex}
+use Rattle.facet_json_strict.specs.RfcNumber.{is_digit}
+pub use Rattle.facet_json_strict.specs.RfcNumber.{is_first_digit, SomeDigits, IsWhole, nought, IsFraction, IsExponent, IsRfcNumber}
 
 -- ---- section 2: white space and structural characters
+
+-- a space, a tab, a line feed or a carriage return
+abbrev pub is_space : ℕ → Bool
+is_space c = (c == 0x20) || (c == 0x09) || (c == 0x0a) || (c == 0x0d)
 
 abbrev pub AreSpaces : List ℕ → Type 0
 AreSpaces characters = list_all is_space characters ≡ true
@@ -22,65 +26,65 @@ pub record Spaced (P : List ℕ → Type 0) (characters : List ℕ) : Type 0 whe
   pub spaces_after : AreSpaces after
   pub whole : characters ≡ before ++ inside ++ after
 
--- one of the six structural characters
+-- `[`, `]`, `{`, `}`, `:` and `,`
+abbrev pub begin_array : ℕ
+begin_array = 0x5b
+
+abbrev pub end_array : ℕ
+end_array = 0x5d
+
+abbrev pub begin_object : ℕ
+begin_object = 0x7b
+
+abbrev pub end_object : ℕ
+end_object = 0x7d
+
+abbrev pub name_separator : ℕ
+name_separator = 0x3a
+
+abbrev pub value_separator : ℕ
+value_separator = 0x2c
+
+-- one of these six structural characters
 abbrev pub IsStructural : ℕ → List ℕ → Type 0
 IsStructural c = Spaced (λ inside. inside ≡ c ∷ [])
 
--- ---- section 6: numbers
-
--- a digit from 1 to 9
-abbrev pub is_first_digit : ℕ → Bool
-is_first_digit c = nat_le 0x31 c && nat_le c 0x39
-
--- at least one digit
-pub data SomeDigits : List ℕ → Type 0 where
-  digits : (c : ℕ) (others : List ℕ) → is_digit c ≡ true → AreDigits others → SomeDigits (c ∷ others)
-
--- the digit 0, or digits of which the first is another
-pub data IsWhole : List ℕ → Type 0 where
-  nought : IsWhole (0x30 ∷ [])
-  digits : (c : ℕ) (others : List ℕ) → is_first_digit c ≡ true → AreDigits others → IsWhole (c ∷ others)
-
-pub data IsFraction : List ℕ → Type 0 where
-  absent : IsFraction []
-  present : (digits : List ℕ) → SomeDigits digits → IsFraction (dot ∷ digits)
-
-pub data IsExponent : List ℕ → Type 0 where
-  absent : IsExponent []
-  present : (mark : ℕ) (sign digits others : List ℕ) → is_exponent_mark mark ≡ true → IsExponentSign sign → SomeDigits digits →
-      others ≡ sign ++ digits → IsExponent (mark ∷ others)
-
--- as -0.5e+1
-pub record IsRfcNumber (characters : List ℕ) : Type 0 where
-  pub sign : List ℕ
-  pub whole : List ℕ
-  pub fraction : List ℕ
-  pub exponent : List ℕ
-  pub has_minus : Bool
-  pub is_minus : IsMinus sign has_minus
-  pub is_whole : IsWhole whole
-  pub is_fraction : IsFraction fraction
-  pub is_exponent : IsExponent exponent
-  pub parts : characters ≡ sign ++ whole ++ fraction ++ exponent
+-- Section 6, numbers, stands in `RfcNumber` of facet_json_strict.
 
 -- ---- section 7: strings
 
--- a character that may stand for itself: from U+0020 on, and neither quote nor backslash
-abbrev pub is_unescaped : ℕ → Bool
-is_unescaped c = nat_le 0x20 c && not (c == quote) && not (c == backslash)
+abbrev pub quotation_mark : ℕ
+quotation_mark = 0x22
 
--- what stands between the quotes: such characters, the eight short escapes, and `\u` with four hexadecimal digits
+-- a backslash
+abbrev pub escape : ℕ
+escape = 0x5c
+
+-- a character that may stand for itself: from U+0020 on, and neither quotation mark nor backslash
+abbrev pub is_unescaped : ℕ → Bool
+is_unescaped c = nat_le 0x20 c && not (c == quotation_mark) && not (c == escape)
+
+-- a quotation mark, a backslash, a slash, or one of `b`, `f`, `n`, `r` and `t`
+abbrev pub is_escapable : ℕ → Bool
+is_escapable c =
+    (c == quotation_mark) || (c == escape) || (c == 0x2f) || (c == 0x62) || (c == 0x66) || (c == 0x6e) || (c == 0x72) || (c == 0x74)
+
+-- a hexadecimal digit of either case
+abbrev pub is_hex_digit : ℕ → Bool
+is_hex_digit c = is_digit c || (nat_le 0x41 c && nat_le c 0x46) || (nat_le 0x61 c && nat_le c 0x66)
+
+-- what stands between the quotation marks: such characters, the eight short escapes, and `\u` with four hexadecimal digits
 pub data IsContent : List ℕ → Type 0 where
   empty : IsContent []
   unescaped : (c : ℕ) (others : List ℕ) → is_unescaped c ≡ true → IsContent others → IsContent (c ∷ others)
-  short : (b c : ℕ) (others : List ℕ) → short_escape b ≡ Some c → IsContent others → IsContent (backslash ∷ b ∷ others)
-  unit : (a b c d : ℕ) (others : List ℕ) → is_hex a ≡ true → is_hex b ≡ true → is_hex c ≡ true → is_hex d ≡ true →
-      IsContent others → IsContent (backslash ∷ lower_u ∷ a ∷ b ∷ c ∷ d ∷ others)
+  short : (c : ℕ) (others : List ℕ) → is_escapable c ≡ true → IsContent others → IsContent (escape ∷ c ∷ others)
+  unit : (a b c d : ℕ) (others : List ℕ) → is_hex_digit a ≡ true → is_hex_digit b ≡ true → is_hex_digit c ≡ true → is_hex_digit d ≡ true →
+      IsContent others → IsContent (escape ∷ 0x75 ∷ a ∷ b ∷ c ∷ d ∷ others)
 
 pub record IsRfcString (characters : List ℕ) : Type 0 where
   pub content : List ℕ
   pub is_content : IsContent content
-  pub quoted : characters ≡ quote ∷ content ++ quote ∷ []
+  pub quoted : characters ≡ quotation_mark ∷ content ++ quotation_mark ∷ []
 
 -- ---- sections 3 to 5: values, objects and arrays
 
@@ -93,35 +97,48 @@ pub record IsEnclosed (open_character close_character : ℕ) (inside characters 
   pub whole : characters ≡ start ++ inside ++ finish
 
 mutual
-  pub data IsRfcValue : List ℕ → Type 0 where
-    literal_false : IsRfcValue (codes "false")
-    literal_null : IsRfcValue (codes "null")
-    literal_true : IsRfcValue (codes "true")
-    number : (characters : List ℕ) → IsRfcNumber characters → IsRfcValue characters
-    string : (characters : List ℕ) → IsRfcString characters → IsRfcValue characters
-    empty_array : (characters : List ℕ) → IsEnclosed left_bracket right_bracket [] characters → IsRfcValue characters
-    array : (inside characters : List ℕ) → AreItems inside → IsEnclosed left_bracket right_bracket inside characters →
-        IsRfcValue characters
-    empty_object : (characters : List ℕ) → IsEnclosed left_brace right_brace [] characters → IsRfcValue characters
-    object : (inside characters : List ℕ) → AreMembers inside → IsEnclosed left_brace right_brace inside characters →
-        IsRfcValue characters
+  -- a value whose numbers are N and whose strings are S
+  pub data IsValueOf (N S : List ℕ → Type 0) : List ℕ → Type 0 where
+    literal_false : IsValueOf N S (codes "false")
+    literal_null : IsValueOf N S (codes "null")
+    literal_true : IsValueOf N S (codes "true")
+    number : (characters : List ℕ) → N characters → IsValueOf N S characters
+    string : (characters : List ℕ) → S characters → IsValueOf N S characters
+    empty_array : (characters : List ℕ) → IsEnclosed begin_array end_array [] characters → IsValueOf N S characters
+    array : (inside characters : List ℕ) → AreItemsOf N S inside → IsEnclosed begin_array end_array inside characters →
+        IsValueOf N S characters
+    empty_object : (characters : List ℕ) → IsEnclosed begin_object end_object [] characters → IsValueOf N S characters
+    object : (inside characters : List ℕ) → AreMembersOf N S inside → IsEnclosed begin_object end_object inside characters →
+        IsValueOf N S characters
 
   -- values, separated by commas
-  pub data AreItems : List ℕ → Type 0 where
-    one_item : (value : List ℕ) → IsRfcValue value → AreItems value
-    more_items : (value separator others characters : List ℕ) → IsRfcValue value → IsStructural comma separator → AreItems others →
-        characters ≡ value ++ separator ++ others → AreItems characters
+  pub data AreItemsOf (N S : List ℕ → Type 0) : List ℕ → Type 0 where
+    one_item : (value : List ℕ) → IsValueOf N S value → AreItemsOf N S value
+    more_items : (value separator others characters : List ℕ) → IsValueOf N S value → IsStructural value_separator separator →
+        AreItemsOf N S others → characters ≡ value ++ separator ++ others → AreItemsOf N S characters
 
   -- members, separated by commas
-  pub data AreMembers : List ℕ → Type 0 where
-    one_member : (member : List ℕ) → IsMember member → AreMembers member
-    more_members : (member separator others characters : List ℕ) → IsMember member → IsStructural comma separator → AreMembers others →
-        characters ≡ member ++ separator ++ others → AreMembers characters
+  pub data AreMembersOf (N S : List ℕ → Type 0) : List ℕ → Type 0 where
+    one_member : (member : List ℕ) → IsMemberOf N S member → AreMembersOf N S member
+    more_members : (member separator others characters : List ℕ) → IsMemberOf N S member → IsStructural value_separator separator →
+        AreMembersOf N S others → characters ≡ member ++ separator ++ others → AreMembersOf N S characters
 
   -- a string, a colon and a value
-  pub data IsMember : List ℕ → Type 0 where
-    member : (key separator value characters : List ℕ) → IsRfcString key → IsStructural colon separator → IsRfcValue value →
-        characters ≡ key ++ separator ++ value → IsMember characters
+  pub data IsMemberOf (N S : List ℕ → Type 0) : List ℕ → Type 0 where
+    member : (key separator value characters : List ℕ) → S key → IsStructural name_separator separator → IsValueOf N S value →
+        characters ≡ key ++ separator ++ value → IsMemberOf N S characters
+
+abbrev pub IsRfcValue : List ℕ → Type 0
+IsRfcValue = IsValueOf IsRfcNumber IsRfcString
+
+abbrev pub AreItems : List ℕ → Type 0
+AreItems = AreItemsOf IsRfcNumber IsRfcString
+
+abbrev pub AreMembers : List ℕ → Type 0
+AreMembers = AreMembersOf IsRfcNumber IsRfcString
+
+abbrev pub IsMember : List ℕ → Type 0
+IsMember = IsMemberOf IsRfcNumber IsRfcString
 
 -- a text: a value, with white space alone around it
 abbrev pub IsRfcText : List ℕ → Type 0

@@ -9,9 +9,9 @@ use Rattle.facet_json_token.specs.Token.{Token}
 use Rattle.facet_json_token.specs.Tokens.{Tokens, next}
 use Rattle.facet_json_document.specs.Future.{Stage, within, over, around}
 use Rattle.facet_json_document.specs.InputPlace.{Standing}
-use Rattle.facet_json_document.specs.Language.{Language}
+use Rattle.facet_json_document.specs.Language.{Language, Rules, rules}
 use Rattle.facet_json_document.specs.Node.{is_scalar}
-use Rattle.facet_json_document.specs.Place.{Place, after_key, Turn, stops, passes, says, says_scalar, names, place_turn, leads_on}
+use Rattle.facet_json_document.specs.Place.{Place, after_key, Turn, stops, passes, says, says_scalar, names, place_turn, leads_on, led}
 use Rattle.facet_json_document.specs.Run.{Run, BreaksOff}
 use Rattle.facet_json_document.specs.Unread.{IsStuckUnread, at_end, at_fault, misplaced, begins_value, closes_container, past_value, HasColon, colon_stands, colon_missing, PartFrom, separator, a_value, a_broken_value, a_key, a_closing, none_of_them, PartIn}
 use Rattle.facet_json_document.specs.UnreadLaws.{OnePart}
@@ -73,7 +73,7 @@ module _ (buffer : List ℕ) where
   stuck_unread-once place _ _ _ (at_fault _ f) (at_fault _ _) = refl
   stuck_unread-once place _ _ _ (misplaced _ t rest e) (misplaced _ _ _ f) = refl
 
-  module _ (stack : List ContainerKind) where
+  module _ (by : Rules) (stack : List ContainerKind) where
     -- A colon stands there or is missing, and is missing in one way.
     colon-once : (ts : Tokens) (a b : Result Standing Refusal) → HasColon buffer stack ts a → HasColon buffer stack ts b → a ≡ b
     colon-once _ _ _ (colon_stands mark rest e) (colon_stands _ _ f) = refl
@@ -83,7 +83,7 @@ module _ (buffer : List ℕ) where
 
     -- What the part is where the first token has this role.
     data PartBy (place : Place) (t : Token) (rest : Tokens) : Role → Part Standing → Type 0 where
-      by_separator : (other : Place) (part : Part Standing) → PartFrom buffer stack other rest part →
+      by_separator : (other : Place) (part : Part Standing) → PartFrom buffer by stack (led by other) rest part →
           PartBy place t rest (separates other) part
       by_value : (last : Token) (others : Tokens) → Run (next t rest) last others →
           PartBy place t rest begins (value (not (is_scalar t.kind)) t.span.offset (stop last.span) (past_value last.span stack))
@@ -100,7 +100,7 @@ module _ (buffer : List ℕ) where
 
     -- A part is so by the first token's role.
     part-by : (place : Place) (t : Token) (rest : Tokens) (part : Part Standing) (r : Role) → role (place_turn place t.kind) ≡ r →
-        PartFrom buffer stack place (next t rest) part → PartBy place t rest r part
+        PartFrom buffer by stack place (next t rest) part → PartBy place t rest r part
     part-by place t rest part r f (separator _ other _ _ _ e more) =
         by-same place t rest (sym (ap role e) ∙ f) (by_separator other part more)
     part-by place t rest _ r f (a_value _ _ last _ others e run) =
@@ -116,7 +116,7 @@ module _ (buffer : List ℕ) where
 
     -- After a separator the part stands at the next place.
     part-separated : (place other : Place) (t : Token) (rest : Tokens) (part : Part Standing) → PartBy place t rest (separates other) part →
-        PartFrom buffer stack other rest part
+        PartFrom buffer by stack (led by other) rest part
     part-separated place other t rest part (by_separator _ _ more) = more
 
     -- A run is one value only.
@@ -151,10 +151,10 @@ module _ (buffer : List ℕ) where
     nothing-once place t rest r _ stuck (by_nothing s other) = ap nothing (stuck_unread-once place (next t rest) r s stuck other)
 
     -- Tokens begin with one part at most.
-    one-from : (place : Place) (ts : Tokens) (a b : Part Standing) → PartFrom buffer stack place ts a → PartFrom buffer stack place ts b →
+    one-from : (place : Place) (ts : Tokens) (a b : Part Standing) → PartFrom buffer by stack place ts a → PartFrom buffer by stack place ts b →
         a ≡ b
     one-from place _ a b (separator _ other t rest _ e more) q =
-        one-from other rest a b more (part-separated place other t rest b (part-by place t rest b _ (ap role e) q))
+        one-from (led by other) rest a b more (part-separated place other t rest b (part-by place t rest b _ (ap role e) q))
     one-from place _ _ b (a_value _ t last rest others e run) q =
         value-once place t last rest others b run (part-by place t rest b _ (role-begins _ e) q)
     one-from place _ _ b (a_broken_value _ t rest r e breaks) q =
@@ -173,7 +173,7 @@ module _ (buffer : List ℕ) where
 one-in : (buffer : List ℕ) (language : Language) (s : Standing) (stage : Stage) (a b : Part Standing) → PartIn buffer language s stage a →
     PartIn buffer language s stage b → a ≡ b
 one-in buffer language s over a b p q = p ∙ sym q
-one-in buffer language s (within place) a b p q = one-from buffer s.stack place _ a b p q
+one-in buffer language s (within place) a b p q = one-from buffer (rules language) s.stack place _ a b p q
 
 pub one-part : OnePart
 one-part buffer language s a b p q = one-in buffer language s s.stage a b p q

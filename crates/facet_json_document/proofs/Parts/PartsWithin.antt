@@ -8,8 +8,8 @@ use Rattle.facet_json_token.specs.Token.{Token}
 use Rattle.facet_json_token.specs.Tokens.{Tokens, next}
 use Rattle.facet_json_document.specs.Future.{Stage, within, over}
 use Rattle.facet_json_document.specs.InputPlace.{Standing}
-use Rattle.facet_json_document.specs.Language.{Language, gaps}
-use Rattle.facet_json_document.specs.Place.{Place}
+use Rattle.facet_json_document.specs.Language.{Language, gaps, Rules, rules}
+use Rattle.facet_json_document.specs.Place.{Place, led}
 use Rattle.facet_json_document.specs.Run.{Run, one_token, brackets, RunsInside, nothing as no_runs, separator as mark, a_run}
 use Rattle.facet_json_document.specs.Unread.{IsStuckUnread, at_end, at_fault, misplaced, HasColon, colon_stands, colon_missing, PartFrom, separator, a_value, a_broken_value, a_key, a_closing, none_of_them, PartIn, PartAt}
 use Rattle.facet_json_document.specs.UnreadLaws.{RefusalWithin, LiesAhead, PartsWithin}
@@ -89,23 +89,23 @@ module _ (buffer : List ℕ) where
   colon-within from start stack ts _ h (colon_missing _ r stuck) o = key_alone_within start r h (stuck-within from _ ts r stuck o)
 
   -- A part that tokens in order begin with lies within the buffer.
-  from-within : (from : ℕ) (stack : List ContainerKind) (place : Place) (ts : Tokens) (part : Part Standing) →
-      PartFrom buffer stack place ts part → InOrder buffer from ts → LiesWithin from part
-  from-within from stack place _ part (separator _ other t rest _ e more) o =
-      from-within from stack other rest part more (after-first from t rest o)
-  from-within from stack place _ _ (a_value _ t last rest others e run) o =
+  from-within : (by : Rules) (from : ℕ) (stack : List ContainerKind) (place : Place) (ts : Tokens) (part : Part Standing) →
+      PartFrom buffer by stack place ts part → InOrder buffer from ts → LiesWithin from part
+  from-within by from stack place _ part (separator _ other t rest _ e more) o =
+      from-within by from stack (led by other) rest part more (after-first from t rest o)
+  from-within by from stack place _ _ (a_value _ t last rest others e run) o =
       let first = token-ahead from t rest o in
       let end = run-ahead from (next t rest) others last run o in
       value_within _ _ _ _ (start-within from t rest first) end.inside (end.behind, end.inside)
-  from-within from stack place _ _ (a_broken_value _ t rest r e b) o =
+  from-within by from stack place _ _ (a_broken_value _ t rest r e b) o =
       broken_within r (break-within buffer (next t rest) r b (in_order-within buffer from (next t rest) o))
-  from-within from stack place _ _ (a_key _ t rest result e colon) o =
+  from-within by from stack place _ _ (a_key _ t rest result e colon) o =
       let first = token-ahead from t rest o in
       colon-within from _ stack rest result (start-within from t rest first) colon (after-first from t rest o)
-  from-within from stack place _ _ (a_closing _ t rest e) o =
+  from-within by from stack place _ _ (a_closing _ t rest e) o =
       let first = token-ahead from t rest o in
       closing_within _ _ (start-within from t rest first) (first.behind, first.inside)
-  from-within from stack place ts _ (none_of_them _ _ r stuck) o = nothing_within r (stuck-within from place ts r stuck o)
+  from-within by from stack place ts _ (none_of_them _ _ r stuck) o = nothing_within r (stuck-within from place ts r stuck o)
 
   -- After the root, what is refused lies within the buffer, where the end of the root does.
   end-within : (from at : ℕ) → at ≤ length buffer → LiesWithin from (nothing (refusal_at (unexpected_eof (codes "value")) (span_at at 0)))
@@ -116,7 +116,7 @@ module _ (buffer : List ℕ) where
       PartIn buffer language s stage part → LiesWithin (stop s.last) part
   in-within language s over part h p = rw p (end-within (stop s.last) (stop s.last) h)
   in-within language s (within place) part h p =
-      from-within (stop s.last) s.stack place _ part p (tokens-in_order buffer (gaps language) (stop s.last) h)
+      from-within (rules language) (stop s.last) s.stack place _ part p (tokens-in_order buffer (gaps language) (stop s.last) h)
 
   -- ---- skips
 

@@ -1,5 +1,6 @@
 //! Laws about begun documents: prefixes of tokens with which some document begins, and what they give.
 
+ghost use Rattle.facet_json_prefix.specs.StrictLaws.{StrictInputComes, StrictIsPlain};
 ghost use Rattle.facet_json_prefix.specs.EventLaws.{BegunIsPrefix, PrefixIsBegun, PrefixGivesWalk, OneGiven, InputComes, RefusedHasNone, RefusedInOneWay};
 
 /// Tokens that begin a document are a prefix of the spelling of some value, all of whose texts and numbers can be read.
@@ -36,4 +37,15 @@ pub fn refused_has_none()
 /// An input is refused in one way at most: after the same prefix, with the same kind, texts and span.
 pub fn refused_in_one_way()
     ensures { RefusedInOneWay }
+{}
+
+/// A strict document is the same plain document.
+pub fn strict_is_plain()
+    ensures { StrictIsPlain }
+{}
+
+/// What comes from the root of an input where RFC 8259 alone is read: the walk of its strict document, or events after which nothing
+/// goes on.
+pub fn strict_input_comes()
+    ensures { StrictInputComes }
 {}

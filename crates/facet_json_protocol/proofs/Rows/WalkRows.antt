@@ -17,7 +17,7 @@ use Rattle.facet_json_document.proofs.Spelled.{node_within, spelled, document, r
 use Rattle.facet_format.specs.Event.{EventKind, Passed, object, array, borrowed, owned, struct_start, struct_end, sequence_start, sequence_end, field_key, scalar, null, bool, i64, u64, decimal, text}
 use Rattle.facet_json_document.specs.Walk.{walk}
 use Rattle.facet_json_document.specs.Place as place
-use Rattle.facet_json_document.specs.Future.{Future, gives, finished, stuck, reads}
+use Rattle.facet_json_document.specs.Future.{Future, gives, finished, stuck, reads, reads_by}
 use Rattle.facet_json_protocol.specs.Now.{future_of, fresh}
 
 -- the walk of the input's document
@@ -75,22 +75,22 @@ scalars_row = refl
 
 -- The events of the document, and then the end, whatever follows.
 finished_row : given (codes "[1,] x") plain ≡ gives (at (sequence_start array) 0 1) (gives (at (scalar (u64 1)) 1 1) (gives (at sequence_end 3 1) finished))
-unfolding reads tokens_past cut cut_here start_of gap_len_from parts number
+unfolding reads_by tokens_past cut cut_here start_of gap_len_from parts number
 finished_row = refl
 
 -- In JSONC mode a comment may stand between a key and its colon.
 comment_row : given (codes "{\"a\"/**/:1}") jsonc ≡ gives (at (struct_start object) 0 1) (gives (key (codes "a") 1 3 8) (gives (at (scalar (u64 1)) 9 1) (gives (at struct_end 10 1) finished)))
-unfolding reads tokens_past cut cut_here start_of gap_len_from parts number decoded_past piece_at utf8_at escape_at unit_at code_unit short_escape encode
+unfolding reads_by tokens_past cut cut_here start_of gap_len_from parts number decoded_past piece_at utf8_at escape_at unit_at code_unit short_escape encode
 comment_row = refl
 
 -- An input may end within a list.
 ended_row : given (codes "[1") plain ≡ gives (at (sequence_start array) 0 1) (gives (at (scalar (u64 1)) 1 1) (stuck place.after_item tokens.ended))
-unfolding reads tokens_past cut cut_here start_of gap_len_from parts number
+unfolding reads_by tokens_past cut cut_here start_of gap_len_from parts number
 ended_row = refl
 
 -- A key without its colon gives no event.
 key_alone_row : given (codes "{\"a\"") plain ≡ gives (at (struct_start object) 0 1) (stuck place.after_key tokens.ended)
-unfolding reads tokens_past cut cut_here start_of gap_len_from parts number decoded_past piece_at utf8_at escape_at unit_at code_unit short_escape encode
+unfolding reads_by tokens_past cut cut_here start_of gap_len_from parts number decoded_past piece_at utf8_at escape_at unit_at code_unit short_escape encode
 key_alone_row = refl
 
 -- what is left of a list's first comma, where nothing else follows it
@@ -99,10 +99,10 @@ comma_at offset rest = tokens.next (record { kind = token.comma; span = span_at 
 
 -- A comma alone is no item, and it is no end of the list.
 comma_alone_row : given (codes "[,]") plain ≡ gives (at (sequence_start array) 0 1) (stuck place.before_item (comma_at 1 (tokens.next (record { kind = token.array_end; span = span_at 2 1 }) tokens.ended)))
-unfolding reads tokens_past cut cut_here start_of gap_len_from parts number
+unfolding reads_by tokens_past cut cut_here start_of gap_len_from parts number
 comma_alone_row = refl
 
 -- A string without a text is stuck, whatever may stand there.
 meaningless_row : given (codes "[1 \"\\ud800\"") plain ≡ gives (at (sequence_start array) 0 1) (gives (at (scalar (u64 1)) 1 1) (stuck place.after_item (tokens.next (record { kind = token.string 4 10 true; span = span_at 3 8 }) tokens.ended)))
-unfolding reads tokens_past cut cut_here start_of gap_len_from parts number decoded_past piece_at utf8_at escape_at unit_at code_unit short_escape encode
+unfolding reads_by tokens_past cut cut_here start_of gap_len_from parts number decoded_past piece_at utf8_at escape_at unit_at code_unit short_escape encode
 meaningless_row = refl

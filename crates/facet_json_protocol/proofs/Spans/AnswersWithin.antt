@@ -9,11 +9,12 @@ use Rattle.facet_format.specs.Kept.{found}
 use Rattle.facet_format.specs.Part.{Part, skip_of, capture_of}
 use Rattle.facet_format.specs.Cursor.{Call, next, peek, events, skip, capture, save, restore, span, Answer, event, batch, skipped, raw, saved, Spot, Cursor, Comes, repeats, passes, passes_without_memory, passes_the_end, passes_nothing, peeks, peeks_without_memory, peeks_at_the_end, peeks_at_nothing, gives_none, gives, gives_up, gives_without_memory, skips, skips_without_memory, skips_nothing, captures, captures_without_memory, captures_nothing, saves, saves_at_the_limit, saves_without_memory, restores, restores_nothing, tells, repeated, an_event, at_spot, refused_at, kept_here, back_at, current_span, spot_after, unpeeked}
 use Rattle.facet_json_token.specs.Gap.{Mode}
+use Rattle.facet_json_document.specs.Language.{Language, lenient}
 use Rattle.facet_json_document.specs.InputPlace.{Standing, future_at}
 use Rattle.facet_json_document.specs.Unread.{PartAt}
 use Rattle.facet_json_document.proofs.PastEvents.{comes-within}
 use Rattle.facet_json_document.proofs.Parts.PartsWithin.{parts_within}
-use Rattle.facet_json_protocol.specs.Now.{Now, fresh, on_input, first_of, RefusedAt}
+use Rattle.facet_json_protocol.specs.Now.{Now, fresh, fresh_in, on_input, first_of, RefusedAt}
 use Rattle.facet_json_protocol.specs.Move.{Moves}
 use Rattle.facet_json_protocol.specs.Within.{StandsWithin, RefusalWithin, NowWithin, no_events, AnswerWithin}
 use Rattle.facet_json_protocol.proofs.PointsHold.{found-holds, without-holds, with_point-holds}
@@ -22,12 +23,15 @@ use Rattle.facet_json_protocol.proofs.MovesNext.{event-comes}
 use Rattle.facet_json_protocol.proofs.Spans.EventsWithin.{refused-within, span-within, given-within, spot_after-within}
 
 -- All that a new parser keeps lies within its input.
-pub fresh-within : (buffer : List ℕ) (mode : Mode) → NowWithin (fresh buffer mode)
-fresh-within buffer mode = record {
+pub fresh-within-in : (buffer : List ℕ) (language : Language) → NowWithin (fresh_in buffer language)
+fresh-within-in buffer language = record {
   standing = omega arith;
   kept = All-nil (λ point. StandsWithin buffer point.1.place);
   refusal = tt;
 }
+
+pub fresh-within : (buffer : List ℕ) (mode : Mode) → NowWithin (fresh buffer mode)
+fresh-within buffer mode = fresh-within-in buffer (lenient mode)
 
 -- What a move leaves: a parser that keeps what lies within the input, and an answer within it.
 pub record MovedWithin (new : Now) (answer : Answer) : Type 0 where

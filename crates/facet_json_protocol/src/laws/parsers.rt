@@ -2,6 +2,7 @@
 
 ghost use Rattle.facet_json_protocol.specs.ParserLaws.{NewStands, AloneIsGiven, TrustedAgrees};
 ghost use Rattle.facet_json_protocol.specs.Headline.{Headline};
+ghost use Rattle.facet_json_protocol.specs.StrictHeadline.{EndsInTimeIn, StrictHeadline};
 ghost use Rattle.facet_json_protocol.specs.SkipLaws.{SkipPassesRun, CapturePassesRun};
 ghost use Rattle.facet_json_protocol.specs.CallLaws.{MoveIsStep, PeekIsNext, RefusalRepeats, SaveIsNumbered, RestoreBringsBack, NumbersAreNew, UnknownChangesNothing, EndsInTime};
 
@@ -85,4 +86,16 @@ pub fn unknown_changes_nothing()
 /// is answered.
 pub fn ends_in_time()
     ensures { EndsInTime }
+{}
+
+/// What a new parser of any input answers that reads RFC 8259 alone. Where the input is a strict document, it answers every list of
+/// calls as a cursor on the document's walk does from its start. Else it answers the next event alone with events, and then with
+/// one refusal, never the end.
+pub fn strict_headline()
+    ensures { StrictHeadline }
+{}
+
+/// In either language, of more calls for the next event than the input has bytes one is answered with the end or a refusal.
+pub fn ends_in_time_in()
+    ensures { EndsInTimeIn }
 {}

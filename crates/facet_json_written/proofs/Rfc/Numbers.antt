@@ -4,8 +4,9 @@ use Rattle.std.specs.List.{list_all}
 use Rattle.std.specs.Fmt.{signed_decimal}
 use Rattle.std.proofs.lemmas.Bool.{and_parts, and_from}
 use Rattle.std.proofs.lemmas.Fmt.{decimal_digit, decimal_by_steps_wide}
-use Rattle.facet_format.specs.Bytes.{is_digit, minus}
-use Rattle.facet_format.specs.Number.{AreDigits, none, digit, IsMinus}
+use Rattle.facet_format.specs.Bytes.{minus}
+use Rattle.facet_json_strict.specs.RfcNumber.{is_digit, AreDigits, none, digit, IsMinus}
+use Rattle.facet_json_strict.proofs.RfcNumbers.{are_digits}
 use Rattle.facet_json_written.specs.AsRead.{IsWithin}
 use Rattle.facet_json_written.specs.RfcText.{InUtf8, is_first_digit, IsWhole, nought, IsFraction, IsExponent, IsRfcNumber}
 use Rattle.facet_json_written.proofs.Scalars.WholeNumbers.{decimal-digits}
@@ -53,13 +54,12 @@ whole-decimal (suc n) small =
 
 -- ---- whole numbers
 
-whole_number : (sign whole : List ℕ) (has_minus : Bool) → IsMinus sign has_minus → IsWhole whole → IsRfcNumber (sign ++ whole)
-whole_number sign whole has_minus is_minus is_whole = record {
+whole_number : (sign whole : List ℕ) → IsMinus sign → IsWhole whole → IsRfcNumber (sign ++ whole)
+whole_number sign whole is_minus is_whole = record {
   sign = sign;
   whole = whole;
   fraction = [];
   exponent = [];
-  has_minus = has_minus;
   is_minus = is_minus;
   is_whole = is_whole;
   is_fraction = IsFraction.absent;
@@ -69,11 +69,11 @@ whole_number sign whole has_minus is_minus is_whole = record {
 
 pub number-decimal : (n : ℕ) → n < 10 ^ 64 → InUtf8 IsRfcNumber (decimal n)
 number-decimal n small =
-    ascii (decimal n) (digits-ascii _ (decimal-digits n)) (whole_number [] (decimal n) false IsMinus.absent (whole-decimal n small))
+    ascii (decimal n) (digits-ascii _ (are_digits (decimal-digits n))) (whole_number [] (decimal n) IsMinus.absent (whole-decimal n small))
 
 number-negative : (n : ℕ) → n < 10 ^ 64 → InUtf8 IsRfcNumber (minus ∷ decimal n)
 number-negative n small =
-    ascii (minus ∷ decimal n) (digits-ascii _ (decimal-digits n)) (whole_number (minus ∷ []) (decimal n) true IsMinus.present (whole-decimal n small))
+    ascii (minus ∷ decimal n) (digits-ascii _ (are_digits (decimal-digits n))) (whole_number (minus ∷ []) (decimal n) IsMinus.present (whole-decimal n small))
 
 pub number-signed : (bits : ℕ) (n : ℤ) → 2 ^ bits < 10 ^ 64 → IsWithin bits n → InUtf8 IsRfcNumber (signed_decimal n)
 number-signed bits (pos n) few within = number-decimal n (omega arith)

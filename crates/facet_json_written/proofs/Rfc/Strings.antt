@@ -7,14 +7,14 @@ use lib.Utf8.{scalar}
 use Rattle.std.proofs.lemmas.Bool.{and_parts, and_from, cases_lt, agree_below_at}
 use Rattle.std.proofs.lemmas.Str.{IsUtf8-from_is_utf8}
 use Rattle.facet_format.specs.Bytes.{quote, space}
-use Rattle.facet_json_decode.specs.Decode.{is_hex}
 use Rattle.facet_json_document.specs.Quoted.{hex_digit, escaped, quoted}
 use Rattle.facet_json_document.specs.TextLaws.{escaped_character}
 use Rattle.facet_json_document.proofs.Writing.QuotedByCharacters.{quoted_by_characters}
-use Rattle.facet_json_written.specs.RfcText.{InUtf8, is_unescaped, IsContent, empty, unescaped, short, unit, IsRfcString}
+use Rattle.facet_json_written.specs.RfcText.{InUtf8, is_unescaped, is_hex_digit, IsContent, empty, unescaped, short, unit, IsRfcString}
 use Rattle.facet_json_written.proofs.Scalars.EscapedBytes.{Form, by_number, itself, form}
 use Rattle.std.proofs.lemmas.Bool.Decides.{nat_tests}
 use Rattle.facet_json_written.specs.RfcLaws.{QuotedIsRfc}
+use Rattle.facet_json_written.proofs.Rfc.Leaves.{escape-is_escapable}
 use Rattle.facet_json_written.proofs.Rfc.Encoded.{is_ascii, ascii, joined, joined3}
 
 -- ---- escapes
@@ -23,14 +23,14 @@ use Rattle.facet_json_written.proofs.Rfc.Encoded.{is_ascii, ascii, joined, joine
 abbrev Begins : List ℕ → Type 0
 Begins cs = (others : List ℕ) → IsContent others → IsContent (cs ++ others)
 
-hex_digit-is_hex : (n : ℕ) → n < 16 → is_hex (hex_digit n) ≡ true
-hex_digit-is_hex n small = agree_below_at (λ k. is_hex (hex_digit k)) (λ k. true) 16 n refl small
+hex_digit-is_digit : (n : ℕ) → n < 16 → is_hex_digit (hex_digit n) ≡ true
+hex_digit-is_digit n small = agree_below_at (λ k. is_hex_digit (hex_digit k)) (λ k. true) 16 n refl small
 
 form-begins : (c : ℕ) (first : List ℕ) → c < 0x80 → Form c first → Begins first
-form-begins c _ low (Form.short b is) others content = short b c others is content
+form-begins c _ low (Form.short b is) others content = short b others (escape-is_escapable b c is) content
 form-begins c _ low (by_number _) others content =
     unit 0x30 0x30 (hex_digit (c / 16)) (hex_digit (c % 16)) others refl refl
-    (hex_digit-is_hex (c / 16) (omega arith)) (hex_digit-is_hex (c % 16) (omega arith)) content
+    (hex_digit-is_digit (c / 16) (omega arith)) (hex_digit-is_digit (c % 16) (omega arith)) content
 form-begins c _ low (itself no_quote no_backslash printed) others content =
     unescaped c others (rw (le-leb 0x20 c (ltb-false c space printed), no_quote, no_backslash)) content
 

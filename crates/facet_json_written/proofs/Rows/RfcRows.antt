@@ -1,8 +1,7 @@
 -- Small texts that the grammar of RFC 8259 has, and some that it has not.
-use Rattle.std.proofs.Common.{◌≡◌, ℕ, Bool, true, false, List, [], ◌∷◌, ◌++◌, Some, None, refl, sym, ap, ◌∙◌, codes, get_or, eq-eqb, true≢false, ◌==◌}
+use Rattle.std.proofs.Common.{◌≡◌, ℕ, Bool, true, false, List, [], ◌∷◌, ◌++◌, refl, sym, ap, ◌∙◌, codes, get_or, eq-eqb, true≢false, ◌==◌}
 use Rattle.facet_format.specs.Bytes.{backslash, colon, comma, left_bracket, right_bracket, left_brace, right_brace}
-use Rattle.facet_format.specs.Number.{none, digit, IsMinus, IsExponentSign}
-use Rattle.facet_json_decode.specs.Decode.{short_escape}
+use Rattle.facet_json_strict.specs.RfcNumber.{none, digit, IsMinus, IsExponentSign}
 use Rattle.facet_json_written.specs.RfcText.{IsStructural, SomeDigits, IsWhole, nought, IsFraction, IsExponent, IsRfcNumber, IsContent, empty, unescaped, short, unit, IsRfcString, IsRfcText, IsEnclosed, AreItems, literal_true, array, object, one_item, more_items, one_member, member}
 use Rattle.facet_json_written.specs.RfcText as rfc
 use Rattle.facet_json_written.proofs.Rfc.Lists.{unspaced}
@@ -16,11 +15,10 @@ all_parts_row = record {
   whole = codes "0";
   fraction = codes ".5";
   exponent = codes "e+1";
-  has_minus = true;
   is_minus = IsMinus.present;
   is_whole = nought;
   is_fraction = IsFraction.present (codes "5") (SomeDigits.digits 0x35 [] refl none);
-  is_exponent = IsExponent.present 0x65 (codes "+") (codes "1") _ refl (IsExponentSign.present 0x2b refl) (SomeDigits.digits 0x31 [] refl none) refl;
+  is_exponent = IsExponent.present 0x65 (codes "+") (codes "1") _ refl IsExponentSign.plus (SomeDigits.digits 0x31 [] refl none) refl;
   parts = refl;
 }
 
@@ -31,7 +29,6 @@ ten = record {
   whole = codes "10";
   fraction = [];
   exponent = [];
-  has_minus = false;
   is_minus = IsMinus.absent;
   is_whole = IsWhole.digits 0x31 (codes "0") refl (digit 0x30 [] refl none);
   is_fraction = IsFraction.absent;
@@ -49,22 +46,22 @@ apart {x = x} {y = y} i e other = true≢false (sym (eq-eqb (get_or x i 0) (get_
 
 -- No number has the parts of these characters.
 abbrev HasNoParts : List ℕ → Type 0
-HasNoParts characters = (sign whole fraction exponent : List ℕ) (has_minus : Bool) → IsMinus sign has_minus → IsWhole whole →
+HasNoParts characters = (sign whole fraction exponent : List ℕ) → IsMinus sign → IsWhole whole →
     IsFraction fraction → IsExponent exponent → characters ≡ sign ++ whole ++ fraction ++ exponent → ⊥
 
 no_number : (characters : List ℕ) → HasNoParts characters → IsRfcNumber characters → ⊥
-no_number characters without n = without n.sign n.whole n.fraction n.exponent n.has_minus n.is_minus n.is_whole n.is_fraction n.is_exponent n.parts
+no_number characters without n = without n.sign n.whole n.fraction n.exponent n.is_minus n.is_whole n.is_fraction n.is_exponent n.parts
 
 -- A zero leads nothing but a fraction or an exponent.
 leading_zero_row : IsRfcNumber (codes "01") → ⊥
 leading_zero_row = no_number (codes "01") no_parts
   where
     no_parts : HasNoParts (codes "01")
-    no_parts _ _ _ _ _ IsMinus.present _ _ _ e = apart 0 e refl
-    no_parts _ _ _ _ _ IsMinus.absent (IsWhole.digits c others is _) _ _ e = let k : 0x30 ≡ c = at 0 e in true≢false (rw (← k) at (sym is))
-    no_parts _ _ _ _ _ IsMinus.absent nought (IsFraction.present _ _) _ e = apart 1 e refl
-    no_parts _ _ _ _ _ IsMinus.absent nought IsFraction.absent IsExponent.absent e = apart 1 e refl
-    no_parts _ _ _ _ _ IsMinus.absent nought IsFraction.absent (IsExponent.present mark _ _ others is _ _ _) e =
+    no_parts _ _ _ _ IsMinus.present _ _ _ e = apart 0 e refl
+    no_parts _ _ _ _ IsMinus.absent (IsWhole.digits c others is _) _ _ e = let k : 0x30 ≡ c = at 0 e in true≢false (rw (← k) at (sym is))
+    no_parts _ _ _ _ IsMinus.absent nought (IsFraction.present _ _) _ e = apart 1 e refl
+    no_parts _ _ _ _ IsMinus.absent nought IsFraction.absent IsExponent.absent e = apart 1 e refl
+    no_parts _ _ _ _ IsMinus.absent nought IsFraction.absent (IsExponent.present mark _ _ others is _ _ _) e =
         let k : 0x31 ≡ mark = at 1 e in true≢false (rw (← k) at (sym is))
 
 -- A number does not start with a dot.
@@ -72,51 +69,49 @@ no_whole_row : IsRfcNumber (codes ".5") → ⊥
 no_whole_row = no_number (codes ".5") no_parts
   where
     no_parts : HasNoParts (codes ".5")
-    no_parts _ _ _ _ _ IsMinus.present _ _ _ e = apart 0 e refl
-    no_parts _ _ _ _ _ IsMinus.absent nought _ _ e = apart 0 e refl
-    no_parts _ _ _ _ _ IsMinus.absent (IsWhole.digits c others is _) _ _ e = let k : 0x2e ≡ c = at 0 e in true≢false (rw (← k) at (sym is))
+    no_parts _ _ _ _ IsMinus.present _ _ _ e = apart 0 e refl
+    no_parts _ _ _ _ IsMinus.absent nought _ _ e = apart 0 e refl
+    no_parts _ _ _ _ IsMinus.absent (IsWhole.digits c others is _) _ _ e = let k : 0x2e ≡ c = at 0 e in true≢false (rw (← k) at (sym is))
 
 -- Nor with a plus.
 plus_row : IsRfcNumber (codes "+1") → ⊥
 plus_row = no_number (codes "+1") no_parts
   where
     no_parts : HasNoParts (codes "+1")
-    no_parts _ _ _ _ _ IsMinus.present _ _ _ e = apart 0 e refl
-    no_parts _ _ _ _ _ IsMinus.absent nought _ _ e = apart 0 e refl
-    no_parts _ _ _ _ _ IsMinus.absent (IsWhole.digits c others is _) _ _ e = let k : 0x2b ≡ c = at 0 e in true≢false (rw (← k) at (sym is))
+    no_parts _ _ _ _ IsMinus.present _ _ _ e = apart 0 e refl
+    no_parts _ _ _ _ IsMinus.absent nought _ _ e = apart 0 e refl
+    no_parts _ _ _ _ IsMinus.absent (IsWhole.digits c others is _) _ _ e = let k : 0x2b ≡ c = at 0 e in true≢false (rw (← k) at (sym is))
 
 -- A dot is followed by digits.
 no_fraction_row : IsRfcNumber (codes "0.") → ⊥
 no_fraction_row = no_number (codes "0.") no_parts
   where
     no_parts : HasNoParts (codes "0.")
-    no_parts _ _ _ _ _ IsMinus.present _ _ _ e = apart 0 e refl
-    no_parts _ _ _ _ _ IsMinus.absent (IsWhole.digits c others is _) _ _ e = let k : 0x30 ≡ c = at 0 e in true≢false (rw (← k) at (sym is))
-    no_parts _ _ _ _ _ IsMinus.absent nought (IsFraction.present _ (SomeDigits.digits c _ is _)) _ e = let k : 0 ≡ c = at 2 e in true≢false (rw (← k) at (sym is))
-    no_parts _ _ _ _ _ IsMinus.absent nought IsFraction.absent IsExponent.absent e = apart 1 e refl
-    no_parts _ _ _ _ _ IsMinus.absent nought IsFraction.absent (IsExponent.present mark _ _ others is _ _ _) e =
+    no_parts _ _ _ _ IsMinus.present _ _ _ e = apart 0 e refl
+    no_parts _ _ _ _ IsMinus.absent (IsWhole.digits c others is _) _ _ e = let k : 0x30 ≡ c = at 0 e in true≢false (rw (← k) at (sym is))
+    no_parts _ _ _ _ IsMinus.absent nought (IsFraction.present _ (SomeDigits.digits c _ is _)) _ e = let k : 0 ≡ c = at 2 e in true≢false (rw (← k) at (sym is))
+    no_parts _ _ _ _ IsMinus.absent nought IsFraction.absent IsExponent.absent e = apart 1 e refl
+    no_parts _ _ _ _ IsMinus.absent nought IsFraction.absent (IsExponent.present mark _ _ others is _ _ _) e =
         let k : 0x2e ≡ mark = at 1 e in true≢false (rw (← k) at (sym is))
 
 -- ---- strings
 
 -- Escapes, and characters that stand for themselves.
 escapes_row : IsRfcString (codes "\"\\n\\u00E9 é\"")
-unfolding short_escape
 escapes_row = record {
   content = codes "\\n\\u00E9 é";
-  is_content = short 0x6e 0x0a _ refl (unit 0x30 0x30 0x45 0x39 _ refl refl refl refl (unescaped 0x20 _ refl (unescaped 0xe9 [] refl empty)));
+  is_content = short 0x6e _ refl (unit 0x30 0x30 0x45 0x39 _ refl refl refl refl (unescaped 0x20 _ refl (unescaped 0xe9 [] refl empty)));
   quoted = refl;
 }
 
 -- A backslash is followed by one of the eight letters or by u.
 unknown_escape_row : IsContent (codes "\\q") → ⊥
-unfolding short_escape
 unknown_escape_row h = no_parts (codes "\\q") h refl
   where
     no_parts : (cs : List ℕ) → IsContent cs → cs ≡ codes "\\q" → ⊥
     no_parts _ empty e = apart 0 e refl
     no_parts _ (unescaped c _ is _) e = let k : c ≡ backslash = at 0 e in true≢false (rw k at (sym is))
-    no_parts _ (short b c _ is _) e = let k : b ≡ 0x71 = at 1 e in let absent : None ≡ Some c = rw k at is in cc
+    no_parts _ (short c _ is _) e = let k : c ≡ 0x71 = at 1 e in true≢false (rw k at (sym is))
     no_parts _ (unit _ _ _ _ _ _ _ _ _ _) e = apart 1 e refl
 
 -- A control character does not stand for itself.
@@ -126,7 +121,7 @@ control_row h = no_parts (0x09 ∷ []) h refl
     no_parts : (cs : List ℕ) → IsContent cs → cs ≡ 0x09 ∷ [] → ⊥
     no_parts _ empty e = apart 0 e refl
     no_parts _ (unescaped c _ is _) e = let k : c ≡ 0x09 = at 0 e in true≢false (rw k at (sym is))
-    no_parts _ (short _ _ _ _ _) e = apart 0 e refl
+    no_parts _ (short _ _ _ _) e = apart 0 e refl
     no_parts _ (unit _ _ _ _ _ _ _ _ _ _) e = apart 0 e refl
 
 -- ---- texts

@@ -34,7 +34,7 @@ returns-in_err-token-clause-run c =
     let answer = rw c.in_err-token.was at c.token_beyond.ensures.answer in
     let p = err_from_is_err_and c.from_residual-in_err-token.result c.from_residual-in_err-token.ensures.1 in
     let around = c.in-Some.ensures in
-    rw p.1 (fault-stops c.args.input.now (mode_of c.args.mode) (container_of c.args.kind) (span_of c.args.first) (span_of c.args.last) (container_of c.in-Some.innermost) around.0 l.contexts (span_at at 0) around.1 on c.in_err-token.field-0.0 _ (rw position at answer) p.2)
+    rw p.1 (fault-stops c.args.input.now (mode_of c.args.mode) (container_of c.args.kind) (span_of c.args.first) (span_of c.args.last) (container_of c.in-Some.innermost) around.0 l.contexts (span_at at 0) around.1 on c.in_err-token.field-0.0 _ (omega (arith, c.token_beyond.ensures)) (rw position at answer) p.2)
 
 pub returns-in_err-pass_token-clause-run : goal.returns-in_err-pass_token-clause-run
 returns-in_err-pass_token-clause-run c =

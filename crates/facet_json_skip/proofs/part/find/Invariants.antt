@@ -1,14 +1,13 @@
 -- Separators have been passed, and what stands after them stands where the reader does.
 use Rattle.std.proofs.Common.{◌≤◌, ◌-◌, length}
-use Rattle.facet_json_token.specs.Views.{mode_of}
-use Rattle.facet_json_place.specs.Views.{place_of}
+use Rattle.facet_json_place.specs.Views.{language_of, place_of}
 use Rattle.facet_json_skip.proofs.FirstParts.{Reaches}
 use Rattle.facet_json_skip.proofs.part.find.Given as goal
 
 abbrev pub invariant-loop-token : goal.invariant-loop-token
 invariant-loop-token l = record {
   ends : l.position ≤ length l.input;
-  reached : Reaches l.input (mode_of l.mode) l.reader (place_of l.place) l.position;
+  reached : Reaches l.input (language_of l.language) l.reader (place_of l.place) l.position;
 }
 
 abbrev pub decreases-loop-token : goal.decreases-loop-token

@@ -1,6 +1,7 @@
 use Rattle.std.proofs.Common.{refl, rules}
 use Rattle.std.proofs.lemmas.Result.{err_from_is_err_and}
 use Rattle.facet_json_token.specs.Views.{mode_of}
+use Rattle.facet_json_document.specs.Language.{lenient}
 use Rattle.facet_json_document.specs.Place.{after_key}
 use Rattle.facet_json_document.specs.Unread.{colon_missing}
 use Rattle.facet_json_reader.proofs.ColonAfterKey.{colon-stands}
@@ -11,7 +12,7 @@ pub returns-in_err-token-clause-colon : goal.returns-in_err-token-clause-colon
 returns-in_err-token-clause-colon c =
     λ stack.
     let p = err_from_is_err_and c.from_residual.result c.from_residual.ensures.1 in
-    rw p.1 (colon_missing _ _ (unread-fault c.args.input.now c.args.position (mode_of c.args.mode) c.in_err-token.field-0.0 after_key _ c.in_err-token.ensures.answer p.2))
+    rw p.1 (colon_missing _ _ (unread-fault c.args.input.now c.args.position (mode_of c.args.mode) c.in_err-token.field-0.0 after_key _ c.requires c.in_err-token.ensures.answer p.2))
 
 pub returns-in-Colon-clause-colon : goal.returns-in-Colon-clause-colon
 returns-in-Colon-clause-colon c =
@@ -20,7 +21,7 @@ returns-in-Colon-clause-colon c =
 
 pub returns-in-Colon-clause-within : goal.returns-in-Colon-clause-within
 returns-in-Colon-clause-within c =
-    (colon-stands c.args.input.now c.args.position (mode_of c.args.mode) c.in_ok-token.token c.requires c.in_ok-token.ensures.answer c.in-Colon.is).ends
+    (colon-stands c.args.input.now c.args.position (lenient (mode_of c.args.mode)) c.in_ok-token.token c.requires c.in_ok-token.ensures.answer c.in-Colon.is).ends
 
 pub returns-in-Eof-clause-colon : goal.returns-in-Eof-clause-colon
 returns-in-Eof-clause-colon c =

@@ -7,6 +7,7 @@ use Rattle.facet_format.specs.Event.{sequence_end}
 use Rattle.facet_format.specs.Views.{event_of}
 use Rattle.facet_json_token.specs.Cut.{start_of}
 use Rattle.facet_json_token.specs.Token.{array_end}
+use Rattle.facet_json_document.specs.Language.{gaps}
 use Rattle.facet_json_document.specs.Place.{place_turn, says}
 use Rattle.facet_json_place.specs.Views.{place_of}
 use Rattle.facet_json_place.proofs.TokensThere.{mark-cut}
@@ -20,5 +21,5 @@ ends p (inr e) = ap (λ (q : RustPlace). place_turn (place_of q) array_end) e
 pub returns-in-BeforeItem : goal.returns-in-BeforeItem
 unfolding start_of
 returns-in-BeforeItem c =
-    λ buffer mode here reached.
-    bracket-passes buffer mode c.args.self.now (place_of c.args.place) c.args.at array_end sequence_end (event_of c.pass_end.result) c.pass_end.new.self reached (mark-cut mode buffer c.args.at byte.right_bracket array_end here refl) (ends c.args.place c.in-BeforeItem.is) c.pass_end.ensures
+    λ buffer language here reached.
+    bracket-passes buffer language c.args.self.now (place_of c.args.place) c.args.at array_end sequence_end (event_of c.pass_end.result) c.pass_end.new.self reached (mark-cut (gaps language) buffer c.args.at byte.right_bracket array_end here refl) (ends c.args.place c.in-BeforeItem.is) c.pass_end.ensures

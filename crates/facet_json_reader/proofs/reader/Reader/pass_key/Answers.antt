@@ -1,10 +1,9 @@
 -- The key's text and its colon give its event.
-use Rattle.std.proofs.Common.{refl}
+use Rattle.std.proofs.Common.{false}
 use Rattle.facet_format.specs.Bytes.{colon as colon_byte}
 use Rattle.facet_format.specs.Views.{event_of}
-use Rattle.facet_json_token.specs.Views.{mode_of}
 use Rattle.facet_json_token.proofs.Offsets.{slice_get-from_read}
-use Rattle.facet_json_document.specs.Place.{before_key}
+use Rattle.facet_json_place.specs.Views.{language_of, place_of}
 use Rattle.facet_json_reader.proofs.QuickEvents.{key-passes}
 use Rattle.facet_json_reader.proofs.reader.Reader.pass_key.Goals as goal
 
@@ -12,8 +11,8 @@ pub returns-in-Some-eq58 : goal.returns-in-Some-eq58
 returns-in-Some-eq58 c =
     λ reached.
     let buffer = c.args.input.now in
-    let mode = mode_of c.args.mode in
+    let language = language_of c.args.language in
     let w = c.in-Some-eq58 in
     let here = slice_get-from_read buffer c.gap_end-colon.result w.field-0.now colon_byte w.ensures.lookup.3 w.field-0-test in
-    key-passes buffer mode c.args.self.now before_key c.args.at c.args.end c.gap_end-colon.result c.args.name.now (event_of c.pass_name.result) c.pass_name.new.self refl reached
-    c.requires.text c.requires.within.0 c.requires.within.1 c.gap_end-colon.ensures.end here (rw (c.new.ensures.offset, c.new.ensures.len) at c.pass_name.ensures)
+    key-passes buffer language c.args.self.now (place_of c.args.place) c.args.at c.args.end c.gap_end-colon.result c.args.name.now (event_of c.pass_name.result) c.pass_name.new.self c.requires.key (c.requires.allowed _ false) reached
+    c.requires.text c.requires.within.0 c.requires.within.1 (rw c.mode-mode.ensures at c.gap_end-colon.ensures.end) here (rw (c.new.ensures.offset, c.new.ensures.len) at c.pass_name.ensures)

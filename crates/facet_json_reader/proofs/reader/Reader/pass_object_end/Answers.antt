@@ -7,6 +7,7 @@ use Rattle.facet_format.specs.Event.{struct_end}
 use Rattle.facet_format.specs.Views.{event_of}
 use Rattle.facet_json_token.specs.Cut.{start_of}
 use Rattle.facet_json_token.specs.Token.{object_end}
+use Rattle.facet_json_document.specs.Language.{gaps}
 use Rattle.facet_json_document.specs.Place.{place_turn, says}
 use Rattle.facet_json_place.specs.Views.{place_of}
 use Rattle.facet_json_place.proofs.TokensThere.{mark-cut}
@@ -20,5 +21,5 @@ ends p (inr e) = ap (λ (q : RustPlace). place_turn (place_of q) object_end) e
 pub returns-in-BeforeKey : goal.returns-in-BeforeKey
 unfolding start_of
 returns-in-BeforeKey c =
-    λ buffer mode here reached.
-    bracket-passes buffer mode c.args.self.now (place_of c.args.place) c.args.at object_end struct_end (event_of c.pass_end.result) c.pass_end.new.self reached (mark-cut mode buffer c.args.at byte.right_brace object_end here refl) (ends c.args.place c.in-BeforeKey.is) c.pass_end.ensures
+    λ buffer language here reached.
+    bracket-passes buffer language c.args.self.now (place_of c.args.place) c.args.at object_end struct_end (event_of c.pass_end.result) c.pass_end.new.self reached (mark-cut (gaps language) buffer c.args.at byte.right_brace object_end here refl) (ends c.args.place c.in-BeforeKey.is) c.pass_end.ensures

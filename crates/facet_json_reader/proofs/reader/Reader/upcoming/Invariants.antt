@@ -1,6 +1,6 @@
 -- Separators have been passed, and what comes is as it was.
 use Rattle.std.proofs.Common.{◌≡◌, ◌≤◌, ◌-◌, length}
-use Rattle.facet_json_token.specs.Views.{mode_of}
+use Rattle.facet_json_place.specs.Views.{language_of}
 use Rattle.facet_json_document.specs.Future.{within}
 use Rattle.facet_json_place.specs.Views.{place_of}
 use Rattle.facet_json_reader.specs.Views.{comes_at, coming}
@@ -9,8 +9,8 @@ use Rattle.facet_json_reader.proofs.reader.Reader.upcoming.Given as goal
 abbrev pub invariant-loop-token : goal.invariant-loop-token
 invariant-loop-token l = record {
   ends : l.position ≤ length l.input;
-  same : comes_at l.input (mode_of l.mode) l.self.contexts (within (place_of l.place)) l.position
-      ≡ coming l.input (mode_of l.mode) l.self;
+  same : comes_at l.input (language_of l.language) l.self.contexts (within (place_of l.place)) l.position
+      ≡ coming l.input (language_of l.language) l.self;
 }
 
 abbrev pub decreases-loop-token : goal.decreases-loop-token

@@ -11,7 +11,7 @@ use Rattle.facet_json_standing.proofs.standing.Standing.begin.Goals as goal
 pub returns-clause-refused : goal.returns-clause-refused
 returns-clause-refused c =
     let found = rw c.in-Some.is at c.in_ok-held.ensures in
-    let comes = subst (λ mode. GivesHeld (coming c.args.input.now mode c.args.self.now.reader) c.in-Some.held) c.mode.ensures found in
+    let comes = found in
     let last = ap (λ s. no_memory_at (span_of s)) c.in-Err.ensures.last in
     let refused = unopened-refused c.args.input.now (language_of c.args.language) c.args.self.now c.in-Some.held _ (ap is_some c.requires.free) comes c.in-Err.ensures.contexts.1 (c.out_of_memory.ensures ∙ last) in
     (rw (c.in-Err.ensures.last, c.in-Err.ensures.stage, c.in-Err.ensures.contexts.0) refl, refused.1)
@@ -19,7 +19,7 @@ returns-clause-refused c =
 pub returns-in-Ok-clause-held : goal.returns-in-Ok-clause-held
 returns-in-Ok-clause-held c =
     let found = rw c.in-Some.is at c.in_ok-held.ensures in
-    let comes = subst (λ mode. GivesHeld (coming c.args.input.now mode c.args.self.now.reader) c.in-Some.held) c.mode.ensures found in
+    let comes = found in
     let after = c.in-Ok.ensures in
     opened-holds c.args.self.now.reader c.open.new.self c.in-Some.held after.last after.stage after.contexts c.args.input.now (language_of c.args.language) comes
 

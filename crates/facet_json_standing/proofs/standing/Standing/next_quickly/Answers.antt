@@ -12,13 +12,13 @@ returns-clause-sound c =
     let s = c.args.self.now in
     let none = ap (option_map passed_of) (nothing_held s.held (sym c.is_some.ensures ∙ c.if-is_some.false)) in
     passed-sound c.args.input.now (language_of c.args.language) s.reader c.pass_quickly.new.self (option_map passed_of s.held) s.shown c.pass_quickly.result
-    none c.requires.sound (rw c.mode.ensures at c.pass_quickly.ensures)
+    none c.requires.sound c.pass_quickly.ensures
 
 pub returns-clause-passed : goal.returns-clause-passed
 returns-clause-passed c =
     let s = c.args.self.now in
     let none = ap (option_map passed_of) (nothing_held s.held (sym c.is_some.ensures ∙ c.if-is_some.false)) in
-    passed-passes c.args.input.now (language_of c.args.language) s c.pass_quickly.new.self c.pass_quickly.result none (rw c.mode.ensures at c.pass_quickly.ensures)
+    passed-passes c.args.input.now (language_of c.args.language) s c.pass_quickly.new.self c.pass_quickly.result none c.pass_quickly.ensures
 
 pub returns-then-is_some-clause-sound : goal.returns-then-is_some-clause-sound
 returns-then-is_some-clause-sound c = search rules

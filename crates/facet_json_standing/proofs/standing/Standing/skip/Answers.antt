@@ -12,7 +12,7 @@ returns-in_err-part-clause-passed c =
     let f = filling_of c.args.self.now in
     let language = language_of c.args.language in
     let p = err_from_is_err_and c.from_residual.result c.from_residual.ensures.1 in
-    let stands = c.in_err-part.ensures.nothing language (place_of f).stack (sym c.mode-mode.ensures) in
+    let stands = c.in_err-part.ensures.nothing (place_of f).stack in
     rw (p.1, p.2) (skip-nothing c.args.input.now language f _ stands)
 
 pub returns-in_err-last-clause-passed : goal.returns-in_err-last-clause-passed
@@ -21,7 +21,7 @@ returns-in_err-last-clause-passed c =
     let language = language_of c.args.language in
     let mode = sym c.mode-mode.ensures in
     let p = err_from_is_err_and c.from_residual-in_err-last.result c.from_residual-in_err-last.ensures.1 in
-    let first = c.in_ok-part.ensures.found language (place_of f).stack mode in
+    let first = c.in_ok-part.ensures.found (place_of f).stack in
     let refused = c.in_err-last.ensures.skips language (place_of f) mode first in
     let last = c.span.ensures c.args.input.now language c.requires.sound.filled in
     rw (p.1, p.2) (skip-refused c.args.input.now language f c.in_ok-part.part (span_of c.span.result) _ refused last)
@@ -31,7 +31,7 @@ returns-clause-passed c =
     let f = filling_of c.args.self.now in
     let language = language_of c.args.language in
     let mode = sym c.mode-mode.ensures in
-    let first = c.in_ok-part.ensures.found language (place_of f).stack mode in
+    let first = c.in_ok-part.ensures.found (place_of f).stack in
     let passed = c.in_ok-last.ensures.skips language (place_of f) mode first in
     skip-passes c.args.input.now language f (filling_of c.leave.new.self) c.in_ok-part.part (span_of c.span.result) (span_of c.in_ok-last.last) passed c.leave.ensures
 

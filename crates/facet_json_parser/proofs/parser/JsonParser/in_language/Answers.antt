@@ -1,13 +1,12 @@
 use Rattle.std.proofs.Common.{ap, map, rules}
-use Rattle.facet_json_token.specs.Views.{mode_of}
-use Rattle.facet_json_document.specs.Language.{lenient}
+use Rattle.facet_json_place.specs.Views.{language_of}
 use Rattle.facet_json_standing.specs.Views.{filling_of, point_of}
 use Rattle.facet_json_parser.proofs.ParserWithin.{first-ready}
-use Rattle.facet_json_parser.proofs.parser.JsonParser.in_mode.Goals as goal
+use Rattle.facet_json_parser.proofs.parser.JsonParser.in_language.Goals as goal
 
 pub invariant_of-result : goal.invariant_of-result
 invariant_of-result c = (
-  first-ready c.args.input.now (lenient (mode_of c.args.mode)) (filling_of c.new.result) (map point_of c.new-2.result.items) c.new.ensures
+  first-ready c.args.input.now (language_of c.args.language) (filling_of c.new.result) (map point_of c.new-2.result.items) c.new.ensures
       (ap (map point_of) c.new-2.ensures.items),
   c.requires,
 )

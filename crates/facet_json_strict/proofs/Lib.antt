@@ -1,0 +1,2 @@
+pub mod RfcNumbers
+pub mod StringSteps

@@ -1,0 +1,9 @@
+-- Bytes that a run of a string's content goes on through: those that may stand there and escape nothing.
+use Rattle.std.specs.Prelude.{ℕ, Bool, not, ◌||◌, ◌==◌, nat_lt}
+use Rattle.facet_format.specs.Bytes.{backslash}
+
+abbrev pub is_stop : ℕ → Bool
+is_stop b = nat_lt b 0x20 || (b == backslash)
+
+abbrev pub is_plain : ℕ → Bool
+is_plain b = not (is_stop b)

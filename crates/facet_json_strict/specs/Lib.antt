@@ -1,0 +1,5 @@
+pub mod Inner
+pub mod RfcNumber
+pub mod RfcNumberTest
+pub mod Strict
+pub mod Views

@@ -1,0 +1,20 @@
+-- What the reader takes for digits and escapes, and what RFC 8259 does: the same characters.
+use Rattle.std.proofs.Common.{◌≡◌, ℕ, Bool, true, false, List, Some, None}
+use Rattle.std.proofs.lemmas.Bool.Decides.{nat_tests}
+use Rattle.facet_json_decode.specs.Decode.{short_escape, is_hex}
+use Rattle.facet_json_written.specs.RfcText.{is_escapable, is_hex_digit}
+
+pub hex-is_digit : (c : ℕ) → is_hex c ≡ true → is_hex_digit c ≡ true
+hex-is_digit c e = grind (arith, nat_tests)
+
+pub digit-is_hex : (c : ℕ) → is_hex_digit c ≡ true → is_hex c ≡ true
+digit-is_hex c e = grind (arith, nat_tests)
+
+pub escape-is_escapable : (b c : ℕ) → short_escape b ≡ Some c → is_escapable b ≡ true
+unfolding short_escape
+escape-is_escapable b c e = grind (arith, nat_tests)
+
+-- The character of a short escape.
+pub escapable-has_character : (b : ℕ) → is_escapable b ≡ true → (c : ℕ) × (short_escape b ≡ Some c)
+unfolding short_escape
+escapable-has_character b e = grind (arith, nat_tests)
