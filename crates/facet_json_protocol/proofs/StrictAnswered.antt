@@ -7,6 +7,7 @@ use Rattle.facet_format.specs.Event.{Passed}
 use Rattle.facet_format.specs.Alike.{none_kept}
 use Rattle.facet_format.specs.Span.{span_at}
 use Rattle.facet_json_token.specs.Tokens.{Tokens}
+use Rattle.facet_json_token.specs.Gap.{plain}
 use Rattle.facet_json_document.specs.Language.{strict, strict_rules}
 use Rattle.facet_json_document.specs.Node.{Node}
 use Rattle.facet_json_document.specs.Tree.{Tree}

@@ -5,6 +5,7 @@ use Rattle.facet_format.specs.Span.{span_at}
 use Rattle.facet_format.specs.Complaint.{Refusal}
 use Rattle.facet_format.specs.Event.{Passed}
 use Rattle.facet_format.specs.Cursor.{Call, Answer, on_walk, Cursor, start, Run}
+use Rattle.facet_json_token.specs.Gap.{plain}
 use Rattle.facet_json_document.specs.Language.{Language, strict}
 use Rattle.facet_json_document.specs.Node.{Node}
 use Rattle.facet_json_document.specs.Tree.{Tree}

@@ -1,5 +1,5 @@
 -- Documents of RFC 8259 alone and its grammar. Each law is the contract of a function of the module `laws`.
-use Rattle.std.specs.Prelude.{ℕ, List, ◌×◌}
+use Rattle.std.specs.Prelude.{ℕ, List}
 use Rattle.facet_json_document.specs.Node.{Node}
 use Rattle.facet_json_document.specs.Tree.{Tree}
 use Rattle.facet_json_document.specs.StrictDocument.{IsStrictDocument}

@@ -1,5 +1,6 @@
 -- What the reader takes for digits and escapes, and what RFC 8259 does: the same characters.
-use Rattle.std.proofs.Common.{◌≡◌, ℕ, Bool, true, false, List, Some, None}
+use Rattle.std.proofs.Common.{◌≡◌, ℕ, true, Some, arith}
+use Rattle.std.specs.Prelude.{is_some}
 use Rattle.std.proofs.lemmas.Bool.Decides.{nat_tests}
 use Rattle.facet_json_decode.specs.Decode.{short_escape, is_hex}
 use Rattle.facet_json_written.specs.RfcText.{is_escapable, is_hex_digit}
@@ -14,7 +15,6 @@ pub escape-is_escapable : (b c : ℕ) → short_escape b ≡ Some c → is_escap
 unfolding short_escape
 escape-is_escapable b c e = grind (arith, nat_tests)
 
--- The character of a short escape.
-pub escapable-has_character : (b : ℕ) → is_escapable b ≡ true → (c : ℕ) × (short_escape b ≡ Some c)
+pub escapable-is_escape : (b : ℕ) → is_escapable b ≡ true → is_some (short_escape b) ≡ true
 unfolding short_escape
-escapable-has_character b e = grind (arith, nat_tests)
+escapable-is_escape b e = grind (arith, nat_tests)

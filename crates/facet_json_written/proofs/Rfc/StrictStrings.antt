@@ -18,7 +18,7 @@ use Rattle.facet_json_decode.proofs.CharAt.{Shape, one, two, three, four, shape}
 use Rattle.facet_json_strict.specs.Strict.{may_stand, wrong_at}
 use Rattle.facet_json_written.specs.RfcText.{InUtf8, is_unescaped, is_escapable, is_hex_digit, IsContent}
 use Rattle.facet_json_written.proofs.Rfc.Encoded.{is_ascii, ascii, joined}
-use Rattle.facet_json_written.proofs.Rfc.Leaves.{hex-is_digit, escape-is_escapable, escapable-has_character}
+use Rattle.facet_json_written.proofs.Rfc.Leaves.{hex-is_digit, escape-is_escapable, escapable-is_escape}
 
 -- ---- what a token's content and the check say, byte by byte
 
@@ -204,7 +204,7 @@ own : (c : ℕ) (cs : List ℕ) → is_ascii c ≡ true → encode_utf8_all (c �
 own c cs low = ap (λ l. l ++ encode_utf8_all cs) (encode_ascii c (ltb-true c 0x80 low))
 
 short-may : (b : ℕ) → is_escapable b ≡ true → may_stand true b ≡ true
-short-may b e = let has = escapable-has_character b e in rw has.1 (grind arith)
+short-may b e = rw (escapable-is_escape b e) (grind arith)
 
 pub rfc-content : (cs : List ℕ) → IsContent cs → Stands (encode_utf8_all cs)
 rfc-content _ IsContent.empty = record { mark = false; pieces = cut.ArePieces.none; right = refl }
