@@ -29,3 +29,7 @@ pub data AreStrict (buffer : List ℕ) : Tokens → Type 0 where
 pub record IsStrictDocument (buffer : List ℕ) (root : Node) (value : Tree) : Type 0 where
   pub whole : IsWholeDocument buffer root value
   pub strict : AreStrict buffer (tokens buffer plain)
+
+-- All of the text is a strict document.
+abbrev pub IsStrict : List ℕ → Type 0
+IsStrict buffer = (root : Node) × (value : Tree) × IsStrictDocument buffer root value

@@ -187,7 +187,7 @@ module _ (buffer : List ℕ) where
   ending (stuck place ts) = sticks [] place ts
 
   -- What sticks doesn't end.
-  no_end : (a b : List Passed) (place : Place) (ts : Tokens) → events_before a (stuck place ts) ≡ events_before b finished → ⊥
+  pub no_end : (a b : List Passed) (place : Place) (ts : Tokens) → events_before a (stuck place ts) ≡ events_before b finished → ⊥
   no_end [] b place ts e = never-stuck place ts b e
   no_end (p ∷ a) [] place ts e = cc
   no_end (p ∷ a) (q ∷ b) place ts e = let more : events_before a (stuck place ts) ≡ events_before b finished = cc in no_end a b place ts more

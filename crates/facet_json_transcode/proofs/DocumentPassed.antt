@@ -71,6 +71,17 @@ module _ (buffer : List ℕ) (mode : Mode) where
   write-refused e unwritten (prefix_comes events here left front more) =
       unwritten.broken here left (subst (λ f. Breaks here left f) (sym more) (begun-breaks buffer front.begun))
 
+  over_by : (w : Writing) (behind : Future) (after : Option Writing) → IsWritten (future_of (fresh buffer mode)) w behind after →
+      RootComes buffer mode → behind ≡ finished
+  over_by w behind after written (document_comes node value d comes) = (written.told value finished (document-told buffer mode node value d)).1
+  over_by w behind after written (prefix_comes events here left front e) =
+      absurd (written.whole here left (subst (λ f. Breaks here left f) (sym e) (begun-breaks buffer front.begun)))
+
+  -- Nothing is left behind what is written: what follows the root is not looked at.
+  pub written-over : (w : Writing) (behind : Future) (after : Option Writing) → IsWritten (future_of (fresh buffer mode)) w behind after →
+      behind ≡ finished
+  written-over w behind after written = over_by w behind after written (input-comes buffer mode)
+
   -- What is refused for anything but out of memory is so refused after the longest prefix.
   pub unwritten-refused : (e : TranscodeError) → IsUnwritten buffer (future_of (fresh buffer mode)) e → IsRefused buffer mode e
   unwritten-refused (Read e) unwritten =

@@ -4,5 +4,7 @@ pub mod DocumentPassed
 pub mod NextEventComes
 pub mod Passing
 pub mod PrefixBreaksOff
+pub mod StrictFromRoot
+pub mod ValueOrBreak
 pub mod ValuePasses
 pub mod WalkTells

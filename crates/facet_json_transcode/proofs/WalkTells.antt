@@ -68,7 +68,7 @@ meant-told buffer (token.number start finish hint) value e =
 meant-told buffer _ value e = cc
 
 module _ (buffer : List ℕ) where
-  scalar-told : (t : Token) (value : Tree) → meaning buffer t ≡ Some value →
+  pub scalar-told : (t : Token) (value : Tree) → meaning buffer t ≡ Some value →
       tree_of_scalar (scalar_of t.kind (meaning buffer t)) ≡ Some value
   scalar-told t value e = ap (λ o. tree_of_scalar (scalar_of t.kind o)) e ∙ meant-told buffer t.kind value e
 

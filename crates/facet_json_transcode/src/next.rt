@@ -1,15 +1,20 @@
-//! The next event of a value, from a parser.
+//! The next event of a value, the end behind a document, and how an event is refused that does not belong there.
 
-ghost use Rattle.std.specs.Prelude.{◌≡◌, ◌≤◌, ◌<◌, ◌+◌, None, Some, Ok, length, IfOk, IfErr, IfSome, OnOk};
+ghost use Rattle.std.specs.Prelude.{◌≡◌, ◌≢◌, ◌≤◌, ◌<◌, ◌+◌, None, Some, Ok, length, IfOk, IfErr, IfSome, OnOk, OnErr};
 ghost use Rattle.facet_format.specs.Cursor.{next, event};
 ghost use Rattle.facet_format.specs.Span.{stop};
 ghost use Rattle.facet_format.specs.Standing.{IsStep};
 ghost use Rattle.facet_format.specs.Views.{event_of, refusal_of};
-ghost use Rattle.facet_json_protocol.specs.Now.{ahead, GoesOn, StandsAt};
-ghost use Rattle.facet_json_protocol.specs.Next.{PassesNext};
+ghost use Rattle.facet_json_document.specs.Future.{finished};
+ghost use Rattle.facet_json_protocol.specs.Now.{ahead, future_of, GoesOn, StandsAt};
+ghost use Rattle.facet_json_protocol.specs.Next.{IsOver, PassesNext};
+ghost use Rattle.facet_json_protocol.specs.Within.{RefusalWithin};
 ghost use Rattle.facet_json_transcode.specs.Reading.{GivesNone};
 
-use facet_format::{DeserializeError, DeserializeErrorKind, FormatParser, ParseEvent, Span};
+use facet_format::{
+    DeserializeError, DeserializeErrorKind, FormatParser, ParseEvent, ParseEventKind, ScalarValue,
+    Span,
+};
 use facet_json_parser::JsonParser;
 
 /// The next event, where a value has not ended.
@@ -43,5 +48,65 @@ fn ended<'t>(parser: &JsonParser<'_>) -> DeserializeError<'t>
     DeserializeError {
         kind: DeserializeErrorKind::UnexpectedEof { expected: "value" },
         span: Some(Span::new(end, 0)),
+    }
+}
+
+/// Passes the end of a document, behind its root. A strict parser refuses all but white space there; a lenient one does not look.
+///
+/// ```text
+/// let mut parser = JsonParser::new_strict(alloc, b"1 2");
+/// next_of_value(&mut parser)     Ok: U64(1), span 0+1
+/// pass_end(&mut parser)          Err: UnexpectedToken { got: "U64", expected: "end of input" }, span 2+1
+/// ```
+///
+/// # Errors
+///
+/// As the parser's `next_event`; and `TypeMismatch`, expected `end of input`, with the event's span, where an event comes: the value is not over.
+pub fn pass_end<'t>(parser: &mut JsonParser<'_>) -> Result<(), DeserializeError<'t>>
+    ensures over { OnOk result (IsOver parser.old parser.new) }
+    ensures only { parser.old.cursor.refusal ≡ None → OnErr result (future_of parser.old ≢ finished) }
+    ensures onward { GoesOn parser.old parser.new }
+    ensures within { IfErr result (λ e. RefusalWithin parser.new.buffer (refusal_of e)) }
+{
+    match parser.next_event()? {
+        Some(event) => Err(mismatch("end of input", event)),
+        None => Ok(()),
+    }
+}
+
+/// The refusal of an event with which no value of the type begins, whose name is `expected`.
+pub fn mismatch<'t>(expected: &'t str, event: ParseEvent<'_>) -> DeserializeError<'t>
+    ensures { result.span ≡ Some event.entry.span }
+{
+    let ParseEvent { kind, span } = event;
+    DeserializeError {
+        kind: DeserializeErrorKind::TypeMismatch {
+            expected,
+            got: name_of(&kind),
+        },
+        span: Some(span),
+    }
+}
+
+/// What an event of this kind is called in a refusal.
+fn name_of<'t>(kind: &ParseEventKind<'_>) -> &'t str {
+    match kind {
+        ParseEventKind::StructStart(_) => "object",
+        ParseEventKind::SequenceStart(_) => "array",
+        ParseEventKind::StructEnd | ParseEventKind::SequenceEnd => "end",
+        ParseEventKind::FieldKey(_) => "key",
+        ParseEventKind::Scalar(value) => scalar_name(value),
+    }
+}
+
+/// What a scalar is called in a refusal.
+fn scalar_name<'t>(value: &ScalarValue<'_>) -> &'t str {
+    match value {
+        ScalarValue::Null | ScalarValue::Unit => "null",
+        ScalarValue::Bool(_) => "bool",
+        ScalarValue::I64(_) | ScalarValue::U64(_) | ScalarValue::I128(_) | ScalarValue::U128(_) =>
+            "integer",
+        ScalarValue::Decimal(_) => "decimal",
+        ScalarValue::Char(_) | ScalarValue::Str(_) | ScalarValue::Bytes(_) => "string",
     }
 }

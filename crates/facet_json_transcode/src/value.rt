@@ -3,11 +3,14 @@
 ghost use Rattle.std.specs.Prelude.{◌≡◌, ℕ, List, None, Some, length, IfErr, OnOk, MatchResult};
 ghost use Rattle.facet_format.specs.Complaint.{no_memory};
 ghost use Rattle.facet_format.specs.Views.{event_kind_of, refusal_of};
-ghost use Rattle.facet_json_token.specs.Gap.{Mode as SpecMode};
+ghost use Rattle.facet_json_token.specs.Gap.{Mode as SpecMode, plain};
 ghost use Rattle.facet_json_document.specs.Node.{Node};
 ghost use Rattle.facet_json_document.specs.Tree.{Tree as SpecTree};
 ghost use Rattle.facet_json_document.specs.Document.{IsDocument};
-ghost use Rattle.facet_json_protocol.specs.Now.{fresh, future_of};
+ghost use Rattle.facet_json_document.specs.Future.{finished};
+ghost use Rattle.facet_json_document.specs.Language.{strict};
+ghost use Rattle.facet_json_document.specs.StrictDocument.{IsStrictDocument};
+ghost use Rattle.facet_json_protocol.specs.Now.{fresh, fresh_in, future_of};
 ghost use Rattle.facet_json_serializer.specs.Serializer.{Writing as SpecWriting, Appends};
 ghost use Rattle.facet_json_serializer.specs.TreeCalls.{with_tree};
 ghost use Rattle.facet_json_serializer.specs.Views.{answer_of};
@@ -51,6 +54,14 @@ pub fn transcode<'t>(
     ensures only { (input : List ℕ) (mode : SpecMode) (w : SpecWriting) → parser.old ≡ fresh input mode → serializer.old ≡ Some w
         → (root : Node) (value : SpecTree) → IsDocument input mode root value
         → MatchResult result (λ _. serializer.new ≡ Some (with_tree w value)) (λ e. LacksMemory e) }
+    ensures over { (input : List ℕ) (mode : SpecMode) (w : SpecWriting) → parser.old ≡ fresh input mode → serializer.old ≡ Some w
+        → OnOk result (future_of parser.new ≡ finished) }
+    ensures strict { (input : List ℕ) (w : SpecWriting) → parser.old ≡ fresh_in input (strict plain) → serializer.old ≡ Some w
+        → OnOk result (future_of parser.new ≡ finished
+        → (root : Node) × (value : SpecTree) × IsStrictDocument input root value × (serializer.new ≡ Some (with_tree w value))) }
+    ensures strict_only { (input : List ℕ) (w : SpecWriting) → parser.old ≡ fresh_in input (strict plain) → serializer.old ≡ Some w
+        → (root : Node) (value : SpecTree) → IsStrictDocument input root value
+        → MatchResult result (λ _. (serializer.new ≡ Some (with_tree w value)) × (future_of parser.new ≡ finished)) (λ e. LacksMemory e) }
     ensures within { IfErr result (λ e. IsWithin (length parser.old.buffer) e) }
     ensures same { parser.new.buffer ≡ parser.old.buffer }
 {

@@ -1,17 +1,12 @@
 -- Documents of RFC 8259 alone and its grammar. Each law is the contract of a function of the module `laws`.
 use Rattle.std.specs.Prelude.{ℕ, List}
-use Rattle.facet_json_document.specs.Node.{Node}
 use Rattle.facet_json_document.specs.Tree.{Tree}
-use Rattle.facet_json_document.specs.StrictDocument.{IsStrictDocument}
+pub use Rattle.facet_json_document.specs.StrictDocument.{IsStrict}
 use Rattle.facet_json_document.specs.Text.{Options, text}
 use Rattle.facet_json_written.specs.AsRead.{WellFormed, RawParts, IsBlankIndent}
 use Rattle.facet_json_written.specs.RfcLaws.{DecimalParts}
 use Rattle.facet_json_written.specs.RfcReadable.{IsReadableText}
 use Rattle.facet_json_written.specs.RfcText.{InUtf8, IsRfcNumber, IsRfcText}
-
--- The bytes are a strict document.
-abbrev pub IsStrict : List ℕ → Type 0
-IsStrict buffer = (node : Node) × (value : Tree) × IsStrictDocument buffer node value
 
 -- The strict documents are the texts of RFC 8259, in UTF-8, whose strings have a text and whose whole numbers lie within 128 bits.
 abbrev pub StrictIsRfc : Type 0

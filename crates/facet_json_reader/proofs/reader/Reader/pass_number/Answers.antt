@@ -1,9 +1,20 @@
 -- The number gives its event.
-use Rattle.std.proofs.Common.{refl}
+use Rattle.std.proofs.Common.{refl, arith}
 use Rattle.facet_format.specs.Views.{event_of, scalar_value_of}
 use Rattle.facet_json_place.specs.Views.{language_of}
+use Rattle.facet_json_plain.proofs.ValuesThere.{there-within}
 use Rattle.facet_json_reader.proofs.QuickEvents.{number-kind, scalar-passes}
 use Rattle.facet_json_reader.proofs.reader.Reader.pass_number.Goals as goal
+
+pub allows_number-requires-clause-within : goal.allows_number-requires-clause-within
+allows_number-requires-clause-within c =
+    let n = c.in_ok-len in there-within c.args.input.now c.args.at c.args.first n.len (scalar_value_of n.value) c.requires.here n.ensures
+
+pub overflow_add-at : goal.overflow_add-at
+overflow_add-at c =
+    let n = c.in_ok-len in
+    let within = there-within c.args.input.now c.args.at c.args.first n.len (scalar_value_of n.value) c.requires.here n.ensures in
+    omega (arith, within)
 
 pub returns : goal.returns
 returns c =
