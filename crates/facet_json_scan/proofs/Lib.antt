@@ -3,5 +3,4 @@ pub mod FaultIsCut
 pub mod GapIsLongest
 pub mod OpenIsTested
 pub mod Rows
-pub mod ShapeIsCut
 pub mod TokensAreCuts

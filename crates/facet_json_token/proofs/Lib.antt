@@ -6,6 +6,7 @@ pub mod InSight
 pub use Rattle.facet_format.proofs.Lanes
 pub mod NumberCuts
 pub mod Offsets
+pub mod ShapeIsCut
 pub mod ShapesCut
 pub mod Starts
 pub mod TextShapes

@@ -22,7 +22,8 @@ spaces-ascii (c ∷ spaces) e =
 alone : (c : ℕ) → is_ascii c ≡ true → InUtf8 (IsStructural c) (c ∷ [])
 alone c e = ascii (c ∷ []) (and_from (is_ascii c) _ e refl) (unspaced (c ∷ []) refl)
 
-blank_text : (spaces : List ℕ) → AreSpaces spaces → InUtf8 AreSpaces spaces
+-- White space in UTF-8.
+pub blank_text : (spaces : List ℕ) → AreSpaces spaces → InUtf8 AreSpaces spaces
 blank_text spaces blank = ascii spaces (spaces-ascii spaces blank) blank
 
 -- A structural character with white space after it.

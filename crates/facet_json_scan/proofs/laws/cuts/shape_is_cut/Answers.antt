@@ -1,4 +1,4 @@
-use Rattle.facet_json_scan.proofs.ShapeIsCut as shapes
+use Rattle.facet_json_token.proofs.ShapeIsCut as shapes
 use Rattle.facet_json_scan.proofs.laws.cuts.shape_is_cut.Goals as goal
 
 pub returns : goal.returns

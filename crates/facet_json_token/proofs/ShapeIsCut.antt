@@ -19,13 +19,14 @@ use Rattle.facet_json_token.proofs.ShapesCut.{cut_here-shape}
 -- ---- what is cut has the shape
 
 -- The token's bytes are in front, and have its shape.
-record ShapeAt (at : ℕ) (bytes : List ℕ) (t : Token) : Type 0 where
-  within : t.span.len ≤ length bytes
-  shape : IsShape at (take t.span.len bytes) (drop t.span.len bytes) t.kind
+pub record ShapeAt (at : ℕ) (bytes : List ℕ) (t : Token) : Type 0 where
+  pub starts : t.span.offset ≡ at
+  pub within : t.span.len ≤ length bytes
+  pub shape : IsShape at (take t.span.len bytes) (drop t.span.len bytes) t.kind
 
--- A token that is cut has its shape.
-abbrev CutShape : ℕ → List ℕ → Cut → Type 0
-CutShape at bytes nothing_left = Unit {0}
+-- A token that is cut has its shape, and where nothing is cut no byte is left.
+abbrev pub CutShape : ℕ → List ℕ → Cut → Type 0
+CutShape at bytes nothing_left = bytes ≡ []
 CutShape at bytes (fault f) = Unit {0}
 CutShape at bytes (token t) = ShapeAt at bytes t
 
@@ -54,6 +55,7 @@ literal_shape : (at n : ℕ) (bytes word : List ℕ) (kind : Kind) → IsLiteral
     ShapeAt at bytes (record { kind = kind; span = record { offset = at; len = n } })
 literal_shape at n bytes word kind h bound e front =
     record {
+      starts = refl;
       within = bound;
       shape = subst (λ w. IsShape at w (drop n bytes) kind) (sym front)
           (IsShape.literal word kind (drop n bytes) h);
@@ -85,6 +87,7 @@ text_shape at bytes (Some n) below h =
     let here : IsShape at (quote ∷ take (suc n) bytes) rest (kind (length content)) =
     subst (λ l. IsShape at (quote ∷ l) rest (kind (length content))) (sym h.1) stands in
     record {
+      starts = refl;
       within = omega arith;
       shape = subst (λ k. IsShape at (quote ∷ take (suc n) bytes) rest (kind k))
           long here;
@@ -119,6 +122,7 @@ number_shape at b bytes false starts e =
     let stands : IsShape at (take n all) (drop n all) (number at (at + length (take n all)) hint) =
     IsShape.numeral (take n all) (drop n all) hint law.1 (longest_measured all starts e) in
     record {
+      starts = refl;
       within = law.0;
       shape = subst (λ k. IsShape at (take n all) (drop n all) (number at (at + k) hint))
           (length-take-le n all law.0) stands;
@@ -134,7 +138,7 @@ slash_shape jsonc at all (b ∷ bytes) = cond_both (b == star) _ _ (CutShape at 
 by_shape : (mode : Mode) (at b : ℕ) (bytes : List ℕ) (start : Start) → Begins b start →
     CutShape at (b ∷ bytes) (cut_by start mode at b bytes)
 by_shape mode at b bytes _ (a_mark _ kind h) =
-    record { within = omega arith; shape = IsShape.structural b kind bytes h }
+    record { starts = refl; within = omega arith; shape = IsShape.structural b kind bytes h }
 by_shape mode at b bytes _ (a_word _ letters kind h) = word_shape at (b ∷ bytes) (b ∷ letters) kind h
 by_shape mode at b bytes _ a_text =
     text_shape at bytes (content_len false bytes) (content_len-below false bytes) (content_at false bytes)
@@ -142,10 +146,10 @@ by_shape mode at b bytes _ (a_number _ h) = number_shape at b bytes (is_bare (pa
 by_shape mode at b bytes _ a_comment = slash_shape mode at (slash ∷ bytes) bytes
 by_shape mode at b bytes _ (no_token _ h) = tt
 
--- A token that is cut has its shape.
-here_shape : (mode : Mode) (at : ℕ) (bytes : List ℕ) → CutShape at bytes (cut_here mode at bytes)
+-- What is cut has its shape.
+pub here_shape : (mode : Mode) (at : ℕ) (bytes : List ℕ) → CutShape at bytes (cut_here mode at bytes)
 unfolding cut_here
-here_shape mode at [] = tt
+here_shape mode at [] = refl
 here_shape mode at (b ∷ bytes) = by_shape mode at b bytes (start_of b) (start_of-begins b)
 
 -- What is cut as a token has its shape.
