@@ -65,7 +65,8 @@ module _ (language : Language) (buffer : List ℕ) where
   colon_past (next mark ts) stack key from p rest at e =
       mark_past stack key mark ts (goes_on after_key mark.kind) p rest refl (tokens_in-others language buffer from mark ts at) e
 
-  nothing-behind : (r : Rules) (ts : Tokens) (p : Passed) (rest : Future) → behind_root r ts ≡ gives p rest → ⊥
+  -- Behind the root no event comes.
+  pub nothing-behind : (r : Rules) (ts : Tokens) (p : Passed) (rest : Future) → behind_root r ts ≡ gives p rest → ⊥
   nothing-behind lenient_rules ts p rest e = cc
   nothing-behind strict_rules ended p rest e = cc
   nothing-behind strict_rules (refused f) p rest e = cc

@@ -195,7 +195,7 @@ module _ (buffer : List ℕ) where
   -- ---- documents
 
   -- Behind the root of strict tokens that are finished nothing is left.
-  none-behind : (a b : List Passed) (rest : Tokens) → events_before a (behind_root strict_rules rest) ≡ events_before b finished → rest ≡ ended
+  pub none-behind : (a b : List Passed) (rest : Tokens) → events_before a (behind_root strict_rules rest) ≡ events_before b finished → rest ≡ ended
   none-behind a b ended e = refl
   none-behind a b (refused f) e = absurd (no_end a b after_root (refused f) e)
   none-behind a b (next t ts) e = absurd (no_end a b after_root (next t ts) e)

@@ -4,6 +4,7 @@ pub mod InputIsAnswered
 pub mod MoveIsStep
 pub mod MoveLaws
 pub mod MovesNext
+pub mod OneRun
 pub mod PointsHold
 pub mod RefusalRepeats
 pub mod RestoreBringsBack

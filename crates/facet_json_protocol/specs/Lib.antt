@@ -4,6 +4,7 @@ pub mod Headline
 pub mod Move
 pub mod Next
 pub mod Now
+pub mod OneRun
 pub mod ParserLaws
 pub mod SkipLaws
 pub mod StrictHeadline

@@ -80,7 +80,7 @@ does around s token.object_start to_next_item = refl
 does around s _ to_next_item = refl
 
 -- What may stand after a key is a colon.
-a_colon : (k : Kind) → goes_on after_key k ≡ true → is_separator k ≡ true
+pub a_colon : (k : Kind) → goes_on after_key k ≡ true → is_separator k ≡ true
 a_colon token.colon e = refl
 a_colon _ e = cc
 

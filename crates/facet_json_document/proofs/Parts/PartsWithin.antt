@@ -150,7 +150,7 @@ module _ (buffer : List ℕ) where
   -- ---- captures
 
   -- What is captured leads to the place.
-  captured-place : (start finish : ℕ) (there place : Standing) (content text : List ℕ) (valid : Bool) →
+  pub captured-place : (start finish : ℕ) (there place : Standing) (content text : List ℕ) (valid : Bool) →
       captured start finish there content valid ≡ Ok (text, place) → there ≡ place
   captured-place start finish there place content text true e =
       let same : ◌≡◌ {A = List ℕ × Standing} (content, there) (text, place) = cc in ap (λ (x : List ℕ × Standing). x.1) same

@@ -3,6 +3,7 @@
 ghost use Rattle.facet_json_protocol.specs.ParserLaws.{NewStands, AloneIsGiven, TrustedAgrees};
 ghost use Rattle.facet_json_protocol.specs.Headline.{Headline};
 ghost use Rattle.facet_json_protocol.specs.StrictHeadline.{EndsInTimeIn, StrictHeadline};
+ghost use Rattle.facet_json_protocol.specs.OneRun.{StrictEndsAtRun, StrictTellsRun};
 ghost use Rattle.facet_json_protocol.specs.SkipLaws.{SkipPassesRun, CapturePassesRun};
 ghost use Rattle.facet_json_protocol.specs.CallLaws.{MoveIsStep, PeekIsNext, RefusalRepeats, SaveIsNumbered, RestoreBringsBack, NumbersAreNew, UnknownChangesNothing, EndsInTime};
 
@@ -93,6 +94,17 @@ pub fn ends_in_time()
 /// one refusal, never the end.
 pub fn strict_headline()
     ensures { StrictHeadline }
+{}
+
+/// Whatever calls a strict parser answered, skips, captures and restores among them: where nothing comes any more, and so where a next
+/// event or a peek answers the end or a batch is given fewer events than it asks for, the whole input is one balanced run of tokens.
+/// Its brackets are closed in order, each by one of its own kind, no fault stands among its tokens, and nothing but a gap follows them.
+///
+/// So a strict parser that skips a value at the root, and then answers the end, has passed all of the input: `[1, {"a": 2}]` may end so,
+/// but not `[1] 2`, `[1}`, `[1` or `[1, @]`. What it skipped may be a run that is no document, as `[1,]` is.
+pub fn strict_ends_at_run()
+    ensures ends { StrictEndsAtRun }
+    ensures tells { StrictTellsRun }
 {}
 
 /// In either language, of more calls for the next event than the input has bytes one is answered with the end or a refusal.
