@@ -8,7 +8,7 @@ ghost use Rattle.facet_json_serializer.specs.Serializer.{out_of_memory};
 ghost use Rattle.facet_json_serializer.specs.Views.{refusal_of as writing_refusal_of};
 ghost use Rattle.facet_json_write.specs.Write.{HasWritten, IsOfRust};
 ghost use Rattle.facet_json_meaning.specs.Nodes.{KeepsOn};
-ghost use Rattle.facet_json_meaning.specs.Reading.{IsRead, IsUnread, HasDocument};
+ghost use Rattle.facet_json_meaning.specs.Reading.{IsRead, IsUnread, HasDocument, EndsStrictly};
 
 use facet_format::DeserializeError;
 use facet_json_meaning::JsonParser;
@@ -50,7 +50,8 @@ pub trait Facet<'de>: Sized + Drop {
     /// The value comes back from its text.
     ghost readable: { View → Type 0 };
 
-    /// Reading at the start of an input goes well only where the input has a document.
+    /// Reading at the start of an input goes well only where the input has a document; and where the parser is strict, and then at the end,
+    /// only where the input is a strict document.
     ghost whole: { Bool };
 
     /// Reads the value before which the parser stands, and borrows nothing of the input.
@@ -66,6 +67,7 @@ pub trait Facet<'de>: Sized + Drop {
         ensures read { IfOk result (λ v. IsRead reading parser.old (view v) parser.new) }
         ensures unread { IfErr result (λ e. IsUnread reading parser.old (refusal_of e)) }
         ensures document { whole ≡ true → OnOk result (HasDocument parser.old) }
+        ensures strict { whole ≡ true → OnOk result (EndsStrictly parser.old parser.new) }
         ensures keeps { KeepsOn parser.old parser.new }
         ensures shorter { OnOk result (ahead parser.new < ahead parser.old) }
         ensures within { IfErr result (λ e. RefusalWithin parser.new.buffer (refusal_of e)) };
@@ -79,6 +81,7 @@ pub trait Facet<'de>: Sized + Drop {
         ensures read { IfOk result (λ v. IsRead reading_borrowed parser.old (view v) parser.new) }
         ensures unread { IfErr result (λ e. IsUnread reading_borrowed parser.old (refusal_of e)) }
         ensures document { whole ≡ true → OnOk result (HasDocument parser.old) }
+        ensures strict { whole ≡ true → OnOk result (EndsStrictly parser.old parser.new) }
         ensures keeps { KeepsOn parser.old parser.new }
         ensures shorter { OnOk result (ahead parser.new < ahead parser.old) }
         ensures within { IfErr result (λ e. RefusalWithin parser.new.buffer (refusal_of e)) };

@@ -6,7 +6,7 @@ ghost use Rattle.facet_format.specs.Views.{event_of, refusal_of, span_of};
 ghost use Rattle.facet_json_protocol.specs.Now.{ahead};
 ghost use Rattle.facet_json_protocol.specs.Within.{RefusalWithin};
 ghost use Rattle.facet_json_meaning.specs.Nodes.{KeepsOn};
-ghost use Rattle.facet_json_meaning.specs.Reading.{IsRead, IsUnread, HasDocument};
+ghost use Rattle.facet_json_meaning.specs.Reading.{IsRead, IsUnread, HasDocument, EndsStrictly};
 ghost use Rattle.facet_json_meaning.specs.Readings.{leaf, taken, whole_of};
 
 use facet_format::{
@@ -36,6 +36,7 @@ pub(crate) fn next_whole<'t, 'de>(
     ensures read { IfOk result (λ n. IsRead (leaf whole_of) parser.old n.value parser.new) }
     ensures unread { IfErr result (λ e. IsUnread (leaf whole_of) parser.old (refusal_of e)) }
     ensures document { OnOk result (HasDocument parser.old) }
+    ensures strict { OnOk result (EndsStrictly parser.old parser.new) }
     ensures keeps { KeepsOn parser.old parser.new }
     ensures shorter { OnOk result (ahead parser.new < ahead parser.old) }
     ensures span_within { IfOk result (λ n. stop (span_of n.span) ≤ length parser.new.buffer) }

@@ -11,7 +11,7 @@ use Rattle.facet_json_document.specs.Meaning.{tree_of}
 use Rattle.facet_json_document.specs.Refusal.{needs_meaning}
 use Rattle.facet_json_document.specs.Walk.{walk}
 use Rattle.facet_json_document.specs.InputPlace.{Standing}
-use Rattle.facet_json_protocol.specs.Now.{Now, StandsAt, SameInput, ahead}
+use Rattle.facet_json_protocol.specs.Now.{Now, StandsAt, SameInput, ahead, LeadsTo}
 use Rattle.facet_json_protocol.specs.SkipLaws.{bytes_between}
 
 -- ---- before and after a node
@@ -34,11 +34,12 @@ pub record StandsAfter (now : Now) (w : Source) (c : Cursor ℕ) (node : Node) :
   pub there : cursor.spot ≡ unpeeked (c.spot.place + length (walk w.bytes node))
   pub kept : (point : ℕ) (spot : Spot ℕ) → found point c.kept ≡ Some spot → found point cursor.kept ≡ Some spot
 
--- The input, the language and the points that were kept stay, and no more bytes are ahead.
+-- The input, the language and the points that were kept stay, and no more bytes are ahead; what else is done to the parser is done by calls.
 pub record KeepsOn (old new : Now) : Type 0 where
   pub input : SameInput old new
   pub kept : (point : ℕ) (spot : Spot Standing) → found point old.cursor.kept ≡ Some spot → found point new.cursor.kept ≡ Some spot
   pub onward : ahead new ≤ ahead old
+  pub by_calls : LeadsTo old new
 
 -- ---- nodes of the same text
 

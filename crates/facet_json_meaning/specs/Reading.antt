@@ -2,11 +2,14 @@
 use Rattle.std.specs.Prelude.{◌≡◌, ◌⊎◌, ℕ, List, Option, Some, None}
 use Rattle.facet_format.specs.Complaint.{Refusal}
 use Rattle.facet_format.specs.Cursor.{Cursor, Source}
-use Rattle.facet_json_token.specs.Gap.{Mode}
+use Rattle.facet_json_token.specs.Gap.{Mode, plain}
 use Rattle.facet_json_document.specs.Node.{Node}
 use Rattle.facet_json_document.specs.Tree.{Tree}
 use Rattle.facet_json_document.specs.Document.{IsDocument}
-use Rattle.facet_json_protocol.specs.Now.{Now, fresh}
+use Rattle.facet_json_document.specs.Future.{finished}
+use Rattle.facet_json_document.specs.Language.{strict}
+use Rattle.facet_json_document.specs.StrictDocument.{IsStrict}
+use Rattle.facet_json_protocol.specs.Now.{Now, fresh, fresh_in, future_of}
 use Rattle.facet_json_transcode.specs.Reading.{LacksMemory}
 use Rattle.facet_json_meaning.specs.Nodes.{StandsBefore, StandsAfter}
 
@@ -23,3 +26,7 @@ IsUnread reading old refusal = (w : Source) (c : Cursor ℕ) (node : Node) → S
 -- Where the parser is a new one, its input has a document.
 abbrev pub HasDocument : Now → Type 0
 HasDocument old = (input : List ℕ) (mode : Mode) → old ≡ fresh input mode → (root : Node) × (value : Tree) × IsDocument input mode root value
+
+-- Where the parser was a new strict one, and nothing is left behind what was read, its input is a strict document.
+abbrev pub EndsStrictly : Now → Now → Type 0
+EndsStrictly old new = (input : List ℕ) → old ≡ fresh_in input (strict plain) → future_of new ≡ finished → IsStrict input

@@ -1,4 +1,5 @@
 pub mod AloneIsGiven
+pub mod CallsLead
 pub mod EndsInTime
 pub mod InputIsAnswered
 pub mod MoveIsStep

@@ -2,7 +2,7 @@
 use Rattle.std.specs.Prelude.{◌≡◌, ◌≤◌, ℕ, ◌-◌, List, length}
 use Rattle.facet_format.specs.Span.{Span, stop}
 use Rattle.facet_format.specs.Complaint.{Refusal}
-use Rattle.facet_format.specs.Cursor.{Upcoming, an_event, the_end, a_refusal, Source, World, Cursor, start_at, current_span}
+use Rattle.facet_format.specs.Cursor.{Upcoming, an_event, the_end, a_refusal, Source, World, Cursor, start_at, current_span, Call, Answer, Run}
 use Rattle.facet_format.specs.Alike.{CursorsAlike}
 use Rattle.facet_json_token.specs.Gap.{Mode}
 use Rattle.facet_json_document.specs.Language.{Language, lenient}
@@ -71,11 +71,16 @@ pub record SamePoints (old new : Now) : Type 0 where
   pub kept : new.cursor.kept ≡ old.cursor.kept
   pub counter : new.cursor.counter ≡ old.cursor.counter
 
--- The input, the language and the points stay, and no more bytes are ahead.
+-- Calls lead from the one to the other, however they are answered.
+abbrev pub LeadsTo : Now → Now → Type 0
+LeadsTo old new = (calls : List Call) × (answers : List Answer) × Run (on_input old.buffer old.language) old.cursor calls answers new.cursor
+
+-- The input, the language and the points stay, and no more bytes are ahead; what else is done to the parser is done by calls.
 pub record GoesOn (old new : Now) : Type 0 where
   pub input : SameInput old new
   pub points : SamePoints old new
   pub onward : ahead new ≤ ahead old
+  pub by_calls : LeadsTo old new
 
 -- ---- where it stands on a document's walk
 

@@ -17,7 +17,7 @@ ghost use Rattle.facet_json_transcode.specs.Told.{tree_of_scalar, is_member};
 ghost use Rattle.facet_json_transcode.specs.Reading.{LacksMemory, IsValueRead, IsValueUnread};
 ghost use Rattle.facet_json_meaning.specs.Nodes.{KeepsOn};
 ghost use Rattle.facet_json_meaning.specs.Passing.{MovesOn};
-ghost use Rattle.facet_json_meaning.specs.Reading.{IsRead, IsUnread, HasDocument};
+ghost use Rattle.facet_json_meaning.specs.Reading.{IsRead, IsUnread, HasDocument, EndsStrictly};
 ghost use Rattle.facet_json_read.specs.Depth.{outer, too_deep_at};
 ghost use Rattle.facet_json_read.specs.Inner.Beyond.{inner as spec_inner, Admits, SameBeyond, IsValueUnreadWithin};
 ghost use Rattle.facet_json_read.specs.Inner.Reading.{WentOn, LeadsOn, AreItemsRead, AreMembersRead, AreItemsUnreadWithin, AreMembersUnreadWithin, HasBegun, IsRefused, BeganValue, BeganMember, PassedEnd, IsKey, IsFilled, IsLevel, IsUnfilled};
@@ -104,6 +104,7 @@ pub fn read_tree<'t>(
     ensures read { IfOk result (λ t. IsRead tree_of parser.old (tree_view t) parser.new) }
     ensures unread { IfErr result (λ e. IsUnread tree_of parser.old (refusal_of e)) }
     ensures document { OnOk result (HasDocument parser.old) }
+    ensures strict { OnOk result (EndsStrictly parser.old parser.new) }
     ensures keeps { KeepsOn parser.old parser.new }
     ensures shorter { OnOk result (ahead parser.new < ahead parser.old) }
     ensures within { IfErr result (λ e. RefusalWithin parser.new.buffer (refusal_of e)) }

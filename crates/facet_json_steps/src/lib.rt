@@ -8,7 +8,8 @@ mod next;
 mod objects;
 mod values;
 
+pub use facet_json_transcode::mismatch;
 pub use lists::{begin_list, end_comes};
-pub use next::{mismatch, next_of_value, null_comes, pass_null};
+pub use next::{next_of_value, null_comes, pass_null};
 pub use objects::{begin_object, next_key, next_name};
 pub use values::pass_value;

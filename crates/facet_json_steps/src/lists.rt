@@ -7,9 +7,10 @@ ghost use Rattle.facet_json_protocol.specs.Within.{RefusalWithin};
 ghost use Rattle.facet_json_meaning.specs.Lists.{begins_list, ends_list, BeginsList, IsNoList, FindsEnd};
 ghost use Rattle.facet_json_meaning.specs.Passing.{LacksAlone};
 
-use crate::next::{mismatch, next_of_value};
+use crate::next::next_of_value;
 use facet_format::{DeserializeError, FormatParser, ParseEvent, ParseEventKind};
 use facet_json_meaning::JsonParser;
+use facet_json_transcode::mismatch;
 
 /// Passes the event with which an array begins.
 ///

@@ -1,4 +1,4 @@
-//! The next event of a value that is read, and how an event is refused that begins none of a type.
+//! The next event of a value that is read.
 
 ghost use Rattle.std.specs.Prelude.{◌≡◌, ◌≤◌, ◌<◌, ◌+◌, None, Some, length, IfOk, IfErr, IfSome, OnOk};
 ghost use Rattle.facet_format.specs.Span.{stop};
@@ -46,43 +46,6 @@ fn ended<'t>(parser: &JsonParser<'_>) -> DeserializeError<'t>
     DeserializeError {
         kind: DeserializeErrorKind::UnexpectedEof { expected: "value" },
         span: Some(Span::new(end, 0)),
-    }
-}
-
-/// The refusal of an event with which no value of the type begins, whose name is `expected`.
-pub fn mismatch<'t>(expected: &'t str, event: ParseEvent<'_>) -> DeserializeError<'t>
-    ensures { result.span ≡ Some event.entry.span }
-{
-    let ParseEvent { kind, span } = event;
-    DeserializeError {
-        kind: DeserializeErrorKind::TypeMismatch {
-            expected,
-            got: name_of(&kind),
-        },
-        span: Some(span),
-    }
-}
-
-/// What an event of this kind is called in a refusal.
-fn name_of<'t>(kind: &ParseEventKind<'_>) -> &'t str {
-    match kind {
-        ParseEventKind::StructStart(_) => "object",
-        ParseEventKind::SequenceStart(_) => "array",
-        ParseEventKind::StructEnd | ParseEventKind::SequenceEnd => "end",
-        ParseEventKind::FieldKey(_) => "key",
-        ParseEventKind::Scalar(value) => scalar_name(value),
-    }
-}
-
-/// What a scalar is called in a refusal.
-fn scalar_name<'t>(value: &ScalarValue<'_>) -> &'t str {
-    match value {
-        ScalarValue::Null | ScalarValue::Unit => "null",
-        ScalarValue::Bool(_) => "bool",
-        ScalarValue::I64(_) | ScalarValue::U64(_) | ScalarValue::I128(_) | ScalarValue::U128(_) =>
-            "integer",
-        ScalarValue::Decimal(_) => "decimal",
-        ScalarValue::Char(_) | ScalarValue::Str(_) | ScalarValue::Bytes(_) => "string",
     }
 }
 

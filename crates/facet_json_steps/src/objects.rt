@@ -9,9 +9,10 @@ ghost use Rattle.facet_json_protocol.specs.Now.{ahead, GoesOn};
 ghost use Rattle.facet_json_protocol.specs.Within.{RefusalWithin};
 ghost use Rattle.facet_json_meaning.specs.Objects.{begins_object, key_or_end, BeginsObject, IsNoObject, PassesKey, LacksKey};
 
-use crate::next::{mismatch, next_of_value};
+use crate::next::next_of_value;
 use facet_format::{DeserializeError, ParseEvent, ParseEventKind};
 use facet_json_meaning::JsonParser;
+use facet_json_transcode::mismatch;
 use std::alloc::Global;
 use std::borrow::CowStr;
 

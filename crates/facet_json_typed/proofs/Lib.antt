@@ -1,2 +1,3 @@
 pub mod ComesBack
 pub mod RootComes
+pub mod StrictRootComes

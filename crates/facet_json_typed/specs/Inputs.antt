@@ -5,6 +5,7 @@ use Rattle.facet_json_token.specs.Gap.{Mode, plain}
 use Rattle.facet_json_document.specs.Document.{IsDocument}
 use Rattle.facet_json_document.specs.Node.{Node}
 use Rattle.facet_json_document.specs.Tree.{Tree}
+use Rattle.facet_json_document.specs.StrictDocument.{IsStrictDocument}
 use Rattle.facet_json_meaning.specs.ValueReading.{LacksMemory}
 
 -- The input has a document.
@@ -18,6 +19,15 @@ IsReadFrom reading input mode value = (root : Node) (tree : Tree) → IsDocument
 -- Where the input has a document, memory ran out, or the document has no reading.
 abbrev pub IsUnreadFrom : {V : Type 0} → (List ℕ → Node → Option V) → List ℕ → Mode → Refusal → Type 0
 IsUnreadFrom reading input mode refusal = (root : Node) (tree : Tree) → IsDocument input mode root tree →
+    LacksMemory refusal ⊎ (reading input root ≡ None)
+
+-- Where the input is a strict document, its reading is the value.
+abbrev pub IsReadStrictly : {V : Type 0} → (List ℕ → Node → Option V) → List ℕ → V → Type 0
+IsReadStrictly reading input value = (root : Node) (tree : Tree) → IsStrictDocument input root tree → reading input root ≡ Some value
+
+-- Where the input is a strict document, memory ran out, or the document has no reading.
+abbrev pub IsUnreadStrictly : {V : Type 0} → (List ℕ → Node → Option V) → List ℕ → Refusal → Type 0
+IsUnreadStrictly reading input refusal = (root : Node) (tree : Tree) → IsStrictDocument input root tree →
     LacksMemory refusal ⊎ (reading input root ≡ None)
 
 -- The text has a document without comments, which is read as the value.

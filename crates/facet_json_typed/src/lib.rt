@@ -3,6 +3,7 @@
 #![tactic(auto)]
 
 mod reading;
+mod strict;
 mod writers;
 mod writing;
 
@@ -11,6 +12,7 @@ pub use reading::{
     from_slice, from_slice_borrowed, from_slice_borrowed_jsonc, from_slice_jsonc, from_str,
     from_str_borrowed, from_str_borrowed_jsonc, from_str_jsonc,
 };
+pub use strict::{from_slice_strict, from_str_strict};
 pub use writers::{to_writer_std, to_writer_std_pretty, to_writer_std_with_options};
 pub use writing::{
     to_string, to_string_pretty, to_string_with_options, to_vec, to_vec_pretty, to_vec_with_options,

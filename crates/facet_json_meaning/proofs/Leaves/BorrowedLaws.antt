@@ -19,11 +19,11 @@ use Rattle.facet_json_meaning.specs.Nodes.{SameToken, same_mark, same_string, sa
 use Rattle.facet_json_meaning.specs.Borrowed.{is_plain, borrowed_text, lent, unread_text}
 use Rattle.facet_json_meaning.specs.Laws.{SameReading, ReadsBack}
 use Rattle.facet_json_meaning.specs.Passing.{WalksPast}
-use Rattle.facet_json_meaning.specs.Reading.{IsRead, IsUnread, HasDocument}
+use Rattle.facet_json_meaning.specs.Reading.{IsRead, IsUnread, HasDocument, EndsStrictly}
 use Rattle.facet_json_meaning.specs.Readings.{text_of, taken}
 use Rattle.facet_json_meaning.proofs.Walks.FirstEvents.{first_event, first-read, first-unread}
 use Rattle.facet_json_meaning.proofs.Leaves.LeafLaws.{same-means}
-use Rattle.facet_json_meaning.proofs.Leaves.LeafReadings.{leaf-document}
+use Rattle.facet_json_meaning.proofs.Leaves.LeafReadings.{leaf-document, leaf-strict}
 
 -- ---- the laws
 
@@ -83,3 +83,6 @@ lent-taken _ v e = cc
 
 pub borrowed-document : (old new : Now) (e : Event) (v : List ℕ) → PassesNext old e new → lent e.kind ≡ Some v → HasDocument old
 borrowed-document old new e v next is = leaf-document text_of old new e v next (lent-taken e.kind v is)
+
+pub borrowed-strict : (old new : Now) (e : Event) (v : List ℕ) → PassesNext old e new → lent e.kind ≡ Some v → EndsStrictly old new
+borrowed-strict old new e v next is = leaf-strict text_of old new e v next (lent-taken e.kind v is)

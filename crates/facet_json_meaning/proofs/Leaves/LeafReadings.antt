@@ -14,16 +14,16 @@ use Rattle.facet_json_document.specs.Meaning.{tree_of}
 use Rattle.facet_json_document.specs.Place.{Place}
 use Rattle.facet_json_document.specs.Walk.{walk, event_at, scalar_event}
 use Rattle.facet_json_document.specs.Future.{Future, gives, finished}
-use Rattle.facet_json_protocol.specs.Now.{Now, fresh, future_of}
+use Rattle.facet_json_protocol.specs.Now.{Now, future_of}
 use Rattle.facet_json_protocol.specs.Next.{PassesNext}
 use Rattle.facet_json_transcode.specs.Told.{tree_of_scalar, Tells, a_scalar, a_list, an_object, Breaks, in_list, in_object}
 use Rattle.facet_json_transcode.specs.Reading.{IsValueRead}
 use Rattle.facet_json_transcode.proofs.WalkTells.{walk-tells}
-use Rattle.facet_json_transcode.proofs.DocumentFromRoot.{read-document}
 use Rattle.facet_json_meaning.specs.Nodes.{StandsBefore}
 use Rattle.facet_json_meaning.specs.Passing.{WalksPast, LacksAlone}
-use Rattle.facet_json_meaning.specs.Reading.{IsRead, IsUnread, HasDocument}
+use Rattle.facet_json_meaning.specs.Reading.{IsRead, IsUnread, HasDocument, EndsStrictly}
 use Rattle.facet_json_meaning.specs.Readings.{leaf, taken}
+use Rattle.facet_json_meaning.proofs.OfTrees.TreeOnWalk.{document_of_told, strict_of_told}
 use Rattle.facet_json_meaning.proofs.WalkPlaces.{drop-get}
 
 -- ---- the first event of a node
@@ -152,15 +152,20 @@ module _ {V : Type 0} (value : Tree → Option V) where
   taken-scalar sequence_end v e = cc
   taken-scalar (field_key name) v e = cc
 
-  pub leaf-document : (old new : Now) (e : Event) (v : V) → PassesNext old e new → taken value e.kind ≡ Some v → HasDocument old
-  leaf-document old new e v next is input mode new_is =
+  -- An event of which something is taken tells a tree.
+  leaf-told : (old new : Now) (e : Event) (v : V) → PassesNext old e new → taken value e.kind ≡ Some v →
+      (t : Tree) × IsValueRead (future_of old) t (future_of new)
+  leaf-told old new e v next is =
       let s = taken-scalar e.kind v is in
       let p : Passed = record { event = e; last = next.last } in
       let read = scalar-read p (future_of new) s.held s.tree s.is s.has_tree in
-      let comes : future_of (fresh input mode) ≡ gives p (future_of new) = ap future_of (sym new_is) ∙ next.comes in
-      let from = subst (λ f. IsValueRead f s.tree (future_of new)) (sym comes) read in
-      let root = read-document input mode s.tree (future_of new) from in
-      (root.0, s.tree, root.1)
+      (s.tree, subst (λ f. IsValueRead f s.tree (future_of new)) (sym next.comes) read)
+
+  pub leaf-document : (old new : Now) (e : Event) (v : V) → PassesNext old e new → taken value e.kind ≡ Some v → HasDocument old
+  leaf-document old new e v next is = let r = leaf-told old new e v next is in document_of_told old r.0 (future_of new) r.1
+
+  pub leaf-strict : (old new : Now) (e : Event) (v : V) → PassesNext old e new → taken value e.kind ≡ Some v → EndsStrictly old new
+  leaf-strict old new e v next is = let r = leaf-told old new e v next is in strict_of_told old new r.0 r.1
 
 -- ---- no event
 

@@ -15,10 +15,11 @@ use Rattle.facet_json_protocol.specs.Now.{Now, future_of}
 use Rattle.facet_json_transcode.specs.Told.{Tells}
 use Rattle.facet_json_transcode.specs.Reading.{IsValueRead, IsValueUnread}
 use Rattle.facet_json_transcode.proofs.DocumentFromRoot.{read-document}
+use Rattle.facet_json_transcode.proofs.StrictFromRoot.{strict-read}
 use Rattle.facet_json_transcode.proofs.WalkTells.{walk-tells}
 use Rattle.facet_json_meaning.specs.Nodes.{StandsBefore, StandsAfter}
 use Rattle.facet_json_meaning.specs.Passing.{WalksPast, StandsOnward, MovesOn}
-use Rattle.facet_json_meaning.specs.Reading.{IsRead, IsUnread, HasDocument}
+use Rattle.facet_json_meaning.specs.Reading.{IsRead, IsUnread, HasDocument, EndsStrictly}
 
 -- ---- further on
 
@@ -93,4 +94,10 @@ unread_of_told old r unread w c node before =
 pub document_of_told : (old : Now) (t : Tree) (behind : Future) → IsValueRead (future_of old) t behind → HasDocument old
 document_of_told old t behind read input mode is =
     let root = read-document input mode t behind (subst (λ now. IsValueRead (future_of now) t behind) is read) in
+    (root.0, t, root.1)
+
+-- From a new strict parser, and where nothing is left behind the value, its input is a strict document.
+pub strict_of_told : (old new : Now) (t : Tree) → IsValueRead (future_of old) t (future_of new) → EndsStrictly old new
+strict_of_told old new t read input is over =
+    let root = strict-read input t (future_of new) (subst (λ now. IsValueRead (future_of now) t (future_of new)) is read) over in
     (root.0, t, root.1)

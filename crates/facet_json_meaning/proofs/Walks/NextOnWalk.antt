@@ -69,4 +69,5 @@ goes-keeps old new g = record {
   input = g.input;
   kept = λ point spot e. rw g.points.kept e;
   onward = g.onward;
+  by_calls = g.by_calls;
 }

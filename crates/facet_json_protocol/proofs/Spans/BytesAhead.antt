@@ -7,6 +7,7 @@ use Rattle.facet_format.specs.Cursor.{Call, next, events, skip, capture, restore
 use Rattle.facet_json_document.specs.InputPlace.{Standing, future_at}
 use Rattle.facet_json_document.proofs.PastEvents.{comes-within}
 use Rattle.facet_json_protocol.specs.Now.{Now, on_input, first_of, ahead, GoesOn}
+use Rattle.facet_json_protocol.proofs.CallsLead.{one-leads}
 use Rattle.facet_json_protocol.specs.Move.{Moves}
 use Rattle.facet_json_protocol.specs.Within.{NowWithin}
 use Rattle.facet_json_protocol.proofs.StepLaws.{leaves_points}
@@ -60,6 +61,7 @@ module _ (now : Now) (good : NowWithin now) where
     input = move.input;
     points = moves-points now new move leaves;
     onward = moves-onward new move (λ point e. restores_none call point leaves e);
+    by_calls = one-leads now new move;
   }
 
   next_lowers : (d : Cursor Standing) (e : Event) (answer : Answer) → answer ≡ event (Ok (Some e)) →

@@ -5,7 +5,7 @@ use Rattle.std.proofs.lemmas.Result.{err_from_is_err_and}
 use Rattle.facet_format.specs.Views.{refusal_of}
 use Rattle.facet_json_meaning.specs.Reading.{IsRead}
 use Rattle.facet_json_meaning.specs.Readings.{whole_of, leaf}
-use Rattle.facet_json_meaning.proofs.Leaves.LeafReadings.{leaf-read, leaf-unread, leaf-document, none-unread}
+use Rattle.facet_json_meaning.proofs.Leaves.LeafReadings.{leaf-read, leaf-unread, leaf-document, leaf-strict, none-unread}
 use Rattle.facet_json_facet.proofs.whole.next_whole.Goals as goal
 
 pub returns-in_err-event-clause-unread : goal.returns-in_err-event-clause-unread
@@ -21,6 +21,9 @@ returns-in-Ok-clause-read c =
 
 pub returns-in-Ok-clause-document : goal.returns-in-Ok-clause-document
 returns-in-Ok-clause-document c = leaf-document whole_of _ _ _ c.in-Ok.value c.in_ok-event.ensures.passed c.in-Ok.ensures.taken
+
+pub returns-in-Ok-clause-strict : goal.returns-in-Ok-clause-strict
+returns-in-Ok-clause-strict c = leaf-strict whole_of _ _ _ c.in-Ok.value c.in_ok-event.ensures.passed c.in-Ok.ensures.taken
 
 pub returns-in-Err-clause-unread : goal.returns-in-Err-clause-unread
 returns-in-Err-clause-unread c = leaf-unread whole_of _ _ _ (refusal_of c.in-Err.refused) c.in_ok-event.ensures.walks c.in-Err.ensures.refused

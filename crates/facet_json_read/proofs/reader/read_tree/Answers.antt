@@ -1,7 +1,7 @@
 use Rattle.std.proofs.Common.{Result, Ok, Err}
 use Rattle.std.specs.Prelude.{IfOk, IfErr}
 use Rattle.std.proofs.lemmas.Result.{IfOk-weaker, IfErr-weaker}
-use Rattle.facet_json_meaning.proofs.OfTrees.TreeOnWalk.{read_of_told, unread_of_told, document_of_told}
+use Rattle.facet_json_meaning.proofs.OfTrees.TreeOnWalk.{read_of_told, unread_of_told, document_of_told, strict_of_told}
 use Rattle.facet_json_read.proofs.ReadingWithin.{unlimited-unread}
 use Rattle.facet_json_read.proofs.reader.read_tree.Goals as goal
 
@@ -27,6 +27,10 @@ returns-clause-unread c =
 pub returns-clause-document : goal.returns-clause-document
 returns-clause-document c =
     IfOk-weaker c.read_value.result _ _ (λ t h. document_of_told _ _ _ h) c.read_value.ensures.told
+
+pub returns-clause-strict : goal.returns-clause-strict
+returns-clause-strict c =
+    IfOk-weaker c.read_value.result _ _ (λ t h. strict_of_told _ _ t h) c.read_value.ensures.told
 
 pub returns-clause-refused : goal.returns-clause-refused
 returns-clause-refused c free =

@@ -43,6 +43,9 @@ returns-in_err-begin_object-clause-read c = search rules
 pub returns-in_err-begin_object-clause-document : goal.returns-in_err-begin_object-clause-document
 returns-in_err-begin_object-clause-document c = search rules
 
+pub returns-in_err-begin_object-clause-strict : goal.returns-in_err-begin_object-clause-strict
+returns-in_err-begin_object-clause-strict c = search rules
+
 pub returns-in_err-begin_object-clause-keeps : goal.returns-in_err-begin_object-clause-keeps
 returns-in_err-begin_object-clause-keeps c = search rules
 

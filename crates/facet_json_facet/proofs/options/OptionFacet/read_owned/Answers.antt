@@ -40,6 +40,9 @@ returns-in_err-null_comes-clause-read c = search rules
 pub returns-in_err-null_comes-clause-document : goal.returns-in_err-null_comes-clause-document
 returns-in_err-null_comes-clause-document c = search rules
 
+pub returns-in_err-null_comes-clause-strict : goal.returns-in_err-null_comes-clause-strict
+returns-in_err-null_comes-clause-strict c = search rules
+
 pub returns-in_err-null_comes-clause-keeps : goal.returns-in_err-null_comes-clause-keeps
 returns-in_err-null_comes-clause-keeps c = search rules
 

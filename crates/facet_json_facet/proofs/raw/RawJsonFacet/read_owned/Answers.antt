@@ -17,5 +17,8 @@ returns-in_err-captured-clause-read c = search rules
 pub returns-in_err-captured-clause-document : goal.returns-in_err-captured-clause-document
 returns-in_err-captured-clause-document c = search rules
 
+pub returns-in_err-captured-clause-strict : goal.returns-in_err-captured-clause-strict
+returns-in_err-captured-clause-strict c = search rules
+
 pub returns-in_err-captured-clause-keeps : goal.returns-in_err-captured-clause-keeps
 returns-in_err-captured-clause-keeps c = search rules

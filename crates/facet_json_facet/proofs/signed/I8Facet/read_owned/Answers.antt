@@ -34,11 +34,17 @@ returns-in-Err-clause-unread c =
 pub returns-in-Ok-clause-document : goal.returns-in-Ok-clause-document
 returns-in-Ok-clause-document c whole = c.in_ok-number.ensures.document
 
+pub returns-in-Ok-clause-strict : goal.returns-in-Ok-clause-strict
+returns-in-Ok-clause-strict c whole = c.in_ok-number.ensures.strict
+
 pub returns-in_err-number-clause-read : goal.returns-in_err-number-clause-read
 returns-in_err-number-clause-read c = search rules
 
 pub returns-in_err-number-clause-document : goal.returns-in_err-number-clause-document
 returns-in_err-number-clause-document c = search rules
+
+pub returns-in_err-number-clause-strict : goal.returns-in_err-number-clause-strict
+returns-in_err-number-clause-strict c = search rules
 
 pub returns-in_err-number-clause-keeps : goal.returns-in_err-number-clause-keeps
 returns-in_err-number-clause-keeps c = search rules

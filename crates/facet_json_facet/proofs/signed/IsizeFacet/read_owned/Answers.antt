@@ -33,3 +33,6 @@ returns-in-Err-clause-unread c =
 
 pub returns-in-Ok-clause-document : goal.returns-in-Ok-clause-document
 returns-in-Ok-clause-document c whole = c.in_ok-number.ensures.document
+
+pub returns-in-Ok-clause-strict : goal.returns-in-Ok-clause-strict
+returns-in-Ok-clause-strict c whole = c.in_ok-number.ensures.strict

@@ -2,7 +2,7 @@ use Rattle.std.proofs.Common.{rules}
 use Rattle.std.proofs.lemmas.Result.{err_from_is_err_and, IfOk-weaker, IfErr-weaker}
 use Rattle.facet_format.specs.Views.{refusal_of}
 use Rattle.facet_json_meaning.specs.Borrowed.{borrowed_text}
-use Rattle.facet_json_meaning.proofs.Leaves.BorrowedLaws.{borrowed-read, borrowed-unread, borrowed-document}
+use Rattle.facet_json_meaning.proofs.Leaves.BorrowedLaws.{borrowed-read, borrowed-unread, borrowed-document, borrowed-strict}
 use Rattle.facet_json_meaning.proofs.Leaves.LeafReadings.{none-unread}
 use Rattle.facet_json_facet.proofs.texts.RefStrFacet.read.Goals as goal
 
@@ -22,6 +22,10 @@ returns-clause-unread c =
 pub returns-clause-document : goal.returns-clause-document
 returns-clause-document c whole =
     IfOk-weaker c.lent_in.result _ _ (λ s lent. borrowed-document _ _ _ s.now c.in_ok-next_of_value.ensures.passed lent) c.lent_in.ensures.lent
+
+pub returns-clause-strict : goal.returns-clause-strict
+returns-clause-strict c whole =
+    IfOk-weaker c.lent_in.result _ _ (λ s lent. borrowed-strict _ _ _ s.now c.in_ok-next_of_value.ensures.passed lent) c.lent_in.ensures.lent
 
 pub returns-in_err-next_of_value-clause-read : goal.returns-in_err-next_of_value-clause-read
 returns-in_err-next_of_value-clause-read c = search rules

@@ -10,6 +10,9 @@ returns-clause-unread c = search rules
 pub returns-clause-document : goal.returns-clause-document
 returns-clause-document c = search rules
 
+pub returns-clause-strict : goal.returns-clause-strict
+returns-clause-strict c = search rules
+
 pub returns-clause-keeps : goal.returns-clause-keeps
 returns-clause-keeps c = search rules
 

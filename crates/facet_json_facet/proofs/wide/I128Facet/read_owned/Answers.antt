@@ -2,7 +2,7 @@ use Rattle.std.proofs.Common.{rules}
 use Rattle.std.proofs.lemmas.Result.{err_from_is_err_and, IfOk-weaker, IfErr-weaker}
 use Rattle.facet_format.specs.Views.{refusal_of}
 use Rattle.facet_json_meaning.specs.Readings.{i128_of, leaf}
-use Rattle.facet_json_meaning.proofs.Leaves.LeafReadings.{leaf-read, leaf-unread, leaf-document, none-unread}
+use Rattle.facet_json_meaning.proofs.Leaves.LeafReadings.{leaf-read, leaf-unread, leaf-document, leaf-strict, none-unread}
 use Rattle.facet_json_facet.proofs.wide.I128Facet.read_owned.Goals as goal
 
 pub returns-in_err-next_of_value-clause-unread : goal.returns-in_err-next_of_value-clause-unread
@@ -21,6 +21,10 @@ returns-clause-unread c =
 pub returns-clause-document : goal.returns-clause-document
 returns-clause-document c whole =
     IfOk-weaker c.i128_in.result _ _ (λ n taken. leaf-document i128_of _ _ _ n c.in_ok-next_of_value.ensures.passed taken) c.i128_in.ensures.taken
+
+pub returns-clause-strict : goal.returns-clause-strict
+returns-clause-strict c whole =
+    IfOk-weaker c.i128_in.result _ _ (λ n taken. leaf-strict i128_of _ _ _ n c.in_ok-next_of_value.ensures.passed taken) c.i128_in.ensures.taken
 
 pub returns-in_err-next_of_value-clause-read : goal.returns-in_err-next_of_value-clause-read
 returns-in_err-next_of_value-clause-read c = search rules
