@@ -68,10 +68,10 @@ pub fn pass_end<'t>(parser: &mut JsonParser<'_>) -> Result<(), DeserializeError<
     ensures onward { GoesOn parser.old parser.new }
     ensures within { IfErr result (λ e. RefusalWithin parser.new.buffer (refusal_of e)) }
 {
-    match parser.next_event()? {
-        Some(event) => Err(mismatch("end of input", event)),
-        None => Ok(()),
-    }
+    let Some(event) = parser.next_event()? else {
+        return Ok(());
+    };
+    Err(mismatch("end of input", event))
 }
 
 /// The refusal of an event with which no value of the type begins, whose name is `expected`.
