@@ -1,0 +1,2 @@
+-- Strict documents and the texts of RFC 8259.
+pub mod WrittenTexts
