@@ -121,7 +121,8 @@ number-decimal n small =
 -- So is what is written of a negative one.
 pub number-negative : (n : ℕ) → n < 10 ^ 64 → InUtf8 IsRfcNumber (minus ∷ decimal n)
 number-negative n small =
-    ascii (minus ∷ decimal n) (digits-ascii _ (are_digits (decimal-digits n))) (whole_number (minus ∷ []) (decimal n) IsMinus.present (whole-decimal n small))
+    ascii (minus ∷ decimal n) (digits-ascii _ (are_digits (decimal-digits n)))
+    (whole_number (minus ∷ []) (decimal n) IsMinus.present (whole-decimal n small))
 
 -- So is what is written of a number with a sign.
 pub number-signed : (bits : ℕ) (n : ℤ) → 2 ^ bits < 10 ^ 64 → IsWithin bits n → InUtf8 IsRfcNumber (signed_decimal n)

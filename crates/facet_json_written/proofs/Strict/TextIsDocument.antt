@@ -27,9 +27,11 @@ use Rattle.facet_json_written.proofs.Values.OneValue.{IsOneValue, scalar-one_val
 
 -- ---- the UTF-8 of parts
 
+-- White space.
 spaces-itself : (spaces : List ℕ) → AreSpaces spaces → encode_utf8_all spaces ≡ spaces
 spaces-itself spaces blank = ascii-itself spaces (spaces-ascii spaces blank)
 
+-- Three parts, one after the other.
 three-encoded : (a b c cs : List ℕ) → cs ≡ a ++ b ++ c → encode_utf8_all cs ≡ encode_utf8_all a ++ (encode_utf8_all b ++ encode_utf8_all c)
 three-encoded a b c cs e =
     ap encode_utf8_all e ∙ encodes-append (a ++ b) c ∙ ap (λ l. l ++ encode_utf8_all c) (encodes-append a b)
@@ -61,14 +63,17 @@ record IsRead (cs : List ℕ) : Type 0 where
   value : Tree
   one : IsOneValue strict_rules (encode_utf8_all cs) value
 
+-- Scalars of ASCII.
 ascii-read : (cs : List ℕ) (value : Tree) → list_all is_ascii cs ≡ true → IsOneScalar strict_rules cs value → IsRead cs
 ascii-read cs value small h = record { value = value; one = rw (ascii-itself cs small) (scalar-one_value strict_rules cs value h) }
 
+-- Numbers.
 number-read : (cs : List ℕ) → IsReadableNumber cs → IsRead cs
 number-read cs n =
     let small = number-ascii cs n.is_number in
     ascii-read cs _ small (number-one_scalar strict_rules cs n.hint n.value (ascii cs small n.is_number) n.has_value)
 
+-- Strings, as keys and as values.
 key-read : (cs : List ℕ) → (s : IsReadableString cs) → IsOneString (encode_utf8_all cs) s.text
 key-read cs s =
     rw (quoted-encoded cs s.content s.quoted) (content-one_string (encode_utf8_all s.content) s.text s.has_text (rfc-content s.content s.is_content))
@@ -84,14 +89,18 @@ string-read cs s = record {
 -- What stands between structural characters is one value with them and their white space.
 enclosed-read : (open_character close_character : ℕ) (inside cs : List ℕ) (value : Tree) → is_ascii open_character ≡ true →
     is_ascii close_character ≡ true → (e : IsEnclosed open_character close_character inside cs) →
-    IsOneValue strict_rules (open_character ∷ (e.opens.after ++ (encode_utf8_all inside ++ (e.closes.before ++ close_character ∷ [])))) value → IsRead cs
+    IsOneValue strict_rules (open_character ∷ (e.opens.after ++ (encode_utf8_all inside ++ (e.closes.before ++ close_character ∷ [])))) value →
+    IsRead cs
 enclosed-read open_character close_character inside cs value low_open low_close e h =
     let within = open_character ∷ (e.opens.after ++ (encode_utf8_all inside ++ (e.closes.before ++ close_character ∷ []))) in
     let after = one_value-blank strict_rules within e.closes.after value h e.closes.spaces_after in
     let whole = blank-one_value strict_rules e.opens.before (within ++ e.closes.after) value e.opens.spaces_before after in
     let same : e.opens.before ++ (within ++ e.closes.after) ≡ encode_utf8_all cs =
-    rw (three-encoded e.start inside e.finish cs e.whole, structural-encoded open_character e.start low_open e.opens, structural-encoded close_character e.finish low_close e.closes)
-    (simp append_assoc) in
+    rw (
+      three-encoded e.start inside e.finish cs e.whole,
+      structural-encoded open_character e.start low_open e.opens,
+      structural-encoded close_character e.finish low_close e.closes,
+    ) (simp append_assoc) in
     record { value = value; one = subst (λ l. IsOneValue strict_rules l value) same whole }
 
 -- In UTF-8 the characters are the items of a list, with white space and its closing bracket after them.
@@ -113,6 +122,9 @@ record IsMemberRead (cs : List ℕ) : Type 0 where
   more : (blank others : List ℕ) (values : Pairs) → AreSpaces blank → AreMembers strict_rules others values →
       AreMembers strict_rules (encode_utf8_all cs ++ (blank ++ bytes.comma ∷ others)) (trees.pair name value values)
 
+-- ---- arrays
+
+-- The last item of a list, and an item with others after it.
 last_item-read : (cs : List ℕ) → IsRead cs → AreItemsRead cs
 last_item-read cs r = record {
   values = trees.tree r.value no_trees;
@@ -133,11 +145,13 @@ more_items-read value separator others cs r s more e = record {
       (items-more strict_rules (encode_utf8_all value ++ s.before) (s.after ++ rest) r.value more.values first behind);
 }
 
+-- Items between brackets, and no items between them.
 array-read : (inside cs : List ℕ) → AreItemsRead inside → IsEnclosed left_bracket right_bracket inside cs → IsRead cs
 array-read inside cs items e =
     let rest = encode_utf8_all inside ++ (e.closes.before ++ right_bracket ∷ []) in
     let all = blank-items strict_rules e.opens.after rest items.values e.opens.spaces_after (items.are e.closes.before e.closes.spaces_before) in
-    enclosed-read left_bracket right_bracket inside cs (trees.list items.values) refl refl e (list-one_value strict_rules (e.opens.after ++ rest) items.values all)
+    enclosed-read left_bracket right_bracket inside cs (trees.list items.values) refl refl e
+    (list-one_value strict_rules (e.opens.after ++ rest) items.values all)
 
 empty_array-read : (cs : List ℕ) → IsEnclosed left_bracket right_bracket [] cs → IsRead cs
 empty_array-read cs e =
@@ -146,6 +160,9 @@ empty_array-read cs e =
     (subst (λ l. IsOneValue strict_rules (left_bracket ∷ l) (trees.list no_trees)) (append_assoc e.opens.after e.closes.before (right_bracket ∷ []))
     (empty_list-one_value strict_rules (e.opens.after ++ e.closes.before) blank))
 
+-- ---- objects
+
+-- A key, a colon and a value are a member.
 member-read : (key separator value cs : List ℕ) → IsReadableString key → IsStructural bytes.colon separator → IsRead value →
     cs ≡ key ++ separator ++ value → IsMemberRead cs
 member-read key separator value cs k s r e =
@@ -158,18 +175,20 @@ member-read key separator value cs k s r e =
       name = k.text;
       value = r.value;
       last = λ blank b.
-          let same : key_text ++ (s.before ++ (bytes.colon ∷ (text ++ (blank ++ right_brace ∷ [])))) ≡ encode_utf8_all cs ++ (blank ++ right_brace ∷ []) =
-          rw whole (simp append_assoc) in
+          let end = blank ++ right_brace ∷ [] in
+          let same : key_text ++ (s.before ++ (bytes.colon ∷ (text ++ end))) ≡ encode_utf8_all cs ++ end = rw whole (simp append_assoc) in
           subst (λ l. AreMembers strict_rules l (trees.pair k.text r.value no_pairs)) same
           (members-last strict_rules key_text k.text s.before text blank r.value (key-read key k) s.spaces_before one b);
       more = λ blank others values b are.
           let spaced = one_value-blank strict_rules text blank r.value one b in
-          let same : key_text ++ (s.before ++ (bytes.colon ∷ ((text ++ blank) ++ (bytes.comma ∷ others)))) ≡ encode_utf8_all cs ++ (blank ++ bytes.comma ∷ others) =
+          let end = bytes.comma ∷ others in
+          let same : key_text ++ (s.before ++ (bytes.colon ∷ ((text ++ blank) ++ end))) ≡ encode_utf8_all cs ++ (blank ++ end) =
           rw whole (simp append_assoc) in
           subst (λ l. AreMembers strict_rules l (trees.pair k.text r.value values)) same
           (members-more strict_rules key_text k.text s.before (text ++ blank) others r.value values (key-read key k) s.spaces_before spaced are);
     }
 
+-- The last member of an object, and a member with others after it.
 last_member-read : (cs : List ℕ) → IsMemberRead cs → AreMembersRead cs
 last_member-read cs m = record { values = trees.pair m.name m.value no_pairs; are = m.last }
 
@@ -182,14 +201,18 @@ more_members-read first separator others cs m s more e = record {
       let behind = blank-members strict_rules s.after rest more.values s.spaces_after (more.are blank b) in
       let same : encode_utf8_all first ++ (s.before ++ bytes.comma ∷ (s.after ++ rest)) ≡ encode_utf8_all cs ++ (blank ++ right_brace ∷ []) =
       rw (three-encoded first separator others cs e, structural-encoded bytes.comma separator refl s) (simp append_assoc) in
-      subst (λ l. AreMembers strict_rules l (trees.pair m.name m.value more.values)) same (m.more s.before (s.after ++ rest) more.values s.spaces_before behind);
+      subst (λ l. AreMembers strict_rules l (trees.pair m.name m.value more.values)) same
+      (m.more s.before (s.after ++ rest) more.values s.spaces_before behind);
 }
 
+-- Members between braces, and no members between them.
 object-read : (inside cs : List ℕ) → AreMembersRead inside → IsEnclosed left_brace right_brace inside cs → IsRead cs
 object-read inside cs members e =
     let rest = encode_utf8_all inside ++ (e.closes.before ++ right_brace ∷ []) in
-    let all = blank-members strict_rules e.opens.after rest members.values e.opens.spaces_after (members.are e.closes.before e.closes.spaces_before) in
-    enclosed-read left_brace right_brace inside cs (trees.pairs members.values) refl refl e (object-one_value strict_rules (e.opens.after ++ rest) members.values all)
+    let own = members.are e.closes.before e.closes.spaces_before in
+    let all = blank-members strict_rules e.opens.after rest members.values e.opens.spaces_after own in
+    enclosed-read left_brace right_brace inside cs (trees.pairs members.values) refl refl e
+    (object-one_value strict_rules (e.opens.after ++ rest) members.values all)
 
 empty_object-read : (cs : List ℕ) → IsEnclosed left_brace right_brace [] cs → IsRead cs
 empty_object-read cs e =
@@ -201,6 +224,7 @@ empty_object-read cs e =
 -- ---- values
 
 mutual
+  -- Values, the items of arrays, and the members of objects.
   value-read : {cs : List ℕ} → IsValueOf IsReadableNumber IsReadableString cs → IsRead cs
   value-read literal_false = ascii-read (codes "false") _ refl (bool-one_scalar strict_rules false)
   value-read literal_null = ascii-read (codes "null") _ refl (null-one_scalar strict_rules)
@@ -224,6 +248,7 @@ mutual
   one_member-read : {cs : List ℕ} → IsMemberOf IsReadableNumber IsReadableString cs → IsMemberRead cs
   one_member-read (member key separator value cs k s is e) = member-read key separator value cs k s (value-read is) e
 
+-- A value between white space.
 text-read : (cs : List ℕ) → IsReadableText cs → IsRead cs
 text-read cs s =
     let r = value-read s.such in

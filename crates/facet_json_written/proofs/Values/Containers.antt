@@ -229,7 +229,8 @@ members-last by key_text name gap text blank value k g h e buffer from after lef
     let key = key_stands-blank buffer from key_text name gap (text ++ (blank ++ right_brace ∷ after)) k g left in
     let at = from + length key_text + length gap + 1 in
     let whole : IsLeft buffer at (text ++ (blank ++ right_brace ∷ after)) =
-    IsLeft-past (bytes.colon ∷ []) _ (IsLeft-past gap _ (IsLeft-past key_text (gap ++ (bytes.colon ∷ (text ++ (blank ++ right_brace ∷ after)))) left)) in
+    IsLeft-past (bytes.colon ∷ []) _
+    (IsLeft-past gap _ (IsLeft-past key_text (gap ++ (bytes.colon ∷ (text ++ (blank ++ right_brace ∷ after)))) left)) in
     let rest = IsLeft-past text (blank ++ right_brace ∷ after) whole in
     let r = h buffer at (blank ++ right_brace ∷ after) whole (blank-ends_number blank (right_brace ∷ after) e refl) in
     let close = blank-structural buffer (at + length text) blank right_brace object_end after e object_ends rest in
@@ -265,7 +266,8 @@ members-more by key_text name gap text others value values k g h more buffer fro
     let key = key_stands-blank buffer from key_text name gap (text ++ (bytes.comma ∷ (others ++ after))) k g left in
     let at = from + length key_text + length gap + 1 in
     let whole : IsLeft buffer at (text ++ (bytes.comma ∷ (others ++ after))) =
-    IsLeft-past (bytes.colon ∷ []) _ (IsLeft-past gap _ (IsLeft-past key_text (gap ++ (bytes.colon ∷ (text ++ (bytes.comma ∷ (others ++ after))))) left)) in
+    IsLeft-past (bytes.colon ∷ []) _
+    (IsLeft-past gap _ (IsLeft-past key_text (gap ++ (bytes.colon ∷ (text ++ (bytes.comma ∷ (others ++ after))))) left)) in
     let rest = IsLeft-past text (bytes.comma ∷ (others ++ after)) whole in
     let r = h buffer at (bytes.comma ∷ (others ++ after)) whole refl in
     let separator = mark_at comma (at + length text) in
@@ -284,7 +286,9 @@ members-more by key_text name gap text others value values k g h more buffer fro
       members = member key.key key.mark r.root m.members;
       last = m.last;
       spell = rw key.tokens (member_and_comma _ _ _ key.key key.mark r.root m.members separator m.last key.is_key key.is_mark spells refl m.spell);
-      have_trees = ap₂ (λ n o. put_pair n o (pairs_of buffer m.members)) key.names r.reads.has_tree ∙ ap (put_pair (Some name) (Some value)) m.have_trees;
+      have_trees =
+          ap₂ (λ n o. put_pair n o (pairs_of buffer m.members)) key.names r.reads.has_tree
+          ∙ ap (put_pair (Some name) (Some value)) m.have_trees;
       begin = rw key.tokens (string-no_closing key.key.kind key.is_key);
       fit = λ f.
           let inside = r.fits (rw divided (structural-fits by buffer separator bytes.comma _ comma_stands (λ k. m.begin) (m.fit f))) in

@@ -47,7 +47,7 @@ string-no_comma k e same = cc
 
 module _ (by : Rules) (buffer : List ℕ) where
   -- A token that the rules have may, but for a comma before a closing bracket.
-  pub fits-before : (t : Token) (rest : Tokens) → IsTokenBy by buffer t → (t.kind ≡ comma → begins_closing rest ≡ false) →
+  fits-before : (t : Token) (rest : Tokens) → IsTokenBy by buffer t → (t.kind ≡ comma → begins_closing rest ≡ false) →
       Fits by buffer rest → Fits by buffer (next t rest)
   fits-before t rest has parted f = of by has f
     where
