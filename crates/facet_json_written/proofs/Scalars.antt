@@ -1,4 +1,5 @@
 -- What is written of a scalar, and the token that it is.
+pub mod DecimalDigits
 pub mod EscapedBytes
 pub mod HexTexts
 pub mod Literals

@@ -3,3 +3,5 @@ pub mod DocumentIsText
 pub mod FirstTokens
 pub mod ReadableTexts
 pub mod ScalarTexts
+pub mod TextIsDocument
+pub mod WrittenTexts

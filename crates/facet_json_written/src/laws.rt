@@ -2,6 +2,7 @@
 
 ghost use Rattle.facet_json_written.specs.ReadBack.{IndentIsNotRead, OneReading, QuotedDecodesAlone, WrittenIsRead};
 ghost use Rattle.facet_json_written.specs.RfcLaws.{QuotedIsRfc, WrittenIsRfc};
+ghost use Rattle.facet_json_written.specs.StrictTexts.{WrittenIsStrict};
 
 /// What stands between the quotes of a written text decodes to this text, and to no other (RFC 8259, section 7).
 ///
@@ -42,4 +43,13 @@ pub fn quoted_is_rfc_string()
 /// said, though this library reads both.
 pub fn written_is_rfc_text()
     ensures { WrittenIsRfc }
+{}
+
+/// The text of a tree is a strict document, which a strict parser reads as well, where the indent is white space, decimals are numbers of
+/// RFC 8259 and raw parts are strict documents.
+///
+/// So a list of the decimal `1.5` and of raw text ` [] ` is written `[1.5, [] ]`, which is one; a list of raw text `[1,]` is written `[[1,]]`,
+/// which no strict parser reads.
+pub fn written_is_strict()
+    ensures { WrittenIsStrict }
 {}

@@ -30,6 +30,11 @@ ascii bytes small such =
           ap (λ l. l ++ encode_utf8_all cs) (encode_ascii c low) ∙ ap (λ l. c ∷ l) others.1,
         )
 
+-- So ASCII is what it is in UTF-8.
+pub ascii-itself : (cs : List ℕ) → list_all is_ascii cs ≡ true → encode_utf8_all cs ≡ cs
+unfolding ascii
+ascii-itself cs small = (ascii {P = λ l. Unit {0}} cs small tt).encoded
+
 -- What follows from such characters is so in UTF-8.
 pub mapped : {P Q : List ℕ → Type 0} {bytes : List ℕ} → ((cs : List ℕ) → P cs → Q cs) → InUtf8 P bytes → InUtf8 Q bytes
 mapped f p = record { characters = p.characters; are_scalars = p.are_scalars; encoded = p.encoded; such = f p.characters p.such }

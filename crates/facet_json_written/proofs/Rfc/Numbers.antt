@@ -1,5 +1,5 @@
 -- What is written of a whole number is a number of RFC 8259.
-use Rattle.std.proofs.Common.{◌≡◌, ℕ, ℤ, pos, negsuc, zero, suc, ◌+◌, ◌/◌, ◌%◌, ◌^◌, ◌<◌, ◌≤◌, true, nat_le, List, [], ◌∷◌, ◌++◌, decimal, refl, ap, ◌∙◌, arith, append-nil, le-leb, lt-ltb, leb-true}
+use Rattle.std.proofs.Common.{◌≡◌, ℕ, ℤ, pos, negsuc, zero, suc, ◌+◌, ◌/◌, ◌%◌, ◌^◌, ◌<◌, ◌≤◌, true, nat_le, List, [], ◌∷◌, ◌++◌, decimal, refl, sym, ap, ◌∙◌, subst, arith, append-nil, le-leb, lt-ltb, leb-true}
 use Rattle.std.specs.List.{list_all}
 use Rattle.std.specs.Fmt.{signed_decimal}
 use Rattle.std.proofs.lemmas.Bool.{and_parts, and_from}
@@ -11,8 +11,8 @@ use Rattle.facet_json_strict.specs.RfcNumber.{is_digit, AreDigits, none, digit, 
 use Rattle.facet_json_strict.proofs.RfcNumbers.{are_digits}
 use Rattle.facet_json_written.specs.AsRead.{IsWithin}
 use Rattle.facet_json_written.specs.RfcText.{InUtf8, is_first_digit, IsWhole, nought, IsFraction, IsExponent, IsRfcNumber}
-use Rattle.facet_json_written.proofs.Scalars.WholeNumbers.{decimal-digits}
-use Rattle.facet_json_written.proofs.Rfc.Encoded.{is_ascii, ascii}
+use Rattle.facet_json_written.proofs.Scalars.DecimalDigits.{decimal-digits}
+use Rattle.facet_json_written.proofs.Rfc.Encoded.{is_ascii, ascii, ascii-itself}
 
 -- ---- digits
 
@@ -28,6 +28,50 @@ digits-ascii _ none = refl
 digits-ascii _ (digit c others is d) =
     let low = leb-true c 0x39 (and_parts (nat_le 0x30 c) (nat_le c 0x39) is).1 in
     and_from (is_ascii c) _ (lt-ltb c 0x80 (omega arith)) (digits-ascii others d)
+
+-- ---- ASCII
+
+ascii-append : (a b : List ℕ) → list_all is_ascii a ≡ true → list_all is_ascii b ≡ true → list_all is_ascii (a ++ b) ≡ true
+ascii-append a b p q = list_all-append is_ascii a b ∙ and_from (list_all is_ascii a) (list_all is_ascii b) p q
+
+some-ascii : (ds : List ℕ) → SomeDigits ds → list_all is_ascii ds ≡ true
+some-ascii _ (SomeDigits.digits c others is d) = digits-ascii (c ∷ others) (digit c others is d)
+
+minus-ascii : (sign : List ℕ) → IsMinus sign → list_all is_ascii sign ≡ true
+minus-ascii _ IsMinus.absent = refl
+minus-ascii _ IsMinus.present = refl
+
+whole-ascii : (ds : List ℕ) → IsWhole ds → list_all is_ascii ds ≡ true
+whole-ascii _ nought = refl
+whole-ascii _ (IsWhole.digits c others first d) =
+    let is : is_digit c ≡ true = grind (arith, nat_tests) in digits-ascii (c ∷ others) (digit c others is d)
+
+fraction-ascii : (fraction : List ℕ) → IsFraction fraction → list_all is_ascii fraction ≡ true
+fraction-ascii _ IsFraction.absent = refl
+fraction-ascii _ (IsFraction.present digits d) = some-ascii digits d
+
+sign-ascii : (sign : List ℕ) → IsExponentSign sign → list_all is_ascii sign ≡ true
+sign-ascii _ IsExponentSign.absent = refl
+sign-ascii _ IsExponentSign.minus = refl
+sign-ascii _ IsExponentSign.plus = refl
+
+exponent-ascii : (exponent : List ℕ) → IsExponent exponent → list_all is_ascii exponent ≡ true
+exponent-ascii _ IsExponent.absent = refl
+exponent-ascii _ (IsExponent.present mark sign digits others is s d e) =
+    let first : is_ascii mark ≡ true = grind (arith, nat_tests) in
+    and_from (is_ascii mark) _ first (ap (list_all is_ascii) e ∙ ascii-append sign digits (sign-ascii sign s) (some-ascii digits d))
+
+-- The characters of a number are ASCII.
+pub number-ascii : (cs : List ℕ) → IsRfcNumber cs → list_all is_ascii cs ≡ true
+number-ascii cs n =
+    let front = ascii-append n.sign n.whole (minus-ascii n.sign n.is_minus) (whole-ascii n.whole n.is_whole) in
+    let most = ascii-append (n.sign ++ n.whole) n.fraction front (fraction-ascii n.fraction n.is_fraction) in
+    ap (list_all is_ascii) n.parts
+    ∙ ascii-append (n.sign ++ n.whole ++ n.fraction) n.exponent most (exponent-ascii n.exponent n.is_exponent)
+
+-- A number in UTF-8 is one as it stands.
+pub number-itself : (bytes : List ℕ) → InUtf8 IsRfcNumber bytes → IsRfcNumber bytes
+number-itself bytes n = subst IsRfcNumber (sym (ascii-itself n.characters (number-ascii n.characters n.such)) ∙ n.encoded) n.such
 
 -- ---- no leading zero
 
@@ -69,56 +113,18 @@ whole_number sign whole is_minus is_whole = record {
   parts = simp append-nil;
 }
 
+-- What is written of a whole number is a number of RFC 8259.
 pub number-decimal : (n : ℕ) → n < 10 ^ 64 → InUtf8 IsRfcNumber (decimal n)
 number-decimal n small =
     ascii (decimal n) (digits-ascii _ (are_digits (decimal-digits n))) (whole_number [] (decimal n) IsMinus.absent (whole-decimal n small))
 
-number-negative : (n : ℕ) → n < 10 ^ 64 → InUtf8 IsRfcNumber (minus ∷ decimal n)
+-- So is what is written of a negative one.
+pub number-negative : (n : ℕ) → n < 10 ^ 64 → InUtf8 IsRfcNumber (minus ∷ decimal n)
 number-negative n small =
-    ascii (minus ∷ decimal n) (digits-ascii _ (are_digits (decimal-digits n))) (whole_number (minus ∷ []) (decimal n) IsMinus.present (whole-decimal n small))
+    ascii (minus ∷ decimal n) (digits-ascii _ (are_digits (decimal-digits n)))
+    (whole_number (minus ∷ []) (decimal n) IsMinus.present (whole-decimal n small))
 
+-- So is what is written of a number with a sign.
 pub number-signed : (bits : ℕ) (n : ℤ) → 2 ^ bits < 10 ^ 64 → IsWithin bits n → InUtf8 IsRfcNumber (signed_decimal n)
 number-signed bits (pos n) few within = number-decimal n (omega arith)
 number-signed bits (negsuc n) few within = number-negative (suc n) (omega arith)
-
--- ---- in ASCII
-
-digit-ascii : (c : ℕ) → is_digit c ≡ true → is_ascii c ≡ true
-digit-ascii c is = grind (arith, nat_tests)
-
-some_digits-ascii : (ds : List ℕ) → SomeDigits ds → list_all is_ascii ds ≡ true
-some_digits-ascii _ (SomeDigits.digits c others is d) = and_from (is_ascii c) _ (digit-ascii c is) (digits-ascii others d)
-
-minus-ascii : (sign : List ℕ) → IsMinus sign → list_all is_ascii sign ≡ true
-minus-ascii _ IsMinus.absent = refl
-minus-ascii _ IsMinus.present = refl
-
-whole-ascii : (whole : List ℕ) → IsWhole whole → list_all is_ascii whole ≡ true
-whole-ascii _ nought = refl
-whole-ascii _ (IsWhole.digits c others first d) =
-    let low : is_ascii c ≡ true = grind (arith, nat_tests) in and_from (is_ascii c) _ low (digits-ascii others d)
-
-fraction-ascii : (fraction : List ℕ) → IsFraction fraction → list_all is_ascii fraction ≡ true
-fraction-ascii _ IsFraction.absent = refl
-fraction-ascii _ (IsFraction.present ds d) = some_digits-ascii ds d
-
-sign-ascii : (sign : List ℕ) → IsExponentSign sign → list_all is_ascii sign ≡ true
-sign-ascii _ IsExponentSign.absent = refl
-sign-ascii _ IsExponentSign.minus = refl
-sign-ascii _ IsExponentSign.plus = refl
-
-both-ascii : (a b : List ℕ) → list_all is_ascii a ≡ true → list_all is_ascii b ≡ true → list_all is_ascii (a ++ b) ≡ true
-both-ascii a b p q = list_all-append is_ascii a b ∙ and_from (list_all is_ascii a) _ p q
-
-exponent-ascii : (exponent : List ℕ) → IsExponent exponent → list_all is_ascii exponent ≡ true
-exponent-ascii _ IsExponent.absent = refl
-exponent-ascii _ (IsExponent.present mark sign ds others m s d e) =
-    let low : is_ascii mark ≡ true = grind (arith, nat_tests) in
-    and_from (is_ascii mark) _ low (rw e (both-ascii sign ds (sign-ascii sign s) (some_digits-ascii ds d)))
-
--- A number of RFC 8259 is in ASCII.
-pub number-ascii : (cs : List ℕ) → IsRfcNumber cs → list_all is_ascii cs ≡ true
-number-ascii cs n =
-    let one = both-ascii n.sign n.whole (minus-ascii n.sign n.is_minus) (whole-ascii n.whole n.is_whole) in
-    let two = both-ascii (n.sign ++ n.whole) n.fraction one (fraction-ascii n.fraction n.is_fraction) in
-    rw n.parts (both-ascii (n.sign ++ n.whole ++ n.fraction) n.exponent two (exponent-ascii n.exponent n.is_exponent))

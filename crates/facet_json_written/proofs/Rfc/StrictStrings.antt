@@ -1,12 +1,11 @@
 -- The contents of strings that RFC 8259 has are those that pass the check, among contents with a text.
-use Rattle.std.proofs.Common.{◌≡◌, ℕ, ◌<◌, ◌≤◌, ◌+◌, ◌*◌, ◌/◌, Bool, true, false, not, cond, ◌&&◌, ◌||◌, ◌==◌, nat_le, List, [], ◌∷◌, ◌++◌, Option, Some, None, refl, sym, ap, subst, ◌∙◌, arith, append-nil, append_assoc, le-leb, ltb-true}
-use Rattle.std.specs.Prelude.{is_some}
+use Rattle.std.proofs.Common.{◌≡◌, ℕ, ◌≤◌, ◌+◌, ◌*◌, Bool, true, false, cond, ◌&&◌, ◌==◌, nat_le, List, [], ◌∷◌, ◌++◌, Option, Some, None, refl, sym, ap, subst, ◌∙◌, arith, append-nil, le-leb, ltb-true}
 use Rattle.std.specs.Char.{encode_utf8, digit_value, IsScalar}
 use Rattle.std.specs.List.{list_all}
 use Rattle.std.specs.Str.{encode_utf8_all}
 use Rattle.std.proofs.lemmas.Str.{encode_ascii}
 use lib.Utf8.{scalar}
-use Rattle.std.proofs.lemmas.Bool.{and_parts, and_from, eqb-true}
+use Rattle.std.proofs.lemmas.Bool.{and_parts, and_from}
 use Rattle.std.proofs.lemmas.Bool.Decides.{nat_tests}
 use Rattle.facet_format.specs.Bytes.{quote, backslash, lower_u}
 use Rattle.facet_json_token.specs.Gap.{one_more}
@@ -147,19 +146,21 @@ unit-content a b c d u others e content =
 
 piece-begins : (first : List ℕ) (c : ℕ) (others : List ℕ) → Piece first c → Stands (first ++ others) → BeginsWith first others
 piece-begins _ c others (itself _ is ne) s = itself-begins c others is ne s
-piece-begins _ c others (short b _ e) s =
-    (ascii {P = Begins} (backslash ∷ b ∷ []) (and_from (is_ascii b) _ (short-ascii b (escape-is_escapable b c e)) refl) (λ rest content. IsContent.short b rest (escape-is_escapable b c e) content),
-      (past-escape b others s).1)
+piece-begins _ c others (short b _ e) s = (
+  ascii {P = Begins} (backslash ∷ b ∷ []) (and_from (is_ascii b) _ (short-ascii b (escape-is_escapable b c e)) refl) (λ rest content. IsContent.short b rest (escape-is_escapable b c e) content),
+  (past-escape b others s).1,
+)
 piece-begins _ c others (other _ low none ne) s =
     let may = (past-escape c others s).0 in
     let no : may_stand true c ≡ false = rw (none, ne) (grind (arith, nat_tests)) in cc
 piece-begins _ c others (unit a b d e _ is high low) s =
     (ascii {P = Begins} _ (unit-ascii a b d e c [] is refl) (λ rest content. unit-content a b d e c rest is content), past-unit a b d e c others is s)
 piece-begins _ _ others (pair a b c d high e f g h low is high_is also low_is) s =
-    let second = backslash ∷ lower_u ∷ e ∷ f ∷ g ∷ h ∷ [] in
-    (ascii {P = Begins} (backslash ∷ lower_u ∷ a ∷ b ∷ c ∷ d ∷ second) (unit-ascii a b c d high second is (unit-ascii e f g h low [] also refl))
-      (λ rest content. unit-content a b c d high (second ++ rest) is (unit-content e f g h low rest also content)),
-      past-unit e f g h low others also (past-unit a b c d high (second ++ others) is s))
+    let second = backslash ∷ lower_u ∷ e ∷ f ∷ g ∷ h ∷ [] in (
+      ascii {P = Begins} (backslash ∷ lower_u ∷ a ∷ b ∷ c ∷ d ∷ second) (unit-ascii a b c d high second is (unit-ascii e f g h low [] also refl))
+          (λ rest content. unit-content a b c d high (second ++ rest) is (unit-content e f g h low rest also content)),
+      past-unit e f g h low others also (past-unit a b c d high (second ++ others) is s),
+    )
 
 -- A content that has a text, is a token's and passes the check is one of RFC 8259.
 pub content-rfc : {content text : List ℕ} → Decodes content text → Stands content → InUtf8 IsContent content
@@ -214,6 +215,12 @@ rfc-content _ (IsContent.short b others e more) =
     rw (own backslash (b ∷ others) refl, own b others (short-ascii b e)) there
 rfc-content _ (IsContent.unit a b c d others ha hb hc hd more) =
     let there = before-escape lower_u (a ∷ b ∷ c ∷ d ∷ encode_utf8_all others) refl
-        (before-hex a _ ha (before-hex b _ hb (before-hex c _ hc (before-hex d (encode_utf8_all others) hd (rfc-content others more))))) in
-    rw (own backslash (lower_u ∷ a ∷ b ∷ c ∷ d ∷ others) refl, own lower_u (a ∷ b ∷ c ∷ d ∷ others) refl, own a (b ∷ c ∷ d ∷ others) (hex-low a ha).0,
-      own b (c ∷ d ∷ others) (hex-low b hb).0, own c (d ∷ others) (hex-low c hc).0, own d others (hex-low d hd).0) there
+    (before-hex a _ ha (before-hex b _ hb (before-hex c _ hc (before-hex d (encode_utf8_all others) hd (rfc-content others more))))) in
+    rw (
+      own backslash (lower_u ∷ a ∷ b ∷ c ∷ d ∷ others) refl,
+      own lower_u (a ∷ b ∷ c ∷ d ∷ others) refl,
+      own a (b ∷ c ∷ d ∷ others) (hex-low a ha).0,
+      own b (c ∷ d ∷ others) (hex-low b hb).0,
+      own c (d ∷ others) (hex-low c hc).0,
+      own d others (hex-low d hd).0,
+    ) there

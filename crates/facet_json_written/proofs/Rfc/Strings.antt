@@ -55,7 +55,8 @@ character-begins c is = by (cases_lt c 0x80)
       such = λ others content. unescaped c others (is_other high) content;
     }
 
-content-characters : (cs : List ℕ) → all_scalars cs ≡ true → InUtf8 IsContent (flat_map escaped_character cs)
+-- Characters as they are written are a content.
+pub content-characters : (cs : List ℕ) → all_scalars cs ≡ true → InUtf8 IsContent (flat_map escaped_character cs)
 content-characters [] e = ascii [] refl empty
 content-characters (c ∷ cs) e =
     let parts = and_parts (scalar c) (all_scalars cs) e in

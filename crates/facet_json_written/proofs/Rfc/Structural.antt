@@ -11,7 +11,8 @@ use Rattle.facet_json_written.proofs.Rfc.Lists.{unspaced, spaced_before, spaced_
 space-ascii : (c : ℕ) → is_space c ≡ true → is_ascii c ≡ true
 space-ascii c e = grind (arith, e)
 
-spaces-ascii : (spaces : List ℕ) → AreSpaces spaces → list_all is_ascii spaces ≡ true
+-- White space is ASCII.
+pub spaces-ascii : (spaces : List ℕ) → AreSpaces spaces → list_all is_ascii spaces ≡ true
 spaces-ascii [] e = refl
 spaces-ascii (c ∷ spaces) e =
     let parts = and_parts (is_space c) (list_all is_space spaces) e in

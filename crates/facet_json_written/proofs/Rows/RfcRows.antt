@@ -1,5 +1,5 @@
 -- Small texts that the grammar of RFC 8259 has, and some that it has not.
-use Rattle.std.proofs.Common.{◌≡◌, ℕ, Bool, true, false, List, [], ◌∷◌, ◌++◌, refl, sym, ap, ◌∙◌, codes, get_or, eq-eqb, true≢false, ◌==◌}
+use Rattle.std.proofs.Common.{◌≡◌, ℕ, false, List, [], ◌∷◌, ◌++◌, refl, sym, ap, ◌∙◌, codes, get_or, eq-eqb, true≢false, ◌==◌}
 use Rattle.facet_format.specs.Bytes.{backslash, colon, comma, left_bracket, right_bracket, left_brace, right_brace}
 use Rattle.facet_json_strict.specs.RfcNumber.{none, digit, IsMinus, IsExponentSign}
 use Rattle.facet_json_written.specs.RfcText.{IsStructural, SomeDigits, IsWhole, nought, IsFraction, IsExponent, IsRfcNumber, IsContent, empty, unescaped, short, unit, IsRfcString, IsRfcText, IsEnclosed, AreItems, literal_true, array, object, one_item, more_items, one_member, member}

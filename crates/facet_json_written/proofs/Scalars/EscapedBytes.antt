@@ -1,12 +1,11 @@
--- The forms in which a byte of a text is written, and that they are pieces of a string's content.
-use Rattle.std.proofs.Common.{◌≡◌, ℕ, ◌/◌, ◌%◌, ◌<◌, Bool, true, false, ◌==◌, ◌||◌, List, [], ◌∷◌, ◌++◌, flat_map, Some, refl, arith}
+-- The forms in which a byte of a text is written.
+use Rattle.std.proofs.Common.{◌≡◌, ℕ, ◌<◌, true, false, ◌==◌, ◌||◌, List, [], ◌∷◌, Some, refl, arith}
 use Rattle.std.specs.Prelude.{nat_lt}
 use Rattle.std.proofs.lemmas.Bool.{cond_both, eqb-true, or_parts}
 use Rattle.std.proofs.lemmas.Bool.Decides.{nat_tests}
 use Rattle.facet_format.specs.Bytes.{quote, backslash, lower_b, lower_f, lower_n, lower_r, lower_t, lower_u, backspace, form_feed, line_feed, carriage_return, tab, space, delete}
-use Rattle.facet_json_token.specs.Cut.{ArePieces}
 use Rattle.facet_json_decode.specs.Decode.{short_escape}
-use Rattle.facet_json_document.specs.Quoted.{hex_digit, hex_byte, escaped}
+use Rattle.facet_json_document.specs.Quoted.{hex_byte, escaped}
 
 -- The bytes are a form in which this byte is written.
 pub data Form (b : ℕ) : List ℕ → Type 0 where
@@ -41,30 +40,3 @@ form b =
     cond_both (nat_lt b space || (b == delete)) _ _ (Form b) (λ e. by_number (control-ascii b e)) λ printed.
     let no = or_parts (b == quote) (b == backslash) named in
     itself no.0 no.1 (or_parts (nat_lt b space) (b == delete) printed).0
-
--- ---- pieces of a string's content
-
--- A hexadecimal digit is no quote and no backslash.
-hex_digit-plain : (n : ℕ) → ((hex_digit n == quote) ≡ false) × ((hex_digit n == backslash) ≡ false)
-hex_digit-plain n =
-    cond_both (nat_lt n 10) _ _ (λ d. ((d == quote) ≡ false) × ((d == backslash) ≡ false))
-    (λ e. (grind (arith, nat_tests), grind (arith, nat_tests))) (λ e. (grind (arith, nat_tests), grind (arith, nat_tests)))
-
--- A byte as it is written stands before other pieces.
-form-pieces : (b : ℕ) (first rest : List ℕ) (mark : Bool) → Form b first → ArePieces rest mark →
-    (m : Bool) × ArePieces (first ++ rest) m
-form-pieces b _ rest mark (short c is) h = (true, ArePieces.escape c rest mark h)
-form-pieces b _ rest mark (by_number small) h =
-    let high = hex_digit-plain (b / 16) in
-    let low = hex_digit-plain (b % 16) in
-    let digits = ArePieces.byte _ _ mark high.0 high.1 (ArePieces.byte _ rest mark low.0 low.1 h) in
-    let zeros = ArePieces.byte 0x30 _ mark refl refl (ArePieces.byte 0x30 _ mark refl refl digits) in
-    (true, ArePieces.escape lower_u _ mark zeros)
-form-pieces b _ rest mark (itself no_quote no_backslash _) h = (mark, ArePieces.byte b rest mark no_quote no_backslash h)
-
--- What is written of a text is pieces of a string's content.
-pub escaped-pieces : (t : List ℕ) → (mark : Bool) × ArePieces (flat_map escaped t) mark
-escaped-pieces [] = (false, ArePieces.none)
-escaped-pieces (b ∷ t) =
-    let others = escaped-pieces t in
-    form-pieces b (escaped b) (flat_map escaped t) others.0 (form b) others.1

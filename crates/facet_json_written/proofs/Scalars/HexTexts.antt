@@ -12,10 +12,11 @@ use Rattle.facet_format.specs.Bytes.{quote, backslash, space, delete, is_digit}
 use Rattle.facet_format.specs.Number.{AreDigits}
 use Rattle.facet_json_document.specs.Quoted.{hex_digit, hex_byte, escaped, quoted}
 use Rattle.facet_json_document.specs.Text.{as_hex, shortened, hex, bytes_text}
+use Rattle.facet_json_document.specs.Language.{Rules}
 use Rattle.facet_json_document.specs.Tree.{text}
 use Rattle.facet_json_written.proofs.Scalars.OneToken.{IsOneScalar}
 use Rattle.facet_json_written.proofs.Scalars.QuotedTexts.{quoted-one_scalar}
-use Rattle.facet_json_written.proofs.Scalars.WholeNumbers.{decimal-digits}
+use Rattle.facet_json_written.proofs.Scalars.DecimalDigits.{decimal-digits}
 
 -- a byte of ASCII that is written as it is
 abbrev unescaped : ℕ → Bool
@@ -135,9 +136,9 @@ hex_text-utf8 all limit head tail are =
     all-utf8 (codes "0x" ++ hex all limit head tail) (hex-unescaped all limit head tail are)
 
 -- It is one scalar's token, which means the text.
-pub hex_text-one_scalar : (all : List ℕ) (limit : Option ℕ) (head tail : ℕ) →
+pub hex_text-one_scalar : (by : Rules) (all : List ℕ) (limit : Option ℕ) (head tail : ℕ) →
     list_all (λ b. nat_lt b 0x100) all ≡ true →
-    IsOneScalar (bytes_text (as_hex limit head tail) all) (text (codes "0x" ++ hex all limit head tail))
-hex_text-one_scalar all limit head tail are =
+    IsOneScalar by (bytes_text (as_hex limit head tail) all) (text (codes "0x" ++ hex all limit head tail))
+hex_text-one_scalar by all limit head tail are =
     rw (hex_text-quoted all limit head tail are)
-    (quoted-one_scalar (codes "0x" ++ hex all limit head tail) (hex_text-utf8 all limit head tail are))
+    (quoted-one_scalar by (codes "0x" ++ hex all limit head tail) (hex_text-utf8 all limit head tail are))

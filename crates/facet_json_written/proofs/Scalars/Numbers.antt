@@ -6,13 +6,19 @@ use Rattle.std.proofs.lemmas.Bool.{and_from, and_parts, both_ways, not-true, or_
 use Rattle.std.proofs.lemmas.List.Folds.{list_all-append}
 use Rattle.facet_format.specs.Bytes.{is_digit, dot, is_exponent_mark, is_sign}
 use Rattle.facet_format.specs.Number.{Hint, AreDigits, IsMinus, IsFraction, IsExponentSign, IsExponent, IsNumeral, Number, is_number, number}
-use Rattle.facet_format.specs.Span.{span_at}
+use Rattle.std.specs.Prelude.{slice_range}
+use Rattle.facet_format.specs.Span.{Span, span_at}
 use Rattle.facet_format.proofs.NumberLaws.{is_number-sound}
 use Rattle.facet_format.proofs.NumberText.{number-none}
 use Rattle.facet_json_token.specs.Cut.{IsLongest, IsShape}
 use Rattle.facet_json_token.specs.Token as token
+use Rattle.facet_json_token.specs.Token.{Token}
+use Rattle.facet_json_strict.proofs.RfcNumbers.{is_rfc-complete}
+use Rattle.facet_json_document.specs.Language.{Rules, lenient_rules, strict_rules}
 use Rattle.facet_json_document.specs.Meaning.{tree_of_number}
-use Rattle.facet_json_written.proofs.Scalars.OneToken.{in_numbers, ends_number, IsOneScalar}
+use Rattle.facet_json_written.specs.RfcText.{InUtf8, IsRfcNumber}
+use Rattle.facet_json_written.proofs.Rfc.Numbers.{number-itself}
+use Rattle.facet_json_written.proofs.Scalars.OneToken.{in_numbers, ends_number, IsTokenBy, IsOneScalar}
 use Rattle.facet_json_written.proofs.Cuts.ShapesBetween.{range-between, shape-is_cut}
 
 -- ---- its bytes
@@ -85,16 +91,33 @@ valued-is_number bytes hint value e = by (is_number bytes hint) refl
     by true is = refl
     by false isnt = let none = number-none bytes hint isnt in cc
 
+-- The number is one that these rules have.
+abbrev pub IsNumberBy : Rules → List ℕ → Type 0
+IsNumberBy lenient_rules bytes = Unit {0}
+IsNumberBy strict_rules bytes = InUtf8 IsRfcNumber bytes
+
+-- A number of RFC 8259 is one that either rules have.
+pub number-by : (by : Rules) (bytes : List ℕ) → InUtf8 IsRfcNumber bytes → IsNumberBy by bytes
+number-by lenient_rules bytes is = tt
+number-by strict_rules bytes is = is
+
+-- So is its token.
+number_token-by : (by : Rules) (buffer bytes : List ℕ) (start finish : ℕ) (hint : Hint) (span : Span) → slice_range buffer start finish ≡ bytes →
+    IsNumberBy by bytes → IsTokenBy by buffer (record { kind = token.number start finish hint; span = span })
+number_token-by lenient_rules buffer bytes start finish hint span same is = tt
+number_token-by strict_rules buffer bytes start finish hint span same is = rw (same, is_rfc-complete bytes (number-itself bytes is)) refl
+
 -- A number with a value is one scalar's token, which means the value.
-pub number-one_scalar : (bytes : List ℕ) (hint : Hint) (value : Number) → number bytes hint ≡ Some value →
-    IsOneScalar bytes (tree_of_number value)
-number-one_scalar bytes hint value e before after ends =
+pub number-one_scalar : (by : Rules) (bytes : List ℕ) (hint : Hint) (value : Number) → IsNumberBy by bytes → number bytes hint ≡ Some value →
+    IsOneScalar by bytes (tree_of_number value)
+number-one_scalar by bytes hint value stands e before after ends =
     let at = length before in
     let kind = token.number at (at + length bytes) hint in
+    let there = range-between before bytes after at (at + length bytes) refl refl in
     let is = is_number-sound bytes hint (valued-is_number bytes hint value e) in (
       record { kind = kind; span = span_at at (length bytes) },
       shape-is_cut before bytes after kind (IsShape.numeral bytes after hint is (ends-longest bytes after ends)),
       refl,
-      ap (λ l. option_map tree_of_number (number l hint)) (range-between before bytes after at (at + length bytes) refl refl)
-          ∙ ap (option_map tree_of_number) e,
+      ap (λ l. option_map tree_of_number (number l hint)) there ∙ ap (option_map tree_of_number) e,
+      number_token-by by (before ++ bytes ++ after) bytes at (at + length bytes) hint (span_at at (length bytes)) there stands,
     )

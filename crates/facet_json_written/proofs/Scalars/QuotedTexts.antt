@@ -1,6 +1,6 @@
 -- What is written of a text decodes to the text alone, and between quotes it is one string's token.
-use Rattle.std.proofs.Common.{◌≡◌, ℕ, suc, ◌+◌, ◌/◌, ◌%◌, ◌<◌, true, List, [], ◌∷◌, ◌++◌, length, flat_map, Some, refl, sym, ap, ◌∙◌, subst, arith, length-append, append_assoc}
-use Rattle.std.specs.Prelude.{nat_lt, slice_range, IsUtf8}
+use Rattle.std.proofs.Common.{◌≡◌, ℕ, suc, ◌+◌, ◌/◌, ◌%◌, ◌<◌, true, List, [], ◌∷◌, ◌++◌, length, flat_map, Some, None, refl, sym, ap, ◌∙◌, subst, arith, length-append, append_assoc}
+use Rattle.std.specs.Prelude.{false, nat_lt, slice_range, IsUtf8}
 use Rattle.std.specs.Char.{digit_value, encode_utf8, IsScalar}
 use Rattle.std.specs.Option.{option_map}
 use Rattle.std.specs.Str.{all_scalars, encode_utf8_all, is_utf8}
@@ -15,14 +15,18 @@ use Rattle.facet_json_token.specs.Token.{string}
 use Rattle.facet_json_decode.specs.Decode.{code_unit, Piece, Decodes, empty, piece, decoded}
 use Rattle.facet_json_decode.specs.Decode as decode
 use Rattle.facet_json_decode.proofs.DecodeLaws.{decoded-decodes}
+use Rattle.facet_json_strict.specs.Strict.{wrong_at, content_fault}
+use Rattle.facet_json_document.specs.Language.{Rules}
 use Rattle.facet_json_document.specs.Quoted.{hex_digit, escaped, quoted}
 use Rattle.facet_json_document.specs.TextLaws.{escaped_character}
 use Rattle.facet_json_document.specs.Tree.{text}
 use Rattle.facet_json_document.proofs.Writing.QuotedByCharacters.{escaped-characters}
 use Rattle.facet_json_document.proofs.Runs.SpelledRuns.{string-is_scalar}
 use Rattle.facet_json_written.specs.ReadBack.{QuotedDecodesAlone}
-use Rattle.facet_json_written.proofs.Scalars.EscapedBytes.{Form, short, by_number, itself, form, escaped-pieces}
-use Rattle.facet_json_written.proofs.Scalars.OneToken.{IsOneScalar, IsOneString}
+use Rattle.facet_json_written.proofs.Rfc.StrictStrings.{Stands, rfc-content}
+use Rattle.facet_json_written.proofs.Rfc.Strings.{content-characters}
+use Rattle.facet_json_written.proofs.Scalars.EscapedBytes.{Form, short, by_number, itself, form}
+use Rattle.facet_json_written.proofs.Scalars.OneToken.{token-by, IsOneScalar, IsOneString}
 use Rattle.facet_json_written.proofs.Cuts.ShapesBetween.{range-between, shape-is_cut}
 
 -- ---- a character
@@ -94,31 +98,48 @@ content-range before content after =
     ∙ range-between (before ++ quote ∷ []) content (quote ∷ after) (suc at) (suc at + length content)
     (omega (arith, length-append before (quote ∷ []))) refl
 
+-- Where nothing is wrong with a content, there is no fault.
+no_fault : (start : ℕ) (content : List ℕ) → wrong_at false content ≡ None → content_fault start content ≡ None
+no_fault start content right = rw right refl
+
+-- Between quotes a content of RFC 8259 that has a text is one string's token, which means the text.
+pub content-one_string : (content t : List ℕ) → Decodes content t → Stands content → IsOneString (quote ∷ content ++ quote ∷ []) t
+content-one_string content t decodes stands before after =
+    let at = length before in
+    let kind = string (suc at) (suc at + length content) stands.mark in
+    let there = content-range before content after in (
+      record { kind = kind; span = span_at at (length (quote ∷ content ++ quote ∷ [])) },
+      shape-is_cut before (quote ∷ content ++ quote ∷ []) after kind (IsShape.text content after stands.mark stands.pieces),
+      refl,
+      ap (λ l. option_map text (decoded l)) there ∙ ap (option_map text) (decoded-decodes content t decodes),
+      ap (content_fault (suc at)) there ∙ no_fault (suc at) content stands.right,
+    )
+
+-- What is written of a text is a content of RFC 8259.
+escaped-stands : (t : List ℕ) → IsUtf8 t → Stands (flat_map escaped t)
+escaped-stands t is =
+    let content = content-characters is.0 is.1.0 in
+    let written = subst Stands content.encoded (rfc-content content.characters content.such) in
+    subst (λ l. Stands (flat_map escaped l)) is.1.1 (rw (escaped-characters is.0) written)
+
 -- A quoted text is one string's token, which means the text.
 pub quoted-one_string : (t : List ℕ) → is_utf8 t ≡ true → IsOneString (quoted t) t
-quoted-one_string t is before after =
-    let at = length before in
-    let content = flat_map escaped t in
-    let pieces = escaped-pieces t in
-    let kind = string (suc at) (suc at + length content) pieces.0 in
-    let found = decoded-decodes content t (decodes-escaped t (IsUtf8-from_is_utf8 t is)) in (
-      record { kind = kind; span = span_at at (length (quoted t)) },
-      shape-is_cut before (quoted t) after kind (IsShape.text content after pieces.0 pieces.1),
-      refl,
-      ap (λ l. option_map text (decoded l)) (content-range before content after) ∙ ap (option_map text) found,
-    )
+quoted-one_string t is =
+    let valid = IsUtf8-from_is_utf8 t is in
+    content-one_string (flat_map escaped t) t (decodes-escaped t valid) (escaped-stands t valid)
 
 -- ---- as a scalar
 
 -- One string's token is one scalar's.
-string-one_scalar : (bytes content : List ℕ) → IsOneString bytes content → IsOneScalar bytes (text content)
-string-one_scalar bytes content is before after ends =
-    let one = is before after in (one.0, one.1, string-is_scalar one.0.kind one.2, one.3)
+pub string-one_scalar : (by : Rules) (bytes content : List ℕ) → IsOneString bytes content → IsOneScalar by bytes (text content)
+string-one_scalar by bytes content is before after ends =
+    let one = is before after in
+    (one.0, one.1, string-is_scalar one.0.kind one.2, one.3, token-by by (before ++ bytes ++ after) one.0 one.4)
 
 -- A quoted text is one scalar's token, which means the text.
-pub quoted-one_scalar : (t : List ℕ) → is_utf8 t ≡ true → IsOneScalar (quoted t) (text t)
-quoted-one_scalar t is = string-one_scalar (quoted t) t (quoted-one_string t is)
+pub quoted-one_scalar : (by : Rules) (t : List ℕ) → is_utf8 t ≡ true → IsOneScalar by (quoted t) (text t)
+quoted-one_scalar by t is = string-one_scalar by (quoted t) t (quoted-one_string t is)
 
 -- So is a quoted character, which means its text.
-pub char-one_scalar : (c : ℕ) → IsScalar c → IsOneScalar (quoted (encode_utf8 c)) (text (encode_utf8 c))
-char-one_scalar c is = quoted-one_scalar (encode_utf8 c) (is_utf8-from_IsUtf8 (encode_utf8 c) (IsUtf8-encode c is))
+pub char-one_scalar : (by : Rules) (c : ℕ) → IsScalar c → IsOneScalar by (quoted (encode_utf8 c)) (text (encode_utf8 c))
+char-one_scalar by c is = quoted-one_scalar by (encode_utf8 c) (is_utf8-from_IsUtf8 (encode_utf8 c) (IsUtf8-encode c is))

@@ -1,10 +1,9 @@
 -- What is written of a whole number, and the text of a decimal, is one scalar's token.
-use Rattle.std.proofs.Common.{◌≡◌, ◌≢◌, ℕ, zero, suc, ◌-◌, ◌%◌, ◌/◌, ◌^◌, ◌<◌, Bool, true, false, ◌==◌, List, [], ◌∷◌, ◌++◌, length, drop, Some, ℤ, pos, negsuc, refl, sym, ap, ◌∙◌, arith, append-nil}
+use Rattle.std.proofs.Common.{◌≡◌, ◌≢◌, ℕ, suc, ◌-◌, ◌^◌, ◌<◌, Bool, true, false, List, [], ◌∷◌, ◌++◌, length, drop, Some, ℤ, pos, negsuc, refl, sym, ap, ◌∙◌, arith, append-nil}
 use Rattle.std.specs.Prelude.{nat_lt}
-use Rattle.std.specs.Fmt.{digit_glyph, digits_onto, digits, decimal, signed_decimal}
+use Rattle.std.specs.Fmt.{decimal, signed_decimal}
 use Rattle.std.specs.Str.Parse.{AllDigits}
-use Rattle.std.proofs.lemmas.Bool.{cond_both, both_ways, ltb-true, ltb-false, lt-ltb, le-leb, lt-leb}
-use Rattle.std.proofs.lemmas.Bool.Decides.{nat_tests}
+use Rattle.std.proofs.lemmas.Bool.{both_ways, ltb-true, ltb-false, lt-ltb, le-leb, lt-leb}
 use Rattle.std.proofs.lemmas.Fmt.{decimal_is_IsNumeral_wide}
 use Rattle.std.proofs.lemmas.List.{take_all}
 use Rattle.std.proofs.lemmas.Str.Parse.{IsNumeralModel, tells_digits, numerals_by_fold}
@@ -16,26 +15,13 @@ use Rattle.facet_format.proofs.NumberText.{number-unsigned, number-signed}
 use Rattle.facet_json_document.specs.Meaning.{tree_of_number}
 use Rattle.facet_json_document.specs.Tree as trees
 use Rattle.facet_json_written.specs.AsRead.{whole_number, IsWithin}
-use Rattle.facet_json_written.proofs.Scalars.Numbers.{number-one_scalar}
+use Rattle.facet_json_document.specs.Language.{Rules}
+use Rattle.facet_json_written.proofs.Rfc.Numbers.{number-decimal, number-negative}
+use Rattle.facet_json_written.proofs.Scalars.DecimalDigits.{decimal-digits}
+use Rattle.facet_json_written.proofs.Scalars.Numbers.{IsNumberBy, number-by, number-one_scalar}
 use Rattle.facet_json_written.proofs.Scalars.OneToken.{IsOneScalar}
 
 -- ---- digits
-
--- A glyph below ten is a digit.
-glyph-is_digit : (d : ℕ) → d < 10 → is_digit (digit_glyph false d) ≡ true
-glyph-is_digit d small = grind (arith, nat_tests)
-
--- The last digits of a number before digits are digits.
-onto-digits : (k n : ℕ) (acc : List ℕ) → AreDigits acc → AreDigits (digits_onto k 10 false n acc)
-onto-digits zero n acc are = are
-onto-digits (suc k) n acc are =
-    let more = AreDigits.digit (digit_glyph false (n % 10)) acc (glyph-is_digit (n % 10) (omega arith)) are in
-    cond_both (n / 10 == 0) _ _ AreDigits (λ _. more) (λ _. onto-digits k (n / 10) (digit_glyph false (n % 10) ∷ acc) more)
-
--- A number is written in digits.
-pub decimal-digits : (n : ℕ) → AreDigits (decimal n)
-unfolding digits
-decimal-digits n = onto-digits 64 n [] AreDigits.none
 
 -- The value of digits is the value that they have for the standard library.
 own_value : IsNumeralModel (AllDigits 10) (digits_value 0)
@@ -158,25 +144,26 @@ negative-value n h = by (nat_lt n (2 ^ 63)) refl
 -- ---- the tokens
 
 -- What is written of a number within 128 bits is one scalar's token.
-pub decimal-one_scalar : (n : ℕ) → n < 2 ^ 128 → IsOneScalar (decimal n) (whole_number (pos n))
-decimal-one_scalar n h =
+pub decimal-one_scalar : (by : Rules) (n : ℕ) → n < 2 ^ 128 → IsOneScalar by (decimal n) (whole_number (pos n))
+decimal-one_scalar by n h =
     let small : n < 10 ^ 64 = omega arith in
     let v = unsigned-value n h in
     let is : number (decimal n) unsigned ≡ Some v.0 =
     digits-have_value (decimal n) (decimal-digits n) (decimal-some n small)
     ∙ ap unsigned_number (decimal-value n small) ∙ v.1 in
-    rw (← v.2) (number-one_scalar (decimal n) unsigned v.0 is)
+    rw (← v.2) (number-one_scalar by (decimal n) unsigned v.0 (number-by by (decimal n) (number-decimal n small)) is)
 
 -- So is what is written of a signed one.
-pub signed-one_scalar : (z : ℤ) → IsWithin 127 z → IsOneScalar (signed_decimal z) (whole_number z)
-signed-one_scalar (pos n) h = decimal-one_scalar n (omega arith)
-signed-one_scalar (negsuc n) h =
+pub signed-one_scalar : (by : Rules) (z : ℤ) → IsWithin 127 z → IsOneScalar by (signed_decimal z) (whole_number z)
+signed-one_scalar by (pos n) h = decimal-one_scalar by n (omega arith)
+signed-one_scalar by (negsuc n) h =
     let small : suc n < 10 ^ 64 = omega arith in
     let v = negative-value n h in
     let is : number (minus ∷ decimal (suc n)) signed ≡ Some v.0 =
     minus-has_value (decimal (suc n)) (decimal-digits (suc n)) (decimal-some (suc n) small)
     ∙ ap negative_number (decimal-value (suc n) small) ∙ v.1 in
-    rw (← v.2) (number-one_scalar (minus ∷ decimal (suc n)) signed v.0 is)
+    let stands = number-by by (minus ∷ decimal (suc n)) (number-negative (suc n) small) in
+    rw (← v.2) (number-one_scalar by (minus ∷ decimal (suc n)) signed v.0 stands is)
 
 -- What is within 63 bits and a sign is within 127.
 pub within-wider : (z : ℤ) → IsWithin 63 z → IsWithin 127 z
@@ -184,5 +171,6 @@ within-wider (pos n) h = omega arith
 within-wider (negsuc n) h = omega arith
 
 -- The text of a decimal is one scalar's token.
-pub decimal_text-one_scalar : (t : List ℕ) → number t float ≡ Some (numbers.decimal t) → IsOneScalar t (trees.decimal t)
-decimal_text-one_scalar t e = number-one_scalar t float (numbers.decimal t) e
+pub decimal_text-one_scalar : (by : Rules) (t : List ℕ) → IsNumberBy by t → number t float ≡ Some (numbers.decimal t) →
+    IsOneScalar by t (trees.decimal t)
+decimal_text-one_scalar by t stands e = number-one_scalar by t float (numbers.decimal t) stands e

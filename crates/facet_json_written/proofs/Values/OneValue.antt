@@ -1,6 +1,6 @@
 -- Bytes that are read as one value, wherever they stand and whatever follows that cannot go on with a number: scalars, and white
 -- space before a value.
-use Rattle.std.proofs.Common.{◌≡◌, ℕ, ◌+◌, ◌≤◌, true, List, [], ◌∷◌, ◌++◌, length, take, drop, refl, sym, ap, ap₂, ◌∙◌, arith, append_assoc, length-append, length-drop, take-append-drop}
+use Rattle.std.proofs.Common.{◌≡◌, ℕ, ◌+◌, ◌≤◌, true, List, [], ◌∷◌, ◌++◌, length, take, drop, refl, sym, ap, ap₂, ◌∙◌, subst, arith, append_assoc, append-nil, length-append, length-drop, take-append-drop}
 use Rattle.std.specs.List.{list_all}
 use Rattle.std.proofs.lemmas.List.{drop-drop, length-take}
 use Rattle.std.proofs.lemmas.Bool.{and_parts}
@@ -11,17 +11,21 @@ use Rattle.facet_format.specs.Span.{span_at}
 use Rattle.facet_json_token.specs.Cut.{IsStructural, IsShape, cut, cut_here, past_gap, token}
 use Rattle.facet_json_token.specs.Gap.{plain, whole, piece_len, gap_len}
 use Rattle.facet_json_token.specs.Token.{Kind, Token}
-use Rattle.facet_json_token.specs.Tokens.{next, tokens_from}
+use Rattle.facet_json_token.specs.Tokens.{ended, next, tokens_from}
 use Rattle.facet_json_token.proofs.Gaps.{piece_len-blank, gap_len-none, gap_len-some}
 use Rattle.facet_json_token.proofs.ShapesCut.{cut_here-shape}
-use Rattle.facet_json_token.proofs.TokensSteps.{tokens_by_first}
-use Rattle.facet_json_document.specs.Document.{Reads}
+use Rattle.facet_json_token.proofs.TokensSteps.{tokens_by_first, cut-end, tokens_from-nothing}
+use Rattle.facet_json_document.specs.Document.{Reads, IsWholeDocument}
+use Rattle.facet_json_document.specs.Language.{Rules, lenient_rules, strict_rules}
 use Rattle.facet_json_document.specs.Meaning.{tree_of, meaning}
 use Rattle.facet_json_document.specs.Node.{Node, scalar, Spells, one_token}
+use Rattle.facet_json_document.specs.StrictDocument.{none_left}
 use Rattle.facet_json_document.specs.Tree.{Tree}
+use Rattle.facet_json_document.proofs.WalkComes.{Fits}
 use Rattle.facet_json_written.specs.RfcText.{AreSpaces}
-use Rattle.facet_json_written.proofs.Scalars.OneToken.{ends_number, IsCutAs, IsOneScalar}
+use Rattle.facet_json_written.proofs.Scalars.OneToken.{ends_number, IsCutAs, IsTokenBy, IsOneScalar}
 use Rattle.facet_json_written.proofs.Cuts.ShapesBetween.{structural-no_gap}
+use Rattle.facet_json_written.proofs.Values.FitBefore.{scalar-fits}
 
 -- ---- what is left from an offset on
 
@@ -113,15 +117,17 @@ tokens_from-structural buffer from b kind rest s left =
 
 -- ---- what is read as one value
 
--- From an offset of the buffer on, up to another, the tokens spell a node with this tree.
-pub record IsReadFrom (buffer : List ℕ) (from to : ℕ) (value : Tree) : Type 0 where
+-- From an offset of the buffer on, up to another, the tokens spell a node with this tree; and they may stand as they do by these rules,
+-- where those that follow them may.
+pub record IsReadFrom (by : Rules) (buffer : List ℕ) (from to : ℕ) (value : Tree) : Type 0 where
   pub root : Node
   pub reads : Reads buffer (tokens_from buffer plain from) root value (tokens_from buffer plain to)
+  pub fits : Fits by buffer (tokens_from buffer plain to) → Fits by buffer (tokens_from buffer plain from)
 
 -- Wherever the bytes stand, they are read as this value.
-abbrev pub IsOneValue : List ℕ → Tree → Type 0
-IsOneValue bytes value = (buffer : List ℕ) (from : ℕ) (after : List ℕ) → IsLeft buffer from (bytes ++ after) →
-    ends_number after ≡ true → IsReadFrom buffer from (from + length bytes) value
+abbrev pub IsOneValue : Rules → List ℕ → Tree → Type 0
+IsOneValue by bytes value = (buffer : List ℕ) (from : ℕ) (after : List ℕ) → IsLeft buffer from (bytes ++ after) →
+    ends_number after ≡ true → IsReadFrom by buffer from (from + length bytes) value
 
 -- What is left after an offset stands after as many bytes.
 pub IsLeft-split : {buffer left : List ℕ} {from : ℕ} → IsLeft buffer from left →
@@ -139,27 +145,63 @@ cut_as-from {buffer} {bytes} {after} {before} {from} {t} e same h =
     ∙ ap (λ n. next t (tokens_from buffer plain n)) (h.stops ∙ ap (λ n. n + length bytes) e)
 
 -- One scalar's token is read as its meaning.
-pub scalar-one_value : (bytes : List ℕ) (value : Tree) → IsOneScalar bytes value → IsOneValue bytes value
+pub scalar-one_value : (by : Rules) (bytes : List ℕ) (value : Tree) → IsOneScalar by bytes value → IsOneValue by bytes value
 unfolding tree_of
-scalar-one_value bytes value h buffer from after left ends =
+scalar-one_value by bytes value h buffer from after left ends =
     let s = IsLeft-split left in
     let same : s.0 ++ bytes ++ after ≡ buffer = append_assoc s.0 bytes after ∙ s.2 in
     let c = h s.0 after ends in
+    let there = cut_as-from s.1 same c.1 in
     let spells : Spells (tokens_from buffer plain from) (scalar c.0) (tokens_from buffer plain (from + length bytes)) =
-    rw (cut_as-from s.1 same c.1) (one_token c.0 _ c.2) in
+    rw there (one_token c.0 _ c.2) in
+    let has : IsTokenBy by buffer c.0 = subst (λ l. IsTokenBy by l c.0) same c.4 in
     record {
       root = scalar c.0;
       reads = record { spells = spells; has_tree = ap (λ l. meaning l c.0) (sym same) ∙ c.3 };
+      fits = λ f. rw there (scalar-fits by buffer c.0 _ c.2 has f);
     }
 
 -- White space before a value is passed.
-pub blank-one_value : (blank bytes : List ℕ) (value : Tree) → AreSpaces blank → IsOneValue bytes value →
-    IsOneValue (blank ++ bytes) value
-blank-one_value blank bytes value e h buffer from after left ends =
+pub blank-one_value : (by : Rules) (blank bytes : List ℕ) (value : Tree) → AreSpaces blank → IsOneValue by bytes value →
+    IsOneValue by (blank ++ bytes) value
+blank-one_value by blank bytes value e h buffer from after left ends =
     let whole = IsLeft-as (append_assoc blank bytes after) left in
     let r = h buffer (from + length blank) after (IsLeft-past blank (bytes ++ after) whole) ends in
     let to : from + length blank + length bytes ≡ from + length (blank ++ bytes) = omega (arith, length-append blank bytes) in
+    let start = tokens_from-blank buffer from blank (bytes ++ after) e whole in
+    rw (← to) record { root = r.root; reads = rw start r.reads; fits = λ f. rw start (r.fits f) }
+
+-- So is white space after it.
+pub one_value-blank : (by : Rules) (bytes blank : List ℕ) (value : Tree) → IsOneValue by bytes value → AreSpaces blank →
+    IsOneValue by (bytes ++ blank) value
+one_value-blank by bytes blank value h e buffer from after left ends =
+    let whole = IsLeft-as (append_assoc bytes blank after) left in
+    let r = h buffer from (blank ++ after) whole (blank-ends_number blank after e ends) in
+    let to : from + length bytes + length blank ≡ from + length (bytes ++ blank) = omega (arith, length-append bytes blank) in
+    let end = tokens_from-blank buffer (from + length bytes) blank after e (IsLeft-past bytes (blank ++ after) whole) in
+    rw (← to) record { root = r.root; reads = rw (← end) r.reads; fits = λ f. r.fits (rw end f) }
+
+-- ---- whole texts
+
+-- The text is one document, with this tree, whose tokens may stand as they do by these rules.
+pub record IsDocumentBy (by : Rules) (bytes : List ℕ) (value : Tree) : Type 0 where
+  pub root : Node
+  pub whole : IsWholeDocument bytes root value
+  pub fits : Fits by bytes (tokens_from bytes plain 0)
+
+fits-ended : (by : Rules) (buffer : List ℕ) → Fits by buffer ended
+fits-ended lenient_rules buffer = tt
+fits-ended strict_rules buffer = none_left
+
+-- Bytes that are one value are a whole document.
+pub one_value-document : (by : Rules) (bytes : List ℕ) (value : Tree) → IsOneValue by bytes value → IsDocumentBy by bytes value
+one_value-document by bytes value one =
+    let left : IsLeft bytes 0 (bytes ++ []) = record { within = omega arith; here = sym (append-nil bytes) } in
+    let read = one bytes 0 [] left refl in
+    let none : tokens_from bytes plain (0 + length bytes) ≡ ended =
+    tokens_from-nothing bytes (0 + length bytes) plain (cut-end bytes (0 + length bytes) plain (omega arith)) in
     record {
-      root = r.root;
-      reads = rw (tokens_from-blank buffer from blank (bytes ++ after) e whole, ← to) r.reads;
+      root = read.root;
+      whole = record { reads = rw none at read.reads };
+      fits = read.fits (rw none (fits-ended by bytes));
     }

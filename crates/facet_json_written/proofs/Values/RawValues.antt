@@ -1,5 +1,5 @@
 -- Text that is a whole document by itself is read as one value, wherever it stands.
-use Rattle.std.proofs.Common.{◌≡◌, ℕ, ◌+◌, ◌-◌, ◌≤◌, ◌<◌, true, false, List, [], ◌∷◌, ◌++◌, length, take, drop, get_or, refl, sym, ap, ap₂, ◌∙◌, arith, append_assoc, length-append, length-drop, inl, inr}
+use Rattle.std.proofs.Common.{◌≡◌, ℕ, ◌+◌, ◌-◌, ◌≤◌, ◌<◌, Bool, true, false, cond, List, [], ◌∷◌, ◌++◌, length, take, drop, get_or, Option, Some, None, refl, sym, ap, ap₂, ◌∙◌, arith, append_assoc, length-append, length-drop, inl, inr}
 use Rattle.std.specs.Prelude.{slice_range}
 use Rattle.std.specs.Option.{option_map}
 use Rattle.std.proofs.lemmas.Bool.{and_from, cases_Bool}
@@ -11,11 +11,15 @@ use Rattle.facet_format.specs.Span.{Span, stop}
 use Rattle.facet_json_decode.specs.Decode.{decoded}
 use Rattle.facet_json_token.specs.Cut.{Cut, nothing_left, token, fault, cut, cut_here}
 use Rattle.facet_json_token.specs.Gap.{plain}
-use Rattle.facet_json_token.specs.Token.{Kind, Token, string, number}
+use Rattle.facet_json_token.specs.Token.{Fault, Kind, Token, string, number}
 use Rattle.facet_json_token.specs.Tokens.{Tokens, ended, next, tokens_from}
 use Rattle.facet_json_token.proofs.CutBounds.{KindFits, cut-token_fits}
 use Rattle.facet_json_token.proofs.FirstBytes.{cut_here-something}
 use Rattle.facet_json_token.proofs.TokensSteps.{by_first, tokens_by_first, tokens_from-others, cut-end}
+use Rattle.facet_json_strict.specs.Strict.{wrong_at, strict_fault_of}
+use Rattle.facet_json_strict.specs.RfcNumberTest.{is_rfc_number}
+use Rattle.facet_json_document.proofs.WalkComes.{Fits}
+use Rattle.facet_json_document.specs.Language.{Rules, lenient_rules, strict_rules}
 use Rattle.facet_json_document.proofs.Spelling.TokenSuffixes.{IsSuffix, all, later, Spells-suffix}
 use Rattle.facet_json_document.specs.Document.{Reads, IsWholeDocument}
 use Rattle.facet_json_document.specs.Meaning.{meaning_of, tree_of_number}
@@ -25,6 +29,7 @@ use Rattle.facet_json_written.proofs.Cuts.CutsBefore.{cut_here-moved}
 use Rattle.facet_json_written.proofs.Cuts.MovedTokens.{moved_kind, moved, onto, moved_node, moved-stop, spells-moved, MeanTheSame, tree-moved}
 use Rattle.facet_json_written.specs.RfcText.{AreSpaces}
 use Rattle.facet_json_written.proofs.Scalars.OneToken.{ends_number}
+use Rattle.facet_json_written.proofs.Values.StrictMoved.{StayRight, value-commas, strict-moved}
 use Rattle.facet_json_written.proofs.Values.OneValue.{IsLeft, IsLeft-past, IsLeft-as, cut-blank, tokens_from-blank, cut-no_gap, IsOneValue}
 
 -- ---- the bytes of a token
@@ -50,6 +55,29 @@ meaning-moved buffer raw after n span (number start finish hint) left within fit
     ap (λ l. option_map tree_of_number (numbers.number l hint))
     (slice-moved buffer raw after n start finish left (omega (arith, fits.starts, fits.finishes)) (omega (arith, fits.finishes)))
 meaning-moved buffer raw after n span kind left within fits = refl
+
+-- Without a fault nothing is wrong.
+no_fault-none : {A B : Type 0} (f : A → B) (o : Option A) → option_map f o ≡ None → o ≡ None
+no_fault-none f None e = refl
+no_fault-none f (Some a) e = cc
+
+no_fault-true : (b : Bool) (f : Fault) → cond b None (Some f) ≡ None → b ≡ true
+no_fault-true true f e = refl
+no_fault-true false f e = cc
+
+-- A token that RFC 8259 has in the text it has n bytes later.
+right-moved : (buffer raw after : List ℕ) (n : ℕ) (t u : Token) (kind : Kind) → IsLeft buffer n (raw ++ after) →
+    stop t.span ≤ length raw → KindFits raw t.span kind → strict_fault_of raw t kind ≡ None →
+    strict_fault_of buffer u (moved_kind n kind) ≡ None
+right-moved buffer raw after n t u (string start finish has_escapes) left within fits right =
+    let same = slice-moved buffer raw after n start finish left fits.ordered (omega (arith, fits.within)) in
+    let none : wrong_at false (slice_range raw start finish) ≡ None = no_fault-none _ (wrong_at false (slice_range raw start finish)) right in
+    rw (same, none) refl
+right-moved buffer raw after n t u (number start finish hint) left within fits right =
+    let same = slice-moved buffer raw after n start finish left (omega (arith, fits.starts, fits.finishes)) (omega (arith, fits.finishes)) in
+    let is : is_rfc_number (slice_range raw start finish) ≡ true = no_fault-true (is_rfc_number (slice_range raw start finish)) _ right in
+    rw (same, is) refl
+right-moved buffer raw after n t u kind left within fits right = refl
 
 -- ---- what is cut at an offset of the text
 
@@ -138,10 +166,12 @@ first-token buffer nothing_left t others e = cc
 first-token buffer (token u) t others e = cc
 first-token buffer (fault f) t others e = cc
 
--- The tokens of a text up to its end stand in the buffer, moved, and those that follow it come after them; and they mean the same.
+-- The tokens of a text up to its end stand in the buffer, moved, and those that follow it come after them; they mean the same, and RFC 8259
+-- has them where it has those of the text.
 record AreMoved (buffer raw : List ℕ) (from at : ℕ) (ts : Tokens) : Type 0 where
   tokens : tokens_from buffer plain (from + at) ≡ onto from (tokens_from buffer plain (from + length raw)) ts
   mean : MeanTheSame buffer raw from ts
+  right : StayRight buffer raw from ts
 
 tokens-moved : (buffer raw after : List ℕ) (from : ℕ) → IsLeft buffer from (raw ++ after) → ends_number after ≡ true →
     (ts : Tokens) (at : ℕ) → at ≤ length raw → IsSuffix ts ended → tokens_from raw plain at ≡ ts →
@@ -149,7 +179,7 @@ tokens-moved : (buffer raw after : List ℕ) (from : ℕ) → IsLeft buffer from
 tokens-moved buffer raw after from left ends _ at h (all _) same =
     let inside : IsLeft raw at (drop at raw) = record { within = h; here = refl } in
     let is = first-ended raw (cut raw at plain) (sym (tokens_by_first raw plain at (cut raw at plain) refl) ∙ same) in
-    record { tokens = end-moved buffer raw after (drop at raw) from at left inside (blank_up_to (drop at raw)) is; mean = tt }
+    record { tokens = end-moved buffer raw after (drop at raw) from at left inside (blank_up_to (drop at raw)) is; mean = tt; right = tt }
 tokens-moved buffer raw after from left ends _ at h (later t ts _ s) same =
     let inside : IsLeft raw at (drop at raw) = record { within = h; here = refl } in
     let is = first-token raw (cut raw at plain) t ts (sym (tokens_by_first raw plain at (cut raw at plain) refl) ∙ same) in
@@ -162,7 +192,21 @@ tokens-moved buffer raw after from left ends _ at h (later t ts _ s) same =
           ∙ ap (λ p. next (moved from t) (tokens_from buffer plain p)) (moved-stop from t)
           ∙ ap (next (moved from t)) others.tokens;
       mean = (meaning-moved buffer raw after from t.span t.kind left fits.within fits.kind_fits, others.mean);
+      right = (right-moved buffer raw after from t (moved from t) t.kind left fits.within fits.kind_fits, others.right);
     }
+
+-- So do those of a whole document.
+document_tokens-moved : (raw : List ℕ) (root : Node) (value : Tree) → IsWholeDocument raw root value → (buffer : List ℕ) (from : ℕ)
+    (after : List ℕ) → IsLeft buffer from (raw ++ after) → ends_number after ≡ true → AreMoved buffer raw from 0 (tokens_from raw plain 0)
+document_tokens-moved raw root value d buffer from after left ends =
+    let ts = tokens_from raw plain 0 in
+    tokens-moved buffer raw after from left ends ts 0 (omega arith) (Spells-suffix ts root ended d.reads.spells) refl
+
+-- From its start on they stand, and after them those that follow it.
+moved-start : (buffer raw : List ℕ) (from : ℕ) → AreMoved buffer raw from 0 (tokens_from raw plain 0) →
+    onto from (tokens_from buffer plain (from + length raw)) (tokens_from raw plain 0) ≡ tokens_from buffer plain from
+moved-start buffer raw from all_moved =
+    let start : from + 0 ≡ from = omega arith in sym all_moved.tokens ∙ ap (tokens_from buffer plain) start
 
 -- The node of a whole document is spelled wherever the document stands, moved.
 pub document-moved : (raw : List ℕ) (root : Node) (value : Tree) → IsWholeDocument raw root value → (buffer : List ℕ) (from : ℕ)
@@ -170,17 +214,28 @@ pub document-moved : (raw : List ℕ) (root : Node) (value : Tree) → IsWholeDo
     Reads buffer (tokens_from buffer plain from) (moved_node from root) value (tokens_from buffer plain (from + length raw))
 document-moved raw root value d buffer from after left ends =
     let ts = tokens_from raw plain 0 in
-    let all_moved = tokens-moved buffer raw after from left ends ts 0 (omega arith) (Spells-suffix ts root ended d.reads.spells) refl in
-    let start : from + 0 ≡ from = omega arith in
-    let there : onto from (tokens_from buffer plain (from + length raw)) ts ≡ tokens_from buffer plain from =
-    sym all_moved.tokens ∙ ap (tokens_from buffer plain) start in
+    let all_moved = document_tokens-moved raw root value d buffer from after left ends in
     let spells = spells-moved from (tokens_from buffer plain (from + length raw)) ts root ended d.reads.spells in
     record {
-      spells = rw there at spells;
+      spells = rw (moved-start buffer raw from all_moved) at spells;
       has_tree = (tree-moved buffer raw from ts root ended d.reads.spells all_moved.mean).0 ∙ d.reads.has_tree;
     }
 
+-- Its tokens may stand there as they do, where those that follow it may.
+document-fits : (by : Rules) (raw : List ℕ) (root : Node) (value : Tree) → IsWholeDocument raw root value → Fits by raw (tokens_from raw plain 0) →
+    (buffer : List ℕ) (from : ℕ) (after : List ℕ) → IsLeft buffer from (raw ++ after) → ends_number after ≡ true →
+    Fits by buffer (tokens_from buffer plain (from + length raw)) → Fits by buffer (tokens_from buffer plain from)
+document-fits lenient_rules raw root value d own buffer from after left ends f = tt
+document-fits strict_rules raw root value d own buffer from after left ends f =
+    let all_moved = document_tokens-moved raw root value d buffer from after left ends in
+    let there = strict-moved buffer raw from (tokens_from buffer plain (from + length raw)) own (value-commas d.reads.spells tt) all_moved.right f in
+    rw (moved-start buffer raw from all_moved) at there
+
 -- A whole document is read as its value wherever it stands.
-pub document-one_value : (raw : List ℕ) (root : Node) (value : Tree) → IsWholeDocument raw root value → IsOneValue raw value
-document-one_value raw root value d buffer from after left ends =
-    record { root = moved_node from root; reads = document-moved raw root value d buffer from after left ends }
+pub document-one_value : (by : Rules) (raw : List ℕ) (root : Node) (value : Tree) → IsWholeDocument raw root value →
+    Fits by raw (tokens_from raw plain 0) → IsOneValue by raw value
+document-one_value by raw root value d own buffer from after left ends = record {
+  root = moved_node from root;
+  reads = document-moved raw root value d buffer from after left ends;
+  fits = document-fits by raw root value d own buffer from after left ends;
+}
