@@ -3,9 +3,21 @@
 use crate::shown::{Telling, push, push_answer};
 use crate::unread::{Unread, tell_parts};
 use facet_format::FormatParser;
-use facet_json::scanner::Mode;
-use facet_json::{Answer, Call, JsonParser, drive, tree_from_slice, tree_from_slice_jsonc};
+use facet_json::{
+    Answer, Call, JsonParser, drive, from_slice_strict, tree_from_slice, tree_from_slice_jsonc,
+};
 use std::alloc::{AllocError, Global};
+
+/// What a parser takes as a document.
+#[derive(Clone, Copy)]
+pub enum Mode {
+    /// The lenient readings of RFC 8259.
+    Plain,
+    /// The same, with comments.
+    Jsonc,
+    /// RFC 8259 alone.
+    Strict,
+}
 
 /// How an input is asked for what is in it.
 #[derive(Clone, Copy)]
@@ -114,6 +126,7 @@ fn mode_name(mode: Mode) -> &'static str {
     match mode {
         Mode::Plain => "plain",
         Mode::Jsonc => "jsonc",
+        Mode::Strict => "strict",
     }
 }
 
@@ -197,6 +210,7 @@ fn trusting<'de>(alloc: Global, mode: Mode, text: &'de str) -> JsonParser<'de> {
     match mode {
         Mode::Plain => JsonParser::new_trusted(alloc, text.as_bytes()),
         Mode::Jsonc => JsonParser::new_jsonc_trusted(alloc, text.as_bytes()),
+        Mode::Strict => JsonParser::new_strict_trusted(alloc, text.as_bytes()),
     }
 }
 
@@ -205,6 +219,7 @@ pub fn checking<'de>(alloc: Global, mode: Mode, input: &'de [u8]) -> JsonParser<
     match mode {
         Mode::Plain => JsonParser::new(alloc, input),
         Mode::Jsonc => JsonParser::new_jsonc(alloc, input),
+        Mode::Strict => JsonParser::new_strict(alloc, input),
     }
 }
 
@@ -351,6 +366,7 @@ fn push_tree(alloc: Global, mode: Mode, input: &[u8], told: &mut String) -> Resu
     let read = match mode {
         Mode::Plain => tree_from_slice(alloc, input),
         Mode::Jsonc => tree_from_slice_jsonc(alloc, input),
+        Mode::Strict => from_slice_strict(alloc, input),
     };
     write!(told, "{read:?}")
 }

@@ -1,28 +1,41 @@
 //! Inputs cut after each of their bytes.
 
-use crate::compared::checking;
+use crate::compared::{Mode, checking};
 use facet_format::{FormatParser, ParseError, Span};
 use facet_json::JsonParser;
-use facet_json::scanner::Mode;
 use std::alloc::{AllocError, Global};
 
-/// Writes whether parsers of both modes come to an end of each prefix of the input.
-pub fn answer_prefixes(alloc: Global, input: &[u8], told: &mut String) -> Result<(), AllocError> {
-    match unread(alloc, input) {
+/// Writes whether parsers of these modes come to an end of each prefix of the input.
+pub fn answer_prefixes(
+    alloc: Global,
+    modes: &[Mode],
+    input: &[u8],
+    told: &mut String,
+) -> Result<(), AllocError> {
+    match unread(alloc, modes, input) {
         None => writeln!(told, "each prefix comes to its end"),
         Some(len) => writeln!(told, "DIFFERS: the first {len} bytes do not"),
     }
 }
 
 /// The length of the first prefix of the input that is not read to an end.
-fn unread(alloc: Global, input: &[u8]) -> Option<usize> {
+fn unread(alloc: Global, modes: &[Mode], input: &[u8]) -> Option<usize> {
     for len in 0..=input.len() {
-        let prefix = &input[..len];
-        if !(is_read(alloc, Mode::Plain, prefix) && is_read(alloc, Mode::Jsonc, prefix)) {
+        if !is_read_in(alloc, modes, &input[..len]) {
             return Some(len);
         }
     }
     None
+}
+
+/// Whether parsers of the input in these modes come to an end.
+fn is_read_in(alloc: Global, modes: &[Mode], input: &[u8]) -> bool {
+    for mode in modes {
+        if !is_read(alloc, *mode, input) {
+            return false;
+        }
+    }
+    true
 }
 
 /// Whether a parser of the input comes to an end.
@@ -56,4 +69,55 @@ fn comes(parser: &mut JsonParser<'_>, len: usize) -> Option<Result<bool, ParseEr
         Err(error) => (error.span, Err(error)),
     };
     if span.end() <= len { Some(came) } else { None }
+}
+
+/// Writes of each prefix of the input, the empty one first, how many events come, and then the end or the refusal's number and span.
+pub fn answer_cuts(
+    alloc: Global,
+    modes: &[Mode],
+    input: &[u8],
+    told: &mut String,
+) -> Result<(), AllocError> {
+    match modes {
+        [mode] => write_cuts(alloc, *mode, input, told),
+        _ => writeln!(told, "NO MODE"),
+    }
+}
+
+fn write_cuts(
+    alloc: Global,
+    mode: Mode,
+    input: &[u8],
+    told: &mut String,
+) -> Result<(), AllocError> {
+    for len in 0..=input.len() {
+        if len > 0 {
+            told.push_str("; ")?;
+        }
+        write_cut(alloc, mode, &input[..len], told)?;
+    }
+    told.push('\n')
+}
+
+fn write_cut(alloc: Global, mode: Mode, input: &[u8], told: &mut String) -> Result<(), AllocError> {
+    let mut parser = checking(alloc, mode, input);
+    write_end(&mut parser, input.len(), told)
+}
+
+/// Writes how many of the first so many events come, which are all that an input of so many bytes may have, and what comes then.
+fn write_end(parser: &mut JsonParser<'_>, len: usize, told: &mut String) -> Result<(), AllocError> {
+    let mut come = 0_usize;
+    for _ in 0..len {
+        if matches!(parser.next_event(), Ok(Some(_))) {
+            come = come.saturating_add(1);
+        }
+    }
+    match parser.next_event() {
+        Ok(Some(_)) => write!(told, "{come}, no end"),
+        Ok(None) => write!(told, "{come}, None"),
+        Err(error) => {
+            let (code, span) = (error.kind.code(), error.span);
+            write!(told, "{come}, {code} {}+{}", span.offset, span.len)
+        }
+    }
 }

@@ -1,6 +1,7 @@
 //! Rows, and the commands in them.
 
-use crate::compared::{Way, compare};
+use crate::checked::answer_check;
+use crate::compared::{Mode, Way, compare};
 use crate::counted::answer_count;
 use crate::decoded::{answer_decode, answer_repeated};
 use crate::derived::answer_derived;
@@ -8,13 +9,12 @@ use crate::faults::{Case, FaultyReader, write_untold};
 use crate::long::answer_long;
 use crate::numbers::answer_number;
 use crate::pieces::answer_short_texts;
-use crate::prefixes::answer_prefixes;
+use crate::prefixes::{answer_cuts, answer_prefixes};
 use crate::printf::printed;
 use crate::tokens::{answer_scanner, answer_tokens};
 use crate::trees::{answer_equal, answer_write};
 use crate::unread::Unread;
 use facet_json::Span;
-use facet_json::scanner::Mode;
 use facet_json_command::outcome::{OUT_OF_MEMORY, Outcome};
 use facet_json_command::report::{status, write_line};
 use facet_json_command::run::run;
@@ -97,6 +97,7 @@ fn answer_part(
         "short_texts" => answer_short_texts(input, told),
         "decode" => answer_decode(alloc, words, input, told),
         "number" => answer_number(words, input, told),
+        "check" => answer_check(words, input, told),
         "count" => answer_count(alloc, input, told),
         "derived" => answer_derived(alloc, words, told),
         _ => answer_text(
@@ -238,8 +239,8 @@ pub fn write_lines(text: &[u8], told: &mut String) -> Result<(), AllocError> {
     told.push('\n')
 }
 
-/// Writes what parsers of the input tell: `MODES all`, `MODES skips`, `MODES captures`, `MODES prefixes`, `MODES first COUNT` or
-/// `MODES SCRIPT`.
+/// Writes what parsers of the input tell: `MODES all`, `MODES skips`, `MODES captures`, `MODES prefixes`, `MODES cuts`,
+/// `MODES first COUNT` or `MODES SCRIPT`.
 pub fn answer_parser(
     alloc: Global,
     words: &str,
@@ -252,7 +253,8 @@ pub fn answer_parser(
         "all" => compare(alloc, modes, &ALL_EVENTS, input, told),
         "skips" => compare(alloc, modes, &ALL_SKIPS, input, told),
         "captures" => compare(alloc, modes, &ALL_CAPTURES, input, told),
-        "prefixes" => answer_prefixes(alloc, input, told),
+        "prefixes" => answer_prefixes(alloc, modes, input, told),
+        "cuts" => answer_cuts(alloc, modes, input, told),
         _ => match asked.strip_prefix("first ") {
             Some(count) => answer_first(alloc, modes, count, input, told),
             None => answer_script(alloc, modes, asked, input, told),
@@ -306,7 +308,9 @@ pub fn modes(word: &str) -> &'static [Mode] {
     match word {
         "plain" => &[Mode::Plain],
         "jsonc" => &[Mode::Jsonc],
+        "strict" => &[Mode::Strict],
         "both" => &[Mode::Plain, Mode::Jsonc],
+        "each" => &[Mode::Plain, Mode::Jsonc, Mode::Strict],
         _ => &[],
     }
 }

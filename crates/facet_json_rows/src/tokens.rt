@@ -1,7 +1,7 @@
 //! The tokens of an input, and calls of a scanner.
 
 use crate::pieces::write_other_pieces;
-use crate::row::{first_word, modes};
+use crate::row::first_word;
 use facet_json::scanner::{Mode, ScanError, ScanResult, Scanner, Token, cut};
 use std::alloc::AllocError;
 
@@ -24,8 +24,9 @@ fn write_scanned(scanned: &ScanResult, told: &mut String) -> Result<(), AllocErr
 
 /// Writes the tokens of the input in the mode of this name.
 pub fn answer_tokens(word: &str, input: &[u8], told: &mut String) -> Result<(), AllocError> {
-    match modes(word) {
-        [mode] => write_tokens(*mode, input, told),
+    match word {
+        "plain" => write_tokens(Mode::Plain, input, told),
+        "jsonc" => write_tokens(Mode::Jsonc, input, told),
         _ => writeln!(told, "NO MODE"),
     }
 }

@@ -1,0 +1,43 @@
+//! What RFC 8259 asks of strings' contents and of numbers, beyond what makes them tokens.
+
+ghost use Rattle.std.specs.Prelude.{◌≤◌, length};
+
+use crate::row::{first_word, range};
+use crate::tokens::write_refusal;
+use facet_json::scanner::{ScanError, check_number_strict, check_string_strict};
+use std::alloc::AllocError;
+
+/// Writes whether a range of the buffer passes a check, or the refusal: `string` or `number`, and perhaps `START..END`.
+pub fn answer_check(words: &str, buffer: &[u8], told: &mut String) -> Result<(), AllocError> {
+    let (name, at) = first_word(words);
+    match range(at, buffer.len()) {
+        Some((start, end)) if start <= end && end <= buffer.len() => {
+            write_checked(name, buffer, start, end, told)
+        }
+        _ => writeln!(told, "NO RANGE"),
+    }
+}
+
+fn write_checked(
+    name: &str,
+    buffer: &[u8],
+    start: usize,
+    end: usize,
+    told: &mut String,
+) -> Result<(), AllocError>
+    requires in_order { start ≤ end }
+    requires in_range { end ≤ length buffer.now }
+{
+    match name {
+        "string" => write_passed(&check_string_strict(buffer, start, end), told),
+        "number" => write_passed(&check_number_strict(buffer, start, end), told),
+        _ => writeln!(told, "NO CHECK"),
+    }
+}
+
+fn write_passed(checked: &Result<(), ScanError>, told: &mut String) -> Result<(), AllocError> {
+    match checked {
+        Ok(()) => writeln!(told, "passes"),
+        Err(error) => write_refusal(error, told),
+    }
+}
