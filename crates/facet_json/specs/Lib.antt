@@ -19,6 +19,10 @@ pub use Rattle.facet_json_token.specs.Open
 pub use Rattle.facet_json_token.specs.Tokens
 pub use Rattle.facet_json_decode.specs.Decode
 pub use Rattle.facet_json_decode.specs.Fault
+pub use Rattle.facet_json_strict.specs.RfcNumber
+pub use Rattle.facet_json_strict.specs.RfcNumberTest
+pub use Rattle.facet_json_strict.specs.Strict
+pub use Rattle.facet_json_strict.specs.Views as StrictViews
 pub use Rattle.facet_json_scanner.specs.Scanner
 pub use Rattle.facet_json_pieces.specs.Source as Sources
 pub use Rattle.facet_json_pieces.specs.Listed
@@ -28,6 +32,8 @@ pub use Rattle.facet_json_document.specs.Meaning
 pub use Rattle.facet_json_document.specs.Document
 pub use Rattle.facet_json_document.specs.Order
 pub use Rattle.facet_json_document.specs.Language
+pub use Rattle.facet_json_document.specs.StrictTokens
+pub use Rattle.facet_json_document.specs.StrictDocument
 pub use Rattle.facet_json_document.specs.Run
 pub use Rattle.facet_json_document.specs.RunLaws
 pub use Rattle.facet_json_document.specs.Walk
@@ -53,9 +59,12 @@ pub use Rattle.facet_json_written.specs.AsRead
 pub use Rattle.facet_json_written.specs.ReadBack
 pub use Rattle.facet_json_written.specs.RfcText
 pub use Rattle.facet_json_written.specs.RfcLaws
+pub use Rattle.facet_json_written.specs.RfcReadable
+pub use Rattle.facet_json_written.specs.StrictTexts
 pub use Rattle.facet_json_write.specs.Write
 pub use Rattle.facet_json_prefix.specs.Begun
 pub use Rattle.facet_json_prefix.specs.EventLaws
+pub use Rattle.facet_json_prefix.specs.StrictLaws
 pub use Rattle.facet_json_prefix.specs.Refusal
 pub use Rattle.facet_json_protocol.specs.Now
 pub use Rattle.facet_json_protocol.specs.Move
@@ -66,6 +75,8 @@ pub use Rattle.facet_json_protocol.specs.ParserLaws
 pub use Rattle.facet_json_protocol.specs.CallLaws
 pub use Rattle.facet_json_protocol.specs.SkipLaws
 pub use Rattle.facet_json_protocol.specs.Headline
+pub use Rattle.facet_json_protocol.specs.StrictHeadline
+pub use Rattle.facet_json_protocol.specs.OneRun
 pub use Rattle.facet_json_core.specs.ScriptViews
 pub use Rattle.facet_json_error.specs.ErrorKind
 pub use Rattle.facet_json_error.specs.Views as ErrorViews
@@ -81,6 +92,7 @@ pub use Rattle.facet_json_meaning.specs.Peeking
 pub use Rattle.facet_json_meaning.specs.Reading as TypedReading
 pub use Rattle.facet_json_meaning.specs.Laws as TypedLaws
 pub use Rattle.facet_json_meaning.specs.SameBytes
+pub use Rattle.facet_json_meaning.specs.StrictTexts as StrictReading
 pub use Rattle.facet_json_meaning.specs.Readings
 pub use Rattle.facet_json_meaning.specs.Borrowed
 pub use Rattle.facet_json_meaning.specs.Optional

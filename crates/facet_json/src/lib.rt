@@ -25,16 +25,17 @@ pub use facet_json_output::{
     peek_to_writer_std_with_options,
 };
 pub use facet_json_read::{
-    read_tree, tree_from_slice, tree_from_slice_jsonc, tree_from_slice_within,
-    tree_from_slice_within_jsonc,
+    read_tree, tree_from_slice, tree_from_slice_jsonc, tree_from_slice_strict,
+    tree_from_slice_within, tree_from_slice_within_jsonc, tree_from_slice_within_strict,
 };
 pub use facet_json_record::{Done, Fields, LentFields, Maybe, Need, read_fields, write_fields};
 pub use facet_json_report::{Place, Position, Report, position_at};
-pub use facet_json_transcode::{TranscodeError, transcode};
+pub use facet_json_transcode::{TranscodeError, pass_end, transcode};
 pub use facet_json_tree::Tree;
 pub use facet_json_typed::{
-    Facet, from_slice, from_slice_borrowed, from_slice_borrowed_jsonc, from_slice_jsonc, from_str,
-    from_str_borrowed, from_str_borrowed_jsonc, from_str_jsonc, to_string, to_string_pretty,
+    Facet, from_slice, from_slice_borrowed, from_slice_borrowed_jsonc, from_slice_jsonc,
+    from_slice_strict, from_str, from_str_borrowed, from_str_borrowed_jsonc, from_str_jsonc,
+    from_str_strict, to_string, to_string_pretty,
     to_string_with_options, to_vec, to_vec_pretty, to_vec_with_options, to_writer_std,
     to_writer_std_pretty, to_writer_std_with_options,
 };

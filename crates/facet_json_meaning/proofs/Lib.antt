@@ -5,5 +5,6 @@ pub mod Nullable
 pub mod Objects
 pub mod OfTrees
 pub mod Sequences
+pub mod StrictTexts
 pub mod WalkPlaces
 pub mod Walks

@@ -6,6 +6,7 @@ pub mod Objects
 pub mod Maps
 pub mod Laws
 pub mod SameBytes
+pub mod StrictTexts
 pub mod Borrowed
 pub mod Optional
 pub mod Peeking

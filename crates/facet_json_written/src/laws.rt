@@ -2,7 +2,7 @@
 
 ghost use Rattle.facet_json_written.specs.ReadBack.{IndentIsNotRead, OneReading, QuotedDecodesAlone, WrittenIsRead};
 ghost use Rattle.facet_json_written.specs.RfcLaws.{QuotedIsRfc, WrittenIsRfc};
-ghost use Rattle.facet_json_written.specs.StrictTexts.{WrittenIsStrict};
+ghost use Rattle.facet_json_written.specs.StrictTexts.{ReadableIsRfc, StrictIsRfc, WrittenIsStrict};
 
 /// What stands between the quotes of a written text decodes to this text, and to no other (RFC 8259, section 7).
 ///
@@ -52,4 +52,18 @@ pub fn written_is_rfc_text()
 /// which no strict parser reads.
 pub fn written_is_strict()
     ensures { WrittenIsStrict }
+{}
+
+/// The strict documents are the texts of RFC 8259 (sections 2 to 8) whose strings have a text and whose whole numbers lie within 128 bits. The
+/// grammar knows nothing of tokens, and shares no leaf with the reader.
+///
+/// So ` [1, "a"] ` is one; `[1,]`, `01` and a text with a tab between its quotes are none; and `"\ud800"` is a text of the RFC, but none with a
+/// text, since its surrogate stands alone.
+pub fn strict_is_rfc()
+    ensures { StrictIsRfc }
+{}
+
+/// A text of RFC 8259 whose strings have a text and whose whole numbers lie within 128 bits is one of RFC 8259.
+pub fn readable_is_rfc()
+    ensures { ReadableIsRfc }
 {}
