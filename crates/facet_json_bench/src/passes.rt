@@ -103,6 +103,16 @@ pub fn trusted(alloc: Global, input: &str, mode: Mode) -> Option<Seen> {
     events_left(&mut trusting(alloc, input, mode))
 }
 
+/// Each event of a text of RFC 8259 alone, from bytes.
+pub fn strict_events(alloc: Global, input: &[u8]) -> Option<Seen> {
+    events_left(&mut JsonParser::new_strict(alloc, input))
+}
+
+/// Each event of a text of RFC 8259 alone, from a text.
+pub fn strict_trusted(alloc: Global, input: &str) -> Option<Seen> {
+    events_left(&mut JsonParser::new_strict_trusted(alloc, input.as_bytes()))
+}
+
 /// The whole document as one value.
 pub fn skip(alloc: Global, input: &[u8], mode: Mode) -> Option<Seen> {
     match checking(alloc, input, mode).skip_value() {
