@@ -9,6 +9,7 @@ pub mod probing;
 pub mod records;
 pub mod reformat;
 pub mod scanning;
+pub mod strict;
 pub mod tokens;
 pub mod transcoding;
 pub mod trees;
