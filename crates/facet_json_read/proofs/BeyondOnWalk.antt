@@ -5,11 +5,15 @@ use Rattle.std.specs.Option.{option_or}
 use Rattle.facet_format.specs.Event.{struct_end, sequence_end}
 use Rattle.facet_json_document.specs.Node.{Node, Nodes, no_nodes, item, Members, no_members, member}
 use Rattle.facet_json_document.specs.Node as node
-use Rattle.facet_json_document.specs.Future.{Future, gives, events_before}
+use Rattle.facet_json_document.specs.Future.{Future, gives, finished, events_before}
 use Rattle.facet_json_document.specs.Walk.{walk, walk_items, walk_members, event_at}
 use Rattle.facet_json_document.proofs.WalkComes.{events_before-append}
 use Rattle.facet_json_read.specs.Depth.{first_beyond, first_beyond_items, first_beyond_members}
 use Rattle.facet_json_read.specs.Inner.Beyond.{beyond}
+
+or-none : {A : Type 0} (o : Option A) → option_or o None ≡ o
+or-none None = refl
+or-none (Some x) = refl
 
 or-assoc : {A : Type 0} (a b c : Option A) → option_or (option_or a b) c ≡ option_or a (option_or b c)
 or-assoc None b c = refl
@@ -20,7 +24,7 @@ module _ (buffer : List ℕ) where
     unfolding walk first_beyond
 
     -- On the walk of a value what is first beyond is its first bracket beyond, or what is so afterwards.
-    pub walk-beyond : (n : Node) (limit : ℕ) (rest : Future) →
+    walk-beyond : (n : Node) (limit : ℕ) (rest : Future) →
         beyond (events_before (walk buffer n) rest) (Some limit) ≡ option_or (first_beyond limit n) (beyond rest (Some limit))
     walk-beyond (node.scalar t) limit rest = refl
     walk-beyond (node.array first _ _) zero rest = refl
@@ -49,3 +53,8 @@ module _ (buffer : List ℕ) where
         ∙ walk-beyond n limit (events_before (walk_members buffer members) rest)
         ∙ ap (option_or (first_beyond limit n)) (members-beyond members limit rest)
         ∙ sym (or-assoc (first_beyond limit n) (first_beyond_members limit members) (beyond rest (Some limit)))
+
+-- On the walk of a value before the end it is the value's first bracket beyond.
+pub whole_walk-beyond : (buffer : List ℕ) (n : Node) (limit : ℕ) →
+    beyond (events_before (walk buffer n) finished) (Some limit) ≡ first_beyond limit n
+whole_walk-beyond buffer n limit = walk-beyond buffer n limit finished ∙ or-none (first_beyond limit n)

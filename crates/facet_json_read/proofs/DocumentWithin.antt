@@ -1,87 +1,72 @@
 -- From a reader of the value at the root within a depth to a reader of a document, in either mode.
-use Rattle.std.proofs.Common.{◌≡◌, ◌≤◌, ◌⊎◌, inl, inr, ℕ, List, Option, None, Some, refl, sym, ap, ◌∙◌, subst}
-use Rattle.std.specs.Option.{option_or}
+use Rattle.std.proofs.Common.{◌≡◌, ◌≤◌, ◌⊎◌, inl, inr, ℕ, List, Some, sym, ap, ◌∙◌, subst}
 use Rattle.facet_format.specs.Complaint.{Refusal}
 use Rattle.facet_format.specs.Span.{Span}
 use Rattle.facet_json_token.specs.Gap.{Mode}
 use Rattle.facet_json_document.specs.Node.{Node}
 use Rattle.facet_json_document.specs.Tree.{Tree}
 use Rattle.facet_json_document.specs.Document.{IsDocument}
-use Rattle.facet_json_document.specs.Future.{finished}
+use Rattle.facet_json_document.specs.Future.{finished, events_before}
+use Rattle.facet_json_document.specs.Walk.{walk}
 use Rattle.facet_json_protocol.specs.Now.{fresh, future_of}
 use Rattle.facet_json_prefix.specs.EventLaws.{RootComes, document_comes, prefix_comes}
 use Rattle.facet_json_protocol.proofs.StandsOnWalk.{fresh-stands}
 use Rattle.facet_json_prefix.proofs.LongestPrefix.{input-comes}
 use Rattle.facet_json_transcode.specs.Told.{Breaks}
 use Rattle.facet_json_transcode.specs.Reading.{LacksMemory}
-use Rattle.facet_json_transcode.proofs.DocumentFromRoot.{document-told, read-only, read-document, unread-only}
+use Rattle.facet_json_transcode.proofs.DocumentFromRoot.{read-only, read-document, unread-only}
 use Rattle.facet_json_transcode.proofs.PrefixBreaksOff.{begun-breaks}
 use Rattle.facet_json_read.specs.Depth.{depth_of, first_beyond, too_deep_at, RefusesWithin, has_none, in_document, in_prefix}
-use Rattle.facet_json_read.specs.Inner.Beyond.{beyond, IsReadWithin, as_ever, too_deep, IsValueUnreadWithin}
+use Rattle.facet_json_read.specs.Inner.Beyond.{IsReadWithin, as_ever, too_deep, beyond, IsValueUnreadWithin}
 use Rattle.facet_json_read.proofs.BeyondEvents.{stuck-beyond}
-use Rattle.facet_json_read.proofs.BeyondOnWalk.{walk-beyond}
-use Rattle.facet_json_read.proofs.DepthOfNodes.{none-shallow, shallow-none}
-
-or-none : {A : Type 0} (o : Option A) → option_or o None ≡ o
-or-none None = refl
-or-none (Some x) = refl
+use Rattle.facet_json_read.proofs.DepthOfNodes.{none-shallow}
+use Rattle.facet_json_read.proofs.WalkWithin.{comes-beyond, read-shallow, unread-shallow, unread-deep}
 
 module _ (buffer : List ℕ) (mode : Mode) (depth : ℕ) where
-  -- What is first beyond in an input with a document is the document's first bracket beyond.
-  document-beyond : (root : Node) (value : Tree) → IsDocument buffer mode root value →
-      beyond (future_of (fresh buffer mode)) (Some depth) ≡ first_beyond depth root
-  document-beyond root value d =
-      ap (λ f. beyond f (Some depth)) (fresh-stands buffer mode root value d).spot.place.comes ∙ walk-beyond buffer root depth finished
-      ∙ or-none (first_beyond depth root)
+  root-comes : (root : Node) (value : Tree) → IsDocument buffer mode root value →
+      future_of (fresh buffer mode) ≡ events_before (walk buffer root) finished
+  root-comes root value d = (fresh-stands buffer mode root value d).spot.place.comes
 
   -- ---- what is read
 
-  read-shallow : (t : Tree) → IsReadWithin depth (future_of (fresh buffer mode)) t → (root : Node) (value : Tree) →
-      IsDocument buffer mode root value → first_beyond depth root ≡ None
-  read-shallow t h root value d =
-      let over = (h.read.told value finished (document-told buffer mode root value d)).1 in
-      sym (document-beyond root value d) ∙ h.level.same ∙ ap (λ f. beyond f (Some depth)) over
-
   -- What is read is a document that nests no deeper.
-  pub read-document-within : (t : Tree) → IsReadWithin depth (future_of (fresh buffer mode)) t →
+  pub read-document-within : (t : Tree) → IsReadWithin (Some depth) (future_of (fresh buffer mode)) t →
       (root : Node) × IsDocument buffer mode root t × (depth_of root ≤ depth)
   read-document-within t h =
       let d = read-document buffer mode t h.behind h.read in
-      (d.0, d.1, none-shallow depth d.0 (read-shallow t h d.0 t d.1))
+      let none = read-shallow buffer depth d.0 t d.1.reads.has_tree _ (root-comes d.0 t d.1) t h in
+      (d.0, d.1, none-shallow depth d.0 none)
 
-  pub read-only-within : (t : Tree) → IsReadWithin depth (future_of (fresh buffer mode)) t → (root : Node) (value : Tree) →
+  -- What is read is the document's tree.
+  pub read-only-within : (t : Tree) → IsReadWithin (Some depth) (future_of (fresh buffer mode)) t → (root : Node) (value : Tree) →
       IsDocument buffer mode root value → t ≡ value
   read-only-within t h root value d = read-only buffer mode t h.behind h.read root value d
 
   -- No document that nests deeper is read.
-  pub read-no_deeper : (t : Tree) → IsReadWithin depth (future_of (fresh buffer mode)) t → (root : Node) (value : Tree) (s : Span) →
+  pub read-no_deeper : (t : Tree) → IsReadWithin (Some depth) (future_of (fresh buffer mode)) t → (root : Node) (value : Tree) (s : Span) →
       IsDocument buffer mode root value → first_beyond depth root ≡ Some s → ⊥
-  read-no_deeper t h root value s d e = let none = read-shallow t h root value d in cc
+  read-no_deeper t h root value s d e =
+      let none = read-shallow buffer depth root value d.reads.has_tree _ (root-comes root value d) t h in cc
 
   -- ---- what is refused
 
   -- Where there is a document that nests no deeper, only out of memory is refused.
   pub unread-only-within : (r : Refusal) → IsValueUnreadWithin (Some depth) buffer (future_of (fresh buffer mode)) r →
       (root : Node) (value : Tree) → IsDocument buffer mode root value → depth_of root ≤ depth → LacksMemory r
-  unread-only-within r (as_ever unread shallow) root value d h = unread-only buffer mode r unread root value d
-  unread-only-within r (too_deep span comes is) root value d h =
-      let same = document-beyond root value d in let none = shallow-none depth root h in cc
+  unread-only-within r unread root value d h = unread-shallow buffer depth root value d.reads.has_tree _ (root-comes root value d) r unread h
 
   -- Where the document nests deeper, its first bracket beyond is refused.
   pub unread-deeper : (r : Refusal) → IsValueUnreadWithin (Some depth) buffer (future_of (fresh buffer mode)) r →
       (root : Node) (value : Tree) (s : Span) → IsDocument buffer mode root value → first_beyond depth root ≡ Some s →
       LacksMemory r ⊎ (r ≡ too_deep_at s)
-  unread-deeper r (as_ever unread shallow) root value s d e = inl (unread-only buffer mode r unread root value d)
-  unread-deeper r (too_deep span comes is) root value s d e =
-      let same = document-beyond root value d in
-      let one : span ≡ s = cc in
-      inr (is ∙ ap too_deep_at one)
+  unread-deeper r unread root value s d e = unread-deep buffer depth root value d.reads.has_tree _ (root-comes root value d) r unread s e
 
   refused_by : (r : Refusal) → IsValueUnreadWithin (Some depth) buffer (future_of (fresh buffer mode)) r → RootComes buffer mode →
       LacksMemory r ⊎ RefusesWithin buffer mode depth r
   refused_by r (as_ever unread shallow) (document_comes node value d comes) = inl (unread-only buffer mode r unread node value d)
   refused_by r (too_deep span comes is) (document_comes node value d e) =
-      inr (in_document node value span d (sym (document-beyond node value d) ∙ comes) is)
+      let same = comes-beyond buffer depth node value d.reads.has_tree _ (root-comes node value d) in
+      inr (in_document node value span d (sym same ∙ comes) is)
   refused_by r (as_ever unread shallow) (prefix_comes events here left prefix e) =
       let broken : Breaks here left (future_of (fresh buffer mode)) = subst (λ f. Breaks here left f) (sym e) (begun-breaks buffer prefix.begun) in
       let same = ap (λ f. beyond f (Some depth)) e ∙ stuck-beyond events here left (Some depth) in

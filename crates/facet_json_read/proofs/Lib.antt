@@ -8,4 +8,6 @@ pub mod MembersRead
 pub mod MovingOn
 pub mod ReadingValues
 pub mod ReadingWithin
+pub mod StrictWithin
 pub mod ValuesBegin
+pub mod WalkWithin

@@ -1,9 +1,10 @@
 -- How a reader of a tree moves its parser on, event by event.
-use Rattle.std.proofs.Common.{Some, Ok, refl}
+use Rattle.std.proofs.Common.{Some, Ok, refl, arith}
 use Rattle.facet_format.specs.Event.{Event}
 use Rattle.facet_format.specs.Cursor.{next, event}
 use Rattle.facet_format.specs.Standing.{IsStep}
 use Rattle.facet_json_protocol.specs.Now.{Now, StandsAt}
+use Rattle.facet_json_protocol.proofs.CallsLead.{none-lead}
 use Rattle.facet_json_meaning.specs.Nodes.{KeepsOn}
 use Rattle.facet_json_meaning.specs.Passing.{MovesOn}
 use Rattle.facet_json_meaning.proofs.Keeping.{keeps-then}
@@ -26,6 +27,15 @@ pub leads-behind : {a b c d : Now} → LeadsOn a b → MovesOn b c → LeadsOn c
 leads-behind first moved last before to_a = last before (leads-past first moved before to_a)
 
 -- ---- what is kept
+
+-- A parser to which nothing is done keeps its points.
+pub keeps-none : {now : Now} → KeepsOn now now
+keeps-none {now = now} = record {
+  input = record { buffer = refl; language = refl };
+  kept = λ point spot e. e;
+  onward = omega arith;
+  by_calls = none-lead now;
+}
 
 -- A parser that goes on three times keeps its points.
 pub keeps-behind : {a b c d : Now} → KeepsOn a b → KeepsOn b c → KeepsOn c d → KeepsOn a d

@@ -135,6 +135,7 @@ pub(crate) fn read_value<'t>(
     ensures shorter { OnOk result (ahead parser.new < ahead parser.old) }
     ensures told { IfOk result (λ t. IsValueRead (future_of parser.old) (tree_view t) (future_of parser.new)) }
     ensures level { OnOk result (SameBeyond (future_of parser.old) depth (future_of parser.new) depth) }
+    ensures free { OnOk result (parser.new.cursor.refusal ≡ None) }
     ensures refused { parser.old.cursor.refusal ≡ None → IfErr result (λ e. IsValueUnreadWithin depth parser.old.buffer (future_of parser.old) (refusal_of e)) }
     ensures within { IfErr result (λ e. IfSome e.span (λ s. s.offset + s.len ≤ length parser.new.buffer)) }
 {

@@ -84,7 +84,7 @@ fn document_within<'t>(
     depth: usize,
 ) -> Result<Tree, DeserializeError<'t>>
     requires free { parser.cursor.refusal ≡ None }
-    ensures read { IfOk result (λ t. IsReadWithin depth (future_of parser.entry) (tree_view t)) }
+    ensures read { IfOk result (λ t. IsReadWithin (Some depth) (future_of parser.entry) (tree_view t)) }
     ensures refused { IfErr result (λ e. IsValueUnreadWithin (Some depth) parser.entry.buffer (future_of parser.entry) (refusal_of e)) }
     ensures within { IfErr result (λ e. IfSome e.span (λ s. s.offset + s.len ≤ length parser.entry.buffer)) }
 {

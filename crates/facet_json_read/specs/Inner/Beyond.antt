@@ -44,7 +44,17 @@ abbrev pub IsValueUnreadWithin : Option ℕ → List ℕ → Future → Refusal 
 IsValueUnreadWithin limit = IsUnreadWithin limit Tree Tells Breaks
 
 -- The value was read, and from its start on the same is beyond as after it.
-pub record IsReadWithin (depth : ℕ) (start : Future) (value : Tree) : Type 0 where
+pub record IsReadWithin (limit : Option ℕ) (start : Future) (value : Tree) : Type 0 where
   pub behind : Future
   pub read : IsValueRead start value behind
-  pub level : SameBeyond start (Some depth) behind (Some depth)
+  pub level : SameBeyond start limit behind limit
+
+-- The value was read so, and behind it is the end.
+pub record IsAllRead (limit : Option ℕ) (start : Future) (value : Tree) : Type 0 where
+  pub first : IsReadWithin limit start value
+  pub over : first.behind ≡ finished
+
+-- The value was refused; or it was read, and behind it is not the end.
+pub data IsNotAllRead (limit : Option ℕ) (buffer : List ℕ) (start : Future) (refusal : Refusal) : Type 0 where
+  no_value : IsValueUnreadWithin limit buffer start refusal → IsNotAllRead limit buffer start refusal
+  not_over : (value : Tree) (first : IsReadWithin limit start value) → first.behind ≢ finished → IsNotAllRead limit buffer start refusal

@@ -1,13 +1,14 @@
-use Rattle.std.proofs.Common.{◌∙◌, ap}
+use Rattle.std.proofs.Common.{◌∙◌, ap, rules}
 use Rattle.std.proofs.lemmas.List.{map-append}
 use Rattle.std.proofs.lemmas.Option.{MatchOption-at_none, MatchOption-at_some}
 use Rattle.std.proofs.lemmas.Result.{err_from_is_err_and}
+use Rattle.facet_json_meaning.proofs.Keeping.{keeps-then}
 use Rattle.facet_json_tree.specs.Views.{tree_view}
 use Rattle.facet_json_tree.proofs.TreeViews.{tree_view-List, tree_view-Pairs, trees_view-none, pairs_view-none}
 use Rattle.facet_json_read.proofs.ReadingValues.{read-at, went-behind}
 use Rattle.facet_json_read.proofs.ItemsRead.{items-closed, item-passed}
 use Rattle.facet_json_read.proofs.MembersRead.{pairs_before-none, members-closed, member-passed}
-use Rattle.facet_json_read.proofs.MovingOn.{leads-past, leads-behind, keeps-behind}
+use Rattle.facet_json_read.proofs.MovingOn.{leads-past, leads-behind, keeps-none, keeps-behind}
 use Rattle.facet_json_read.proofs.ReadingWithin.{within-same, within-at, item-within, items-within, member-within, members-within, list-leveled, object-leveled, list-unfilled, object-unfilled}
 use Rattle.facet_json_read.proofs.BeyondEvents.{item-leveled, member-leveled, items-leveled, members-leveled}
 use Rattle.facet_json_read.proofs.ValuesBegin.{begun-no_end, list-filled, object-filled}
@@ -48,6 +49,9 @@ pub finish-returns-in_ok-push_members-in-Pairs-clause-level : goal.finish-return
 finish-returns-in_ok-push_members-in-Pairs-clause-level t c =
     let seen = ap tree_view c.in-Pairs.is ∙ tree_view-Pairs _ in
     rw seen (object-leveled c.args.depth _ _ _ (rw c.inner-in-Pairs.ensures at c.in_ok-push_members-in-Pairs.ensures.level))
+
+pub finish-returns-in_default-clause-keeps : goal.finish-returns-in_default-clause-keeps
+finish-returns-in_default-clause-keeps t c = keeps-none
 
 -- ---- items
 
@@ -91,6 +95,29 @@ pub push_items-returns-clause-level : goal.push_items-returns-clause-level
 push_items-returns-clause-level t c =
     let last = MatchOption-at_none _ _ c.in_default.is c.in_ok-item.ensures.begun in
     items-leveled c.loop-item.invariant.level last.comes last.ends
+
+pub push_items-loop-item-init : goal.push_items-loop-item-init
+push_items-loop-item-init t c = record {
+  keeps = keeps-none;
+  leads = search rules;
+  went = search rules;
+  level = search rules;
+  passed = search rules;
+}
+
+pub push_items-returns-in_err-item-clause-keeps : goal.push_items-returns-in_err-item-clause-keeps
+push_items-returns-in_err-item-clause-keeps t c = keeps-then _ _ _ c.loop-item.invariant.keeps c.begin_item.ensures.keeps
+
+pub push_items-returns-in_err-finish-clause-keeps : goal.push_items-returns-in_err-finish-clause-keeps
+push_items-returns-in_err-finish-clause-keeps t c =
+    keeps-behind c.loop-item.invariant.keeps c.begin_item.ensures.keeps c.finish.ensures.keeps
+
+pub push_items-returns-in_err-append-clause-keeps : goal.push_items-returns-in_err-append-clause-keeps
+push_items-returns-in_err-append-clause-keeps t c =
+    keeps-behind c.loop-item.invariant.keeps c.begin_item.ensures.keeps c.finish.ensures.keeps
+
+pub push_items-returns-clause-keeps : goal.push_items-returns-clause-keeps
+push_items-returns-clause-keeps t c = keeps-then _ _ _ c.loop-item.invariant.keeps c.begin_item.ensures.keeps
 
 -- ---- members
 
@@ -137,3 +164,26 @@ pub push_members-returns-clause-level : goal.push_members-returns-clause-level
 push_members-returns-clause-level t c =
     let last = MatchOption-at_none _ _ c.in_default.is c.in_ok-key.ensures.begun in
     members-leveled c.loop-key.invariant.level last.comes last.ends
+
+pub push_members-loop-key-init : goal.push_members-loop-key-init
+push_members-loop-key-init t c = record {
+  keeps = keeps-none;
+  leads = search rules;
+  went = search rules;
+  level = search rules;
+  passed = search rules;
+}
+
+pub push_members-returns-in_err-key-clause-keeps : goal.push_members-returns-in_err-key-clause-keeps
+push_members-returns-in_err-key-clause-keeps t c = keeps-then _ _ _ c.loop-key.invariant.keeps c.begin_member.ensures.keeps
+
+pub push_members-returns-in_err-finish-clause-keeps : goal.push_members-returns-in_err-finish-clause-keeps
+push_members-returns-in_err-finish-clause-keeps t c =
+    keeps-behind c.loop-key.invariant.keeps c.begin_member.ensures.keeps c.finish.ensures.keeps
+
+pub push_members-returns-in_err-append-clause-keeps : goal.push_members-returns-in_err-append-clause-keeps
+push_members-returns-in_err-append-clause-keeps t c =
+    keeps-behind c.loop-key.invariant.keeps c.begin_member.ensures.keeps c.finish.ensures.keeps
+
+pub push_members-returns-clause-keeps : goal.push_members-returns-clause-keeps
+push_members-returns-clause-keeps t c = keeps-then _ _ _ c.loop-key.invariant.keeps c.begin_member.ensures.keeps

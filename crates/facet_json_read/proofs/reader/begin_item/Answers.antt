@@ -25,6 +25,9 @@ returns-in_err-begun-clause-within c =
     let inside = c.in_ok-first.ensures.event_within in
     rw (p.1, p.2) (span-within _ _ _ c.in_err-begun.ensures.span inside)
 
+pub returns-in-SequenceEnd-clause-moves : goal.returns-in-SequenceEnd-clause-moves
+returns-in-SequenceEnd-clause-moves c = moves-next c.in_ok-first.ensures.steps
+
 pub returns : goal.returns
 returns c = record {
   keeps = goes-keeps _ _ c.next_of_value.ensures.onward;

@@ -4,7 +4,9 @@ use Rattle.std.proofs.lemmas.Result.{err_from_is_err_and}
 use Rattle.facet_json_read.proofs.BeyondEvents.{none-leveled}
 use Rattle.facet_json_read.proofs.MembersRead.{members-none}
 use Rattle.facet_json_read.proofs.ReadingWithin.{within-same, lacks-within, none-members-within, no_key-within, member-within}
+use Rattle.facet_json_meaning.proofs.Keeping.{keeps-then}
 use Rattle.facet_json_meaning.proofs.OfTrees.TreeOnWalk.{moves_trans}
+use Rattle.facet_json_meaning.proofs.Walks.NextOnWalk.{goes-keeps}
 use Rattle.facet_json_read.proofs.MovingOn.{moves-next}
 use Rattle.facet_json_read.proofs.reader.begin_member.Goals as goal
 
@@ -33,3 +35,14 @@ returns-in_err-begin_value-in-Some-clause-refused c =
 pub returns-in_ok-begin_value-in-Some-clause-moves : goal.returns-in_ok-begin_value-in-Some-clause-moves
 returns-in_ok-begin_value-in-Some-clause-moves c =
     moves_trans _ _ _ (moves-next c.in_ok-next_of_value.ensures.steps) c.in_ok-begin_value-in-Some.ensures.moves
+
+pub returns-in_err-begin_value-in-Some-clause-keeps : goal.returns-in_err-begin_value-in-Some-clause-keeps
+returns-in_err-begin_value-in-Some-clause-keeps c =
+    keeps-then _ _ _ (goes-keeps _ _ c.next_of_value.ensures.onward) c.begin_value.ensures.keeps
+
+pub returns-in_ok-begin_value-in-Some-clause-keeps : goal.returns-in_ok-begin_value-in-Some-clause-keeps
+returns-in_ok-begin_value-in-Some-clause-keeps c =
+    keeps-then _ _ _ (goes-keeps _ _ c.next_of_value.ensures.onward) c.begin_value.ensures.keeps
+
+pub returns-in-None-clause-moves : goal.returns-in-None-clause-moves
+returns-in-None-clause-moves c = moves-next c.in_ok-next_of_value.ensures.steps

@@ -30,7 +30,7 @@ returns-clause-document c =
 
 pub returns-clause-strict : goal.returns-clause-strict
 returns-clause-strict c =
-    IfOk-weaker c.read_value.result _ _ (λ t h. strict_of_told _ _ t h) c.read_value.ensures.told
+    IfOk-weaker c.read_value.result _ _ (λ t h. strict_of_told _ c.read_value.new.parser _ h) c.read_value.ensures.told
 
 pub returns-clause-refused : goal.returns-clause-refused
 returns-clause-refused c free =

@@ -23,6 +23,9 @@ returns-clause-level c =
     let first = c.in_ok-first.ensures.begun in
     IfOk-weaker c.finish.result _ _ (λ t h. value-leveled first.comes (h first.passed first.begun)) c.finish.ensures.level
 
+pub returns-clause-free : goal.returns-clause-free
+returns-clause-free c = IfOk-weaker c.finish.result _ _ (λ t went. went.free) c.finish.ensures.went
+
 pub returns-clause-refused : goal.returns-clause-refused
 returns-clause-refused c free =
     let first = c.in_ok-first.ensures.begun in
