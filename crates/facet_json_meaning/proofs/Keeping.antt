@@ -1,7 +1,6 @@
 -- A parser that goes on twice.
 use Rattle.std.proofs.Common.{◌∙◌, ◌≤◌, arith}
 use Rattle.facet_json_protocol.specs.Now.{Now, ahead}
-use Rattle.facet_json_protocol.proofs.CallsLead.{leads-then}
 use Rattle.facet_json_meaning.specs.Nodes.{KeepsOn}
 
 pub keeps-then : (old now new : Now) → KeepsOn old now → KeepsOn now new → KeepsOn old new
@@ -12,5 +11,5 @@ keeps-then old now new first second = record {
       let one : ahead now ≤ ahead old = first.onward in
       let two : ahead new ≤ ahead now = second.onward in
       omega arith;
-  by_calls = leads-then old now new first.input first.by_calls second.by_calls;
+  by_calls = λ start led. second.by_calls start (first.by_calls start led);
 }

@@ -34,12 +34,13 @@ pub record StandsAfter (now : Now) (w : Source) (c : Cursor ℕ) (node : Node) :
   pub there : cursor.spot ≡ unpeeked (c.spot.place + length (walk w.bytes node))
   pub kept : (point : ℕ) (spot : Spot ℕ) → found point c.kept ≡ Some spot → found point cursor.kept ≡ Some spot
 
--- The input, the language and the points that were kept stay, and no more bytes are ahead; what else is done to the parser is done by calls.
+-- The input, the language and the points that were kept stay, and no more bytes are ahead. Where calls led to the old one, calls lead to the
+-- new one: nothing else is done to the parser.
 pub record KeepsOn (old new : Now) : Type 0 where
   pub input : SameInput old new
   pub kept : (point : ℕ) (spot : Spot Standing) → found point old.cursor.kept ≡ Some spot → found point new.cursor.kept ≡ Some spot
   pub onward : ahead new ≤ ahead old
-  pub by_calls : LeadsTo old new
+  pub by_calls : (first : Now) → LeadsTo first old → LeadsTo first new
 
 -- ---- nodes of the same text
 

@@ -15,7 +15,6 @@ use Rattle.facet_format.specs.Span.{Span}
 use Rattle.facet_json_document.specs.Language.{Language}
 use Rattle.facet_json_document.specs.InputPlace.{Standing}
 use Rattle.facet_json_protocol.specs.Now.{Now, on_input, span_of, ahead, GoesOn}
-use Rattle.facet_json_protocol.proofs.CallsLead.{none-lead}
 use Rattle.facet_json_protocol.specs.Move.{Moves}
 use Rattle.facet_json_protocol.specs.Within.{StandsWithin, RefusalWithin, NowWithin, AnswerWithin, no_events}
 use Rattle.facet_json_protocol.proofs.MoveLaws.{with_cursor, same_cursor-is}
@@ -116,7 +115,7 @@ batch-goes_on old new zero answer known move =
       input = record { buffer = refl; language = refl };
       points = record { kept = refl; counter = refl };
       onward = omega arith;
-      by_calls = none-lead old;
+      by_calls = λ first led. led;
     })
 batch-goes_on old new (suc k) answer known move = moves-goes_on old (known (omega arith)) new refl move
 

@@ -71,16 +71,20 @@ pub record SamePoints (old new : Now) : Type 0 where
   pub kept : new.cursor.kept ≡ old.cursor.kept
   pub counter : new.cursor.counter ≡ old.cursor.counter
 
--- Calls lead from the one to the other, however they are answered.
-abbrev pub LeadsTo : Now → Now → Type 0
-LeadsTo old new = (calls : List Call) × (answers : List Answer) × Run (on_input old.buffer old.language) old.cursor calls answers new.cursor
+-- Calls lead from the first to this one, however they are answered.
+pub record LeadsTo (first now : Now) : Type 0 where
+  pub input : SameInput first now
+  pub calls : List Call
+  pub answers : List Answer
+  pub run : Run (on_input first.buffer first.language) first.cursor calls answers now.cursor
 
--- The input, the language and the points stay, and no more bytes are ahead; what else is done to the parser is done by calls.
+-- The input, the language and the points stay, and no more bytes are ahead. Where calls led to the old one, calls lead to the new one: nothing
+-- else is done to it.
 pub record GoesOn (old new : Now) : Type 0 where
   pub input : SameInput old new
   pub points : SamePoints old new
   pub onward : ahead new ≤ ahead old
-  pub by_calls : LeadsTo old new
+  pub by_calls : (first : Now) → LeadsTo first old → LeadsTo first new
 
 -- ---- where it stands on a document's walk
 

@@ -4,7 +4,6 @@ use Rattle.facet_format.specs.Event.{Event}
 use Rattle.facet_format.specs.Cursor.{next, event}
 use Rattle.facet_format.specs.Standing.{IsStep}
 use Rattle.facet_json_protocol.specs.Now.{Now, StandsAt}
-use Rattle.facet_json_protocol.proofs.CallsLead.{none-lead}
 use Rattle.facet_json_meaning.specs.Nodes.{KeepsOn}
 use Rattle.facet_json_meaning.specs.Passing.{MovesOn}
 use Rattle.facet_json_meaning.proofs.Keeping.{keeps-then}
@@ -34,7 +33,7 @@ keeps-none {now = now} = record {
   input = record { buffer = refl; language = refl };
   kept = λ point spot e. e;
   onward = omega arith;
-  by_calls = none-lead now;
+  by_calls = λ first led. led;
 }
 
 -- A parser that goes on three times keeps its points.

@@ -13,6 +13,7 @@ use Rattle.facet_json_document.specs.Walk.{walk, source_of}
 use Rattle.facet_json_protocol.specs.Now.{Now, fresh_in, future_of}
 use Rattle.facet_json_protocol.specs.OneRun.{IsOneRun}
 use Rattle.facet_json_protocol.specs.Within.{RefusalWithin}
+use Rattle.facet_json_protocol.proofs.CallsLead.{none-lead, led-moves}
 use Rattle.facet_json_protocol.proofs.OneRun.EndsAtRun.{ends_at_run}
 use Rattle.facet_json_protocol.proofs.StrictAnswered.{strict-stands}
 use Rattle.facet_json_meaning.specs.Nodes.{StandsBefore, KeepsOn}
@@ -56,5 +57,7 @@ module _ (input : List ℕ) (old : Now) (is_new : old ≡ fresh_in input (strict
   -- The whole input is one run, where nothing is left behind what was read.
   pub one_run-from : (mid : Now) → KeepsOn old mid → future_of mid ≡ finished → IsOneRun input plain
   one_run-from mid keeps over =
-      let from : KeepsOn (fresh_in input (strict plain)) mid = subst (λ now. KeepsOn now mid) is_new keeps in
-      ends_at_run input plain mid from.by_calls.0 from.by_calls.1 (record { input = from.input; run = from.by_calls.2 }) over
+      let first = fresh_in input (strict plain) in
+      let from : KeepsOn first mid = subst (λ now. KeepsOn now mid) is_new keeps in
+      let led = from.by_calls first (none-lead first) in
+      ends_at_run input plain mid led.calls led.answers (led-moves first mid led) over
