@@ -1,4 +1,4 @@
-//! The parser of JSON documents by events, `JsonParser` (RFC 8259, with lenient readings, and JSONC comments), and `drive`,
+//! The parser of JSON documents by events, `JsonParser` (RFC 8259, alone or with lenient readings, and JSONC comments), and `drive`,
 //! which makes a list of its calls; the serializer, `JsonSerializer`, which writes call by call, and its options; `RawJson`,
 //! JSON text that is kept as it stands; and `JsonError`, the error that a person reads. `laws` has what shows the definitions of documents, parsers and serializers right.
 #![tactic(auto)]

@@ -1,5 +1,5 @@
 //! A value from a parser to a serializer, event by event: `transcode`. Which values events tell stands in `specs/`, and how the
-//! next event of a value is read in `next`: the reader of trees goes by both.
+//! next event of a value is read, and the end behind a root (`pass_end`), in `next`: the reader of trees goes by both.
 #![tactic(auto)]
 
 mod error;

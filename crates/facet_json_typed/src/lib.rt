@@ -1,5 +1,5 @@
-//! Values of every type with `Facet` from JSON text, and back: `from_slice` and its kin read a value, `to_vec`, `to_writer_std` and their kin write one. The trait itself
-//! is of `facet_json_facet`, which has the types of std and of this library.
+//! Values of every type with `Facet` from JSON text, and back: `from_slice` and its kin read a value, `from_slice_strict` and `from_str_strict` one from a text of RFC 8259
+//! alone, `to_vec`, `to_writer_std` and their kin write one. The trait itself is of `facet_json_facet`, which has the types of std and of this library.
 #![tactic(auto)]
 
 mod reading;
