@@ -61,3 +61,7 @@ module _ (input : List ℕ) (old : Now) (is_new : old ≡ fresh_in input (strict
       let from : KeepsOn first mid = subst (λ now. KeepsOn now mid) is_new keeps in
       let led = from.by_calls first (none-lead first) in
       ends_at_run input plain mid led.calls led.answers (led-moves first mid led) over
+
+  -- A refusal within what a reader left of the input is within the input.
+  pub within-strictly : (new : Now) → new.buffer ≡ old.buffer → (refusal : Refusal) → RefusalWithin new.buffer refusal → RefusalWithin input refusal
+  within-strictly new kept refusal = subst (λ b. RefusalWithin b refusal) (kept ∙ ap (λ (now : Now). now.buffer) is_new)

@@ -41,7 +41,7 @@ pub fn from_slice_strict<'t, 'de, T: Facet<'de>>(
     ensures one_run { OnOk result (IsOneRun input.now plain) }
     ensures within { IfErr result (λ e. RefusalWithin input.now (refusal_of e)) }
 {
-    whole_value(alloc, JsonParser::new_strict(alloc, input))
+    whole_value(alloc, &mut JsonParser::new_strict(alloc, input))
 }
 
 /// Reads a value as `from_slice_strict`, from a text, which is known to be UTF-8.
@@ -65,25 +65,25 @@ pub fn from_str_strict<'t, 'de, T: Facet<'de>>(
     ensures within { IfErr result (λ e. RefusalWithin input.now (refusal_of e)) }
 {
     let bytes = input.as_bytes();
-    whole_value(alloc, JsonParser::new_strict_trusted(alloc, bytes))
+    whole_value(alloc, &mut JsonParser::new_strict_trusted(alloc, bytes))
 }
 
 /// Reads the value before which a new strict parser stands, and then the end.
 fn whole_value<'t, 'de, T: Facet<'de>>(
     alloc: Global,
-    mut parser: JsonParser<'de>,
+    parser: &mut JsonParser<'de>,
 ) -> Result<T, DeserializeError<'t>>
-    ensures read { (input : List ℕ) → parser.entry ≡ fresh_in input (strict plain)
+    ensures read { (input : List ℕ) → parser.old ≡ fresh_in input (strict plain)
         → IfOk result (λ v. IsReadStrictly T.reading input (T.view v)) }
-    ensures unread { (input : List ℕ) → parser.entry ≡ fresh_in input (strict plain)
+    ensures unread { (input : List ℕ) → parser.old ≡ fresh_in input (strict plain)
         → IfErr result (λ e. IsUnreadStrictly T.reading input (refusal_of e)) }
-    ensures document { (input : List ℕ) → parser.entry ≡ fresh_in input (strict plain)
+    ensures document { (input : List ℕ) → parser.old ≡ fresh_in input (strict plain)
         → T.whole ≡ true → OnOk result (IsStrict input) }
-    ensures one_run { (input : List ℕ) → parser.entry ≡ fresh_in input (strict plain) → OnOk result (IsOneRun input plain) }
-    ensures within { (input : List ℕ) → parser.entry ≡ fresh_in input (strict plain)
+    ensures one_run { (input : List ℕ) → parser.old ≡ fresh_in input (strict plain) → OnOk result (IsOneRun input plain) }
+    ensures within { (input : List ℕ) → parser.old ≡ fresh_in input (strict plain)
         → IfErr result (λ e. RefusalWithin input (refusal_of e)) }
 {
-    let value = T::read_owned(alloc, &mut parser)?;
-    pass_end(&mut parser)?;
+    let value = T::read_owned(alloc, parser)?;
+    pass_end(parser)?;
     Ok(value)
 }
