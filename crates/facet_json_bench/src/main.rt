@@ -1,6 +1,7 @@
 //! Does a work with the JSON text on the standard input as often as it is told, and prints the shortest time that one took in nanoseconds, and
 //! what it passed; `bench/run` sets these times beside those of other libraries. Without arguments each work but `typed` is done once, and what it
-//! passed is printed and no time. The arguments are the work's name and the number of rounds, and `jsonc` after them where the text has comments.
+//! passed is printed and no time. The arguments are the work's name and the number of rounds, and after them `jsonc` where the text has comments, or
+//! `strict` where `events` or `trusted` shall read RFC 8259 alone.
 #![tactic(auto)]
 
 mod accounts;
@@ -10,7 +11,7 @@ mod trees;
 mod work;
 
 use crate::seen::Seen;
-use crate::work::{GENERAL, Order, work_of};
+use crate::work::{GENERAL, Order, Work, strict_work_of, work_of};
 use facet_json::scanner::Mode;
 use std::alloc::{AllocError, Global};
 use std::hint::black_box;
@@ -60,16 +61,26 @@ fn show(rt: &HostRuntime, input: &str) -> io::Result<()> {
     rt.stdout().write_all(told.as_bytes())
 }
 
+/// The work of this name and the mode of its input, by the word that stands behind the rounds.
+fn asked(name: &str, word: Option<&str>) -> Option<(Work, Mode)> {
+    match word {
+        None => Some((work_of(name)?, Mode::Plain)),
+        Some("jsonc") => Some((work_of(name)?, Mode::Jsonc)),
+        Some("strict") => Some((strict_work_of(name)?, Mode::Plain)),
+        Some(_) => None,
+    }
+}
+
 /// Measures the work of this name so many times.
 fn measure_named(
     rt: &HostRuntime,
     name: &str,
     rounds: &str,
-    mode: Mode,
+    word: Option<&str>,
     input: &str,
 ) -> io::Result<()> {
-    match (work_of(name), rounds.parse()) {
-        (Some(work), Ok(rounds)) => {
+    match (asked(name, word), rounds.parse()) {
+        (Some((work, mode)), Ok(rounds)) => {
             measure(rt, &Order::new(rt.alloc(), work, mode, input), rounds)
         }
         _ => Err(io::Error::from(ErrorKind::InvalidInput)),
@@ -85,10 +96,14 @@ fn main(rt: HostRuntime) -> io::Result<()> {
     };
     match words.as_slice() {
         [] => show(&rt, input),
-        [name, rounds] => measure_named(&rt, name.as_str(), rounds.as_str(), Mode::Plain, input),
-        [name, rounds, mode] if mode.as_str() == "jsonc" => {
-            measure_named(&rt, name.as_str(), rounds.as_str(), Mode::Jsonc, input)
-        }
+        [name, rounds] => measure_named(&rt, name.as_str(), rounds.as_str(), None, input),
+        [name, rounds, word] => measure_named(
+            &rt,
+            name.as_str(),
+            rounds.as_str(),
+            Some(word.as_str()),
+            input,
+        ),
         _ => Err(io::Error::from(ErrorKind::InvalidInput)),
     }
 }

@@ -1,7 +1,7 @@
 //! What can be done with a text, and the names of it.
 
 use crate::accounts::typed;
-use crate::passes::{events, scanned, skip, tokens, trusted};
+use crate::passes::{events, scanned, skip, strict_events, strict_trusted, tokens, trusted};
 use crate::seen::Seen;
 use crate::trees::{text, tree, tree_of};
 use facet_json::Tree;
@@ -21,6 +21,10 @@ pub enum Work {
     Events,
     /// Each event, from a text.
     Trusted,
+    /// Each event in strict mode, from bytes.
+    StrictEvents,
+    /// Each event in strict mode, from a text.
+    StrictTrusted,
     /// A tree is read and dropped.
     Tree,
     /// A tree is written.
@@ -55,12 +59,21 @@ pub fn work_of(name: &str) -> Option<Work> {
     }
 }
 
+/// The work of this name in strict mode, where there is one.
+pub fn strict_work_of(name: &str) -> Option<Work> {
+    match name {
+        "events" => Some(Work::StrictEvents),
+        "trusted" => Some(Work::StrictTrusted),
+        _ => None,
+    }
+}
+
 /// What is to be done, and with what.
 #[derive(Drop)]
 pub struct Order<'i> {
     /// The work.
     pub work: Work,
-    /// The language that the input is in.
+    /// What may stand between the input's tokens.
     pub mode: Mode,
     /// The document.
     pub input: &'i str,
@@ -92,6 +105,8 @@ impl<'i> Order<'i> {
             Work::Skip => skip(alloc, input, self.mode),
             Work::Events => events(alloc, input, self.mode),
             Work::Trusted => trusted(alloc, self.input, self.mode),
+            Work::StrictEvents => strict_events(alloc, input),
+            Work::StrictTrusted => strict_trusted(alloc, self.input),
             Work::Tree => tree(alloc, input, self.mode),
             Work::Typed => typed(alloc, input, self.mode),
             Work::Text => match &self.tree {
