@@ -11,9 +11,9 @@ ghost use Rattle.facet_json_plain.specs.Values.{IsScalarThere};
 
 use crate::whole::whole_number;
 use facet_format::ScalarValue;
-use facet_format::numeral::parts_at;
+use facet_format::numeral::{Parts, parts_at};
 use facet_json_number::{ParsedNumber, parse_measured};
-use facet_json_strict::check_number_strict;
+use facet_json_strict::has_rfc_parts;
 
 /// The length and the value of the number at `at`, of which this is the first byte, where it takes no memory.
 #[inline(always)]
@@ -73,11 +73,11 @@ fn measured_number_strict<'de>(
     requires number { start_of first ≡ opens_number }
     ensures { IfSome result (λ r. IsScalarThere input.now at r.0 (scalar_value_of r.1)) }
 {
-    let (len, value) = measured_number(input, at, first)?;
-    match check_number_strict(input, at, at + len) {
-        Ok(()) => Some((len, value)),
-        Err(_) => None,
+    let parts = parts_at(input, at);
+    if !has_rfc_parts(parts, &input[at..]) {
+        return None;
     }
+    value_of_parts(input, at, parts)
 }
 
 /// The same for each number, part by part.
@@ -87,7 +87,16 @@ fn measured_number<'de>(input: &'de [u8], at: usize, first: u8) -> Option<(usize
     requires number { start_of first ≡ opens_number }
     ensures { IfSome result (λ r. IsScalarThere input.now at r.0 (scalar_value_of r.1)) }
 {
-    let parts = parts_at(input, at);
+    value_of_parts(input, at, parts_at(input, at))
+}
+
+/// The same of the number at `at` that has these parts.
+#[inline(always)]
+fn value_of_parts<'de>(
+    input: &'de [u8],
+    at: usize,
+    parts: Parts,
+) -> Option<(usize, ScalarValue<'de>)> {
     let len = parts.len();
     if parts.is_bare() {
         return None;
