@@ -9,7 +9,7 @@ ghost use Rattle.facet_json_token.specs.Views.{mode_of, kind_of, scanned};
 ghost use Rattle.facet_json_document.specs.Language.{strict, gaps, rules};
 ghost use Rattle.facet_json_document.specs.Place.{led};
 ghost use Rattle.facet_json_document.specs.StrictTokens.{Allows, cut_in};
-ghost use Rattle.facet_json_place.specs.Views.{language_of, place_of, HasSlices, IsJudged};
+ghost use Rattle.facet_json_place.specs.Views.{language_of, least_of, place_of, HasSlices, IsJudged};
 
 use crate::place::Place;
 use facet_json_strict::{check_number_strict, check_string_strict};
@@ -53,7 +53,9 @@ impl Language {
 
     /// The least byte that may stand in a text unescaped.
     #[inline(always)]
-    pub fn least(self) -> u8 {
+    pub fn least(self) -> u8
+        ensures { result ≡ least_of (language_of self) }
+    {
         match self {
             Language::Lenient(_) => 0,
             Language::Strict(_) => b' ',

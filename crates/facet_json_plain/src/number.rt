@@ -1,12 +1,13 @@
 //! Numbers that take no memory.
 
-ghost use Rattle.std.specs.Prelude.{◌≡◌, false, Some, slice_get, IfSome};
+ghost use Rattle.std.specs.Prelude.{◌≡◌, ◌+◌, false, Some, slice_get, slice_range, IfSome};
 ghost use Rattle.facet_format.specs.Views.{scalar_value_of};
 ghost use Rattle.facet_json_token.specs.Cut.{start_of, opens_number};
 ghost use Rattle.facet_json_token.specs.Token.{Kind};
 ghost use Rattle.facet_json_number.specs.Views.{number_of, is_made_number};
 ghost use Rattle.facet_json_document.specs.Meaning.{tree_of_number};
 ghost use Rattle.facet_json_document.specs.Walk.{scalar_by};
+ghost use Rattle.facet_json_strict.specs.RfcNumber.{IsRfcNumber};
 ghost use Rattle.facet_json_plain.specs.Values.{IsScalarThere};
 
 use crate::whole::whole_number;
@@ -41,7 +42,8 @@ pub fn short_number_strict<'de>(
 ) -> Option<(usize, ScalarValue<'de>)>
     requires here { slice_get input.now at ≡ Some first }
     requires number { start_of first ≡ opens_number }
-    ensures { IfSome result (λ r. IsScalarThere input.now at r.0 (scalar_value_of r.1)) }
+    ensures there { IfSome result (λ r. IsScalarThere input.now at r.0 (scalar_value_of r.1)) }
+    ensures strict { IfSome result (λ r. IsRfcNumber (slice_range input.now at (at + r.0))) }
 {
     match whole_number(input, at, first) {
         Some((len, value)) if leads_by_no_zero(input, at, first, len) => Some((len, value)),

@@ -1,8 +1,8 @@
 //! Texts in which no escape stands, which are lent from the input.
 
-ghost use Rattle.std.specs.Prelude.{◌≡◌, ◌<◌, length, Some, slice_get, IfSome, IsUtf8};
+ghost use Rattle.std.specs.Prelude.{◌≡◌, ◌<◌, ◌+◌, length, Some, slice_get, slice_range, IfSome, IsUtf8};
 ghost use Rattle.facet_format.specs.Bytes.{quote};
-ghost use Rattle.facet_json_plain.specs.Values.{IsPlainText};
+ghost use Rattle.facet_json_plain.specs.Values.{AreUnescaped, IsPlainText};
 
 use crate::window::{ordinary_end, unescaped_end};
 use facet_json_decode::{plain_text, plain_text_unchecked, quoted_text};
@@ -13,6 +13,7 @@ use facet_json_decode::{plain_text, plain_text_unchecked, quoted_text};
 pub fn checked_text_at<'de>(input: &'de [u8], at: usize, least: u8) -> Option<(usize, &'de str)>
     requires here { slice_get input.now at ≡ Some quote }
     ensures text { IfSome result (λ r. IsPlainText input.now at r.0 r.1.now) }
+    ensures unescaped { IfSome result (λ r. AreUnescaped least (slice_range input.now (at + 1) r.0)) }
     ensures within { IfSome result (λ r. (at < r.0) × (r.0 < length input.now)) }
 {
     match ascii_text_at(input, at, least) {
@@ -26,6 +27,7 @@ pub fn checked_text_at<'de>(input: &'de [u8], at: usize, least: u8) -> Option<(u
 fn ascii_text_at<'de>(input: &'de [u8], at: usize, least: u8) -> Option<(usize, &'de str)>
     requires here { slice_get input.now at ≡ Some quote }
     ensures text { IfSome result (λ r. IsPlainText input.now at r.0 r.1.now) }
+    ensures unescaped { IfSome result (λ r. AreUnescaped least (slice_range input.now (at + 1) r.0)) }
     ensures within { IfSome result (λ r. (at < r.0) × (r.0 < length input.now)) }
 {
     let end = ordinary_end(input, at + 1, least);
@@ -40,6 +42,7 @@ fn ascii_text_at<'de>(input: &'de [u8], at: usize, least: u8) -> Option<(usize, 
 fn other_text_at<'de>(input: &'de [u8], at: usize, least: u8) -> Option<(usize, &'de str)>
     requires here { slice_get input.now at ≡ Some quote }
     ensures text { IfSome result (λ r. IsPlainText input.now at r.0 r.1.now) }
+    ensures unescaped { IfSome result (λ r. AreUnescaped least (slice_range input.now (at + 1) r.0)) }
     ensures within { IfSome result (λ r. (at < r.0) × (r.0 < length input.now)) }
 {
     let end = unescaped_end(input, at + 1, least);
@@ -58,6 +61,7 @@ pub fn quoted_text_at<'de>(input: &'de [u8], at: usize, least: u8) -> Option<(us
     requires here { slice_get input.now at ≡ Some quote }
     requires utf8 { IsUtf8 input.now }
     ensures text { IfSome result (λ r. IsPlainText input.now at r.0 r.1.now) }
+    ensures unescaped { IfSome result (λ r. AreUnescaped least (slice_range input.now (at + 1) r.0)) }
     ensures within { IfSome result (λ r. (at < r.0) × (r.0 < length input.now)) }
 {
     let end = unescaped_end(input, at + 1, least);

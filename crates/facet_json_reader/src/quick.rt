@@ -1,7 +1,7 @@
 //! The next event passed at once, where a few bytes decide it. In all other cases nothing is done, and the next event is read
 //! token by token, in `reader`.
 
-ghost use Rattle.std.specs.Prelude.{◌≡◌, ◌≤◌, ◌<◌, Bool, ◌+◌, ◌-◌, ℕ, List, Some, length, slice_get, true, false, IfSome, IsUtf8, MatchOption};
+ghost use Rattle.std.specs.Prelude.{◌≡◌, ◌≤◌, ◌<◌, Bool, ◌+◌, ◌-◌, ℕ, List, Some, length, slice_get, slice_range, true, false, IfSome, IsUtf8, MatchOption};
 ghost use Rattle.facet_format.specs.Bytes.{quote, right_brace, right_bracket};
 ghost use Rattle.facet_format.specs.Event.{scalar, field_key, borrowed};
 ghost use Rattle.facet_format.specs.Span.{Span as SpecSpan, stop, span_at};
@@ -10,10 +10,11 @@ ghost use Rattle.facet_json_token.specs.Cut.{start_of, opens_number};
 ghost use Rattle.facet_json_token.specs.Token.{comma, string};
 ghost use Rattle.facet_json_document.specs.Future.{within};
 ghost use Rattle.facet_json_document.specs.Place.{Place as SpecPlace, led, passes, place_turn};
-ghost use Rattle.facet_json_document.specs.Language.{Language as SpecLanguage, rules};
+ghost use Rattle.facet_json_document.specs.Language.{Language as SpecLanguage, lenient, strict, rules};
+ghost use Rattle.facet_json_token.specs.Gap.{Mode as SpecMode};
 ghost use Rattle.facet_json_document.specs.StrictTokens.{Allows};
-ghost use Rattle.facet_json_place.specs.Views.{language_of, place_of, opening, closing};
-ghost use Rattle.facet_json_plain.specs.Values.{IsPlainText};
+ghost use Rattle.facet_json_place.specs.Views.{language_of, least_of, place_of, opening, closing};
+ghost use Rattle.facet_json_plain.specs.Values.{AreUnescaped, IsPlainText};
 ghost use Rattle.facet_json_reader.specs.Quick.{MayBeKey, MayBeValue, Reaches, IsWord, Leaves, PassesEvent};
 ghost use Rattle.facet_json_reader.specs.Views.{stage_of};
 
@@ -356,6 +357,7 @@ fn text_at<'de>(
     requires here { slice_get input.now at ≡ Some quote }
     requires utf8 { trust ≡ Trust.Utf8 → IsUtf8 input.now }
     ensures text { IfSome result (λ r. IsPlainText input.now at r.0 r.1.now) }
+    ensures unescaped { IfSome result (λ r. AreUnescaped (least_of (language_of language)) (slice_range input.now (at + 1) r.0)) }
     ensures within { IfSome result (λ r. (at < r.0) × (r.0 < length input.now)) }
 {
     let least = language.least();
