@@ -1,4 +1,4 @@
-//! A text passed token by token, event by event, or as one value.
+//! A text passed token by token, event by event, or as one value. Each pass is compiled apart from the others, so that none changes another's code.
 
 use crate::seen::{Seen, held, weight};
 use facet_json::scanner::{Mode, Scanner, Token, cut};
@@ -6,6 +6,7 @@ use facet_json::{FormatParser, JsonParser};
 use std::alloc::Global;
 
 /// Each token, cut by its position.
+#[inline(never)]
 pub fn tokens(input: &[u8], mode: Mode) -> Option<Seen> {
     let mut position = 0;
     let mut seen = Seen::none();
@@ -28,6 +29,7 @@ pub fn tokens(input: &[u8], mode: Mode) -> Option<Seen> {
 }
 
 /// Each token, cut by a scanner.
+#[inline(never)]
 pub fn scanned(input: &[u8], mode: Mode) -> Option<Seen> {
     let mut scanner = match mode {
         Mode::Plain => Scanner::new(),
@@ -94,26 +96,31 @@ fn events_left(parser: &mut JsonParser<'_>) -> Option<Seen> {
 }
 
 /// Each event, from bytes.
+#[inline(never)]
 pub fn events(alloc: Global, input: &[u8], mode: Mode) -> Option<Seen> {
     events_left(&mut checking(alloc, input, mode))
 }
 
 /// Each event, from a text.
+#[inline(never)]
 pub fn trusted(alloc: Global, input: &str, mode: Mode) -> Option<Seen> {
     events_left(&mut trusting(alloc, input, mode))
 }
 
 /// Each event of a text of RFC 8259 alone, from bytes.
+#[inline(never)]
 pub fn strict_events(alloc: Global, input: &[u8]) -> Option<Seen> {
     events_left(&mut JsonParser::new_strict(alloc, input))
 }
 
 /// Each event of a text of RFC 8259 alone, from a text.
+#[inline(never)]
 pub fn strict_trusted(alloc: Global, input: &str) -> Option<Seen> {
     events_left(&mut JsonParser::new_strict_trusted(alloc, input.as_bytes()))
 }
 
 /// The whole document as one value.
+#[inline(never)]
 pub fn skip(alloc: Global, input: &[u8], mode: Mode) -> Option<Seen> {
     match checking(alloc, input, mode).skip_value() {
         Ok(()) => Some(Seen::none().with(0)),

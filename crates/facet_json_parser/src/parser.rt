@@ -190,8 +190,17 @@ impl<'de> JsonParser<'de> {
         if self.refusal.is_some() {
             return None;
         }
-        self.standing
-            .next_quickly(self.input, self.language, self.trust)
+        // Each language has its own copy of the code in line, so that neither pays for the other.
+        match self.language {
+            Language::Lenient(mode) => {
+                self.standing
+                    .next_quickly(self.input, Language::Lenient(mode), self.trust)
+            }
+            Language::Strict(mode) => {
+                self.standing
+                    .next_quickly(self.input, Language::Strict(mode), self.trust)
+            }
+        }
     }
 
     /// The next event, token by token, as a value of its own: so an event that is passed at once, which never goes through this,

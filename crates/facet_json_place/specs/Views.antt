@@ -118,6 +118,11 @@ abbrev pub language_of : RustLanguage → Language
 language_of (languages.Lenient mode) = lenient (mode_of mode)
 language_of (languages.Strict mode) = strict (mode_of mode)
 
+-- the least byte that may stand in a text unescaped
+abbrev pub least_of : Language → ℕ
+least_of (lenient mode) = 0
+least_of (strict mode) = 0x20
+
 -- ---- places
 
 abbrev pub place_of : RustPlace → Place

@@ -9,7 +9,7 @@ ghost use Rattle.facet_json_token.specs.Views.{mode_of, kind_of, scanned};
 ghost use Rattle.facet_json_document.specs.Language.{strict, gaps, rules};
 ghost use Rattle.facet_json_document.specs.Place.{led};
 ghost use Rattle.facet_json_document.specs.StrictTokens.{Allows, cut_in};
-ghost use Rattle.facet_json_place.specs.Views.{language_of, place_of, HasSlices, IsJudged};
+ghost use Rattle.facet_json_place.specs.Views.{language_of, least_of, place_of, HasSlices, IsJudged};
 
 use crate::place::Place;
 use facet_json_strict::{check_number_strict, check_string_strict};
@@ -51,32 +51,14 @@ impl Language {
         }
     }
 
-    /// Whether a text may stand there: where RFC 8259 alone is read, not each one may.
+    /// The least byte that may stand in a text unescaped.
     #[inline(always)]
-    pub fn allows_text(self, buffer: &[u8], start: usize, end: usize) -> bool
-        requires in_order { start ≤ end }
-        requires within { end ≤ length buffer.now }
-        ensures { result ≡ true → (s : SpecSpan) (mark : Bool) → Allows (language_of self) buffer.now (record { kind = string start end mark; span = s }) }
+    pub fn least(self) -> u8
+        ensures { result ≡ least_of (language_of self) }
     {
         match self {
-            Language::Lenient(_) => true,
-            Language::Strict(_) => check_string_strict(buffer, start, end).is_ok(),
-        }
-    }
-
-    /// Whether a number may stand there.
-    #[inline(always)]
-    pub fn allows_number(self, buffer: &[u8], start: usize, end: usize) -> bool
-        requires in_order { start ≤ end }
-        requires within { end ≤ length buffer.now }
-        ensures { result ≡ true → (s : SpecSpan) (hint : Hint) → Allows (language_of self) buffer.now (record { kind = number start end hint; span = s }) }
-    {
-        match self {
-            Language::Lenient(_) => true,
-            Language::Strict(_) => match check_number_strict(buffer, start, end) {
-                Ok(()) => true,
-                Err(_) => false,
-            },
+            Language::Lenient(_) => 0,
+            Language::Strict(_) => b' ',
         }
     }
 

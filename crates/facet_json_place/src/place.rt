@@ -18,18 +18,18 @@ pub enum Place {
     Root,
     /// After `{`, or after a comma in an object.
     BeforeKey,
-    /// After a key's colon.
-    AfterColon,
-    /// After a member's value.
-    AfterMember,
-    /// After `[`, or after a comma in an array.
-    BeforeItem,
-    /// After an item.
-    AfterItem,
     /// After a comma in an object, where none may trail.
     NextKey,
+    /// After a key's colon.
+    AfterColon,
+    /// After `[`, or after a comma in an array.
+    BeforeItem,
     /// After a comma in an array, where none may trail.
     NextItem,
+    /// After a member's value.
+    AfterMember,
+    /// After an item.
+    AfterItem,
     /// Behind the root, where nothing may stand.
     AfterRoot,
 }

@@ -1,3 +1,4 @@
+pub mod AllowedTexts
 pub mod AsciiTexts
 pub mod DigitSlices
 pub mod DigitWords

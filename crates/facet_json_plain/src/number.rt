@@ -1,18 +1,20 @@
 //! Numbers that take no memory.
 
-ghost use Rattle.std.specs.Prelude.{◌≡◌, false, Some, slice_get, IfSome};
+ghost use Rattle.std.specs.Prelude.{◌≡◌, ◌+◌, false, Some, slice_get, slice_range, IfSome};
 ghost use Rattle.facet_format.specs.Views.{scalar_value_of};
 ghost use Rattle.facet_json_token.specs.Cut.{start_of, opens_number};
 ghost use Rattle.facet_json_token.specs.Token.{Kind};
 ghost use Rattle.facet_json_number.specs.Views.{number_of, is_made_number};
 ghost use Rattle.facet_json_document.specs.Meaning.{tree_of_number};
 ghost use Rattle.facet_json_document.specs.Walk.{scalar_by};
+ghost use Rattle.facet_json_strict.specs.RfcNumber.{IsRfcNumber};
 ghost use Rattle.facet_json_plain.specs.Values.{IsScalarThere};
 
 use crate::whole::whole_number;
 use facet_format::ScalarValue;
-use facet_format::numeral::parts_at;
+use facet_format::numeral::{Parts, parts_at};
 use facet_json_number::{ParsedNumber, parse_measured};
+use facet_json_strict::has_rfc_parts;
 
 /// The length and the value of the number at `at`, of which this is the first byte, where it takes no memory.
 #[inline(always)]
@@ -31,6 +33,55 @@ pub fn short_number<'de>(
     }
 }
 
+/// The same, where it is a number of RFC 8259.
+#[inline(always)]
+pub fn short_number_strict<'de>(
+    input: &'de [u8],
+    at: usize,
+    first: u8,
+) -> Option<(usize, ScalarValue<'de>)>
+    requires here { slice_get input.now at ≡ Some first }
+    requires number { start_of first ≡ opens_number }
+    ensures there { IfSome result (λ r. IsScalarThere input.now at r.0 (scalar_value_of r.1)) }
+    ensures strict { IfSome result (λ r. IsRfcNumber (slice_range input.now at (at + r.0))) }
+{
+    match whole_number(input, at, first) {
+        Some((len, value)) if leads_by_no_zero(input, at, first, len) => Some((len, value)),
+        Some(_) => None,
+        None => measured_number_strict(input, at, first),
+    }
+}
+
+/// Whether a whole number of this length is a single digit or begins with no zero, after a minus if one stands first.
+#[inline(always)]
+fn leads_by_no_zero(input: &[u8], at: usize, first: u8, len: usize) -> bool
+    requires { at + 1 < length input.now }
+{
+    if first == b'-' {
+        len == 2 || input[at + 1] != b'0'
+    } else {
+        len == 1 || first != b'0'
+    }
+}
+
+/// The same for each number of RFC 8259, part by part.
+#[inline(always)]
+fn measured_number_strict<'de>(
+    input: &'de [u8],
+    at: usize,
+    first: u8,
+) -> Option<(usize, ScalarValue<'de>)>
+    requires here { slice_get input.now at ≡ Some first }
+    requires number { start_of first ≡ opens_number }
+    ensures { IfSome result (λ r. IsScalarThere input.now at r.0 (scalar_value_of r.1)) }
+{
+    let parts = parts_at(input, at);
+    if !has_rfc_parts(parts, &input[at..]) {
+        return None;
+    }
+    value_of_parts(input, at, parts)
+}
+
 /// The same for each number, part by part.
 #[inline(always)]
 fn measured_number<'de>(input: &'de [u8], at: usize, first: u8) -> Option<(usize, ScalarValue<'de>)>
@@ -38,7 +89,16 @@ fn measured_number<'de>(input: &'de [u8], at: usize, first: u8) -> Option<(usize
     requires number { start_of first ≡ opens_number }
     ensures { IfSome result (λ r. IsScalarThere input.now at r.0 (scalar_value_of r.1)) }
 {
-    let parts = parts_at(input, at);
+    value_of_parts(input, at, parts_at(input, at))
+}
+
+/// The same of the number at `at` that has these parts.
+#[inline(always)]
+fn value_of_parts<'de>(
+    input: &'de [u8],
+    at: usize,
+    parts: Parts,
+) -> Option<(usize, ScalarValue<'de>)> {
     let len = parts.len();
     if parts.is_bare() {
         return None;

@@ -1,7 +1,7 @@
 //! The next event passed at once, where a few bytes decide it. In all other cases nothing is done, and the next event is read
 //! token by token, in `reader`.
 
-ghost use Rattle.std.specs.Prelude.{◌≡◌, ◌≤◌, ◌<◌, Bool, ◌+◌, ◌-◌, ℕ, List, Some, length, slice_get, true, false, IfSome, IsUtf8, MatchOption};
+ghost use Rattle.std.specs.Prelude.{◌≡◌, ◌≤◌, ◌<◌, Bool, ◌+◌, ◌-◌, ℕ, List, Some, length, slice_get, slice_range, true, false, IfSome, IsUtf8, MatchOption};
 ghost use Rattle.facet_format.specs.Bytes.{quote, right_brace, right_bracket};
 ghost use Rattle.facet_format.specs.Event.{scalar, field_key, borrowed};
 ghost use Rattle.facet_format.specs.Span.{Span as SpecSpan, stop, span_at};
@@ -10,10 +10,11 @@ ghost use Rattle.facet_json_token.specs.Cut.{start_of, opens_number};
 ghost use Rattle.facet_json_token.specs.Token.{comma, string};
 ghost use Rattle.facet_json_document.specs.Future.{within};
 ghost use Rattle.facet_json_document.specs.Place.{Place as SpecPlace, led, passes, place_turn};
-ghost use Rattle.facet_json_document.specs.Language.{Language as SpecLanguage, rules};
+ghost use Rattle.facet_json_document.specs.Language.{Language as SpecLanguage, lenient, strict, rules};
+ghost use Rattle.facet_json_token.specs.Gap.{Mode as SpecMode};
 ghost use Rattle.facet_json_document.specs.StrictTokens.{Allows};
-ghost use Rattle.facet_json_place.specs.Views.{language_of, place_of, opening, closing};
-ghost use Rattle.facet_json_plain.specs.Values.{IsPlainText};
+ghost use Rattle.facet_json_place.specs.Views.{language_of, least_of, place_of, opening, closing};
+ghost use Rattle.facet_json_plain.specs.Values.{AreUnescaped, IsPlainText};
 ghost use Rattle.facet_json_reader.specs.Quick.{MayBeKey, MayBeValue, Reaches, IsWord, Leaves, PassesEvent};
 ghost use Rattle.facet_json_reader.specs.Views.{stage_of};
 
@@ -22,7 +23,7 @@ use facet_format::{
     ContainerKind, FieldKey, FieldLocationHint, ParseEvent, ParseEventKind, ScalarValue, Span,
 };
 use facet_json_place::{Language, Place};
-use facet_json_plain::{checked_text_at, quoted_text_at, short_number};
+use facet_json_plain::{checked_text_at, quoted_text_at, short_number, short_number_strict};
 use facet_json_token::plain_cut::common_len;
 use facet_json_token::quick::gap_end;
 use std::borrow::CowStr;
@@ -97,10 +98,7 @@ impl Reader {
         ensures { Reaches input.now (language_of language) self.old (place_of place) at → MatchOption result (self.new ≡ self.old)
             (λ e. PassesEvent input.now (language_of language) self.old (event_of e) self.new) }
     {
-        let (end, text) = text_at(input, trust, at)?;
-        if !language.allows_text(input, at + 1, end) {
-            return None;
-        }
+        let (end, text) = text_at(input, language, trust, at)?;
         match place {
             Place::BeforeKey | Place::NextKey => {
                 self.pass_key(input, language, place, text, at, end)
@@ -215,7 +213,8 @@ impl Reader {
         }
     }
 
-    /// As `pass_number`, whose answer is a value of its own: so no other event needs memory.
+    /// Passes a number that takes no memory. The answer of the function that does it is a value of its own: so no other event
+    /// needs memory.
     #[inline(always)]
     fn pass_number_apart<'de>(
         &mut self,
@@ -229,8 +228,16 @@ impl Reader {
         ensures { (place : SpecPlace) → MayBeValue place → Reaches input.now (language_of language) self.old place at
             → MatchOption result (self.new ≡ self.old) (λ e. PassesEvent input.now (language_of language) self.old (event_of e) self.new) }
     {
-        let event = self.pass_number(input, language, at, first);
-        event
+        match language {
+            Language::Lenient(_) => {
+                let event = self.pass_number(input, at, first);
+                event
+            }
+            Language::Strict(_) => {
+                let event = self.pass_number_strict(input, at, first);
+                event
+            }
+        }
     }
 
     /// Passes a number that takes no memory, of which this is the first byte.
@@ -238,19 +245,32 @@ impl Reader {
     fn pass_number<'de>(
         &mut self,
         input: &'de [u8],
-        language: Language,
         at: usize,
         first: u8,
     ) -> Option<ParseEvent<'de>>
         requires here { slice_get input.now at ≡ Some first }
         requires number { start_of first ≡ opens_number }
-        ensures { (place : SpecPlace) → MayBeValue place → Reaches input.now (language_of language) self.old place at
-            → MatchOption result (self.new ≡ self.old) (λ e. PassesEvent input.now (language_of language) self.old (event_of e) self.new) }
+        ensures { (mode : SpecMode) (place : SpecPlace) → MayBeValue place → Reaches input.now (lenient mode) self.old place at
+            → MatchOption result (self.new ≡ self.old) (λ e. PassesEvent input.now (lenient mode) self.old (event_of e) self.new) }
     {
         let (len, value) = short_number(input, at, first)?;
-        if !language.allows_number(input, at, at + len) {
-            return None;
-        }
+        Some(self.pass_scalar(value, Span::new(at, len)))
+    }
+
+    /// The same where RFC 8259 alone is read.
+    #[inline(never)]
+    fn pass_number_strict<'de>(
+        &mut self,
+        input: &'de [u8],
+        at: usize,
+        first: u8,
+    ) -> Option<ParseEvent<'de>>
+        requires here { slice_get input.now at ≡ Some first }
+        requires number { start_of first ≡ opens_number }
+        ensures { (mode : SpecMode) (place : SpecPlace) → MayBeValue place → Reaches input.now (strict mode) self.old place at
+            → MatchOption result (self.new ≡ self.old) (λ e. PassesEvent input.now (strict mode) self.old (event_of e) self.new) }
+    {
+        let (len, value) = short_number_strict(input, at, first)?;
         Some(self.pass_scalar(value, Span::new(at, len)))
     }
 
@@ -326,16 +346,23 @@ fn takes_value(place: Place) -> bool
     )
 }
 
-/// The text of the string whose quote is at `at`, where it holds no escape, and the offset of the quote that closes it.
+/// The text of the string whose quote is at `at`, where it holds no escape and the language allows it, and the offset of the quote that closes it.
 #[inline(always)]
-fn text_at<'de>(input: &'de [u8], trust: Trust, at: usize) -> Option<(usize, &'de str)>
+fn text_at<'de>(
+    input: &'de [u8],
+    language: Language,
+    trust: Trust,
+    at: usize,
+) -> Option<(usize, &'de str)>
     requires here { slice_get input.now at ≡ Some quote }
     requires utf8 { trust ≡ Trust.Utf8 → IsUtf8 input.now }
     ensures text { IfSome result (λ r. IsPlainText input.now at r.0 r.1.now) }
+    ensures unescaped { IfSome result (λ r. AreUnescaped (least_of (language_of language)) (slice_range input.now (at + 1) r.0)) }
     ensures within { IfSome result (λ r. (at < r.0) × (r.0 < length input.now)) }
 {
+    let least = language.least();
     match trust {
-        Trust::Nothing => checked_text_at(input, at),
-        Trust::Utf8 => quoted_text_at(input, at),
+        Trust::Nothing => checked_text_at(input, at, least),
+        Trust::Utf8 => quoted_text_at(input, at, least),
     }
 }

@@ -6,5 +6,5 @@ mod number;
 mod string;
 mod window;
 
-pub use number::check_number_strict;
+pub use number::{check_number_strict, has_rfc_parts};
 pub use string::check_string_strict;

@@ -6,7 +6,7 @@ ghost use Rattle.facet_json_strict.specs.RfcNumberTest.{is_rfc_number as spec_is
 ghost use Rattle.facet_json_strict.specs.Views.{number_refused};
 
 use facet_format::Span;
-use facet_format::numeral::parts_at;
+use facet_format::numeral::{Parts, parts_at};
 use facet_json_token::{ScanError, ScanErrorKind};
 
 /// Whether `buf[start..end]` is a number of RFC 8259 (section 6): perhaps a minus, 0 or digits of which the first is another, and
@@ -47,13 +47,18 @@ fn is_rfc_number(text: &[u8]) -> bool
     ensures { result ≡ spec_is_rfc_number text.now }
 {
     let parts = parts_at(text, 0);
+    parts.len() == text.len() && has_rfc_parts(parts, text)
+}
+
+/// Whether the parts of the number with which the text begins are those of a number of RFC 8259.
+#[inline(always)]
+pub fn has_rfc_parts(parts: Parts, text: &[u8]) -> bool {
     let digits = parts.digits_start();
     let fraction = parts.fraction_start();
     let exponent = parts.exponent_start();
-    let end = parts.len();
-    let whole = is_whole(fraction - digits, &text[digits..]);
-    let power = has_exponent_digits(end - exponent, &text[exponent..]);
-    end == text.len() && whole && exponent - fraction != 1 && power
+    is_whole(fraction - digits, &text[digits..])
+        && exponent - fraction != 1
+        && has_exponent_digits(parts.len() - exponent, &text[exponent..])
 }
 
 /// Whether so many digits at the start are a whole number: 0, or digits of which the first is another.
