@@ -32,7 +32,8 @@ run-wider p q h [] = omega arith
 run-wider p q h (b ∷ bytes) = step (p b) (q b) _ _ (h b) (run-wider p q h bytes)
 
 -- Each byte of such a run is of the wider class.
-run-all : (p q : ℕ → Bool) → ((b : ℕ) → p b ≡ true → q b ≡ true) → (n : ℕ) (bytes : List ℕ) → n ≤ prefix_len p bytes → list_all q (take n bytes) ≡ true
+run-all : (p q : ℕ → Bool) → ((b : ℕ) → p b ≡ true → q b ≡ true) → (n : ℕ) (bytes : List ℕ) → n ≤ prefix_len p bytes →
+    list_all q (take n bytes) ≡ true
 run-all p q h zero bytes le = refl
 run-all p q h (suc n) [] le = refl
 run-all p q h (suc n) (b ∷ bytes) le = by (p b) refl le (run-all p q h n bytes)
@@ -53,15 +54,16 @@ unescaped-stands least b e =
     let no_end = or_parts (b == quote) (b == backslash) neither.0 in
     and_from _ _ (not_from_false (b == backslash) no_end.1) (le-leb least b (ltb-false b least neither.1))
 
--- An ordinary byte is such a byte, and ASCII.
 ordinary-parts : (least b : ℕ) → is_ordinary least b ≡ true → (is_unescaped least b ≡ true) × (is_low b ≡ true)
 ordinary-parts least b e =
     let neither = or_parts (is_stop_from least b) (is_high b) (not-true (is_mark least b) e) in
     (not_from_false (is_stop_from least b) neither.0, not_from_false (is_high b) neither.1)
 
+-- An ordinary byte may stand in a text unescaped.
 pub ordinary-unescaped : (least b : ℕ) → is_ordinary least b ≡ true → is_unescaped least b ≡ true
 ordinary-unescaped least b e = (ordinary-parts least b e).0
 
+-- It is ASCII.
 ordinary-low : (least b : ℕ) → is_ordinary least b ≡ true → is_low b ≡ true
 ordinary-low least b e = (ordinary-parts least b e).1
 

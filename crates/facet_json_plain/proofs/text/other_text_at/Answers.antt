@@ -7,16 +7,28 @@ use Rattle.facet_json_plain.proofs.text.other_text_at.Goals as goal
 
 pub plain_text-requires-clause-plain : goal.plain_text-requires-clause-plain
 plain_text-requires-clause-plain c =
+    let least = c.args.least in
+    let buffer = c.args.input.now in
+    let end = c.unescaped_end-end.result in
+    let run = c.unescaped_end-end.ensures.value in
     let w = c.in-Some-eq34 in
-    let closes = slice_get-from_read c.args.input.now c.unescaped_end-end.result w.field-0.now quote w.ensures.lookup.3 w.field-0-test in
-    run-no_backslash c.args.least (is_unescaped c.args.least) (λ b e. e) c.args.input.now c.args.at c.unescaped_end-end.result c.unescaped_end-end.ensures.value closes
+    let closes = slice_get-from_read buffer end w.field-0.now quote w.ensures.lookup.3 w.field-0-test in
+    run-no_backslash least (is_unescaped least) (λ b e. e) buffer c.args.at end run closes
 
 pub returns-in-Some-clause-text : goal.returns-in-Some-clause-text
 returns-in-Some-clause-text c =
+    let least = c.args.least in
+    let buffer = c.args.input.now in
+    let end = c.unescaped_end-end.result in
+    let run = c.unescaped_end-end.ensures.value in
     let w = c.in-Some-eq34 in
-    let closes = slice_get-from_read c.args.input.now c.unescaped_end-end.result w.field-0.now quote w.ensures.lookup.3 w.field-0-test in
-    run-IsPlainText c.args.least (is_unescaped c.args.least) (λ b e. e) c.args.input.now c.args.at c.unescaped_end-end.result c.unescaped_end-end.ensures.value c.requires.here closes c.in-Some.text.now c.in-Some.ensures.text
+    let closes = slice_get-from_read buffer end w.field-0.now quote w.ensures.lookup.3 w.field-0-test in
+    run-IsPlainText least (is_unescaped least) (λ b e. e) buffer c.args.at end run c.requires.here closes _ c.in-Some.ensures.text
 
 pub returns-in-Some-clause-unescaped : goal.returns-in-Some-clause-unescaped
 returns-in-Some-clause-unescaped c =
-    run-unescaped c.args.least (is_unescaped c.args.least) (λ b e. e) c.args.input.now c.args.at c.unescaped_end-end.result c.unescaped_end-end.ensures.value
+    let least = c.args.least in
+    let buffer = c.args.input.now in
+    let end = c.unescaped_end-end.result in
+    let run = c.unescaped_end-end.ensures.value in
+    run-unescaped least (is_unescaped least) (λ b e. e) buffer c.args.at end run

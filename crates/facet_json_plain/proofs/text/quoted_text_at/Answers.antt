@@ -9,9 +9,13 @@ use Rattle.facet_json_plain.proofs.text.quoted_text_at.Goals as goal
 
 pub quoted_text-requires-clause-plain : goal.quoted_text-requires-clause-plain
 quoted_text-requires-clause-plain c =
+    let least = c.args.least in
+    let buffer = c.args.input.now in
+    let end = c.unescaped_end-end.result in
+    let run = c.unescaped_end-end.ensures.value in
     let w = c.in-Some-eq34 in
-    let closes = slice_get-from_read c.args.input.now c.unescaped_end-end.result w.field-0.now quote w.ensures.lookup.3 w.field-0-test in
-    run-no_backslash c.args.least (is_unescaped c.args.least) (λ b e. e) c.args.input.now c.args.at c.unescaped_end-end.result c.unescaped_end-end.ensures.value closes
+    let closes = slice_get-from_read buffer end w.field-0.now quote w.ensures.lookup.3 w.field-0-test in
+    run-no_backslash least (is_unescaped least) (λ b e. e) buffer c.args.at end run closes
 
 pub quoted_text-requires-clause-quoted : goal.quoted_text-requires-clause-quoted
 quoted_text-requires-clause-quoted c =
@@ -28,10 +32,18 @@ quoted_text-requires-clause-quoted c =
 
 pub returns-in-Some-eq34-clause-text : goal.returns-in-Some-eq34-clause-text
 returns-in-Some-eq34-clause-text c =
+    let least = c.args.least in
+    let buffer = c.args.input.now in
+    let end = c.unescaped_end-end.result in
+    let run = c.unescaped_end-end.ensures.value in
     let w = c.in-Some-eq34 in
-    let closes = slice_get-from_read c.args.input.now c.unescaped_end-end.result w.field-0.now quote w.ensures.lookup.3 w.field-0-test in
-    run-IsPlainText c.args.least (is_unescaped c.args.least) (λ b e. e) c.args.input.now c.args.at c.unescaped_end-end.result c.unescaped_end-end.ensures.value c.requires.here closes c.quoted_text.result.now c.quoted_text.ensures.text
+    let closes = slice_get-from_read buffer end w.field-0.now quote w.ensures.lookup.3 w.field-0-test in
+    run-IsPlainText least (is_unescaped least) (λ b e. e) buffer c.args.at end run c.requires.here closes _ c.quoted_text.ensures.text
 
 pub returns-in-Some-eq34-clause-unescaped : goal.returns-in-Some-eq34-clause-unescaped
 returns-in-Some-eq34-clause-unescaped c =
-    run-unescaped c.args.least (is_unescaped c.args.least) (λ b e. e) c.args.input.now c.args.at c.unescaped_end-end.result c.unescaped_end-end.ensures.value
+    let least = c.args.least in
+    let buffer = c.args.input.now in
+    let end = c.unescaped_end-end.result in
+    let run = c.unescaped_end-end.ensures.value in
+    run-unescaped least (is_unescaped least) (λ b e. e) buffer c.args.at end run
