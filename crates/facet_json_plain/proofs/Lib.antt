@@ -1,7 +1,8 @@
 pub mod AllowedTexts
-pub mod AsciiTexts
+pub mod ComparedLanes
 pub mod DigitSlices
 pub mod DigitWords
 pub mod EightDigits
+pub mod TextRuns
 pub mod ValuesThere
 pub mod WholeNumbers

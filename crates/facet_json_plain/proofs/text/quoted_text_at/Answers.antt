@@ -1,41 +1,49 @@
--- No backslash stands in the content of a string without an escape, and it stands between two quotes.
-use Rattle.std.proofs.Common.{sym, arith, refl, rules}
-use Rattle.std.proofs.lemmas.Option.{get_or_from_slice_get}
+-- The run of unescaped bytes ends at the quote that closes the string, and it stands between two quotes.
+use Rattle.std.proofs.Common.{arith, refl}
+use Rattle.std.proofs.lemmas.Option.{get_or_from_slice_get, slice_get_within}
 use Rattle.facet_format.specs.Bytes.{quote}
-use Rattle.facet_json_token.specs.Gap.{plain}
 use Rattle.facet_json_token.proofs.Offsets.{slice_get-from_read}
-use Rattle.facet_json_place.proofs.TokensThere.{there-fits}
+use Rattle.facet_json_plain.specs.Inner.Window.{is_unescaped}
+use Rattle.facet_json_plain.proofs.TextRuns.{run-no_backslash, run-unescaped, run-IsPlainText}
 use Rattle.facet_json_plain.proofs.text.quoted_text_at.Goals as goal
 
 pub quoted_text-requires-clause-plain : goal.quoted_text-requires-clause-plain
 quoted_text-requires-clause-plain c =
-    let e = c.in_ok-end.ensures in
-    let fits = there-fits plain c.args.input.now c.args.at _ _ (omega (arith, e.within)) (e.token plain) in
-    sym fits.kind_fits.escapes
+    let least = c.args.least in
+    let buffer = c.args.input.now in
+    let end = c.unescaped_end-end.result in
+    let run = c.unescaped_end-end.ensures.value in
+    let w = c.in-Some-eq34 in
+    let closes = slice_get-from_read buffer end w.field-0.now quote w.ensures.lookup.3 w.field-0-test in
+    run-no_backslash least (is_unescaped least) (λ b e. e) buffer c.args.at end run closes
 
 pub quoted_text-requires-clause-quoted : goal.quoted_text-requires-clause-quoted
 quoted_text-requires-clause-quoted c =
-    let buffer = c.args.input.now in
-    let e = c.in_ok-end.ensures in
     let w = c.in-Some-eq34 in
-    let closing = slice_get-from_read buffer c.in_ok-end.end w.field-0.now quote w.ensures.lookup.3 w.field-0-test in
+    let closes = slice_get-from_read c.args.input.now c.unescaped_end-end.result w.field-0.now quote w.ensures.lookup.3 w.field-0-test in
     record {
       opening = c.args.at;
       starts = refl;
-      ordered = omega (arith, e.within);
-      within = e.within.1;
-      opens = get_or_from_slice_get buffer c.args.at quote 0 c.requires.here;
-      closes = get_or_from_slice_get buffer c.in_ok-end.end quote 0 closing;
+      ordered = c.unescaped_end-end.ensures.ahead;
+      within = omega (arith, slice_get_within c.args.input.now c.unescaped_end-end.result quote closes);
+      opens = get_or_from_slice_get c.args.input.now c.args.at quote 0 c.requires.here;
+      closes = get_or_from_slice_get c.args.input.now c.unescaped_end-end.result quote 0 closes;
     }
 
-pub returns-in_err-end-clause-text : goal.returns-in_err-end-clause-text
-returns-in_err-end-clause-text c = search rules
+pub returns-in-Some-eq34-clause-text : goal.returns-in-Some-eq34-clause-text
+returns-in-Some-eq34-clause-text c =
+    let least = c.args.least in
+    let buffer = c.args.input.now in
+    let end = c.unescaped_end-end.result in
+    let run = c.unescaped_end-end.ensures.value in
+    let w = c.in-Some-eq34 in
+    let closes = slice_get-from_read buffer end w.field-0.now quote w.ensures.lookup.3 w.field-0-test in
+    run-IsPlainText least (is_unescaped least) (λ b e. e) buffer c.args.at end run c.requires.here closes _ c.quoted_text.ensures.text
 
-pub returns-in_err-end-clause-within : goal.returns-in_err-end-clause-within
-returns-in_err-end-clause-within c = search rules
-
-pub returns-in_default-clause-text : goal.returns-in_default-clause-text
-returns-in_default-clause-text c = search rules
-
-pub returns-in_default-clause-within : goal.returns-in_default-clause-within
-returns-in_default-clause-within c = search rules
+pub returns-in-Some-eq34-clause-unescaped : goal.returns-in-Some-eq34-clause-unescaped
+returns-in-Some-eq34-clause-unescaped c =
+    let least = c.args.least in
+    let buffer = c.args.input.now in
+    let end = c.unescaped_end-end.result in
+    let run = c.unescaped_end-end.ensures.value in
+    run-unescaped least (is_unescaped least) (λ b e. e) buffer c.args.at end run

@@ -8,12 +8,13 @@ use Rattle.facet_json_plain.proofs.window.ordinary_end.Goals as goal
 first_bit : (c : goal.Then-found-ne0) → count_trailing_zeros 64 c.marks-found.result < 16
 first_bit c =
     let mask = c.marks-found.ensures in
-    omega (arith, ap (count_trailing_zeros 64) mask, mask_within is_mark c.args.buffer.now c.loop-at.at 16 (omega arith) (omega arith) (omega (arith, mask)))
+    let within = mask_within (is_mark c.args.least) c.args.buffer.now c.loop-at.at 16 (omega arith) (omega arith) (omega (arith, mask)) in
+    omega (arith, ap (count_trailing_zeros 64) mask, within)
 
 pub returns-then-found-ne0-clause-value : goal.returns-then-found-ne0-clause-value
 returns-then-found-ne0-clause-value c =
     let mask = c.marks-found.ensures in
-    let run = mask_stops is_mark c.args.buffer.now c.loop-at.at 16 (omega arith) (omega arith) (omega (arith, mask)) in
+    let run = mask_stops (is_mark c.args.least) c.args.buffer.now c.loop-at.at 16 (omega arith) (omega arith) (omega (arith, mask)) in
     omega (arith, run, ap (count_trailing_zeros 64) mask, c.loop-at.invariant.same)
 
 pub returns-then-found-ne0-clause-within : goal.returns-then-found-ne0-clause-within
@@ -21,7 +22,7 @@ returns-then-found-ne0-clause-within c = omega (arith, first_bit c)
 
 pub loop-at-preserved : goal.loop-at-preserved
 loop-at-preserved c =
-    let run = mask_through is_mark c.args.buffer.now c.loop-at.at 16 (omega arith) (omega (arith, c.marks-found.ensures)) in
+    let run = mask_through (is_mark c.args.least) c.args.buffer.now c.loop-at.at 16 (omega arith) (omega (arith, c.marks-found.ensures)) in
     record {
       ahead = omega (arith, c.loop-at.invariant.ahead);
       within = omega arith;

@@ -9,7 +9,7 @@ invariant-loop-at l =
     record {
       ahead : l.from ≤ l.at;
       within : l.at ≤ length l.buffer;
-      same : l.from + prefix_len is_ordinary (drop l.from l.buffer) ≡ l.at + prefix_len is_ordinary (drop l.at l.buffer);
+      same : l.from + prefix_len (is_ordinary l.least) (drop l.from l.buffer) ≡ l.at + prefix_len (is_ordinary l.least) (drop l.at l.buffer);
     }
 
 abbrev pub decreases-loop-at : goal.decreases-loop-at
