@@ -3,6 +3,7 @@ pub mod ComparedLanes
 pub mod DigitSlices
 pub mod DigitWords
 pub mod EightDigits
+pub mod RfcNumbersThere
 pub mod TextRuns
 pub mod ValuesThere
 pub mod WholeNumbers

@@ -15,6 +15,8 @@ use Rattle.facet_json_token.proofs.Offsets.{drop-at_byte}
 use Rattle.facet_json_token.proofs.Starts.{start_of-number}
 use Rattle.facet_json_number.proofs.SignedNumbers.{signed-sign}
 use Rattle.facet_json_place.proofs.TokensThere.{there-fits, number-cut}
+use Rattle.facet_json_strict.specs.RfcNumber.{SomeDigits}
+use Rattle.facet_json_strict.proofs.RfcNumbers.{some-taken}
 use Rattle.facet_json_plain.specs.Inner.Whole.{IsWhole}
 use Rattle.facet_json_plain.specs.Values.{IsScalarThere}
 use Rattle.facet_json_plain.proofs.DigitSlices.{back-slice}
@@ -35,6 +37,12 @@ no-more_parts buffer at n digits some few room others =
       some = some;
       few = few;
     }
+
+-- Digits that are all of a number are some.
+pub digits-some : (buffer : List ℕ) (at n finish : ℕ) → IsWhole (drop at buffer) n → finish ≡ at + n → SomeDigits (slice_range buffer at finish)
+digits-some buffer at n finish w ends =
+    let long : digits_len (drop at buffer) ≡ finish - at = omega (arith, w.digits) in
+    subst (λ k. SomeDigits (take k (drop at buffer))) long (some-taken (drop at buffer) (omega (arith, w.digits, w.some)))
 
 -- the parts of such a number
 abbrev whole_parts : ℕ → ℕ → Parts

@@ -1,13 +1,15 @@
 //! Numbers that take no memory.
 
-ghost use Rattle.std.specs.Prelude.{◌≡◌, ◌+◌, false, Some, slice_get, slice_range, IfSome};
+ghost use Rattle.std.specs.Prelude.{◌≡◌, ◌+◌, ◌≤◌, true, false, Some, length, drop, slice_get, slice_range, IfSome};
+ghost use Rattle.facet_format.specs.Number.{parts as number_parts, parts_len};
 ghost use Rattle.facet_format.specs.Views.{scalar_value_of};
 ghost use Rattle.facet_json_token.specs.Cut.{start_of, opens_number};
 ghost use Rattle.facet_json_token.specs.Token.{Kind};
 ghost use Rattle.facet_json_number.specs.Views.{number_of, is_made_number};
 ghost use Rattle.facet_json_document.specs.Meaning.{tree_of_number};
 ghost use Rattle.facet_json_document.specs.Walk.{scalar_by};
-ghost use Rattle.facet_json_strict.specs.RfcNumber.{IsRfcNumber};
+ghost use Rattle.facet_json_strict.specs.RfcNumber.{SomeDigits, IsRfcNumber};
+ghost use Rattle.facet_json_plain.specs.Inner.Whole.{digits_from, OpensNumber};
 ghost use Rattle.facet_json_plain.specs.Values.{IsScalarThere};
 
 use crate::whole::whole_number;
@@ -55,7 +57,9 @@ pub fn short_number_strict<'de>(
 /// Whether a whole number of this length is a single digit or begins with no zero, after a minus if one stands first.
 #[inline(always)]
 fn leads_by_no_zero(input: &[u8], at: usize, first: u8, len: usize) -> bool
-    requires { at + 1 < length input.now }
+    requires here { slice_get input.now at ≡ Some first }
+    requires digits { SomeDigits (slice_range input.now (digits_from at first) (at + len)) }
+    ensures { result ≡ true → IsRfcNumber (slice_range input.now at (at + len)) }
 {
     if first == b'-' {
         len == 2 || input[at + 1] != b'0'
@@ -73,7 +77,8 @@ fn measured_number_strict<'de>(
 ) -> Option<(usize, ScalarValue<'de>)>
     requires here { slice_get input.now at ≡ Some first }
     requires number { start_of first ≡ opens_number }
-    ensures { IfSome result (λ r. IsScalarThere input.now at r.0 (scalar_value_of r.1)) }
+    ensures there { IfSome result (λ r. IsScalarThere input.now at r.0 (scalar_value_of r.1)) }
+    ensures strict { IfSome result (λ r. IsRfcNumber (slice_range input.now at (at + r.0))) }
 {
     let parts = parts_at(input, at);
     if !has_rfc_parts(parts, &input[at..]) {
@@ -98,7 +103,13 @@ fn value_of_parts<'de>(
     input: &'de [u8],
     at: usize,
     parts: Parts,
-) -> Option<(usize, ScalarValue<'de>)> {
+) -> Option<(usize, ScalarValue<'de>)>
+    requires here { OpensNumber input.now at }
+    requires parts { parts ≡ number_parts (drop at input.now) }
+    requires within { at + parts_len parts ≤ length input.now }
+    ensures there { IfSome result (λ r. IsScalarThere input.now at r.0 (scalar_value_of r.1)) }
+    ensures all { IfSome result (λ r. r.0 ≡ parts_len parts) }
+{
     let len = parts.len();
     if parts.is_bare() {
         return None;

@@ -1,12 +1,13 @@
 //! Whole numbers in a window of sixteen bytes: their digits are counted in one step, and no other part is measured.
 
-ghost use Rattle.std.specs.Prelude.{◌≡◌, ◌≢◌, ◌==◌, ◌||◌, ◌+◌, ◌≤◌, ◌^◌, pos, neg_ℤ, Some, length, drop, map, slice_get, IfSome};
+ghost use Rattle.std.specs.Prelude.{◌≡◌, ◌≢◌, ◌==◌, ◌||◌, ◌+◌, ◌≤◌, ◌^◌, pos, neg_ℤ, Some, length, drop, map, slice_get, slice_range, IfSome};
 ghost use Rattle.std.specs.Simd.Lanes.{mask_l};
 ghost use Rattle.facet_format.specs.Bytes.{minus, dot, is_exponent_mark};
 ghost use Rattle.facet_format.specs.Views.{scalar_value_of};
 ghost use Rattle.facet_format.specs.Inner.Window.{is_no_digit};
 ghost use Rattle.facet_json_token.specs.Cut.{start_of, opens_number};
-ghost use Rattle.facet_json_plain.specs.Inner.Whole.{IsWhole};
+ghost use Rattle.facet_json_strict.specs.RfcNumber.{SomeDigits};
+ghost use Rattle.facet_json_plain.specs.Inner.Whole.{IsWhole, digits_from};
 ghost use Rattle.facet_json_plain.specs.Values.{IsScalarThere};
 
 use crate::digits::digits_at;
@@ -23,7 +24,8 @@ pub(crate) fn whole_number<'de>(
 ) -> Option<(usize, ScalarValue<'de>)>
     requires here { slice_get input.now at ≡ Some first }
     requires number { start_of first ≡ opens_number }
-    ensures { IfSome result (λ r. IsScalarThere input.now at r.0 (scalar_value_of r.1)) }
+    ensures there { IfSome result (λ r. IsScalarThere input.now at r.0 (scalar_value_of r.1)) }
+    ensures digits { IfSome result (λ r. SomeDigits (slice_range input.now (digits_from at first) (at + r.0))) }
 {
     if input.len() - at < 17 {
         return None;
@@ -42,7 +44,8 @@ fn digits_there<'de>(input: &'de [u8], at: usize, first: u8) -> Option<(usize, S
     requires number { start_of first ≡ opens_number }
     requires no_minus { first ≢ minus }
     requires room { at + 17 ≤ length input.now }
-    ensures { IfSome result (λ r. IsScalarThere input.now at r.0 (scalar_value_of r.1)) }
+    ensures there { IfSome result (λ r. IsScalarThere input.now at r.0 (scalar_value_of r.1)) }
+    ensures digits { IfSome result (λ r. SomeDigits (slice_range input.now at (at + r.0))) }
 {
     match whole_len(input, at) {
         Some(len) => Some((len, ScalarValue::U64(digits_at(input, at, len)))),
@@ -55,7 +58,8 @@ fn digits_there<'de>(input: &'de [u8], at: usize, first: u8) -> Option<(usize, S
 fn negative_there<'de>(input: &'de [u8], at: usize) -> Option<(usize, ScalarValue<'de>)>
     requires here { slice_get input.now at ≡ Some minus }
     requires room { at + 17 ≤ length input.now }
-    ensures { IfSome result (λ r. IsScalarThere input.now at r.0 (scalar_value_of r.1)) }
+    ensures there { IfSome result (λ r. IsScalarThere input.now at r.0 (scalar_value_of r.1)) }
+    ensures digits { IfSome result (λ r. SomeDigits (slice_range input.now (at + 1) (at + r.0))) }
 {
     let Some(len) = whole_len(input, at + 1) else {
         return None;

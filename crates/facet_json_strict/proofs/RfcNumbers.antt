@@ -1,15 +1,15 @@
 -- The test finds the numbers of RFC 8259: what it accepts is one, and each one is accepted.
-use Rattle.std.proofs.Common.{◌≡◌, ℕ, zero, suc, ◌+◌, ◌<◌, ◌≤◌, Bool, true, false, not, cond, ◌&&◌, ◌==◌, nat_lt, nat_le, List, [], ◌∷◌, ◌++◌, ◌⊎◌, inl, inr, length, take, drop, refl, sym, ap, subst, ◌∙◌, arith, length-append, append_assoc, ltb-true, take-add}
-use Rattle.std.proofs.lemmas.Bool.{and_parts, and_from, eqb-true}
+use Rattle.std.proofs.Common.{◌≡◌, ◌≢◌, ℕ, zero, suc, ◌+◌, ◌<◌, ◌≤◌, Bool, true, false, cond, ◌==◌, List, [], ◌∷◌, ◌++◌, ◌⊎◌, inl, inr, length, take, drop, get_or, refl, sym, ap, subst, ◌∙◌, arith, length-append, append_assoc, ltb-true, take-add}
+use Rattle.std.proofs.lemmas.Bool.{and_parts, and_from, eqb-true, ne_eqb}
 use Rattle.std.proofs.lemmas.Bool.Decides.{nat_tests}
 use Rattle.std.proofs.lemmas.List.{take_all, append-nil, drop_at}
 use Rattle.facet_format.specs.Bytes.{is_sign, dot}
 use Rattle.facet_format.specs.Number.{IsNumeral, digits_len, minus_len, fraction_len, sign_len, exponent_len, is_some_len, parts, parts_len, hint_of}
 use Rattle.facet_format.specs.Number as numbers
 use Rattle.std.proofs.Common.{lt-ltb}
-use Rattle.facet_format.proofs.NumberLaws.{minus-taken, digits-taken, sign-taken, parts-is, digits_len-append}
+use Rattle.facet_format.proofs.NumberLaws.{minus-taken, digits-taken, sign-taken, parts-is}
 use Rattle.facet_json_strict.specs.RfcNumber.{is_digit, is_first_digit, is_exponent_mark, AreDigits, none, digit, SomeDigits, IsMinus, IsWhole, nought, IsFraction, IsExponentSign, IsExponent, IsRfcNumber}
-use Rattle.facet_json_strict.specs.RfcNumberTest.{is_whole_of, is_fraction_of, is_exponent_of, is_rfc_number}
+use Rattle.facet_json_strict.specs.RfcNumberTest.{is_whole_of, is_fraction_of, is_exponent_of, are_rfc_parts, is_rfc_number}
 
 -- ---- what the reader takes for digits and signs, and what RFC 8259 does
 
@@ -47,7 +47,7 @@ first_digit : (b : ℕ) → is_digit b ≡ true → (b == 0x30) ≡ false → is
 first_digit b d n = grind (arith, nat_tests)
 
 -- Digits of which there are some.
-some-taken : (bytes : List ℕ) → 0 < digits_len bytes → SomeDigits (take (digits_len bytes) bytes)
+pub some-taken : (bytes : List ℕ) → 0 < digits_len bytes → SomeDigits (take (digits_len bytes) bytes)
 some-taken [] h = absurd (omega arith)
 some-taken (b ∷ bytes) h = by (is_digit b) refl h
   where
@@ -108,34 +108,58 @@ exponent_taken (b ∷ bytes) e = by (is_exponent_mark b) refl e
     by true m k = exponent-of b bytes m k
     by false m k = IsExponent.absent
 
-pub is_rfc-sound : (text : List ℕ) → is_rfc_number text ≡ true → IsRfcNumber text
-unfolding is_rfc_number parts
-is_rfc-sound text e =
+-- Where the parts of what stands at the start pass the tests, that is a number of RFC 8259, whatever follows.
+pub are_rfc_parts-sound : (text : List ℕ) → are_rfc_parts (parts text) text ≡ true → IsRfcNumber (take (parts_len (parts text)) text)
+unfolding parts
+are_rfc_parts-sound text e =
     let s = minus_len text in
     let d = digits_len (drop s text) in
     let f = fraction_len (drop (s + d) text) in
     let x = exponent_len (drop (s + d + f) text) in
     let tests = and_parts _ _ e in
     let front = and_parts _ _ tests.0 in
-    let first = and_parts _ _ front.0 in
-    let long : s + d + f + x ≡ length text = eqb-true _ _ first.0 in
     let two : take (s + d) text ≡ take s text ++ take d (drop s text) = take-add s d text in
     let three : take (s + d + f) text ≡ take (s + d) text ++ take f (drop (s + d) text) = take-add (s + d) f text in
     let four : take (s + d + f + x) text ≡ take (s + d + f) text ++ take x (drop (s + d + f) text) = take-add (s + d + f) x text in
-    let all : take (s + d + f + x) text ≡ text = take_all (s + d + f + x) text (omega (arith, long)) in
     record {
       sign = take s text;
       whole = take d (drop s text);
       fraction = take f (drop (s + d) text);
       exponent = take x (drop (s + d + f) text);
       is_minus = minus_is (minus-taken text);
-      is_whole = whole-taken (drop s text) first.1;
+      is_whole = whole-taken (drop s text) front.0;
       is_fraction = fraction_taken (drop (s + d) text) front.1;
       is_exponent = exponent_taken (drop (s + d + f) text) tests.1;
-      parts =
-          sym all ∙ four
-          ∙ ap (λ l. l ++ take x (drop (s + d + f) text)) (three ∙ ap (λ l. l ++ take f (drop (s + d) text)) two);
+      parts = four ∙ ap (λ l. l ++ take x (drop (s + d + f) text)) (three ∙ ap (λ l. l ++ take f (drop (s + d) text)) two);
     }
+
+-- What is accepted is a number of RFC 8259.
+pub is_rfc-sound : (text : List ℕ) → is_rfc_number text ≡ true → IsRfcNumber text
+unfolding is_rfc_number
+is_rfc-sound text e =
+    let tests = and_parts _ _ e in
+    let long : parts_len (parts text) ≡ length text = eqb-true _ _ tests.0 in
+    subst IsRfcNumber (take_all (parts_len (parts text)) text (omega (arith, long))) (are_rfc_parts-sound text tests.1)
+
+-- Digits of which the first is no 0, or which are one, are a whole number.
+pub leads-by_no_zero : (digits : List ℕ) → SomeDigits digits → (length digits ≤ 1) ⊎ (get_or digits 0 0 ≢ 0x30) → IsWhole digits
+leads-by_no_zero _ (SomeDigits.digits c [] is d) either = whole-of c [] 0 is none refl
+leads-by_no_zero _ (SomeDigits.digits c (b ∷ others) is d) (inl one) = absurd (omega arith)
+leads-by_no_zero _ (SomeDigits.digits c (b ∷ others) is d) (inr other) = IsWhole.digits c (b ∷ others) (first_digit c is (ne_eqb c 0x30 other)) d
+
+-- A whole number, perhaps after a minus, is a number of RFC 8259.
+pub whole-rfc : (sign whole : List ℕ) → IsMinus sign → IsWhole whole → IsRfcNumber (sign ++ whole)
+whole-rfc sign whole m w = record {
+  sign = sign;
+  whole = whole;
+  fraction = [];
+  exponent = [];
+  is_minus = m;
+  is_whole = w;
+  is_fraction = IsFraction.absent;
+  is_exponent = IsExponent.absent;
+  parts = sym (append-nil (sign ++ whole ++ []) ∙ append-nil (sign ++ whole));
+}
 
 -- ---- each is accepted
 
@@ -146,7 +170,8 @@ whole-digits _ (IsWhole.digits c others f d) = numbers.digit c others (grind (ar
 some-digits : (ds : List ℕ) → SomeDigits ds → numbers.AreDigits ds
 some-digits _ (SomeDigits.digits c others is d) = numbers.digit c others is (digits_of_reader d)
 
-some-length : (ds : List ℕ) → SomeDigits ds → 0 < length ds
+-- Digits of which there are some have a length.
+pub some-length : (ds : List ℕ) → SomeDigits ds → 0 < length ds
 some-length _ (SomeDigits.digits c others is d) = omega arith
 
 fraction-is : {f : List ℕ} → (is : IsFraction f) → (b : Bool) × numbers.IsFraction f b
@@ -208,6 +233,7 @@ exponent-tests _ (IsExponent.present mark sign digits others m s d e) =
     let measured = ap sign_len e ∙ sign-measured sign digits s d in
     lt-ltb (sign_len others) (length others) (omega (arith, measured, ap length e, length-append sign digits, some))
 
+-- Each number of RFC 8259 is accepted.
 pub is_rfc-complete : (text : List ℕ) → IsRfcNumber text → is_rfc_number text ≡ true
 unfolding is_rfc_number numeral
 is_rfc-complete text n =
@@ -220,12 +246,12 @@ is_rfc-complete text n =
     let one : text ≡ n.sign ++ (n.whole ++ tail) = n.parts ∙ append_assoc (n.sign ++ n.whole) n.fraction n.exponent ∙ append_assoc n.sign n.whole tail in
     let whole_there : drop s text ≡ n.whole ++ tail = ap (drop s) one ∙ drop_at n.sign (n.whole ++ tail) s refl in
     let front : length (n.sign ++ n.whole ++ n.fraction) ≡ s + d + f =
-        omega (arith, length-append (n.sign ++ n.whole) n.fraction, length-append n.sign n.whole) in
+    omega (arith, length-append (n.sign ++ n.whole) n.fraction, length-append n.sign n.whole) in
     let exponent_there : drop (s + d + f) text ≡ n.exponent =
-        ap (drop (s + d + f)) n.parts ∙ drop_at (n.sign ++ n.whole ++ n.fraction) n.exponent (s + d + f) front in
+    ap (drop (s + d + f)) n.parts ∙ drop_at (n.sign ++ n.whole ++ n.fraction) n.exponent (s + d + f) front in
     let long : s + d + f + x ≡ length text =
-        omega (arith, front, ap length n.parts, length-append (n.sign ++ n.whole ++ n.fraction) n.exponent) in
+    omega (arith, front, ap length n.parts, length-append (n.sign ++ n.whole ++ n.fraction) n.exponent) in
     let whole_is = ap (is_whole_of d) whole_there ∙ whole-tests n.whole tail n.is_whole in
     let exponent_is = ap (is_exponent_of x) exponent_there ∙ exponent-tests n.exponent n.is_exponent in
     let same_length : (s + d + f + x == length text) ≡ true = grind arith in
-    rw measured (and_from _ _ (and_from _ _ (and_from _ _ same_length whole_is) (fraction-tests n.fraction n.is_fraction)) exponent_is)
+    rw measured (and_from _ _ same_length (and_from _ _ (and_from _ _ whole_is (fraction-tests n.fraction n.is_fraction)) exponent_is))

@@ -1,5 +1,5 @@
 -- The first wrong byte of a content, after a run that escapes nothing, after an escape, and where one stands.
-use Rattle.std.proofs.Common.{◌≡◌, ℕ, zero, suc, ◌+◌, ◌-◌, ◌<◌, ◌≤◌, Bool, true, false, not, cond, ◌||◌, ◌&&◌, ◌==◌, nat_le, List, [], ◌∷◌, length, take, drop, get_or, slice_range, Option, Some, None, refl, sym, ap, ◌∙◌, arith, length-drop, length-take, drop-cons}
+use Rattle.std.proofs.Common.{◌≡◌, ℕ, zero, suc, ◌+◌, ◌-◌, ◌<◌, ◌≤◌, Bool, true, false, cond, ◌==◌, nat_le, List, [], ◌∷◌, length, take, drop, get_or, slice_range, Option, Some, None, refl, sym, ap, ◌∙◌, arith, length-drop, drop-cons}
 use Rattle.std.proofs.lemmas.List.{drop-drop, get_or-drop, get_or-take}
 use Rattle.std.proofs.lemmas.List.Sums.{prefix_len_stops}
 use Rattle.facet_json_token.specs.Token.{unexpected_char}
@@ -9,7 +9,7 @@ use Rattle.std.specs.Option.{option_map}
 use Rattle.std.proofs.lemmas.Bool.Decides.{nat_tests}
 use Rattle.facet_format.specs.Bytes.{backslash}
 use Rattle.facet_json_token.specs.Gap.{one_more}
-use Rattle.facet_json_strict.specs.Inner.Window.{is_stop, is_plain}
+use Rattle.facet_json_strict.specs.Inner.Window.{is_plain}
 use Rattle.facet_json_strict.specs.Strict.{may_stand, wrong_at, content_fault}
 
 -- so many bytes later

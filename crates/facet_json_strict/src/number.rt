@@ -1,8 +1,9 @@
 //! Whether a text is a number of RFC 8259.
 
 ghost use Rattle.std.specs.Prelude.{◌≡◌, ◌≤◌, length, drop, slice_range, MatchResult};
+ghost use Rattle.facet_format.specs.Number.{parts_len};
 ghost use Rattle.facet_json_strict.specs.RfcNumber.{IsRfcNumber};
-ghost use Rattle.facet_json_strict.specs.RfcNumberTest.{is_rfc_number as spec_is_rfc_number, is_whole_of, is_exponent_of};
+ghost use Rattle.facet_json_strict.specs.RfcNumberTest.{is_rfc_number as spec_is_rfc_number, are_rfc_parts, is_whole_of, is_exponent_of};
 ghost use Rattle.facet_json_strict.specs.Views.{number_refused};
 
 use facet_format::Span;
@@ -52,7 +53,10 @@ fn is_rfc_number(text: &[u8]) -> bool
 
 /// Whether the parts of the number with which the text begins are those of a number of RFC 8259.
 #[inline(always)]
-pub fn has_rfc_parts(parts: Parts, text: &[u8]) -> bool {
+pub fn has_rfc_parts(parts: Parts, text: &[u8]) -> bool
+    requires { parts_len parts ≤ length text.now }
+    ensures { result ≡ are_rfc_parts parts text.now }
+{
     let digits = parts.digits_start();
     let fraction = parts.fraction_start();
     let exponent = parts.exponent_start();

@@ -1,6 +1,8 @@
 -- Digits that are all of a number.
-use Rattle.std.specs.Prelude.{◌≡◌, ℕ, ◌<◌, List, drop}
+use Rattle.std.specs.Prelude.{◌≡◌, ℕ, ◌+◌, ◌<◌, ◌==◌, List, Some, cond, drop, slice_get}
+use Rattle.facet_format.specs.Bytes.{minus}
 use Rattle.facet_format.specs.Number.{digits_len, fraction_len, exponent_len}
+use Rattle.facet_json_token.specs.Cut.{start_of, opens_number}
 
 -- The bytes begin with so many digits, some and fewer than sixteen, and after them is neither a fraction nor an exponent.
 pub record IsWhole (bytes : List ℕ) (n : ℕ) : Type 0 where
@@ -9,3 +11,13 @@ pub record IsWhole (bytes : List ℕ) (n : ℕ) : Type 0 where
   pub no_exponent : exponent_len (drop n bytes) ≡ 0
   pub some : 0 < n
   pub few : n < 16
+
+-- where the digits begin of a number that this byte begins: after a minus
+abbrev pub digits_from : ℕ → ℕ → ℕ
+digits_from at first = cond (first == minus) (at + 1) at
+
+-- a number may begin at this offset
+pub record OpensNumber (buffer : List ℕ) (at : ℕ) : Type 0 where
+  pub first : ℕ
+  pub here : slice_get buffer at ≡ Some first
+  pub begins : start_of first ≡ opens_number

@@ -1,9 +1,6 @@
 -- The first wrong byte of what is left: none at the end, the one that stands there, the one that is escaped, or one after an escape.
-use Rattle.std.proofs.Common.{◌≡◌, ◌<◌, ◌≤◌, ◌+◌, ℕ, suc, false, true, List, length, drop, get_or, slice_range, None, Some, refl, sym, ap, ◌∙◌, arith, subst, not}
-use Rattle.std.specs.List.{prefix_len}
+use Rattle.std.proofs.Common.{◌≡◌, ◌<◌, ◌≤◌, ◌+◌, suc, false, true, length, get_or, slice_range, sym, ap, ◌∙◌, arith, subst}
 use Rattle.std.proofs.lemmas.Bool.{ne_eqb}
-use Rattle.facet_format.specs.Bytes.{backslash}
-use Rattle.facet_json_strict.specs.Inner.Window.{is_plain}
 use Rattle.facet_json_strict.specs.Strict.{may_stand}
 use Rattle.facet_json_strict.specs.Views.{TellsWrong, byte_refused}
 use Rattle.facet_json_strict.proofs.StringSteps.{wrong_from, from-run, none-left, from-control, from-lone, from-escaped, from-after, none-wrong, tells, stop-there, control-there}
@@ -49,7 +46,7 @@ returns-then-not-may_be_escaped c =
     let less : suc stop < c.args.end = omega arith in
     let bad : may_stand true (get_or buf (suc stop) 0) ≡ false = grind (arith, c.may_be_escaped.ensures) in
     let found = c.loop-at.invariant.same fits ∙ from-run buf c.args.end fits c.loop-at.at stop run.ahead run.within run.run
-        ∙ from-escaped buf c.args.end fits stop (omega arith) less bad in
+    ∙ from-escaped buf c.args.end fits stop (omega arith) less bad in
     let same = c.wrong-then-not-may_be_escaped.ensures ∙ ap (λ k. byte_refused (get_or buf k 0) k) next in
     subst (TellsWrong (slice_range buf c.args.start c.args.end) c.args.start) (sym same) (tells buf c.args.end fits c.args.start (suc stop) less found)
 
@@ -62,7 +59,7 @@ loop-at-preserved c =
     let two : (stop + 1) + 1 ≡ suc (suc stop) = omega arith in
     let good : may_stand true (get_or buf (suc stop) 0) ≡ true = grind (arith, c.may_be_escaped.ensures) in
     let on = c.loop-at.invariant.same fits ∙ from-run buf c.args.end fits c.loop-at.at stop run.ahead run.within run.run
-        ∙ from-after buf c.args.end fits stop (omega arith) (omega arith) good in
+    ∙ from-after buf c.args.end fits stop (omega arith) (omega arith) good in
     record {
       ahead = omega (arith, c.loop-at.invariant.ahead);
       within = omega arith;
