@@ -36,8 +36,7 @@ pub use facet_json_tree::Tree;
 pub use facet_json_typed::{
     Facet, from_slice, from_slice_borrowed, from_slice_borrowed_jsonc, from_slice_jsonc,
     from_slice_strict, from_str, from_str_borrowed, from_str_borrowed_jsonc, from_str_jsonc,
-    from_str_strict, to_string, to_string_pretty,
-    to_string_with_options, to_vec, to_vec_pretty, to_vec_with_options, to_writer_std,
-    to_writer_std_pretty, to_writer_std_with_options,
+    from_str_strict, to_string, to_string_pretty, to_string_with_options, to_vec, to_vec_pretty,
+    to_vec_with_options, to_writer_std, to_writer_std_pretty, to_writer_std_with_options,
 };
 pub use facet_json_write::write_tree;

@@ -3,7 +3,7 @@
 pub use facet_json_scan::{
     ByteSource, DecodeError, Marked, Mode, NumberHint, ParsedNumber, ScanError, ScanErrorKind,
     ScanReadError, ScanResult, Scanned, Scanner, SpannedToken, Token, check_content,
-    check_number_strict, check_string_strict, cut, decode_string, decode_string_borrowed, decode_string_borrowed_unchecked, decode_string_owned,
-    decode_string_owned_unchecked, decode_string_unchecked, parse_number, parse_number_unchecked,
-    scan_reader,
+    check_number_strict, check_string_strict, cut, decode_string, decode_string_borrowed,
+    decode_string_borrowed_unchecked, decode_string_owned, decode_string_owned_unchecked,
+    decode_string_unchecked, parse_number, parse_number_unchecked, scan_reader,
 };

@@ -1,19 +1,19 @@
 -- Where the rules are strict: what comes is finished exactly where the tokens are those of a document of RFC 8259 alone.
 use Rattle.std.specs.Prelude.{ℕ, List}
-use Rattle.std.proofs.Common.{◌≡◌, ◌⊎◌, inl, inr, ℕ, Bool, true, false, List, [], Option, Some, None, refl, sym, ap, ◌∙◌}
+use Rattle.std.proofs.Common.{◌≡◌, ◌⊎◌, inl, inr, ℕ, Bool, true, false, List, Option, Some, None, refl, sym, ap, ◌∙◌}
 use Rattle.facet_format.specs.Event.{ContainerKind, Passed}
 use Rattle.facet_json_token.specs.Token.{Kind, Token, Fault}
 use Rattle.facet_json_token.specs.Token as token
 use Rattle.facet_json_token.specs.Tokens.{Tokens, ended, refused, next}
 use Rattle.facet_json_strict.specs.Strict.{strict_fault}
-use Rattle.facet_json_document.specs.Future.{Future, gives, finished, stuck, events_before, Stage, within, over, behind_root, stack_after, stage_after, after_value, reads_by, reads_colon_by}
+use Rattle.facet_json_document.specs.Future.{Future, finished, events_before, Stage, within, over, behind_root, stack_after, stage_after, after_value, reads_by, reads_colon_by}
 use Rattle.facet_json_document.specs.Language.{strict_rules}
 use Rattle.facet_json_document.specs.Place.{Place, root, before_key, after_key, after_colon, after_member, before_item, after_item, next_key, next_item, after_root, Turn, stops, passes, says, says_scalar, names, place_turn, goes_on, led}
 use Rattle.facet_json_document.specs.StrictDocument.{is_closing, begins_closing, AreStrict, none_left, one_more}
 use Rattle.facet_json_document.specs.StrictTokens.{strict_tokens}
 use Rattle.facet_json_document.specs.Walk.{event_at, scalar_event, key_event}
 use Rattle.facet_json_document.proofs.Parts.FinishedComes.{begins-with, never-stuck, takes_turn}
-use Rattle.facet_json_document.proofs.WalkComes.{follows, reads-turn, reads-ended, reads-refused, colon-ended, colon-refused, colon-missing, colon-stands}
+use Rattle.facet_json_document.proofs.WalkComes.{follows, reads-ended, reads-refused, colon-ended, colon-refused, colon-missing, colon-stands}
 
 -- ---- commas
 
@@ -143,8 +143,8 @@ module _ (buffer : List ℕ) where
       let there = sym (ap (reads_by strict_rules buffer stack (within place)) (strict-next t rest None a)) ∙ e in
       let taken = takes_turn strict_rules buffer stack place t (strict_tokens buffer rest) ps (place_turn place t.kind) refl there in
       let comma : t.kind ≡ token.comma → begins_closing rest ≡ false =
-          λ k. comma-strict place t stack rest (place_turn place token.comma) ps (comma_there place)
-          (takes_turn strict_rules buffer stack place t (strict_tokens buffer rest) ps (place_turn place token.comma) (ap (place_turn place) k) there) in
+      λ k. comma-strict place t stack rest (place_turn place token.comma) ps (comma_there place)
+      (takes_turn strict_rules buffer stack place t (strict_tokens buffer rest) ps (place_turn place token.comma) (ap (place_turn place) k) there) in
       one_more t rest a comma (follows-strict place t stack rest (place_turn place t.kind) ps h g taken)
 
   colon-token : (stack : List ContainerKind) (key mark : Token) (rest : Tokens) (ps : List Passed) (o : Option Fault) →

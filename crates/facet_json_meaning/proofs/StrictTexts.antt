@@ -1,6 +1,6 @@
 -- What a strict parser answers on texts of RFC 8259, and elsewhere.
-use Rattle.std.proofs.Common.{◌≡◌, ◌<◌, ℕ, zero, suc, List, [], ◌∷◌, Ok, Err, None, Some, length, arith}
-use Rattle.std.specs.Prelude.{Contains, slice_index_or}
+use Rattle.std.proofs.Common.{◌≡◌, ◌<◌, ℕ, zero, suc, List, Ok, None, length, arith}
+use Rattle.std.specs.Prelude.{slice_index_or}
 use Rattle.facet_format.specs.Complaint.{Refusal}
 use Rattle.facet_format.specs.Cursor.{Answer, event}
 use Rattle.facet_format.specs.Event.{Passed}

@@ -29,8 +29,8 @@ use std::marker::Model;
 
 /// A parser of a JSON document (RFC 8259, sections 2 to 7), event by event, over an input that lives for `'de`.
 ///
-/// The document is the value at the start of the input; what stands after it is not looked at. Offsets and lengths of
-/// spans are in bytes.
+/// The document is the value at the start of the input. What stands after it is not looked at, but by a parser that
+/// `new_strict` makes: there it must be white space. Offsets and lengths of spans are in bytes.
 ///
 /// ```text
 /// let mut parser = JsonParser::new(alloc, b"{\"a\":[1]}");

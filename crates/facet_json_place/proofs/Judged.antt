@@ -1,5 +1,5 @@
 -- The slices of a token that is cut, and what RFC 8259 says of it.
-use Rattle.std.proofs.Common.{◌≡◌, ℕ, ◌+◌, ◌-◌, ◌≤◌, Bool, true, false, cond, List, length, Option, Some, None, refl, sym, ap, subst, ◌∙◌, arith, slice_range}
+use Rattle.std.proofs.Common.{◌≡◌, ℕ, ◌+◌, ◌-◌, ◌≤◌, Bool, true, false, List, length, Some, refl, sym, subst, ◌∙◌, arith, slice_range}
 use Rattle.std.specs.Prelude.{Result, Ok, Err, MatchResult, IfSome, IsSome}
 use Rattle.std.proofs.lemmas.Option.{same_Some}
 use Rattle.facet_format.specs.declared.span.Span.{Span as RustSpan}
@@ -8,16 +8,15 @@ use Rattle.facet_json_token.specs.declared.token.Token.TheVariants as code
 use Rattle.facet_json_token.specs.declared.token.SpannedToken.{SpannedToken}
 use Rattle.facet_json_token.specs.declared.token.ScanError.{ScanError}
 use Rattle.facet_format.specs.Number.{Hint}
-use Rattle.facet_format.specs.Span.{stop, span_at}
+use Rattle.facet_format.specs.Span.{stop}
 use Rattle.facet_format.specs.Views.{span_of, hint_of}
-use Rattle.facet_json_token.specs.Cut.{Cut, nothing_left, token as cut_token, fault, cut}
+use Rattle.facet_json_token.specs.Cut.{Cut, fault, cut}
 use Rattle.facet_json_token.specs.Gap.{Mode}
-use Rattle.facet_json_token.specs.Token.{Kind, Token, Fault, number, unexpected_char}
+use Rattle.facet_json_token.specs.Token.{Kind, Token, number, unexpected_char}
 use Rattle.facet_json_token.specs.Views.{kind_of, scanned, fault_answer}
 use Rattle.facet_json_token.proofs.CutBounds.{KindFits, StringFits, NumberFits}
 use Rattle.facet_json_strict.specs.RfcNumber.{IsRfcNumber}
 use Rattle.facet_json_strict.specs.RfcNumberTest.{is_rfc_number}
-use Rattle.facet_json_strict.specs.Strict.{strict_fault}
 use Rattle.facet_json_strict.specs.Views.{number_refused}
 use Rattle.facet_json_strict.proofs.RfcNumbers.{is_rfc-sound, is_rfc-complete}
 use Rattle.facet_json_document.specs.Language.{lenient}

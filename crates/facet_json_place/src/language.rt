@@ -1,14 +1,13 @@
 //! The language that a parser reads.
 
-ghost use Rattle.std.specs.Prelude.{◌≡◌, ◌≤◌, Bool, true, Some, None, length, IfOk, IfErr, IfSome, IsSome, MatchResult};
-ghost use Rattle.facet_format.specs.Number.{Hint};
-ghost use Rattle.facet_format.specs.Span.{Span as SpecSpan, span_at};
+ghost use Rattle.std.specs.Prelude.{◌≡◌, ◌≤◌, Some, length, IfOk, IfErr, IfSome, IsSome};
+ghost use Rattle.facet_format.specs.Span.{span_at};
 ghost use Rattle.facet_format.specs.Views.{span_of};
 ghost use Rattle.facet_json_token.specs.Token.{number, string};
 ghost use Rattle.facet_json_token.specs.Views.{mode_of, kind_of, scanned};
 ghost use Rattle.facet_json_document.specs.Language.{strict, gaps, rules};
 ghost use Rattle.facet_json_document.specs.Place.{led};
-ghost use Rattle.facet_json_document.specs.StrictTokens.{Allows, cut_in};
+ghost use Rattle.facet_json_document.specs.StrictTokens.{cut_in};
 ghost use Rattle.facet_json_place.specs.Views.{language_of, least_of, place_of, HasSlices, IsJudged};
 
 use crate::place::Place;

@@ -1,12 +1,11 @@
 -- Texts without an escape and numbers that a language has: what is told of their bytes is what RFC 8259 asks of them.
-use Rattle.std.proofs.Common.{◌≡◌, ◌+◌, ℕ, Bool, true, false, not, ◌==◌, ◌&&◌, nat_le, List, [], ◌∷◌, None, slice_range, refl, ap, ◌∙◌}
+use Rattle.std.proofs.Common.{◌≡◌, ℕ, Bool, true, false, not, ◌==◌, ◌&&◌, nat_le, List, [], ◌∷◌, None, slice_range, refl}
 use Rattle.std.specs.List.{list_all}
 use Rattle.std.proofs.lemmas.Bool.{and_parts}
 use Rattle.facet_format.specs.Bytes.{backslash}
 use Rattle.facet_format.specs.Number.{Hint}
 use Rattle.facet_format.specs.Span.{Span}
-use Rattle.facet_json_token.specs.Gap.{one_more}
-use Rattle.facet_json_token.specs.Token.{Token, string, number}
+use Rattle.facet_json_token.specs.Token.{string, number}
 use Rattle.facet_json_strict.specs.RfcNumber.{IsRfcNumber}
 use Rattle.facet_json_strict.specs.Strict.{wrong_at}
 use Rattle.facet_json_strict.proofs.RfcNumbers.{is_rfc-complete}

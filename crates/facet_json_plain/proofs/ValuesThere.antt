@@ -1,18 +1,16 @@
 -- What is told of the bytes at an offset is a scalar there.
-use Rattle.std.proofs.Common.{◌≡◌, ℕ, ◌+◌, ◌-◌, ◌≤◌, false, List, Some, arith, length, drop, slice_get, slice_range, refl, ap}
+use Rattle.std.proofs.Common.{◌≡◌, ℕ, ◌+◌, ◌-◌, false, List, Some, drop, slice_get, slice_range, refl, ap}
 use Rattle.std.specs.Option.{option_map}
-use Rattle.std.proofs.lemmas.Option.{slice_get_within}
 use Rattle.facet_format.specs.Event.{Scalar, borrowed}
 use Rattle.facet_format.specs.Event as event
 use Rattle.facet_format.specs.Number.{Hint, Parts, parts, parts_len, parts_hint, is_bare, Number, number}
 use Rattle.facet_json_token.specs.Cut.{opens_number, start_of}
-use Rattle.facet_json_token.specs.Gap.{plain}
 use Rattle.facet_json_token.specs.Token.{Kind, string}
 use Rattle.facet_json_token.specs.Token as token
 use Rattle.facet_json_document.specs.Meaning.{tree_of_number}
 use Rattle.facet_json_document.specs.Tree as tree
 use Rattle.facet_json_document.specs.Walk.{scalar_by}
-use Rattle.facet_json_place.proofs.TokensThere.{there-fits, number-cut}
+use Rattle.facet_json_place.proofs.TokensThere.{number-cut}
 use Rattle.facet_json_plain.specs.Values.{IsPlainText, IsScalarThere}
 
 -- A string without an escape is a scalar.
@@ -32,12 +30,6 @@ pub text_there-kind : (buffer : List ℕ) (at finish : ℕ) (bytes : List ℕ) (
     (text-there buffer at finish bytes is).kind ≡ string (at + 1) finish false
 unfolding text-there
 text_there-kind buffer at finish bytes is = refl
-
--- A scalar that stands there ends within the buffer.
-pub there-within : (buffer : List ℕ) (at b len : ℕ) (value : Scalar) → slice_get buffer at ≡ Some b → IsScalarThere buffer at len value →
-    at + len ≤ length buffer
-there-within buffer at b len value here there =
-    (there-fits plain buffer at len there.kind (omega (arith, slice_get_within buffer at b here)) (there.cut plain)).within
 
 -- A number with a value is a scalar, too.
 pub number-there : (buffer : List ℕ) (at b len : ℕ) (q : Parts) (hint : Hint) (n : Number) (value : Scalar) → slice_get buffer at ≡ Some b →

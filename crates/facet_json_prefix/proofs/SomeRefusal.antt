@@ -15,7 +15,7 @@ use Rattle.facet_format.specs.Complaint.{Refusal}
 use Rattle.facet_json_document.specs.Refusal.{needs_meaning, IsStuck, at_end, at_fault, meaningless, misplaced, Complains, of_number, of_plain_string, of_escaped_string}
 use Rattle.facet_format.specs.Event.{ContainerKind, Passed}
 use Rattle.facet_json_document.specs.Walk.{key_event}
-use Rattle.facet_json_document.specs.Future.{gives, stuck, events_before, Stage, within, over, after_value, stack_after, stage_after, is_meaningless, turn, behind_root, reads, reads_by, reads_colon, reads_colon_by}
+use Rattle.facet_json_document.specs.Future.{gives, stuck, events_before, Stage, within, over, after_value, stack_after, stage_after, is_meaningless, turn, behind_root, reads, reads_by, reads_colon_by}
 use Rattle.facet_json_document.proofs.WalkComes.{follows, reads-turn}
 use Rattle.facet_json_decode.specs.Decode.{decoded}
 use Rattle.facet_json_decode.specs.Laws.{HasTextOrFault}

@@ -1,19 +1,19 @@
 -- What comes from the root of an input where RFC 8259 alone is read.
 use Rattle.std.specs.Prelude.{ℕ, List}
-use Rattle.std.proofs.Common.{◌≡◌, ◌⊎◌, inl, inr, ℕ, Bool, true, false, List, [], ◌∷◌, refl, sym, ap, ◌∙◌, subst}
+use Rattle.std.proofs.Common.{◌≡◌, ℕ, Bool, true, false, List, [], ◌∷◌, refl, sym, ap, ◌∙◌, subst}
 use Rattle.facet_format.specs.Event.{ContainerKind, object, array, EventKind, Passed}
 use Rattle.facet_format.specs.Event as event
 use Rattle.facet_json_token.specs.Gap.{plain}
 use Rattle.facet_json_token.specs.Token.{Kind, Token}
 use Rattle.facet_json_token.specs.Token as token
 use Rattle.facet_json_token.specs.Tokens.{Tokens, ended, refused, next, tokens}
-use Rattle.facet_json_document.specs.Document.{IsDocument, IsWholeDocument}
-use Rattle.facet_json_document.specs.Future.{Future, gives, finished, stuck, events_before, Stage, within, over, after_value, around, behind_root, stack_after, stage_after, is_meaningless, turn, reads, reads_by, reads_colon, reads_colon_by}
+use Rattle.facet_json_document.specs.Document.{IsDocument}
+use Rattle.facet_json_document.specs.Future.{Future, gives, finished, stuck, events_before, Stage, within, over, after_value, around, behind_root, stage_after, is_meaningless, turn, reads, reads_by, reads_colon, reads_colon_by}
 use Rattle.facet_json_document.specs.Language.{strict, lenient_rules, strict_rules}
 use Rattle.facet_json_document.specs.Node.{Node, Spells}
 use Rattle.facet_json_document.specs.Place.{Place, root, before_key, after_key, after_colon, after_member, before_item, after_item, next_key, next_item, after_root, Turn, stops, passes, says, says_scalar, names, place_turn, leads_on, goes_on, led}
 use Rattle.facet_json_document.specs.StrictDocument.{AreStrict, IsStrictDocument}
-use Rattle.facet_json_document.specs.StrictTokens.{strict_tokens, tokens_in}
+use Rattle.facet_json_document.specs.StrictTokens.{tokens_in}
 use Rattle.facet_json_document.specs.Tree.{Tree}
 use Rattle.facet_json_document.specs.Walk.{event_at, scalar_event, key_event, walk}
 use Rattle.facet_json_document.proofs.Parts.FinishedComes.{begins-with, never-stuck, takes_turn}

@@ -1,7 +1,7 @@
 -- Calls that lead to a parser, and one more call.
-use Rattle.std.proofs.Common.{◌≡◌, List, [], ◌∷◌, ◌++◌, refl, sym, ◌∙◌, subst}
+use Rattle.std.proofs.Common.{[], ◌∷◌, ◌++◌, refl, ◌∙◌, subst}
 use Rattle.facet_format.specs.Cursor.{Call, Answer, Step, no_calls, one_call}
-use Rattle.facet_json_protocol.specs.Now.{Now, SameInput, on_input, LeadsTo}
+use Rattle.facet_json_protocol.specs.Now.{Now, on_input, LeadsTo}
 use Rattle.facet_json_protocol.specs.Move.{Moves, MovesAll}
 use Rattle.facet_json_protocol.proofs.StepLaws.{run-append}
 

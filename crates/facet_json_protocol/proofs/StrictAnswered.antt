@@ -1,18 +1,14 @@
 -- What a new parser answers that reads RFC 8259 alone.
-use Rattle.std.proofs.Common.{◌≡◌, ℕ, List, refl, arith, subst}
-use Rattle.std.specs.Prelude.{Some, None}
-use Rattle.facet_format.specs.Complaint.{Refusal}
-use Rattle.facet_format.specs.Cursor.{Call, Answer, Source, start}
-use Rattle.facet_format.specs.Event.{Passed}
+use Rattle.std.proofs.Common.{ℕ, List, refl, arith}
+use Rattle.facet_format.specs.Cursor.{start}
 use Rattle.facet_format.specs.Alike.{none_kept}
 use Rattle.facet_format.specs.Span.{span_at}
-use Rattle.facet_json_token.specs.Tokens.{Tokens}
 use Rattle.facet_json_token.specs.Gap.{plain}
 use Rattle.facet_json_document.specs.Language.{strict, strict_rules}
 use Rattle.facet_json_document.specs.Node.{Node}
 use Rattle.facet_json_document.specs.Tree.{Tree}
-use Rattle.facet_json_document.specs.Future.{stuck, events_before, within, reads_by}
-use Rattle.facet_json_document.specs.Place.{Place, root}
+use Rattle.facet_json_document.specs.Future.{stuck, within}
+use Rattle.facet_json_document.specs.Place.{root}
 use Rattle.facet_json_document.specs.StrictDocument.{IsStrictDocument}
 use Rattle.facet_json_document.specs.StrictTokens.{tokens_in}
 use Rattle.facet_json_document.specs.Walk.{source_of}
@@ -20,7 +16,7 @@ use Rattle.facet_json_document.proofs.StuckOnce.{stuck-once}
 use Rattle.facet_json_prefix.specs.StrictLaws.{StrictRootComes, document_comes, no_document_comes}
 use Rattle.facet_json_prefix.proofs.SomeRefusal.{stuck-refuses}
 use Rattle.facet_json_prefix.proofs.StrictRoot.{strict_document-comes, strict_input-comes}
-use Rattle.facet_json_protocol.specs.Now.{Now, fresh_in, StandsAt}
+use Rattle.facet_json_protocol.specs.Now.{fresh_in, StandsAt}
 use Rattle.facet_json_protocol.specs.StrictHeadline.{StrictAnswered, as_document, as_none, StrictHeadline}
 use Rattle.facet_json_protocol.proofs.AloneIsGiven.{answers-alone}
 use Rattle.facet_json_protocol.proofs.MoveIsStep.{moves-run}

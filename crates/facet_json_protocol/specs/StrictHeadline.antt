@@ -1,6 +1,6 @@
 -- What a new parser answers that reads RFC 8259 alone. Where the input is a strict document, it answers every list of calls as a cursor on
 -- the document's walk; elsewhere, asked for the next event alone, it answers events and then one refusal, and never the end.
-use Rattle.std.specs.Prelude.{◌≡◌, ◌<◌, ℕ, List, length}
+use Rattle.std.specs.Prelude.{◌<◌, ℕ, List, length}
 use Rattle.facet_format.specs.Span.{span_at}
 use Rattle.facet_format.specs.Complaint.{Refusal}
 use Rattle.facet_format.specs.Event.{Passed}

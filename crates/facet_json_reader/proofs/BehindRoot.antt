@@ -1,5 +1,5 @@
 -- What stands behind the root, where RFC 8259 alone is read.
-use Rattle.std.proofs.Common.{◌≡◌, ◌≤◌, ◌∙◌, ℕ, false, List, length, Option, Some, None, Ok, Err, refl, ap, subst}
+use Rattle.std.proofs.Common.{◌≡◌, ◌≤◌, ℕ, false, List, length, Option, Some, None, Ok, Err, refl, ap}
 use Rattle.facet_json_token.specs.declared.token.Token.TheVariants as code
 use Rattle.facet_json_token.specs.declared.token.SpannedToken.{SpannedToken}
 use Rattle.facet_json_token.specs.declared.token.ScanError.{ScanError}
@@ -10,11 +10,11 @@ use Rattle.facet_format.specs.Span.{Span}
 use Rattle.facet_format.specs.Views.{span_of}
 use Rattle.facet_json_token.specs.Gap.{Mode}
 use Rattle.facet_json_token.specs.Token.{Kind}
-use Rattle.facet_json_token.specs.Tokens.{Tokens, ended, refused, next}
+use Rattle.facet_json_token.specs.Tokens.{Tokens, refused, next}
 use Rattle.facet_json_token.specs.Views.{kind_of, scanned, scan_refusal}
 use Rattle.facet_json_document.specs.Future.{finished, behind_root}
 use Rattle.facet_json_document.specs.Language.{strict, strict_rules}
-use Rattle.facet_json_document.specs.Place.{after_root, stops, goes_on}
+use Rattle.facet_json_document.specs.Place.{after_root, goes_on}
 use Rattle.facet_json_document.specs.Refusal.{at_fault}
 use Rattle.facet_json_document.specs.StrictTokens.{tokens_in, cut_in}
 use Rattle.facet_json_place.specs.Views.{IsNamed, turn_of, turn_by}

@@ -8,7 +8,7 @@ use Rattle.facet_format.specs.Complaint.{Refusal, refusal_at, unexpected_token}
 use Rattle.facet_format.specs.Span.{span_at}
 use Rattle.facet_format.specs.Views.{span_of}
 use Rattle.std.specs.Prelude.{codes}
-use Rattle.facet_json_document.specs.Language.{Language, rules}
+use Rattle.facet_json_document.specs.Language.{Language}
 use Rattle.facet_json_document.specs.StrictTokens.{tokens_in, cut_in}
 use Rattle.facet_json_token.specs.Token.{Kind, colon}
 use Rattle.facet_json_token.specs.Tokens.{Tokens, next}

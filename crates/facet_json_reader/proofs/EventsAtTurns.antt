@@ -14,7 +14,7 @@ use Rattle.facet_format.specs.Span.{Span, stop}
 use Rattle.facet_format.specs.Views.{span_of, event_of}
 use Rattle.facet_json_decode.specs.Decode.{decoded}
 use Rattle.facet_json_document.specs.Language.{Language, rules}
-use Rattle.facet_json_document.specs.StrictTokens.{tokens_in, cut_in}
+use Rattle.facet_json_document.specs.StrictTokens.{tokens_in}
 use Rattle.facet_json_token.specs.Token.{Kind, Token, colon}
 use Rattle.facet_json_token.specs.Token as token
 use Rattle.facet_json_token.specs.Tokens.{Tokens}

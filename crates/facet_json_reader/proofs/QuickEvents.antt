@@ -103,9 +103,11 @@ number_by mode at len n bytes kind hint false e =
 pub number-kind : (buffer : List ℕ) (at len first : ℕ) (value : Scalar) (there : IsScalarThere buffer at len value) → slice_get buffer at ≡ Some first →
     start_of first ≡ opens_number → (hint : Hint) × (there.kind ≡ token.number at (at + len) hint)
 number-kind buffer at len first value there here begins =
-    let p = parts (drop at buffer) in
-    (parts_hint p, number_by plain at len (parts_len p) (drop (at + 1) buffer) there.kind (parts_hint p) (is_bare p)
-    (cut_here-number plain buffer at first here begins ∙ there.cut plain))
+    let p = parts (drop at buffer) in (
+      parts_hint p,
+      number_by plain at len (parts_len p) (drop (at + 1) buffer) there.kind (parts_hint p) (is_bare p)
+          (cut_here-number plain buffer at first here begins ∙ there.cut plain),
+    )
 
 -- A literal needs no meaning.
 pub word-plain : (buffer : List ℕ) (at first : ℕ) (word : List ℕ) (value : Scalar) (is : IsWord first word value) (here : slice_get buffer at ≡ Some first)

@@ -9,10 +9,9 @@ use Rattle.facet_json_token.specs.declared.token.ScanError.{ScanError}
 use Rattle.facet_format.specs.Complaint.{Refusal}
 use Rattle.facet_format.specs.Span.{stop}
 use Rattle.facet_format.specs.Views.{span_of, hint_of}
-use Rattle.facet_json_document.specs.Language.{Language, rules}
+use Rattle.facet_json_document.specs.Language.{Language}
 use Rattle.facet_json_document.specs.StrictTokens.{tokens_in, cut_in}
 use Rattle.facet_json_token.specs.Token.{Kind}
-use Rattle.facet_json_token.specs.Tokens.{ended}
 use Rattle.facet_json_token.specs.Views.{kind_of, scanned, scan_refusal}
 use Rattle.facet_json_token.proofs.CutBounds.{KindFits, StringFits, NumberFits}
 use Rattle.facet_json_document.specs.Place.{Place}

@@ -4,7 +4,7 @@ use Rattle.std.proofs.lemmas.Bool.{and_parts, and_from, eqb-true, ne_eqb}
 use Rattle.std.proofs.lemmas.Bool.Decides.{nat_tests}
 use Rattle.std.proofs.lemmas.List.{take_all, append-nil, drop_at}
 use Rattle.facet_format.specs.Bytes.{is_sign, dot}
-use Rattle.facet_format.specs.Number.{IsNumeral, digits_len, minus_len, fraction_len, sign_len, exponent_len, is_some_len, parts, parts_len, hint_of}
+use Rattle.facet_format.specs.Number.{IsNumeral, digits_len, minus_len, fraction_len, sign_len, exponent_len, parts, parts_len, hint_of}
 use Rattle.facet_format.specs.Number as numbers
 use Rattle.std.proofs.Common.{lt-ltb}
 use Rattle.facet_format.proofs.NumberLaws.{minus-taken, digits-taken, sign-taken, parts-is}

@@ -17,7 +17,7 @@ use Rattle.facet_json_document.proofs.Spelled.{node_within, spelled, document, r
 use Rattle.facet_format.specs.Event.{EventKind, Passed, object, array, borrowed, owned, struct_start, struct_end, sequence_start, sequence_end, field_key, scalar, null, bool, i64, u64, decimal, text}
 use Rattle.facet_json_document.specs.Walk.{walk}
 use Rattle.facet_json_document.specs.Place as place
-use Rattle.facet_json_document.specs.Future.{Future, gives, finished, stuck, reads, reads_by}
+use Rattle.facet_json_document.specs.Future.{Future, gives, finished, stuck, reads_by}
 use Rattle.facet_json_protocol.specs.Now.{future_of, fresh}
 
 -- the walk of the input's document

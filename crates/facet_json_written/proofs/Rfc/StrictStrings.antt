@@ -11,7 +11,7 @@ use Rattle.facet_format.specs.Bytes.{quote, backslash, lower_u}
 use Rattle.facet_json_token.specs.Gap.{one_more}
 use Rattle.facet_json_token.specs.Cut.{ArePieces}
 use Rattle.facet_json_token.specs.Cut as cut
-use Rattle.facet_json_decode.specs.Decode.{short_escape, is_hex, code_unit, Piece, itself, short, other, unit, pair, Decodes}
+use Rattle.facet_json_decode.specs.Decode.{is_hex, code_unit, Piece, itself, short, other, unit, pair, Decodes}
 use Rattle.facet_json_decode.specs.Decode as decode
 use Rattle.facet_json_decode.proofs.CharAt.{Shape, one, two, three, four, shape}
 use Rattle.facet_json_strict.specs.Strict.{may_stand, wrong_at}

@@ -1,5 +1,4 @@
 -- A token that is cut has its slices, and what is wrong with it is the fault that is cut.
-use Rattle.std.proofs.Common.{◌≡◌}
 use Rattle.facet_json_token.specs.Views.{mode_of}
 use Rattle.facet_json_place.proofs.Judged.{cut-slices, cut-refused}
 use Rattle.facet_json_place.proofs.language.cut_strict.Goals as goal

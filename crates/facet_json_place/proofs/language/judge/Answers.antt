@@ -1,5 +1,4 @@
 -- A number is judged by the grammar of RFC 8259.
-use Rattle.std.proofs.Common.{◌≡◌}
 use Rattle.facet_format.specs.Views.{hint_of}
 use Rattle.facet_json_place.proofs.Judged.{judged-number}
 use Rattle.facet_json_place.proofs.language.judge.Goals as goal

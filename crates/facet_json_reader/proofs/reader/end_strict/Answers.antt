@@ -1,5 +1,5 @@
 -- Behind the root the end is finished, and all else is refused.
-use Rattle.std.proofs.Common.{◌≡◌, arith}
+use Rattle.std.proofs.Common.{arith}
 use Rattle.std.proofs.lemmas.Result.{err_from_is_err_and}
 use Rattle.facet_format.specs.Views.{span_of}
 use Rattle.facet_json_token.specs.Views.{mode_of}

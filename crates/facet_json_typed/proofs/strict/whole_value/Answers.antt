@@ -1,8 +1,7 @@
 -- What is read from the start of a strict parser to its end is read of the whole input.
-use Rattle.std.proofs.Common.{◌≡◌, ap, subst, sym, ◌∙◌}
+use Rattle.std.proofs.Common.{◌∙◌}
 use Rattle.std.proofs.lemmas.Result.{err_from_is_err_and}
 use Rattle.facet_format.specs.Views.{refusal_of}
-use Rattle.facet_json_protocol.specs.Within.{RefusalWithin}
 use Rattle.facet_json_typed.proofs.StrictRootComes.{read-strictly, unread-strictly, left-unread_strictly, one_run-from, within-strictly}
 use Rattle.facet_json_typed.proofs.strict.whole_value.Goals as goal
 

@@ -1,5 +1,4 @@
 -- The number gives its event.
-use Rattle.std.proofs.Common.{refl}
 use Rattle.facet_format.specs.Views.{event_of, scalar_value_of}
 use Rattle.facet_json_document.specs.Language.{lenient}
 use Rattle.facet_json_reader.proofs.QuickEvents.{scalar-passes}

@@ -1,9 +1,8 @@
-use Rattle.std.proofs.Common.{◌∙◌, refl, ap, subst, rules}
+use Rattle.std.proofs.Common.{◌∙◌, refl, ap, rules}
 use Rattle.std.specs.Prelude.{is_some}
 use Rattle.facet_format.specs.Cursor.{no_memory_at}
 use Rattle.facet_format.specs.Views.{span_of}
 use Rattle.facet_json_place.specs.Views.{language_of}
-use Rattle.facet_json_reader.specs.Views.{coming, GivesHeld}
 use Rattle.facet_json_standing.proofs.OpenedContainers.{opened-holds, opened-spot}
 use Rattle.facet_json_standing.proofs.UnopenedContainers.{unopened-refused}
 use Rattle.facet_json_standing.proofs.standing.Standing.begin.Goals as goal
