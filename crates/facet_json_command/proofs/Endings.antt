@@ -1,7 +1,7 @@
 -- How `events` ends after what it printed, once that is on its way.
 use Rattle.std.proofs.Common.{◌≡◌, ◌≢◌, ◌⊎◌, ℕ, List, [], Option, Some, None, IfSome, sym, subst, ◌∙◌, inl, inr}
 use Rattle.std.specs.Io.KnownBytes.{Keeps}
-use Rattle.facet_json_token.specs.Gap.{Mode}
+use Rattle.facet_json_document.specs.Language.{Language}
 use Rattle.facet_json_command_line.specs.declared.outcome.Outcome.{Outcome}
 use Rattle.facet_json_command_line.specs.declared.outcome.Outcome.TheVariants.{Done, Refused, Io, Usage}
 use Rattle.facet_json_command.specs.Run.{IsFailure, Grows, Lists}
@@ -17,34 +17,34 @@ Ends before after printed final = (final ≡ Io) ⊎ ((final ≡ printed) × Kee
 pub no_growth : (held : Option (List ℕ)) → Grows held held
 no_growth held = ([], appends_nothing held)
 
-pub unread_lists : (mode : Mode) (remaining held : Option (List ℕ)) (outcome : Outcome) → IsFailure outcome →
-    IfSome remaining (λ input. Lists mode input held held outcome)
-unread_lists mode None held outcome failed = tt
-unread_lists mode (Some input) held Done failed = absurd failed
-unread_lists mode (Some input) held (Refused code span) failed = inl (failed, no_growth held)
-unread_lists mode (Some input) held Io failed = tt
-unread_lists mode (Some input) held Usage failed = failed
+pub unread_lists : (language : Language) (remaining held : Option (List ℕ)) (outcome : Outcome) → IsFailure outcome →
+    IfSome remaining (λ input. Lists language input held held outcome)
+unread_lists language None held outcome failed = tt
+unread_lists language (Some input) held Done failed = absurd failed
+unread_lists language (Some input) held (Refused code span) failed = inl (failed, no_growth held)
+unread_lists language (Some input) held Io failed = tt
+unread_lists language (Some input) held Usage failed = failed
 
 -- ---- `events`
 
 pub io_is_not_usage : Io ≡ Usage → ⊥
 io_is_not_usage same = subst IsFailure same tt
 
-pub events_end : (mode : Mode) (remaining : Option (List ℕ)) (items : List ℕ) (a b c : Option (List ℕ)) (printed final : Outcome) →
-    IfSome remaining (λ input. items ≡ input) → Lists mode items a b printed → Ends b c printed final →
-    IfSome remaining (λ input. Lists mode input a c final)
-events_end mode None items a b c printed final read lists ends = tt
-events_end mode (Some input) items a b c printed final read lists (inl io) = rw io tt
-events_end mode (Some input) items a b c printed final read lists (inr same) =
-    rw same.0 (lists_keeps mode input a b c printed (subst (λ i. Lists mode i a b printed) read lists) same.1)
+pub events_end : (language : Language) (remaining : Option (List ℕ)) (items : List ℕ) (a b c : Option (List ℕ)) (printed final : Outcome) →
+    IfSome remaining (λ input. items ≡ input) → Lists language items a b printed → Ends b c printed final →
+    IfSome remaining (λ input. Lists language input a c final)
+events_end language None items a b c printed final read lists ends = tt
+events_end language (Some input) items a b c printed final read lists (inl io) = rw io tt
+events_end language (Some input) items a b c printed final read lists (inr same) =
+    rw same.0 (lists_keeps language input a b c printed (subst (λ i. Lists language i a b printed) read lists) same.1)
 
-pub events_grow : (mode : Mode) (items : List ℕ) (a b c : Option (List ℕ)) (printed final : Outcome) →
-    Lists mode items a b printed → Ends b c printed final → final ≢ Io → Grows a c
-events_grow mode items a b c printed final lists (inl io) other = absurd (other io)
-events_grow mode items a b c printed final lists (inr same) other =
-    grows_keeps a b c (lists_grow mode items a b printed lists (λ io. other (same.0 ∙ io))) same.1
+pub events_grow : (language : Language) (items : List ℕ) (a b c : Option (List ℕ)) (printed final : Outcome) →
+    Lists language items a b printed → Ends b c printed final → final ≢ Io → Grows a c
+events_grow language items a b c printed final lists (inl io) other = absurd (other io)
+events_grow language items a b c printed final lists (inr same) other =
+    grows_keeps a b c (lists_grow language items a b printed lists (λ io. other (same.0 ∙ io))) same.1
 
-pub events_not_usage : (mode : Mode) (items : List ℕ) (a b c : Option (List ℕ)) (printed final : Outcome) →
-    Lists mode items a b printed → Ends b c printed final → final ≢ Usage
-events_not_usage mode items a b c printed final lists (inl io) usage = io_is_not_usage (sym io ∙ usage)
-events_not_usage mode items a b c printed final lists (inr same) usage = rw (sym same.0 ∙ usage) at lists
+pub events_not_usage : (language : Language) (items : List ℕ) (a b c : Option (List ℕ)) (printed final : Outcome) →
+    Lists language items a b printed → Ends b c printed final → final ≢ Usage
+events_not_usage language items a b c printed final lists (inl io) usage = io_is_not_usage (sym io ∙ usage)
+events_not_usage language items a b c printed final lists (inr same) usage = rw (sym same.0 ∙ usage) at lists

@@ -3,3 +3,4 @@ pub mod TokenListing
 pub mod Listing
 pub mod Endings
 pub mod Unasked
+pub mod Reformatting

@@ -6,8 +6,8 @@ use Rattle.std.proofs.lemmas.List.{append-nil}
 use Rattle.std.proofs.lemmas.Grind.{flat_map-append}
 use Rattle.facet_format.specs.Event.{Event}
 use Rattle.facet_format.specs.Cursor.{next, Answer, event, no_calls}
-use Rattle.facet_json_token.specs.Gap.{Mode}
-use Rattle.facet_json_protocol.specs.Now.{Now, fresh}
+use Rattle.facet_json_document.specs.Language.{Language}
+use Rattle.facet_json_protocol.specs.Now.{Now, fresh_in}
 use Rattle.facet_json_protocol.specs.Move.{Moves, MovesAll}
 use Rattle.facet_json_protocol.proofs.MoveLaws.{moves-one_more}
 use Rattle.facet_json_command.specs.Lines.{event_line}
@@ -21,14 +21,14 @@ abbrev pub given_out : List Event → List Answer
 given_out given = map (λ e. event (Ok (Some e))) given
 
 -- The parser gave these events so far, and their lines are printed.
-pub record AreSoFar (mode : Mode) (input : List ℕ) (before after : Option (List ℕ)) (parser : Now) : Type 0 where
+pub record AreSoFar (language : Language) (input : List ℕ) (before after : Option (List ℕ)) (parser : Now) : Type 0 where
   pub given : List Event
-  pub moves : MovesAll (fresh input mode) (map (λ e. next) given) (given_out given) parser
+  pub moves : MovesAll (fresh_in input language) (map (λ e. next) given) (given_out given) parser
   pub printed : Appends before after (flat_map event_line given)
 
-pub none_so_far : (mode : Mode) (input : List ℕ) (held : Option (List ℕ)) (parser : Now) → parser ≡ fresh input mode →
-    AreSoFar mode input held held parser
-none_so_far mode input held parser is = record {
+pub none_so_far : (language : Language) (input : List ℕ) (held : Option (List ℕ)) (parser : Now) → parser ≡ fresh_in input language →
+    AreSoFar language input held held parser
+none_so_far language input held parser is = record {
   given = [];
   moves = rw is (record { input = record { buffer = refl; language = refl }; run = no_calls _ });
   printed = appends_nothing held;
@@ -43,10 +43,10 @@ given_more [] e = refl
 given_more (d ∷ given) e = ap (λ l. event (Ok (Some d)) ∷ l) (given_more given e)
 
 -- One more event was given, and its line is printed.
-pub one_more_event : (mode : Mode) (input : List ℕ) (a b c : Option (List ℕ)) (old new : Now) (e : Event) →
-    AreSoFar mode input a b old → Moves old next (event (Ok (Some e))) new → Appends b c (event_line e) →
-    AreSoFar mode input a c new
-one_more_event mode input a b c old new e so_far move line = record {
+pub one_more_event : (language : Language) (input : List ℕ) (a b c : Option (List ℕ)) (old new : Now) (e : Event) →
+    AreSoFar language input a b old → Moves old next (event (Ok (Some e))) new → Appends b c (event_line e) →
+    AreSoFar language input a c new
+one_more_event language input a b c old new e so_far move line = record {
   given = so_far.given ++ (e ∷ []);
   moves = rw (nexts_more so_far.given e, given_more so_far.given e)
       (moves-one_more so_far.moves move);
@@ -55,9 +55,9 @@ one_more_event mode input a b c old new e so_far move line = record {
 }
 
 -- The parser answered something else.
-pub last_answer : (mode : Mode) (input : List ℕ) (a b : Option (List ℕ)) (old new : Now) (answer : Answer) →
-    AreSoFar mode input a b old → Moves old next answer new → AreListed mode input a b answer
-last_answer mode input a b old new answer so_far move = record {
+pub last_answer : (language : Language) (input : List ℕ) (a b : Option (List ℕ)) (old new : Now) (answer : Answer) →
+    AreSoFar language input a b old → Moves old next answer new → AreListed language input a b answer
+last_answer language input a b old new answer so_far move = record {
   given = so_far.given;
   parser = new;
   moves = moves-one_more so_far.moves move;
@@ -65,45 +65,45 @@ last_answer mode input a b old new answer so_far move = record {
 }
 
 -- A line could not be printed.
-pub line_stopped : (mode : Mode) (input : List ℕ) (a b c : Option (List ℕ)) (parser : Now) (outcome : Outcome) →
-    AreSoFar mode input a b parser → Stops b c outcome → Lists mode input a c outcome
-line_stopped mode input a b c parser Done so_far stops = absurd stops
-line_stopped mode input a b c parser (Refused code span) so_far stops =
+pub line_stopped : (language : Language) (input : List ℕ) (a b c : Option (List ℕ)) (parser : Now) (outcome : Outcome) →
+    AreSoFar language input a b parser → Stops b c outcome → Lists language input a c outcome
+line_stopped language input a b c parser Done so_far stops = absurd stops
+line_stopped language input a b c parser (Refused code span) so_far stops =
     inl (stops.0, grows_both a b c (flat_map event_line so_far.given) so_far.printed stops.1)
-line_stopped mode input a b c parser Io so_far stops = tt
-line_stopped mode input a b c parser Usage so_far stops = absurd stops
+line_stopped language input a b c parser Io so_far stops = tt
+line_stopped language input a b c parser Usage so_far stops = absurd stops
 
 -- ---- after the last line
 
 pub grows_keeps : (a b c : Option (List ℕ)) → Grows a b → Keeps b c → Grows a c
 grows_keeps a b c grows keeps = (grows.0, appends_keeps a b c grows.0 grows.1 keeps)
 
-listed_keeps : (mode : Mode) (input : List ℕ) (a b c : Option (List ℕ)) (last : Answer) → AreListed mode input a b last →
-    Keeps b c → AreListed mode input a c last
-listed_keeps mode input a b c last listed keeps = record {
+listed_keeps : (language : Language) (input : List ℕ) (a b c : Option (List ℕ)) (last : Answer) → AreListed language input a b last →
+    Keeps b c → AreListed language input a c last
+listed_keeps language input a b c last listed keeps = record {
   given = listed.given;
   parser = listed.parser;
   moves = listed.moves;
   printed = appends_keeps a b c (flat_map event_line listed.given) listed.printed keeps;
 }
 
-pub lists_keeps : (mode : Mode) (input : List ℕ) (a b c : Option (List ℕ)) (outcome : Outcome) → Lists mode input a b outcome →
-    Keeps b c → Lists mode input a c outcome
-lists_keeps mode input a b c Done lists keeps = listed_keeps mode input a b c (event (Ok None)) lists keeps
-lists_keeps mode input a b c (Refused code span) (inl no_memory) keeps = inl (no_memory.0, grows_keeps a b c no_memory.1 keeps)
-lists_keeps mode input a b c (Refused code span) (inr refused) keeps = inr (record {
+pub lists_keeps : (language : Language) (input : List ℕ) (a b c : Option (List ℕ)) (outcome : Outcome) → Lists language input a b outcome →
+    Keeps b c → Lists language input a c outcome
+lists_keeps language input a b c Done lists keeps = listed_keeps language input a b c (event (Ok None)) lists keeps
+lists_keeps language input a b c (Refused code span) (inl no_memory) keeps = inl (no_memory.0, grows_keeps a b c no_memory.1 keeps)
+lists_keeps language input a b c (Refused code span) (inr refused) keeps = inr (record {
   refusal = refused.refusal;
-  listed = listed_keeps mode input a b c (event (Err refused.refusal)) refused.listed keeps;
+  listed = listed_keeps language input a b c (event (Err refused.refusal)) refused.listed keeps;
   has_code = refused.has_code;
   has_span = refused.has_span;
 })
-lists_keeps mode input a b c Io lists keeps = tt
-lists_keeps mode input a b c Usage lists keeps = lists
+lists_keeps language input a b c Io lists keeps = tt
+lists_keeps language input a b c Usage lists keeps = lists
 
-pub lists_grow : (mode : Mode) (input : List ℕ) (a b : Option (List ℕ)) (outcome : Outcome) → Lists mode input a b outcome →
+pub lists_grow : (language : Language) (input : List ℕ) (a b : Option (List ℕ)) (outcome : Outcome) → Lists language input a b outcome →
     outcome ≢ Io → Grows a b
-lists_grow mode input a b Done lists other = (flat_map event_line lists.given, lists.printed)
-lists_grow mode input a b (Refused code span) (inl no_memory) other = no_memory.1
-lists_grow mode input a b (Refused code span) (inr refused) other = (flat_map event_line refused.listed.given, refused.listed.printed)
-lists_grow mode input a b Io lists other = absurd (other refl)
-lists_grow mode input a b Usage lists other = absurd lists
+lists_grow language input a b Done lists other = (flat_map event_line lists.given, lists.printed)
+lists_grow language input a b (Refused code span) (inl no_memory) other = no_memory.1
+lists_grow language input a b (Refused code span) (inr refused) other = (flat_map event_line refused.listed.given, refused.listed.printed)
+lists_grow language input a b Io lists other = absurd (other refl)
+lists_grow language input a b Usage lists other = absurd lists

@@ -3,21 +3,21 @@ use Rattle.std.proofs.Common.{◌≡◌, ℕ, List, [], Option, Some, None, IfSo
 use Rattle.facet_json_command_line.specs.Arguments.{Command, fmt, events, tokens, drive}
 use Rattle.facet_json_command_line.specs.declared.outcome.Outcome.{Outcome}
 use Rattle.facet_json_command_line.specs.declared.outcome.Outcome.TheVariants.{Done, Refused}
-use Rattle.facet_json_token.specs.Gap.{Mode}
+use Rattle.facet_json_document.specs.Language.{Language}
 use Rattle.facet_json_command.specs.Run.{Answers, HasDocument, IsFailure}
 use Rattle.facet_json_command.proofs.Printing.{appends_nothing}
 
 pub no_memory_answers : (command : Command) (remaining held : Option (List ℕ)) (outcome : Outcome) → outcome ≡ Refused 9 None →
     IfSome remaining (λ input. Answers command input held held outcome)
 no_memory_answers command None held outcome is = tt
-no_memory_answers (fmt mode pretty) (Some input) None outcome is = tt
-no_memory_answers (fmt mode pretty) (Some input) (Some before) outcome is = rw is (inl refl, refl)
-no_memory_answers (events mode) (Some input) held outcome is = rw is (inl (refl, ([], appends_nothing held)))
+no_memory_answers (fmt language pretty) (Some input) None outcome is = tt
+no_memory_answers (fmt language pretty) (Some input) (Some before) outcome is = rw is (inl refl, refl)
+no_memory_answers (events language) (Some input) held outcome is = rw is (inl (refl, ([], appends_nothing held)))
 no_memory_answers (tokens mode) (Some input) held outcome is = rw is (inl (refl, ([], appends_nothing held)))
-no_memory_answers (drive mode calls) (Some input) None outcome is = tt
-no_memory_answers (drive mode calls) (Some input) (Some before) outcome is = rw is refl
+no_memory_answers (drive language calls) (Some input) None outcome is = tt
+no_memory_answers (drive language calls) (Some input) (Some before) outcome is = rw is refl
 
-pub no_memory_only : (mode : Mode) (remaining : Option (List ℕ)) (outcome : Outcome) → outcome ≡ Refused 9 None →
-    IfSome remaining (λ input. HasDocument mode input → (outcome ≡ Done) ⊎ IsFailure outcome)
-no_memory_only mode None outcome is = tt
-no_memory_only mode (Some input) outcome is = λ has. inr (rw is refl)
+pub no_memory_only : (language : Language) (remaining : Option (List ℕ)) (outcome : Outcome) → outcome ≡ Refused 9 None →
+    IfSome remaining (λ input. HasDocument language input → (outcome ≡ Done) ⊎ IsFailure outcome)
+no_memory_only language None outcome is = tt
+no_memory_only language (Some input) outcome is = λ has. inr (rw is refl)

@@ -6,12 +6,14 @@ use Rattle.std.specs.Io.KnownBytes.{Appends}
 use Rattle.facet_format.specs.declared.span.Span.{Span}
 use Rattle.facet_json_token.specs.Gap.{Mode}
 use Rattle.facet_json_token.specs.Tokens.{Tokens, AreCuts}
+use Rattle.facet_json_document.specs.Language.{Language, lenient, strict}
 use Rattle.facet_json_document.specs.Node.{Node}
 use Rattle.facet_json_document.specs.Tree.{Tree}
 use Rattle.facet_json_document.specs.Document.{IsDocument}
+use Rattle.facet_json_document.specs.StrictDocument.{IsStrictDocument, IsStrict}
 use Rattle.facet_format.specs.Complaint.{Refusal, code_of}
 use Rattle.facet_json_prefix.specs.Refusal.{Refuses}
-use Rattle.facet_json_protocol.specs.Now.{Now, fresh}
+use Rattle.facet_json_protocol.specs.Now.{Now, fresh_in}
 use Rattle.facet_json_protocol.specs.Move.{MovesAll}
 use Rattle.facet_format.specs.Event.{Event}
 use Rattle.facet_format.specs.Cursor.{Call, next, Answer, event}
@@ -24,18 +26,23 @@ use Rattle.facet_json_command_line.specs.declared.outcome.Outcome.{Outcome}
 use Rattle.facet_json_command_line.specs.declared.outcome.Outcome.TheVariants.{Done, Refused, Io, Usage}
 pub use Rattle.facet_json_command_line.specs.Outcome.{IsFailure}
 
-abbrev pub HasDocument : Mode → List ℕ → Type 0
-HasDocument mode input = (root : Node) × (value : Tree) × IsDocument input mode root value
+-- The input begins with this document, or, where RFC 8259 alone is read, is it. No arguments ask for `strict jsonc`.
+abbrev pub IsDocumentIn : Language → List ℕ → Node → Tree → Type 0
+IsDocumentIn (lenient mode) input root value = IsDocument input mode root value
+IsDocumentIn (strict mode) input root value = IsStrictDocument input root value
+
+abbrev pub HasDocument : Language → List ℕ → Type 0
+HasDocument language input = (root : Node) × (value : Tree) × IsDocumentIn language input root value
 
 -- how the text is laid out: compact, or indented by two spaces
 abbrev pub layout : (pretty : Bool) → Options
 layout pretty = record default_options { pretty = pretty }
 
 -- This is the text, so laid out, of the tree of the document that the input has.
-pub record IsReformatted (mode : Mode) (pretty : Bool) (input output : List ℕ) : Type 0 where
+pub record IsReformatted (language : Language) (pretty : Bool) (input output : List ℕ) : Type 0 where
   pub root : Node
   pub value : Tree
-  pub document : IsDocument input mode root value
+  pub document : IsDocumentIn language input root value
   pub written : output ≡ text (layout pretty) 0 value
 
 -- The input is refused so, and with this code and these bytes.
@@ -45,19 +52,25 @@ pub record IsRefusedSo (mode : Mode) (input : List ℕ) (code : ℕ) (span : Opt
   pub has_code : code ≡ code_of refusal.complaint
   pub has_span : option_map span_of span ≡ refusal.span
 
+-- Where RFC 8259 alone is read, what is said of a refusal is that the input is no such document.
+abbrev pub IsRefusedIn : Language → List ℕ → ℕ → Option Span → Type 0
+IsRefusedIn (lenient mode) input code span = IsRefusedSo mode input code span
+IsRefusedIn (strict mode) input code span = ¬ IsStrict input
+
 -- An answer in place of the text.
-abbrev pub IsRefusal : Mode → List ℕ → Outcome → Type 0
-IsRefusal mode input Done = ⊥
-IsRefusal mode input (Refused code span) = (code ≡ 9) ⊎ IsRefusedSo mode input code span
-IsRefusal mode input Io = Unit {0}
-IsRefusal mode input Usage = ⊥
+abbrev pub IsRefusal : Language → List ℕ → Outcome → Type 0
+IsRefusal language input Done = ⊥
+IsRefusal language input (Refused code span) = (code ≡ 9) ⊎ IsRefusedIn language input code span
+IsRefusal language input Io = Unit {0}
+IsRefusal language input Usage = ⊥
 
 -- What `fmt` answers to an input, where the writer held the bytes before and then holds those after.
-abbrev pub Formats : Mode → (pretty : Bool) → List ℕ → List ℕ → Option (List ℕ) → Outcome → Type 0
-Formats mode pretty input before after Done = (output : List ℕ) × IsReformatted mode pretty input output × (after ≡ Some (before ++ output))
-Formats mode pretty input before after (Refused code span) = IsRefusal mode input (Refused code span) × (after ≡ Some before)
-Formats mode pretty input before after Io = Unit {0}
-Formats mode pretty input before after Usage = ⊥
+abbrev pub Formats : Language → (pretty : Bool) → List ℕ → List ℕ → Option (List ℕ) → Outcome → Type 0
+Formats language pretty input before after Done =
+    (output : List ℕ) × IsReformatted language pretty input output × (after ≡ Some (before ++ output))
+Formats language pretty input before after (Refused code span) = IsRefusal language input (Refused code span) × (after ≡ Some before)
+Formats language pretty input before after Io = Unit {0}
+Formats language pretty input before after Usage = ⊥
 
 -- The bytes that a writer is known to hold are still at the start of what it holds.
 abbrev pub Grows : Option (List ℕ) → Option (List ℕ) → Type 0
@@ -80,26 +93,26 @@ abbrev pub nexts : List Event → List Call
 nexts given = map (λ e. next) given ++ (next ∷ [])
 
 -- A parser that has read nothing gave these events, whose lines are printed, and then answered so.
-pub record AreListed (mode : Mode) (input : List ℕ) (before after : Option (List ℕ)) (last : Answer) : Type 0 where
+pub record AreListed (language : Language) (input : List ℕ) (before after : Option (List ℕ)) (last : Answer) : Type 0 where
   pub given : List Event
   pub parser : Now
-  pub moves : MovesAll (fresh input mode) (nexts given) (map (λ e. event (Ok (Some e))) given ++ (last ∷ [])) parser
+  pub moves : MovesAll (fresh_in input language) (nexts given) (map (λ e. event (Ok (Some e))) given ++ (last ∷ [])) parser
   pub printed : Appends before after (flat_map event_line given)
 
 -- A parser that has read nothing was refused so after the events whose lines are printed.
-pub record AreListedUpTo (mode : Mode) (input : List ℕ) (before after : Option (List ℕ)) (code : ℕ) (span : Option Span) : Type 0 where
+pub record AreListedUpTo (language : Language) (input : List ℕ) (before after : Option (List ℕ)) (code : ℕ) (span : Option Span) : Type 0 where
   pub refusal : Refusal
-  pub listed : AreListed mode input before after (event (Err refusal))
+  pub listed : AreListed language input before after (event (Err refusal))
   pub has_code : code ≡ code_of refusal.complaint
   pub has_span : option_map span_of span ≡ refusal.span
 
 -- What `events` answers to an input, where the writer held the known bytes before and then holds those after.
-abbrev pub Lists : Mode → List ℕ → Option (List ℕ) → Option (List ℕ) → Outcome → Type 0
-Lists mode input before after Done = AreListed mode input before after (event (Ok None))
-Lists mode input before after (Refused code span) =
-    ((code ≡ 9) × Grows before after) ⊎ AreListedUpTo mode input before after code span
-Lists mode input before after Io = Unit {0}
-Lists mode input before after Usage = ⊥
+abbrev pub Lists : Language → List ℕ → Option (List ℕ) → Option (List ℕ) → Outcome → Type 0
+Lists language input before after Done = AreListed language input before after (event (Ok None))
+Lists language input before after (Refused code span) =
+    ((code ≡ 9) × Grows before after) ⊎ AreListedUpTo language input before after code span
+Lists language input before after Io = Unit {0}
+Lists language input before after Usage = ⊥
 
 -- These are all tokens of the input, whose lines are printed, and the run ends as they do.
 pub record AreTokensListed (mode : Mode) (input : List ℕ) (before after : Option (List ℕ)) (outcome : Outcome) : Type 0 where
@@ -123,30 +136,30 @@ outcome_of (Err outcome) = outcome
 
 -- What `drive` answers: the lines of the answers of a parser that has read nothing, where the writer held the bytes before and
 -- then holds those after.
-abbrev pub Drives : Mode → List Call → List ℕ → List ℕ → Option (List ℕ) → Outcome → Type 0
-Drives mode calls input before after Done = (answers : List Answer) × (parser : Now) ×
-    MovesAll (fresh input mode) calls answers parser × (after ≡ Some (before ++ flat_map answer_lines answers))
-Drives mode calls input before after (Refused code span) = code ≡ 9
-Drives mode calls input before after Io = Unit {0}
-Drives mode calls input before after Usage = ⊥
+abbrev pub Drives : Language → List Call → List ℕ → List ℕ → Option (List ℕ) → Outcome → Type 0
+Drives language calls input before after Done = (answers : List Answer) × (parser : Now) ×
+    MovesAll (fresh_in input language) calls answers parser × (after ≡ Some (before ++ flat_map answer_lines answers))
+Drives language calls input before after (Refused code span) = code ≡ 9
+Drives language calls input before after Io = Unit {0}
+Drives language calls input before after Usage = ⊥
 
 -- What a command answers to an input, where the writer held the known bytes before and then holds those after.
 abbrev pub Answers : Command → List ℕ → Option (List ℕ) → Option (List ℕ) → Outcome → Type 0
-Answers (fmt mode pretty) input before after outcome = IfSome before (λ held. Formats mode pretty input held after outcome)
-Answers (events mode) input before after outcome = Lists mode input before after outcome
+Answers (fmt language pretty) input before after outcome = IfSome before (λ held. Formats language pretty input held after outcome)
+Answers (events language) input before after outcome = Lists language input before after outcome
 Answers (tokens mode) input before after outcome = ListsTokens mode input before after outcome
-Answers (drive mode calls) input before after outcome = IfSome before (λ held. Drives mode calls input held after outcome)
+Answers (drive language calls) input before after outcome = IfSome before (λ held. Drives language calls input held after outcome)
 
 -- where the command is `fmt`
-abbrev pub ForFmt : Command → (Mode → Type 0) → Type 0
-ForFmt (fmt mode pretty) P = P mode
-ForFmt (events mode) P = Unit {0}
+abbrev pub ForFmt : Command → (Language → Type 0) → Type 0
+ForFmt (fmt language pretty) P = P language
+ForFmt (events language) P = Unit {0}
 ForFmt (tokens mode) P = Unit {0}
-ForFmt (drive mode calls) P = Unit {0}
+ForFmt (drive language calls) P = Unit {0}
 
 -- where the command is `drive`
 abbrev pub ForDrive : Command → Type 0 → Type 0
-ForDrive (fmt mode pretty) P = Unit {0}
-ForDrive (events mode) P = Unit {0}
+ForDrive (fmt language pretty) P = Unit {0}
+ForDrive (events language) P = Unit {0}
 ForDrive (tokens mode) P = Unit {0}
-ForDrive (drive mode calls) P = P
+ForDrive (drive language calls) P = P

@@ -1,23 +1,29 @@
 //! What the program does, over any reader and writer.
 
-ghost use Rattle.std.specs.Prelude.{◌≡◌, ◌≢◌, ◌⊎◌, ℕ, Bool, [], List, Option, None, Some, map, IfOk, IfErr, IfSome};
+ghost use Rattle.std.specs.Prelude.{◌≡◌, ◌≢◌, ◌⊎◌, ℕ, Bool, [], List, Option, None, Some, map, IfOk, IfErr, IfSome, OnOk};
 ghost use Rattle.std.specs.List.{flat_map};
 ghost use Rattle.std.specs.Vec.Iter.{into_iter_items};
 ghost use Rattle.std.specs.Io.KnownBytes.{Appends, Keeps};
 ghost use Rattle.facet_format.specs.declared.span.Span.{Span as TheSpan};
 ghost use Rattle.facet_format.specs.Cursor.{Call as SpecCall};
-ghost use Rattle.facet_json_token.specs.Gap.{Mode as SpecMode};
+ghost use Rattle.facet_json_token.specs.Gap.{Mode as SpecMode, plain};
 ghost use Rattle.facet_json_token.specs.Views.{mode_of};
-ghost use Rattle.facet_json_protocol.specs.Now.{Now, fresh};
+ghost use Rattle.facet_json_document.specs.Language.{Language as SpecLanguage, lenient, strict};
+ghost use Rattle.facet_json_document.specs.Node.{Node};
+ghost use Rattle.facet_json_document.specs.StrictDocument.{IsStrict};
+ghost use Rattle.facet_json_document.specs.Tree.{Tree as SpecTree};
+ghost use Rattle.facet_json_place.specs.declared.language.Language.{Language as TheLanguage};
+ghost use Rattle.facet_json_protocol.specs.Now.{Now, fresh, fresh_in};
 ghost use Rattle.facet_json_protocol.specs.Move.{MovesAll};
 ghost use Rattle.facet_json_core.specs.ScriptViews.{call_of, answer_of};
 ghost use Rattle.facet_json_serializer.specs.Serializer.{Writing as SpecWriting};
+ghost use Rattle.facet_json_serializer.specs.TreeCalls.{with_tree};
 ghost use Rattle.facet_json_transcode.specs.Views.{IsRefused, LacksMemory};
 ghost use Rattle.facet_json_command_line.specs.declared.outcome.Outcome.TheVariants as outcome;
 ghost use Rattle.facet_json_command_line.specs.Arguments.{Command as SpecCommand, AskFor, AskForNothing, fmt, drive as drives};
-ghost use Rattle.facet_json_command.specs.Views.{words_of, command_view};
+ghost use Rattle.facet_json_command.specs.Views.{words_of, read_as, command_view};
 ghost use Rattle.facet_json_command.specs.Lines.{answer_lines};
-ghost use Rattle.facet_json_command.specs.Run.{HasDocument, layout, IsReformatted, IsFailure, IsRefusal, Formats, Grows, Prints, Lists, ListsTokens, Drives, Answers, ForFmt, ForDrive, outcome_of};
+ghost use Rattle.facet_json_command.specs.Run.{IsDocumentIn, HasDocument, layout, IsReformatted, IsFailure, IsRefusal, Formats, Grows, Prints, Lists, ListsTokens, Drives, Answers, ForFmt, ForDrive, outcome_of};
 
 use crate::lines::{write_answer, write_event};
 use crate::tokens::{scan_all, write_scanned};
@@ -25,8 +31,9 @@ use facet_format::FormatParser;
 use facet_json_command_line::arguments::{Command, command_of};
 use facet_json_command_line::outcome::{OUT_OF_MEMORY, Outcome, failure};
 use facet_json_core::{Answer, Call, JsonParser, JsonSerializer, SerializeOptions, drive};
+use facet_json_place::Language;
 use facet_json_token::Mode;
-use facet_json_transcode::{TranscodeError, transcode};
+use facet_json_transcode::{TranscodeError, pass_end, transcode};
 use std::alloc::{AllocError, Global};
 use std::io::{Read, Write};
 use std::vec::IntoIter;
@@ -43,11 +50,11 @@ pub fn run<R: Read, W: Write>(
     ensures untouched { AskForNothing (words_of args.now) → (reader.new ≡ reader.old) × (writer.new ≡ writer.old) }
     ensures answer { (command : SpecCommand) → AskFor command (words_of args.now) → IfSome (R.remaining reader.old) (λ input.
         Answers command input (W.contents writer.old) (W.contents writer.new) result) }
-    ensures refused { (mode : SpecMode) (pretty : Bool) (code : ℕ) (span : Option TheSpan) → AskFor (fmt mode pretty) (words_of args.now)
+    ensures refused { (language : SpecLanguage) (pretty : Bool) (code : ℕ) (span : Option TheSpan) → AskFor (fmt language pretty) (words_of args.now)
         → result ≡ outcome.Refused code span → writer.new ≡ writer.old }
-    ensures only { (mode : SpecMode) (pretty : Bool) → AskFor (fmt mode pretty) (words_of args.now) → IfSome (R.remaining reader.old) (λ input.
-        HasDocument mode input → (result ≡ outcome.Done) ⊎ IsFailure result) }
-    ensures driven { (mode : SpecMode) (calls : List SpecCall) → AskFor (drives mode calls) (words_of args.now)
+    ensures only { (language : SpecLanguage) (pretty : Bool) → AskFor (fmt language pretty) (words_of args.now) → IfSome (R.remaining reader.old) (λ input.
+        HasDocument language input → (result ≡ outcome.Done) ⊎ IsFailure result) }
+    ensures driven { (language : SpecLanguage) (calls : List SpecCall) → AskFor (drives language calls) (words_of args.now)
         → (result ≡ outcome.Done) ⊎ IsFailure result }
     ensures grows { result ≢ outcome.Io → Grows (W.contents writer.old) (W.contents writer.new) }
 {
@@ -67,19 +74,19 @@ fn obey<R: Read, W: Write>(
     ensures ends { result ≢ outcome.Usage }
     ensures answer { IfSome (R.remaining reader.old) (λ input.
         Answers (command_view command) input (W.contents writer.old) (W.contents writer.new) result) }
-    ensures refused { ForFmt (command_view command) (λ mode. (code : ℕ) (span : Option TheSpan)
+    ensures refused { ForFmt (command_view command) (λ language. (code : ℕ) (span : Option TheSpan)
         → result ≡ outcome.Refused code span → writer.new ≡ writer.old) }
-    ensures only { ForFmt (command_view command) (λ mode. IfSome (R.remaining reader.old) (λ input.
-        HasDocument mode input → (result ≡ outcome.Done) ⊎ IsFailure result)) }
+    ensures only { ForFmt (command_view command) (λ language. IfSome (R.remaining reader.old) (λ input.
+        HasDocument language input → (result ≡ outcome.Done) ⊎ IsFailure result)) }
     ensures driven { ForDrive (command_view command) ((result ≡ outcome.Done) ⊎ IsFailure result) }
     ensures grows { result ≢ outcome.Io → Grows (W.contents writer.old) (W.contents writer.new) }
 {
     match command {
-        Command::Fmt { mode, pretty } => format(alloc, mode, pretty, reader, writer),
-        Command::Events { mode } => print_events(alloc, mode, reader, writer),
+        Command::Fmt { language, pretty } => format(alloc, language, pretty, reader, writer),
+        Command::Events { language } => print_events(alloc, language, reader, writer),
         Command::Tokens { mode } => print_tokens(alloc, mode, reader, writer),
-        Command::Drive { mode, calls } => {
-            print_answers(alloc, mode, calls.as_slice(), reader, writer)
+        Command::Drive { language, calls } => {
+            print_answers(alloc, language, calls.as_slice(), reader, writer)
         }
     }
 }
@@ -87,7 +94,7 @@ fn obey<R: Read, W: Write>(
 /// Reads all there is, and writes the document in it anew and nothing else.
 fn format<R: Read, W: Write>(
     alloc: Global,
-    mode: Mode,
+    language: Language,
     pretty: bool,
     reader: &mut R,
     writer: &mut W,
@@ -96,12 +103,12 @@ fn format<R: Read, W: Write>(
     ensures refused { (code : ℕ) (span : Option TheSpan) → result ≡ outcome.Refused code span
         → writer.new ≡ writer.old }
     ensures answer { IfSome (R.remaining reader.old) (λ input. IfSome (W.contents writer.old)
-        (λ before. Formats (mode_of mode) pretty input before (W.contents writer.new) result)) }
-    ensures only { IfSome (R.remaining reader.old) (λ input. HasDocument (mode_of mode) input
+        (λ before. Formats (read_as language) pretty input before (W.contents writer.new) result)) }
+    ensures only { IfSome (R.remaining reader.old) (λ input. HasDocument (read_as language) input
         → (result ≡ outcome.Done) ⊎ IsFailure result) }
     ensures grows { result ≢ outcome.Io → Grows (W.contents writer.old) (W.contents writer.new) }
 {
-    match formatted(alloc, mode, pretty, reader) {
+    match formatted(alloc, language, pretty, reader) {
         Ok(text) => write_text(writer, text.as_slice()),
         Err(refusal) => refusal,
     }
@@ -110,17 +117,17 @@ fn format<R: Read, W: Write>(
 /// The document in all that the reader has, written anew.
 fn formatted<R: Read>(
     alloc: Global,
-    mode: Mode,
+    language: Language,
     pretty: bool,
     reader: &mut R,
 ) -> Result<Vec<u8>, Outcome>
     ensures ends { IfErr result (λ o. o ≢ outcome.Usage) }
-    ensures text { IfSome (R.remaining reader.old) (λ input. IfOk result (λ v. IsReformatted (mode_of mode) pretty input v.items)) }
-    ensures refused { IfSome (R.remaining reader.old) (λ input. IfErr result (λ o. IsRefusal (mode_of mode) input o)) }
-    ensures only { IfSome (R.remaining reader.old) (λ input. HasDocument (mode_of mode) input → IfErr result IsFailure) }
+    ensures text { IfSome (R.remaining reader.old) (λ input. IfOk result (λ v. IsReformatted (read_as language) pretty input v.items)) }
+    ensures refused { IfSome (R.remaining reader.old) (λ input. IfErr result (λ o. IsRefusal (read_as language) input o)) }
+    ensures only { IfSome (R.remaining reader.old) (λ input. HasDocument (read_as language) input → IfErr result IsFailure) }
 {
     let input = read_all(alloc, reader)?;
-    reformatted(alloc, mode, pretty, input.as_slice())
+    reformatted(alloc, language, pretty, input.as_slice())
 }
 
 /// All that the reader has.
@@ -135,18 +142,41 @@ fn read_all<R: Read>(alloc: Global, reader: &mut R) -> Result<Vec<u8>, Outcome>
     }
 }
 
-/// The document that the input begins with, written anew: event by event, without a tree.
-fn reformatted(alloc: Global, mode: Mode, pretty: bool, input: &[u8]) -> Result<Vec<u8>, Outcome>
-    ensures text { IfOk result (λ v. IsReformatted (mode_of mode) pretty input.now v.items) }
-    ensures refused { IfErr result (λ o. IsRefusal (mode_of mode) input.now o) }
-    ensures only { HasDocument (mode_of mode) input.now → IfErr result IsFailure }
+/// The document of the input, written anew: event by event, without a tree.
+fn reformatted(
+    alloc: Global,
+    language: Language,
+    pretty: bool,
+    input: &[u8],
+) -> Result<Vec<u8>, Outcome>
+    ensures text { IfOk result (λ v. IsReformatted (read_as language) pretty input.now v.items) }
+    ensures refused { IfErr result (λ o. IsRefusal (read_as language) input.now o) }
+    ensures only { HasDocument (read_as language) input.now → IfErr result IsFailure }
 {
-    let mut parser = parser_of(alloc, mode, input);
+    let mut parser = parser_of(alloc, language, input);
     let mut serializer = serializer_of(alloc, pretty);
-    match transcode(&mut parser, &mut serializer) {
+    match pass_document(&mut parser, &mut serializer) {
         Ok(()) => text_of(serializer),
         Err(error) => Err(refused(error)),
     }
+}
+
+/// Passes the document of the input from the parser to the serializer, and its end.
+fn pass_document<'t>(
+    parser: &mut JsonParser<'_>,
+    serializer: &mut JsonSerializer<'_>,
+) -> Result<(), TranscodeError<'t>>
+    ensures document { (input : List ℕ) (language : TheLanguage) (w : SpecWriting) → parser.old ≡ fresh_in input (read_as language)
+        → serializer.old ≡ Some w → OnOk result ((root : Node) × (value : SpecTree)
+        × IsDocumentIn (read_as language) input root value × (serializer.new ≡ Some (with_tree w value))) }
+    ensures refused { (input : List ℕ) (mode : SpecMode) (w : SpecWriting) → parser.old ≡ fresh input mode → serializer.old ≡ Some w
+        → IfErr result (λ e. IsRefused input mode e) }
+    ensures only { (input : List ℕ) (language : TheLanguage) (w : SpecWriting) → parser.old ≡ fresh_in input (read_as language)
+        → serializer.old ≡ Some w → HasDocument (read_as language) input → IfErr result (λ e. LacksMemory e) }
+{
+    transcode(parser, serializer)?;
+    pass_end(parser)?;
+    Ok(())
 }
 
 /// A serializer of a text so laid out, which has written nothing.
@@ -174,7 +204,8 @@ fn text_of(serializer: JsonSerializer<'_>) -> Result<Vec<u8>, Outcome>
 
 /// How it ends the run that the document was not passed.
 fn refused(error: TranscodeError<'_>) -> Outcome
-    ensures refused { (mode : SpecMode) (input : List ℕ) → IsRefused input mode error.entry → IsRefusal mode input result }
+    ensures refused { (mode : SpecMode) (input : List ℕ) → IsRefused input mode error.entry → IsRefusal (lenient mode) input result }
+    ensures strictly { (input : List ℕ) → (IsStrict input → LacksMemory error.entry) → IsRefusal (strict plain) input result }
     ensures failed { LacksMemory error.entry → IsFailure result }
 {
     match error {
@@ -197,18 +228,18 @@ fn write_text<W: Write>(writer: &mut W, text: &[u8]) -> Outcome
 /// Reads all there is, and prints the events of the document in it.
 fn print_events<R: Read, W: Write>(
     alloc: Global,
-    mode: Mode,
+    language: Language,
     reader: &mut R,
     writer: &mut W,
 ) -> Outcome
     ensures ends { result ≢ outcome.Usage }
     ensures listed { IfSome (R.remaining reader.old) (λ input.
-        Lists (mode_of mode) input (W.contents writer.old) (W.contents writer.new) result) }
+        Lists (read_as language) input (W.contents writer.old) (W.contents writer.new) result) }
     ensures grows { result ≢ outcome.Io → Grows (W.contents writer.old) (W.contents writer.new) }
 {
     match read_all(alloc, reader) {
         Ok(input) => {
-            let written = list_events(alloc, mode, input.as_slice(), writer);
+            let written = list_events(alloc, language, input.as_slice(), writer);
             finish(written, writer)
         }
         Err(outcome) => outcome,
@@ -218,13 +249,13 @@ fn print_events<R: Read, W: Write>(
 /// Writes a line for each event of the input.
 fn list_events<W: Write>(
     alloc: Global,
-    mode: Mode,
+    language: Language,
     input: &[u8],
     writer: &mut W,
 ) -> Result<(), Outcome>
-    ensures { Lists (mode_of mode) input.now (W.contents writer.old) (W.contents writer.new) (outcome_of result) }
+    ensures { Lists (read_as language) input.now (W.contents writer.old) (W.contents writer.new) (outcome_of result) }
 {
-    let mut parser = parser_of(alloc, mode, input);
+    let mut parser = parser_of(alloc, language, input);
     list_ahead(alloc, &mut parser, writer)
 }
 
@@ -234,8 +265,8 @@ fn list_ahead<W: Write>(
     parser: &mut JsonParser<'_>,
     writer: &mut W,
 ) -> Result<(), Outcome>
-    ensures { (mode : SpecMode) (input : List ℕ) → parser.old ≡ fresh input mode
-        → Lists mode input (W.contents writer.old) (W.contents writer.new) (outcome_of result) }
+    ensures { (language : SpecLanguage) (input : List ℕ) → parser.old ≡ fresh_in input language
+        → Lists language input (W.contents writer.old) (W.contents writer.new) (outcome_of result) }
 {
     loop {
         match parser.next_event() {
@@ -270,18 +301,18 @@ fn print_tokens<R: Read, W: Write>(
 /// Reads all there is, makes the calls of a parser of it, and prints their answers.
 fn print_answers<R: Read, W: Write>(
     alloc: Global,
-    mode: Mode,
+    language: Language,
     calls: &[Call],
     reader: &mut R,
     writer: &mut W,
 ) -> Outcome
     ensures ends { (result ≡ outcome.Done) ⊎ IsFailure result }
     ensures answers { IfSome (R.remaining reader.old) (λ input. IfSome (W.contents writer.old) (λ before.
-        Drives (mode_of mode) (map call_of calls.now) input before (W.contents writer.new) result)) }
+        Drives (read_as language) (map call_of calls.now) input before (W.contents writer.new) result)) }
     ensures grows { result ≢ outcome.Io → Grows (W.contents writer.old) (W.contents writer.new) }
 {
     match read_all(alloc, reader) {
-        Ok(input) => match answers_of(alloc, mode, input.as_slice(), calls) {
+        Ok(input) => match answers_of(alloc, language, input.as_slice(), calls) {
             Ok(answers) => finish(write_answers(alloc, answers, writer), writer),
             Err(_) => OUT_OF_MEMORY,
         },
@@ -292,14 +323,14 @@ fn print_answers<R: Read, W: Write>(
 /// What a parser of the input answers to the calls.
 fn answers_of<'de>(
     alloc: Global,
-    mode: Mode,
+    language: Language,
     input: &'de [u8],
     calls: &[Call],
 ) -> Result<Vec<Answer<'de>>, AllocError>
     ensures { IfOk result (λ answers. (parser : Now)
-        × MovesAll (fresh input.now (mode_of mode)) (map call_of calls.now) (map answer_of answers.items) parser) }
+        × MovesAll (fresh_in input.now (read_as language)) (map call_of calls.now) (map answer_of answers.items) parser) }
 {
-    let mut parser = parser_of(alloc, mode, input);
+    let mut parser = parser_of(alloc, language, input);
     drive(alloc, &mut parser, calls)
 }
 
@@ -329,12 +360,13 @@ fn write_ahead<W: Write>(
 }
 
 /// A parser of the input, before it.
-fn parser_of<'de>(alloc: Global, mode: Mode, input: &'de [u8]) -> JsonParser<'de>
-    ensures { result ≡ fresh input.now (mode_of mode) }
+fn parser_of<'de>(alloc: Global, language: Language, input: &'de [u8]) -> JsonParser<'de>
+    ensures { result ≡ fresh_in input.now (read_as language) }
 {
-    match mode {
-        Mode::Plain => JsonParser::new(alloc, input),
-        Mode::Jsonc => JsonParser::new_jsonc(alloc, input),
+    match language {
+        Language::Lenient(Mode::Plain) => JsonParser::new(alloc, input),
+        Language::Lenient(Mode::Jsonc) => JsonParser::new_jsonc(alloc, input),
+        Language::Strict(_) => JsonParser::new_strict(alloc, input),
     }
 }
 

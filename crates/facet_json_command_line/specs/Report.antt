@@ -6,7 +6,8 @@ use Rattle.facet_json_command_line.specs.declared.outcome.Outcome.{Outcome}
 use Rattle.facet_json_command_line.specs.declared.outcome.Outcome.TheVariants.{Done, Refused, Io, Usage}
 
 abbrev pub usage : List ℕ
-usage = codes "usage: facet_json_tool fmt [--pretty] [--jsonc] | events [--jsonc] | tokens [--jsonc] | drive [--jsonc] SCRIPT"
+usage =
+    codes "usage: facet_json_tool fmt [--pretty] [--jsonc | --strict] | events [--jsonc | --strict] | tokens [--jsonc] | drive [--jsonc | --strict] SCRIPT"
 
 -- a range of bytes: its offset and its length
 abbrev pub span_text : Span → List ℕ

@@ -1,16 +1,16 @@
 //! What the arguments after the program's name ask for.
 
 ghost use Rattle.std.specs.Prelude.{◌≡◌, ◌≢◌, ◌≤◌, ◌⊎◌, ℕ, Bool, true, false, List, [], ◌∷◌, ◌++◌, length, codes, None, IfOk, IfErr, MatchOption, MatchResult};
-ghost use Rattle.facet_json_token.specs.Gap.{Mode as SpecMode};
-ghost use Rattle.facet_json_token.specs.Views.{mode_of};
-ghost use Rattle.facet_json_token.specs.declared.mode.Mode.TheVariants as modes;
+ghost use Rattle.facet_json_token.specs.Gap.{plain};
+ghost use Rattle.facet_json_document.specs.Language.{Language as SpecLanguage, lenient};
 ghost use Rattle.facet_json_command_line.specs.declared.outcome.Outcome.TheVariants as outcome;
 ghost use Rattle.facet_json_command_line.specs.Arguments.{AreWords, AskFor, AskForNothing};
-ghost use Rattle.facet_json_command_line.specs.Views.{words_of, command_view, operands_of};
+ghost use Rattle.facet_json_command_line.specs.Views.{words_of, read_as, command_view, operands_of};
 
 use crate::outcome::Outcome;
 use crate::script::parse_script;
 use facet_json_core::Call;
+use facet_json_place::Language;
 use facet_json_token::Mode;
 use std::alloc::Global;
 
@@ -20,14 +20,14 @@ pub enum Command {
     /// Write the document of the input anew.
     Fmt {
         /// How the input is read.
-        mode: Mode,
+        language: Language,
         /// Whether the text is indented.
         pretty: bool,
     },
     /// Print the events of the input's document.
     Events {
         /// How the input is read.
-        mode: Mode,
+        language: Language,
     },
     /// Print the tokens of the input.
     Tokens {
@@ -37,7 +37,7 @@ pub enum Command {
     /// Make these calls of a parser of the input, and print their answers.
     Drive {
         /// How the input is read.
-        mode: Mode,
+        language: Language,
         /// The calls.
         calls: Vec<Call>,
     },
@@ -46,13 +46,16 @@ pub enum Command {
 /// The option by which the input may have comments.
 const COMMENTS: &str = "--jsonc";
 
+/// The option by which the input has to be RFC 8259 alone.
+const STRICTLY: &str = "--strict";
+
 /// The option by which the text is indented.
 const INDENTED: &str = "--pretty";
 
 /// The words after the command's name.
 #[derive(Clone, Copy)]
 struct Words<'a> {
-    mode: Mode,
+    language: Language,
     pretty: bool,
     operand: Option<&'a str>,
 }
@@ -60,14 +63,17 @@ struct Words<'a> {
 impl<'a> Words<'a> {
     /// These words, and then one more, where it may stand there: each option once, and one other word.
     fn with(self, word: &'a str) -> Option<Words<'a>>
-        ensures { (before : List (List ℕ)) → AreWords (mode_of self.entry.mode) self.entry.pretty (operands_of self.entry.operand) before
+        ensures { (before : List (List ℕ)) → AreWords (read_as self.entry.language) self.entry.pretty (operands_of self.entry.operand) before
             → MatchOption result
-            ((mode : SpecMode) (pretty : Bool) (operands rest : List (List ℕ)) → length operands ≤ 1
-            → ¬ AreWords mode pretty operands (before ++ (word.now ∷ rest)))
-            (λ w. AreWords (mode_of w.mode) w.pretty (operands_of w.operand) (before ++ (word.now ∷ []))) }
+            ((language : SpecLanguage) (pretty : Bool) (operands rest : List (List ℕ)) → length operands ≤ 1
+            → ¬ AreWords language pretty operands (before ++ (word.now ∷ rest)))
+            (λ w. AreWords (read_as w.language) w.pretty (operands_of w.operand) (before ++ (word.now ∷ []))) }
     {
         if word == COMMENTS {
-            return self.with_comments();
+            return self.with_language(Language::Lenient(Mode::Jsonc));
+        }
+        if word == STRICTLY {
+            return self.with_language(Language::Strict(Mode::Plain));
         }
         if word == INDENTED {
             return self.with_indent();
@@ -75,17 +81,14 @@ impl<'a> Words<'a> {
         self.with_operand(word)
     }
 
-    /// With the option by which the input may have comments, once.
-    fn with_comments(self) -> Option<Words<'a>>
-        ensures { MatchOption result (self.entry.mode ≡ modes.Jsonc)
-            (λ w. (self.entry.mode ≡ modes.Plain) × (w ≡ record self.entry { mode = modes.Jsonc })) }
+    /// With an option that asks for this language: one such option stands there at most.
+    fn with_language(self, language: Language) -> Option<Words<'a>>
+        ensures { MatchOption result (read_as self.entry.language ≢ lenient plain)
+            (λ w. (read_as self.entry.language ≡ lenient plain) × (w ≡ record self.entry { language = language })) }
     {
-        match self.mode {
-            Mode::Plain => Some(Words {
-                mode: Mode::Jsonc,
-                ..self
-            }),
-            Mode::Jsonc => None,
+        match self.language {
+            Language::Lenient(Mode::Plain) => Some(Words { language, ..self }),
+            _ => None,
         }
     }
 
@@ -106,7 +109,7 @@ impl<'a> Words<'a> {
     /// With a word that is no option, once.
     fn with_operand(self, word: &'a str) -> Option<Words<'a>>
         ensures { MatchOption result ((taken : List ℕ) × (operands_of self.entry.operand ≡ taken ∷ []))
-            (λ w. (operands_of self.entry.operand ≡ []) × (w.mode ≡ self.entry.mode) × (w.pretty ≡ self.entry.pretty)
+            (λ w. (operands_of self.entry.operand ≡ []) × (w.language ≡ self.entry.language) × (w.pretty ≡ self.entry.pretty)
             × (operands_of w.operand ≡ word.now ∷ [])) }
     {
         match self.operand {
@@ -136,32 +139,32 @@ pub fn command_of(alloc: Global, args: &[String]) -> Result<Command, Outcome>
 
 /// The command of this name with these words.
 fn named(alloc: Global, name: &str, words: Words<'_>) -> Result<Command, Outcome>
-    ensures { (rest : List (List ℕ)) → AreWords (mode_of words.entry.mode) words.entry.pretty (operands_of words.entry.operand) rest
+    ensures { (rest : List (List ℕ)) → AreWords (read_as words.entry.language) words.entry.pretty (operands_of words.entry.operand) rest
         → MatchResult result
         (λ c. AskFor (command_view c) (name.now ∷ rest))
         (λ o. (o ≡ outcome.Refused 9 None) ⊎ ((o ≡ outcome.Usage) × AskForNothing (name.now ∷ rest))) }
 {
-    let mode = words.mode;
+    let language = words.language;
     match words.operand {
-        None => bare(name, mode, words.pretty),
+        None => bare(name, language, words.pretty),
         Some(script) => {
             if words.pretty {
                 return Err(Outcome::Usage);
             }
-            scripted(alloc, name, mode, script)
+            scripted(alloc, name, language, script)
         }
     }
 }
 
 /// The command of this name with a script.
-fn scripted(alloc: Global, name: &str, mode: Mode, script: &str) -> Result<Command, Outcome>
-    ensures { (rest : List (List ℕ)) → AreWords (mode_of mode) false (script.now ∷ []) rest → MatchResult result
+fn scripted(alloc: Global, name: &str, language: Language, script: &str) -> Result<Command, Outcome>
+    ensures { (rest : List (List ℕ)) → AreWords (read_as language) false (script.now ∷ []) rest → MatchResult result
         (λ c. AskFor (command_view c) (name.now ∷ rest))
         (λ o. (o ≡ outcome.Refused 9 None) ⊎ ((o ≡ outcome.Usage) × AskForNothing (name.now ∷ rest))) }
 {
     match name {
         "drive" => match parse_script(alloc, script) {
-            Ok(calls) => Ok(Command::Drive { mode, calls }),
+            Ok(calls) => Ok(Command::Drive { language, calls }),
             Err(outcome) => Err(outcome),
         },
         _ => Err(Outcome::Usage),
@@ -169,44 +172,56 @@ fn scripted(alloc: Global, name: &str, mode: Mode, script: &str) -> Result<Comma
 }
 
 /// The command of this name, without an operand.
-fn bare(name: &str, mode: Mode, pretty: bool) -> Result<Command, Outcome>
-    ensures { (rest : List (List ℕ)) → AreWords (mode_of mode) pretty [] rest → MatchResult result
+fn bare(name: &str, language: Language, pretty: bool) -> Result<Command, Outcome>
+    ensures { (rest : List (List ℕ)) → AreWords (read_as language) pretty [] rest → MatchResult result
         (λ c. AskFor (command_view c) (name.now ∷ rest))
         (λ o. (o ≡ outcome.Usage) × AskForNothing (name.now ∷ rest)) }
 {
     match name {
-        "fmt" => Ok(Command::Fmt { mode, pretty }),
+        "fmt" => Ok(Command::Fmt { language, pretty }),
         _ => {
             if pretty {
                 return Err(Outcome::Usage);
             }
-            listing(name, mode)
+            listing(name, language)
         }
     }
 }
 
 /// The command of this name that lists something, without an operand and the option of the layout.
-fn listing(name: &str, mode: Mode) -> Result<Command, Outcome>
-    ensures { (rest : List (List ℕ)) → name.now ≢ codes "fmt" → AreWords (mode_of mode) false [] rest → MatchResult result
+fn listing(name: &str, language: Language) -> Result<Command, Outcome>
+    ensures { (rest : List (List ℕ)) → name.now ≢ codes "fmt" → AreWords (read_as language) false [] rest → MatchResult result
         (λ c. AskFor (command_view c) (name.now ∷ rest))
         (λ o. (o ≡ outcome.Usage) × AskForNothing (name.now ∷ rest)) }
 {
     match name {
-        "events" => Ok(Command::Events { mode }),
-        "tokens" => Ok(Command::Tokens { mode }),
+        "events" => Ok(Command::Events { language }),
+        "tokens" => scanning(language),
         _ => Err(Outcome::Usage),
+    }
+}
+
+/// The command `tokens`, which has no strict form.
+fn scanning(language: Language) -> Result<Command, Outcome>
+    ensures { (rest : List (List ℕ)) → AreWords (read_as language) false [] rest → MatchResult result
+        (λ c. AskFor (command_view c) (codes "tokens" ∷ rest))
+        (λ o. (o ≡ outcome.Usage) × AskForNothing (codes "tokens" ∷ rest)) }
+{
+    match language {
+        Language::Lenient(mode) => Ok(Command::Tokens { mode }),
+        Language::Strict(_) => Err(Outcome::Usage),
     }
 }
 
 /// The words after the command's name, where they are the options, each once at most, and one other word at most.
 fn words_after(words: &[String]) -> Option<Words<'_>>
     ensures { MatchOption result
-        ((mode : SpecMode) (pretty : Bool) (operands : List (List ℕ)) → length operands ≤ 1
-        → ¬ AreWords mode pretty operands (words_of words.now))
-        (λ w. AreWords (mode_of w.mode) w.pretty (operands_of w.operand) (words_of words.now)) }
+        ((language : SpecLanguage) (pretty : Bool) (operands : List (List ℕ)) → length operands ≤ 1
+        → ¬ AreWords language pretty operands (words_of words.now))
+        (λ w. AreWords (read_as w.language) w.pretty (operands_of w.operand) (words_of words.now)) }
 {
     let mut taken = Words {
-        mode: Mode::Plain,
+        language: Language::Lenient(Mode::Plain),
         pretty: false,
         operand: None,
     };

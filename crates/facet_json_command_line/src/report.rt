@@ -10,8 +10,8 @@ use std::io::Write;
 
 /// The line for wrong arguments.
 const USAGE: &str =
-    "usage: facet_json_tool fmt [--pretty] [--jsonc] | events [--jsonc] | tokens [--jsonc] \
-    | drive [--jsonc] SCRIPT";
+    "usage: facet_json_tool fmt [--pretty] [--jsonc | --strict] | events [--jsonc | --strict] \
+    | tokens [--jsonc] | drive [--jsonc | --strict] SCRIPT";
 
 /// Writes the line for the standard error, if there is one. This does not allocate.
 pub fn write_line<W: Write>(outcome: Outcome, errors: &mut W) -> io::Result<()>

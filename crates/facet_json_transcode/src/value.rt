@@ -64,6 +64,7 @@ pub fn transcode<'t>(
         → MatchResult result (λ _. (serializer.new ≡ Some (with_tree w value)) × (future_of parser.new ≡ finished)) (λ e. LacksMemory e) }
     ensures within { IfErr result (λ e. IsWithin (length parser.old.buffer) e) }
     ensures same { parser.new.buffer ≡ parser.old.buffer }
+    ensures free { OnOk result (parser.new.cursor.refusal ≡ None) }
 {
     pass_value(parser, serializer)
 }
@@ -79,6 +80,7 @@ fn pass_value<'t>(
         → IfErr result (λ e. IsUnwritten parser.old.buffer (future_of parser.old) e) }
     ensures within { IfErr result (λ e. IsWithin (length parser.old.buffer) e) }
     ensures same { parser.new.buffer ≡ parser.old.buffer }
+    ensures free { OnOk result (parser.new.cursor.refusal ≡ None) }
 {
     let mut depth = 0;
     loop {

@@ -1,12 +1,12 @@
 use Rattle.std.proofs.Common.{◌≡◌, ℕ, List}
-use Rattle.facet_json_token.specs.Gap.{Mode}
-use Rattle.facet_json_protocol.specs.Now.{fresh, ahead}
+use Rattle.facet_json_document.specs.Language.{Language}
+use Rattle.facet_json_protocol.specs.Now.{fresh_in, ahead}
 use Rattle.facet_json_command.proofs.Listing.{AreSoFar}
 use Rattle.facet_json_command.proofs.run.list_ahead.Given as goal
 
 abbrev pub invariant-loop-event : goal.invariant-loop-event
-invariant-loop-event g l = (mode : Mode) (input : List ℕ) → l.fn.parser ≡ fresh input mode →
-    AreSoFar mode input (g.W.Write.contents l.fn.writer) (g.W.Write.contents l.writer) l.parser
+invariant-loop-event g l = (language : Language) (input : List ℕ) → l.fn.parser ≡ fresh_in input language →
+    AreSoFar language input (g.W.Write.contents l.fn.writer) (g.W.Write.contents l.writer) l.parser
 
 abbrev pub decreases-loop-event : goal.decreases-loop-event
 decreases-loop-event g l = ahead l.parser

@@ -16,18 +16,18 @@ returns-in-Ok-clause-answer g c command asks =
     rw (one_command (words_of c.args.args.now) command (command_view c.in-Ok.command) asks c.in-Ok.ensures.asked) c.obey.ensures.answer
 
 pub returns-in-Ok-clause-refused : goal.returns-in-Ok-clause-refused
-returns-in-Ok-clause-refused g c mode pretty code span asks =
-    let same = one_command (words_of c.args.args.now) (command_view c.in-Ok.command) (fmt mode pretty) c.in-Ok.ensures.asked asks in
+returns-in-Ok-clause-refused g c language pretty code span asks =
+    let same = one_command (words_of c.args.args.now) (command_view c.in-Ok.command) (fmt language pretty) c.in-Ok.ensures.asked asks in
     (rw same at c.obey.ensures.refused) code span
 
 pub returns-in-Ok-clause-only : goal.returns-in-Ok-clause-only
-returns-in-Ok-clause-only g c mode pretty asks =
-    let same = one_command (words_of c.args.args.now) (command_view c.in-Ok.command) (fmt mode pretty) c.in-Ok.ensures.asked asks in
+returns-in-Ok-clause-only g c language pretty asks =
+    let same = one_command (words_of c.args.args.now) (command_view c.in-Ok.command) (fmt language pretty) c.in-Ok.ensures.asked asks in
     rw same at c.obey.ensures.only
 
 pub returns-in-Ok-clause-driven : goal.returns-in-Ok-clause-driven
-returns-in-Ok-clause-driven g c mode calls asks =
-    let same = one_command (words_of c.args.args.now) (command_view c.in-Ok.command) (drive mode calls) c.in-Ok.ensures.asked asks in
+returns-in-Ok-clause-driven g c language calls asks =
+    let same = one_command (words_of c.args.args.now) (command_view c.in-Ok.command) (drive language calls) c.in-Ok.ensures.asked asks in
     rw same at c.obey.ensures.driven
 
 pub returns-in-Err-clause-answer : goal.returns-in-Err-clause-answer
@@ -38,17 +38,17 @@ returns-in-Err-clause-answer g c command asks =
     ]
 
 pub returns-in-Err-clause-only : goal.returns-in-Err-clause-only
-returns-in-Err-clause-only g c mode pretty asks =
+returns-in-Err-clause-only g c language pretty asks =
     elim c.in-Err.ensures.refused [
-      | inl memory ↦ no_memory_only mode _ _ memory
-      | inr wrong ↦ absurd (wrong.1 (fmt mode pretty) asks)
+      | inl memory ↦ no_memory_only language _ _ memory
+      | inr wrong ↦ absurd (wrong.1 (fmt language pretty) asks)
     ]
 
 pub returns-in-Err-clause-driven : goal.returns-in-Err-clause-driven
-returns-in-Err-clause-driven g c mode calls asks =
+returns-in-Err-clause-driven g c language calls asks =
     elim c.in-Err.ensures.refused [
       | inl memory ↦ inr (rw memory refl)
-      | inr wrong ↦ absurd (wrong.1 (drive mode calls) asks)
+      | inr wrong ↦ absurd (wrong.1 (drive language calls) asks)
     ]
 
 pub returns-in-Err-clause-usage : goal.returns-in-Err-clause-usage

@@ -1,8 +1,7 @@
 use Rattle.std.proofs.Common.{take}
-use Rattle.facet_json_token.specs.Views.{mode_of}
 use Rattle.facet_json_command_line.specs.Arguments.{AreWords}
-use Rattle.facet_json_command_line.specs.Views.{words_of, operands_of}
+use Rattle.facet_json_command_line.specs.Views.{words_of, read_as, operands_of}
 use Rattle.facet_json_command_line.proofs.arguments.words_after.Given as goal
 
 abbrev pub invariant-loop-word : goal.invariant-loop-word
-invariant-loop-word l = AreWords (mode_of l.taken.mode) l.taken.pretty (operands_of l.taken.operand) (words_of (take l.word-index l.words))
+invariant-loop-word l = AreWords (read_as l.taken.language) l.taken.pretty (operands_of l.taken.operand) (words_of (take l.word-index l.words))
