@@ -52,8 +52,8 @@ pub fn run<R: Read, W: Write>(
         Answers command input (W.contents writer.old) (W.contents writer.new) result) }
     ensures refused { (language : SpecLanguage) (pretty : Bool) (code : ℕ) (span : Option TheSpan) → AskFor (fmt language pretty) (words_of args.now)
         → result ≡ outcome.Refused code span → writer.new ≡ writer.old }
-    ensures only { (language : SpecLanguage) (pretty : Bool) → AskFor (fmt language pretty) (words_of args.now) → IfSome (R.remaining reader.old) (λ input.
-        HasDocument language input → (result ≡ outcome.Done) ⊎ IsFailure result) }
+    ensures only { (language : SpecLanguage) (pretty : Bool) → AskFor (fmt language pretty) (words_of args.now)
+        → IfSome (R.remaining reader.old) (λ input. HasDocument language input → (result ≡ outcome.Done) ⊎ IsFailure result) }
     ensures driven { (language : SpecLanguage) (calls : List SpecCall) → AskFor (drives language calls) (words_of args.now)
         → (result ≡ outcome.Done) ⊎ IsFailure result }
     ensures grows { result ≢ outcome.Io → Grows (W.contents writer.old) (W.contents writer.new) }
