@@ -5,7 +5,9 @@ use facet_format::{DeserializeError, DeserializeErrorKind};
 use facet_json_meaning::JsonParser;
 use facet_json_raw::RawJson;
 use facet_json_record::{Done, Need, read_fields};
-use facet_json_typed::{Facet, from_slice, from_slice_borrowed, to_string, to_vec};
+use facet_json_typed::{
+    Facet, from_slice, from_slice_borrowed, from_slice_strict, to_string, to_vec,
+};
 use std::alloc::Global;
 use std::collections::BTreeMap;
 
@@ -83,6 +85,25 @@ fn a_growth_is_refused_in_a_container(rt: HostRuntime) {
             alloc,
             "{\"c\":\"e\",\"a\":\"b\",\"\\u0063\":\"d\"}",
             map
+        )
+    );
+}
+
+/// Whether strict mode reads a value that is written as this text, or memory runs out.
+fn reads_strictly_or_runs_out<'de, T: Facet<'de>>(alloc: Global, text: &'de str) -> bool {
+    match from_slice_strict::<T>(alloc, text.as_bytes()) {
+        Ok(value) => writes_or_runs_out(alloc, &value, text),
+        Err(error) => has_run_out(error),
+    }
+}
+
+#[test]
+fn a_growth_is_refused_in_strict_mode(rt: HostRuntime) {
+    let alloc = rt.alloc();
+    assert!(rt;
+        reads_strictly_or_runs_out::<BTreeMap<String, Vec<String>>>(
+            alloc,
+            "{\"a\":[\"b\",\"\\ncd\"],\"c\":[]}"
         )
     );
 }

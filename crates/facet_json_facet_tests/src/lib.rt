@@ -23,6 +23,8 @@ mod records;
 #[cfg(test)]
 mod refusals;
 #[cfg(test)]
+mod strict;
+#[cfg(test)]
 mod texts;
 #[cfg(test)]
 mod trees;

@@ -82,16 +82,17 @@ next-answers made now o t e none one =
     step-moves made now _ next _ e (passes-step (on_input made.buffer made.language) made.cursor o t (none-made made now e none) one)
 
 -- An event that is passed at once is answered; else nothing changes.
-pub quick-answers : (input : List ℕ) (language : Language) (s u : RustStanding) (refusal : Option Refused) (points : List Point) (counter : ℕ)
-    (now : Now) (o : Option ParseEvent) → now_of input language s refusal points counter ≡ now → is_some refusal ≡ false →
-    MatchOption o (u ≡ s) (λ e. PassesOne (on_input input (language_of language)) (spot_of (filling_of s)) (Ok (Some (event_of e))) (spot_of (filling_of u))) →
+pub quick-answers : (input : List ℕ) (language read : Language) (s u : RustStanding) (refusal : Option Refused) (points : List Point) (counter : ℕ)
+    (now : Now) (o : Option ParseEvent) → now_of input language s refusal points counter ≡ now → is_some refusal ≡ false → language ≡ read →
+    MatchOption o (u ≡ s) (λ e. PassesOne (on_input input (language_of read)) (spot_of (filling_of s)) (Ok (Some (event_of e))) (spot_of (filling_of u))) →
     MatchOption o (now_of input language u refusal points counter ≡ now)
     (λ e. Moves now next (event (Ok (Some (event_of e)))) (now_of input language u refusal points counter))
-quick-answers input language s u refusal points counter now None view none same =
+quick-answers input language read s u refusal points counter now None view none is same =
     ap (λ (x : RustStanding). now_of input language x refusal points counter) same ∙ view
-quick-answers input language s u refusal points counter now (Some e) view none one =
+quick-answers input language read s u refusal points counter now (Some e) view none is one =
     let made = now_of input language s refusal points counter in
-    next-answers made now (Some (event_of e)) (spot_of (filling_of u)) view (none-made now made (sym view) (no_refusal refusal none)) one
+    next-answers made now (Some (event_of e)) (spot_of (filling_of u)) view (none-made now made (sym view) (no_refusal refusal none))
+    (rw is one)
 
 pub next-refused : (made now new : Now) (r q : Refusal) (t : Spot Standing) → made ≡ now → now.cursor.refusal ≡ None →
     PassesOne (on_input made.buffer made.language) made.cursor.spot (Err r) t → new ≡ with_cursor made (refused_at made.cursor t r) → q ≡ r →

@@ -4,7 +4,7 @@ use crate::shown::{Telling, push, push_answer};
 use crate::unread::{Unread, tell_parts};
 use facet_format::FormatParser;
 use facet_json::{
-    Answer, Call, JsonParser, drive, from_slice_strict, tree_from_slice, tree_from_slice_jsonc,
+    Answer, Call, JsonParser, drive, tree_from_slice, tree_from_slice_jsonc, tree_from_slice_strict,
 };
 use std::alloc::{AllocError, Global};
 
@@ -366,7 +366,7 @@ fn push_tree(alloc: Global, mode: Mode, input: &[u8], told: &mut String) -> Resu
     let read = match mode {
         Mode::Plain => tree_from_slice(alloc, input),
         Mode::Jsonc => tree_from_slice_jsonc(alloc, input),
-        Mode::Strict => from_slice_strict(alloc, input),
+        Mode::Strict => tree_from_slice_strict(alloc, input),
     };
     write!(told, "{read:?}")
 }

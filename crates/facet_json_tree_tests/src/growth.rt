@@ -2,8 +2,8 @@
 //! these have to pass in every such run.
 
 use crate::samples::each_kind;
-use facet_format::DeserializeErrorKind;
-use facet_json_read::tree_from_slice;
+use facet_format::{DeserializeError, DeserializeErrorKind};
+use facet_json_read::{tree_from_slice, tree_from_slice_strict};
 use facet_json_tree::Tree;
 use std::alloc::Global;
 
@@ -24,12 +24,18 @@ fn a_refused_copy_leaves_the_value(rt: HostRuntime) {
     }
 }
 
-/// Whether the input is read as a list of so many items, or memory runs out.
-fn is_read_or_runs_out(alloc: Global, input: &str, items: usize) -> bool {
-    match tree_from_slice(alloc, input.as_bytes()) {
+/// Whether the answer is a list of so many items, or memory ran out.
+fn is_list_or_ran_out(answer: Result<Tree, DeserializeError<'_>>, items: usize) -> bool {
+    match answer {
         Ok(tree) => tree.as_list().is_some_and(|list| list.len() == items),
         Err(error) => error.kind == DeserializeErrorKind::OutOfMemory,
     }
+}
+
+/// Whether the input is read so in either mode.
+fn is_read_or_runs_out(alloc: Global, input: &str, items: usize) -> bool {
+    is_list_or_ran_out(tree_from_slice(alloc, input.as_bytes()), items)
+        && is_list_or_ran_out(tree_from_slice_strict(alloc, input.as_bytes()), items)
 }
 
 #[test]

@@ -13,3 +13,5 @@ mod growth;
 mod lookups;
 #[cfg(test)]
 mod samples;
+#[cfg(test)]
+mod strict;

@@ -1,0 +1,100 @@
+//! Trees of strict mode: the texts of RFC 8259 alone are taken, up to their end, and each other input is refused where its first fault stands.
+
+use facet_format::{DeserializeError, DeserializeErrorKind, Span};
+use facet_json_read::{tree_from_slice, tree_from_slice_strict, tree_from_slice_within_strict};
+use facet_json_tree::Tree;
+use std::alloc::Global;
+
+/// Whether strict mode reads the bytes as lenient mode does, with no depth and within this one.
+fn is_read(alloc: Global, input: &[u8], depth: usize) -> bool {
+    match (
+        tree_from_slice_strict(alloc, input),
+        tree_from_slice_within_strict(alloc, input, depth),
+        tree_from_slice(alloc, input),
+    ) {
+        (Ok(tree), Ok(within), Ok(whole)) => tree.is_same(&whole) && within.is_same(&whole),
+        _ => false,
+    }
+}
+
+/// Whether the answer is this refusal.
+fn is_refusal(
+    answer: Result<Tree, DeserializeError<'_>>,
+    kind: &DeserializeErrorKind<'_>,
+    span: Span,
+) -> bool {
+    match answer {
+        Ok(_) => false,
+        Err(error) => error.kind == *kind && error.span == Some(span),
+    }
+}
+
+/// Whether strict mode refuses the bytes so, with no depth and within the greatest.
+fn refuses(alloc: Global, input: &[u8], kind: DeserializeErrorKind<'_>, span: Span) -> bool {
+    is_refusal(tree_from_slice_strict(alloc, input), &kind, span)
+        && is_refusal(
+            tree_from_slice_within_strict(alloc, input, usize::MAX),
+            &kind,
+            span,
+        )
+}
+
+/// The refusal of a byte or a scalar that may not stand there.
+fn unexpected(ch: char) -> DeserializeErrorKind<'static> {
+    DeserializeErrorKind::UnexpectedChar {
+        ch,
+        expected: "valid JSON token",
+    }
+}
+
+/// The refusal of a token that may not stand there.
+fn token(got: &'static str, expected: &'static str) -> DeserializeErrorKind<'static> {
+    DeserializeErrorKind::UnexpectedToken { got, expected }
+}
+
+#[test]
+fn a_text_of_the_standard_is_read(rt: HostRuntime) {
+    let alloc = rt.alloc();
+    assert!(rt; is_read(alloc, b"1", 0));
+    assert!(rt; is_read(alloc, b" \t\n\r[ ] \t\n\r", 1));
+    assert!(rt; is_read(alloc, b"{\"a\":[-0.5e-3,\"\\u00e9\",null]}", 2));
+}
+
+#[test]
+fn what_only_lenient_mode_takes_is_refused(rt: HostRuntime) {
+    let alloc = rt.alloc();
+    assert!(rt; refuses(alloc, b"[1,]", token("ArrayEnd", "value"), Span::new(3, 1)));
+    assert!(rt; refuses(alloc, b"007", unexpected('?'), Span::new(0, 3)));
+    assert!(rt; refuses(alloc, b"[\"\t\"]", unexpected('\t'), Span::new(2, 1)));
+    assert!(rt; refuses(alloc, b"1 2", token("U64", "end of input"), Span::new(2, 1)));
+    assert!(rt; refuses(alloc, b"1 x", unexpected('x'), Span::new(2, 1)));
+}
+
+#[test]
+fn a_depth_is_refused_at_its_bracket(rt: HostRuntime) {
+    let alloc = rt.alloc();
+    let too_deep = DeserializeErrorKind::InvalidValue {
+        message: "nested too deeply",
+    };
+    assert!(rt;
+        is_refusal(
+            tree_from_slice_within_strict(alloc, b" []", 0),
+            &too_deep,
+            Span::new(1, 1)
+        )
+    );
+    assert!(rt;
+        is_refusal(
+            tree_from_slice_within_strict(alloc, b"[[1],[[2]]] x", 2),
+            &too_deep,
+            Span::new(6, 1)
+        )
+    );
+    assert!(rt;
+        is_refusal(
+            tree_from_slice_within_strict(alloc, b"[1] x", 1),
+            &unexpected('x'),
+            Span::new(4, 1)
+        )
+    );
+}
