@@ -19,7 +19,8 @@ use Rattle.facet_json_command.specs.Run.{IsDocumentIn, HasDocument, IsRefusal}
 -- Behind the end of a value the document is passed.
 pub document_passed : (language : Language) (input : List ℕ) (w : Writing) (old : Now) (after : Option Writing) (Over : Type 0) →
     old ≡ fresh_in input (read_as language) →
-    ((mode : Mode) → old ≡ fresh input mode → (root : Node) × (value : Tree) × IsDocument input mode root value × (after ≡ Some (with_tree w value))) →
+    ((mode : Mode) → old ≡ fresh input mode →
+    (root : Node) × (value : Tree) × IsDocument input mode root value × (after ≡ Some (with_tree w value))) →
     (old ≡ fresh_in input (strict plain) → Over →
     (root : Node) × (value : Tree) × IsStrictDocument input root value × (after ≡ Some (with_tree w value))) →
     Over → (root : Node) × (value : Tree) × IsDocumentIn (read_as language) input root value × (after ≡ Some (with_tree w value))
@@ -35,7 +36,8 @@ where_document (Lenient mode) input old P is begun whole has = begun (mode_of mo
 where_document (Strict mode) input old P is begun whole has = whole is has.0 has.1 has.2
 
 -- A refusal is told of in each language.
-pub refusal_is : (language : Language) (input : List ℕ) (outcome : Outcome) (P : Type 0) {parser : Now} → parser ≡ fresh_in input (read_as language) →
+pub refusal_is : (language : Language) (input : List ℕ) (outcome : Outcome) (P : Type 0) {parser : Now} →
+    parser ≡ fresh_in input (read_as language) →
     ((mode : Mode) → parser ≡ fresh input mode → IsRefusal (lenient mode) input outcome) →
     ((IsStrict input → P) → IsRefusal (strict plain) input outcome) →
     (HasDocument (read_as language) input → P) → IsRefusal (read_as language) input outcome

@@ -52,8 +52,8 @@ pub fn run<R: Read, W: Write>(
         Answers command input (W.contents writer.old) (W.contents writer.new) result) }
     ensures refused { (language : SpecLanguage) (pretty : Bool) (code : ℕ) (span : Option TheSpan) → AskFor (fmt language pretty) (words_of args.now)
         → result ≡ outcome.Refused code span → writer.new ≡ writer.old }
-    ensures only { (language : SpecLanguage) (pretty : Bool) → AskFor (fmt language pretty) (words_of args.now) → IfSome (R.remaining reader.old) (λ input.
-        HasDocument language input → (result ≡ outcome.Done) ⊎ IsFailure result) }
+    ensures only { (language : SpecLanguage) (pretty : Bool) → AskFor (fmt language pretty) (words_of args.now)
+        → IfSome (R.remaining reader.old) (λ input. HasDocument language input → (result ≡ outcome.Done) ⊎ IsFailure result) }
     ensures driven { (language : SpecLanguage) (calls : List SpecCall) → AskFor (drives language calls) (words_of args.now)
         → (result ≡ outcome.Done) ⊎ IsFailure result }
     ensures grows { result ≢ outcome.Io → Grows (W.contents writer.old) (W.contents writer.new) }
@@ -175,8 +175,10 @@ fn pass_document<'t>(
         → serializer.old ≡ Some w → HasDocument (read_as language) input → IfErr result (λ e. LacksMemory e) }
 {
     transcode(parser, serializer)?;
-    pass_end(parser)?;
-    Ok(())
+    match pass_end(parser) {
+        Ok(()) => Ok(()),
+        Err(error) => Err(TranscodeError::Read(error)),
+    }
 }
 
 /// A serializer of a text so laid out, which has written nothing.

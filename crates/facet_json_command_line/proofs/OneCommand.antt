@@ -118,6 +118,7 @@ tokens_is_not_drive args mode language calls first second =
     differ (codes "tokens") (codes "drive") (λ e. absurd (omega (arith, e)))
     (arguments_once args (codes "tokens") (codes "drive") (lenient mode) language false false [] (second.0 ∷ []) first second.1).0
 
+-- Two commands that the same arguments ask for are one.
 pub one_command : (args : List (List ℕ)) (command other : Command) → AskFor command args → AskFor other args → command ≡ other
 one_command args (fmt language pretty) (fmt other layout) first second =
     let same = fmt_once args language other pretty layout first second in ap (λ l. fmt l pretty) same.0 ∙ ap (fmt other) same.1

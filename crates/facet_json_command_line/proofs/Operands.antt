@@ -50,6 +50,7 @@ pub taken_or : {X : Type 0} (o : Option X) (P R : Type 0) (Q S : X → Type 0) �
 taken_or None P R Q S none some is = none is
 taken_or (Some x) P R Q S none some is = some x is
 
+-- A word that is no option is one operand more.
 pub one_more_operand : (language : Language) (pretty : Bool) (operands front : List (List ℕ)) (word : List ℕ) → word ≢ comments →
     word ≢ strictly → word ≢ indented → AreWords language pretty operands front →
     AreWords language pretty (operands ++ (word ∷ [])) (front ++ (word ∷ []))
@@ -65,6 +66,7 @@ one_more_operand _ _ _ _ word c s i (with_indent language first operands words i
     with_indent language first (operands ++ (word ∷ [])) (words ++ (word ∷ [])) is
     (one_more_operand language false operands words word c s i more)
 
+-- An option asks for a language behind words that ask for none.
 pub one_more_asked : (asked language : Language) (pretty : Bool) (operands front : List (List ℕ)) (word : List ℕ) → Asks asked word →
     language ≡ lenient plain → AreWords language pretty operands front → AreWords asked pretty operands (front ++ (word ∷ []))
 one_more_asked asked _ _ _ _ word asks free no_words = with_asked asked false word [] [] asks no_words
@@ -75,6 +77,7 @@ one_more_asked asked _ _ _ _ word asks free (with_strict pretty first operands w
 one_more_asked asked _ _ _ _ word asks free (with_indent language first operands words is more) =
     with_indent asked first operands (words ++ (word ∷ [])) is (one_more_asked asked language false operands words word asks free more)
 
+-- The option of the layout stands behind words without it.
 pub one_more_indent : (language : Language) (pretty : Bool) (operands front : List (List ℕ)) (word : List ℕ) → word ≡ indented → pretty ≡ false →
     AreWords language pretty operands front → AreWords language true operands (front ++ (word ∷ []))
 one_more_indent _ _ _ _ word same free no_words = with_indent (lenient plain) word [] [] same no_words
@@ -88,6 +91,7 @@ one_more_indent _ _ _ _ word same free (with_indent language first operands word
 
 -- ---- words are read in one way
 
+-- The words tell the language, the layout and the operands.
 pub one_reading : (language language' : Language) (pretty pretty' : Bool) (operands operands' words : List (List ℕ)) →
     AreWords language pretty operands words → AreWords language' pretty' operands' words →
     (language ≡ language') × (pretty ≡ pretty') × (operands ≡ operands')
@@ -257,8 +261,10 @@ both_indented false b all is is' join = cc
 both_indented true false all is is' join = cc
 both_indented true true all is is' join = join
 
-module _ (taken_language : Language) (taken_pretty : Bool) (taken front : List (List ℕ)) (so_far : AreWords taken_language taken_pretty taken front)
-    (language : Language) (pretty : Bool) (operands rest : List (List ℕ)) (word : List ℕ) (all : AreWords language pretty operands (front ++ (word ∷ rest))) where
+module _ (taken_language : Language) (taken_pretty : Bool) (taken front : List (List ℕ))
+    (so_far : AreWords taken_language taken_pretty taken front)
+    (language : Language) (pretty : Bool) (operands rest : List (List ℕ)) (word : List ℕ)
+    (all : AreWords language pretty operands (front ++ (word ∷ rest))) where
   -- one option asks for a language at most
   pub no_second_language : (asked : Language) → Asks asked word → taken_language ≢ lenient plain → ⊥
   no_second_language asked asks there =
@@ -289,6 +295,7 @@ module _ (taken_language : Language) (taken_pretty : Bool) (taken front : List (
 
 -- ---- what a name and its words ask for
 
+-- The same arguments begin with the same name.
 pub name_is : (name other : List ℕ) (words others : List (List ℕ)) → name ∷ words ≡ other ∷ others → name ≡ other
 name_is name other words others same = ap (λ l. get_or l 0 []) same
 
@@ -324,6 +331,18 @@ bare_asks_nothing name rest language pretty words f e t (tokens mode) args =
 bare_asks_nothing name rest language pretty words f e t (drive other calls) args =
     none_is_one args.0 (words_are name (codes "drive") rest language other pretty false [] (args.0 ∷ []) words args.1).2
 
+strict_is_not_lenient : (mode other : Mode) → strict mode ≡ lenient other → ⊥
+strict_is_not_lenient mode other same = cc
+
+-- `tokens` has no strict form
+pub strict_tokens_ask_nothing : (rest : List (List ℕ)) (language : Language) → AreWords language false [] rest → language ≡ strict plain →
+    AskForNothing (codes "tokens" ∷ rest)
+strict_tokens_ask_nothing rest language words is =
+    bare_asks_nothing (codes "tokens") rest language false words
+    (λ same. let first : 116 ≡ 102 = ap (λ l. get_or l 0 0) same in absurd (omega (arith, first)))
+    (λ same. let first : 116 ≡ 101 = ap (λ l. get_or l 0 0) same in absurd (omega (arith, first)))
+    (λ mode name same. absurd (strict_is_not_lenient plain mode (sym is ∙ same)))
+
 -- with an operand only a script of that name asks for something, without the option of the layout
 pub operand_asks_nothing : (name script : List ℕ) (rest : List (List ℕ)) (language : Language) (pretty : Bool) →
     AreWords language pretty (script ∷ []) rest →
@@ -341,6 +360,7 @@ operand_asks_nothing name script rest language pretty words none (drive other ca
 
 -- ---- the loop over the arguments: the words so far, one more, and what is left
 
+-- The words up to one of them, that one, and those behind it
 pub words_split : (args : List (String Global)) (i : ℕ) (arg : String Global) → i < length args → arg ≡ get_or args i arg →
     words_of args ≡ words_of (take i args) ++ (string_bytes arg ∷ words_of (drop (suc i) args))
 words_split [] i arg within is = absurd (omega (arith, within))
