@@ -175,8 +175,10 @@ fn pass_document<'t>(
         → serializer.old ≡ Some w → HasDocument (read_as language) input → IfErr result (λ e. LacksMemory e) }
 {
     transcode(parser, serializer)?;
-    pass_end(parser)?;
-    Ok(())
+    match pass_end(parser) {
+        Ok(()) => Ok(()),
+        Err(error) => Err(TranscodeError::Read(error)),
+    }
 }
 
 /// A serializer of a text so laid out, which has written nothing.

@@ -331,6 +331,18 @@ bare_asks_nothing name rest language pretty words f e t (tokens mode) args =
 bare_asks_nothing name rest language pretty words f e t (drive other calls) args =
     none_is_one args.0 (words_are name (codes "drive") rest language other pretty false [] (args.0 ∷ []) words args.1).2
 
+strict_is_not_lenient : (mode other : Mode) → strict mode ≡ lenient other → ⊥
+strict_is_not_lenient mode other same = cc
+
+-- `tokens` has no strict form
+pub strict_tokens_ask_nothing : (rest : List (List ℕ)) (language : Language) → AreWords language false [] rest → language ≡ strict plain →
+    AskForNothing (codes "tokens" ∷ rest)
+strict_tokens_ask_nothing rest language words is =
+    bare_asks_nothing (codes "tokens") rest language false words
+    (λ same. let first : 116 ≡ 102 = ap (λ l. get_or l 0 0) same in absurd (omega (arith, first)))
+    (λ same. let first : 116 ≡ 101 = ap (λ l. get_or l 0 0) same in absurd (omega (arith, first)))
+    (λ mode name same. absurd (strict_is_not_lenient plain mode (sym is ∙ same)))
+
 -- with an operand only a script of that name asks for something, without the option of the layout
 pub operand_asks_nothing : (name script : List ℕ) (rest : List (List ℕ)) (language : Language) (pretty : Bool) →
     AreWords language pretty (script ∷ []) rest →

@@ -18,3 +18,6 @@ returns-in-Fmt-clause-driven c = search rules
 
 pub returns-in-Fmt-clause-grows : goal.returns-in-Fmt-clause-grows
 returns-in-Fmt-clause-grows c = search rules
+
+pub returns-in-Drive-clause-answer : goal.returns-in-Drive-clause-answer
+returns-in-Drive-clause-answer c = search rules

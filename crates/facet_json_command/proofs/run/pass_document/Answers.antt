@@ -10,19 +10,19 @@ returns-in_err-transcode-clause-refused c input mode w fresh is =
     let p = err_from_is_err_and c.from_residual.result c.from_residual.ensures.1 in
     rw (p.1, p.2) (c.in_err-transcode.ensures.refused input mode w fresh is)
 
-pub returns-in_err-pass_end-clause-refused : goal.returns-in_err-pass_end-clause-refused
-returns-in_err-pass_end-clause-refused c input mode w fresh is =
-    absurd (c.in_err-pass_end.ensures.only c.in_ok-transcode.ensures.free (c.in_ok-transcode.ensures.over input mode w fresh is))
+pub returns-in-Err-clause-refused : goal.returns-in-Err-clause-refused
+returns-in-Err-clause-refused c input mode w fresh is =
+    absurd (c.in-Err.ensures.only c.in_ok-transcode.ensures.free (c.in_ok-transcode.ensures.over input mode w fresh is))
 
-pub returns-in_err-pass_end-clause-only : goal.returns-in_err-pass_end-clause-only
-returns-in_err-pass_end-clause-only c input language w fresh is has =
+pub returns-in-Err-clause-only : goal.returns-in-Err-clause-only
+returns-in-Err-clause-only c input language w fresh is has =
     let told = c.in_ok-transcode.ensures in
     let over = where_document language input _ (future_of c.transcode.new.parser ≡ finished) fresh
     (λ mode at root value d. told.over input mode w at is) (λ at root value d. (told.strict_only input w at is root value d).1) has in
-    absurd (c.in_err-pass_end.ensures.only told.free over)
+    absurd (c.in-Err.ensures.only told.free over)
 
-pub returns-clause-document : goal.returns-clause-document
-returns-clause-document c input language w fresh is =
+pub returns-in-Ok-clause-document : goal.returns-in-Ok-clause-document
+returns-in-Ok-clause-document c input language w fresh is =
     let told = c.in_ok-transcode.ensures in
     document_passed language input w _ _ (future_of c.transcode.new.parser ≡ finished) fresh
-    (λ mode at. told.document input mode w at is) (λ at over. told.strict input w at is over) c.in_ok-pass_end.ensures.over.over
+    (λ mode at. told.document input mode w at is) (λ at over. told.strict input w at is over) c.in-Ok.ensures.over.over
