@@ -24,7 +24,7 @@ pub fn count(alloc: Global, input: &[u8]) -> Result<usize, ParseError<'static>>
 }
 
 /// How many events the parser has left: no more than its measure.
-fn count_left(parser: &mut JsonParser<'_>) -> Result<usize, ParseError<'static>>
+pub(crate) fn count_left(parser: &mut JsonParser<'_>) -> Result<usize, ParseError<'static>>
     ensures { IfOk result (λ n. n ≤ ahead parser.old) }
 {
     let mut count: usize = 0;
