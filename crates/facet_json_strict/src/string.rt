@@ -45,7 +45,6 @@ pub fn check_string_strict(buf: &[u8], start: usize, end: usize) -> Result<(), S
 
 /// Whether a byte may stand after a backslash: one of the nine that RFC 8259 names, or none of ASCII.
 #[inline(always)]
-#[tactic(auto, unfolding(facet_json_decode::specs::Decode::short_escape))]
 fn may_be_escaped(byte: u8) -> bool
     ensures { result ≡ may_stand true byte }
 {

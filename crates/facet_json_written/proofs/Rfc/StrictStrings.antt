@@ -17,7 +17,7 @@ use Rattle.facet_json_decode.proofs.CharAt.{Shape, one, two, three, four, shape}
 use Rattle.facet_json_strict.specs.Strict.{may_stand, wrong_at}
 use Rattle.facet_json_written.specs.RfcText.{InUtf8, is_unescaped, is_escapable, is_hex_digit, IsContent}
 use Rattle.facet_json_written.proofs.Rfc.Encoded.{is_ascii, ascii, joined}
-use Rattle.facet_json_written.proofs.Rfc.Leaves.{hex-is_digit, escape-is_escapable, escapable-is_escape}
+use Rattle.facet_json_written.proofs.Rfc.Leaves.{hex-is_digit, escape-is_escapable, lenient-unnamed, escapable-is_named}
 
 -- ---- what a token's content and the check say, byte by byte
 
@@ -152,7 +152,7 @@ piece-begins _ c others (short b _ e) s = (
 )
 piece-begins _ c others (other _ low none ne) s =
     let may = (past-escape c others s).0 in
-    let no : may_stand true c ≡ false = rw (none, ne) (grind (arith, nat_tests)) in cc
+    let no : may_stand true c ≡ false = rw (lenient-unnamed c none ne) (grind (arith, nat_tests)) in cc
 piece-begins _ c others (unit a b d e _ is high low) s =
     (ascii {P = Begins} _ (unit-ascii a b d e c [] is refl) (λ rest content. unit-content a b d e c rest is content), past-unit a b d e c others is s)
 piece-begins _ _ others (pair a b c d high e f g h low is high_is also low_is) s =
@@ -205,7 +205,7 @@ own : (c : ℕ) (cs : List ℕ) → is_ascii c ≡ true → encode_utf8_all (c �
 own c cs low = ap (λ l. l ++ encode_utf8_all cs) (encode_ascii c (ltb-true c 0x80 low))
 
 short-may : (b : ℕ) → is_escapable b ≡ true → may_stand true b ≡ true
-short-may b e = rw (escapable-is_escape b e) (grind arith)
+short-may b e = rw (escapable-is_named b e) (grind arith)
 
 pub rfc-content : (cs : List ℕ) → IsContent cs → Stands (encode_utf8_all cs)
 rfc-content _ IsContent.empty = record { mark = false; pieces = cut.ArePieces.none; right = refl }
