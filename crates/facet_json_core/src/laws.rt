@@ -1,6 +1,8 @@
 //! What the definitions of documents, parsers and serializers mean, in the subject's own words: each law is the contract of a function
 //! without effect.
 
+mod trust;
+
 pub use facet_json_document::laws::{
     no_run_breaks_off, one_break, one_document, one_part, one_run, one_spelling, parts_on_walk,
     parts_within, plain_is_jsonc, runs_or_breaks_off, spelled_is_run, walk_is_one_value,
@@ -12,8 +14,9 @@ pub use facet_json_prefix::laws::{
 };
 pub use facet_json_protocol::laws::{
     alone_is_given, capture_passes_run, ends_in_time, ends_in_time_in, headline, move_is_step,
-    new_stands, numbers_are_new, peek_is_next, refusal_repeats, restore_brings_back,
-    save_is_numbered, skip_passes_run, strict_ends_at_run, strict_headline, trusted_agrees,
+    moves_agree, new_stands, numbers_are_new, peek_is_next, refusal_repeats, restore_brings_back,
+    save_is_numbered, skip_passes_run, strict_ends_at_run, strict_headline,
     unknown_changes_nothing,
 };
 pub use facet_json_serializer::laws::{taken_in_order, tree_by_calls, tree_taken};
+pub use trust::{trusted_agrees, trusted_agrees_jsonc, trusted_agrees_strict};

@@ -4,6 +4,7 @@ pub mod EndsInTime
 pub mod InputIsAnswered
 pub mod MoveIsStep
 pub mod MoveLaws
+pub mod MovesAgree
 pub mod MovesNext
 pub mod OneRun
 pub mod PointsHold
@@ -15,4 +16,3 @@ pub mod Spans
 pub mod StandsOnWalk
 pub mod StepLaws
 pub mod StrictAnswered
-pub mod TrustedAgrees

@@ -5,7 +5,7 @@ use Rattle.std.specs.Str.{is_utf8}
 use Rattle.facet_format.specs.Complaint.{Refusal}
 use Rattle.facet_format.specs.Cursor.{Answer, skip, capture, skipped, raw, unpeeked, Cursor, repeats, skips, skips_without_memory, skips_nothing, captures, captures_without_memory, captures_nothing}
 use Rattle.facet_format.specs.Event.{ContainerKind, struct_end, sequence_end}
-use Rattle.facet_format.specs.Part.{Part, value, broken, skip_of, capture_of, captured, no_raw}
+use Rattle.facet_format.specs.Part.{Part, value, broken, has_brackets, skip_of, capture_of, captured, no_raw}
 use Rattle.facet_format.specs.Span.{span_at, stop}
 use Rattle.facet_json_token.specs.Token.{Token}
 use Rattle.facet_json_token.specs.Tokens.{Tokens, next}
@@ -14,7 +14,7 @@ use Rattle.facet_json_document.specs.InputPlace.{Standing}
 use Rattle.facet_json_document.specs.Language.{Rules, rules}
 use Rattle.facet_json_document.specs.Node.{is_scalar}
 use Rattle.facet_json_document.specs.Place.{Place, Turn, stops, passes, says, place_turn, leads_on, led}
-use Rattle.facet_json_document.specs.Run.{Run, BreaksOff}
+use Rattle.facet_json_document.specs.Run.{opening, Run, one_token, brackets, BreaksOff, ends_inside, fault_inside, crossed, nested}
 use Rattle.facet_json_document.specs.Unread.{misplaced, begins_value, closes_container, past_value, PartFrom, separator, a_value, a_broken_value, a_key, a_closing, none_of_them, PartIn, PartAt}
 use Rattle.facet_json_protocol.specs.Now.{Now}
 use Rattle.facet_json_protocol.specs.SkipLaws.{GoesOnWith, with_value, after_separator, BeforeValue, PassesRun, NotPassed, breaks_off, lacks_memory, SkipPassesRun, GivesRun, NotGiven, not_passed, not_utf8, CapturePassesRun}
@@ -95,6 +95,16 @@ module _ (now : Now) (first : Token) (others : Tokens) where
   unskipped-breaks _ r (is_run last rest run) e = cc
   unskipped-breaks _ r (is_broken q breaks) e = let same : q ≡ r = cc in subst (BreaksOff now.buffer (next first others)) same breaks
 
+  -- A value with brackets begins with one.
+  bracket-opens : (part : Part Standing) → IsValueFrom now.buffer now.cursor.spot.place.stack first others part →
+      has_brackets part ≡ true → (kind : ContainerKind) × (first.kind ≡ opening kind)
+  bracket-opens _ (is_run _ rest (one_token _ _ is)) has = let no : not true ≡ true = ap not (sym is) ∙ has in cc
+  bracket-opens _ (is_run last rest (brackets kind _ _ inner _ opens inside closes)) has = (kind, opens)
+  bracket-opens _ (is_broken r (ends_inside kind _ inner opens inside)) has = (kind, opens)
+  bracket-opens _ (is_broken r (fault_inside kind _ inner f opens inside)) has = (kind, opens)
+  bracket-opens _ (is_broken r (crossed kind _ last inner rest opens inside closes)) has = (kind, opens)
+  bracket-opens _ (is_broken r (nested kind _ inner others refusal opens inside breaks)) has = (kind, opens)
+
   skip_runs : (d : Cursor Standing) (result : Result (Unit {0}) Refusal) (answer : Answer) → answer ≡ skipped result →
       now.cursor.refusal ≡ None → BeforeValue now first others → StepOf now skip answer d →
       MatchResult result (λ nothing. PassesRun now first others (with_cursor now d)) (λ r. NotPassed now first others r)
@@ -104,7 +114,8 @@ module _ (now : Now) (first : Token) (others : Tokens) where
       record { last = last; rest = rest; run = run; there = ap unpeeked there }
   skip_runs d (Err r) answer a free at (skips part place none stands is) = cc
   skip_runs d (Ok nothing) answer a free at (skips_without_memory part none stands has) = cc
-  skip_runs d (Err r) answer a free at (skips_without_memory part none stands has) = lacks_memory cc
+  skip_runs d (Err r) answer a free at (skips_without_memory part none stands has) =
+      let (kind, opens) = bracket-opens part (value-stands now first others part at stands) has in lacks_memory kind opens cc
   skip_runs d (Ok nothing) answer a free at (skips_nothing part q none stands is) = cc
   skip_runs d (Err r) answer a free at (skips_nothing part q none stands is) =
       let same : q ≡ r = cc in
@@ -166,7 +177,9 @@ module _ (now : Now) (first : Token) (others : Tokens) where
       (given-run d part got place (value-stands now first others part at stands) is refl)
   capture_runs d (Err r) answer a free at (captures part got place none stands is) = cc
   capture_runs d (Ok text) answer a free at (captures_without_memory part none stands has) = cc
-  capture_runs d (Err r) answer a free at (captures_without_memory part none stands has) = not_passed (lacks_memory cc)
+  capture_runs d (Err r) answer a free at (captures_without_memory part none stands has) =
+      let (kind, opens) = bracket-opens now first others part (value-stands now first others part at stands) has in
+      not_passed (lacks_memory kind opens cc)
   capture_runs d (Ok text) answer a free at (captures_nothing part q none stands is) = cc
   capture_runs d (Err r) answer a free at (captures_nothing part q none stands is) =
       let same : q ≡ r = cc in

@@ -7,7 +7,7 @@ use Rattle.facet_json_token.specs.Gap.{plain}
 use Rattle.facet_json_document.specs.Language.{strict, strict_rules}
 use Rattle.facet_json_document.specs.Node.{Node}
 use Rattle.facet_json_document.specs.Tree.{Tree}
-use Rattle.facet_json_document.specs.Future.{stuck, within}
+use Rattle.facet_json_document.specs.Future.{within}
 use Rattle.facet_json_document.specs.Place.{root}
 use Rattle.facet_json_document.specs.StrictDocument.{IsStrictDocument}
 use Rattle.facet_json_document.specs.StrictTokens.{tokens_in}

@@ -23,8 +23,12 @@ abbrev pub AloneIsGiven : Type 0
 AloneIsGiven = (buffer : List ℕ) (mode : Mode) → ((node : Node) (value : Tree) → IsDocument buffer mode node value → ⊥) →
     AnswersPrefix buffer mode
 
--- Two new parsers of an input answer the same calls alike, up to the first out of memory in either. A trusted parser and one that
--- checks are both new ones.
-abbrev pub TrustedAgrees : Type 0
-TrustedAgrees = (buffer : List ℕ) (mode : Mode) (calls : List Call) (these those : List Answer) (trusted checking : Now) →
-    MovesAll (fresh buffer mode) calls these trusted → MovesAll (fresh buffer mode) calls those checking → AgreeToLack these those
+-- Both answer the same calls alike, up to the first out of memory in either.
+abbrev pub AnswerAlike : Now → Now → Type 0
+AnswerAlike one other = (calls : List Call) (these those : List Answer) (new changed : Now) → MovesAll one calls these new →
+    MovesAll other calls those changed → AgreeToLack these those
+
+-- Two parsers that are one value do. The value says what is read, in which language and where the parser stands, and not whether the
+-- parser trusts its input.
+abbrev pub MovesAgree : Type 0
+MovesAgree = (now : Now) → AnswerAlike now now

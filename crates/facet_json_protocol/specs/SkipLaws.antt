@@ -2,6 +2,7 @@
 use Rattle.std.specs.Prelude.{◌≡◌, ℕ, ◌-◌, true, false, List, slice_range, codes, Option, Some, None, Result, MatchResult}
 use Rattle.std.specs.Str.{is_utf8}
 use Rattle.facet_format.specs.Complaint.{Refusal}
+use Rattle.facet_format.specs.Event.{ContainerKind}
 use Rattle.facet_format.specs.Cursor.{skip, capture, skipped, raw, unpeeked, no_memory_at}
 use Rattle.facet_format.specs.Part.{no_raw}
 use Rattle.facet_format.specs.Span.{span_at, stop}
@@ -10,7 +11,7 @@ use Rattle.facet_json_token.specs.Tokens.{Tokens, next, tokens_from}
 use Rattle.facet_json_document.specs.Future.{within}
 use Rattle.facet_json_document.specs.Language.{gaps, Rules, rules}
 use Rattle.facet_json_document.specs.Place.{Place, passes, place_turn, led}
-use Rattle.facet_json_document.specs.Run.{Run, BreaksOff}
+use Rattle.facet_json_document.specs.Run.{opening, Run, BreaksOff}
 use Rattle.facet_json_document.specs.Unread.{begins_value, past_value}
 use Rattle.facet_json_protocol.specs.Now.{Now, span_of}
 use Rattle.facet_json_protocol.specs.Move.{Moves}
@@ -39,13 +40,14 @@ pub record PassesRun (old : Now) (first : Token) (others : Tokens) (new : Now) :
   pub run : Run (next first others) last rest
   pub there : new.cursor.spot ≡ unpeeked (past_value last.span old.cursor.spot.place.stack)
 
--- Why the run isn't passed: the tokens break off, so that none stands there, and are refused so; or memory was lacking.
+-- Why the run isn't passed: the tokens break off, so that none stands there, and are refused so; or memory was lacking for the open
+-- brackets, of which there is none but where the value begins with one.
 pub data NotPassed (old : Now) (first : Token) (others : Tokens) (r : Refusal) : Type 0 where
   breaks_off : BreaksOff old.buffer (next first others) r → NotPassed old first others r
-  lacks_memory : r ≡ no_memory_at (span_of old) → NotPassed old first others r
+  lacks_memory : (kind : ContainerKind) → first.kind ≡ opening kind → r ≡ no_memory_at (span_of old) → NotPassed old first others r
 
--- Where a parser that is not refused stands before a value, a skip passes the run that begins there; and it is refused only where the
--- tokens break off, as they do, or for lack of memory.
+-- Where a parser that is not refused stands before a value, a skip passes the run that begins there; and it is refused only at an opening
+-- bracket: where the tokens break off, as they do, or for lack of memory.
 abbrev pub SkipPassesRun : Type 0
 SkipPassesRun = (old new : Now) (first : Token) (others : Tokens) (result : Result (Unit {0}) Refusal) → old.cursor.refusal ≡ None →
     BeforeValue old first others → Moves old skip (skipped result) new →
@@ -72,7 +74,7 @@ pub data NotGiven (old : Now) (first : Token) (others : Tokens) (r : Refusal) : 
       NotGiven old first others r
 
 -- Where a parser that is not refused stands before a value, a capture passes the run that begins there, and answers its bytes; and it is
--- refused only where the tokens break off, as they do, where the bytes are not UTF-8, or for lack of memory.
+-- refused only where the bytes are not UTF-8, or, at an opening bracket, where the tokens break off, as they do, or for lack of memory.
 abbrev pub CapturePassesRun : Type 0
 CapturePassesRun = (old new : Now) (first : Token) (others : Tokens) (result : Result (Option (List ℕ)) Refusal) →
     old.cursor.refusal ≡ None → BeforeValue old first others → Moves old capture (raw result) new →

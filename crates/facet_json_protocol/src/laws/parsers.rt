@@ -1,6 +1,6 @@
 //! Laws about parsers: what the calls' contracts say of a new one, and of calls one after another.
 
-ghost use Rattle.facet_json_protocol.specs.ParserLaws.{NewStands, AloneIsGiven, TrustedAgrees};
+ghost use Rattle.facet_json_protocol.specs.ParserLaws.{NewStands, AloneIsGiven, MovesAgree};
 ghost use Rattle.facet_json_protocol.specs.Headline.{Headline};
 ghost use Rattle.facet_json_protocol.specs.StrictHeadline.{EndsInTimeIn, StrictHeadline};
 ghost use Rattle.facet_json_protocol.specs.OneRun.{StrictEndsAtRun, StrictTellsRun};
@@ -25,10 +25,10 @@ pub fn alone_is_given()
     ensures { AloneIsGiven }
 {}
 
-/// Two new parsers of an input, one that is trusted and one that checks its strings, answer every list of calls alike, up to
-/// the first out of memory in either.
-pub fn trusted_agrees()
-    ensures { TrustedAgrees }
+/// Two parsers that are one value answer every list of calls alike, up to the first out of memory in either. So a parser's
+/// value determines its answers, and it doesn't say whether the parser trusts its input.
+pub fn moves_agree()
+    ensures { MovesAgree }
 {}
 
 /// Wherever a parser stands on a document's walk, each of its calls is one step of the cursor there, and after the call
@@ -49,8 +49,8 @@ pub fn refusal_repeats()
 {}
 
 /// On every input a skip of a parser that isn't refused and stands before a value passes the run that begins there, and the
-/// parser then stands right after it. The skip is refused only where the tokens break off, so that no run stands there, or for
-/// lack of memory.
+/// parser then stands right after it. The skip is refused only at an opening bracket: where the tokens break off, so that no run
+/// stands there, or for lack of memory. So a scalar is always passed.
 pub fn skip_passes_run()
     ensures { SkipPassesRun }
 {}
