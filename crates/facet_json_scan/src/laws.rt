@@ -7,8 +7,9 @@ mod growth;
 mod refusals;
 
 pub use cuts::{
-    fault_is_cut, fault_is_unique, gap_is_longest, shape_is_cut, shape_is_unique, tokens_are_cuts,
+    end_is_gap, fault_is_cut, fault_is_unique, gap_is_longest, shape_is_cut, shape_is_unique,
+    tokens_are_cuts,
 };
 pub use decoding::{decoded_is_decodes, first_fault_is_found, text_or_fault};
-pub use growth::{cut_stays, open_is_tested};
+pub use growth::{cut_stays, need_more_goes_on, open_is_tested};
 pub use refusals::{pending_again, refusal_at_end, refusal_repeats};

@@ -1,6 +1,7 @@
 //! What gaps and tokens are: the definitions that compute agree with those that say what is meant.
 
 ghost use Rattle.facet_json_token.specs.Laws.{GapIsLongest, ShapeIsCut, ShapeIsUnique, FaultIsCut, FaultIsUnique, TokensAreCuts};
+ghost use Rattle.facet_json_scan.specs.Laws.{EndIsGap};
 
 /// The gap at the start of the bytes is a gap, and no longer prefix of them is one (RFC 8259, section 2).
 pub fn gap_is_longest()
@@ -31,4 +32,10 @@ pub fn fault_is_unique()
 /// first fault (RFC 8259, section 2). So `tokens` are the cuts from the first byte on.
 pub fn tokens_are_cuts()
     ensures { TokensAreCuts }
+{}
+
+/// Nothing is left at a position exactly where what is left is one gap, and so no token and no fault follows it
+/// (RFC 8259, section 2).
+pub fn end_is_gap()
+    ensures { EndIsGap }
 {}
