@@ -1,11 +1,13 @@
 -- What the next event does on a walk.
-use Rattle.std.specs.Prelude.{◌≡◌, ℕ, List, suc, slice_get, Option, Some, None}
+use Rattle.std.specs.Prelude.{◌≡◌, ℕ, true, List, suc, slice_get, Option, Some, None}
 use Rattle.facet_format.specs.Complaint.{Refusal}
 use Rattle.facet_format.specs.Event.{Event, Passed}
 use Rattle.facet_format.specs.Cursor.{Cursor, Source, at_spot, unpeeked}
 use Rattle.facet_json_document.specs.Node.{Node}
 use Rattle.facet_json_protocol.specs.Now.{Now, StandsAt}
+use Rattle.facet_json_protocol.specs.Next.{PassesNext}
 use Rattle.facet_json_transcode.specs.Reading.{LacksMemory}
+use Rattle.facet_json_meaning.specs.Optional.{is_null_event}
 
 -- The event stands at the cursor's place, and is passed.
 pub record PassesEvent (w : Source) (c : Cursor ℕ) (given : Event) (new : Now) : Type 0 where
@@ -23,10 +25,17 @@ pub record LacksAlone (old : Now) (refusal : Refusal) : Type 0 where
   pub lacks : (w : Source) (c : Cursor ℕ) (p : Passed) → StandsAt old w c → c.refusal ≡ None →
       slice_get w.events c.spot.place ≡ Some p → LacksMemory refusal
 
--- Wherever the parser stands on a walk and is not refused, one event is passed.
-pub record PassesOne (old new : Now) : Type 0 where
+-- Null came next, on every input, and is passed. Wherever the parser stood on a walk and was not refused, it stood there.
+pub record PassesNull (old new : Now) : Type 0 where
   pub given : Event
+  pub null : is_null_event given.kind ≡ true
+  pub passed : PassesNext old given new
   pub walks : WalksPast old given new
+
+-- Wherever the parser stands before null on a walk and is not refused, memory ran out.
+pub record LacksNull (old : Now) (refusal : Refusal) : Type 0 where
+  pub lacks : (w : Source) (c : Cursor ℕ) (p : Passed) → StandsAt old w c → c.refusal ≡ None →
+      slice_get w.events c.spot.place ≡ Some p → is_null_event p.event.kind ≡ true → LacksMemory refusal
 
 -- Of every node nothing is known: its value is passed unread.
 abbrev pub anything : List ℕ → Node → Option (Unit {0})

@@ -1,12 +1,12 @@
 //! The next event of a value that is read.
 
-ghost use Rattle.std.specs.Prelude.{◌≡◌, ◌≤◌, ◌<◌, ◌+◌, None, Some, length, IfOk, IfErr, OnOk};
+ghost use Rattle.std.specs.Prelude.{◌≡◌, ◌≤◌, ◌<◌, ◌+◌, true, false, None, Some, length, IfOk, IfErr, OnOk};
 ghost use Rattle.facet_format.specs.Span.{stop};
 ghost use Rattle.facet_format.specs.Views.{event_of, refusal_of};
 ghost use Rattle.facet_json_protocol.specs.Now.{ahead, GoesOn};
 ghost use Rattle.facet_json_protocol.specs.Next.{PassesNext};
 ghost use Rattle.facet_json_protocol.specs.Within.{RefusalWithin};
-ghost use Rattle.facet_json_meaning.specs.Passing.{WalksPast, LacksAlone, PassesOne};
+ghost use Rattle.facet_json_meaning.specs.Passing.{WalksPast, LacksAlone, PassesNull, LacksNull};
 ghost use Rattle.facet_json_meaning.specs.Optional.{is_null_event};
 ghost use Rattle.facet_json_meaning.specs.Peeking.{FindsNull};
 
@@ -15,6 +15,7 @@ use facet_format::{
     Span,
 };
 use facet_json_meaning::JsonParser;
+use facet_json_transcode::mismatch;
 
 /// The next event, where a value is to come.
 ///
@@ -73,18 +74,33 @@ fn is_null(event: &ParseEvent<'_>) -> bool
     matches!(event.kind, ParseEventKind::Scalar(ScalarValue::Null))
 }
 
-/// Passes null, where it comes.
+/// Passes null.
 ///
 /// # Errors
 ///
-/// As `next_of_value`.
+/// As `next_of_value`; and where another event comes, which is passed, a mismatch.
 pub fn pass_null<'t>(parser: &mut JsonParser<'_>) -> Result<(), DeserializeError<'t>>
     ensures onward { GoesOn parser.old parser.new }
     ensures shorter { OnOk result (ahead parser.new < ahead parser.old) }
-    ensures passes { OnOk result (PassesOne parser.old parser.new) }
-    ensures lacks { IfErr result (λ e. LacksAlone parser.old (refusal_of e)) }
+    ensures passes { OnOk result (PassesNull parser.old parser.new) }
+    ensures lacks { IfErr result (λ e. LacksNull parser.old (refusal_of e)) }
     ensures within { IfErr result (λ e. RefusalWithin parser.new.buffer (refusal_of e)) }
 {
-    let _null = next_of_value(parser)?;
-    Ok(())
+    null_in(next_of_value(parser)?)
+}
+
+/// Whether the event is null.
+///
+/// # Errors
+///
+/// It is another event: a mismatch, with its span.
+fn null_in<'t>(event: ParseEvent<'_>) -> Result<(), DeserializeError<'t>>
+    ensures null { OnOk result (is_null_event (event_of event.entry).kind ≡ true) }
+    ensures refused { IfErr result (λ e. is_null_event (event_of event.entry).kind ≡ false) }
+    ensures span { IfErr result (λ e. e.span ≡ Some event.entry.span) }
+{
+    match event.kind {
+        ParseEventKind::Scalar(ScalarValue::Null) => Ok(()),
+        _ => Err(mismatch("null", event)),
+    }
 }

@@ -9,7 +9,7 @@ use Rattle.facet_json_document.specs.Node.{Node}
 use Rattle.facet_json_protocol.specs.Now.{Now}
 use Rattle.facet_json_meaning.specs.Nodes.{StandsBefore, StandsAfter}
 use Rattle.facet_json_meaning.specs.Optional.{is_null, optional}
-use Rattle.facet_json_meaning.specs.Passing.{WalksPast, LacksAlone}
+use Rattle.facet_json_meaning.specs.Passing.{WalksPast, LacksNull}
 use Rattle.facet_json_meaning.specs.Peeking.{FindsNull}
 use Rattle.facet_json_meaning.specs.Reading.{IsRead, IsUnread}
 use Rattle.facet_json_meaning.proofs.Walks.FirstEvents.{first_event, first-stands, null-first, null-one, after-one}
@@ -54,11 +54,12 @@ module _ {V : Type 0} (reading : List ℕ → Node → Option V) where
             (after-one between new e w (at_spot c (peeked_at c.spot)) n walks peeked (null-one w.bytes n is)),
       )
 
-  pub null-unread : (old between : Now) (r : Refusal) → FindsNull old true between → LacksAlone between r → IsUnread (optional reading) old r
+  pub null-unread : (old between : Now) (r : Refusal) → FindsNull old true between → LacksNull between r → IsUnread (optional reading) old r
   null-unread old between r finds lacks w c n before =
+      let is = found-null old between true w c n finds before in
       let peeked = still-before old between true w c n finds before in
       inl (lacks.lacks w (at_spot c (peeked_at c.spot)) (first_event w.bytes n) peeked.stands peeked.free
-      (first-stands between w (at_spot c (peeked_at c.spot)) n peeked))
+      (first-stands between w (at_spot c (peeked_at c.spot)) n peeked) (null-first w.bytes n before.value before.meant ∙ is))
 
   pub value-read : (old between new : Now) (v : V) → FindsNull old false between → IsRead reading between v new →
       IsRead (optional reading) old (Some v) new
