@@ -1,6 +1,7 @@
 //! Callers of `facet_json`, short and proved: the examples of the README, and more.
 #![tactic(auto)]
 
+pub mod driving;
 pub mod events;
 pub mod log_filter;
 pub mod loops;
