@@ -1,5 +1,5 @@
-//! Refused growths. `rt try --test --fail-alloc 1..` in this crate's folder refuses each allocation of the tests in turn, and
-//! these have to pass in every such run.
+//! Refused growths. With ample memory these tests pass as any other does. `./check_growths` at the top runs them once more for each
+//! of their requests for memory, which is refused alone, and they have to pass in every such run.
 
 use crate::rows::{ROWS, Row};
 use crate::sources::Halves;

@@ -193,7 +193,7 @@ fn ask(
 }
 
 /// A parser of the input; one that need not check it only where it is a text.
-fn parser_of<'de>(
+pub fn parser_of<'de>(
     alloc: Global,
     mode: Mode,
     is_trusted: bool,

@@ -8,6 +8,7 @@ mod decoded;
 mod derived;
 mod faults;
 mod long;
+mod marked;
 mod numbers;
 mod pieces;
 mod prefixes;

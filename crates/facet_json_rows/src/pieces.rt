@@ -94,7 +94,7 @@ fn both_agree(input: &[u8], first: usize, step: usize) -> bool {
 }
 
 /// Whether they do byte by byte, and in each two pieces.
-fn agree(input: &[u8]) -> bool {
+pub fn agree(input: &[u8]) -> bool {
     for first in 0..=input.len() {
         if !both_agree(input, first, input.len()) {
             return false;

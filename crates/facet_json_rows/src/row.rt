@@ -7,6 +7,7 @@ use crate::decoded::{answer_decode, answer_repeated};
 use crate::derived::answer_derived;
 use crate::faults::{Case, FaultyReader, write_untold};
 use crate::long::answer_long;
+use crate::marked::answer_marked;
 use crate::numbers::answer_number;
 use crate::pieces::answer_short_texts;
 use crate::prefixes::{answer_cuts, answer_prefixes};
@@ -99,6 +100,7 @@ fn answer_part(
         "number" => answer_number(words, input, told),
         "check" => answer_check(words, input, told),
         "count" => answer_count(alloc, input, told),
+        "marked" => answer_marked(alloc, words, input, told),
         "derived" => answer_derived(alloc, words, told),
         _ => answer_text(
             alloc,
