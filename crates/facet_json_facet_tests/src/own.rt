@@ -24,7 +24,11 @@ impl<'de, T: Facet<'de>> Facet<'de> for Named<T> {
 
     ghost tree_of = { T.tree_of };
 
+    ghost always = { T.always };
+
     ghost readable = { T.readable };
+
+    ghost owned = { λ named. T.owned named.0 };
 
     ghost whole = { T.whole };
 

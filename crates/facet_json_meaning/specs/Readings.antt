@@ -94,4 +94,3 @@ pub record IsBareDocument (content : List ℕ) : Type 0 where
   pub document : IsWholeDocument content root value
   pub starts : (first_token root).span.offset ≡ 0
   pub ends : stop (last_token root).span ≡ length content
-  pub utf8 : is_utf8 content ≡ true
