@@ -49,12 +49,12 @@ pub trait Facet<'de>: Sized + Drop {
     ghost tree_of: { View → Tree };
 
     /// What every value of the type has: a number lies within its bits, a `String` is UTF-8, a map's keys ascend.
-    ghost always: { View → Type 0 } = { λ _. Unit {0} };
+    ghost always: { View → Type 0 };
 
     /// The value comes back from its text.
     ghost readable: { View → Type 0 };
 
-    /// The value borrows nothing of the input.
+    /// The value borrows nothing of the input. A type whose values may borrow says of which this is so; of another nothing is said.
     ghost owned: { Self → Type 0 } = { λ _. Unit {0} };
 
     /// Reading at the start of an input goes well only where the input has a document; and where the parser is strict, and then at the end,

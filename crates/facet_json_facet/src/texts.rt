@@ -88,6 +88,8 @@ impl<'de> Facet<'de> for &'de str {
 
     ghost tree_of = { text_tree };
 
+    ghost always = { λ _. Unit {0} };
+
     ghost readable = { λ t. ⊥ };
 
     ghost owned = { λ _. ⊥ };

@@ -77,6 +77,8 @@ impl<'de> Facet<'de> for Percent {
 
     ghost tree_of = { u64_tree };
 
+    ghost always = { λ _. Unit {0} };
+
     ghost readable = { λ n. n ≤ 100 };
 
     ghost whole = { true };

@@ -16,8 +16,8 @@ use Rattle.facet_json_document.specs.Node.{Node, scalar, array, object, Nodes, n
 use Rattle.facet_json_document.specs.Text.{BytesFormat, text}
 use Rattle.facet_json_document.specs.Tree.{Tree, null, bool, i64, u64, list, pairs, Trees, no_trees, tree, Pairs, no_pairs, pair}
 use Rattle.facet_json_document.specs.Tree as trees
-use Rattle.facet_json_document.proofs.TreesOfParts.{list_meant, object_meant, item_meant, member_meant}
-use Rattle.facet_json_written.specs.AsRead.{IsWithin, WellFormed, ItemsWellFormed, MembersWellFormed, RawParts, RawItems, RawMembers, IsDocumentText, ReadsAs, null_is_null, bool_is_itself, i64_is_whole, u64_is_whole, decimal_is_itself, text_is_itself, list_is_list, pairs_are_pairs, ItemsReadAs, no_items, one_item, MembersReadAs, one_member}
+use Rattle.facet_json_document.proofs.TreesOfParts.{item_meant, member_meant}
+use Rattle.facet_json_written.specs.AsRead.{WellFormed, ItemsWellFormed, MembersWellFormed, RawParts, RawItems, RawMembers, IsDocumentText, ReadsAs, null_is_null, bool_is_itself, i64_is_whole, u64_is_whole, decimal_is_itself, text_is_itself, list_is_list, pairs_are_pairs, ItemsReadAs, no_items, one_item, MembersReadAs, one_member}
 use Rattle.facet_json_written.specs.AsRead as written
 use Rattle.facet_json_written.specs.RfcText.{InUtf8}
 use Rattle.facet_json_written.proofs.Rfc.Numbers.{number-decimal, number-signed}

@@ -1,5 +1,4 @@
 use Rattle.std.proofs.Common.{◌≡◌, false, true, cond, List, [], ◌∷◌, ◌++◌, map, sym, ap, ◌∙◌, subst, arith, rules}
-use Rattle.std.specs.List.{All}
 use Rattle.std.proofs.lemmas.List.{map-append}
 use Rattle.std.proofs.lemmas.List.Elements.{All-nil, All-push, All-same}
 use Rattle.std.proofs.lemmas.Result.{err_from_is_err_and}

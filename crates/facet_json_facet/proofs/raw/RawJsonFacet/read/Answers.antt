@@ -19,3 +19,9 @@ returns-clause-lent c = ap is_owned c.new.ensures
 
 pub returns-in_err-captured-clause-lent : goal.returns-in_err-captured-clause-lent
 returns-in_err-captured-clause-lent c = search rules
+
+pub returns-in_err-captured-clause-document : goal.returns-in_err-captured-clause-document
+returns-in_err-captured-clause-document c = search rules
+
+pub returns-in_err-captured-clause-strict : goal.returns-in_err-captured-clause-strict
+returns-in_err-captured-clause-strict c = search rules
