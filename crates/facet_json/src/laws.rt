@@ -17,7 +17,8 @@ pub use facet_json_core::laws::{
 };
 pub use facet_json_document::laws::quoted_by_characters;
 pub use facet_json_meaning::laws::{
-    document_nodes_are_spelled, same_bytes_same_text, strict_reads_texts,
+    document_comes_back, document_is_readable, document_nodes_are_spelled, same_bytes_same_text,
+    strict_reads_texts,
 };
 pub use facet_json_read::laws::first_beyond_is_deeper;
 pub use facet_json_typed::laws::same_bytes_read_alike;

@@ -62,6 +62,8 @@ impl<'de> Facet<'de> for Account {
 
     ghost tree_of = { account.tree_of };
 
+    ghost always = { account.always };
+
     ghost readable = { account.readable };
 
     ghost whole = { false };

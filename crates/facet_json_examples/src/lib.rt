@@ -9,6 +9,7 @@ pub mod messages;
 pub mod probing;
 pub mod records;
 pub mod reformat;
+pub mod rewriting;
 pub mod scanning;
 pub mod strict;
 pub mod tokens;

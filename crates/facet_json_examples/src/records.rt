@@ -36,6 +36,8 @@ impl<'de> Facet<'de> for Person {
 
     ghost tree_of = { person.tree_of };
 
+    ghost always = { person.always };
+
     ghost readable = { person.readable };
 
     ghost whole = { false };
@@ -95,13 +97,17 @@ impl<'de, T: Facet<'de>> Facet<'de> for Response<T> {
 
     ghost view = { λ r. (r.status, (T.view r.payload, tt)) };
 
-    ghost reading = { (response (shape T.reading T.reading_borrowed T.tree_of T.readable)).reading };
+    ghost reading = { (response (shape T.reading T.reading_borrowed T.tree_of T.always T.readable)).reading };
 
-    ghost reading_borrowed = { (response (shape T.reading T.reading_borrowed T.tree_of T.readable)).reading_borrowed };
+    ghost reading_borrowed = { (response (shape T.reading T.reading_borrowed T.tree_of T.always T.readable)).reading_borrowed };
 
-    ghost tree_of = { (response (shape T.reading T.reading_borrowed T.tree_of T.readable)).tree_of };
+    ghost tree_of = { (response (shape T.reading T.reading_borrowed T.tree_of T.always T.readable)).tree_of };
 
-    ghost readable = { (response (shape T.reading T.reading_borrowed T.tree_of T.readable)).readable };
+    ghost always = { (response (shape T.reading T.reading_borrowed T.tree_of T.always T.readable)).always };
+
+    ghost readable = { (response (shape T.reading T.reading_borrowed T.tree_of T.always T.readable)).readable };
+
+    ghost owned = { λ r. T.owned r.payload };
 
     ghost whole = { false };
 
@@ -176,6 +182,8 @@ impl<'de> Facet<'de> for Retry {
 
     ghost tree_of = { retry.tree_of };
 
+    ghost always = { retry.always };
+
     ghost readable = { retry.readable };
 
     ghost whole = { false };
@@ -235,6 +243,8 @@ impl<'de> Facet<'de> for Config {
     ghost reading_borrowed = { config.reading_borrowed };
 
     ghost tree_of = { config.tree_of };
+
+    ghost always = { config.always };
 
     ghost readable = { config.readable };
 

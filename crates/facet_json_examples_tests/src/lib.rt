@@ -3,3 +3,5 @@
 
 #[cfg(test)]
 mod records;
+#[cfg(test)]
+mod rewriting;

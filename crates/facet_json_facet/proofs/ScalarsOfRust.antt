@@ -6,7 +6,8 @@ use Rattle.facet_json_document.specs.Tree.{null, bool, i64, u64, text, i128, u12
 use Rattle.facet_json_written.specs.AsRead.{IsWithin, WellFormed, RawParts}
 use Rattle.facet_json_write.specs.Write.{IsOfRust}
 
-on-ok : {E : Type 0} (P : Type 0) (r : Result (Unit {0}) E) → P → OnOk r P
+-- what holds whatever was answered
+pub on-ok : {E : Type 0} (P : Type 0) (r : Result (Unit {0}) E) → P → OnOk r P
 on-ok P (Ok nothing) h = h
 on-ok P (Err e) h = tt
 

@@ -25,7 +25,8 @@ use std::alloc::Global;
 ///
 /// What a value means is said by the ghost members: `view`, what is seen of a value, since a `String` carries a capacity beside
 /// its text; `reading` and `reading_borrowed`, what a node of a buffer is read as, if as anything; `tree_of`, as what tree it is
-/// written; `readable`, which values come back from their text; and `whole`, whether an input is read only where it has a document.
+/// written; `always`, what every value of the type has, as Rust sees to it; `readable`, which values come back from their text; `owned`,
+/// which values borrow nothing of the input; and `whole`, whether an input is read only where it has a document.
 pub trait Facet<'de>: Sized + Drop {
     ghost use Rattle.std.specs.Prelude.{ℕ, Bool, List, Option};
     ghost use Rattle.facet_json_document.specs.Node.{Node};
@@ -47,8 +48,14 @@ pub trait Facet<'de>: Sized + Drop {
     /// The tree as which a value is written.
     ghost tree_of: { View → Tree };
 
+    /// What every value of the type has: a number lies within its bits, a `String` is UTF-8, a map's keys ascend.
+    ghost always: { View → Type 0 };
+
     /// The value comes back from its text.
     ghost readable: { View → Type 0 };
+
+    /// The value borrows nothing of the input. A type whose values may borrow says of which this is so; of another nothing is said.
+    ghost owned: { Self → Type 0 } = { λ _. Unit {0} };
 
     /// Reading at the start of an input goes well only where the input has a document; and where the parser is strict, and then at the end,
     /// only where the input is a strict document.
@@ -65,6 +72,7 @@ pub trait Facet<'de>: Sized + Drop {
         parser: &mut JsonParser<'de>,
     ) -> Result<Self, DeserializeError<'t>>
         ensures read { IfOk result (λ v. IsRead reading parser.old (view v) parser.new) }
+        ensures owned { IfOk result (λ v. owned v) }
         ensures unread { IfErr result (λ e. IsUnread reading parser.old (refusal_of e)) }
         ensures document { whole ≡ true → OnOk result (HasDocument parser.old) }
         ensures strict { whole ≡ true → OnOk result (EndsStrictly parser.old parser.new) }
@@ -95,7 +103,8 @@ pub trait Facet<'de>: Sized + Drop {
         ensures written { OnOk result (HasWritten serializer.old (tree_of (view self.now)) serializer.new) }
         ensures refused { IfErr result (λ e. writing_refusal_of e ≡ out_of_memory) }
         ensures spent { OnErr result (serializer.new ≡ None) }
-        ensures of_rust { OnOk result (IsOfRust (tree_of (view self.now))) };
+        ensures of_rust { OnOk result (IsOfRust (tree_of (view self.now))) }
+        ensures always { OnOk result (always (view self.now)) };
 
     /// Nodes that the same bytes spell have the same reading.
     ghost same_reading: { SameReading reading };
@@ -104,5 +113,5 @@ pub trait Facet<'de>: Sized + Drop {
     ghost same_reading_borrowed: { SameReading reading_borrowed };
 
     /// The text of a readable value reads as the value.
-    ghost reads_back: { ReadsBack reading tree_of readable };
+    ghost reads_back: { ReadsBack reading tree_of always readable };
 }

@@ -1,6 +1,7 @@
 //! Lists: `Vec`.
 
-ghost use Rattle.std.specs.Prelude.{◌<◌, cond, map, IfOk, IfErr, OnOk};
+ghost use Rattle.std.specs.Prelude.{◌≡◌, ◌<◌, false, cond, map, IfOk, IfErr, OnOk};
+ghost use Rattle.std.specs.List.{All};
 ghost use Rattle.facet_format.specs.Views.{refusal_of};
 ghost use Rattle.facet_json_protocol.specs.Now.{ahead};
 ghost use Rattle.facet_json_protocol.specs.Within.{RefusalWithin};
@@ -43,7 +44,11 @@ impl<'de, T: Facet<'de>> Facet<'de> for Vec<T> {
 
     ghost tree_of = { list_by T.tree_of };
 
+    ghost always = { λ vs. All T.always vs };
+
     ghost readable = { λ vs. All T.readable vs };
+
+    ghost owned = { λ v. All T.owned v.items };
 
     ghost whole = { false };
 
@@ -73,7 +78,7 @@ impl<'de, T: Facet<'de>> Facet<'de> for Vec<T> {
 
     ghost same_reading_borrowed = { list-same T.reading_borrowed T.same_reading_borrowed };
 
-    ghost reads_back = { list-reads_back T.reading T.tree_of T.readable T.same_reading T.reads_back };
+    ghost reads_back = { list-reads_back T.reading T.tree_of T.always T.readable T.same_reading T.reads_back };
 }
 
 /// Reads the list before which the parser stands. Its elements may borrow of the input where `borrows` says so.
@@ -87,6 +92,7 @@ fn list_in<'t, 'de, T: Facet<'de>>(
     borrows: bool,
 ) -> Result<Vec<T>, DeserializeError<'t>>
     ensures read { IfOk result (λ v. IsRead (list_of (cond borrows T.reading_borrowed T.reading)) parser.old (map T.view v.items) parser.new) }
+    ensures owned { borrows ≡ false → IfOk result (λ v. All T.owned v.items) }
     ensures unread { IfErr result (λ e. IsUnread (list_of (cond borrows T.reading_borrowed T.reading)) parser.old (refusal_of e)) }
     ensures keeps { KeepsOn parser.old parser.new }
     ensures shorter { OnOk result (ahead parser.new < ahead parser.old) }
@@ -112,6 +118,7 @@ fn item_in<'t, 'de, T: Facet<'de>>(
     borrows: bool,
 ) -> Result<T, DeserializeError<'t>>
     ensures read { IfOk result (λ v. IsRead (cond borrows T.reading_borrowed T.reading) parser.old (T.view v) parser.new) }
+    ensures owned { borrows ≡ false → IfOk result T.owned }
     ensures unread { IfErr result (λ e. IsUnread (cond borrows T.reading_borrowed T.reading) parser.old (refusal_of e)) }
     ensures keeps { KeepsOn parser.old parser.new }
     ensures shorter { OnOk result (ahead parser.new < ahead parser.old) }

@@ -16,7 +16,8 @@ use std::collections::BTreeMap;
 
 impl<'de, T: Facet<'de>> Facet<'de> for BTreeMap<String, T> {
     ghost use Rattle.std.specs.Prelude.{false};
-    ghost use Rattle.facet_json_meaning.specs.Maps.{Entries, seen_entries, map_of, tree_of_entries, IsReadableMap};
+    ghost use Rattle.std.specs.List.{All};
+    ghost use Rattle.facet_json_meaning.specs.Maps.{Entries, seen_entries, map_of, tree_of_entries, IsMap, IsReadableMap};
     ghost use Rattle.facet_json_meaning.proofs.Objects.MapLaws.{map-same};
     ghost use Rattle.facet_json_meaning.proofs.Objects.MapTexts.{map-reads_back};
 
@@ -30,7 +31,11 @@ impl<'de, T: Facet<'de>> Facet<'de> for BTreeMap<String, T> {
 
     ghost tree_of = { tree_of_entries T.tree_of };
 
+    ghost always = { IsMap T.always };
+
     ghost readable = { IsReadableMap T.readable };
+
+    ghost owned = { λ m. All (λ e. T.owned e.1) m.entries };
 
     ghost whole = { false };
 
@@ -73,7 +78,7 @@ impl<'de, T: Facet<'de>> Facet<'de> for BTreeMap<String, T> {
 
     ghost same_reading_borrowed = { map-same T.reading_borrowed T.same_reading_borrowed };
 
-    ghost reads_back = { map-reads_back T.reading T.tree_of T.readable T.same_reading T.reads_back };
+    ghost reads_back = { map-reads_back T.reading T.tree_of T.always T.readable T.same_reading T.reads_back };
 }
 
 /// Puts a value in at a key. Where the key is there already, its value is replaced.

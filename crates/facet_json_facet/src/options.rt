@@ -15,7 +15,7 @@ use std::alloc::Global;
 /// ```
 impl<'de, T: Facet<'de>> Facet<'de> for Option<T> {
     ghost use Rattle.std.specs.Prelude.{Option, false};
-    ghost use Rattle.std.specs.Option.{option_map};
+    ghost use Rattle.std.specs.Option.{option_map, IfSome};
     ghost use Rattle.facet_json_meaning.specs.Optional.{optional, optional_tree, OptionalReadable};
     ghost use Rattle.facet_json_meaning.proofs.Nullable.OptionalLaws.{optional-same, optional-reads_back};
 
@@ -29,7 +29,11 @@ impl<'de, T: Facet<'de>> Facet<'de> for Option<T> {
 
     ghost tree_of = { optional_tree T.tree_of };
 
+    ghost always = { λ o. IfSome o T.always };
+
     ghost readable = { OptionalReadable T.tree_of T.readable };
+
+    ghost owned = { λ o. IfSome o T.owned };
 
     ghost whole = { false };
 
@@ -66,5 +70,5 @@ impl<'de, T: Facet<'de>> Facet<'de> for Option<T> {
 
     ghost same_reading_borrowed = { optional-same T.reading_borrowed T.same_reading_borrowed };
 
-    ghost reads_back = { optional-reads_back T.reading T.tree_of T.readable T.reads_back };
+    ghost reads_back = { optional-reads_back T.reading T.tree_of T.always T.readable T.reads_back };
 }

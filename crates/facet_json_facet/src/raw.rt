@@ -1,13 +1,13 @@
 //! Raw text: `RawJson`, a value that is kept as its text stands.
 
-ghost use Rattle.std.specs.Prelude.{◌≡◌, ◌≤◌, ◌<◌, IfOk, IfErr, OnOk};
+ghost use Rattle.std.specs.Prelude.{◌≡◌, ◌<◌, true, false, IfOk, IfErr, OnOk};
 ghost use Rattle.facet_format.specs.Complaint.{no_memory};
-ghost use Rattle.facet_format.specs.Event.{borrowed, owned};
+ghost use Rattle.facet_format.specs.Event.{bytes_of, owned, is_owned};
 ghost use Rattle.facet_format.specs.Views.{refusal_of};
 ghost use Rattle.facet_json_protocol.specs.Now.{ahead};
 ghost use Rattle.facet_json_protocol.specs.Within.{RefusalWithin};
 ghost use Rattle.facet_json_meaning.specs.Nodes.{KeepsOn};
-ghost use Rattle.facet_json_meaning.specs.Reading.{IsRead, IsUnread};
+ghost use Rattle.facet_json_meaning.specs.Reading.{IsRead, IsUnread, HasDocument, EndsStrictly};
 ghost use Rattle.facet_json_meaning.specs.Readings.{raw_of};
 
 use crate::facet::Facet;
@@ -18,8 +18,9 @@ use facet_json_serializer::{JsonSerializeError, JsonSerializer};
 use std::alloc::Global;
 
 impl<'de> Facet<'de> for RawJson<'de> {
-    ghost use Rattle.std.specs.Prelude.{ℕ, List, false};
-    ghost use Rattle.facet_format.specs.Event.{bytes_of};
+    ghost use Rattle.std.specs.Prelude.{◌≡◌, ℕ, List, true, false};
+    ghost use Rattle.std.specs.Str.{is_utf8};
+    ghost use Rattle.facet_format.specs.Event.{bytes_of, is_owned};
     ghost use Rattle.facet_json_document.specs.Tree.{raw as raw_tree};
     ghost use Rattle.facet_json_meaning.specs.Readings.{raw_of, IsBareDocument};
     ghost use Rattle.facet_json_meaning.proofs.Leaves.RawLaws.{raw-same, raw-reads_back};
@@ -34,7 +35,11 @@ impl<'de> Facet<'de> for RawJson<'de> {
 
     ghost tree_of = { raw_tree };
 
+    ghost always = { λ json. is_utf8 json ≡ true };
+
     ghost readable = { IsBareDocument };
+
+    ghost owned = { λ raw. is_owned raw ≡ true };
 
     ghost whole = { false };
 
@@ -48,7 +53,16 @@ impl<'de> Facet<'de> for RawJson<'de> {
     fn read<'t>(
         _alloc: Global,
         parser: &mut JsonParser<'de>,
-    ) -> Result<RawJson<'de>, DeserializeError<'t>> {
+    ) -> Result<RawJson<'de>, DeserializeError<'t>>
+        ensures read { IfOk result (λ raw. IsRead raw_of parser.old (bytes_of raw) parser.new) }
+        ensures unread { IfErr result (λ e. IsUnread raw_of parser.old (refusal_of e)) }
+        ensures document { false ≡ true → OnOk result (HasDocument parser.old) }
+        ensures strict { false ≡ true → OnOk result (EndsStrictly parser.old parser.new) }
+        ensures keeps { KeepsOn parser.old parser.new }
+        ensures shorter { OnOk result (ahead parser.new < ahead parser.old) }
+        ensures within { IfErr result (λ e. RefusalWithin parser.new.buffer (refusal_of e)) }
+        ensures lent { IfOk result (λ raw. is_owned raw ≡ false) }
+    {
         Ok(RawJson::new(captured(parser)?))
     }
 

@@ -25,7 +25,9 @@ impl<'de> Facet<'de> for i8 {
 
     ghost tree_of = { i64_tree };
 
-    ghost readable = { λ n. IsWithin 7 n };
+    ghost always = { λ n. IsWithin 7 n };
+
+    ghost readable = { λ _. Unit {0} };
 
     ghost whole = { true };
 
@@ -73,7 +75,9 @@ impl<'de> Facet<'de> for i16 {
 
     ghost tree_of = { i64_tree };
 
-    ghost readable = { λ n. IsWithin 15 n };
+    ghost always = { λ n. IsWithin 15 n };
+
+    ghost readable = { λ _. Unit {0} };
 
     ghost whole = { true };
 
@@ -121,7 +125,9 @@ impl<'de> Facet<'de> for i32 {
 
     ghost tree_of = { i64_tree };
 
-    ghost readable = { λ n. IsWithin 31 n };
+    ghost always = { λ n. IsWithin 31 n };
+
+    ghost readable = { λ _. Unit {0} };
 
     ghost whole = { true };
 
@@ -169,7 +175,9 @@ impl<'de> Facet<'de> for i64 {
 
     ghost tree_of = { i64_tree };
 
-    ghost readable = { λ n. IsWithin 63 n };
+    ghost always = { λ n. IsWithin 63 n };
+
+    ghost readable = { λ _. Unit {0} };
 
     ghost whole = { true };
 
@@ -217,7 +225,9 @@ impl<'de> Facet<'de> for isize {
 
     ghost tree_of = { i64_tree };
 
-    ghost readable = { λ n. IsWithin 63 n };
+    ghost always = { λ n. IsWithin 63 n };
+
+    ghost readable = { λ _. Unit {0} };
 
     ghost whole = { true };
 

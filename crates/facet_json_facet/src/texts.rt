@@ -35,7 +35,9 @@ impl<'de> Facet<'de> for String {
 
     ghost tree_of = { text_tree };
 
-    ghost readable = { λ t. is_utf8 t ≡ true };
+    ghost always = { λ t. is_utf8 t ≡ true };
+
+    ghost readable = { λ _. Unit {0} };
 
     ghost whole = { true };
 
@@ -86,7 +88,11 @@ impl<'de> Facet<'de> for &'de str {
 
     ghost tree_of = { text_tree };
 
+    ghost always = { λ _. Unit {0} };
+
     ghost readable = { λ t. ⊥ };
+
+    ghost owned = { λ _. ⊥ };
 
     ghost whole = { true };
 

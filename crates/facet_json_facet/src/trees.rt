@@ -22,6 +22,7 @@ impl<'de> Facet<'de> for Tree {
     ghost use Rattle.std.specs.Prelude.{true};
     ghost use Rattle.facet_json_document.specs.Meaning.{tree_of as tree_of_node};
     ghost use Rattle.facet_json_document.specs.Tree.{Tree as SpecTree};
+    ghost use Rattle.facet_json_written.specs.AsRead.{WellFormed};
     ghost use Rattle.facet_json_meaning.specs.Trees.{IsReadableTree};
     ghost use Rattle.facet_json_meaning.proofs.OfTrees.TreeLaws.{tree-same, tree-reads_back};
     ghost use Rattle.facet_json_tree.specs.Views.{tree_view};
@@ -35,6 +36,8 @@ impl<'de> Facet<'de> for Tree {
     ghost reading_borrowed = { tree_of_node };
 
     ghost tree_of = { λ t. t };
+
+    ghost always = { WellFormed };
 
     ghost readable = { IsReadableTree };
 

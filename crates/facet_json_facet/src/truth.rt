@@ -28,6 +28,8 @@ impl<'de> Facet<'de> for bool {
 
     ghost tree_of = { bool_tree };
 
+    ghost always = { λ _. Unit {0} };
+
     ghost readable = { λ b. Unit {0} };
 
     ghost whole = { true };

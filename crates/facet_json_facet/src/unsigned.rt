@@ -24,7 +24,9 @@ impl<'de> Facet<'de> for u8 {
 
     ghost tree_of = { u64_tree };
 
-    ghost readable = { λ n. n < 2 ^ 8 };
+    ghost always = { λ n. n < 2 ^ 8 };
+
+    ghost readable = { λ _. Unit {0} };
 
     ghost whole = { true };
 
@@ -71,7 +73,9 @@ impl<'de> Facet<'de> for u16 {
 
     ghost tree_of = { u64_tree };
 
-    ghost readable = { λ n. n < 2 ^ 16 };
+    ghost always = { λ n. n < 2 ^ 16 };
+
+    ghost readable = { λ _. Unit {0} };
 
     ghost whole = { true };
 
@@ -118,7 +122,9 @@ impl<'de> Facet<'de> for u32 {
 
     ghost tree_of = { u64_tree };
 
-    ghost readable = { λ n. n < 2 ^ 32 };
+    ghost always = { λ n. n < 2 ^ 32 };
+
+    ghost readable = { λ _. Unit {0} };
 
     ghost whole = { true };
 
@@ -165,7 +171,9 @@ impl<'de> Facet<'de> for u64 {
 
     ghost tree_of = { u64_tree };
 
-    ghost readable = { λ n. n < 2 ^ 64 };
+    ghost always = { λ n. n < 2 ^ 64 };
+
+    ghost readable = { λ _. Unit {0} };
 
     ghost whole = { true };
 
@@ -212,7 +220,9 @@ impl<'de> Facet<'de> for usize {
 
     ghost tree_of = { u64_tree };
 
-    ghost readable = { λ n. n < 2 ^ 64 };
+    ghost always = { λ n. n < 2 ^ 64 };
+
+    ghost readable = { λ _. Unit {0} };
 
     ghost whole = { true };
 

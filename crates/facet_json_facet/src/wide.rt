@@ -29,7 +29,9 @@ impl<'de> Facet<'de> for u128 {
 
     ghost tree_of = { u128_tree };
 
-    ghost readable = { λ n. n < 2 ^ 128 };
+    ghost always = { λ n. n < 2 ^ 128 };
+
+    ghost readable = { λ _. Unit {0} };
 
     ghost whole = { true };
 
@@ -73,7 +75,9 @@ impl<'de> Facet<'de> for i128 {
 
     ghost tree_of = { i128_tree };
 
-    ghost readable = { λ n. IsWithin 127 n };
+    ghost always = { λ n. IsWithin 127 n };
+
+    ghost readable = { λ _. Unit {0} };
 
     ghost whole = { true };
 

@@ -15,9 +15,9 @@ percent-some n h = ap (λ b. cond b (Some n) None) (le-leb n 100 h)
 pub percent-same : SameReading percent
 percent-same these those n m same = ap (option_and_then percent_in) (leaf-same (unsigned_of 8) these those n m same)
 
-pub percent-reads_back : ReadsBack percent u64 (λ (n : ℕ). n ≤ 100)
-percent-reads_back n h =
-    let back = u8-reads_back n (omega (arith, h)) in
+pub percent-reads_back : ReadsBack percent u64 (λ (n : ℕ). Unit {0}) (λ (n : ℕ). n ≤ 100)
+percent-reads_back n always h =
+    let back = u8-reads_back n (omega (arith, h)) tt in
     let r = back.1 in (
       back.0,
       record {

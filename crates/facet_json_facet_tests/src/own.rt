@@ -24,7 +24,11 @@ impl<'de, T: Facet<'de>> Facet<'de> for Named<T> {
 
     ghost tree_of = { T.tree_of };
 
+    ghost always = { T.always };
+
     ghost readable = { T.readable };
+
+    ghost owned = { λ named. T.owned named.0 };
 
     ghost whole = { T.whole };
 
@@ -72,6 +76,8 @@ impl<'de> Facet<'de> for Percent {
     ghost reading_borrowed = { percent };
 
     ghost tree_of = { u64_tree };
+
+    ghost always = { λ _. Unit {0} };
 
     ghost readable = { λ n. n ≤ 100 };
 

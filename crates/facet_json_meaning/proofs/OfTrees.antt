@@ -1,4 +1,6 @@
 -- Trees as values.
+pub mod DocumentTrees
 pub mod ReadableTrees
+pub mod TextsDecoded
 pub mod TreeLaws
 pub mod TreeOnWalk

@@ -18,7 +18,7 @@ pub record ReadsAs (V : Type 0) (reading : List ℕ → Node → Option V) (byte
   pub document : IsWholeDocument bytes root tree
   pub is_read : reading bytes root ≡ Some value
 
--- The raw parts of a readable value's tree are documents, and the tree's text reads as the value.
-abbrev pub ReadsBack : {V : Type 0} → (List ℕ → Node → Option V) → (V → Tree) → (V → Type 0) → Type 0
-ReadsBack {V = V} reading tree_of readable = (value : V) → readable value →
+-- Of a value with what every value of the type has, and which is readable, the tree's raw parts are documents, and its text reads as the value.
+abbrev pub ReadsBack : {V : Type 0} → (List ℕ → Node → Option V) → (V → Tree) → (V → Type 0) → (V → Type 0) → Type 0
+ReadsBack {V = V} reading tree_of always readable = (value : V) → always value → readable value →
     RawParts IsDocumentText (tree_of value) × ReadsAs V reading (text default_options 0 (tree_of value)) value

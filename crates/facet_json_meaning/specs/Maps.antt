@@ -54,8 +54,12 @@ pairs_of_entries tree (e ∷ entries) = pair e.0 (tree e.1) (pairs_of_entries tr
 abbrev pub tree_of_entries : {V : Type 0} → (V → Tree) → Entries V → Tree
 tree_of_entries tree entries = pairs (pairs_of_entries tree entries)
 
--- The keys ascend, as in every map, and are texts, and the values come back from their text.
-pub record IsReadableMap {V : Type 0} (readable : V → Type 0) (entries : Entries V) : Type 0 where
+-- What every map has: its keys ascend and are texts, and each value has what every one of its type has.
+pub record IsMap {V : Type 0} (always : V → Type 0) (entries : Entries V) : Type 0 where
   pub ascend : IsStrictlySortedBy by_bytes (keys_of entries)
   pub texts : All (λ e. is_utf8 e.0 ≡ true) entries
-  pub values : All (λ e. readable e.1) entries
+  pub values : All (λ e. always e.1) entries
+
+-- The values come back from their text.
+abbrev pub IsReadableMap : {V : Type 0} → (V → Type 0) → Entries V → Type 0
+IsReadableMap readable entries = All (λ e. readable e.1) entries

@@ -1,5 +1,5 @@
 -- What types of std read.
-use Rattle.std.specs.Prelude.{◌≡◌, ℕ, ◌^◌, Bool, true, cond, nat_lt, List, length, Option, Some, None, ℤ, pos, negsuc}
+use Rattle.std.specs.Prelude.{◌≡◌, ℕ, ◌^◌, Bool, cond, nat_lt, List, length, Option, Some, None, ℤ, pos, negsuc}
 use Rattle.std.specs.Option.{option_and_then}
 use Rattle.std.specs.Fmt.{decimal, signed_decimal}
 use Rattle.std.specs.Str.{bytes_eq, is_utf8}
@@ -94,4 +94,3 @@ pub record IsBareDocument (content : List ℕ) : Type 0 where
   pub document : IsWholeDocument content root value
   pub starts : (first_token root).span.offset ≡ 0
   pub ends : stop (last_token root).span ≡ length content
-  pub utf8 : is_utf8 content ≡ true

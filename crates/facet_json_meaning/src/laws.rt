@@ -3,6 +3,7 @@
 
 ghost use Rattle.facet_json_meaning.specs.SameBytes.{DocumentNodesAreSpelled, SameBytesSameText};
 ghost use Rattle.facet_json_meaning.specs.StrictTexts.{StrictReadsTexts};
+ghost use Rattle.facet_json_meaning.specs.Trees.{DocumentComesBack, DocumentIsReadable};
 
 /// The nodes of a document are spelled in its input.
 pub fn document_nodes_are_spelled()
@@ -22,4 +23,21 @@ pub fn same_bytes_same_text()
 /// So ` [1, "a"] ` ends well. `[1,]`, `01`, `[1] x`, a text with a tab between its quotes and an empty input are refused.
 pub fn strict_reads_texts()
     ensures { StrictReadsTexts }
+{}
+
+/// The tree of a document is readable: it has no raw text, its texts are UTF-8 and its numbers within their bits, and what is written of it reads
+/// as it, but that zero has no sign.
+///
+/// So `[1,"a"]` is read as a list of a number and a text, which reads as itself; `[-0]` as a list of a zero with a sign, which reads as one of a
+/// zero without, and that reads as itself.
+pub fn document_is_readable()
+    ensures { DocumentIsReadable }
+{}
+
+/// What is written of a document's tree, whatever the options, where the indent is white space, is one document, whose tree is the same, but that
+/// zero has no sign.
+///
+/// So of ` [1,] x` there is written `[1]`, which has the same tree.
+pub fn document_comes_back()
+    ensures { DocumentComesBack }
 {}

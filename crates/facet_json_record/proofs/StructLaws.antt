@@ -23,15 +23,15 @@ use Rattle.facet_json_meaning.proofs.Objects.ObjectTexts.{MembersAnywhere, membe
 -- ---- types
 
 -- A type's laws, one by one.
-pub shape-laws : {V : Type 0} {reading reading_borrowed : Reading V} {tree_of : V → Tree} {readable : V → Type 0} → SameReading reading →
-    SameReading reading_borrowed → ReadsBack reading tree_of readable → ShapeLaws (shape reading reading_borrowed tree_of readable)
+pub shape-laws : {V : Type 0} {reading reading_borrowed : Reading V} {tree_of : V → Tree} {always readable : V → Type 0} → SameReading reading →
+    SameReading reading_borrowed → ReadsBack reading tree_of always readable → ShapeLaws (shape reading reading_borrowed tree_of always readable)
 shape-laws same same_borrowed back = record { same_reading = same; same_reading_borrowed = same_borrowed; reads_back = back }
 
 pub nullable-laws : {V : Type 0} {s : Shape V} → ShapeLaws s → ShapeLaws (nullable s)
 nullable-laws {s = s} laws = record {
   same_reading = optional-same s.reading laws.same_reading;
   same_reading_borrowed = optional-same s.reading_borrowed laws.same_reading_borrowed;
-  reads_back = optional-reads_back s.reading s.tree_of s.readable laws.reads_back;
+  reads_back = optional-reads_back s.reading s.tree_of s.always s.readable laws.reads_back;
 }
 
 -- ---- names
@@ -55,14 +55,14 @@ pub record FieldsBack {V : Type 0} (fields : FieldList V) (v : V) : Type 0 where
 pub record FieldListLaws {V : Type 0} (fields : FieldList V) : Type 0 where
   pub same : SameSteps fields.table
   pub same_borrowed : SameSteps fields.table_borrowed
-  pub back : are_names fields.names ≡ true → (v : V) → fields.readable v → FieldsBack fields v
+  pub back : are_names fields.names ≡ true → (v : V) → fields.always v → fields.readable v → FieldsBack fields v
 
 pub no_more-laws : FieldListLaws no_more
 unfolding RawMembers members_text
 no_more-laws = record {
   same = none-same;
   same_borrowed = none-same;
-  back = λ names v is. record {
+  back = λ names v has is. record {
     raw = tt;
     none = λ e buffer. none-are buffer;
     stand = members-none (FieldsAre no_more.table [] tt) none-are;
@@ -71,10 +71,10 @@ no_more-laws = record {
 
 module _ {V : Type 0} (s : Shape V) (laws : ShapeLaws s) where
   -- Within an object too the text of a readable value is read as it.
-  value-stands : (v : V) → s.readable v → ReadsAnywhere s.reading (text default_options 1 (s.tree_of v)) v
-  value-stands v is =
+  value-stands : (v : V) → s.always v → s.readable v → ReadsAnywhere s.reading (text default_options 1 (s.tree_of v)) v
+  value-stands v has is =
       subst (λ t. ReadsAnywhere s.reading t v) (text-depth 0 1 (s.tree_of v))
-      (reads-anywhere s.reading laws.same_reading (text default_options 0 (s.tree_of v)) v (laws.reads_back v is).1)
+      (reads-anywhere s.reading laws.same_reading (text default_options 0 (s.tree_of v)) v (laws.reads_back v has is).1)
 
 pub needs-laws : {V W : Type 0} {s : Shape V} {others : FieldList W} (name : List ℕ) → ShapeLaws s → FieldListLaws others →
     FieldListLaws (needs name s others)
@@ -82,16 +82,16 @@ unfolding RawMembers
 needs-laws {s = s} {others = others} name laws more = record {
   same = need-same laws.same_reading more.same;
   same_borrowed = need-same laws.same_reading_borrowed more.same_borrowed;
-  back = λ names v is.
+  back = λ names v has is.
       let named = and_parts (is_text name) _ names in
       let apart = and_parts (lacks name others.names) (are_names others.names) named.1 in
-      let behind = more.back apart.1 v.1 is.1 in
+      let behind = more.back apart.1 v.1 has.1 is.1 in
       record {
-        raw = ((laws.reads_back v.0 is.0).0, behind.raw);
+        raw = ((laws.reads_back v.0 has.0 is.0).0, behind.raw);
         none = λ e buffer. absurd (cc);
         stand = members-join s.reading name v.0 (FieldsAre others.table others.names v.1) (FieldsAre (needs name s others).table (name ∷ others.names) v)
             (need-are s.reading others.table name others.names apart.0 v.1 v.0) (s.tree_of v.0) (others.written v.1) (text-utf8 name named.0)
-            (value-stands s laws v.0 is.0) behind.none behind.stand;
+            (value-stands s laws v.0 has.0 is.0) behind.none behind.stand;
       };
 }
 
@@ -101,17 +101,17 @@ unfolding RawMembers
 may_have-laws {s = s} {others = others} name laws more = record {
   same = maybe-same laws.same_reading more.same;
   same_borrowed = maybe-same laws.same_reading_borrowed more.same_borrowed;
-  back = λ names v is.
+  back = λ names v has is.
       let named = and_parts (is_text name) _ names in
       let apart = and_parts (lacks name others.names) (are_names others.names) named.1 in
-      let behind = more.back apart.1 v.1 is.1 in
+      let behind = more.back apart.1 v.1 has.1 is.1 in
       let option = nullable-laws laws in
       record {
-        raw = ((option.reads_back v.0 is.0).0, behind.raw);
+        raw = ((option.reads_back v.0 has.0 is.0).0, behind.raw);
         none = λ e buffer. absurd (cc);
         stand = members-join (optional s.reading) name v.0 (FieldsAre others.table others.names v.1) (FieldsAre (may_have name s others).table (name ∷ others.names) v)
             (maybe-are s.reading others.table name others.names apart.0 v.1 v.0) ((nullable s).tree_of v.0) (others.written v.1) (text-utf8 name named.0)
-            (value-stands (nullable s) option v.0 is.0) behind.none behind.stand;
+            (value-stands (nullable s) option v.0 has.0 is.0) behind.none behind.stand;
       };
 }
 
@@ -123,8 +123,8 @@ unfolding text RawParts
 struct-laws {fields = fields} laws names = record {
   same_reading = fields-same laws.same fields.names;
   same_reading_borrowed = fields-same laws.same_borrowed fields.names;
-  reads_back = λ v is.
-      let b = laws.back names v is in (
+  reads_back = λ v has is.
+      let b = laws.back names v has is in (
         b.raw,
         reads-alone (fields_of fields.table fields.names) (text default_options 0 (pairs (fields.written v))) v
             (object-whole (fields_of fields.table fields.names) v (FieldsAre fields.table fields.names v) (members_text default_options 0 true (fields.written v))

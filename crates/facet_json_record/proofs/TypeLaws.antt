@@ -61,14 +61,14 @@ pub list-laws : {V : Type 0} {s : Shape V} → ShapeLaws s → ShapeLaws (types.
 list-laws {s = s} laws = record {
   same_reading = list-same s.reading laws.same_reading;
   same_reading_borrowed = list-same s.reading_borrowed laws.same_reading_borrowed;
-  reads_back = list-reads_back s.reading s.tree_of s.readable laws.same_reading laws.reads_back;
+  reads_back = list-reads_back s.reading s.tree_of s.always s.readable laws.same_reading laws.reads_back;
 }
 
 pub entries-laws : {V : Type 0} {s : Shape V} → ShapeLaws s → ShapeLaws (types.entries s)
 entries-laws {s = s} laws = record {
   same_reading = map-same s.reading laws.same_reading;
   same_reading_borrowed = map-same s.reading_borrowed laws.same_reading_borrowed;
-  reads_back = map-reads_back s.reading s.tree_of s.readable laws.same_reading laws.reads_back;
+  reads_back = map-reads_back s.reading s.tree_of s.always s.readable laws.same_reading laws.reads_back;
 }
 
 pub any-laws : ShapeLaws types.any

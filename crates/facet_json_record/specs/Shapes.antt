@@ -2,6 +2,7 @@
 use Rattle.std.specs.Prelude.{ℕ, Bool, true, false, cond, ◌&&◌, List, [], ◌∷◌, Option}
 use Rattle.std.specs.Char.{is_ascii}
 use Rattle.std.specs.List.{list_all}
+use Rattle.std.specs.Option.{IfSome}
 use Rattle.std.specs.Str.{bytes_eq, is_utf8}
 use Rattle.facet_json_document.specs.Tree.{Tree, pairs, Pairs, no_pairs, pair}
 use Rattle.facet_json_meaning.specs.Laws.{SameReading, ReadsBack}
@@ -10,27 +11,29 @@ use Rattle.facet_json_record.specs.Fields.{Reading, Table, none, need, maybe, fi
 
 -- ---- a type
 
--- As what a node of a buffer is read, where nothing of the input is borrowed, and where it may be; as what tree a value is written; and
--- which values come back.
+-- As what a node of a buffer is read, where nothing of the input is borrowed, and where it may be; as what tree a value is written; what
+-- every value has; and which values come back.
 pub record Shape (V : Type 0) : Type 1 where
   pub reading : Reading V
   pub reading_borrowed : Reading V
   pub tree_of : V → Tree
+  pub always : V → Type 0
   pub readable : V → Type 0
 
 -- Nodes of the same text are read alike, and what is written of a readable value is read as it.
 pub record ShapeLaws {V : Type 0} (s : Shape V) : Type 0 where
   pub same_reading : SameReading s.reading
   pub same_reading_borrowed : SameReading s.reading_borrowed
-  pub reads_back : ReadsBack s.reading s.tree_of s.readable
+  pub reads_back : ReadsBack s.reading s.tree_of s.always s.readable
 
-abbrev pub shape : {V : Type 0} → Reading V → Reading V → (V → Tree) → (V → Type 0) → Shape V
-shape reading reading_borrowed tree_of readable =
-    record { reading = reading; reading_borrowed = reading_borrowed; tree_of = tree_of; readable = readable }
+abbrev pub shape : {V : Type 0} → Reading V → Reading V → (V → Tree) → (V → Type 0) → (V → Type 0) → Shape V
+shape reading reading_borrowed tree_of always readable =
+    record { reading = reading; reading_borrowed = reading_borrowed; tree_of = tree_of; always = always; readable = readable }
 
 -- a value that may be null
 abbrev pub nullable : {V : Type 0} → Shape V → Shape (Option V)
-nullable s = shape (optional s.reading) (optional s.reading_borrowed) (optional_tree s.tree_of) (OptionalReadable s.tree_of s.readable)
+nullable s =
+    shape (optional s.reading) (optional s.reading_borrowed) (optional_tree s.tree_of) (λ o. IfSome o s.always) (OptionalReadable s.tree_of s.readable)
 
 -- ---- a struct
 
@@ -40,10 +43,11 @@ pub record FieldList (V : Type 0) : Type 1 where
   pub table : Table V
   pub table_borrowed : Table V
   pub written : V → Pairs
+  pub always : V → Type 0
   pub readable : V → Type 0
 
 abbrev pub no_more : FieldList (Unit {0})
-no_more = record { names = []; table = none; table_borrowed = none; written = λ v. no_pairs; readable = λ v. Unit {0} }
+no_more = record { names = []; table = none; table_borrowed = none; written = λ v. no_pairs; always = λ v. Unit {0}; readable = λ v. Unit {0} }
 
 -- a field that has to be there, and those after it
 abbrev pub needs : {V W : Type 0} → List ℕ → Shape V → FieldList W → FieldList (V × W)
@@ -52,6 +56,7 @@ needs name s others = record {
   table = need s.reading others.table;
   table_borrowed = need s.reading_borrowed others.table_borrowed;
   written = λ v. pair name (s.tree_of v.0) (others.written v.1);
+  always = λ v. s.always v.0 × others.always v.1;
   readable = λ v. s.readable v.0 × others.readable v.1;
 }
 
@@ -62,13 +67,14 @@ may_have name s others = record {
   table = maybe s.reading others.table;
   table_borrowed = maybe s.reading_borrowed others.table_borrowed;
   written = λ v. pair name (optional_tree s.tree_of v.0) (others.written v.1);
+  always = λ v. IfSome v.0 s.always × others.always v.1;
   readable = λ v. OptionalReadable s.tree_of s.readable v.0 × others.readable v.1;
 }
 
 -- A struct is an object of its fields.
 abbrev pub struct_of : {V : Type 0} → FieldList V → Shape V
 struct_of fields =
-    shape (fields_of fields.table fields.names) (fields_of fields.table_borrowed fields.names) (λ v. pairs (fields.written v)) fields.readable
+    shape (fields_of fields.table fields.names) (fields_of fields.table_borrowed fields.names) (λ v. pairs (fields.written v)) fields.always fields.readable
 
 -- ---- names
 

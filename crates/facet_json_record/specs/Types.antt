@@ -5,26 +5,26 @@ use Rattle.std.specs.Str.{is_utf8}
 use Rattle.facet_json_document.specs.Meaning.{tree_of}
 use Rattle.facet_json_document.specs.Tree.{Tree}
 use Rattle.facet_json_document.specs.Tree as tree
-use Rattle.facet_json_written.specs.AsRead.{IsWithin}
+use Rattle.facet_json_written.specs.AsRead.{IsWithin, WellFormed}
 use Rattle.facet_json_meaning.specs.Borrowed.{borrowed_text, unread_text}
 use Rattle.facet_json_meaning.specs.Lists.{list_of, list_by}
-use Rattle.facet_json_meaning.specs.Maps.{Entries, map_of, tree_of_entries, IsReadableMap}
+use Rattle.facet_json_meaning.specs.Maps.{Entries, map_of, tree_of_entries, IsMap, IsReadableMap}
 use Rattle.facet_json_meaning.specs.Readings.{leaf, bool_of, unsigned_of, signed_of, text_of, u128_of, i128_of, raw_of, IsBareDocument}
 use Rattle.facet_json_meaning.specs.Trees.{IsReadableTree}
 use Rattle.facet_json_record.specs.Shapes.{Shape, shape}
 
 abbrev pub bool : Shape Bool
-bool = shape (leaf bool_of) (leaf bool_of) tree.bool (λ b. Unit {0})
+bool = shape (leaf bool_of) (leaf bool_of) tree.bool (λ b. Unit {0}) (λ b. Unit {0})
 
 -- ---- numbers
 
 -- a whole number without a sign that so many bits hold
 abbrev pub unsigned : ℕ → Shape ℕ
-unsigned bits = shape (leaf (unsigned_of bits)) (leaf (unsigned_of bits)) tree.u64 (λ n. n < 2 ^ bits)
+unsigned bits = shape (leaf (unsigned_of bits)) (leaf (unsigned_of bits)) tree.u64 (λ n. n < 2 ^ bits) (λ n. Unit {0})
 
 -- a whole number that so many bits beside its sign hold
 abbrev pub signed : ℕ → Shape ℤ
-signed bits = shape (leaf (signed_of bits)) (leaf (signed_of bits)) tree.i64 (λ n. IsWithin bits n)
+signed bits = shape (leaf (signed_of bits)) (leaf (signed_of bits)) tree.i64 (λ n. IsWithin bits n) (λ n. Unit {0})
 
 abbrev pub u8 : Shape ℕ
 u8 = unsigned 8
@@ -40,7 +40,7 @@ abbrev pub u64 : Shape ℕ
 u64 = unsigned 64
 
 abbrev pub u128 : Shape ℕ
-u128 = shape (leaf u128_of) (leaf u128_of) tree.u128 (λ n. n < 2 ^ 128)
+u128 = shape (leaf u128_of) (leaf u128_of) tree.u128 (λ n. n < 2 ^ 128) (λ n. Unit {0})
 
 abbrev pub i8 : Shape ℤ
 i8 = signed 7
@@ -56,34 +56,34 @@ abbrev pub i64 : Shape ℤ
 i64 = signed 63
 
 abbrev pub i128 : Shape ℤ
-i128 = shape (leaf i128_of) (leaf i128_of) tree.i128 (λ n. IsWithin 127 n)
+i128 = shape (leaf i128_of) (leaf i128_of) tree.i128 (λ n. IsWithin 127 n) (λ n. Unit {0})
 
 -- ---- texts
 
 -- `String`
 abbrev pub text : Shape (List ℕ)
-text = shape (leaf text_of) (leaf text_of) tree.text (λ t. is_utf8 t ≡ true)
+text = shape (leaf text_of) (leaf text_of) tree.text (λ t. is_utf8 t ≡ true) (λ t. Unit {0})
 
 -- `&str`, which is read only where it may be borrowed
 abbrev pub borrowed : Shape (List ℕ)
-borrowed = shape unread_text borrowed_text tree.text (λ t. ⊥)
+borrowed = shape unread_text borrowed_text tree.text (λ t. Unit {0}) (λ t. ⊥)
 
 -- `RawJson`
 abbrev pub raw : Shape (List ℕ)
-raw = shape raw_of raw_of tree.raw IsBareDocument
+raw = shape raw_of raw_of tree.raw (λ t. is_utf8 t ≡ true) IsBareDocument
 
 -- ---- containers
 
 -- `Vec`
 abbrev pub list : {V : Type 0} → Shape V → Shape (List V)
-list s = shape (list_of s.reading) (list_of s.reading_borrowed) (list_by s.tree_of) (λ vs. All s.readable vs)
+list s = shape (list_of s.reading) (list_of s.reading_borrowed) (list_by s.tree_of) (λ vs. All s.always vs) (λ vs. All s.readable vs)
 
 -- `BTreeMap` from `String`
 abbrev pub entries : {V : Type 0} → Shape V → Shape (Entries V)
-entries s = shape (map_of s.reading) (map_of s.reading_borrowed) (tree_of_entries s.tree_of) (IsReadableMap s.readable)
+entries s = shape (map_of s.reading) (map_of s.reading_borrowed) (tree_of_entries s.tree_of) (IsMap s.always) (IsReadableMap s.readable)
 
 -- ---- any value
 
 -- `Tree`
 abbrev pub any : Shape Tree
-any = shape tree_of tree_of (λ t. t) IsReadableTree
+any = shape tree_of tree_of (λ t. t) WellFormed IsReadableTree

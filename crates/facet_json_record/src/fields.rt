@@ -1,6 +1,6 @@
 //! Fields of structs, in the order in which a table names them.
 
-ghost use Rattle.std.specs.Prelude.{◌≡◌, ◌≤◌, ◌<◌, cond, length, Some, IfOk, IfErr, OnOk};
+ghost use Rattle.std.specs.Prelude.{◌≡◌, ◌≤◌, ◌<◌, false, cond, length, Some, IfOk, IfErr, OnOk};
 ghost use Rattle.facet_format.specs.Span.{stop};
 ghost use Rattle.facet_format.specs.Views.{refusal_of, span_of};
 ghost use Rattle.facet_json_protocol.specs.Now.{ahead};
@@ -44,9 +44,16 @@ pub trait Fields<'de>: Sized + Drop {
     /// The fields after an object's last member, where none is missing.
     ghost ends: { Seen → Option View };
 
+    /// The values that were read so far borrow nothing of the input.
+    ghost owned_slots: { Self.Slots → Type 0 };
+
+    /// The fields' values borrow nothing of the input.
+    ghost owned: { Self → Type 0 };
+
     /// No value was read.
     fn none() -> Self::Slots
-        ensures { seen result ≡ start };
+        ensures none { seen result ≡ start }
+        ensures owned { owned_slots result };
 
     /// Reads the value of a member before which the parser stands, as the field of the member's key, or passes it.
     ///
@@ -64,7 +71,8 @@ pub trait Fields<'de>: Sized + Drop {
         ensures read { OnOk result (IsRead (step borrows (keys names.now) key.now (seen slots.old)) parser.old (seen slots.new) parser.new) }
         ensures unread { IfErr result (λ e. IsUnread (step borrows (keys names.now) key.now (seen slots.old)) parser.old (refusal_of e)) }
         ensures keeps { KeepsOn parser.old parser.new }
-        ensures within { IfErr result (λ e. RefusalWithin parser.new.buffer (refusal_of e)) };
+        ensures within { IfErr result (λ e. RefusalWithin parser.new.buffer (refusal_of e)) }
+        ensures owned { borrows ≡ false → owned_slots slots.old → OnOk result (owned_slots slots.new) };
 
     /// The fields of an object that ends with this bracket.
     ///
@@ -78,7 +86,8 @@ pub trait Fields<'de>: Sized + Drop {
     ) -> Result<Self, DeserializeError<'t>>
         ensures full { IfOk result (λ fields. ends (seen slots) ≡ Some (view fields)) }
         ensures missing { IfErr result (λ e. ends (seen slots) ≡ None) }
-        ensures span { IfErr result (λ e. e.span ≡ Some bracket) };
+        ensures span { IfErr result (λ e. e.span ≡ Some bracket) }
+        ensures owned { owned_slots slots → IfOk result owned };
 }
 
 /// The end of a list of fields.
@@ -112,6 +121,10 @@ impl<'de> Fields<'de> for Done {
 
     ghost ends = { done };
 
+    ghost owned_slots = { λ _. Unit {0} };
+
+    ghost owned = { λ _. Unit {0} };
+
     fn none() -> () {}
 
     fn put<'t>(
@@ -138,7 +151,7 @@ impl<'de, T: Facet<'de>, R: Fields<'de>> Fields<'de> for Need<T, R> {
     type Slots = (Option<T>, R::Slots);
 
     ghost use Rattle.std.specs.Prelude.{Option, None};
-    ghost use Rattle.std.specs.Option.{option_map};
+    ghost use Rattle.std.specs.Option.{option_map, IfSome};
     ghost use Rattle.facet_json_record.specs.Fields.{field_step, need_ends};
 
     ghost Seen = { Option T.View × R.Seen };
@@ -154,6 +167,10 @@ impl<'de, T: Facet<'de>, R: Fields<'de>> Fields<'de> for Need<T, R> {
     ghost step = { λ b. field_step (cond b T.reading_borrowed T.reading) (R.step b) };
 
     ghost ends = { need_ends R.ends };
+
+    ghost owned_slots = { λ s. IfSome s.0 T.owned × R.owned_slots s.1 };
+
+    ghost owned = { λ v. T.owned v.0 × R.owned v.1 };
 
     fn none() -> (Option<T>, R::Slots) {
         (None, R::none())
@@ -201,7 +218,7 @@ impl<'de, T: Facet<'de>, R: Fields<'de>> Fields<'de> for Maybe<T, R> {
     type Slots = (Option<Option<T>>, R::Slots);
 
     ghost use Rattle.std.specs.Prelude.{Option, None};
-    ghost use Rattle.std.specs.Option.{option_map};
+    ghost use Rattle.std.specs.Option.{option_map, IfSome};
     ghost use Rattle.facet_json_meaning.specs.Optional.{optional};
     ghost use Rattle.facet_json_record.specs.Fields.{field_step, maybe_ends};
 
@@ -218,6 +235,10 @@ impl<'de, T: Facet<'de>, R: Fields<'de>> Fields<'de> for Maybe<T, R> {
     ghost step = { λ b. field_step (cond b (optional T.reading_borrowed) (optional T.reading)) (R.step b) };
 
     ghost ends = { maybe_ends R.ends };
+
+    ghost owned_slots = { λ s. IfSome s.0 (λ o. IfSome o T.owned) × R.owned_slots s.1 };
+
+    ghost owned = { λ v. IfSome v.0 T.owned × R.owned v.1 };
 
     fn none() -> (Option<Option<T>>, R::Slots) {
         (None, R::none())
@@ -281,6 +302,7 @@ pub fn read_fields<'de, 't, F: Fields<'de>>(
     names: &'t [&'t str],
 ) -> Result<F, DeserializeError<'t>>
     ensures read { IfOk result (λ f. IsRead (fields_of (table F.start (F.step borrows) F.ends) (keys names.now)) parser.old (F.view f) parser.new) }
+    ensures owned { borrows ≡ false → IfOk result F.owned }
     ensures unread { IfErr result (λ e. IsUnread (fields_of (table F.start (F.step borrows) F.ends) (keys names.now)) parser.old (refusal_of e)) }
     ensures keeps { KeepsOn parser.old parser.new }
     ensures shorter { OnOk result (ahead parser.new < ahead parser.old) }
@@ -331,6 +353,7 @@ fn value_in<'t, 'de, T: Facet<'de>>(
     borrows: bool,
 ) -> Result<T, DeserializeError<'t>>
     ensures read { IfOk result (λ v. IsRead (cond borrows T.reading_borrowed T.reading) parser.old (T.view v) parser.new) }
+    ensures owned { borrows ≡ false → IfOk result T.owned }
     ensures unread { IfErr result (λ e. IsUnread (cond borrows T.reading_borrowed T.reading) parser.old (refusal_of e)) }
     ensures keeps { KeepsOn parser.old parser.new }
     ensures within { IfErr result (λ e. RefusalWithin parser.new.buffer (refusal_of e)) }

@@ -21,6 +21,9 @@ pub trait LentFields<'de> {
     /// The members as which the fields are written, under these names.
     ghost members: { List (List ℕ) → Self → Pairs };
 
+    /// Each field has what every value of its type has.
+    ghost always: { Self → Type 0 };
+
     /// Writes the fields as members of the object that is open.
     ///
     /// # Errors
@@ -34,11 +37,14 @@ pub trait LentFields<'de> {
         ensures written { OnOk result (HasWrittenMembers serializer.old (members (keys names.now) self.now) serializer.new) }
         ensures refused { IsWithinStruct serializer.old → IfErr result (λ e. refusal_of e ≡ out_of_memory) }
         ensures spent { IsWithinStruct serializer.old → OnErr result (serializer.new ≡ None) }
-        ensures of_rust { OnOk result (IsOfRust (pairs (members (keys names.now) self.now))) };
+        ensures of_rust { OnOk result (IsOfRust (pairs (members (keys names.now) self.now))) }
+        ensures always { OnOk result (always self.now) };
 }
 
 impl<'de> LentFields<'de> for Done {
     ghost members = { λ names fields. no_pairs };
+
+    ghost always = { λ _. Unit {0} };
 
     fn write_members(
         &self,
@@ -51,6 +57,8 @@ impl<'de> LentFields<'de> for Done {
 
 impl<'de, 'a, T: Facet<'de>, R: LentFields<'de>> LentFields<'de> for Need<&'a T, R> {
     ghost members = { λ names fields. pair (first_name names) (T.tree_of (T.view fields.0.now)) (R.members (other_names names) fields.1) };
+
+    ghost always = { λ fields. T.always (T.view fields.0.now) × R.always fields.1 };
 
     fn write_members(
         &self,
@@ -86,6 +94,7 @@ pub fn write_fields<'de, F: LentFields<'de>>(
     ensures refused { IfErr result (λ e. refusal_of e ≡ out_of_memory) }
     ensures spent { OnErr result (serializer.new ≡ None) }
     ensures of_rust { OnOk result (IsOfRust (pairs (F.members (keys names.now) fields.now))) }
+    ensures always { OnOk result (F.always fields.now) }
 {
     serializer.begin_struct()?;
     fields.write_members(names, serializer)?;

@@ -1,6 +1,7 @@
 //! Members by their names, items by their index.
 
 use crate::samples::{list, object};
+use facet_json_read::tree_from_slice;
 use facet_json_tree::Tree;
 use std::alloc::Global;
 
@@ -56,40 +57,81 @@ fn other_values_have_no_parts(rt: HostRuntime) {
     assert!(rt; Tree::Pairs(Vec::new(alloc)).item(0).is_none());
 }
 
-/// Whether a change by a name is seen at the last member with it, and the others stay.
-fn changes_the_last(alloc: Global) -> bool {
-    let Ok(mut tree) = object(alloc) else {
+/// A part of a value: a member's value by its name, or an item by its index.
+#[derive(Clone, Copy, Drop)]
+enum Part<'a> {
+    Member(&'a str),
+    Item(usize),
+}
+
+/// The part, to be changed.
+fn lent<'t>(tree: &'t mut Tree, part: Part<'_>) -> Option<&'t mut Tree> {
+    match part {
+        Part::Member(name) => tree.get_mut(name),
+        Part::Item(index) => tree.item_mut(index),
+    }
+}
+
+/// Whether the document, once `false` is written where the part stands, is the wanted one.
+fn becomes(alloc: Global, document: &str, part: Part<'_>, wanted: &str) -> bool {
+    let Ok(mut tree) = tree_from_slice(alloc, document.as_bytes()) else {
         return false;
     };
-    match tree.get_mut("a") {
+    let Ok(wanted) = tree_from_slice(alloc, wanted.as_bytes()) else {
+        return false;
+    };
+    match lent(&mut tree, part) {
         Some(value) => *value = Tree::Bool(false),
         None => return false,
     }
-    let first = match tree.as_pairs() {
-        Some(members) if !members.is_empty() => is_found(Some(&members[0].1), Some(&Tree::U64(1))),
-        _ => false,
-    };
-    first && is_found(tree.get("a"), Some(&Tree::Bool(false))) && tree.get_mut("c").is_none()
+    tree == wanted
 }
 
-/// Whether a change by an index is seen there, and the others stay.
-fn changes_an_item(alloc: Global) -> bool {
-    let Ok(mut tree) = list(alloc) else {
+/// Whether the document has no such part, and stays as it is.
+fn stays(alloc: Global, document: &str, part: Part<'_>) -> bool {
+    let Ok(mut tree) = tree_from_slice(alloc, document.as_bytes()) else {
         return false;
     };
-    match tree.item_mut(1) {
-        Some(value) => *value = Tree::U64(7),
-        None => return false,
-    }
-    is_found(tree.item(0), Some(&Tree::Bool(true)))
-        && is_found(tree.item(1), Some(&Tree::U64(7)))
-        && tree.item_mut(3).is_none()
+    let Ok(wanted) = tree_from_slice(alloc, document.as_bytes()) else {
+        return false;
+    };
+    lent(&mut tree, part).is_none() && tree == wanted
 }
 
 #[test]
-fn changes_are_seen_where_they_were_made(rt: HostRuntime) {
+fn a_change_leaves_all_other_members(rt: HostRuntime) {
     let alloc = rt.alloc();
-    assert!(rt; changes_the_last(alloc));
-    assert!(rt; changes_an_item(alloc));
-    assert!(rt; Tree::Null.get_mut("a").is_none() && Tree::Null.item_mut(0).is_none());
+    let document = r#"{"a":1,"b":[true,{"a":2}],"a":3,"":4}"#;
+    for row in [
+        ("a", r#"{"a":1,"b":[true,{"a":2}],"a":false,"":4}"#),
+        ("b", r#"{"a":1,"b":false,"a":3,"":4}"#),
+        ("", r#"{"a":1,"b":[true,{"a":2}],"a":3,"":false}"#),
+    ] {
+        assert!(rt; becomes(alloc, document, Part::Member(row.0), row.1));
+    }
+    for name in ["c", "aa", "A"] {
+        assert!(rt; stays(alloc, document, Part::Member(name)));
+    }
+    assert!(rt; stays(alloc, document, Part::Item(0)));
+    assert!(rt; stays(alloc, r#"{}"#, Part::Member("")));
+}
+
+#[test]
+fn a_change_leaves_all_other_items(rt: HostRuntime) {
+    let alloc = rt.alloc();
+    let document = r#"[1,[2,3],{"a":4}]"#;
+    for row in [
+        (0, r#"[false,[2,3],{"a":4}]"#),
+        (1, r#"[1,false,{"a":4}]"#),
+        (2, r#"[1,[2,3],false]"#),
+    ] {
+        assert!(rt; becomes(alloc, document, Part::Item(row.0), row.1));
+    }
+    for index in [3, usize::MAX] {
+        assert!(rt; stays(alloc, document, Part::Item(index)));
+    }
+    assert!(rt; stays(alloc, document, Part::Member("a")));
+    for scalar in ["null", "\"a\"", "7"] {
+        assert!(rt; stays(alloc, scalar, Part::Item(0)) && stays(alloc, scalar, Part::Member("a")));
+    }
 }

@@ -1,11 +1,11 @@
 -- The text of a value comes back as the value.
-use Rattle.std.proofs.Common.{◌≡◌, ℕ, List, Option, Some, Ok, Err, Result, sym, subst}
+use Rattle.std.proofs.Common.{◌≡◌, ℕ, List, Option, Some, Ok, Err, Result, sym, ap, ◌∙◌, subst}
 use Rattle.std.specs.Prelude.{IfOk}
 use Rattle.facet_json_token.specs.Gap.{plain}
 use Rattle.facet_json_token.specs.Tokens.{ended}
 use Rattle.facet_json_document.specs.Document.{IsDocument}
 use Rattle.facet_json_document.specs.Node.{Node}
-use Rattle.facet_json_document.specs.Text.{default_options, text}
+use Rattle.facet_json_document.specs.Text.{Options, default_options, text}
 use Rattle.facet_json_document.specs.Tree.{Tree}
 use Rattle.facet_json_document.proofs.Spelling.OneSpelling.{one_document}
 use Rattle.facet_json_meaning.specs.Laws.{ReadsAs, ReadsBack}
@@ -22,9 +22,10 @@ comes-back reading bytes value r =
 
 -- The same of a text that is answered.
 pub answered-comes_back : {V W E : Type 0} (items : W → List ℕ) (reading : List ℕ → Node → Option V) (tree_of : V → Tree)
-    (readable : V → Type 0) → ReadsBack reading tree_of readable → (r : Result W E) (value : V) →
-    IfOk r (λ w. items w ≡ text default_options 0 (tree_of value)) →
+    (always readable : V → Type 0) → ReadsBack reading tree_of always readable → (r : Result W E) (value : V) (o : Options) → always value →
+    IfOk r (λ w. items w ≡ text o 0 (tree_of value)) → o ≡ default_options →
     IfOk r (λ w. readable value → ComesBack reading (items w) value)
-answered-comes_back items reading tree_of readable back (Ok w) value is = λ can_be.
-    subst (λ bytes. ComesBack reading bytes value) (sym is) (comes-back reading _ value (back value can_be).1)
-answered-comes_back items reading tree_of readable back (Err e) value is = tt
+answered-comes_back items reading tree_of always readable back (Ok w) value o has is default = λ can_be.
+    subst (λ bytes. ComesBack reading bytes value) (sym (is ∙ ap (λ p. text p 0 (tree_of value)) default))
+    (comes-back reading _ value (back value has can_be).1)
+answered-comes_back items reading tree_of always readable back (Err e) value o has is default = tt

@@ -28,6 +28,7 @@ pub fn from_slice<'t, 'de, T: Facet<'de>>(
     input: &'de [u8],
 ) -> Result<T, DeserializeError<'t>>
     ensures read { IfOk result (λ v. IsReadFrom T.reading input.now plain (T.view v)) }
+    ensures owned { IfOk result T.owned }
     ensures unread { IfErr result (λ e. IsUnreadFrom T.reading input.now plain (refusal_of e)) }
     ensures document { T.whole ≡ true → OnOk result (BeginsWithDocument input.now plain) }
     ensures within { IfErr result (λ e. RefusalWithin input.now (refusal_of e)) }
@@ -73,6 +74,7 @@ pub fn from_slice_jsonc<'t, 'de, T: Facet<'de>>(
     input: &'de [u8],
 ) -> Result<T, DeserializeError<'t>>
     ensures read { IfOk result (λ v. IsReadFrom T.reading input.now jsonc (T.view v)) }
+    ensures owned { IfOk result T.owned }
     ensures unread { IfErr result (λ e. IsUnreadFrom T.reading input.now jsonc (refusal_of e)) }
     ensures document { T.whole ≡ true → OnOk result (BeginsWithDocument input.now jsonc) }
     ensures within { IfErr result (λ e. RefusalWithin input.now (refusal_of e)) }
@@ -117,6 +119,7 @@ pub fn from_str<'t, 'de, T: Facet<'de>>(
     input: &'de str,
 ) -> Result<T, DeserializeError<'t>>
     ensures read { IfOk result (λ v. IsReadFrom T.reading input.now plain (T.view v)) }
+    ensures owned { IfOk result T.owned }
     ensures unread { IfErr result (λ e. IsUnreadFrom T.reading input.now plain (refusal_of e)) }
     ensures document { T.whole ≡ true → OnOk result (BeginsWithDocument input.now plain) }
     ensures within { IfErr result (λ e. RefusalWithin input.now (refusal_of e)) }
@@ -161,6 +164,7 @@ pub fn from_str_jsonc<'t, 'de, T: Facet<'de>>(
     input: &'de str,
 ) -> Result<T, DeserializeError<'t>>
     ensures read { IfOk result (λ v. IsReadFrom T.reading input.now jsonc (T.view v)) }
+    ensures owned { IfOk result T.owned }
     ensures unread { IfErr result (λ e. IsUnreadFrom T.reading input.now jsonc (refusal_of e)) }
     ensures document { T.whole ≡ true → OnOk result (BeginsWithDocument input.now jsonc) }
     ensures within { IfErr result (λ e. RefusalWithin input.now (refusal_of e)) }

@@ -36,6 +36,7 @@ pub fn from_slice_strict<'t, 'de, T: Facet<'de>>(
     input: &'de [u8],
 ) -> Result<T, DeserializeError<'t>>
     ensures read { IfOk result (λ v. IsReadStrictly T.reading input.now (T.view v)) }
+    ensures owned { IfOk result T.owned }
     ensures unread { IfErr result (λ e. IsUnreadStrictly T.reading input.now (refusal_of e)) }
     ensures document { T.whole ≡ true → OnOk result (IsStrict input.now) }
     ensures one_run { OnOk result (IsOneRun input.now plain) }
@@ -59,6 +60,7 @@ pub fn from_str_strict<'t, 'de, T: Facet<'de>>(
     input: &'de str,
 ) -> Result<T, DeserializeError<'t>>
     ensures read { IfOk result (λ v. IsReadStrictly T.reading input.now (T.view v)) }
+    ensures owned { IfOk result T.owned }
     ensures unread { IfErr result (λ e. IsUnreadStrictly T.reading input.now (refusal_of e)) }
     ensures document { T.whole ≡ true → OnOk result (IsStrict input.now) }
     ensures one_run { OnOk result (IsOneRun input.now plain) }
@@ -75,6 +77,7 @@ fn whole_value<'t, 'de, T: Facet<'de>>(
 ) -> Result<T, DeserializeError<'t>>
     ensures read { (input : List ℕ) → parser.old ≡ fresh_in input (strict plain)
         → IfOk result (λ v. IsReadStrictly T.reading input (T.view v)) }
+    ensures owned { IfOk result T.owned }
     ensures unread { (input : List ℕ) → parser.old ≡ fresh_in input (strict plain)
         → IfErr result (λ e. IsUnreadStrictly T.reading input (refusal_of e)) }
     ensures document { (input : List ℕ) → parser.old ≡ fresh_in input (strict plain)

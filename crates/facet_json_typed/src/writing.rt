@@ -71,6 +71,8 @@ pub fn to_vec_with_options<'de, T: Facet<'de>>(
     ensures text { IfOk result (λ v. v.items ≡ text (options_of options.now) 0 (T.tree_of (T.view value.now))) }
     ensures refused { IfErr result (λ e. refusal_of e ≡ out_of_memory) }
     ensures read_back { IfOk result (λ v. IsReadable (options_of options.now) (T.tree_of (T.view value.now)) v.items) }
+    ensures comes_back { options_of options.now ≡ default_options
+        → IfOk result (λ v. T.readable (T.view value.now) → ComesBack T.reading v.items (T.view value.now)) }
     ensures utf8 { IfOk result (λ v. is_utf8 v.items ≡ true) }
 {
     let mut serializer = JsonSerializer::with_options(alloc, *options);
@@ -133,6 +135,8 @@ pub fn to_string_with_options<'de, T: Facet<'de>>(
     ensures text { IfOk result (λ v. string_bytes v ≡ text (options_of options.now) 0 (T.tree_of (T.view value.now))) }
     ensures refused { IfErr result (λ e. refusal_of e ≡ out_of_memory) }
     ensures read_back { IfOk result (λ v. IsReadable (options_of options.now) (T.tree_of (T.view value.now)) (string_bytes v)) }
+    ensures comes_back { options_of options.now ≡ default_options
+        → IfOk result (λ v. T.readable (T.view value.now) → ComesBack T.reading (string_bytes v) (T.view value.now)) }
 {
     let bytes = to_vec_with_options(alloc, value, options)?;
     // The text is UTF-8, as its contract says, so it is not looked over again.

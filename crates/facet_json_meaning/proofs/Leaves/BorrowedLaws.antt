@@ -42,8 +42,8 @@ pub unread-same : SameReading unread_text
 unread-same these those n m same = refl
 
 -- Nothing comes back where nothing is read.
-pub unread-reads_back : ReadsBack unread_text trees.text (λ (t : List ℕ). ⊥)
-unread-reads_back t readable = absurd readable
+pub unread-reads_back : ReadsBack unread_text trees.text (λ (t : List ℕ). Unit {0}) (λ (t : List ℕ). ⊥)
+unread-reads_back t always readable = absurd readable
 
 -- ---- from one event
 

@@ -1,5 +1,5 @@
 -- Raw text: nodes of the same text have the same, and a document with nothing around it comes back.
-use Rattle.std.proofs.Common.{◌≡◌, ℕ, ◌-◌, cond, List, length, Option, Some, None, ap, ◌∙◌, arith}
+use Rattle.std.proofs.Common.{◌≡◌, ℕ, ◌-◌, true, cond, List, length, Option, Some, None, ap, ◌∙◌, arith}
 use Rattle.std.specs.Str.{is_utf8}
 use Rattle.std.proofs.lemmas.List.{take_all}
 use Rattle.facet_json_document.specs.RunLaws.{last_token}
@@ -27,13 +27,13 @@ bare-between : (content : List ℕ) (bare : IsBareDocument content) →
 bare-between content bare =
     rw (bare.starts, bare.ends) (take_all (length content - 0) content (omega arith))
 
-bare-read : (content : List ℕ) (bare : IsBareDocument content) → raw_of content bare.root ≡ Some content
-bare-read content bare =
-    ap if_utf8 (bare-between content bare) ∙ ap (λ b. cond b (Some content) None) bare.utf8
+bare-read : (content : List ℕ) (bare : IsBareDocument content) → is_utf8 content ≡ true → raw_of content bare.root ≡ Some content
+bare-read content bare utf8 =
+    ap if_utf8 (bare-between content bare) ∙ ap (λ b. cond b (Some content) None) utf8
 
-pub raw-reads_back : ReadsBack raw_of raw IsBareDocument
+pub raw-reads_back : ReadsBack raw_of raw (λ (content : List ℕ). is_utf8 content ≡ true) IsBareDocument
 unfolding RawParts text
-raw-reads_back content bare = (
+raw-reads_back content utf8 bare = (
   (bare.root, bare.value, bare.document),
-  record { root = bare.root; tree = bare.value; document = bare.document; is_read = bare-read content bare },
+  record { root = bare.root; tree = bare.value; document = bare.document; is_read = bare-read content bare utf8 },
 )

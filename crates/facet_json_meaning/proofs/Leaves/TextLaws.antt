@@ -11,6 +11,6 @@ use Rattle.facet_json_meaning.proofs.Leaves.LeafLaws.{leaf-back}
 as_read-text : (t : List ℕ) (read : Tree) → ReadsAs as_array (text t) read → text_of read ≡ Some t
 as_read-text t _ (text_is_itself _) = refl
 
-pub text-reads_back : ReadsBack (leaf text_of) text (λ (t : List ℕ). is_utf8 t ≡ true)
+pub text-reads_back : ReadsBack (leaf text_of) text (λ (t : List ℕ). is_utf8 t ≡ true) (λ (t : List ℕ). Unit {0})
 unfolding WellFormed RawParts
-text-reads_back t utf8 = leaf-back text_of (λ ts. refl) (λ ps. refl) t (text t) utf8 tt (as_read-text t)
+text-reads_back t utf8 readable = leaf-back text_of (λ ts. refl) (λ ps. refl) t (text t) utf8 tt (as_read-text t)

@@ -10,6 +10,6 @@ use Rattle.facet_json_meaning.proofs.Leaves.LeafLaws.{leaf-back}
 as_read-bool : (b : Bool) (read : Tree) → ReadsAs as_array (bool b) read → bool_of read ≡ Some b
 as_read-bool b _ (bool_is_itself _) = refl
 
-pub bool-reads_back : ReadsBack (leaf bool_of) bool (λ (b : Bool). Unit {0})
+pub bool-reads_back : ReadsBack (leaf bool_of) bool (λ (b : Bool). Unit {0}) (λ (b : Bool). Unit {0})
 unfolding WellFormed RawParts
-bool-reads_back b r = leaf-back bool_of (λ ts. refl) (λ ps. refl) b (bool b) tt tt (as_read-bool b)
+bool-reads_back b always readable = leaf-back bool_of (λ ts. refl) (λ ps. refl) b (bool b) tt tt (as_read-bool b)

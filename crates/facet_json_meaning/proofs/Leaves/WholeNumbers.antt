@@ -93,9 +93,9 @@ as_read-signed most (pos n) _ h wide (i64_is_whole _) =
 as_read-signed most (negsuc n) _ h wide (i64_is_whole _) =
     ap (signed_of most) (tree-below n (2 ^ 63) (i64 (negsuc n)) _ wide) ∙ some-below n (2 ^ most) (negsuc n) h
 
-pub unsigned-reads_back : (most : ℕ) → 2 ^ most ≤ 2 ^ 64 → ReadsBack (leaf (unsigned_of most)) u64 (λ (n : ℕ). n < 2 ^ most)
+pub unsigned-reads_back : (most : ℕ) → 2 ^ most ≤ 2 ^ 64 → ReadsBack (leaf (unsigned_of most)) u64 (λ (n : ℕ). n < 2 ^ most) (λ (n : ℕ). Unit {0})
 unfolding WellFormed RawParts
-unsigned-reads_back most small n h =
+unsigned-reads_back most small n h readable =
     let wide : n < 2 ^ 64 = omega (arith, h, small) in
     leaf-back (unsigned_of most) (λ ts. refl) (λ ps. refl) n (u64 n) wide tt (λ read how. as_read-unsigned most n read h wide how)
 
@@ -103,32 +103,32 @@ within-more : (most : ℕ) (z : ℤ) → 2 ^ most ≤ 2 ^ 63 → IsWithin most z
 within-more most (pos n) small h = omega (arith, h, small)
 within-more most (negsuc n) small h = omega (arith, h, small)
 
-pub signed-reads_back : (most : ℕ) → 2 ^ most ≤ 2 ^ 63 → ReadsBack (leaf (signed_of most)) i64 (λ (z : ℤ). IsWithin most z)
+pub signed-reads_back : (most : ℕ) → 2 ^ most ≤ 2 ^ 63 → ReadsBack (leaf (signed_of most)) i64 (λ (z : ℤ). IsWithin most z) (λ (z : ℤ). Unit {0})
 unfolding WellFormed RawParts
-signed-reads_back most small z h =
+signed-reads_back most small z h readable =
     let wide = within-more most z small h in
     leaf-back (signed_of most) (λ ts. refl) (λ ps. refl) z (i64 z) wide tt (λ read how. as_read-signed most z read h wide how)
 
-pub u8-reads_back : ReadsBack (leaf (unsigned_of 8)) u64 (λ (n : ℕ). n < 2 ^ 8)
+pub u8-reads_back : ReadsBack (leaf (unsigned_of 8)) u64 (λ (n : ℕ). n < 2 ^ 8) (λ (n : ℕ). Unit {0})
 u8-reads_back = unsigned-reads_back 8 (omega arith)
 
-pub u16-reads_back : ReadsBack (leaf (unsigned_of 16)) u64 (λ (n : ℕ). n < 2 ^ 16)
+pub u16-reads_back : ReadsBack (leaf (unsigned_of 16)) u64 (λ (n : ℕ). n < 2 ^ 16) (λ (n : ℕ). Unit {0})
 u16-reads_back = unsigned-reads_back 16 (omega arith)
 
-pub u32-reads_back : ReadsBack (leaf (unsigned_of 32)) u64 (λ (n : ℕ). n < 2 ^ 32)
+pub u32-reads_back : ReadsBack (leaf (unsigned_of 32)) u64 (λ (n : ℕ). n < 2 ^ 32) (λ (n : ℕ). Unit {0})
 u32-reads_back = unsigned-reads_back 32 (omega arith)
 
-pub u64-reads_back : ReadsBack (leaf (unsigned_of 64)) u64 (λ (n : ℕ). n < 2 ^ 64)
+pub u64-reads_back : ReadsBack (leaf (unsigned_of 64)) u64 (λ (n : ℕ). n < 2 ^ 64) (λ (n : ℕ). Unit {0})
 u64-reads_back = unsigned-reads_back 64 (omega arith)
 
-pub i8-reads_back : ReadsBack (leaf (signed_of 7)) i64 (λ (z : ℤ). IsWithin 7 z)
+pub i8-reads_back : ReadsBack (leaf (signed_of 7)) i64 (λ (z : ℤ). IsWithin 7 z) (λ (z : ℤ). Unit {0})
 i8-reads_back = signed-reads_back 7 (omega arith)
 
-pub i16-reads_back : ReadsBack (leaf (signed_of 15)) i64 (λ (z : ℤ). IsWithin 15 z)
+pub i16-reads_back : ReadsBack (leaf (signed_of 15)) i64 (λ (z : ℤ). IsWithin 15 z) (λ (z : ℤ). Unit {0})
 i16-reads_back = signed-reads_back 15 (omega arith)
 
-pub i32-reads_back : ReadsBack (leaf (signed_of 31)) i64 (λ (z : ℤ). IsWithin 31 z)
+pub i32-reads_back : ReadsBack (leaf (signed_of 31)) i64 (λ (z : ℤ). IsWithin 31 z) (λ (z : ℤ). Unit {0})
 i32-reads_back = signed-reads_back 31 (omega arith)
 
-pub i64-reads_back : ReadsBack (leaf (signed_of 63)) i64 (λ (z : ℤ). IsWithin 63 z)
+pub i64-reads_back : ReadsBack (leaf (signed_of 63)) i64 (λ (z : ℤ). IsWithin 63 z) (λ (z : ℤ). Unit {0})
 i64-reads_back = signed-reads_back 63 (omega arith)

@@ -162,9 +162,9 @@ as_read-u128 n _ h (u128_is_whole _) = by (nat_lt n (2 ^ 64))
     by true = unsigned-some n h
     by false = unsigned_text-some n h
 
-pub u128-reads_back : ReadsBack (leaf u128_of) u128 (λ (n : ℕ). n < 2 ^ 128)
+pub u128-reads_back : ReadsBack (leaf u128_of) u128 (λ (n : ℕ). n < 2 ^ 128) (λ (n : ℕ). Unit {0})
 unfolding WellFormed RawParts
-u128-reads_back n h = leaf-back u128_of (λ ts. refl) (λ ps. refl) n (u128 n) h tt (λ read how. as_read-u128 n read h how)
+u128-reads_back n h readable = leaf-back u128_of (λ ts. refl) (λ ps. refl) n (u128 n) h tt (λ read how. as_read-u128 n read h how)
 
 as_read-i128 : (z : ℤ) (read : Tree) → IsWithin 127 z → ReadsAs as_array (i128 z) read → i128_of read ≡ Some z
 as_read-i128 (pos n) _ h (i128_is_whole _) = by (nat_lt n (2 ^ 64))
@@ -178,6 +178,6 @@ as_read-i128 (negsuc n) _ h (i128_is_whole _) = by (nat_lt n (2 ^ 63))
     by true = signed-some (negsuc n) h
     by false = signed_text-some (negsuc n) h
 
-pub i128-reads_back : ReadsBack (leaf i128_of) i128 (λ (z : ℤ). IsWithin 127 z)
+pub i128-reads_back : ReadsBack (leaf i128_of) i128 (λ (z : ℤ). IsWithin 127 z) (λ (z : ℤ). Unit {0})
 unfolding WellFormed RawParts
-i128-reads_back z h = leaf-back i128_of (λ ts. refl) (λ ps. refl) z (i128 z) h tt (λ read how. as_read-i128 z read h how)
+i128-reads_back z h readable = leaf-back i128_of (λ ts. refl) (λ ps. refl) z (i128 z) h tt (λ read how. as_read-i128 z read h how)

@@ -92,8 +92,8 @@ mutual
       (members-depth depth other false members)
 
 -- The text of a readable value reads as the value wherever it stands within a list or an object.
-pub reads-inside : {V : Type 0} (reading : List ℕ → Node → Option V) (tree_by : V → Tree) (readable : V → Type 0) → SameReading reading →
-    ReadsBack reading tree_by readable → (v : V) → readable v → ReadsAnywhere reading (text default_options 1 (tree_by v)) v
-reads-inside reading tree_by readable same back v r =
+pub reads-inside : {V : Type 0} (reading : List ℕ → Node → Option V) (tree_by : V → Tree) (always readable : V → Type 0) → SameReading reading →
+    ReadsBack reading tree_by always readable → (v : V) → always v → readable v → ReadsAnywhere reading (text default_options 1 (tree_by v)) v
+reads-inside reading tree_by always readable same back v h r =
     subst (λ t. ReadsAnywhere reading t v) (text-depth 0 1 (tree_by v))
-    (reads-anywhere reading same (text default_options 0 (tree_by v)) v (back v r).1)
+    (reads-anywhere reading same (text default_options 0 (tree_by v)) v (back v h r).1)

@@ -1,6 +1,6 @@
 -- Values that may be null: nodes of the same text are read alike, and what is written comes back.
 use Rattle.std.specs.Prelude.{ℕ, List, cond, slice_range}
-use Rattle.std.specs.Option.{option_map}
+use Rattle.std.specs.Option.{option_map, IfSome}
 use Rattle.std.proofs.Common.{◌≡◌, ℕ, Bool, true, false, List, Option, None, Some, refl, sym, ap, ◌∙◌, subst}
 use Rattle.facet_format.specs.Number.{Number, number}
 use Rattle.facet_format.specs.Number as numbers
@@ -111,11 +111,11 @@ none-back reading =
       },
     )
 
-pub optional-reads_back : {V : Type 0} (reading : List ℕ → Node → Option V) (tree_of : V → Tree) (readable : V → Type 0) →
-    ReadsBack reading tree_of readable → ReadsBack (optional reading) (optional_tree tree_of) (OptionalReadable tree_of readable)
-optional-reads_back reading tree_of readable back None comes = none-back reading
-optional-reads_back reading tree_of readable back (Some v) comes =
-    let b = back v comes.0 in
+pub optional-reads_back : {V : Type 0} (reading : List ℕ → Node → Option V) (tree_of : V → Tree) (always readable : V → Type 0) →
+    ReadsBack reading tree_of always readable → ReadsBack (optional reading) (optional_tree tree_of) (λ o. IfSome o always) (OptionalReadable tree_of readable)
+optional-reads_back reading tree_of always readable back None has comes = none-back reading
+optional-reads_back reading tree_of always readable back (Some v) has comes =
+    let b = back v has comes.0 in
     let written = text default_options 0 (tree_of v) in
     let other = not-null written b.1.root b.1.tree b.1.document comes.1 (is_null b.1.root) refl in (
       b.0,

@@ -1,16 +1,22 @@
 -- The entries of a map of std, as they are seen.
 use Rattle.std.specs.Prelude.{ℕ, List, string_bytes}
-use Rattle.std.proofs.Common.{◌≡◌, ◌<◌, ◌≤◌, List, [], ◌∷◌, Option, Some, refl, ap, ◌∙◌, arith}
+use Rattle.std.proofs.Common.{◌≡◌, ◌<◌, ◌≤◌, true, List, [], ◌∷◌, Option, Some, refl, ap, ◌∙◌, arith}
 use Rattle.std.specs.BTreeMap.{insert_entry}
+use Rattle.std.specs.List.{All, AllByRecursion}
+use Rattle.std.specs.List.Sorted.{IsStrictlySortedBy}
+use Rattle.std.specs.Map.{keys_of}
 use Rattle.std.specs.Option.{option_map}
 use Rattle.std.specs.Ordering.{match_ordering}
+use Rattle.std.specs.Str.{is_utf8}
 use Rattle.std.specs.String.{string_cmp}
 use Rattle.std.specs.declared.cmp.Ordering.{Ordering}
 use Rattle.std.specs.declared.cmp.Ordering.TheVariants.{Less, Equal, Greater}
 use Rattle.std.specs.declared.string.String.{String}
+use Rattle.std.proofs.lemmas.List.Elements.{All-nil, All-cons, All-head, All-tail}
+use Rattle.std.proofs.lemmas.Str.{is_utf8-from_IsUtf8, IsUtf8-string_bytes}
 use Rattle.facet_json_document.specs.Node.{Node}
 use Rattle.facet_json_protocol.specs.Now.{Now, ahead, GoesOn}
-use Rattle.facet_json_meaning.specs.Maps.{seen_entries, with_entry}
+use Rattle.facet_json_meaning.specs.Maps.{seen_entries, by_bytes, with_entry, IsMap}
 use Rattle.facet_json_meaning.specs.Nodes.{KeepsOn}
 use Rattle.facet_json_meaning.specs.Objects.{BeginsObject, PassesKey}
 use Rattle.facet_json_meaning.specs.Reading.{IsRead}
@@ -31,6 +37,48 @@ seen-inserted view [] key value = refl
 seen-inserted view (e ∷ entries) key value =
     match_ordering-same (seen_entries view) (string_cmp key e.0) _ _ _ _ _ _ refl refl
     (ap (λ es. (string_bytes e.0, view e.1) ∷ es) (seen-inserted view entries key value))
+
+-- What is so of each value, and of a new one, is so of each after the new one was put in.
+pub all-inserted : {K X : Type 0} (cmp : K → K → Ordering) (P : X → Type 0) (entries : List (K × X)) (key : K) (value : X) → All (λ e. P e.1) entries →
+    P value → All (λ e. P e.1) (insert_entry cmp entries key value)
+all-inserted cmp P [] key value all is = All-cons (λ e. P e.1) (key, value) [] is (All-nil (λ e. P e.1))
+all-inserted cmp P (e ∷ entries) key value all is = by (all-inserted cmp P entries key value others is) (cmp key e.0)
+  where
+    others : All (λ e. P e.1) entries
+    others = All-tail (λ e. P e.1) e entries all
+
+    by : All (λ e. P e.1) (insert_entry cmp entries key value) → (o : Ordering) →
+        All (λ e. P e.1) (match_ordering o ((key, value) ∷ e ∷ entries) ((e.0, value) ∷ entries) (e ∷ insert_entry cmp entries key value))
+    by later Less = All-cons (λ e. P e.1) (key, value) (e ∷ entries) is all
+    by later Equal = All-cons (λ e. P e.1) (e.0, value) entries is others
+    by later Greater = All-cons (λ e. P e.1) e _ (All-head (λ e. P e.1) e entries all) later
+
+-- ---- what every map has
+
+abbrev IsNamed : {V : Type 0} → List ℕ × V → Type 0
+IsNamed e = is_utf8 e.0 ≡ true
+
+module _ {Z T V : Type 0} (view : T → V) where
+  seen-above : (key : String Z) (entries : List (String Z × T)) → AllByRecursion (λ k. string_cmp key k ≡ Less) (keys_of entries) →
+      AllByRecursion (λ k. by_bytes (string_bytes key) k ≡ Less) (keys_of (seen_entries view entries))
+  seen-above key [] above = tt
+  seen-above key (e ∷ entries) above = (above.0, seen-above key entries above.1)
+
+  -- Keys that ascend are seen to ascend.
+  seen-sorted : (entries : List (String Z × T)) → IsStrictlySortedBy string_cmp (keys_of entries) →
+      IsStrictlySortedBy by_bytes (keys_of (seen_entries view entries))
+  unfolding IsStrictlySortedBy
+  seen-sorted [] sorted = tt
+  seen-sorted (e ∷ entries) sorted = (seen-above e.0 entries sorted.0, seen-sorted entries sorted.1)
+
+  seen-texts : (entries : List (String Z × T)) → All IsNamed (seen_entries view entries)
+  seen-texts [] = All-nil IsNamed
+  seen-texts (e ∷ entries) = All-cons IsNamed _ _ (is_utf8-from_IsUtf8 (string_bytes e.0) (IsUtf8-string_bytes e.0)) (seen-texts entries)
+
+  -- A map of std, each of whose values has what every one has, is seen as what every map has.
+  pub seen-map : (always : V → Type 0) (entries : List (String Z × T)) → IsStrictlySortedBy string_cmp (keys_of entries) →
+      All (λ e. always e.1) (seen_entries view entries) → IsMap always (seen_entries view entries)
+  seen-map always entries sorted values = record { ascend = seen-sorted entries sorted; texts = seen-texts entries; values = values }
 
 -- ---- a map that is being read
 

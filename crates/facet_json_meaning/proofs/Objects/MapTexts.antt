@@ -14,7 +14,7 @@ use Rattle.facet_json_document.specs.Text.{text, members_text, default_options}
 use Rattle.facet_json_document.specs.Tree.{Tree, no_pairs}
 use Rattle.facet_json_written.specs.AsRead.{RawParts, RawMembers, IsDocumentText}
 use Rattle.facet_json_meaning.specs.Laws.{SameReading, ReadsBack}
-use Rattle.facet_json_meaning.specs.Maps.{Entries, by_bytes, with_entry, with_members, map_of, pairs_of_entries, tree_of_entries, IsReadableMap}
+use Rattle.facet_json_meaning.specs.Maps.{Entries, by_bytes, with_entry, with_members, map_of, pairs_of_entries, tree_of_entries, IsMap, IsReadableMap}
 use Rattle.facet_json_meaning.proofs.Objects.MapReadings.{first-is}
 use Rattle.facet_json_meaning.proofs.Objects.ObjectTexts.{Joins, MembersAnywhere, members-none, members-join, object-whole}
 use Rattle.facet_json_meaning.proofs.Nodes.TextsWithin.{reads-alone, reads-inside}
@@ -61,33 +61,39 @@ module _ {V : Type 0} (reading : List ℕ → Node → Option V) where
 
 -- ---- back from the text
 
-module _ {V : Type 0} (reading : List ℕ → Node → Option V) (tree_by : V → Tree) (readable : V → Type 0) (same : SameReading reading)
-    (back : ReadsBack reading tree_by readable) where
+module _ {V : Type 0} (reading : List ℕ → Node → Option V) (tree_by : V → Tree) (always readable : V → Type 0) (same : SameReading reading)
+    (back : ReadsBack reading tree_by always readable) where
   abbrev IsText : List ℕ × V → Type 0
   IsText e = is_utf8 e.0 ≡ true
+
+  abbrev Has : List ℕ × V → Type 0
+  Has e = always e.1
 
   abbrev IsBack : List ℕ × V → Type 0
   IsBack e = readable e.1
 
-  all-members : (entries : Entries V) → All IsText entries → All IsBack entries →
+  all-members : (entries : Entries V) → All IsText entries → All Has entries → All IsBack entries →
       MembersAnywhere (members_text default_options 0 true (pairs_of_entries tree_by entries)) (AreEntries reading entries)
   unfolding text
-  all-members [] texts values = members-none (AreEntries reading []) (no-entries reading tree_by [] refl)
-  all-members (e ∷ entries) texts values =
+  all-members [] texts have values = members-none (AreEntries reading []) (no-entries reading tree_by [] refl)
+  all-members (e ∷ entries) texts have values =
       members-join reading e.0 e.1 (AreEntries reading entries) (AreEntries reading (e ∷ entries)) (entry-joins reading e.0 e.1 entries) (tree_by e.1)
-      (pairs_of_entries tree_by entries) (All-head IsText e entries texts) (reads-inside reading tree_by readable same back e.1 (All-head IsBack e entries values)) (no-entries reading tree_by entries)
-      (all-members entries (All-tail IsText e entries texts) (All-tail IsBack e entries values))
+      (pairs_of_entries tree_by entries) (All-head IsText e entries texts) (reads-inside reading tree_by always readable same back e.1 (All-head Has e entries have) (All-head IsBack e entries values)) (no-entries reading tree_by entries)
+      (all-members entries (All-tail IsText e entries texts) (All-tail Has e entries have) (All-tail IsBack e entries values))
 
-  all-raw : (entries : Entries V) → All IsBack entries → RawMembers IsDocumentText (pairs_of_entries tree_by entries)
+  all-raw : (entries : Entries V) → All Has entries → All IsBack entries → RawMembers IsDocumentText (pairs_of_entries tree_by entries)
   unfolding RawMembers
-  all-raw [] values = tt
-  all-raw (e ∷ entries) values = ((back e.1 (All-head IsBack e entries values)).0, all-raw entries (All-tail IsBack e entries values))
+  all-raw [] have values = tt
+  all-raw (e ∷ entries) have values = (
+    (back e.1 (All-head Has e entries have) (All-head IsBack e entries values)).0,
+    all-raw entries (All-tail Has e entries have) (All-tail IsBack e entries values),
+  )
 
-  pub map-reads_back : ReadsBack (map_of reading) (tree_of_entries tree_by) (IsReadableMap readable)
+  pub map-reads_back : ReadsBack (map_of reading) (tree_of_entries tree_by) (IsMap always) (IsReadableMap readable)
   unfolding text RawParts
-  map-reads_back entries is = (
-    all-raw entries is.values,
+  map-reads_back entries is values = (
+    all-raw entries is.values values,
     reads-alone (map_of reading) (text default_options 0 (tree_of_entries tree_by entries)) entries
         (object-whole (map_of reading) entries (AreEntries reading entries) (members_text default_options 0 true (pairs_of_entries tree_by entries))
-        (λ buffer first last members read. read [] ∙ ap Some (put-sorted entries is.ascend)) (all-members entries is.texts is.values)),
+        (λ buffer first last members read. read [] ∙ ap Some (put-sorted entries is.ascend)) (all-members entries is.texts is.values values)),
   )

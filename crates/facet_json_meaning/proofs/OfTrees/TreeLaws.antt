@@ -6,7 +6,7 @@ use Rattle.facet_json_document.specs.Meaning.{tree_of, trees_of, pairs_of, text_
 use Rattle.facet_json_document.specs.Node.{Nodes, Members}
 use Rattle.facet_json_document.specs.Text.{as_array, default_options}
 use Rattle.facet_json_document.specs.Tree.{Tree, list, pairs, Trees, Pairs}
-use Rattle.facet_json_written.specs.AsRead.{RawParts, RawItems, RawMembers, IsDocumentText, null_is_null, unit_is_null, bool_is_itself, char_is_text, i64_is_whole, u64_is_whole, i128_is_whole, u128_is_whole, decimal_is_itself, text_is_itself, bytes_are_read, raw_is_read, list_is_list, pairs_are_pairs, ItemsReadAs, no_items, one_item, MembersReadAs, no_members, one_member}
+use Rattle.facet_json_written.specs.AsRead.{WellFormed, RawParts, RawItems, RawMembers, IsDocumentText, null_is_null, unit_is_null, bool_is_itself, char_is_text, i64_is_whole, u64_is_whole, i128_is_whole, u128_is_whole, decimal_is_itself, text_is_itself, bytes_are_read, raw_is_read, list_is_list, pairs_are_pairs, ItemsReadAs, no_items, one_item, MembersReadAs, no_members, one_member}
 use Rattle.facet_json_written.specs.AsRead as written
 use Rattle.facet_json_written.proofs.Values.Readings.{one_reading}
 use Rattle.facet_json_written.proofs.Values.TreeTexts.{written_is_read}
@@ -69,11 +69,11 @@ mutual
   raw_members-read _ _ no_members = tt
   raw_members-read _ _ (one_member key t value members values h more) = (raw-read t value h, raw_members-read members values more)
 
-pub tree-reads_back : ReadsBack tree_of (λ t. t) IsReadableTree
-tree-reads_back t readable =
-    let raw = raw-read t t readable.itself in
-    let back = written_is_read default_options t refl readable.of_rust raw in
-    let same : back.value ≡ t = one_reading as_array t back.value t back.as_read readable.itself in (
+pub tree-reads_back : ReadsBack tree_of (λ t. t) WellFormed IsReadableTree
+tree-reads_back t well readable =
+    let raw = raw-read t t readable in
+    let back = written_is_read default_options t refl well raw in
+    let same : back.value ≡ t = one_reading as_array t back.value t back.as_read readable in (
       raw,
       record {
         root = back.root;

@@ -131,25 +131,31 @@ module _ {V : Type 0} (reading : List ℕ → Node → Option V) where
         };
   }
 
-module _ {V : Type 0} (reading : List ℕ → Node → Option V) (tree_by : V → Tree) (readable : V → Type 0) (same : SameReading reading)
-    (back : ReadsBack reading tree_by readable) where
-  all-items : (values : List V) → All readable values → ItemsReadAnywhere reading (items_text default_options 0 true (trees_by tree_by values)) values
+module _ {V : Type 0} (reading : List ℕ → Node → Option V) (tree_by : V → Tree) (always readable : V → Type 0) (same : SameReading reading)
+    (back : ReadsBack reading tree_by always readable) where
+  all-items : (values : List V) → All always values → All readable values → ItemsReadAnywhere reading (items_text default_options 0 true (trees_by tree_by values)) values
   unfolding text
-  all-items [] all = items-none reading
-  all-items (v ∷ []) all = items-last reading (text default_options 1 (tree_by v)) v (reads-inside reading tree_by readable same back v (All-head readable v [] all))
-  all-items (v ∷ u ∷ values) all =
+  all-items [] have all = items-none reading
+  all-items (v ∷ []) have all =
+      items-last reading (text default_options 1 (tree_by v)) v
+      (reads-inside reading tree_by always readable same back v (All-head always v [] have) (All-head readable v [] all))
+  all-items (v ∷ u ∷ values) have all =
       items-more reading (text default_options 1 (tree_by v)) (items_text default_options 0 true (trees_by tree_by (u ∷ values))) v (u ∷ values)
-      (reads-inside reading tree_by readable same back v (All-head readable v (u ∷ values) all)) (all-items (u ∷ values) (All-tail readable v (u ∷ values) all))
+      (reads-inside reading tree_by always readable same back v (All-head always v (u ∷ values) have) (All-head readable v (u ∷ values) all))
+      (all-items (u ∷ values) (All-tail always v (u ∷ values) have) (All-tail readable v (u ∷ values) all))
 
-  all-raw : (values : List V) → All readable values → RawItems IsDocumentText (trees_by tree_by values)
+  all-raw : (values : List V) → All always values → All readable values → RawItems IsDocumentText (trees_by tree_by values)
   unfolding RawItems
-  all-raw [] all = tt
-  all-raw (v ∷ values) all = ((back v (All-head readable v values all)).0, all-raw values (All-tail readable v values all))
+  all-raw [] have all = tt
+  all-raw (v ∷ values) have all = (
+    (back v (All-head always v values have) (All-head readable v values all)).0,
+    all-raw values (All-tail always v values have) (All-tail readable v values all),
+  )
 
-  pub list-reads_back : ReadsBack (list_of reading) (list_by tree_by) (λ vs. All readable vs)
+  pub list-reads_back : ReadsBack (list_of reading) (list_by tree_by) (λ vs. All always vs) (λ vs. All readable vs)
   unfolding text RawParts
-  list-reads_back values all = (
-    all-raw values all,
+  list-reads_back values have all = (
+    all-raw values have all,
     reads-alone (list_of reading) (text default_options 0 (list_by tree_by values)) values
-        (list-whole reading (items_text default_options 0 true (trees_by tree_by values)) values (all-items values all)),
+        (list-whole reading (items_text default_options 0 true (trees_by tree_by values)) values (all-items values have all)),
   )

@@ -11,3 +11,9 @@ returns-else-borrows-clause-read g c = rw c.if-borrows.false c.read_owned.ensure
 
 pub returns-else-borrows-clause-unread : goal.returns-else-borrows-clause-unread
 returns-else-borrows-clause-unread g c = rw c.if-borrows.false c.read_owned.ensures.unread
+
+pub returns-then-borrows-clause-owned : goal.returns-then-borrows-clause-owned
+returns-then-borrows-clause-owned g c lent = absurd (cc)
+
+pub returns-else-borrows-clause-owned : goal.returns-else-borrows-clause-owned
+returns-else-borrows-clause-owned g c lent = c.read_owned.ensures.owned

@@ -1,5 +1,6 @@
 use Rattle.std.proofs.Common.{◌≡◌, false, true, cond, List, [], ◌∷◌, ◌++◌, map, sym, ap, ◌∙◌, subst, arith, rules}
 use Rattle.std.proofs.lemmas.List.{map-append}
+use Rattle.std.proofs.lemmas.List.Elements.{All-nil, All-push, All-same}
 use Rattle.std.proofs.lemmas.Result.{err_from_is_err_and}
 use Rattle.facet_format.specs.Views.{refusal_of}
 use Rattle.facet_json_meaning.proofs.Keeping.{keeps-then}
@@ -21,6 +22,7 @@ loop-items-init g c =
       so_far =
           subst (λ (vs : List g.T.Facet.View). ReadSoFar reading c.args.parser.now vs c.begin_list.new.parser)
           (sym (ap (map g.T.Facet.view) c.new-items.ensures.items)) begun;
+      owned = λ lent. All-same g.T.Facet.owned _ [] c.new-items.ensures.items (All-nil g.T.Facet.owned);
       keeps = goes-keeps _ _ c.begin_list.ensures.onward;
       shorter = c.in_ok-begin_list.ensures.shorter;
     }
@@ -52,6 +54,9 @@ loop-items-preserved g c =
     ap (map view) c.in_ok-push.ensures.items ∙ map-append view c.loop-items.items.items (v ∷ []) in
     record {
       so_far = subst (λ (vs : List g.T.Facet.View). ReadSoFar reading c.args.parser.now vs c.item_in.new.parser) (sym seen) more;
+      owned = λ lent.
+          All-same g.T.Facet.owned _ _ c.in_ok-push.ensures.items
+          (All-push g.T.Facet.owned c.loop-items.items.items v (i.owned lent) (c.in_ok-item_in.ensures.owned lent));
       keeps = keeps-then _ _ _ (keeps-then _ _ _ i.keeps (goes-keeps _ _ c.end_comes.ensures.onward)) c.item_in.ensures.keeps;
       shorter = omega (arith, i.shorter, c.end_comes.ensures.onward.onward, c.in_ok-item_in.ensures.shorter);
     }
@@ -70,6 +75,12 @@ returns-clause-read g c =
     let ends : c.in_ok-end_comes.field-0 ≡ true = search rules in
     let before = list-stops reading _ _ c.end_comes.new.parser _ _ ends c.loop-items.invariant.so_far c.in_ok-end_comes.ensures.finds in
     list-ends reading _ _ _ _ _ before c.in_ok-_end.ensures.walks
+
+pub returns-clause-owned : goal.returns-clause-owned
+returns-clause-owned g c lent = c.loop-items.invariant.owned lent
+
+pub returns-in_err-begin_list-clause-owned : goal.returns-in_err-begin_list-clause-owned
+returns-in_err-begin_list-clause-owned c = search rules
 
 pub returns-in_err-begin_list-clause-read : goal.returns-in_err-begin_list-clause-read
 returns-in_err-begin_list-clause-read c = search rules

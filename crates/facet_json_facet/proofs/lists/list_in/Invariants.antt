@@ -1,4 +1,5 @@
-use Rattle.std.proofs.Common.{◌<◌, cond, map}
+use Rattle.std.proofs.Common.{◌≡◌, ◌<◌, false, cond, map}
+use Rattle.std.specs.List.{All}
 use Rattle.facet_json_protocol.specs.Now.{ahead}
 use Rattle.facet_json_meaning.specs.Nodes.{KeepsOn}
 use Rattle.facet_json_meaning.proofs.Sequences.ListSteps.{ReadSoFar}
@@ -7,6 +8,7 @@ use Rattle.facet_json_facet.proofs.lists.list_in.Given as goal
 abbrev pub invariant-loop-items : goal.invariant-loop-items
 invariant-loop-items g l = record {
   so_far : ReadSoFar (cond l.fn.borrows g.T.Facet.reading_borrowed g.T.Facet.reading) l.fn.parser (map g.T.Facet.view l.items.items) l.parser;
+  owned : l.fn.borrows ≡ false → All g.T.Facet.owned l.items.items;
   keeps : KeepsOn l.fn.parser l.parser;
   shorter : ahead l.parser < ahead l.fn.parser;
 }

@@ -18,13 +18,16 @@ pub loop-slots-init : goal.loop-slots-init
 loop-slots-init g c =
     let begun = c.in_ok-begin_object.ensures in
     let t = table g.F.Fields.start (g.F.Fields.step c.args.borrows) g.F.Fields.ends in
-    rw c.none-slots.ensures (way-begin t (keys c.args.names.now) _ _ begun.begun begun.onward begun.shorter)
+    record {
+      way = rw c.none-slots.ensures.none (way-begin t (keys c.args.names.now) _ _ begun.begun begun.onward begun.shorter);
+      owned = λ kept. c.none-slots.ensures.owned;
+    }
 
 pub returns-in_err-key-clause-unread : goal.returns-in_err-key-clause-unread
 returns-in_err-key-clause-unread g c =
     let p = err_from_is_err_and c.from_residual-in_err-key.result c.from_residual-in_err-key.ensures.1 in
     let t = table g.F.Fields.start (g.F.Fields.step c.args.borrows) g.F.Fields.ends in
-    rw (p.1, p.2) (fields-no_key t (keys c.args.names.now) _ _ _ (refusal_of c.in_err-key.field-0.0) c.loop-slots.invariant.left c.in_err-key.ensures.lacks)
+    rw (p.1, p.2) (fields-no_key t (keys c.args.names.now) _ _ _ (refusal_of c.in_err-key.field-0.0) c.loop-slots.invariant.way.left c.in_err-key.ensures.lacks)
 
 pub returns-in_err-put-clause-unread : goal.returns-in_err-put-clause-unread
 returns-in_err-put-clause-unread g c =
@@ -32,33 +35,45 @@ returns-in_err-put-clause-unread g c =
     let t = table g.F.Fields.start (g.F.Fields.step c.args.borrows) g.F.Fields.ends in
     let named = rw c.in-Some.is at c.in_ok-key.ensures.passed in
     let unread = rw (c.as_str.ensures.value ∙ held-bytes c.in-Some.key) at c.in_err-put.ensures.unread in
-    rw (p.1, p.2) (fields-no_value t (keys c.args.names.now) _ _ _ _ (bytes_of (text_of c.in-Some.key)) (refusal_of c.in_err-put.field-0.0) c.loop-slots.invariant.left named unread)
+    rw (p.1, p.2) (fields-no_value t (keys c.args.names.now) _ _ _ _ (bytes_of (text_of c.in-Some.key)) (refusal_of c.in_err-put.field-0.0) c.loop-slots.invariant.way.left named unread)
 
 pub loop-slots-preserved : goal.loop-slots-preserved
 loop-slots-preserved g c =
     let t = table g.F.Fields.start (g.F.Fields.step c.args.borrows) g.F.Fields.ends in
     let named = rw c.in-Some.is at c.in_ok-key.ensures.passed in
     let read = rw (c.as_str.ensures.value ∙ held-bytes c.in-Some.key) at c.in_ok-put.ensures.read in
-    way-goes_on t (keys c.args.names.now) c.args.parser.now c.loop-slots.parser c.next_name.new.parser c.put.new.parser _ _ (bytes_of (text_of c.in-Some.key)) c.loop-slots.invariant named c.in_ok-key.ensures.onward read c.in_ok-put.ensures.keeps
+    record {
+      way = way-goes_on t (keys c.args.names.now) c.args.parser.now c.loop-slots.parser c.next_name.new.parser c.put.new.parser _ _ (bytes_of (text_of c.in-Some.key)) c.loop-slots.invariant.way named c.in_ok-key.ensures.onward read c.in_ok-put.ensures.keeps;
+      owned = λ kept. c.in_ok-put.ensures.owned kept (c.loop-slots.invariant.owned kept);
+    }
 
 pub loop-slots-preserved-in_ok-put : goal.loop-slots-preserved-in_ok-put
 loop-slots-preserved-in_ok-put g c =
     let t = table g.F.Fields.start (g.F.Fields.step c.args.borrows) g.F.Fields.ends in
     let named = rw c.in-Some.is at c.in_ok-key.ensures.passed in
     let read = rw (c.as_str.ensures.value ∙ held-bytes c.in-Some.key) at c.in_ok-put.ensures.read in
-    way-goes_on t (keys c.args.names.now) c.args.parser.now c.loop-slots.parser c.next_name.new.parser c.put.new.parser _ _ (bytes_of (text_of c.in-Some.key)) c.loop-slots.invariant named c.in_ok-key.ensures.onward read c.in_ok-put.ensures.keeps
+    record {
+      way = way-goes_on t (keys c.args.names.now) c.args.parser.now c.loop-slots.parser c.next_name.new.parser c.put.new.parser _ _ (bytes_of (text_of c.in-Some.key)) c.loop-slots.invariant.way named c.in_ok-key.ensures.onward read c.in_ok-put.ensures.keeps;
+      owned = λ kept. c.in_ok-put.ensures.owned kept (c.loop-slots.invariant.owned kept);
+    }
 
 pub returns-clause-read : goal.returns-clause-read
 returns-clause-read g c =
     let t = table g.F.Fields.start (g.F.Fields.step c.args.borrows) g.F.Fields.ends in
     let ended = rw c.in_default.is at c.in_ok-key.ensures.passed in
-    IfOk-weaker c.finish.result _ _ (λ f full. fields-end t (keys c.args.names.now) _ _ _ _ (g.F.Fields.view f) c.loop-slots.invariant.left ended full) c.finish.ensures.full
+    IfOk-weaker c.finish.result _ _ (λ f full. fields-end t (keys c.args.names.now) _ _ _ _ (g.F.Fields.view f) c.loop-slots.invariant.way.left ended full) c.finish.ensures.full
 
 pub returns-clause-unread : goal.returns-clause-unread
 returns-clause-unread g c =
     let t = table g.F.Fields.start (g.F.Fields.step c.args.borrows) g.F.Fields.ends in
     let ended = rw c.in_default.is at c.in_ok-key.ensures.passed in
-    IfErr-weaker c.finish.result _ _ (λ e missing. fields-missing t (keys c.args.names.now) _ _ _ _ (refusal_of e) c.loop-slots.invariant.left ended missing) c.finish.ensures.missing
+    IfErr-weaker c.finish.result _ _ (λ e missing. fields-missing t (keys c.args.names.now) _ _ _ _ (refusal_of e) c.loop-slots.invariant.way.left ended missing) c.finish.ensures.missing
+
+pub returns-clause-owned : goal.returns-clause-owned
+returns-clause-owned g c kept = c.finish.ensures.owned (c.loop-slots.invariant.owned kept)
+
+pub returns-in_err-begin_object-clause-owned : goal.returns-in_err-begin_object-clause-owned
+returns-in_err-begin_object-clause-owned g c kept = tt
 
 pub returns-in_err-begin_object-clause-read : goal.returns-in_err-begin_object-clause-read
 returns-in_err-begin_object-clause-read c = search rules

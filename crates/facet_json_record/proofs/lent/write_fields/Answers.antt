@@ -1,5 +1,6 @@
 use Rattle.std.proofs.Common.{rules}
 use Rattle.facet_json_write.proofs.CallsLeft.{last-answered, last-refused, last-spent}
+use Rattle.facet_json_facet.proofs.ScalarsOfRust.{on-ok}
 use Rattle.facet_json_record.proofs.MemberCalls.{end-left}
 use Rattle.facet_json_record.proofs.lent.write_fields.Goals as goal
 
@@ -29,3 +30,9 @@ returns-in_err-begin_struct-clause-spent c = search rules
 
 pub returns-in_err-begin_struct-clause-of_rust : goal.returns-in_err-begin_struct-clause-of_rust
 returns-in_err-begin_struct-clause-of_rust c = search rules
+
+pub returns-clause-always : goal.returns-clause-always
+returns-clause-always g c = on-ok (g.F.LentFields.always c.args.fields.now) c.end_struct.result c.in_ok-write_members.ensures.always
+
+pub returns-in_err-begin_struct-clause-always : goal.returns-in_err-begin_struct-clause-always
+returns-in_err-begin_struct-clause-always c = search rules

@@ -22,3 +22,9 @@ returns-clause-refused c = search rules
 
 pub returns-clause-read_back : goal.returns-clause-read_back
 returns-clause-read_back c = search rules
+
+pub returns-clause-comes_back : goal.returns-clause-comes_back
+returns-clause-comes_back g c default = search rules
+
+pub returns-in_err-bytes-clause-comes_back : goal.returns-in_err-bytes-clause-comes_back
+returns-in_err-bytes-clause-comes_back g c default = tt

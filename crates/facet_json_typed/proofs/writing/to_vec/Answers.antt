@@ -1,12 +1,8 @@
 use Rattle.std.proofs.Common.{rules}
-use Rattle.facet_json_typed.proofs.ComesBack.{answered-comes_back}
 use Rattle.facet_json_typed.proofs.writing.to_vec.Goals as goal
 
 pub returns-clause-comes_back : goal.returns-clause-comes_back
-returns-clause-comes_back g c =
-    let claim : g.claim c.lifetimes = search rules in
-    let laws = g.met.T.Facet c.lifetimes claim in
-    answered-comes_back (λ v. v.items) _ _ _ laws.reads_back _ _ (rw c.new.ensures at c.to_vec_with_options.ensures.text)
+returns-clause-comes_back g c = c.to_vec_with_options.ensures.comes_back c.new.ensures
 
 pub returns-clause-text : goal.returns-clause-text
 returns-clause-text c = search rules

@@ -4,6 +4,7 @@ use Rattle.facet_json_document.specs.Text.{text}
 use Rattle.facet_json_options.specs.Views.{options_of}
 use Rattle.facet_json_write.proofs.ReadBack.{answered-readable}
 use Rattle.facet_json_write.proofs.Utf8Text.{answered-utf8}
+use Rattle.facet_json_typed.proofs.ComesBack.{answered-comes_back}
 use Rattle.facet_json_typed.proofs.writing.to_vec_with_options.Goals as goal
 
 pub returns-clause-utf8 : goal.returns-clause-utf8
@@ -38,3 +39,15 @@ returns-clause-text c = search rules
 
 pub returns-clause-refused : goal.returns-clause-refused
 returns-clause-refused c = search rules
+
+pub returns-clause-comes_back : goal.returns-clause-comes_back
+returns-clause-comes_back g c default =
+    let claim : g.claim c.lifetimes = search rules in
+    let laws = g.met.T.Facet c.lifetimes claim in
+    let o = options_of c.args.options.now in
+    let t = g.T.Facet.tree_of (g.T.Facet.view c.args.value.now) in
+    let is : IfOk c.finish.result (λ v. v.items ≡ text o 0 t) = search rules in
+    answered-comes_back (λ v. v.items) _ _ _ _ laws.reads_back c.finish.result _ o c.in_ok-write.ensures.always is default
+
+pub returns-in_err-write-clause-comes_back : goal.returns-in_err-write-clause-comes_back
+returns-in_err-write-clause-comes_back g c default = tt

@@ -1,4 +1,4 @@
-use Rattle.std.proofs.Common.{rules}
+use Rattle.std.proofs.Common.{refl, rules}
 use Rattle.facet_json_facet.proofs.lists.VecFacet.read_owned.Goals as goal
 
 pub returns-clause-read : goal.returns-clause-read
@@ -21,3 +21,6 @@ returns-clause-shorter c = search rules
 
 pub returns-clause-within : goal.returns-clause-within
 returns-clause-within c = search rules
+
+pub returns-clause-owned : goal.returns-clause-owned
+returns-clause-owned g c = c.list_in.ensures.owned refl

@@ -1,7 +1,9 @@
-use Rattle.std.proofs.Common.{string_bytes, rules}
+use Rattle.std.proofs.Common.{[], string_bytes, rules}
+use Rattle.std.specs.String.{string_cmp}
+use Rattle.std.proofs.lemmas.List.Elements.{All-nil, All-same}
 use Rattle.std.proofs.lemmas.Result.{err_from_is_err_and}
 use Rattle.facet_format.specs.Views.{refusal_of}
-use Rattle.facet_json_meaning.proofs.Objects.MapEntries.{entries-begin, entry-read}
+use Rattle.facet_json_meaning.proofs.Objects.MapEntries.{all-inserted, entries-begin, entry-read}
 use Rattle.facet_json_meaning.proofs.Objects.MapReadings.{map-not_begun, map-no_value, map-no_key, map-ends}
 use Rattle.facet_json_facet.proofs.maps.BTreeMapStringFacet.read_owned.Goals as goal
 
@@ -13,29 +15,43 @@ returns-in_err-begin_object-clause-unread g c =
 pub loop-map-init : goal.loop-map-init
 loop-map-init g c =
     let begun = c.in_ok-begin_object.ensures in
-    entries-begin g.T.Facet.reading g.T.Facet.view _ _ c.new-map.result.entries begun.begun begun.onward begun.shorter c.new-map.ensures.empty
+    record {
+      way = entries-begin g.T.Facet.reading g.T.Facet.view _ _ c.new-map.result.entries begun.begun begun.onward begun.shorter c.new-map.ensures.empty;
+      owned = All-same (λ e. g.T.Facet.owned e.1) _ [] c.new-map.ensures.empty (All-nil (λ e. g.T.Facet.owned e.1));
+    }
 
 pub returns-in_err-key-clause-unread : goal.returns-in_err-key-clause-unread
 returns-in_err-key-clause-unread g c =
     let p = err_from_is_err_and c.from_residual-in_err-key.result c.from_residual-in_err-key.ensures.1 in
-    rw (p.1, p.2) (map-no_key g.T.Facet.reading _ _ _ (refusal_of c.in_err-key.field-0.0) c.loop-map.invariant.left c.in_err-key.ensures.lacks)
+    rw (p.1, p.2) (map-no_key g.T.Facet.reading _ _ _ (refusal_of c.in_err-key.field-0.0) c.loop-map.invariant.way.left c.in_err-key.ensures.lacks)
 
 pub returns-in_err-value-clause-unread : goal.returns-in_err-value-clause-unread
 returns-in_err-value-clause-unread g c =
     let p = err_from_is_err_and c.from_residual-in_err-value.result c.from_residual-in_err-value.ensures.1 in
     let named = rw c.in-Some.is at c.in_ok-key.ensures.passed in
-    rw (p.1, p.2) (map-no_value g.T.Facet.reading _ _ _ _ (string_bytes c.in-Some.key) (refusal_of c.in_err-value.field-0.0) c.loop-map.invariant.left named c.in_err-value.ensures.unread)
+    rw (p.1, p.2) (map-no_value g.T.Facet.reading _ _ _ _ (string_bytes c.in-Some.key) (refusal_of c.in_err-value.field-0.0) c.loop-map.invariant.way.left named c.in_err-value.ensures.unread)
 
 pub loop-map-preserved : goal.loop-map-preserved
 loop-map-preserved g c =
     let key = c.in_ok-key.ensures in
     let value = c.in_ok-value.ensures in
-    entry-read g.T.Facet.reading g.T.Facet.view c.args.parser.now c.loop-map.parser c.next_key.new.parser _ c.loop-map.map.entries c.put.new.map.entries c.in_ok-key.field-0 c.in-Some.key c.in_ok-value.value c.loop-map.invariant key.passed c.in-Some.is key.onward value.read value.keeps c.in_ok-put.ensures.put
+    record {
+      way = entry-read g.T.Facet.reading g.T.Facet.view c.args.parser.now c.loop-map.parser c.next_key.new.parser _ c.loop-map.map.entries c.put.new.map.entries c.in_ok-key.field-0 c.in-Some.key c.in_ok-value.value c.loop-map.invariant.way key.passed c.in-Some.is key.onward value.read value.keeps c.in_ok-put.ensures.put;
+      owned =
+          All-same (λ e. g.T.Facet.owned e.1) _ _ c.in_ok-put.ensures.put
+          (all-inserted string_cmp g.T.Facet.owned c.loop-map.map.entries c.in-Some.key c.in_ok-value.value c.loop-map.invariant.owned value.owned);
+    }
 
 pub returns-clause-read : goal.returns-clause-read
 returns-clause-read g c =
     let ended = rw c.in_default.is at c.in_ok-key.ensures.passed in
-    map-ends g.T.Facet.reading _ _ _ _ c.loop-map.invariant.left ended
+    map-ends g.T.Facet.reading _ _ _ _ c.loop-map.invariant.way.left ended
+
+pub returns-clause-owned : goal.returns-clause-owned
+returns-clause-owned g c = c.loop-map.invariant.owned
+
+pub returns-in_err-begin_object-clause-owned : goal.returns-in_err-begin_object-clause-owned
+returns-in_err-begin_object-clause-owned c = search rules
 
 pub returns-in_err-begin_object-clause-read : goal.returns-in_err-begin_object-clause-read
 returns-in_err-begin_object-clause-read c = search rules

@@ -1,9 +1,13 @@
+use Rattle.std.specs.List.{All}
 use Rattle.facet_json_protocol.specs.Now.{ahead}
 use Rattle.facet_json_meaning.proofs.Objects.MapEntries.{IsUnderWay}
 use Rattle.facet_json_facet.proofs.maps.BTreeMapStringFacet.read_owned.Given as goal
 
 abbrev pub invariant-loop-map : goal.invariant-loop-map
-invariant-loop-map g l = IsUnderWay g.T.Facet.reading g.T.Facet.view l.fn.parser l.map.entries l.parser
+invariant-loop-map g l = record {
+  way : IsUnderWay g.T.Facet.reading g.T.Facet.view l.fn.parser l.map.entries l.parser;
+  owned : All (λ e. g.T.Facet.owned e.1) l.map.entries;
+}
 
 abbrev pub decreases-loop-map : goal.decreases-loop-map
 decreases-loop-map g l = ahead l.parser

@@ -48,3 +48,6 @@ returns-in_err-null_comes-clause-keeps c = search rules
 
 pub returns-in_err-null_comes-clause-shorter : goal.returns-in_err-null_comes-clause-shorter
 returns-in_err-null_comes-clause-shorter c = search rules
+
+pub returns-in_err-null_comes-clause-owned : goal.returns-in_err-null_comes-clause-owned
+returns-in_err-null_comes-clause-owned c = search rules

@@ -2,7 +2,7 @@ use Rattle.std.proofs.Common.{ap, rules}
 use Rattle.std.specs.Option.{option_map}
 use Rattle.facet_json_meaning.specs.Optional.{optional_tree}
 use Rattle.facet_json_write.proofs.ScalarCalls.{scalar-called}
-use Rattle.facet_json_facet.proofs.ScalarsOfRust.{null-of_rust}
+use Rattle.facet_json_facet.proofs.ScalarsOfRust.{on-ok, null-of_rust}
 use Rattle.facet_json_facet.proofs.options.OptionFacet.write.Goals as goal
 
 pub returns-in-None-clause-written : goal.returns-in-None-clause-written
@@ -31,3 +31,10 @@ returns-in-None-clause-refused c = search rules
 
 pub returns-in-None-clause-spent : goal.returns-in-None-clause-spent
 returns-in-None-clause-spent c = search rules
+
+pub returns-in-Some-clause-always : goal.returns-in-Some-clause-always
+returns-in-Some-clause-always c = search rules
+
+pub returns-in-None-clause-always : goal.returns-in-None-clause-always
+returns-in-None-clause-always g c =
+    rw c.in-None.is (on-ok (Unit {0}) c.scalar.result tt)

@@ -1,6 +1,6 @@
-use Rattle.std.proofs.Common.{sym, subst, rules}
+use Rattle.std.proofs.Common.{sym, ap, subst, rules}
 use Rattle.std.proofs.lemmas.Result.{IfOk-weaker}
-use Rattle.facet_format.specs.Event.{bytes_of}
+use Rattle.facet_format.specs.Event.{bytes_of, is_owned}
 use Rattle.facet_json_meaning.specs.Reading.{IsRead}
 use Rattle.facet_json_meaning.specs.Readings.{raw_of}
 use Rattle.facet_json_facet.proofs.raw.RawJsonFacet.read_owned.Goals as goal
@@ -22,3 +22,9 @@ returns-in_err-captured-clause-strict c = search rules
 
 pub returns-in_err-captured-clause-keeps : goal.returns-in_err-captured-clause-keeps
 returns-in_err-captured-clause-keeps c = search rules
+
+pub returns-clause-owned : goal.returns-clause-owned
+returns-clause-owned c = IfOk-weaker c.copied.result _ _ (λ v is. ap is_owned is) c.copied.ensures.copied
+
+pub returns-in_err-captured-clause-owned : goal.returns-in_err-captured-clause-owned
+returns-in_err-captured-clause-owned c = search rules

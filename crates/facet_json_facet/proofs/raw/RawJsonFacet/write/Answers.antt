@@ -5,7 +5,7 @@ use Rattle.facet_format.specs.Event.{bytes_of}
 use Rattle.facet_json_document.specs.Text.{text}
 use Rattle.facet_json_document.specs.Tree.{raw}
 use Rattle.facet_json_write.proofs.ScalarCalls.{raw-called}
-use Rattle.facet_json_facet.proofs.ScalarsOfRust.{raw-of_rust}
+use Rattle.facet_json_facet.proofs.ScalarsOfRust.{on-ok, raw-of_rust}
 use Rattle.facet_json_facet.proofs.raw.RawJsonFacet.write.Goals as goal
 
 pub returns-clause-written : goal.returns-clause-written
@@ -21,3 +21,8 @@ returns-clause-refused c = search rules
 
 pub returns-clause-spent : goal.returns-clause-spent
 returns-clause-spent c = search rules
+
+pub returns-clause-always : goal.returns-clause-always
+returns-clause-always c =
+    on-ok (is_utf8 (bytes_of c.args.self.now) ≡ true) c.raw_scalar.result
+    (subst (λ t. is_utf8 t ≡ true) c.as_str.ensures (is_utf8-from_IsUtf8 _ c.as_str.utf8))

@@ -3,9 +3,10 @@ use Rattle.facet_format.specs.Event as event
 use mir.Val.{to_z, of_z}
 use Rattle.std.proofs.lemmas.Int.{to_z-of_z}
 use Rattle.facet_json_document.specs.Tree.{i64}
+use Rattle.facet_json_written.specs.AsRead.{IsWithin}
 use Rattle.facet_json_write.proofs.ScalarCalls.{scalar-called}
 use Rattle.facet_json_write.proofs.OfRust.{fits-within}
-use Rattle.facet_json_facet.proofs.ScalarsOfRust.{i64-of_rust}
+use Rattle.facet_json_facet.proofs.ScalarsOfRust.{on-ok, i64-of_rust}
 use Rattle.facet_json_facet.proofs.signed.I16Facet.write.Goals as goal
 
 pub returns-clause-written : goal.returns-clause-written
@@ -19,3 +20,8 @@ pub returns-clause-of_rust : goal.returns-clause-of_rust
 returns-clause-of_rust c =
     let fits : SFits w64 c.args.self.now = search rules in
     i64-of_rust c.args.self.now c.scalar.result (fits-within w64 c.args.self.now fits)
+
+pub returns-clause-always : goal.returns-clause-always
+returns-clause-always c =
+    let fits : SFits w16 c.args.self.now = search rules in
+    on-ok (IsWithin 15 c.args.self.now) c.scalar.result (fits-within w16 c.args.self.now fits)

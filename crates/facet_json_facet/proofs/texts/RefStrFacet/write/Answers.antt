@@ -1,7 +1,7 @@
 use Rattle.std.proofs.Common.{refl, rules}
 use Rattle.std.proofs.lemmas.Str.{is_utf8-from_IsUtf8}
 use Rattle.facet_json_write.proofs.ScalarCalls.{scalar-called}
-use Rattle.facet_json_facet.proofs.ScalarsOfRust.{text-of_rust}
+use Rattle.facet_json_facet.proofs.ScalarsOfRust.{on-ok, text-of_rust}
 use Rattle.facet_json_facet.proofs.texts.RefStrFacet.write.Goals as goal
 
 pub returns-clause-written : goal.returns-clause-written
@@ -17,3 +17,6 @@ returns-clause-refused c = search rules
 
 pub returns-clause-spent : goal.returns-clause-spent
 returns-clause-spent c = search rules
+
+pub returns-clause-always : goal.returns-clause-always
+returns-clause-always c = on-ok (Unit {0}) c.scalar.result tt

@@ -1,6 +1,6 @@
 use Rattle.std.proofs.Common.{refl, rules}
 use Rattle.facet_json_write.proofs.ScalarCalls.{scalar-called}
-use Rattle.facet_json_facet.proofs.ScalarsOfRust.{bool-of_rust}
+use Rattle.facet_json_facet.proofs.ScalarsOfRust.{on-ok, bool-of_rust}
 use Rattle.facet_json_facet.proofs.truth.BoolFacet.write.Goals as goal
 
 pub returns-clause-written : goal.returns-clause-written
@@ -14,3 +14,6 @@ returns-clause-refused c = search rules
 
 pub returns-clause-spent : goal.returns-clause-spent
 returns-clause-spent c = search rules
+
+pub returns-clause-always : goal.returns-clause-always
+returns-clause-always c = on-ok (Unit {0}) c.scalar.result tt

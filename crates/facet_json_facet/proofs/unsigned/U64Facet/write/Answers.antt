@@ -1,7 +1,7 @@
 use Rattle.std.proofs.Common.{◌<◌, ◌^◌, refl, rules}
 use Rattle.facet_format.specs.Event as event
 use Rattle.facet_json_write.proofs.ScalarCalls.{scalar-called}
-use Rattle.facet_json_facet.proofs.ScalarsOfRust.{u64-of_rust}
+use Rattle.facet_json_facet.proofs.ScalarsOfRust.{on-ok, u64-of_rust}
 use Rattle.facet_json_facet.proofs.unsigned.U64Facet.write.Goals as goal
 
 pub returns-clause-written : goal.returns-clause-written
@@ -17,3 +17,8 @@ returns-clause-refused c = search rules
 
 pub returns-clause-spent : goal.returns-clause-spent
 returns-clause-spent c = search rules
+
+pub returns-clause-always : goal.returns-clause-always
+returns-clause-always c =
+    let fits : c.args.self.now < 2 ^ 64 = search rules in
+    on-ok (c.args.self.now < 2 ^ 64) c.scalar.result fits

@@ -1,7 +1,7 @@
 use Rattle.std.proofs.Common.{◌<◌, ◌^◌, refl, rules}
 use Rattle.facet_format.specs.Event as event
 use Rattle.facet_json_write.proofs.ScalarCalls.{scalar-called}
-use Rattle.facet_json_facet.proofs.ScalarsOfRust.{u64-of_rust}
+use Rattle.facet_json_facet.proofs.ScalarsOfRust.{on-ok, u64-of_rust}
 use Rattle.facet_json_facet.proofs.unsigned.UsizeFacet.write.Goals as goal
 
 pub returns-clause-written : goal.returns-clause-written
@@ -11,3 +11,8 @@ pub returns-clause-of_rust : goal.returns-clause-of_rust
 returns-clause-of_rust c =
     let fits : c.args.self.now < 2 ^ 64 = search rules in
     u64-of_rust c.args.self.now c.scalar.result fits
+
+pub returns-clause-always : goal.returns-clause-always
+returns-clause-always c =
+    let fits : c.args.self.now < 2 ^ 64 = search rules in
+    on-ok (c.args.self.now < 2 ^ 64) c.scalar.result fits

@@ -1,4 +1,5 @@
 use Rattle.std.proofs.Common.{rules}
+use Rattle.facet_json_facet.proofs.ScalarsOfRust.{on-ok}
 use Rattle.facet_json_record.proofs.fields.DoneFields.put.Goals as goal
 
 pub returns-clause-read : goal.returns-clause-read
@@ -12,3 +13,6 @@ returns-clause-keeps c = search rules
 
 pub returns-clause-within : goal.returns-clause-within
 returns-clause-within c = search rules
+
+pub returns-clause-owned : goal.returns-clause-owned
+returns-clause-owned c kept before = on-ok (Unit {0}) c.pass_value.result tt

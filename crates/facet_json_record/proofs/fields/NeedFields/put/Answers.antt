@@ -36,3 +36,9 @@ returns-in_err-value_in-clause-within c = search rules
 
 pub returns-then-is_first-clause-unread : goal.returns-then-is_first-clause-unread
 returns-then-is_first-clause-unread c = search rules
+
+pub returns-then-is_first-clause-owned : goal.returns-then-is_first-clause-owned
+returns-then-is_first-clause-owned g c kept before = (c.in_ok-value_in.ensures.owned kept, before.1)
+
+pub returns-clause-owned : goal.returns-clause-owned
+returns-clause-owned g c kept before = on_ok_weaker c.put.result (λ others. (before.0, others)) (c.put.ensures.owned kept before.1)

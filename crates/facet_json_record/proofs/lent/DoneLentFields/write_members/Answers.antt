@@ -14,3 +14,6 @@ returns-clause-refused c = search rules
 
 pub returns-clause-spent : goal.returns-clause-spent
 returns-clause-spent c = search rules
+
+pub returns-clause-always : goal.returns-clause-always
+returns-clause-always c = tt

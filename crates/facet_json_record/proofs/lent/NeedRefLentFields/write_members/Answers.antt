@@ -28,3 +28,9 @@ returns-in_err-field_key-clause-spent c = search rules
 
 pub returns-in_err-field_key-clause-of_rust : goal.returns-in_err-field_key-clause-of_rust
 returns-in_err-field_key-clause-of_rust c = search rules
+
+pub returns-clause-always : goal.returns-clause-always
+returns-clause-always g c = on_ok_weaker c.write_members.result (λ more. (c.in_ok-write.ensures.always, more)) c.write_members.ensures.always
+
+pub returns-in_err-field_key-clause-always : goal.returns-in_err-field_key-clause-always
+returns-in_err-field_key-clause-always c = search rules

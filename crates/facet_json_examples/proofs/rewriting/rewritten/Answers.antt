@@ -1,0 +1,28 @@
+use Rattle.std.proofs.Common.{◌≡◌, codes, refl, sym, ap, ◌∙◌, subst}
+use Rattle.std.proofs.lemmas.Result.{err_from_is_err_and}
+use Rattle.facet_json.specs.Complaint.{Complaint, out_of_memory}
+use Rattle.facet_json.specs.Document.{IsWholeDocument}
+use Rattle.facet_json.specs.ErrorKind.{code, read, write}
+use Rattle.facet_json.specs.ErrorViews.{kind_of}
+use Rattle.facet_json.specs.Gap.{plain}
+use Rattle.facet_json.specs.Text.{text, default_options}
+use Rattle.facet_json.specs.TypedTrees.{without_plus}
+use Rattle.facet_json.specs.Views.{tree_view}
+use Rattle.facet_json_examples.proofs.rewriting.rewritten.Goals as goal
+
+pub returns-clause-written : goal.returns-clause-written
+returns-clause-written c =
+    let document = c.in_ok-tree.ensures.document in
+    let value = tree_view c.in_ok-tree.tree in
+    let is = c.in_ok-to_vec.ensures.text in
+    let back = c.document_comes_back.ensures c.args.input.now plain document.0 value default_options document.1 refl in
+    (document.0, value, document.1, is, back.0, subst (λ bytes. IsWholeDocument bytes back.0 (without_plus value)) (sym is) back.1)
+
+pub returns-clause-only : goal.returns-clause-only
+returns-clause-only c root value document =
+    c.in_ok-to_vec.ensures.text ∙ ap (text default_options 0) (c.in_ok-tree.ensures.only root value document)
+
+pub returns-in_err-tree-clause-only : goal.returns-in_err-tree-clause-only
+returns-in_err-tree-clause-only c root value document =
+    let p = err_from_is_err_and c.from_residual.result c.from_residual.ensures.1 in
+    rw (p.1, p.2) (ap (λ (complaint : Complaint). code (read complaint)) (c.in_err-tree.ensures.only root value document))
