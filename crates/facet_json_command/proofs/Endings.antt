@@ -1,10 +1,10 @@
 -- How `events` ends after what it printed, once that is on its way.
-use Rattle.std.proofs.Common.{◌≡◌, ◌≢◌, ◌⊎◌, ℕ, List, [], Option, Some, None, IfSome, sym, subst, ◌∙◌, inl, inr}
+use Rattle.std.proofs.Common.{◌≡◌, ◌≢◌, ◌⊎◌, ℕ, List, [], Option, Some, None, IfSome, refl, sym, subst, ◌∙◌, inl, inr}
 use Rattle.std.specs.Io.KnownBytes.{Keeps}
 use Rattle.facet_json_document.specs.Language.{Language}
 use Rattle.facet_json_command_line.specs.declared.outcome.Outcome.{Outcome}
 use Rattle.facet_json_command_line.specs.declared.outcome.Outcome.TheVariants.{Done, Refused, Io, Usage}
-use Rattle.facet_json_command.specs.Run.{IsFailure, Grows, Lists}
+use Rattle.facet_json_command.specs.Run.{IsFailure, IsFault, IsWithin, Grows, Lists}
 use Rattle.facet_json_command.proofs.Printing.{appends_nothing}
 use Rattle.facet_json_command.proofs.Listing.{grows_keeps, lists_keeps, lists_grow}
 
@@ -14,16 +14,18 @@ Ends before after printed final = (final ≡ Io) ⊎ ((final ≡ printed) × Kee
 
 -- ---- where nothing could be read
 
+pub fault_within : (outcome : Outcome) (len : ℕ) → IsFault outcome → IsWithin len outcome
+fault_within outcome len (inl memory) = rw memory tt
+fault_within outcome len (inr io) = rw io tt
+
 pub no_growth : (held : Option (List ℕ)) → Grows held held
 no_growth held = ([], appends_nothing held)
 
-pub unread_lists : (language : Language) (remaining held : Option (List ℕ)) (outcome : Outcome) → IsFailure outcome →
+pub unread_lists : (language : Language) (remaining held : Option (List ℕ)) (outcome : Outcome) → IsFault outcome →
     IfSome remaining (λ input. Lists language input held held outcome)
 unread_lists language None held outcome failed = tt
-unread_lists language (Some input) held Done failed = absurd failed
-unread_lists language (Some input) held (Refused code span) failed = inl (failed, no_growth held)
-unread_lists language (Some input) held Io failed = tt
-unread_lists language (Some input) held Usage failed = failed
+unread_lists language (Some input) held outcome (inl memory) = rw memory (inl (refl, refl, no_growth held))
+unread_lists language (Some input) held outcome (inr io) = rw io tt
 
 -- ---- `events`
 

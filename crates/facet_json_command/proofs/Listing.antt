@@ -14,7 +14,7 @@ use Rattle.facet_json_command.specs.Lines.{event_line}
 use Rattle.facet_json_command_line.specs.declared.outcome.Outcome.{Outcome}
 use Rattle.facet_json_command_line.specs.declared.outcome.Outcome.TheVariants.{Done, Refused, Io, Usage}
 use Rattle.facet_json_command.specs.Run.{Grows, Stops, AreListed, Lists}
-use Rattle.facet_json_command.proofs.Printing.{appends_nothing, appends_both, appends_keeps, grows_both}
+use Rattle.facet_json_command.proofs.Printing.{appends_nothing, appends_both, appends_keeps, stops_behind, stops_keeps}
 
 -- the answers that give these events
 abbrev pub given_out : List Event → List Answer
@@ -69,7 +69,7 @@ pub line_stopped : (language : Language) (input : List ℕ) (a b c : Option (Lis
     AreSoFar language input a b parser → Stops b c outcome → Lists language input a c outcome
 line_stopped language input a b c parser Done so_far stops = absurd stops
 line_stopped language input a b c parser (Refused code span) so_far stops =
-    inl (stops.0, grows_both a b c (flat_map event_line so_far.given) so_far.printed stops.1)
+    inl (stops_behind a b c (flat_map event_line so_far.given) (Refused code span) so_far.printed stops)
 line_stopped language input a b c parser Io so_far stops = tt
 line_stopped language input a b c parser Usage so_far stops = absurd stops
 
@@ -90,7 +90,7 @@ listed_keeps language input a b c last listed keeps = record {
 pub lists_keeps : (language : Language) (input : List ℕ) (a b c : Option (List ℕ)) (outcome : Outcome) → Lists language input a b outcome →
     Keeps b c → Lists language input a c outcome
 lists_keeps language input a b c Done lists keeps = listed_keeps language input a b c (event (Ok None)) lists keeps
-lists_keeps language input a b c (Refused code span) (inl no_memory) keeps = inl (no_memory.0, grows_keeps a b c no_memory.1 keeps)
+lists_keeps language input a b c (Refused code span) (inl no_memory) keeps = inl (stops_keeps a b c (Refused code span) no_memory keeps)
 lists_keeps language input a b c (Refused code span) (inr refused) keeps = inr (record {
   refusal = refused.refusal;
   listed = listed_keeps language input a b c (event (Err refused.refusal)) refused.listed keeps;
@@ -103,7 +103,7 @@ lists_keeps language input a b c Usage lists keeps = lists
 pub lists_grow : (language : Language) (input : List ℕ) (a b : Option (List ℕ)) (outcome : Outcome) → Lists language input a b outcome →
     outcome ≢ Io → Grows a b
 lists_grow language input a b Done lists other = (flat_map event_line lists.given, lists.printed)
-lists_grow language input a b (Refused code span) (inl no_memory) other = no_memory.1
+lists_grow language input a b (Refused code span) (inl no_memory) other = no_memory.2
 lists_grow language input a b (Refused code span) (inr refused) other = (flat_map event_line refused.listed.given, refused.listed.printed)
 lists_grow language input a b Io lists other = absurd (other refl)
 lists_grow language input a b Usage lists other = absurd lists

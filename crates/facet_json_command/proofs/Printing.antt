@@ -5,7 +5,7 @@ use Rattle.std.specs.Io.KnownBytes.{Appends, Keeps}
 use Rattle.std.proofs.lemmas.List.{append-nil, append_assoc}
 use Rattle.facet_json_command_line.specs.declared.outcome.Outcome.{Outcome}
 use Rattle.facet_json_command_line.specs.declared.outcome.Outcome.TheVariants.{Done, Refused, Io, Usage}
-use Rattle.facet_json_command.specs.Run.{Grows, Stops, Prints}
+use Rattle.facet_json_command.specs.Run.{Grows, IsWithin, Stops, Prints}
 
 pub appends_nothing : (held : Option (List ℕ)) → Appends held held []
 appends_nothing None = tt
@@ -29,9 +29,24 @@ grows_both a b c xs first second = (xs ++ second.0, appends_both a b c xs second
 -- Printing that stopped after what was written
 pub stops_behind : (a b c : Option (List ℕ)) (xs : List ℕ) (outcome : Outcome) → Appends a b xs → Stops b c outcome → Stops a c outcome
 stops_behind a b c xs Done first second = second
-stops_behind a b c xs (Refused code span) first second = (second.0, grows_both a b c xs first second.1)
+stops_behind a b c xs (Refused code span) first second = (second.0, second.1, grows_both a b c xs first second.2)
 stops_behind a b c xs Io first second = second
 stops_behind a b c xs Usage first second = second
+
+-- So it is after a last flush.
+pub stops_keeps : (a b c : Option (List ℕ)) (outcome : Outcome) → Stops a b outcome → Keeps b c → Stops a c outcome
+stops_keeps a b c Done stops keeps = stops
+stops_keeps a b c (Refused code span) stops keeps =
+    (stops.0, stops.1, (stops.2.0, appends_keeps a b c stops.2.0 stops.2.1 keeps))
+stops_keeps a b c Io stops keeps = stops
+stops_keeps a b c Usage stops keeps = stops
+
+-- It has no place in an input.
+pub stops_within : (a b : Option (List ℕ)) (outcome : Outcome) (len : ℕ) → Stops a b outcome → IsWithin len outcome
+stops_within a b Done len stops = tt
+stops_within a b (Refused code span) len stops = rw stops.1 tt
+stops_within a b Io len stops = tt
+stops_within a b Usage len stops = tt
 
 -- what is printed after what is written already
 pub prints_behind : {T : Type 0} (a b c : Option (List ℕ)) (xs ys : List ℕ) (result : Result T Outcome) →

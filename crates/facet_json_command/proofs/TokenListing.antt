@@ -23,8 +23,9 @@ use Rattle.facet_json_command_line.specs.declared.outcome.Outcome.TheVariants.{D
 use Rattle.facet_json_command.specs.Lines.{place_line}
 use Rattle.facet_json_command.specs.TokenLines.{token_line, token_lines, fault_code, EndAs}
 use Rattle.facet_json_command.specs.TokenViews.{line_answered, text_of_token, code_of_kind}
-use Rattle.facet_json_command.specs.Run.{IsFailure, Grows, Stops, Prints, AreTokensListed, ListsTokens, outcome_of}
-use Rattle.facet_json_command.proofs.Printing.{appends_both, appends_keeps, grows_both}
+use Rattle.facet_json_command.specs.Run.{IsFault, Grows, Stops, Prints, AreTokensListed, ListsTokens}
+use Rattle.facet_json_command.specs.Session.{outcome_of}
+use Rattle.facet_json_command.proofs.Printing.{appends_both, appends_keeps, stops_behind, stops_keeps}
 use Rattle.facet_json_command.proofs.Listing.{grows_keeps}
 use Rattle.facet_json_command.proofs.Endings.{Ends, no_growth, io_is_not_usage}
 
@@ -111,7 +112,7 @@ end_listed mode input tokens a b c (Ok done) all printed last =
     }
 end_listed mode input tokens a b c (Err Done) all printed stops = absurd stops
 end_listed mode input tokens a b c (Err (Refused code span)) all printed stops =
-    inl (stops.0, grows_both a b c (flat_map text_of_token tokens) printed stops.1)
+    inl (stops_behind a b c (flat_map text_of_token tokens) (Refused code span) printed stops)
 end_listed mode input tokens a b c (Err Io) all printed stops = tt
 end_listed mode input tokens a b c (Err Usage) all printed stops = absurd stops
 
@@ -161,7 +162,7 @@ tokens_listed_keep mode input a b c outcome listed keeps = record {
 tokens_keep : (mode : Mode) (input : List ℕ) (a b c : Option (List ℕ)) (outcome : Outcome) → ListsTokens mode input a b outcome →
     Keeps b c → ListsTokens mode input a c outcome
 tokens_keep mode input a b c Done lists keeps = tokens_listed_keep mode input a b c Done lists keeps
-tokens_keep mode input a b c (Refused code span) (inl no_memory) keeps = inl (no_memory.0, grows_keeps a b c no_memory.1 keeps)
+tokens_keep mode input a b c (Refused code span) (inl no_memory) keeps = inl (stops_keeps a b c (Refused code span) no_memory keeps)
 tokens_keep mode input a b c (Refused code span) (inr told) keeps =
     inr (tokens_listed_keep mode input a b c (Refused code span) told keeps)
 tokens_keep mode input a b c Io lists keeps = tt
@@ -170,20 +171,18 @@ tokens_keep mode input a b c Usage lists keeps = lists
 tokens_grow : (mode : Mode) (input : List ℕ) (a b : Option (List ℕ)) (outcome : Outcome) → ListsTokens mode input a b outcome →
     outcome ≢ Io → Grows a b
 tokens_grow mode input a b Done lists other = (token_lines (length input) lists.these, lists.printed)
-tokens_grow mode input a b (Refused code span) (inl no_memory) other = no_memory.1
+tokens_grow mode input a b (Refused code span) (inl no_memory) other = no_memory.2
 tokens_grow mode input a b (Refused code span) (inr told) other = (token_lines (length input) told.these, told.printed)
 tokens_grow mode input a b Io lists other = absurd (other refl)
 tokens_grow mode input a b Usage lists other = absurd lists
 
 -- ---- `tokens`
 
-pub unread_tokens : (mode : Mode) (remaining held : Option (List ℕ)) (outcome : Outcome) → IsFailure outcome →
+pub unread_tokens : (mode : Mode) (remaining held : Option (List ℕ)) (outcome : Outcome) → IsFault outcome →
     IfSome remaining (λ input. ListsTokens mode input held held outcome)
 unread_tokens mode None held outcome failed = tt
-unread_tokens mode (Some input) held Done failed = absurd failed
-unread_tokens mode (Some input) held (Refused code span) failed = inl (failed, no_growth held)
-unread_tokens mode (Some input) held Io failed = tt
-unread_tokens mode (Some input) held Usage failed = failed
+unread_tokens mode (Some input) held outcome (inl memory) = rw memory (inl (refl, refl, no_growth held))
+unread_tokens mode (Some input) held outcome (inr io) = rw io tt
 
 -- what is printed of a scan, whichever input it is of
 abbrev pub PrintsScan : Scanned → Option (List ℕ) → Option (List ℕ) → Outcome → Type 0

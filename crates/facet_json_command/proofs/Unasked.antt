@@ -12,10 +12,10 @@ pub no_memory_answers : (command : Command) (remaining held : Option (List ℕ))
 no_memory_answers command None held outcome is = tt
 no_memory_answers (fmt language pretty) (Some input) None outcome is = tt
 no_memory_answers (fmt language pretty) (Some input) (Some before) outcome is = rw is (inl refl, refl)
-no_memory_answers (events language) (Some input) held outcome is = rw is (inl (refl, ([], appends_nothing held)))
-no_memory_answers (tokens mode) (Some input) held outcome is = rw is (inl (refl, ([], appends_nothing held)))
+no_memory_answers (events language) (Some input) held outcome is = rw is (inl (refl, refl, ([], appends_nothing held)))
+no_memory_answers (tokens mode) (Some input) held outcome is = rw is (inl (refl, refl, ([], appends_nothing held)))
 no_memory_answers (drive language calls) (Some input) None outcome is = tt
-no_memory_answers (drive language calls) (Some input) (Some before) outcome is = rw is refl
+no_memory_answers (drive language calls) (Some input) (Some before) outcome is = rw is (refl, refl)
 
 pub no_memory_only : (language : Language) (remaining : Option (List ℕ)) (outcome : Outcome) → outcome ≡ Refused 9 None →
     IfSome remaining (λ input. HasDocument language input → (outcome ≡ Done) ⊎ IsFailure outcome)

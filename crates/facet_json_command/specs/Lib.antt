@@ -3,6 +3,7 @@ pub use Rattle.facet_json_command_line.specs.Arguments
 pub use Rattle.facet_json_command_line.specs.Outcome
 pub use Rattle.facet_json_command_line.specs.Report
 pub mod Views
+pub mod Session
 pub mod Run
 pub mod Lines
 pub mod TokenLines

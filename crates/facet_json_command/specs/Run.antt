@@ -1,5 +1,5 @@
 -- What a run of the program owes.
-use Rattle.std.specs.Prelude.{◌≡◌, ℕ, ◌⊎◌, Bool, List, [], ◌∷◌, ◌++◌, length, map, Option, Some, None, Result, Ok, Err, IfSome}
+use Rattle.std.specs.Prelude.{◌≡◌, ◌≤◌, ◌+◌, ℕ, ◌⊎◌, Bool, List, [], ◌∷◌, ◌++◌, length, map, Option, Some, None, Result, Ok, Err, IfSome}
 use Rattle.std.specs.Option.{option_map}
 use Rattle.std.specs.List.{flat_map}
 use Rattle.std.specs.Io.KnownBytes.{Appends}
@@ -24,7 +24,7 @@ use Rattle.facet_json_command.specs.Lines.{event_line, answer_lines}
 use Rattle.facet_json_command.specs.TokenLines.{token_lines, EndAs}
 use Rattle.facet_json_command_line.specs.declared.outcome.Outcome.{Outcome}
 use Rattle.facet_json_command_line.specs.declared.outcome.Outcome.TheVariants.{Done, Refused, Io, Usage}
-pub use Rattle.facet_json_command_line.specs.Outcome.{IsFailure}
+pub use Rattle.facet_json_command_line.specs.Outcome.{IsFailure, IsFault}
 
 -- The input begins with this document, or, where RFC 8259 alone is read, is it. No arguments ask for `strict jsonc`.
 abbrev pub IsDocumentIn : Language → List ℕ → Node → Tree → Type 0
@@ -57,12 +57,19 @@ abbrev pub IsRefusedIn : Language → List ℕ → ℕ → Option Span → Type 
 IsRefusedIn (lenient mode) input code span = IsRefusedSo mode input code span
 IsRefusedIn (strict mode) input code span = ¬ IsStrict input
 
--- An answer in place of the text.
+-- The input is refused, or memory was wanted.
 abbrev pub IsRefusal : Language → List ℕ → Outcome → Type 0
 IsRefusal language input Done = ⊥
 IsRefusal language input (Refused code span) = (code ≡ 9) ⊎ IsRefusedIn language input code span
-IsRefusal language input Io = Unit {0}
+IsRefusal language input Io = ⊥
 IsRefusal language input Usage = ⊥
+
+-- A refusal is about bytes of an input of this length, or about none.
+abbrev pub IsWithin : (len : ℕ) → Outcome → Type 0
+IsWithin len Done = Unit {0}
+IsWithin len (Refused code span) = IfSome span (λ s. s.offset + s.len ≤ len)
+IsWithin len Io = Unit {0}
+IsWithin len Usage = Unit {0}
 
 -- What `fmt` answers to an input, where the writer held the bytes before and then holds those after.
 abbrev pub Formats : Language → (pretty : Bool) → List ℕ → List ℕ → Option (List ℕ) → Outcome → Type 0
@@ -76,10 +83,10 @@ Formats language pretty input before after Usage = ⊥
 abbrev pub Grows : Option (List ℕ) → Option (List ℕ) → Type 0
 Grows before after = (written : List ℕ) × Appends before after written
 
--- How printing stops before its end: memory was wanted, and a prefix is written; or a write failed.
+-- How printing stops before its end: memory was wanted, which has no place in the input, and a prefix is written; or a write failed.
 abbrev pub Stops : Option (List ℕ) → Option (List ℕ) → Outcome → Type 0
 Stops before after Done = ⊥
-Stops before after (Refused code span) = (code ≡ 9) × Grows before after
+Stops before after (Refused code span) = (code ≡ 9) × (span ≡ None) × Grows before after
 Stops before after Io = Unit {0}
 Stops before after Usage = ⊥
 
@@ -110,7 +117,7 @@ pub record AreListedUpTo (language : Language) (input : List ℕ) (before after 
 abbrev pub Lists : Language → List ℕ → Option (List ℕ) → Option (List ℕ) → Outcome → Type 0
 Lists language input before after Done = AreListed language input before after (event (Ok None))
 Lists language input before after (Refused code span) =
-    ((code ≡ 9) × Grows before after) ⊎ AreListedUpTo language input before after code span
+    Stops before after (Refused code span) ⊎ AreListedUpTo language input before after code span
 Lists language input before after Io = Unit {0}
 Lists language input before after Usage = ⊥
 
@@ -125,21 +132,16 @@ pub record AreTokensListed (mode : Mode) (input : List ℕ) (before after : Opti
 abbrev pub ListsTokens : Mode → List ℕ → Option (List ℕ) → Option (List ℕ) → Outcome → Type 0
 ListsTokens mode input before after Done = AreTokensListed mode input before after Done
 ListsTokens mode input before after (Refused code span) =
-    ((code ≡ 9) × Grows before after) ⊎ AreTokensListed mode input before after (Refused code span)
+    Stops before after (Refused code span) ⊎ AreTokensListed mode input before after (Refused code span)
 ListsTokens mode input before after Io = Unit {0}
 ListsTokens mode input before after Usage = ⊥
-
--- how a run ends that printed so
-abbrev pub outcome_of : {T : Type 0} → Result T Outcome → Outcome
-outcome_of (Ok done) = Done
-outcome_of (Err outcome) = outcome
 
 -- What `drive` answers: the lines of the answers of a parser that has read nothing, where the writer held the bytes before and
 -- then holds those after.
 abbrev pub Drives : Language → List Call → List ℕ → List ℕ → Option (List ℕ) → Outcome → Type 0
 Drives language calls input before after Done = (answers : List Answer) × (parser : Now) ×
     MovesAll (fresh_in input language) calls answers parser × (after ≡ Some (before ++ flat_map answer_lines answers))
-Drives language calls input before after (Refused code span) = code ≡ 9
+Drives language calls input before after (Refused code span) = (code ≡ 9) × (span ≡ None)
 Drives language calls input before after Io = Unit {0}
 Drives language calls input before after Usage = ⊥
 

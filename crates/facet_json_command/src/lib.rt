@@ -2,8 +2,10 @@
 //! a parser's calls.
 #![tactic(auto)]
 
+mod input;
 mod lines;
 pub mod run;
+mod session;
 mod tokens;
 
 pub use facet_json_command_line::{outcome, report, script};

@@ -1,6 +1,6 @@
 //! What the program does, over any reader and writer.
 
-ghost use Rattle.std.specs.Prelude.{◌≡◌, ◌≢◌, ◌⊎◌, ℕ, Bool, [], List, Option, None, Some, map, IfOk, IfErr, IfSome, OnOk};
+ghost use Rattle.std.specs.Prelude.{◌≡◌, ◌≢◌, ◌⊎◌, ℕ, Bool, [], List, Option, None, Some, map, length, IfOk, IfErr, IfSome, OnOk};
 ghost use Rattle.std.specs.List.{flat_map};
 ghost use Rattle.std.specs.Vec.Iter.{into_iter_items};
 ghost use Rattle.std.specs.Io.KnownBytes.{Appends, Keeps};
@@ -18,18 +18,21 @@ ghost use Rattle.facet_json_protocol.specs.Move.{MovesAll};
 ghost use Rattle.facet_json_core.specs.ScriptViews.{call_of, answer_of};
 ghost use Rattle.facet_json_serializer.specs.Serializer.{Writing as SpecWriting};
 ghost use Rattle.facet_json_serializer.specs.TreeCalls.{with_tree};
-ghost use Rattle.facet_json_transcode.specs.Views.{IsRefused, LacksMemory};
+ghost use Rattle.facet_json_transcode.specs.Views.{IsRefused, LacksMemory, IsWithin as RefusesWithin};
 ghost use Rattle.facet_json_command_line.specs.declared.outcome.Outcome.TheVariants as outcome;
 ghost use Rattle.facet_json_command_line.specs.Arguments.{Command as SpecCommand, AskFor, AskForNothing, fmt, drive as drives};
 ghost use Rattle.facet_json_command.specs.Views.{words_of, read_as, command_view};
 ghost use Rattle.facet_json_command.specs.Lines.{answer_lines};
-ghost use Rattle.facet_json_command.specs.Run.{IsDocumentIn, HasDocument, layout, IsReformatted, IsFailure, IsRefusal, Formats, Grows, Prints, Lists, ListsTokens, Drives, Answers, ForFmt, ForDrive, outcome_of};
+ghost use Rattle.facet_json_command.specs.Run.{IsDocumentIn, HasDocument, layout, IsReformatted, IsFailure, IsFault, IsRefusal, IsWithin, Formats, Grows, Prints, Lists, ListsTokens, Drives, Answers, ForFmt, ForDrive};
+ghost use Rattle.facet_json_command.specs.Session.{Marks, outcome_of};
 
+use crate::input::Input;
 use crate::lines::{write_answer, write_event};
+use crate::session::Session;
 use crate::tokens::{scan_all, write_scanned};
 use facet_format::FormatParser;
 use facet_json_command_line::arguments::{Command, command_of};
-use facet_json_command_line::outcome::{OUT_OF_MEMORY, Outcome, failure};
+use facet_json_command_line::outcome::{OUT_OF_MEMORY, Outcome};
 use facet_json_core::{Answer, Call, JsonParser, JsonSerializer, SerializeOptions, drive};
 use facet_json_place::Language;
 use facet_json_token::Mode;
@@ -55,18 +58,20 @@ pub fn run<R: Read, W: Write>(
     ensures only { (language : SpecLanguage) (pretty : Bool) → AskFor (fmt language pretty) (words_of args.now)
         → IfSome (R.remaining reader.old) (λ input. HasDocument language input → (result ≡ outcome.Done) ⊎ IsFailure result) }
     ensures driven { (language : SpecLanguage) (calls : List SpecCall) → AskFor (drives language calls) (words_of args.now)
-        → (result ≡ outcome.Done) ⊎ IsFailure result }
+        → (result ≡ outcome.Done) ⊎ IsFault result }
+    ensures within { IfSome (R.remaining reader.old) (λ input. IsWithin (length input) result) }
     ensures grows { result ≢ outcome.Io → Grows (W.contents writer.old) (W.contents writer.new) }
 {
+    let mut session = Session::new(alloc);
     match command_of(alloc, args) {
-        Ok(command) => obey(alloc, command, reader, writer),
+        Ok(command) => obey(&mut session, command, reader, writer),
         Err(unasked) => unasked,
     }
 }
 
 /// Does what it is asked to do.
 fn obey<R: Read, W: Write>(
-    alloc: Global,
+    session: &mut Session,
     command: Command,
     reader: &mut R,
     writer: &mut W,
@@ -78,22 +83,24 @@ fn obey<R: Read, W: Write>(
         → result ≡ outcome.Refused code span → writer.new ≡ writer.old) }
     ensures only { ForFmt (command_view command) (λ language. IfSome (R.remaining reader.old) (λ input.
         HasDocument language input → (result ≡ outcome.Done) ⊎ IsFailure result)) }
-    ensures driven { ForDrive (command_view command) ((result ≡ outcome.Done) ⊎ IsFailure result) }
+    ensures driven { ForDrive (command_view command) ((result ≡ outcome.Done) ⊎ IsFault result) }
     ensures grows { result ≢ outcome.Io → Grows (W.contents writer.old) (W.contents writer.new) }
+    ensures within { IfSome (R.remaining reader.old) (λ input. IsWithin (length input) result) }
+    ensures marks { Marks session.old.failed session.new.failed result }
 {
     match command {
-        Command::Fmt { language, pretty } => format(alloc, language, pretty, reader, writer),
-        Command::Events { language } => print_events(alloc, language, reader, writer),
-        Command::Tokens { mode } => print_tokens(alloc, mode, reader, writer),
+        Command::Fmt { language, pretty } => format(session, language, pretty, reader, writer),
+        Command::Events { language } => print_events(session, language, reader, writer),
+        Command::Tokens { mode } => print_tokens(session, mode, reader, writer),
         Command::Drive { language, calls } => {
-            print_answers(alloc, language, calls.as_slice(), reader, writer)
+            print_answers(session, language, calls.as_slice(), reader, writer)
         }
     }
 }
 
 /// Reads all there is, and writes the document in it anew and nothing else.
 fn format<R: Read, W: Write>(
-    alloc: Global,
+    session: &mut Session,
     language: Language,
     pretty: bool,
     reader: &mut R,
@@ -107,38 +114,43 @@ fn format<R: Read, W: Write>(
     ensures only { IfSome (R.remaining reader.old) (λ input. HasDocument (read_as language) input
         → (result ≡ outcome.Done) ⊎ IsFailure result) }
     ensures grows { result ≢ outcome.Io → Grows (W.contents writer.old) (W.contents writer.new) }
+    ensures within { IfSome (R.remaining reader.old) (λ input. IsWithin (length input) result) }
+    ensures marks { Marks session.old.failed session.new.failed result }
 {
-    match formatted(alloc, language, pretty, reader) {
-        Ok(text) => write_text(writer, text.as_slice()),
+    match formatted(session, language, pretty, reader) {
+        Ok(text) => write_text(session, writer, text.as_slice()),
         Err(refusal) => refusal,
     }
 }
 
 /// The document in all that the reader has, written anew.
 fn formatted<R: Read>(
-    alloc: Global,
+    session: &mut Session,
     language: Language,
     pretty: bool,
     reader: &mut R,
 ) -> Result<Vec<u8>, Outcome>
     ensures ends { IfErr result (λ o. o ≢ outcome.Usage) }
     ensures text { IfSome (R.remaining reader.old) (λ input. IfOk result (λ v. IsReformatted (read_as language) pretty input v.items)) }
-    ensures refused { IfSome (R.remaining reader.old) (λ input. IfErr result (λ o. IsRefusal (read_as language) input o)) }
+    ensures refused { IfSome (R.remaining reader.old) (λ input. IfErr result (λ o. (o ≡ outcome.Io) ⊎ IsRefusal (read_as language) input o)) }
     ensures only { IfSome (R.remaining reader.old) (λ input. HasDocument (read_as language) input → IfErr result IsFailure) }
+    ensures within { IfSome (R.remaining reader.old) (λ input. IfErr result (IsWithin (length input))) }
+    ensures marks { Marks session.old.failed session.new.failed (outcome_of result) }
 {
-    let input = read_all(alloc, reader)?;
-    reformatted(alloc, language, pretty, input.as_slice())
+    let input = read_all(session, reader)?;
+    reformatted(session.alloc, language, pretty, input.as_slice())
 }
 
 /// All that the reader has.
-fn read_all<R: Read>(alloc: Global, reader: &mut R) -> Result<Vec<u8>, Outcome>
+fn read_all<R: Read>(session: &mut Session, reader: &mut R) -> Result<Vec<u8>, Outcome>
     ensures bytes { IfSome (R.remaining reader.old) (λ input. IfOk result (λ v. v.items ≡ input)) }
-    ensures failed { IfErr result IsFailure }
+    ensures fault { IfErr result IsFault }
+    ensures marks { Marks session.old.failed session.new.failed (outcome_of result) }
 {
-    let mut input = Vec::new(alloc);
+    let mut input = Vec::new(session.alloc);
     match reader.read_to_end(&mut input) {
         Ok(_) => Ok(input),
-        Err(error) => Err(failure(&error)),
+        Err(error) => Err(session.unread(error.kind())),
     }
 }
 
@@ -152,6 +164,7 @@ fn reformatted(
     ensures text { IfOk result (λ v. IsReformatted (read_as language) pretty input.now v.items) }
     ensures refused { IfErr result (λ o. IsRefusal (read_as language) input.now o) }
     ensures only { HasDocument (read_as language) input.now → IfErr result IsFailure }
+    ensures within { IfErr result (IsWithin (length input.now)) }
 {
     let mut parser = parser_of(alloc, language, input);
     let mut serializer = serializer_of(alloc, pretty);
@@ -173,6 +186,7 @@ fn pass_document<'t>(
         → IfErr result (λ e. IsRefused input mode e) }
     ensures only { (input : List ℕ) (language : TheLanguage) (w : SpecWriting) → parser.old ≡ fresh_in input (read_as language)
         → serializer.old ≡ Some w → HasDocument (read_as language) input → IfErr result (λ e. LacksMemory e) }
+    ensures within { IfErr result (λ e. RefusesWithin (length parser.old.buffer) e) }
 {
     transcode(parser, serializer)?;
     match pass_end(parser) {
@@ -209,6 +223,7 @@ fn refused(error: TranscodeError<'_>) -> Outcome
     ensures refused { (mode : SpecMode) (input : List ℕ) → IsRefused input mode error.entry → IsRefusal (lenient mode) input result }
     ensures strictly { (input : List ℕ) → (IsStrict input → LacksMemory error.entry) → IsRefusal (strict plain) input result }
     ensures failed { LacksMemory error.entry → IsFailure result }
+    ensures within { (len : ℕ) → RefusesWithin len error.entry → IsWithin len result }
 {
     match error {
         TranscodeError::Read(error) => Outcome::Refused(error.kind.code(), error.span),
@@ -217,19 +232,18 @@ fn refused(error: TranscodeError<'_>) -> Outcome
 }
 
 /// Writes the text in one piece.
-fn write_text<W: Write>(writer: &mut W, text: &[u8]) -> Outcome
+fn write_text<W: Write>(session: &mut Session, writer: &mut W, text: &[u8]) -> Outcome
     ensures ends { (result ≡ outcome.Done) ⊎ (result ≡ outcome.Io) }
     ensures written { result ≡ outcome.Done → Appends (W.contents writer.old) (W.contents writer.new) text.now }
+    ensures marks { Marks session.old.failed session.new.failed result }
 {
-    if writer.write_all(text).is_err() || writer.flush().is_err() {
-        return Outcome::Io;
-    }
-    Outcome::Done
+    let written = session.told(writer.write_all(text));
+    finish(session, written, writer)
 }
 
 /// Reads all there is, and prints the events of the document in it.
 fn print_events<R: Read, W: Write>(
-    alloc: Global,
+    session: &mut Session,
     language: Language,
     reader: &mut R,
     writer: &mut W,
@@ -238,11 +252,13 @@ fn print_events<R: Read, W: Write>(
     ensures listed { IfSome (R.remaining reader.old) (λ input.
         Lists (read_as language) input (W.contents writer.old) (W.contents writer.new) result) }
     ensures grows { result ≢ outcome.Io → Grows (W.contents writer.old) (W.contents writer.new) }
+    ensures within { IfSome (R.remaining reader.old) (λ input. IsWithin (length input) result) }
+    ensures marks { Marks session.old.failed session.new.failed result }
 {
-    match read_all(alloc, reader) {
+    match read_all(session, reader) {
         Ok(input) => {
-            let written = list_events(alloc, language, input.as_slice(), writer);
-            finish(written, writer)
+            let written = list_events(session, language, input.as_slice(), writer);
+            finish(session, written, writer)
         }
         Err(outcome) => outcome,
     }
@@ -250,29 +266,33 @@ fn print_events<R: Read, W: Write>(
 
 /// Writes a line for each event of the input.
 fn list_events<W: Write>(
-    alloc: Global,
+    session: &mut Session,
     language: Language,
     input: &[u8],
     writer: &mut W,
 ) -> Result<(), Outcome>
-    ensures { Lists (read_as language) input.now (W.contents writer.old) (W.contents writer.new) (outcome_of result) }
+    ensures listed { Lists (read_as language) input.now (W.contents writer.old) (W.contents writer.new) (outcome_of result) }
+    ensures within { IfErr result (IsWithin (length input.now)) }
+    ensures marks { Marks session.old.failed session.new.failed (outcome_of result) }
 {
-    let mut parser = parser_of(alloc, language, input);
-    list_ahead(alloc, &mut parser, writer)
+    let mut parser = parser_of(session.alloc, language, input);
+    list_ahead(session, &mut parser, writer)
 }
 
 /// Writes a line for each event that the parser still has to give.
 fn list_ahead<W: Write>(
-    alloc: Global,
+    session: &mut Session,
     parser: &mut JsonParser<'_>,
     writer: &mut W,
 ) -> Result<(), Outcome>
-    ensures { (language : SpecLanguage) (input : List ℕ) → parser.old ≡ fresh_in input language
+    ensures listed { (language : SpecLanguage) (input : List ℕ) → parser.old ≡ fresh_in input language
         → Lists language input (W.contents writer.old) (W.contents writer.new) (outcome_of result) }
+    ensures within { IfErr result (IsWithin (length parser.old.buffer)) }
+    ensures marks { Marks session.old.failed session.new.failed (outcome_of result) }
 {
     loop {
         match parser.next_event() {
-            Ok(Some(event)) => write_event(alloc, event, writer)?,
+            Ok(Some(event)) => write_event(session, event, writer)?,
             Ok(None) => return Ok(()),
             Err(error) => return Err(Outcome::Refused(error.kind.code(), Some(error.span))),
         }
@@ -281,7 +301,7 @@ fn list_ahead<W: Write>(
 
 /// Reads and scans all there is, and prints its tokens.
 fn print_tokens<R: Read, W: Write>(
-    alloc: Global,
+    session: &mut Session,
     mode: Mode,
     reader: &mut R,
     writer: &mut W,
@@ -290,11 +310,14 @@ fn print_tokens<R: Read, W: Write>(
     ensures listed { IfSome (R.remaining reader.old) (λ input.
         ListsTokens (mode_of mode) input (W.contents writer.old) (W.contents writer.new) result) }
     ensures grows { result ≢ outcome.Io → Grows (W.contents writer.old) (W.contents writer.new) }
+    ensures within { IfSome (R.remaining reader.old) (λ input. IsWithin (length input) result) }
+    ensures marks { Marks session.old.failed session.new.failed result }
 {
-    match scan_all(alloc, mode, reader) {
+    let mut input = Input::new(reader);
+    match scan_all(session, mode, &mut input) {
         Ok(scanned) => {
-            let written = write_scanned(&scanned, writer);
-            finish(written, writer)
+            let written = write_scanned(session, &scanned, writer);
+            finish(session, written, writer)
         }
         Err(outcome) => outcome,
     }
@@ -302,20 +325,25 @@ fn print_tokens<R: Read, W: Write>(
 
 /// Reads all there is, makes the calls of a parser of it, and prints their answers.
 fn print_answers<R: Read, W: Write>(
-    alloc: Global,
+    session: &mut Session,
     language: Language,
     calls: &[Call],
     reader: &mut R,
     writer: &mut W,
 ) -> Outcome
-    ensures ends { (result ≡ outcome.Done) ⊎ IsFailure result }
+    ensures ends { (result ≡ outcome.Done) ⊎ IsFault result }
     ensures answers { IfSome (R.remaining reader.old) (λ input. IfSome (W.contents writer.old) (λ before.
         Drives (read_as language) (map call_of calls.now) input before (W.contents writer.new) result)) }
     ensures grows { result ≢ outcome.Io → Grows (W.contents writer.old) (W.contents writer.new) }
+    ensures within { IfSome (R.remaining reader.old) (λ input. IsWithin (length input) result) }
+    ensures marks { Marks session.old.failed session.new.failed result }
 {
-    match read_all(alloc, reader) {
-        Ok(input) => match answers_of(alloc, language, input.as_slice(), calls) {
-            Ok(answers) => finish(write_answers(alloc, answers, writer), writer),
+    match read_all(session, reader) {
+        Ok(input) => match answers_of(session.alloc, language, input.as_slice(), calls) {
+            Ok(answers) => {
+                let written = write_answers(session, answers, writer);
+                finish(session, written, writer)
+            },
             Err(_) => OUT_OF_MEMORY,
         },
         Err(outcome) => outcome,
@@ -338,25 +366,27 @@ fn answers_of<'de>(
 
 /// Writes the lines of the answers, in order.
 fn write_answers<W: Write>(
-    alloc: Global,
+    session: &mut Session,
     answers: Vec<Answer<'_>>,
     writer: &mut W,
 ) -> Result<(), Outcome>
-    ensures { Prints (W.contents writer.old) (W.contents writer.new) (flat_map answer_lines (map answer_of answers.entry.items)) result }
+    ensures printed { Prints (W.contents writer.old) (W.contents writer.new) (flat_map answer_lines (map answer_of answers.entry.items)) result }
+    ensures marks { Marks session.old.failed session.new.failed (outcome_of result) }
 {
-    write_ahead(alloc, &mut answers.into_iter(), writer)
+    write_ahead(session, &mut answers.into_iter(), writer)
 }
 
 /// Writes the lines of the answers that are left, in order.
 fn write_ahead<W: Write>(
-    alloc: Global,
+    session: &mut Session,
     answers: &mut IntoIter<Answer<'_>>,
     writer: &mut W,
 ) -> Result<(), Outcome>
-    ensures { Prints (W.contents writer.old) (W.contents writer.new) (flat_map answer_lines (map answer_of (into_iter_items answers.old))) result }
+    ensures printed { Prints (W.contents writer.old) (W.contents writer.new) (flat_map answer_lines (map answer_of (into_iter_items answers.old))) result }
+    ensures marks { Marks session.old.failed session.new.failed (outcome_of result) }
 {
     while let Some(answer) = answers.next() {
-        write_answer(alloc, answer, writer)?;
+        write_answer(session, answer, writer)?;
     }
     Ok(())
 }
@@ -373,23 +403,24 @@ fn parser_of<'de>(alloc: Global, language: Language, input: &'de [u8]) -> JsonPa
 }
 
 /// Sends what is written on its way, where no write failed: also the lines before a refusal.
-fn finish<W: Write>(written: Result<(), Outcome>, writer: &mut W) -> Outcome
-    ensures { (result ≡ outcome.Io) ⊎ ((result ≡ outcome_of written) × Keeps (W.contents writer.old) (W.contents writer.new)) }
+fn finish<W: Write>(session: &mut Session, written: Result<(), Outcome>, writer: &mut W) -> Outcome
+    ensures ends { (result ≡ outcome.Io) ⊎ ((result ≡ outcome_of written) × Keeps (W.contents writer.old) (W.contents writer.new)) }
+    ensures marks { (before : Bool) → Marks before session.old.failed (outcome_of written) → Marks before session.new.failed result }
 {
     match written {
         Err(Outcome::Io) => Outcome::Io,
-        Ok(()) => flushed(writer, Outcome::Done),
-        Err(outcome) => flushed(writer, outcome),
+        Ok(()) => flushed(session, writer, Outcome::Done),
+        Err(outcome) => flushed(session, writer, outcome),
     }
 }
 
 /// The outcome, once what is written is on its way.
-fn flushed<W: Write>(writer: &mut W, ended: Outcome) -> Outcome
-    ensures { (result ≡ outcome.Io) ⊎ ((result ≡ ended) × Keeps (W.contents writer.old) (W.contents writer.new)) }
+fn flushed<W: Write>(session: &mut Session, writer: &mut W, ended: Outcome) -> Outcome
+    ensures ends { (result ≡ outcome.Io) ⊎ ((result ≡ ended) × Keeps (W.contents writer.old) (W.contents writer.new)) }
+    ensures marks { (before : Bool) → Marks before session.old.failed ended → Marks before session.new.failed result }
 {
-    if writer.flush().is_err() {
-        Outcome::Io
-    } else {
-        ended
+    match session.told(writer.flush()) {
+        Ok(()) => ended,
+        Err(failed) => failed,
     }
 }

@@ -1,39 +1,51 @@
 //! What `tokens` prints: all tokens of what a reader has, read and scanned in pieces.
 
-ghost use Rattle.std.specs.Prelude.{◌≡◌, ℕ, List, IfOk, IfErr, IfSome, IfNone};
+ghost use Rattle.std.specs.Prelude.{◌≡◌, ℕ, true, false, List, length, None, IfOk, IfErr, IfSome, IfNone, MatchResult};
 ghost use Rattle.std.specs.List.{flat_map};
 ghost use Rattle.facet_format.specs.Views.{hint_of};
 ghost use Rattle.facet_json_token.specs.Gap.{Mode as SpecMode};
 ghost use Rattle.facet_json_token.specs.Views.{mode_of};
-ghost use Rattle.facet_json_pieces.specs.Listed.{mode_with, AreTokensOf};
+ghost use Rattle.facet_json_pieces.specs.Listed.{mode_with, AreTokensOf, RefusalWithin};
 ghost use Rattle.facet_json_command_line.specs.declared.outcome.Outcome.TheVariants as outcome;
 ghost use Rattle.facet_json_command.specs.TokenLines.{hint_name};
 ghost use Rattle.facet_json_command.specs.TokenViews.{text_of_token, code_of_kind};
-ghost use Rattle.facet_json_command.specs.Run.{IsFailure, Prints, ListsTokens, outcome_of};
+ghost use Rattle.facet_json_command.specs.Run.{IsWithin, Prints, ListsTokens};
+ghost use Rattle.facet_json_command.specs.Session.{Marks, outcome_of};
+ghost use Rattle.facet_json_command_line.specs.Outcome.{IsFault, IsToldAs};
 
+use crate::input::Input;
 use crate::lines::{write_place, write_value};
+use crate::session::Session;
 use facet_format::Span;
 use facet_format::numeral::NumberHint;
 use facet_json_command_line::outcome::{OUT_OF_MEMORY, Outcome};
-use facet_json_pieces::{Marked, ScanReadError, Scanned, scan_reader};
+use facet_json_pieces::{ScanReadError, Scanned, scan_reader};
 use facet_json_token::{Mode, ScanErrorKind, SpannedToken, Token};
-use std::alloc::Global;
 use std::io::{Read, Write};
 
 /// How many bytes are read at a time.
 const STEP: usize = 4096;
 
-/// All tokens of what the reader has.
-pub fn scan_all<R: Read>(alloc: Global, mode: Mode, reader: &mut R) -> Result<Scanned, Outcome>
-    ensures scanned { IfOk result (λ s. IfSome (R.remaining reader.old) (λ input. AreTokensOf input (mode_of mode) s)) }
+/// All tokens of what the input has.
+///
+/// A lack of memory is told as such, also one that a failed read tells of; each other read that failed is `Outcome::Io`.
+pub fn scan_all<R: Read>(
+    session: &mut Session,
+    mode: Mode,
+    input: &mut Input<'_, R>,
+) -> Result<Scanned, Outcome>
+    ensures scanned { IfOk result (λ s. IfSome (R.remaining input.old.reader.now) (λ bytes. AreTokensOf bytes (mode_of mode) s)) }
     ensures so_far { IfOk result (λ s. AreTokensOf s.buf.items (mode_of mode) s) }
-    ensures whole { IfOk result (λ s. IfNone s.refusal (IfSome (R.remaining reader.old) (λ input. s.buf.items ≡ input))) }
-    ensures failed { IfErr result IsFailure }
+    ensures whole { IfOk result (λ s. IfNone s.refusal (IfSome (R.remaining input.old.reader.now) (λ bytes. s.buf.items ≡ bytes))) }
+    ensures within { IfOk result (λ s. IfSome (R.remaining input.old.reader.now) (λ bytes. RefusalWithin (length bytes) s.refusal)) }
+    ensures memory { input.new.failed ≡ false → IfErr result (λ o. o ≡ outcome.Refused 9 None) }
+    ensures unread { input.old.failed ≡ false → input.new.failed ≡ true → MatchResult result (λ _. ⊥) (IsToldAs input.new.kind) }
+    ensures fault { IfErr result IsFault }
+    ensures marks { Marks session.old.failed session.new.failed (outcome_of result) }
 {
-    let mut source = Marked::new(reader);
-    match scan_reader(alloc, &mut source, STEP, has_comments(mode)) {
+    match scan_reader(session.alloc, input, STEP, has_comments(mode)) {
         Ok(scanned) => Ok(scanned),
-        Err(ScanReadError::Io) => Err(Outcome::Io),
+        Err(ScanReadError::Io) => Err(session.unread(input.kind)),
         Err(ScanReadError::Memory) => Err(OUT_OF_MEMORY),
     }
 }
@@ -49,15 +61,21 @@ fn has_comments(mode: Mode) -> bool
 }
 
 /// Writes the line of each token, and then that of the end; a refusal in its place ends the run.
-pub fn write_scanned<W: Write>(scanned: &Scanned, writer: &mut W) -> Result<(), Outcome>
-    ensures { (mode : SpecMode) (input : List ℕ) → AreTokensOf input mode scanned.now
+pub fn write_scanned<W: Write>(
+    session: &mut Session,
+    scanned: &Scanned,
+    writer: &mut W,
+) -> Result<(), Outcome>
+    ensures listed { (mode : SpecMode) (input : List ℕ) → AreTokensOf input mode scanned.now
         → IfNone scanned.now.refusal (scanned.now.buf.items ≡ input)
         → ListsTokens mode input (W.contents writer.old) (W.contents writer.new) (outcome_of result) }
+    ensures marks { Marks session.old.failed session.new.failed (outcome_of result) }
+    ensures within { (len : ℕ) → RefusalWithin len scanned.now.refusal → IsWithin len (outcome_of result) }
 {
-    match write_tokens(scanned.tokens.as_slice(), writer) {
+    match write_tokens(session, scanned.tokens.as_slice(), writer) {
         Ok(()) => match &scanned.refusal {
             Some(refusal) => Err(Outcome::Refused(code(&refusal.kind), Some(refusal.span))),
-            None => write_place(writer, "Eof", Span::new(scanned.buf.len(), 0)),
+            None => write_place(session, writer, "Eof", Span::new(scanned.buf.len(), 0)),
         },
         Err(outcome) => Err(outcome),
     }
@@ -75,32 +93,42 @@ fn code(kind: &ScanErrorKind) -> u8
 }
 
 /// Writes the line of each token.
-fn write_tokens<W: Write>(tokens: &[SpannedToken], writer: &mut W) -> Result<(), Outcome>
-    ensures { Prints (W.contents writer.old) (W.contents writer.new) (flat_map text_of_token tokens.now) result }
+fn write_tokens<W: Write>(
+    session: &mut Session,
+    tokens: &[SpannedToken],
+    writer: &mut W,
+) -> Result<(), Outcome>
+    ensures printed { Prints (W.contents writer.old) (W.contents writer.new) (flat_map text_of_token tokens.now) result }
+    ensures marks { Marks session.old.failed session.new.failed (outcome_of result) }
 {
     for token in tokens {
-        write_token(token, writer)?;
+        write_token(session, token, writer)?;
     }
     Ok(())
 }
 
 /// Writes the line of a token.
-fn write_token<W: Write>(token: &SpannedToken, writer: &mut W) -> Result<(), Outcome>
-    ensures { Prints (W.contents writer.old) (W.contents writer.new) (text_of_token token.now) result }
+fn write_token<W: Write>(
+    session: &mut Session,
+    token: &SpannedToken,
+    writer: &mut W,
+) -> Result<(), Outcome>
+    ensures printed { Prints (W.contents writer.old) (W.contents writer.new) (text_of_token token.now) result }
+    ensures marks { Marks session.old.failed session.new.failed (outcome_of result) }
 {
     let span = token.span;
     match token.token {
-        Token::ObjectStart => write_place(writer, "ObjectStart", span),
-        Token::ObjectEnd => write_place(writer, "ObjectEnd", span),
-        Token::ArrayStart => write_place(writer, "ArrayStart", span),
-        Token::ArrayEnd => write_place(writer, "ArrayEnd", span),
-        Token::Colon => write_place(writer, "Colon", span),
-        Token::Comma => write_place(writer, "Comma", span),
-        Token::Null => write_place(writer, "Null", span),
-        Token::True => write_place(writer, "True", span),
-        Token::False => write_place(writer, "False", span),
-        Token::String { .. } => write_place(writer, "String", span),
-        Token::Number { hint, .. } => write_value(writer, "Number", span, name_of(hint)),
+        Token::ObjectStart => write_place(session, writer, "ObjectStart", span),
+        Token::ObjectEnd => write_place(session, writer, "ObjectEnd", span),
+        Token::ArrayStart => write_place(session, writer, "ArrayStart", span),
+        Token::ArrayEnd => write_place(session, writer, "ArrayEnd", span),
+        Token::Colon => write_place(session, writer, "Colon", span),
+        Token::Comma => write_place(session, writer, "Comma", span),
+        Token::Null => write_place(session, writer, "Null", span),
+        Token::True => write_place(session, writer, "True", span),
+        Token::False => write_place(session, writer, "False", span),
+        Token::String { .. } => write_place(session, writer, "String", span),
+        Token::Number { hint, .. } => write_value(session, writer, "Number", span, name_of(hint)),
         Token::Eof | Token::NeedMore { .. } => Ok(()),
     }
 }

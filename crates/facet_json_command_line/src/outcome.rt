@@ -3,7 +3,7 @@
 ghost use Rattle.std.specs.Prelude.{◌≡◌, ◌⊎◌, None};
 ghost use Rattle.std.specs.IoError.{error_kind};
 ghost use Rattle.facet_json_command_line.specs.declared.outcome.Outcome.TheVariants as outcome;
-ghost use Rattle.facet_json_command_line.specs.Outcome.{IsFailure};
+ghost use Rattle.facet_json_command_line.specs.Outcome.{IsFault, IsToldAs};
 
 use facet_format::Span;
 use std::io;
@@ -28,10 +28,18 @@ pub const OUT_OF_MEMORY: Outcome = Outcome::Refused(9, None);
 
 /// How a call of the system that failed is answered. A growth that was refused in the midst of it is out of memory.
 pub fn failure(error: &io::Error) -> Outcome
-    ensures memory { error_kind error.now ≡ ErrorKind.OutOfMemory → result ≡ outcome.Refused 9 None }
-    ensures failed { IsFailure result }
+    ensures told { IsToldAs (error_kind error.now) result }
+    ensures fault { IsFault result }
 {
-    if error.kind() == ErrorKind::OutOfMemory {
+    failure_of(error.kind())
+}
+
+/// The same, by the kind of its error.
+pub fn failure_of(kind: ErrorKind) -> Outcome
+    ensures told { IsToldAs kind result }
+    ensures fault { IsFault result }
+{
+    if kind == ErrorKind::OutOfMemory {
         OUT_OF_MEMORY
     } else {
         Outcome::Io
@@ -42,7 +50,7 @@ pub fn failure(error: &io::Error) -> Outcome
 pub fn without_arguments(error: &io::Error) -> Outcome
     ensures usage { error_kind error.now ≡ ErrorKind.InvalidData → result ≡ outcome.Usage }
     ensures memory { error_kind error.now ≡ ErrorKind.OutOfMemory → result ≡ outcome.Refused 9 None }
-    ensures ends { (result ≡ outcome.Usage) ⊎ IsFailure result }
+    ensures ends { (result ≡ outcome.Usage) ⊎ IsFault result }
 {
     match error.kind() {
         ErrorKind::InvalidData => Outcome::Usage,

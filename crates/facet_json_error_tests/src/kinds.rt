@@ -1,28 +1,9 @@
 //! Kinds: their name, their message and their label.
 
-use crate::samples::unknown_field;
+use crate::samples::{is_told, unknown_field};
 use facet_json_error::JsonErrorKind;
 use facet_json_token::ScanErrorKind;
 use std::alloc::{AllocError, Global};
-
-/// Whether the kind is there, and has this name, this message and this label.
-fn is_told(
-    alloc: Global,
-    made: Result<JsonErrorKind, AllocError>,
-    code: &str,
-    text: &str,
-    label: &str,
-) -> bool {
-    let Ok(kind) = made else {
-        return false;
-    };
-    match (format!(in alloc; "{kind}"), kind.label(alloc)) {
-        (Ok(shown), Ok(said)) => {
-            kind.code() == code && shown.as_str() == text && said.as_str() == label
-        }
-        _ => false,
-    }
-}
 
 #[test]
 fn scans(rt: HostRuntime) {

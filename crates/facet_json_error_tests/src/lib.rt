@@ -7,6 +7,12 @@ mod growth;
 #[cfg(test)]
 mod kinds;
 #[cfg(test)]
+mod own;
+#[cfg(test)]
+mod past_ascii;
+#[cfg(test)]
 mod reports;
 #[cfg(test)]
 mod samples;
+#[cfg(test)]
+mod shown;

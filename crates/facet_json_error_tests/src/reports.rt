@@ -1,9 +1,9 @@
 //! Errors from refusals, with their source, and shown with the place.
 
+use crate::samples::is_reported;
 use facet_format::{DeserializeError, DeserializeErrorKind, Span};
 use facet_json_error::{JsonError, JsonErrorKind};
-use facet_json_report::{Position, Report, position_at};
-use std::alloc::Global;
+use facet_json_report::{Position, position_at};
 
 const SOURCE: &str = "{\n  \"age\": \"x\"\n}";
 
@@ -16,15 +16,6 @@ fn mismatch() -> JsonError {
         },
         span: Some(Span::new(11, 3)),
     })
-}
-
-/// Whether the error is reported so.
-fn is_reported(alloc: Global, error: &JsonError, source: &str, text: &str) -> bool {
-    let report = Report { error, source };
-    match format!(in alloc; "{report}") {
-        Ok(shown) => shown.as_str() == text,
-        Err(_) => false,
-    }
 }
 
 #[test]

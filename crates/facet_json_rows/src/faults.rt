@@ -179,14 +179,6 @@ fn tells_of_writes(alloc: Global, case: &Case<'_>) -> bool {
     false
 }
 
-/// What a run tells where a read is out of memory. To `tokens` each read that fails is one, whatever it says of that.
-fn told_of_memory(args: &[String]) -> Outcome {
-    match args.first() {
-        Some(name) if name.as_str() == "tokens" => Outcome::Io,
-        _ => OUT_OF_MEMORY,
-    }
-}
-
 /// Writes where a run does not tell of a failure.
 fn write_unless(is_told: bool, place: &str, told: &mut String) -> Result<(), AllocError> {
     if is_told {
@@ -200,12 +192,7 @@ fn write_unless(is_told: bool, place: &str, told: &mut String) -> Result<(), All
 pub fn write_untold(alloc: Global, case: &Case<'_>, told: &mut String) -> Result<(), AllocError> {
     let is_told = tells_of_reads(alloc, case, ErrorKind::BrokenPipe, Outcome::Io);
     write_unless(is_told, "a read fails", told)?;
-    let is_told = tells_of_reads(
-        alloc,
-        case,
-        ErrorKind::OutOfMemory,
-        told_of_memory(case.args),
-    );
+    let is_told = tells_of_reads(alloc, case, ErrorKind::OutOfMemory, OUT_OF_MEMORY);
     write_unless(is_told, "a read is out of memory", told)?;
     let is_told = tells_of_writes(alloc, case);
     write_unless(is_told, "a write fails or waits for a flush", told)

@@ -1,5 +1,7 @@
-use Rattle.std.proofs.Common.{refl, inl}
+use Rattle.std.proofs.Common.{length, refl, inl, subst}
 use Rattle.std.proofs.lemmas.Result.{IfOk-weaker, IfErr-weaker}
+use Rattle.facet_json_protocol.specs.Now.{Now}
+use Rattle.facet_json_transcode.specs.Views.{IsWithin}
 use Rattle.facet_json_command.proofs.Reformatting.{refusal_is}
 use Rattle.facet_json_command.proofs.run.reformatted.Goals as goal
 
@@ -31,3 +33,8 @@ pub returns-clause-only : goal.returns-clause-only
 returns-clause-only c has =
     c.refused.ensures.failed
     (c.in-Err.ensures.only c.args.input.now c.args.language _ c.parser_of-parser.ensures c.serializer_of-serializer.ensures has)
+
+pub returns-clause-within : goal.returns-clause-within
+returns-clause-within c =
+    c.refused.ensures.within _
+    (subst (λ (p : Now). IsWithin (length p.buffer) c.in-Err.error) c.parser_of-parser.ensures c.in-Err.ensures.within)

@@ -1,4 +1,4 @@
-use Rattle.std.proofs.Common.{refl, inl, inr, rules}
+use Rattle.std.proofs.Common.{inl, inr, rules}
 use Rattle.facet_json_command_line.specs.Arguments.{fmt, drive}
 use Rattle.facet_json_command.specs.Views.{words_of, command_view}
 use Rattle.facet_json_command_line.proofs.OneCommand.{one_command}
@@ -47,7 +47,7 @@ returns-in-Err-clause-only g c language pretty asks =
 pub returns-in-Err-clause-driven : goal.returns-in-Err-clause-driven
 returns-in-Err-clause-driven g c language calls asks =
     elim c.in-Err.ensures.refused [
-      | inl memory ↦ inr (rw memory refl)
+      | inl memory ↦ inr (inl memory)
       | inr wrong ↦ absurd (wrong.1 (drive language calls) asks)
     ]
 

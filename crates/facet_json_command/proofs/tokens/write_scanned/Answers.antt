@@ -13,8 +13,8 @@ use Rattle.facet_json_command.specs.Run.{Prints, ListsTokens}
 use Rattle.facet_json_command.proofs.TokenListing.{end_listed, refusal_listed}
 use Rattle.facet_json_command.proofs.tokens.write_scanned.Goals as goal
 
-pub returns-in-Some : goal.returns-in-Some
-returns-in-Some g c mode input all whole =
+pub returns-in-Some-clause-listed : goal.returns-in-Some-clause-listed
+returns-in-Some-clause-listed g c mode input all whole =
     let s = c.args.scanned.now in
     let e = c.in-Some.refusal in
     let a = g.W.Write.contents c.args.writer.now in
@@ -22,12 +22,12 @@ returns-in-Some g c mode input all whole =
     let are : AreAllOf input mode (list_of s.tokens.items (last_of (Some e))) =
     subst (λ r. AreAllOf input mode (list_of s.tokens.items (last_of r))) c.in-Some.is all in
     let printed : Appends a b (flat_map text_of_token s.tokens.items) =
-    subst (λ l. Appends a b (flat_map text_of_token l)) c.as_slice.ensures.value c.in-Ok.ensures in
+    subst (λ l. Appends a b (flat_map text_of_token l)) c.as_slice.ensures.value c.in-Ok.ensures.printed in
     subst (λ n. ListsTokens mode input a b (Refused n (Some e.span))) (sym c.code.ensures)
     (refusal_listed mode input s.tokens.items e a b are printed)
 
-pub returns-in-None : goal.returns-in-None
-returns-in-None g c mode input all whole =
+pub returns-in-None-clause-listed : goal.returns-in-None-clause-listed
+returns-in-None-clause-listed g c mode input all whole =
     let s = c.args.scanned.now in
     let a = g.W.Write.contents c.args.writer.now in
     let b = g.W.Write.contents c.write_tokens.new.writer in
@@ -36,10 +36,10 @@ returns-in-None g c mode input all whole =
     subst (λ r. AreAllOf input mode (list_of s.tokens.items (last_of r))) c.in-None.is all in
     let same : s.buf.items ≡ input = subst (λ r. IfNone r (s.buf.items ≡ input)) c.in-None.is whole in
     let printed : Appends a b (flat_map text_of_token s.tokens.items) =
-    subst (λ l. Appends a b (flat_map text_of_token l)) c.as_slice.ensures.value c.in-Ok.ensures in
+    subst (λ l. Appends a b (flat_map text_of_token l)) c.as_slice.ensures.value c.in-Ok.ensures.printed in
     let last : c.new.result.offset ≡ length input =
     omega (arith, s.buf.ok.0, c.len.ensures, c.new.ensures.offset, ap length same) in
     let there : span_of c.new.result ≡ span_at (length input) 0 =
     ap (λ n. span_at n c.new.result.len) last ∙ ap (span_at (length input)) c.new.ensures.len in
     end_listed mode input s.tokens.items a b d c.write_place.result are printed
-    (subst (λ p. Prints b d (place_line (codes "Eof") p) c.write_place.result) there c.write_place.ensures)
+    (subst (λ p. Prints b d (place_line (codes "Eof") p) c.write_place.result) there c.write_place.ensures.printed)
