@@ -5,5 +5,5 @@ pub use facet_json_scan::{
     ScanReadError, ScanResult, Scanned, Scanner, SpannedToken, Token, check_content,
     check_number_strict, check_string_strict, cut, decode_string, decode_string_borrowed,
     decode_string_borrowed_unchecked, decode_string_owned, decode_string_owned_unchecked,
-    decode_string_unchecked, laws, parse_number, parse_number_unchecked, scan_reader,
+    decode_string_unchecked, parse_number, parse_number_unchecked, scan_reader,
 };
