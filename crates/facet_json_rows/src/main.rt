@@ -4,15 +4,16 @@
 mod checked;
 mod compared;
 mod counted;
+mod cuts;
 mod decoded;
 mod derived;
 mod faults;
 mod long;
 mod numbers;
 mod pieces;
-mod prefixes;
 mod printf;
 mod row;
+mod scans;
 mod shown;
 mod tokens;
 mod trees;
