@@ -17,8 +17,8 @@ pub use facet_format::{
 };
 pub use facet_json_core::{
     Answer, BytesFormat, Call, HexBytesOptions, JsonError, JsonErrorKind, JsonParser,
-    JsonSerializeError, JsonSerializer, MaterializedToken, RawJson, SerializeOptions, TokenKind,
-    drive,
+    JsonSerializeError, JsonSerializer, MaterializedToken, RawJson, Result, SerializeOptions,
+    TokenKind, drive,
 };
 pub use facet_json_output::{
     WriteError, peek_to_string, peek_to_string_pretty, peek_to_string_with_options, peek_to_vec,

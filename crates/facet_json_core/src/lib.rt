@@ -6,7 +6,7 @@
 pub mod laws;
 mod script;
 
-pub use facet_format::FormatSerializer;
+pub use facet_format::{FormatParser, FormatSerializer};
 pub use facet_json_error::{JsonError, JsonErrorKind, Result};
 pub use facet_json_options::{BytesFormat, HexBytesOptions, SerializeOptions};
 pub use facet_json_parser::JsonParser;

@@ -1,5 +1,6 @@
 //! What parsers tell of an input: each mode, trusted and checking parsers, and each way to ask tell the same.
 
+use crate::cuts::tell_cuts;
 use crate::shown::{Telling, push, push_answer};
 use crate::unread::{Unread, tell_parts};
 use facet_format::FormatParser;
@@ -38,6 +39,8 @@ pub enum Way<'a> {
     ByUnread(Unread, bool),
     /// The tree.
     Tree,
+    /// What comes of the input cut after each of its bytes.
+    Cuts,
 }
 
 impl Way<'_> {
@@ -52,6 +55,7 @@ impl Way<'_> {
             Way::ByUnread(_, false) => "unread",
             Way::ByUnread(_, true) => "unread after a peek",
             Way::Tree => "as a tree",
+            Way::Cuts => "cut",
         }
     }
 }
@@ -121,6 +125,21 @@ fn write_difference(
     }
 }
 
+/// Writes where these ways to ask, and parsers that trust the input and that check it, tell different things of it.
+pub fn write_disagreement(
+    alloc: Global,
+    mode: Mode,
+    ways: &[Way<'_>],
+    input: &[u8],
+    written: &mut String,
+) -> Result<(), AllocError> {
+    let [way, ..] = ways else {
+        return Ok(());
+    };
+    let told = told(alloc, mode, false, *way, input)?;
+    write_differences(alloc, mode, ways, input, told.as_str(), written)
+}
+
 /// The name of a mode.
 fn mode_name(mode: Mode) -> &'static str {
     match mode {
@@ -165,30 +184,33 @@ fn tell_input(
     input: &[u8],
     told: &mut String,
 ) -> Result<(), AllocError> {
-    let mut parser = parser_of(alloc, mode, is_trusted, input);
-    ask(alloc, mode, &mut parser, way, input, told)
+    match way {
+        Way::Cuts => tell_cuts(alloc, mode, is_trusted, input, told),
+        Way::Tree => push_tree(alloc, mode, input, told),
+        _ => {
+            let mut parser = parser_of(alloc, mode, is_trusted, input);
+            ask(alloc, &mut parser, way, input.len(), told)
+        }
+    }
 }
 
-/// Appends what the parser of the input tells when it is asked this way, or the tree.
+/// Appends what a parser of so many bytes tells when it is asked this way.
 fn ask(
     alloc: Global,
-    mode: Mode,
     parser: &mut JsonParser<'_>,
     way: Way<'_>,
-    input: &[u8],
+    len: usize,
     told: &mut String,
 ) -> Result<(), AllocError> {
     match way {
-        Way::ByNext => tell_by_next(alloc, parser, input.len(), told),
-        Way::ByPeekAndNext => tell_by_peek_and_next(alloc, parser, input.len(), told),
-        Way::ByEvents => tell_by_events(alloc, parser, input.len(), told),
+        Way::ByNext => tell_by_next(alloc, parser, len, told),
+        Way::ByPeekAndNext => tell_by_peek_and_next(alloc, parser, len, told),
+        Way::ByEvents => tell_by_events(alloc, parser, len, told),
         Way::FirstByNext(count) => tell_first_by_next(alloc, parser, count, told),
         Way::FirstByEvents(count) => tell_first_by_events(alloc, parser, count, told),
         Way::ByCalls(calls) => push_answers(alloc, parser, calls, Telling::All, told),
-        Way::ByUnread(call, is_peeked) => {
-            tell_parts(alloc, parser, call, is_peeked, input.len(), told)
-        }
-        Way::Tree => push_tree(alloc, mode, input, told),
+        Way::ByUnread(call, is_peeked) => tell_parts(alloc, parser, call, is_peeked, len, told),
+        Way::Tree | Way::Cuts => Ok(()),
     }
 }
 
@@ -215,7 +237,7 @@ fn trusting<'de>(alloc: Global, mode: Mode, text: &'de str) -> JsonParser<'de> {
 }
 
 /// A parser that checks its strings.
-pub fn checking<'de>(alloc: Global, mode: Mode, input: &'de [u8]) -> JsonParser<'de> {
+fn checking<'de>(alloc: Global, mode: Mode, input: &'de [u8]) -> JsonParser<'de> {
     match mode {
         Mode::Plain => JsonParser::new(alloc, input),
         Mode::Jsonc => JsonParser::new_jsonc(alloc, input),

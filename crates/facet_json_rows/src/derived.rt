@@ -197,8 +197,9 @@ fn write_coded(code: u8, shown: &str, told: &mut String) -> Result<(), AllocErro
     writeln!(told, "{code} {shown}")
 }
 
-/// Writes a raw text that is in memory of its own.
+/// Writes how a raw text is shown, and one that is in memory of its own.
 fn write_raw(alloc: Global, told: &mut String) -> Result<(), AllocError> {
+    writeln!(told, "{:?}", RawJson::new("{\"a\":1}"))?;
     match RawJson::new("[1, 2]").into_owned(alloc) {
         Ok(owned) => write_raw_again(alloc, owned, told),
         Err(_) => writeln!(told, "OUT OF MEMORY"),

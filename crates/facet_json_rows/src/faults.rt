@@ -46,10 +46,11 @@ impl Fault {
     }
 }
 
-/// Gives three bytes at a time.
+/// Gives half of what it has and is asked for, at least a byte.
 #[derive(Drop)]
 pub struct FaultyReader<'a> {
     left: &'a [u8],
+    longest: usize,
     fault: Fault,
 }
 
@@ -58,15 +59,28 @@ impl<'a> FaultyReader<'a> {
     pub fn new(input: &'a [u8], fails_at: usize, kind: ErrorKind) -> FaultyReader<'a> {
         FaultyReader {
             left: input,
+            longest: 0,
             fault: Fault::at(fails_at, kind),
         }
+    }
+
+    /// The most bytes that it was asked for at once.
+    pub fn longest(&self) -> usize {
+        self.longest
+    }
+
+    /// Whether its call failed.
+    pub fn has_failed(&self) -> bool {
+        self.fault.is_met()
     }
 }
 
 impl Read for FaultyReader<'_> {
     fn read(&mut self, buf: &mut [u8]) -> io::Result<usize> {
+        self.longest = self.longest.max(buf.len());
         self.fault.call()?;
-        let n = self.left.len().min(buf.len()).min(3);
+        let room = self.left.len().min(buf.len());
+        let n = room - room / 2;
         buf[..n].copy_from_slice(&self.left[..n]);
         self.left = &self.left[n..];
         Ok(n)
@@ -98,7 +112,7 @@ impl Write for FaultyWriter {
 
 /// How a run over a reader or writer ended of which one call fails.
 #[derive(Clone, Copy)]
-enum Ended {
+pub enum Ended {
     /// It told of the failure.
     Told,
     /// It ended before that call, and answered as without one.
@@ -108,7 +122,8 @@ enum Ended {
 }
 
 impl Ended {
-    fn of(is_met: bool, is_told: bool, is_answered: bool) -> Ended {
+    /// A run whose call failed or did not, and which told of that, or answered as without it.
+    pub fn of(is_met: bool, is_told: bool, is_answered: bool) -> Ended {
         match (is_met, is_told, is_answered) {
             (true, true, _) => Ended::Told,
             (false, _, true) => Ended::Answered,
@@ -129,7 +144,7 @@ fn with_failed_read(
     let mut written = Vec::new(alloc);
     let outcome = run(alloc, case.args, &mut reader, &mut written);
     Ended::of(
-        reader.fault.is_met(),
+        reader.has_failed(),
         outcome == told && written.is_empty(),
         outcome == case.outcome && written.as_slice() == case.written,
     )
@@ -153,7 +168,7 @@ fn with_failed_write(alloc: Global, case: &Case<'_>, at: usize) -> Ended {
 }
 
 /// More calls than any run makes.
-const MANY_CALLS: usize = 100_000;
+pub const MANY_CALLS: usize = 100_000;
 
 /// Whether a run tells of each read that fails.
 fn tells_of_reads(alloc: Global, case: &Case<'_>, kind: ErrorKind, told: Outcome) -> bool {

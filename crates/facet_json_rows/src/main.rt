@@ -4,6 +4,7 @@
 mod checked;
 mod compared;
 mod counted;
+mod cuts;
 mod decoded;
 mod derived;
 mod faults;
@@ -11,9 +12,9 @@ mod long;
 mod marked;
 mod numbers;
 mod pieces;
-mod prefixes;
 mod printf;
 mod row;
+mod scans;
 mod shown;
 mod tokens;
 mod trees;

@@ -3,6 +3,7 @@
 use crate::checked::answer_check;
 use crate::compared::{Mode, Way, compare};
 use crate::counted::answer_count;
+use crate::cuts::answer_cuts;
 use crate::decoded::{answer_decode, answer_repeated};
 use crate::derived::answer_derived;
 use crate::faults::{Case, FaultyReader, write_untold};
@@ -10,8 +11,8 @@ use crate::long::answer_long;
 use crate::marked::answer_marked;
 use crate::numbers::answer_number;
 use crate::pieces::answer_short_texts;
-use crate::prefixes::{answer_cuts, answer_prefixes};
 use crate::printf::printed;
+use crate::scans::answer_pieces;
 use crate::tokens::{answer_scanner, answer_tokens};
 use crate::trees::{answer_equal, answer_write};
 use crate::unread::Unread;
@@ -62,9 +63,18 @@ fn command_of(name: &str) -> Option<Command> {
     }
 }
 
-/// The text that the row prints, and the command that reads it.
+/// The text that the row prints, and the command that reads it. A text that begins with `-` stands behind `--`, as a shell's `printf` takes
+/// it for an option else.
 fn parts(row: &str) -> Option<(&str, &str)> {
-    row.strip_prefix("printf '")?.split_once("' | ")
+    let (begun, is_marked) = match row.strip_prefix("printf -- '") {
+        Some(begun) => (begun, true),
+        None => (row.strip_prefix("printf '")?, false),
+    };
+    if begun.starts_with('-') == is_marked {
+        begun.split_once("' | ")
+    } else {
+        None
+    }
 }
 
 /// Writes what the command prints.
@@ -95,6 +105,7 @@ fn answer_part(
 ) -> Result<(), AllocError> {
     match name {
         "tokens" => answer_tokens(words, input, told),
+        "pieces" => answer_pieces(alloc, input, told),
         "short_texts" => answer_short_texts(input, told),
         "decode" => answer_decode(alloc, words, input, told),
         "number" => answer_number(words, input, told),
@@ -241,8 +252,8 @@ pub fn write_lines(text: &[u8], told: &mut String) -> Result<(), AllocError> {
     told.push('\n')
 }
 
-/// Writes what parsers of the input tell: `MODES all`, `MODES skips`, `MODES captures`, `MODES prefixes`, `MODES cuts`,
-/// `MODES first COUNT` or `MODES SCRIPT`.
+/// Writes what parsers of the input tell: `MODES all`, `MODES skips`, `MODES captures`, `MODES cuts`, `MODES first COUNT` or
+/// `MODES SCRIPT`.
 pub fn answer_parser(
     alloc: Global,
     words: &str,
@@ -255,7 +266,6 @@ pub fn answer_parser(
         "all" => compare(alloc, modes, &ALL_EVENTS, input, told),
         "skips" => compare(alloc, modes, &ALL_SKIPS, input, told),
         "captures" => compare(alloc, modes, &ALL_CAPTURES, input, told),
-        "prefixes" => answer_prefixes(alloc, modes, input, told),
         "cuts" => answer_cuts(alloc, modes, input, told),
         _ => match asked.strip_prefix("first ") {
             Some(count) => answer_first(alloc, modes, count, input, told),
@@ -278,7 +288,7 @@ fn answer_first(
 }
 
 /// The ways to ask for all events.
-static ALL_EVENTS: [Way<'static>; 3] = [Way::ByNext, Way::ByPeekAndNext, Way::ByEvents];
+pub static ALL_EVENTS: [Way<'static>; 3] = [Way::ByNext, Way::ByPeekAndNext, Way::ByEvents];
 
 /// The ways to skip each part, and to capture it.
 static ALL_SKIPS: [Way<'static>; 2] = [

@@ -1,7 +1,7 @@
 //! Skips and captures at each place of an input.
 
 use crate::shown::{Telling, error_shown, push};
-use facet_format::{FormatParser, ParseError};
+use facet_format::{FormatParser, ParseError, Span};
 use facet_json::JsonParser;
 use std::alloc::{AllocError, Global};
 
@@ -23,7 +23,7 @@ pub fn tell_parts(
     told: &mut String,
 ) -> Result<(), AllocError> {
     for _ in 0..=len {
-        tell_part(alloc, parser, call, is_peeked, told)?;
+        tell_part(alloc, parser, call, is_peeked, len, told)?;
         if !matches!(parser.next_event(), Ok(Some(_))) {
             return Ok(());
         }
@@ -37,6 +37,7 @@ fn tell_part(
     parser: &mut JsonParser<'_>,
     call: Unread,
     is_peeked: bool,
+    len: usize,
     told: &mut String,
 ) -> Result<(), AllocError> {
     let Ok(point) = parser.save() else {
@@ -46,8 +47,45 @@ fn tell_part(
         let _ = parser.peek_event();
     }
     let text = passed(alloc, parser, call)?;
+    push(told, text.as_str(), Telling::All)?;
+    if text.starts_with("refused") {
+        tell_again(alloc, parser, call, text.as_str(), told)?;
+    }
+    if !is_within(parser, len) {
+        push(told, "outside", Telling::All)?;
+    }
     parser.restore(point);
-    push(told, text.as_str(), Telling::All)
+    Ok(())
+}
+
+/// Whether the last token, and a refusal that comes next, are of the first so many bytes.
+fn is_within(parser: &mut JsonParser<'_>, len: usize) -> bool {
+    let last = parser.current_span().unwrap_or(Span::new(0, 0));
+    let next = match parser.next_event() {
+        Err(error) => error.span,
+        Ok(_) => last,
+    };
+    last.end() <= len && next.end() <= len
+}
+
+/// What else than the refusal the call does once more, and the next event.
+fn tell_again(
+    alloc: Global,
+    parser: &mut JsonParser<'_>,
+    call: Unread,
+    refusal: &str,
+    told: &mut String,
+) -> Result<(), AllocError> {
+    let again = passed(alloc, parser, call)?;
+    let next = match parser.next_event() {
+        Err(error) => error_shown(alloc, &error)?,
+        Ok(_) => "no refusal".to_string(alloc)?,
+    };
+    if again.as_str() == refusal && next.as_str() == refusal {
+        Ok(())
+    } else {
+        push(told, "not again", Telling::All)
+    }
 }
 
 /// What the call passes, or its refusal.
@@ -62,7 +100,7 @@ fn passed(alloc: Global, parser: &mut JsonParser<'_>, call: Unread) -> Result<St
 }
 
 /// The last token.
-fn span_shown(alloc: Global, parser: &JsonParser<'_>) -> Result<String, AllocError> {
+pub fn span_shown(alloc: Global, parser: &JsonParser<'_>) -> Result<String, AllocError> {
     match parser.current_span() {
         Some(span) => format!(in alloc; "{}+{}", span.offset, span.len),
         None => "no span".to_string(alloc),
