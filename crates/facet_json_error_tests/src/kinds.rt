@@ -1,6 +1,6 @@
 //! Kinds: their name, their message and their label.
 
-use crate::samples::{is_told, unknown_field};
+use crate::samples::{is_told, unknown};
 use facet_json_error::JsonErrorKind;
 use facet_json_token::ScanErrorKind;
 use std::alloc::{AllocError, Global};
@@ -27,6 +27,16 @@ fn scans(rt: HostRuntime) {
             code,
             "UnexpectedChar('é')",
             "unexpected 'é'"
+        )
+    );
+    let kind = JsonErrorKind::Scan(ScanErrorKind::UnexpectedChar('\''));
+    assert!(rt;
+        is_told(
+            alloc,
+            Ok(kind),
+            code,
+            "UnexpectedChar('\\'')",
+            "unexpected '''"
         )
     );
     let kind = JsonErrorKind::Scan(ScanErrorKind::UnexpectedEof("in string"));
@@ -125,23 +135,23 @@ fn tokens_and_types(rt: HostRuntime) {
 #[test]
 fn fields(rt: HostRuntime) {
     let alloc = rt.alloc();
-    let text = "unknown field `nmae`, expected one of: [\"name\", \"age\"]";
-    let kind = unknown_field(alloc, None);
+    let text = "unknown field `nme`, expected one of: [\"name\", \"age\"]";
+    let kind = unknown(alloc, "nme", None);
     assert!(rt;
         is_told(
             alloc,
             kind,
             "json::unknown_field",
             text,
-            "unknown field 'nmae'"
+            "unknown field 'nme'"
         )
     );
-    let text = "unknown field `nmae`, expected one of: [\"name\", \"age\"] (did you mean `name`?)";
-    let label = "unknown field 'nmae' - did you mean 'name'?";
+    let text = "unknown field `nme`, expected one of: [\"name\", \"age\"] (did you mean `name`?)";
+    let label = "unknown field 'nme' - did you mean 'name'?";
     assert!(rt;
         is_told(
             alloc,
-            unknown_field(alloc, Some("name")),
+            unknown(alloc, "nme", Some("name")),
             "json::unknown_field",
             text,
             label

@@ -13,6 +13,8 @@ mod entries;
 #[cfg(test)]
 mod growth;
 #[cfg(test)]
+mod lent;
+#[cfg(test)]
 mod numbers;
 #[cfg(test)]
 mod own;

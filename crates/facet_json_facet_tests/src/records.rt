@@ -63,30 +63,6 @@ fn text_of_point(alloc: Global, point: &Point) -> Result<Vec<u8>, JsonSerializeE
     serializer.finish()
 }
 
-/// A point with a label that the input lends.
-#[derive(PartialEq, Drop)]
-struct Labelled<'de> {
-    label: &'de str,
-    point: Point,
-}
-
-fn read_labelled<'t, 'de>(
-    alloc: Global,
-    input: &'de str,
-) -> Result<Labelled<'de>, DeserializeError<'t>> {
-    let mut parser = JsonParser::new(alloc, input.as_bytes());
-    let Need(label, Need(x, Need(y, Done))) = read_fields(
-        alloc,
-        &mut parser,
-        true,
-        &["label", "x", "y"],
-    )?;
-    Ok(Labelled {
-        label,
-        point: Point { x, y },
-    })
-}
-
 /// A response, as `{"status":200,"data":[]}`: whatever stands under `data` stays as it stands there.
 #[derive(PartialEq, Drop)]
 struct Response<'de> {
@@ -219,12 +195,6 @@ fn points_are_read_and_written(rt: HostRuntime) {
     let point = Point { x: 10, y: 20 };
     assert!(rt; read_point(alloc, "{\"x\": 10, \"y\": 20}") == Ok(Point { x: 10, y: 20 }));
     assert!(rt; is_text(text_of_point(alloc, &point), "{\"x\":10,\"y\":20}"));
-    let origin = Labelled {
-        label: "origin",
-        point: Point { x: 0, y: 0 },
-    };
-    let input = "{\"label\": \"origin\", \"x\": 0, \"y\": 0}";
-    assert!(rt; read_labelled(alloc, input) == Ok(origin));
 }
 
 #[test]

@@ -3,6 +3,7 @@
 use crate::typed::mismatch;
 use facet_format::{DeserializeError, DeserializeErrorKind, FormatParser, Span};
 use facet_json_meaning::JsonParser;
+use facet_json_tree::Tree;
 use facet_json_typed::Facet;
 use std::alloc::Global;
 use std::collections::BTreeMap;
@@ -179,6 +180,18 @@ fn other_values_have_names(rt: HostRuntime) {
     assert!(rt; is_called::<Option<u8>>(alloc, "u8", &["null", "7"]));
     assert!(rt; is_called::<Vec<u8>>(alloc, "array", &["[]"]));
     assert!(rt; is_called::<BTreeMap<String, u8>>(alloc, "object", &["{}"]));
+    let values = [
+        "null",
+        "true",
+        "7",
+        "1.5",
+        "\"x\"",
+        "18446744073709551616",
+        "-9223372036854775809",
+        "{}",
+        "[]",
+    ];
+    assert!(rt; is_called::<Tree>(alloc, "value", &values));
 }
 
 /// The second item of a list, after the first one was refused.

@@ -1,0 +1,165 @@
+//! Structs whose texts the input lends.
+
+use crate::typed::{refuses, writes};
+use facet_format::{DeserializeError, DeserializeErrorKind, Span};
+use facet_json_meaning::JsonParser;
+use facet_json_record::{Done, Need, read_fields, write_fields};
+use facet_json_serializer::{JsonSerializeError, JsonSerializer};
+use facet_json_typed::{Facet, from_str_borrowed};
+use std::alloc::Global;
+
+/// A person, as `{"name":"Alice","age":30}`.
+#[derive(PartialEq, Drop)]
+struct Person<'de> {
+    name: &'de str,
+    age: u32,
+}
+
+impl<'de> Facet<'de> for Person<'de> {
+    ghost use Rattle.std.specs.Prelude.{ℕ, ℤ, List, false};
+    ghost use Rattle.facet_json_facet_tests.specs.Lent.{person};
+    ghost use Rattle.facet_json_facet_tests.specs.LentLaws.{person-laws};
+
+    ghost View = { List ℕ × (ℕ × Unit {0}) };
+
+    ghost view = { λ p. (p.name.now, (p.age, tt)) };
+
+    ghost reading = { person.reading };
+
+    ghost reading_borrowed = { person.reading_borrowed };
+
+    ghost tree_of = { person.tree_of };
+
+    ghost readable = { person.readable };
+
+    ghost whole = { false };
+
+    fn read_owned<'t>(
+        alloc: Global,
+        parser: &mut JsonParser<'de>,
+    ) -> Result<Person<'de>, DeserializeError<'t>> {
+        let Need(name, Need(age, Done)) = read_fields(alloc, parser, false, &["name", "age"])?;
+        Ok(Person { name, age })
+    }
+
+    fn read<'t>(
+        alloc: Global,
+        parser: &mut JsonParser<'de>,
+    ) -> Result<Person<'de>, DeserializeError<'t>> {
+        let Need(name, Need(age, Done)) = read_fields(alloc, parser, true, &["name", "age"])?;
+        Ok(Person { name, age })
+    }
+
+    fn write(&self, serializer: &mut JsonSerializer<'_>) -> Result<(), JsonSerializeError> {
+        let fields = Need(&self.name, Need(&self.age, Done));
+        write_fields(serializer, &["name", "age"], &fields)
+    }
+
+    ghost same_reading = { person-laws.same_reading };
+
+    ghost same_reading_borrowed = { person-laws.same_reading_borrowed };
+
+    ghost reads_back = { person-laws.reads_back };
+}
+
+/// A point, as `{"label":"origin","x":0,"y":0}`.
+#[derive(PartialEq, Drop)]
+struct Labelled<'de> {
+    label: &'de str,
+    x: i32,
+    y: i32,
+}
+
+impl<'de> Facet<'de> for Labelled<'de> {
+    ghost use Rattle.std.specs.Prelude.{ℕ, ℤ, List, false};
+    ghost use Rattle.facet_json_facet_tests.specs.Lent.{labelled};
+    ghost use Rattle.facet_json_facet_tests.specs.LentLaws.{labelled-laws};
+
+    ghost View = { List ℕ × (ℤ × (ℤ × Unit {0})) };
+
+    ghost view = { λ p. (p.label.now, (p.x, (p.y, tt))) };
+
+    ghost reading = { labelled.reading };
+
+    ghost reading_borrowed = { labelled.reading_borrowed };
+
+    ghost tree_of = { labelled.tree_of };
+
+    ghost readable = { labelled.readable };
+
+    ghost whole = { false };
+
+    fn read_owned<'t>(
+        alloc: Global,
+        parser: &mut JsonParser<'de>,
+    ) -> Result<Labelled<'de>, DeserializeError<'t>> {
+        let Need(label, Need(x, Need(y, Done))) = read_fields(
+            alloc,
+            parser,
+            false,
+            &["label", "x", "y"],
+        )?;
+        Ok(Labelled { label, x, y })
+    }
+
+    fn read<'t>(
+        alloc: Global,
+        parser: &mut JsonParser<'de>,
+    ) -> Result<Labelled<'de>, DeserializeError<'t>> {
+        let Need(label, Need(x, Need(y, Done))) = read_fields(
+            alloc,
+            parser,
+            true,
+            &["label", "x", "y"],
+        )?;
+        Ok(Labelled { label, x, y })
+    }
+
+    fn write(&self, serializer: &mut JsonSerializer<'_>) -> Result<(), JsonSerializeError> {
+        let fields = Need(&self.label, Need(&self.x, Need(&self.y, Done)));
+        write_fields(serializer, &["label", "x", "y"], &fields)
+    }
+
+    ghost same_reading = { labelled-laws.same_reading };
+
+    ghost same_reading_borrowed = { labelled-laws.same_reading_borrowed };
+
+    ghost reads_back = { labelled-laws.reads_back };
+}
+
+/// Whether the text is read as this value, which is written as this text.
+fn is_lent<'de, T: Facet<'de> + PartialEq>(
+    alloc: Global,
+    text: &'de str,
+    value: &T,
+    written: &str,
+) -> bool {
+    match from_str_borrowed::<T>(alloc, text) {
+        Ok(read) => read == *value && writes(alloc, &read, written),
+        Err(_) => false,
+    }
+}
+
+#[test]
+fn texts_of_structs_are_lent(rt: HostRuntime) {
+    let alloc = rt.alloc();
+    let alice = Person {
+        name: "Alice",
+        age: 30,
+    };
+    let text = "{\"name\": \"Alice\", \"age\": 30}";
+    assert!(rt; is_lent(alloc, text, &alice, "{\"name\":\"Alice\",\"age\":30}"));
+    let origin = Labelled {
+        label: "origin",
+        x: 0,
+        y: 0,
+    };
+    let text = "{\"label\": \"origin\", \"x\": 0, \"y\": 0}";
+    let written = "{\"label\":\"origin\",\"x\":0,\"y\":0}";
+    assert!(rt; is_lent(alloc, text, &origin, written));
+    let not_lent = DeserializeErrorKind::InvalidValue {
+        message: "a borrowed text needs an unescaped string",
+    };
+    let text = "{\"age\": 30, \"name\": \"Alice\"}";
+    assert!(rt; refuses::<Person<'static>>(alloc, text, not_lent, Span::new(20, 7)));
+}
