@@ -1,21 +1,19 @@
 //! The next event of a value that is read.
 
-ghost use Rattle.std.specs.Prelude.{◌≡◌, ◌≤◌, ◌<◌, ◌+◌, true, false, None, Some, length, IfOk, IfErr, OnOk};
+ghost use Rattle.std.specs.Prelude.{◌≡◌, ◌≤◌, ◌<◌, ◌+◌, true, false, None, Some, length, codes, IfOk, IfErr, OnOk};
 ghost use Rattle.facet_format.specs.Span.{stop};
 ghost use Rattle.facet_format.specs.Views.{event_of, refusal_of};
 ghost use Rattle.facet_json_protocol.specs.Now.{ahead, GoesOn};
 ghost use Rattle.facet_json_protocol.specs.Next.{PassesNext};
 ghost use Rattle.facet_json_protocol.specs.Within.{RefusalWithin};
+ghost use Rattle.facet_json_transcode.specs.Refusing.{TellsRefusal, mismatch_of};
 ghost use Rattle.facet_json_meaning.specs.Passing.{WalksPast, LacksAlone, PassesNull, LacksNull};
 ghost use Rattle.facet_json_meaning.specs.Optional.{is_null_event};
 ghost use Rattle.facet_json_meaning.specs.Peeking.{FindsNull};
 
-use facet_format::{
-    DeserializeError, DeserializeErrorKind, FormatParser, ParseEvent, ParseEventKind, ScalarValue,
-    Span,
-};
+use facet_format::{DeserializeError, FormatParser, ParseEvent, ParseEventKind, ScalarValue};
 use facet_json_meaning::JsonParser;
-use facet_json_transcode::mismatch;
+use facet_json_transcode::{ended, mismatch};
 
 /// The next event, where a value is to come.
 ///
@@ -32,21 +30,11 @@ pub fn next_of_value<'t, 'de>(
     ensures lacks { IfErr result (λ e. LacksAlone parser.old (refusal_of e)) }
     ensures event_within { IfOk result (λ e. stop (event_of e).span ≤ length parser.new.buffer) }
     ensures within { IfErr result (λ e. RefusalWithin parser.new.buffer (refusal_of e)) }
+    ensures tells { IfErr result (λ e. TellsRefusal parser.old parser.new (refusal_of e)) }
 {
     match parser.next_event()? {
         Some(event) => Ok(event),
         None => Err(ended(parser)),
-    }
-}
-
-/// The refusal of a value where the parser is at the end.
-fn ended<'t>(parser: &JsonParser<'_>) -> DeserializeError<'t>
-    ensures { RefusalWithin parser.now.buffer (refusal_of result) }
-{
-    let end = parser.current_span().unwrap().end();
-    DeserializeError {
-        kind: DeserializeErrorKind::UnexpectedEof { expected: "value" },
-        span: Some(Span::new(end, 0)),
     }
 }
 
@@ -60,6 +48,7 @@ pub fn null_comes<'t>(parser: &mut JsonParser<'_>) -> Result<bool, DeserializeEr
     ensures finds { IfOk result (λ found. FindsNull parser.old found parser.new) }
     ensures lacks { IfErr result (λ e. LacksAlone parser.old (refusal_of e)) }
     ensures within { IfErr result (λ e. RefusalWithin parser.new.buffer (refusal_of e)) }
+    ensures tells { IfErr result (λ e. TellsRefusal parser.old parser.new (refusal_of e)) }
 {
     match parser.peek_event()? {
         Some(event) => Ok(is_null(&event)),
@@ -85,6 +74,8 @@ pub fn pass_null<'t>(parser: &mut JsonParser<'_>) -> Result<(), DeserializeError
     ensures passes { OnOk result (PassesNull parser.old parser.new) }
     ensures lacks { IfErr result (λ e. LacksNull parser.old (refusal_of e)) }
     ensures within { IfErr result (λ e. RefusalWithin parser.new.buffer (refusal_of e)) }
+    ensures free { OnOk result (parser.new.cursor.refusal ≡ None) }
+    ensures tells { IfErr result (λ e. TellsRefusal parser.old parser.new (refusal_of e)) }
 {
     null_in(next_of_value(parser)?)
 }
@@ -98,6 +89,7 @@ fn null_in<'t>(event: ParseEvent<'_>) -> Result<(), DeserializeError<'t>>
     ensures null { OnOk result (is_null_event (event_of event.entry).kind ≡ true) }
     ensures refused { IfErr result (λ e. is_null_event (event_of event.entry).kind ≡ false) }
     ensures span { IfErr result (λ e. e.span ≡ Some event.entry.span) }
+    ensures told { IfErr result (λ e. refusal_of e ≡ mismatch_of (codes "null") (event_of event.entry)) }
 {
     match event.kind {
         ParseEventKind::Scalar(ScalarValue::Null) => Ok(()),

@@ -6,6 +6,7 @@ use Rattle.facet_format.specs.Views.{refusal_of}
 use Rattle.facet_json_protocol.specs.Now.{Now}
 use Rattle.facet_json_meaning.specs.Optional.{is_null_event}
 use Rattle.facet_json_meaning.specs.Passing.{WalksPast, LacksAlone, LacksNull}
+use Rattle.facet_json_transcode.proofs.Refusing.{event-tells, mismatch-about}
 use Rattle.facet_json_steps.proofs.next.pass_null.Goals as goal
 
 -- Where memory alone was lacking, it was before null.
@@ -37,3 +38,10 @@ pub returns-clause-lacks : goal.returns-clause-lacks
 returns-clause-lacks c =
     IfErr-weaker c.null_in.result _ _ (λ e other. other-null _ _ _ (refusal_of e) other c.in_ok-next_of_value.ensures.walks)
     c.null_in.ensures.refused
+
+pub returns-clause-free : goal.returns-clause-free
+returns-clause-free c = on_ok_weaker c.null_in.result (λ is. c.in_ok-next_of_value.ensures.passed.free) c.null_in.ensures.null
+
+pub returns-clause-tells : goal.returns-clause-tells
+returns-clause-tells c =
+    IfErr-weaker c.null_in.result _ _ (λ e told. event-tells c.in_ok-next_of_value.ensures.passed (mismatch-about _ _ told)) c.null_in.ensures.told

@@ -1,8 +1,9 @@
 use Rattle.std.proofs.Common.{sym, ap, subst, rules}
-use Rattle.std.proofs.lemmas.Result.{IfOk-weaker}
+use Rattle.std.proofs.lemmas.Result.{IfErr-weaker, IfOk-weaker}
 use Rattle.facet_format.specs.Event.{bytes_of, is_owned}
 use Rattle.facet_json_meaning.specs.Reading.{IsRead}
 use Rattle.facet_json_meaning.specs.Readings.{raw_of}
+use Rattle.facet_json_meaning.specs.Refusing.{without_memory}
 use Rattle.facet_json_facet.proofs.raw.RawJsonFacet.read_owned.Goals as goal
 
 pub returns-clause-read : goal.returns-clause-read
@@ -28,3 +29,10 @@ returns-clause-owned c = IfOk-weaker c.copied.result _ _ (λ v is. ap is_owned i
 
 pub returns-in_err-captured-clause-owned : goal.returns-in_err-captured-clause-owned
 returns-in_err-captured-clause-owned c = search rules
+
+pub returns-clause-tells : goal.returns-clause-tells
+returns-clause-tells c =
+    IfErr-weaker c.copied.result _ _ (λ e lacks. without_memory c.in_ok-captured.ensures.free lacks) c.copied.ensures.lacks
+
+pub returns-clause-free : goal.returns-clause-free
+returns-clause-free c = IfOk-weaker c.copied.result _ _ (λ v is. c.in_ok-captured.ensures.free) c.copied.ensures.copied
