@@ -26,20 +26,30 @@ fn is_copied(alloc: Global, tree: &Tree) -> Option<bool> {
     }
 }
 
-/// Whether a list of a value of each kind is copied, and each by itself: those that hold no text and no others without memory.
-fn are_copied(alloc: Global) -> Option<bool> {
+/// Whether a value is copied, or memory runs out: for one that holds no text and no others it does not.
+fn is_copied_alone(alloc: Global, tree: &Tree) -> Option<bool> {
+    let is_small = matches!(
+        tree,
+        Tree::Unit | Tree::Char(_) | Tree::I64(_) | Tree::I128(_) | Tree::U128(_)
+    );
+    match is_copied(alloc, tree) {
+        None if is_small => Some(false),
+        told => told,
+    }
+}
+
+/// Whether a list of a value of each kind, which has so many items, is copied, and each item by itself.
+fn are_copied(alloc: Global, count: usize) -> Option<bool> {
     let Ok(tree) = each_kind(alloc) else {
         return None;
     };
-    for item in tree.as_list().unwrap_or(&[]) {
-        let is_small = matches!(
-            item,
-            Tree::Unit | Tree::Char(_) | Tree::I64(_) | Tree::I128(_) | Tree::U128(_)
-        );
-        match is_copied(alloc, item) {
-            Some(true) => {}
-            None if !is_small => return None,
-            _ => return Some(false),
+    let items = tree.as_list().unwrap_or(&[]);
+    if items.len() != count {
+        return Some(false);
+    }
+    for item in items {
+        if !is_copied_alone(alloc, item)? {
+            return Some(false);
         }
     }
     is_copied(alloc, &tree)
@@ -48,7 +58,7 @@ fn are_copied(alloc: Global) -> Option<bool> {
 #[test]
 fn a_growth_is_refused_in_a_copy(rt: HostRuntime) {
     let alloc = rt.alloc();
-    assert!(rt; but_once(are_copied(alloc), are_copied(alloc)));
+    assert!(rt; but_once(are_copied(alloc, 11), are_copied(alloc, 11)));
 }
 
 /// Whether a raw text is kept in memory of its own; or memory runs out, and it comes back as it was.
