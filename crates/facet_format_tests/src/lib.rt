@@ -6,6 +6,8 @@ mod decimals;
 #[cfg(test)]
 mod events;
 #[cfg(test)]
+mod growth;
+#[cfg(test)]
 mod parsers;
 #[cfg(test)]
 mod values;

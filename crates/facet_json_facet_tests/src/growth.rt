@@ -1,129 +1,708 @@
 //! Refused growths. With ample memory these tests pass as any other does. `./check_growths` at the top runs them once more for each
-//! of their requests for memory, which is refused, and they have to pass in every such run.
+//! of their requests for memory, which is refused, and they have to pass in every such run. Each row is tried twice, its set-up too: as
+//! one request is refused in a run, memory runs out in one of the two at most, and the other gives the whole answer.
 
-use facet_format::{DeserializeError, DeserializeErrorKind};
+use facet_format::{
+    DeserializeError, DeserializeErrorKind, FormatParser, ParseError, ParseEvent, Span,
+};
+use facet_json_accounts::Account;
 use facet_json_meaning::JsonParser;
 use facet_json_raw::RawJson;
-use facet_json_record::{Done, Need, read_fields};
+use facet_json_record::{Done, Need, read_fields, write_fields};
+use facet_json_serializer::{JsonSerializeError, JsonSerializer};
+use facet_json_tree::Tree;
 use facet_json_typed::{
-    Facet, from_slice, from_slice_borrowed, from_slice_strict, to_string, to_vec,
+    Facet, from_slice, from_slice_borrowed, from_slice_borrowed_jsonc, from_slice_jsonc,
+    from_slice_strict, from_str, from_str_borrowed, from_str_borrowed_jsonc, from_str_jsonc,
+    from_str_strict, to_vec,
 };
 use std::alloc::Global;
 use std::collections::BTreeMap;
+use std::process::Abort;
 
-/// Whether memory ran out.
-fn has_run_out(error: DeserializeError<'_>) -> bool {
-    error.kind == DeserializeErrorKind::OutOfMemory
+/// Whether a call that was made twice gave its whole answer, but for one time at most in which memory ran out.
+fn but_once(first: Option<bool>, again: Option<bool>) -> bool {
+    first.unwrap_or(true) && again.unwrap_or(true) && (first.is_some() || again.is_some())
 }
 
-/// Whether the value is written as this text, as bytes and as a text, or memory runs out.
-fn writes_or_runs_out<'de, T: Facet<'de>>(alloc: Global, value: &T, text: &str) -> bool {
-    let bytes = match to_vec(alloc, value) {
-        Ok(written) => written.as_slice() == text.as_bytes(),
-        Err(refusal) => refusal.code() == 4,
+/// A way to read a value of a type.
+#[derive(Debug, Clone, Copy)]
+enum Entry {
+    /// `from_slice`
+    Slice,
+    /// `from_slice_jsonc`
+    SliceJsonc,
+    /// `from_slice_strict`
+    SliceStrict,
+    /// `from_str`
+    Str,
+    /// `from_str_jsonc`
+    StrJsonc,
+    /// `from_str_strict`
+    StrStrict,
+    /// The type's own `read_owned`, by a parser
+    Owned,
+    /// `from_slice_borrowed`
+    SliceBorrowed,
+    /// `from_slice_borrowed_jsonc`
+    SliceBorrowedJsonc,
+    /// `from_str_borrowed`
+    StrBorrowed,
+    /// `from_str_borrowed_jsonc`
+    StrBorrowedJsonc,
+    /// The type's own `read`, by a parser
+    Borrowed,
+}
+
+/// Some of them.
+#[derive(Clone, Copy)]
+enum By {
+    /// All
+    Each,
+    /// Those that read more than RFC 8259 has
+    Lenient,
+    /// Those that read comments
+    Comments,
+    /// Those that borrow nothing
+    Owned,
+    /// Those that may borrow
+    Borrowed,
+}
+
+/// All of them.
+static ENTRIES: [Entry; 12] = [
+    Entry::Slice,
+    Entry::SliceJsonc,
+    Entry::Str,
+    Entry::StrJsonc,
+    Entry::Owned,
+    Entry::SliceStrict,
+    Entry::StrStrict,
+    Entry::SliceBorrowed,
+    Entry::SliceBorrowedJsonc,
+    Entry::StrBorrowed,
+    Entry::StrBorrowedJsonc,
+    Entry::Borrowed,
+];
+
+/// Whether an entry is one of these.
+fn is_one(entry: Entry, by: By) -> bool {
+    let borrows = matches!(
+        entry,
+        Entry::SliceBorrowed
+            | Entry::SliceBorrowedJsonc
+            | Entry::StrBorrowed
+            | Entry::StrBorrowedJsonc
+            | Entry::Borrowed
+    );
+    match by {
+        By::Each => true,
+        By::Lenient => !matches!(entry, Entry::SliceStrict | Entry::StrStrict),
+        By::Comments => matches!(
+            entry,
+            Entry::SliceJsonc
+                | Entry::StrJsonc
+                | Entry::SliceBorrowedJsonc
+                | Entry::StrBorrowedJsonc
+        ),
+        By::Owned => !borrows,
+        By::Borrowed => borrows,
+    }
+}
+
+/// What some entries read of an input.
+struct Row<'r> {
+    by: By,
+    input: &'r str,
+    /// The text of the value, or the refusal.
+    answer: Result<&'r str, DeserializeError<'r>>,
+    /// The last token before each event for which the parser may want memory.
+    wants: &'r [(usize, usize)],
+    /// Whether the type may want some for itself.
+    grows: bool,
+}
+
+/// Whether a refusal tells that memory ran out: at one of these tokens, or at none where the type wanted it.
+fn is_want(error: &DeserializeError<'_>, row: &Row<'_>) -> bool {
+    let place = match error.span {
+        Some(span) => row.wants.contains(&(span.offset, span.len)),
+        None => row.grows,
     };
-    match to_string(alloc, value) {
-        Ok(written) => bytes && written.as_str() == text,
-        Err(refusal) => bytes && refusal.code() == 4,
+    place && error.kind == DeserializeErrorKind::OutOfMemory
+}
+
+/// Whether this text was written.
+fn is_written(written: Result<Vec<u8>, JsonSerializeError>, text: &str) -> Option<bool> {
+    match written {
+        Ok(written) => Some(written.as_slice() == text.as_bytes()),
+        Err(JsonSerializeError::OutOfMemory) => None,
+        Err(_) => Some(false),
     }
 }
 
-/// Whether the input is read as a value that is written as this text, or memory runs out; nothing of the input is borrowed.
-fn copies_or_runs_out<'de, T: Facet<'de>>(alloc: Global, input: &'de str, text: &str) -> bool {
-    match from_slice::<T>(alloc, input.as_bytes()) {
-        Ok(value) => writes_or_runs_out(alloc, &value, text),
-        Err(error) => has_run_out(error),
+/// Whether the row's refusal was given.
+fn is_refusal(error: DeserializeError<'_>, row: &Row<'_>) -> Option<bool> {
+    if is_want(&error, row) {
+        return None;
+    }
+    match row.answer {
+        Ok(_) => Some(false),
+        Err(wanted) => Some(error == wanted),
     }
 }
 
-/// The same, where the input may be borrowed.
-fn borrows_or_runs_out<'de, T: Facet<'de>>(alloc: Global, input: &'de str, text: &str) -> bool {
-    match from_slice_borrowed::<T>(alloc, input.as_bytes()) {
-        Ok(value) => writes_or_runs_out(alloc, &value, text),
-        Err(error) => has_run_out(error),
+/// Whether the row's answer was given.
+fn is_answer<'de, T: Facet<'de>>(
+    alloc: Global,
+    answer: Result<T, DeserializeError<'_>>,
+    row: &Row<'_>,
+) -> Option<bool> {
+    match (answer, row.answer) {
+        (Ok(value), Ok(text)) => is_written(to_vec(alloc, &value), text),
+        (Ok(_), Err(_)) => Some(false),
+        (Err(error), _) => is_refusal(error, row),
     }
 }
 
-/// Both.
-fn comes_back_or_runs_out<'de, T: Facet<'de>>(alloc: Global, input: &'de str, text: &str) -> bool {
-    copies_or_runs_out::<T>(alloc, input, text) && borrows_or_runs_out::<T>(alloc, input, text)
+/// Whether a parser goes on as it should after a reader's refusal: where the parser itself ran out of memory, it stands where it stood and repeats
+/// that; and where the type did, it has not.
+fn goes_on(
+    kind: DeserializeErrorKind<'_>,
+    span: Option<Span>,
+    current: Option<Span>,
+    next: Result<Option<ParseEvent<'_>>, ParseError<'_>>,
+) -> bool {
+    let lacks = DeserializeErrorKind::OutOfMemory;
+    match (span, next) {
+        (Some(at), Err(again)) if kind == lacks => {
+            again == ParseError::new(at, lacks) && current == Some(at)
+        }
+        (Some(_), Ok(_)) => kind != lacks,
+        (_, Err(other)) => other.kind != lacks,
+        (None, Ok(_)) => true,
+    }
+}
+
+/// Whether a parser by which the type read goes on as it should.
+fn leaves<T>(answer: &Result<T, DeserializeError<'_>>, parser: &mut JsonParser<'_>) -> bool {
+    match answer {
+        Ok(_) => true,
+        Err(error) => goes_on(
+            error.kind,
+            error.span,
+            parser.current_span(),
+            parser.next_event(),
+        ),
+    }
+}
+
+/// Whether the type itself gives the row's answer, and leaves the parser as it should.
+fn reads_by<'de, T: Facet<'de>>(
+    alloc: Global,
+    parser: &mut JsonParser<'de>,
+    borrows: bool,
+    row: &Row<'_>,
+) -> Option<bool> {
+    let answer = if borrows {
+        T::read(alloc, parser)
+    } else {
+        T::read_owned(alloc, parser)
+    };
+    if leaves(&answer, parser) {
+        is_answer(alloc, answer, row)
+    } else {
+        Some(false)
+    }
+}
+
+/// The same of a parser of the row's input.
+fn reads_itself<'de, T: Facet<'de>>(alloc: Global, borrows: bool, row: &Row<'de>) -> Option<bool> {
+    let input = row.input.as_bytes();
+    reads_by::<T>(alloc, &mut JsonParser::new(alloc, input), borrows, row)
+}
+
+/// Whether the entry gives the row's answer.
+fn reads<'de, T: Facet<'de>>(alloc: Global, entry: Entry, row: &Row<'de>) -> Option<bool> {
+    let text = row.input;
+    let bytes = text.as_bytes();
+    let answer = match entry {
+        Entry::Slice => from_slice::<T>(alloc, bytes),
+        Entry::SliceJsonc => from_slice_jsonc(alloc, bytes),
+        Entry::SliceStrict => from_slice_strict(alloc, bytes),
+        Entry::Str => from_str(alloc, text),
+        Entry::StrJsonc => from_str_jsonc(alloc, text),
+        Entry::StrStrict => from_str_strict(alloc, text),
+        Entry::Owned => return reads_itself::<T>(alloc, false, row),
+        Entry::SliceBorrowed => from_slice_borrowed(alloc, bytes),
+        Entry::SliceBorrowedJsonc => from_slice_borrowed_jsonc(alloc, bytes),
+        Entry::StrBorrowed => from_str_borrowed(alloc, text),
+        Entry::StrBorrowedJsonc => from_str_borrowed_jsonc(alloc, text),
+        Entry::Borrowed => return reads_itself::<T>(alloc, true, row),
+    };
+    is_answer(alloc, answer, row)
+}
+
+/// The same twice.
+fn is_read<'de, T: Facet<'de>>(alloc: Global, entry: Entry, row: &Row<'de>) -> bool {
+    let first = reads::<T>(alloc, entry, row);
+    but_once(first, reads::<T>(alloc, entry, row))
+}
+
+/// Fails where an entry doesn't give a row's answer.
+fn expect<'de, T: Facet<'de>>(rt: &impl Abort, alloc: Global, rows: &[Row<'de>]) {
+    for row in rows {
+        for entry in &ENTRIES {
+            let holds = !is_one(*entry, row.by) || is_read::<T>(alloc, *entry, row);
+            assert!(rt; holds, "{entry:?} of {}", row.input);
+        }
+    }
+}
+
+/// Why a text cannot be lent.
+const UNLENT: DeserializeErrorKind<'static> = DeserializeErrorKind::InvalidValue {
+    message: "a borrowed text needs an unescaped string",
+};
+
+/// The refusal of a text of four bytes that is not lent.
+const NOT_LENT: DeserializeError<'static> = DeserializeError {
+    kind: UNLENT,
+    span: Some(Span { offset: 0, len: 4 }),
+};
+
+/// The refusal of a text of nine bytes, with an escape.
+const ESCAPED: DeserializeError<'static> = DeserializeError {
+    kind: UNLENT,
+    span: Some(Span { offset: 0, len: 9 }),
+};
+
+/// The refusal of a surrogate that is alone in a text.
+const ALONE: DeserializeError<'static> = DeserializeError {
+    kind: DeserializeErrorKind::InvalidUtf8,
+    span: Some(Span { offset: 1, len: 6 }),
+};
+
+/// The refusal of a minus that begins no number.
+const NO_NUMBER: DeserializeError<'static> = DeserializeError {
+    kind: DeserializeErrorKind::UnexpectedChar {
+        ch: 'x',
+        expected: "valid JSON token",
+    },
+    span: Some(Span { offset: 0, len: 1 }),
+};
+
+/// The refusal of a number among texts.
+const NO_TEXT: DeserializeError<'static> = DeserializeError {
+    kind: DeserializeErrorKind::TypeMismatch {
+        expected: "string",
+        got: "integer",
+    },
+    span: Some(Span { offset: 8, len: 1 }),
+};
+
+/// The refusal of an object without a name.
+const NAMELESS: DeserializeError<'static> = DeserializeError {
+    kind: DeserializeErrorKind::MissingField { field: "name" },
+    span: Some(Span { offset: 9, len: 1 }),
+};
+
+/// The refusal of a list that is cut.
+const CUT: DeserializeError<'static> = DeserializeError {
+    kind: DeserializeErrorKind::UnexpectedEof {
+        expected: "',' or ']'",
+    },
+    span: Some(Span { offset: 11, len: 0 }),
+};
+
+/// Truth values.
+static TRUTHS: [Row<'static>; 1] = [Row {
+    by: By::Each,
+    input: " true",
+    answer: Ok("true"),
+    wants: &[],
+    grows: false,
+}];
+
+/// Numbers of every type.
+static NUMBERS: [Row<'static>; 3] = [
+    Row {
+        by: By::Each,
+        input: "7",
+        answer: Ok("7"),
+        wants: &[],
+        grows: false,
+    },
+    Row {
+        by: By::Lenient,
+        input: "007 [",
+        answer: Ok("7"),
+        wants: &[],
+        grows: false,
+    },
+    Row {
+        by: By::Each,
+        input: "-x",
+        answer: Err(NO_NUMBER),
+        wants: &[],
+        grows: false,
+    },
+];
+
+/// Numbers of 128 bits.
+static UNSIGNED: [Row<'static>; 3] = [
+    Row {
+        by: By::Each,
+        input: "18446744073709551616",
+        answer: Ok("18446744073709551616"),
+        wants: &[(0, 0)],
+        grows: false,
+    },
+    Row {
+        by: By::Each,
+        input: "\"\\u0035\"",
+        answer: Ok("5"),
+        wants: &[(0, 0)],
+        grows: false,
+    },
+    Row {
+        by: By::Each,
+        input: "\"5\"",
+        answer: Ok("5"),
+        wants: &[],
+        grows: false,
+    },
+];
+
+/// The same with a sign.
+static SIGNED: [Row<'static>; 2] = [
+    Row {
+        by: By::Each,
+        input: "-9223372036854775809",
+        answer: Ok("-9223372036854775809"),
+        wants: &[(0, 0)],
+        grows: false,
+    },
+    Row {
+        by: By::Each,
+        input: "\"-9223372036854775809\"",
+        answer: Ok("-9223372036854775809"),
+        wants: &[],
+        grows: false,
+    },
+];
+
+/// Texts.
+static TEXTS: [Row<'static>; 4] = [
+    Row {
+        by: By::Each,
+        input: "\"ab\"",
+        answer: Ok("\"ab\""),
+        wants: &[],
+        grows: true,
+    },
+    Row {
+        by: By::Each,
+        input: "\"a\\u0062\\n\"",
+        answer: Ok("\"ab\\n\""),
+        wants: &[(0, 0)],
+        grows: false,
+    },
+    Row {
+        by: By::Each,
+        input: "18446744073709551616",
+        answer: Ok("\"18446744073709551616\""),
+        wants: &[(0, 0)],
+        grows: false,
+    },
+    Row {
+        by: By::Each,
+        input: "\"\\ud800\"",
+        answer: Err(ALONE),
+        wants: &[(0, 0)],
+        grows: false,
+    },
+];
+
+/// Texts that the input lends.
+static LENT: [Row<'static>; 3] = [
+    Row {
+        by: By::Borrowed,
+        input: "\"ab\"",
+        answer: Ok("\"ab\""),
+        wants: &[],
+        grows: false,
+    },
+    Row {
+        by: By::Owned,
+        input: "\"ab\"",
+        answer: Err(NOT_LENT),
+        wants: &[],
+        grows: false,
+    },
+    Row {
+        by: By::Each,
+        input: "\"a\\u0062\"",
+        answer: Err(ESCAPED),
+        wants: &[(0, 0)],
+        grows: false,
+    },
+];
+
+/// Raw texts.
+static RAWS: [Row<'static>; 4] = [
+    Row {
+        by: By::Owned,
+        input: " [[1], 2] ",
+        answer: Ok("[[1], 2]"),
+        wants: &[(0, 0)],
+        grows: true,
+    },
+    Row {
+        by: By::Borrowed,
+        input: " [[1], 2] ",
+        answer: Ok("[[1], 2]"),
+        wants: &[(0, 0)],
+        grows: false,
+    },
+    Row {
+        by: By::Owned,
+        input: "7",
+        answer: Ok("7"),
+        wants: &[],
+        grows: true,
+    },
+    Row {
+        by: By::Borrowed,
+        input: "7",
+        answer: Ok("7"),
+        wants: &[],
+        grows: false,
+    },
+];
+
+/// Texts that may be null.
+static OPTIONAL: [Row<'static>; 3] = [
+    Row {
+        by: By::Each,
+        input: "null",
+        answer: Ok("null"),
+        wants: &[],
+        grows: false,
+    },
+    Row {
+        by: By::Each,
+        input: "\"ab\"",
+        answer: Ok("\"ab\""),
+        wants: &[],
+        grows: true,
+    },
+    Row {
+        by: By::Each,
+        input: "\"a\\n\"",
+        answer: Ok("\"a\\n\""),
+        wants: &[(0, 0)],
+        grows: false,
+    },
+];
+
+/// Lists of lists.
+static LISTS: [Row<'static>; 1] = [Row {
+    by: By::Each,
+    input: "[[1,null],[],[2,3,4,5,6]]",
+    answer: Ok("[[1,null],[],[2,3,4,5,6]]"),
+    wants: &[(0, 0), (0, 1), (8, 1), (11, 1)],
+    grows: true,
+}];
+
+/// Lists of texts.
+static LISTS_OF_TEXTS: [Row<'static>; 3] = [
+    Row {
+        by: By::Comments,
+        input: "/**/[\"a\",/*b*/\"\\n\"]//",
+        answer: Ok("[\"a\",\"\\n\"]"),
+        wants: &[(0, 0), (5, 3)],
+        grows: true,
+    },
+    Row {
+        by: By::Each,
+        input: "[\"a\\n\", 1]",
+        answer: Err(NO_TEXT),
+        wants: &[(0, 0), (0, 1)],
+        grows: true,
+    },
+    Row {
+        by: By::Each,
+        input: "[\"a\", \"b\"  ",
+        answer: Err(CUT),
+        wants: &[(0, 0)],
+        grows: true,
+    },
+];
+
+/// Maps.
+static MAPS: [Row<'static>; 1] = [Row {
+    by: By::Each,
+    input: "{\"c\":\"e\",\"a\":\"b\",\"\\u0063\":\"d\"}",
+    answer: Ok("{\"a\":\"b\",\"c\":\"d\"}"),
+    wants: &[(0, 0), (13, 3)],
+    grows: true,
+}];
+
+/// Any values.
+static TREES: [Row<'static>; 2] = [
+    Row {
+        by: By::Each,
+        input: "{\"a\":[1.5,\"b\\n\"],\"c\":null,\"d\":[2,3]}",
+        answer: Ok("{\"a\":[1.5,\"b\\n\"],\"c\":null,\"d\":[2,3]}"),
+        wants: &[(0, 0), (4, 1), (6, 3), (29, 1)],
+        grows: true,
+    },
+    Row {
+        by: By::Each,
+        input: "[[1,2,3,4,5],[6,7,8,9,10],[],[11]]",
+        answer: Ok("[[1,2,3,4,5],[6,7,8,9,10],[],[11]]"),
+        wants: &[(0, 0), (0, 1), (11, 1), (24, 1), (27, 1)],
+        grows: true,
+    },
+];
+
+/// Structs of ten fields.
+static ACCOUNTS: [Row<'static>; 1] = [Row {
+    by: By::Each,
+    input: "{\"id\":7,\"name\":\"Ann\",\"email\":\"\",\"active\":true,\"age\":0,\"score\":-1,\"visits\":2,\"x\":[0],\"city\":\"\\n\",\"tags\":[\"a\"]}",
+    answer: Ok(
+        "{\"id\":7,\"name\":\"Ann\",\"email\":\"\",\"active\":true,\"age\":0,\"score\":-1,\"visits\":2,\"city\":\"\\n\",\"tags\":[\"a\"],\"parent\":null}",
+    ),
+    wants: &[(0, 0), (79, 1), (90, 1), (102, 1)],
+    grows: true,
+}];
+
+#[test]
+fn a_growth_is_refused_in_a_number(rt: HostRuntime) {
+    let alloc = rt.alloc();
+    expect::<bool>(&rt, alloc, &TRUTHS);
+    expect::<u8>(&rt, alloc, &NUMBERS);
+    expect::<u16>(&rt, alloc, &NUMBERS);
+    expect::<u32>(&rt, alloc, &NUMBERS);
+    expect::<u64>(&rt, alloc, &NUMBERS);
+    expect::<usize>(&rt, alloc, &NUMBERS);
+    expect::<i8>(&rt, alloc, &NUMBERS);
+    expect::<i16>(&rt, alloc, &NUMBERS);
+    expect::<i32>(&rt, alloc, &NUMBERS);
+    expect::<i64>(&rt, alloc, &NUMBERS);
+    expect::<isize>(&rt, alloc, &NUMBERS);
 }
 
 #[test]
-fn a_growth_is_refused_in_a_value(rt: HostRuntime) {
+fn a_growth_is_refused_in_a_wide_number(rt: HostRuntime) {
     let alloc = rt.alloc();
-    assert!(rt; comes_back_or_runs_out::<bool>(alloc, " true", "true"));
-    assert!(rt; comes_back_or_runs_out::<u8>(alloc, "007", "7"));
-    assert!(rt;
-        comes_back_or_runs_out::<i64>(alloc, "-9223372036854775808", "-9223372036854775808")
-    );
-    assert!(rt;
-        comes_back_or_runs_out::<u128>(alloc, "018446744073709551616", "18446744073709551616")
-    );
-    assert!(rt;
-        comes_back_or_runs_out::<i128>(alloc, "\"-9223372036854775809\"", "-9223372036854775809")
-    );
-    assert!(rt; comes_back_or_runs_out::<String>(alloc, "\"a\\u0062\\n\"", "\"ab\\n\""));
-    assert!(rt; borrows_or_runs_out::<&'static str>(alloc, "\"ab\"", "\"ab\""));
-    assert!(rt; comes_back_or_runs_out::<RawJson<'static>>(alloc, " [[1], 2] ", "[[1], 2]"));
+    expect::<u128>(&rt, alloc, &NUMBERS);
+    expect::<u128>(&rt, alloc, &UNSIGNED);
+    expect::<i128>(&rt, alloc, &NUMBERS);
+    expect::<i128>(&rt, alloc, &SIGNED);
+}
+
+#[test]
+fn a_growth_is_refused_in_a_text(rt: HostRuntime) {
+    let alloc = rt.alloc();
+    expect::<String>(&rt, alloc, &TEXTS);
+    expect::<&'static str>(&rt, alloc, &LENT);
+    expect::<RawJson<'static>>(&rt, alloc, &RAWS);
+    expect::<Option<String>>(&rt, alloc, &OPTIONAL);
 }
 
 #[test]
 fn a_growth_is_refused_in_a_container(rt: HostRuntime) {
     let alloc = rt.alloc();
-    assert!(rt; comes_back_or_runs_out::<Option<String>>(alloc, "\"a\"", "\"a\""));
-    assert!(rt;
-        comes_back_or_runs_out::<Vec<Vec<Option<u8>>>>(
-            alloc,
-            "[[1,null],[],[2,3,4,5,6]]",
-            "[[1,null],[],[2,3,4,5,6]]"
-        )
-    );
-    let map = "{\"a\":\"b\",\"c\":\"d\"}";
-    assert!(rt;
-        comes_back_or_runs_out::<BTreeMap<String, String>>(
-            alloc,
-            "{\"c\":\"e\",\"a\":\"b\",\"\\u0063\":\"d\"}",
-            map
-        )
-    );
+    expect::<Vec<Vec<Option<u8>>>>(&rt, alloc, &LISTS);
+    expect::<Vec<String>>(&rt, alloc, &LISTS_OF_TEXTS);
+    expect::<BTreeMap<String, String>>(&rt, alloc, &MAPS);
+    expect::<Tree>(&rt, alloc, &TREES);
+    expect::<Account>(&rt, alloc, &ACCOUNTS);
 }
 
-/// Whether strict mode reads a value that is written as this text, or memory runs out.
-fn reads_strictly_or_runs_out<'de, T: Facet<'de>>(alloc: Global, text: &'de str) -> bool {
-    match from_slice_strict::<T>(alloc, text.as_bytes()) {
-        Ok(value) => writes_or_runs_out(alloc, &value, text),
-        Err(error) => has_run_out(error),
-    }
+/// A struct of a name and an age.
+const ALICE: &str = "{\"age\":30,\"is\":[{}],\"name\":\"Alice\"}";
+
+static PERSONS: [Row<'static>; 3] = [
+    Row {
+        by: By::Owned,
+        input: ALICE,
+        answer: Ok("{\"name\":\"Alice\",\"age\":30}"),
+        wants: &[(0, 0), (14, 1)],
+        grows: true,
+    },
+    Row {
+        by: By::Borrowed,
+        input: ALICE,
+        answer: Ok("{\"name\":\"Alice\",\"age\":30}"),
+        wants: &[(0, 0), (14, 1)],
+        grows: false,
+    },
+    Row {
+        by: By::Borrowed,
+        input: "{\"age\":30}",
+        answer: Err(NAMELESS),
+        wants: &[(0, 0)],
+        grows: false,
+    },
+];
+
+/// The text of a name and an age.
+fn text_of_person<'de, N: Facet<'de>>(
+    alloc: Global,
+    name: &N,
+    age: &u8,
+) -> Result<Vec<u8>, JsonSerializeError> {
+    let mut serializer = JsonSerializer::new(alloc);
+    write_fields(
+        &mut serializer,
+        &["name", "age"],
+        &Need(name, Need(age, Done)),
+    )?;
+    serializer.finish()
 }
 
-#[test]
-fn a_growth_is_refused_in_strict_mode(rt: HostRuntime) {
-    let alloc = rt.alloc();
-    assert!(rt;
-        reads_strictly_or_runs_out::<BTreeMap<String, Vec<String>>>(
-            alloc,
-            "{\"a\":[\"b\",\"\\ncd\"],\"c\":[]}"
-        )
-    );
-}
-
-/// Whether a struct is read, or memory runs out.
-fn reads_struct_or_runs_out(alloc: Global) -> bool {
-    let mut parser = JsonParser::new(alloc, b"{\"age\":30,\"is\":[{}],\"name\":\"Alice\"}");
-    let answer: Result<Need<String, Need<u8, Done>>, DeserializeError<'_>> = read_fields(
+/// Whether a name and an age are read, and written as the row's text.
+fn reads_person_by<'de, N: Facet<'de>>(
+    alloc: Global,
+    parser: &mut JsonParser<'de>,
+    row: &Row<'_>,
+) -> Option<bool> {
+    let borrows = matches!(row.by, By::Borrowed);
+    let answer: Result<Need<N, Need<u8, Done>>, DeserializeError<'_>> = read_fields(
         alloc,
-        &mut parser,
-        false,
+        parser,
+        borrows,
         &["name", "age"],
     );
-    match answer {
-        Ok(Need(name, Need(age, Done))) => name.as_str() == "Alice" && age == 30,
-        Err(error) => has_run_out(error),
+    if !leaves(&answer, parser) {
+        return Some(false);
     }
+    match (answer, row.answer) {
+        (Ok(Need(name, Need(age, Done))), Ok(text)) => {
+            is_written(text_of_person(alloc, &name, &age), text)
+        }
+        (Ok(_), Err(_)) => Some(false),
+        (Err(error), _) => is_refusal(error, row),
+    }
+}
+
+/// The same of a parser of the row's input, twice.
+fn reads_person<'de, N: Facet<'de>>(alloc: Global, row: &Row<'de>) -> bool {
+    let input = row.input.as_bytes();
+    let first = reads_person_by::<N>(alloc, &mut JsonParser::new(alloc, input), row);
+    let again = reads_person_by::<N>(alloc, &mut JsonParser::new(alloc, input), row);
+    but_once(first, again)
 }
 
 #[test]
 fn a_growth_is_refused_in_a_struct(rt: HostRuntime) {
-    assert!(rt; reads_struct_or_runs_out(rt.alloc()));
+    let alloc = rt.alloc();
+    for row in &PERSONS {
+        let holds = match row.by {
+            By::Borrowed => reads_person::<&str>(alloc, row),
+            _ => reads_person::<String>(alloc, row),
+        };
+        assert!(rt; holds, "{}", row.input);
+    }
 }

@@ -34,7 +34,7 @@ const PRETTY: &str = "[\n  null,\n  [1,255]\n]";
 const TABS_AND_HEX: &str = "[\n\tnull,\n\t\"0x01ff\"\n]";
 
 /// A line for each container and tabs, and bytes as hexadecimal digits.
-fn tabs_and_hex() -> SerializeOptions<'static> {
+pub fn tabs_and_hex() -> SerializeOptions<'static> {
     SerializeOptions::new().indent("\t").bytes_as_hex()
 }
 
