@@ -84,6 +84,7 @@ pub use Rattle.facet_json_report.specs.Line
 pub use Rattle.facet_json_report.specs.Report
 pub use Rattle.facet_json_transcode.specs.Told
 pub use Rattle.facet_json_transcode.specs.Reading
+pub use Rattle.facet_json_transcode.specs.Refusing
 pub use Rattle.facet_json_transcode.specs.Transcode
 pub use Rattle.facet_json_transcode.specs.Views as TranscodeViews
 pub use Rattle.facet_json_meaning.specs.Nodes

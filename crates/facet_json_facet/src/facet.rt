@@ -4,6 +4,7 @@ ghost use Rattle.std.specs.Prelude.{◌≡◌, ◌<◌, true, None, OnOk, OnErr,
 ghost use Rattle.facet_format.specs.Views.{refusal_of};
 ghost use Rattle.facet_json_protocol.specs.Now.{ahead};
 ghost use Rattle.facet_json_protocol.specs.Within.{RefusalWithin};
+ghost use Rattle.facet_json_meaning.specs.Refusing.{TellsRefusal};
 ghost use Rattle.facet_json_serializer.specs.Serializer.{out_of_memory};
 ghost use Rattle.facet_json_serializer.specs.Views.{refusal_of as writing_refusal_of};
 ghost use Rattle.facet_json_write.specs.Write.{HasWritten, IsOfRust};
@@ -70,7 +71,9 @@ pub trait Facet<'de>: Sized + Drop {
         ensures strict { whole ≡ true → OnOk result (EndsStrictly parser.old parser.new) }
         ensures keeps { KeepsOn parser.old parser.new }
         ensures shorter { OnOk result (ahead parser.new < ahead parser.old) }
-        ensures within { IfErr result (λ e. RefusalWithin parser.new.buffer (refusal_of e)) };
+        ensures within { IfErr result (λ e. RefusalWithin parser.new.buffer (refusal_of e)) }
+        ensures free { OnOk result (parser.new.cursor.refusal ≡ None) }
+        ensures tells { IfErr result (λ e. TellsRefusal parser.old parser.new (refusal_of e)) };
 
     /// Reads the value before which the parser stands, and may borrow of the input.
     ///
@@ -84,7 +87,9 @@ pub trait Facet<'de>: Sized + Drop {
         ensures strict { whole ≡ true → OnOk result (EndsStrictly parser.old parser.new) }
         ensures keeps { KeepsOn parser.old parser.new }
         ensures shorter { OnOk result (ahead parser.new < ahead parser.old) }
-        ensures within { IfErr result (λ e. RefusalWithin parser.new.buffer (refusal_of e)) };
+        ensures within { IfErr result (λ e. RefusalWithin parser.new.buffer (refusal_of e)) }
+        ensures free { OnOk result (parser.new.cursor.refusal ≡ None) }
+        ensures tells { IfErr result (λ e. TellsRefusal parser.old parser.new (refusal_of e)) };
 
     /// Writes the value, where a value stands, in the layout of the serializer's options.
     ///

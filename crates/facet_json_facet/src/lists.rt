@@ -1,9 +1,10 @@
 //! Lists: `Vec`.
 
-ghost use Rattle.std.specs.Prelude.{◌<◌, cond, map, IfOk, IfErr, OnOk};
+ghost use Rattle.std.specs.Prelude.{◌≡◌, ◌<◌, cond, map, None, IfOk, IfErr, OnOk};
 ghost use Rattle.facet_format.specs.Views.{refusal_of};
 ghost use Rattle.facet_json_protocol.specs.Now.{ahead};
 ghost use Rattle.facet_json_protocol.specs.Within.{RefusalWithin};
+ghost use Rattle.facet_json_meaning.specs.Refusing.{TellsRefusal};
 ghost use Rattle.facet_json_meaning.specs.Lists.{list_of};
 ghost use Rattle.facet_json_meaning.specs.Nodes.{KeepsOn};
 ghost use Rattle.facet_json_meaning.specs.Reading.{IsRead, IsUnread};
@@ -91,6 +92,8 @@ fn list_in<'t, 'de, T: Facet<'de>>(
     ensures keeps { KeepsOn parser.old parser.new }
     ensures shorter { OnOk result (ahead parser.new < ahead parser.old) }
     ensures within { IfErr result (λ e. RefusalWithin parser.new.buffer (refusal_of e)) }
+    ensures free { OnOk result (parser.new.cursor.refusal ≡ None) }
+    ensures tells { IfErr result (λ e. TellsRefusal parser.old parser.new (refusal_of e)) }
 {
     begin_list(parser)?;
     let mut items = Vec::new(alloc);
@@ -116,6 +119,8 @@ fn item_in<'t, 'de, T: Facet<'de>>(
     ensures keeps { KeepsOn parser.old parser.new }
     ensures shorter { OnOk result (ahead parser.new < ahead parser.old) }
     ensures within { IfErr result (λ e. RefusalWithin parser.new.buffer (refusal_of e)) }
+    ensures free { OnOk result (parser.new.cursor.refusal ≡ None) }
+    ensures tells { IfErr result (λ e. TellsRefusal parser.old parser.new (refusal_of e)) }
 {
     if borrows {
         T::read(alloc, parser)

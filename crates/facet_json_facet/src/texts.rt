@@ -1,9 +1,10 @@
 //! Texts: `String`, which owns its text, and `&str`, whose text stands in the input.
 
-ghost use Rattle.std.specs.Prelude.{◌≡◌, ◌⊎◌, IfOk, IfErr, IfSome, None, Some, string_bytes};
-ghost use Rattle.facet_format.specs.Complaint.{no_memory};
-ghost use Rattle.facet_format.specs.Views.{event_of, refusal_of};
-ghost use Rattle.facet_json_meaning.specs.Borrowed.{lent};
+ghost use Rattle.std.specs.Prelude.{◌≡◌, ◌⊎◌, IfOk, IfErr, IfSome, None, Some, codes, string_bytes};
+ghost use Rattle.facet_format.specs.Complaint.{no_memory, refusal_at};
+ghost use Rattle.facet_format.specs.Views.{event_of, refusal_of, span_of};
+ghost use Rattle.facet_json_meaning.specs.Refusing.{mismatch_of};
+ghost use Rattle.facet_json_meaning.specs.Borrowed.{lent, made_text, IsNotLent};
 ghost use Rattle.facet_json_meaning.specs.Readings.{taken, text_of};
 
 use crate::facet::Facet;
@@ -121,6 +122,7 @@ fn string_in<'t>(alloc: Global, event: ParseEvent<'_>) -> Result<String, Deseria
     ensures taken { IfOk result (λ s. taken text_of (event_of event.entry).kind ≡ Some (string_bytes s)) }
     ensures refused { IfErr result (λ e. (refusal_of e ≡ no_memory) ⊎ (taken text_of (event_of event.entry).kind ≡ None)) }
     ensures span { IfErr result (λ e. IfSome e.span (λ s. s ≡ event.entry.span)) }
+    ensures told { IfErr result (λ e. (refusal_of e ≡ no_memory) ⊎ (refusal_of e ≡ mismatch_of (codes "string") (event_of event.entry))) }
 {
     match event.kind {
         ParseEventKind::Scalar(ScalarValue::Str(text)) => Ok(text.into_owned(alloc)?),
@@ -133,6 +135,7 @@ fn lent_in<'t, 'de>(event: ParseEvent<'de>) -> Result<&'de str, DeserializeError
     ensures lent { IfOk result (λ s. lent (event_of event.entry).kind ≡ Some s.now) }
     ensures refused { IfErr result (λ e. lent (event_of event.entry).kind ≡ None) }
     ensures span { IfErr result (λ e. e.span ≡ Some event.entry.span) }
+    ensures told { IfErr result (λ e. IsNotLent (event_of event.entry) (refusal_of e)) }
 {
     match event.kind {
         ParseEventKind::Scalar(ScalarValue::Str(CowStr::Borrowed(text))) => Ok(text),
@@ -142,7 +145,8 @@ fn lent_in<'t, 'de>(event: ParseEvent<'de>) -> Result<&'de str, DeserializeError
 
 /// The refusal of an event that is no text of the input.
 fn not_lent<'t>(event: ParseEvent<'_>) -> DeserializeError<'t>
-    ensures { result.span ≡ Some event.entry.span }
+    ensures span { result.span ≡ Some event.entry.span }
+    ensures told { IsNotLent (event_of event.entry) (refusal_of result) }
 {
     match event.kind {
         ParseEventKind::Scalar(ScalarValue::Str(_)) => made(event.span),
@@ -152,7 +156,8 @@ fn not_lent<'t>(event: ParseEvent<'_>) -> DeserializeError<'t>
 
 /// The refusal of a text that may not be borrowed.
 fn made<'t>(span: Span) -> DeserializeError<'t>
-    ensures { result.span ≡ Some span }
+    ensures span { result.span ≡ Some span }
+    ensures told { refusal_of result ≡ refusal_at made_text (span_of span) }
 {
     DeserializeError {
         kind: DeserializeErrorKind::InvalidValue {

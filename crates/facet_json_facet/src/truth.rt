@@ -1,7 +1,8 @@
 //! Truth values: `true` and `false`.
 
-ghost use Rattle.std.specs.Prelude.{◌≡◌, IfOk, IfErr, None, Some};
-ghost use Rattle.facet_format.specs.Views.{event_of};
+ghost use Rattle.std.specs.Prelude.{◌≡◌, codes, IfOk, IfErr, None, Some};
+ghost use Rattle.facet_format.specs.Views.{event_of, refusal_of};
+ghost use Rattle.facet_json_meaning.specs.Refusing.{mismatch_of};
 ghost use Rattle.facet_json_meaning.specs.Readings.{bool_of, taken};
 
 use crate::facet::Facet;
@@ -59,6 +60,7 @@ fn bool_in<'t>(event: ParseEvent<'_>) -> Result<bool, DeserializeError<'t>>
     ensures taken { IfOk result (λ b. taken bool_of (event_of event.entry).kind ≡ Some b) }
     ensures refused { IfErr result (λ e. taken bool_of (event_of event.entry).kind ≡ None) }
     ensures span { IfErr result (λ e. e.span ≡ Some event.entry.span) }
+    ensures told { IfErr result (λ e. refusal_of e ≡ mismatch_of (codes "bool") (event_of event.entry)) }
 {
     match event.kind {
         ParseEventKind::Scalar(ScalarValue::Bool(b)) => Ok(b),

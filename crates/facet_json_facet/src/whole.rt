@@ -1,10 +1,12 @@
 //! A whole number that is read, before it is known whether a type holds it.
 
 ghost use Rattle.std.specs.Prelude.{◌≡◌, ◌≤◌, ◌<◌, None, Some, length, IfOk, IfErr, OnOk};
+ghost use Rattle.facet_format.specs.Complaint.{number_out_of_range, refusal_at};
 ghost use Rattle.facet_format.specs.Span.{stop};
 ghost use Rattle.facet_format.specs.Views.{event_of, refusal_of, span_of};
 ghost use Rattle.facet_json_protocol.specs.Now.{ahead};
 ghost use Rattle.facet_json_protocol.specs.Within.{RefusalWithin};
+ghost use Rattle.facet_json_meaning.specs.Refusing.{mismatch_of, IsSpanPassed, TellsRefusal};
 ghost use Rattle.facet_json_meaning.specs.Nodes.{KeepsOn};
 ghost use Rattle.facet_json_meaning.specs.Reading.{IsRead, IsUnread, HasDocument, EndsStrictly};
 ghost use Rattle.facet_json_meaning.specs.Readings.{leaf, taken, whole_of};
@@ -39,8 +41,11 @@ pub(crate) fn next_whole<'t, 'de>(
     ensures strict { OnOk result (EndsStrictly parser.old parser.new) }
     ensures keeps { KeepsOn parser.old parser.new }
     ensures shorter { OnOk result (ahead parser.new < ahead parser.old) }
+    ensures span_passed { IfOk result (λ n. IsSpanPassed parser.old parser.new (span_of n.span)) }
     ensures span_within { IfOk result (λ n. stop (span_of n.span) ≤ length parser.new.buffer) }
     ensures within { IfErr result (λ e. RefusalWithin parser.new.buffer (refusal_of e)) }
+    ensures free { OnOk result (parser.new.cursor.refusal ≡ None) }
+    ensures tells { IfErr result (λ e. TellsRefusal parser.old parser.new (refusal_of e)) }
 {
     let event = next_of_value(parser)?;
     let span = event.span;
@@ -55,6 +60,7 @@ fn whole_in<'t>(expected: &'t str, event: ParseEvent<'_>) -> Result<i128, Deseri
     ensures taken { IfOk result (λ z. taken whole_of (event_of event.entry).kind ≡ Some z) }
     ensures refused { IfErr result (λ e. taken whole_of (event_of event.entry).kind ≡ None) }
     ensures span { IfErr result (λ e. e.span ≡ Some event.entry.span) }
+    ensures told { IfErr result (λ e. refusal_of e ≡ mismatch_of expected.now (event_of event.entry)) }
 {
     match event.kind {
         ParseEventKind::Scalar(ScalarValue::U64(n)) => Ok(i128::from(n)),
@@ -65,7 +71,8 @@ fn whole_in<'t>(expected: &'t str, event: ParseEvent<'_>) -> Result<i128, Deseri
 
 /// The refusal of a whole number that the type cannot hold.
 pub(crate) fn out_of_range<'t>(target_type: &'t str, span: Span) -> DeserializeError<'t>
-    ensures { result.span ≡ Some span }
+    ensures span { result.span ≡ Some span }
+    ensures told { refusal_of result ≡ refusal_at (number_out_of_range target_type.now) (span_of span) }
 {
     DeserializeError {
         kind: DeserializeErrorKind::NumberOutOfRange { target_type },

@@ -1,7 +1,9 @@
 //! Whole numbers of 128 bits: `u128` and `i128`. Within 64 bits they are read as numbers, past them as the texts of their digits.
 
-ghost use Rattle.std.specs.Prelude.{◌≡◌, IfOk, IfErr, None, Some};
-ghost use Rattle.facet_format.specs.Views.{event_of};
+ghost use Rattle.std.specs.Prelude.{◌≡◌, ◌⊎◌, codes, IfOk, IfErr, None, Some};
+ghost use Rattle.facet_format.specs.Complaint.{number_out_of_range, refusal_at};
+ghost use Rattle.facet_format.specs.Views.{event_of, refusal_of};
+ghost use Rattle.facet_json_meaning.specs.Refusing.{mismatch_of};
 ghost use Rattle.facet_json_meaning.specs.Readings.{taken, u128_of, i128_of, unsigned_text, signed_text};
 
 use crate::facet::Facet;
@@ -104,6 +106,8 @@ fn u128_in<'t>(event: ParseEvent<'_>) -> Result<u128, DeserializeError<'t>>
     ensures taken { IfOk result (λ n. taken u128_of (event_of event.entry).kind ≡ Some n) }
     ensures refused { IfErr result (λ e. taken u128_of (event_of event.entry).kind ≡ None) }
     ensures span { IfErr result (λ e. e.span ≡ Some event.entry.span) }
+    ensures told { IfErr result (λ e. (refusal_of e ≡ refusal_at (number_out_of_range (codes "u128")) (event_of event.entry).span)
+        ⊎ (refusal_of e ≡ mismatch_of (codes "u128") (event_of event.entry))) }
 {
     let number = match &event.kind {
         ParseEventKind::Scalar(ScalarValue::U64(n)) => Some(u128::from(*n)),
@@ -125,6 +129,7 @@ fn i128_in<'t>(event: ParseEvent<'_>) -> Result<i128, DeserializeError<'t>>
     ensures taken { IfOk result (λ n. taken i128_of (event_of event.entry).kind ≡ Some n) }
     ensures refused { IfErr result (λ e. taken i128_of (event_of event.entry).kind ≡ None) }
     ensures span { IfErr result (λ e. e.span ≡ Some event.entry.span) }
+    ensures told { IfErr result (λ e. refusal_of e ≡ mismatch_of (codes "i128") (event_of event.entry)) }
 {
     let number = match &event.kind {
         ParseEventKind::Scalar(ScalarValue::U64(n)) => Some(i128::from(*n)),

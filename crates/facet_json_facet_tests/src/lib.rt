@@ -27,6 +27,8 @@ mod strict;
 #[cfg(test)]
 mod texts;
 #[cfg(test)]
+mod told;
+#[cfg(test)]
 mod trees;
 #[cfg(test)]
 mod typed;

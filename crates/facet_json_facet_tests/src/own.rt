@@ -1,9 +1,13 @@
 //! A type of a user's own: what it reads and writes is proved from what the trait says of the type within it.
 
-ghost use Rattle.std.specs.Prelude.{◌≡◌, None};
+ghost use Rattle.std.specs.Prelude.{◌≡◌, ◌≤◌, Some, length};
+ghost use Rattle.facet_format.specs.Span.{stop};
+ghost use Rattle.facet_format.specs.Views.{refusal_of, span_of};
+ghost use Rattle.facet_json_protocol.specs.Now.{span_of as last_read};
+ghost use Rattle.facet_json_meaning.specs.Refusing.{IsAbout};
 
 use crate::typed::{is_itself, out_of_range, refuses};
-use facet_format::{DeserializeError, DeserializeErrorKind, Span};
+use facet_format::{DeserializeError, DeserializeErrorKind, FormatParser, Span};
 use facet_json_meaning::JsonParser;
 use facet_json_serializer::{JsonSerializeError, JsonSerializer};
 use facet_json_typed::Facet;
@@ -85,7 +89,7 @@ impl<'de> Facet<'de> for Percent {
         if number <= 100 {
             Ok(Percent(number))
         } else {
-            Err(too_much())
+            Err(too_much(last_span(parser)))
         }
     }
 
@@ -107,16 +111,25 @@ impl<'de> Facet<'de> for Percent {
     ghost reads_back = { percent-reads_back };
 }
 
-/// The refusal of a number above 100, which tells no place.
-fn too_much<'t>() -> DeserializeError<'t>
-    ensures { result.span ≡ None }
+/// The refusal of a number above 100, which stands there.
+fn too_much<'t>(span: Span) -> DeserializeError<'t>
+    ensures span { result.span ≡ Some span }
+    ensures about { IsAbout (span_of span) (refusal_of result) }
 {
     DeserializeError {
         kind: DeserializeErrorKind::InvalidValue {
             message: "more than 100 percent",
         },
-        span: None,
+        span: Some(span),
     }
+}
+
+/// The span of the last token that was read.
+fn last_span(parser: &JsonParser<'_>) -> Span
+    ensures within { stop (span_of result) ≤ length parser.now.buffer }
+    ensures told { span_of result ≡ last_read parser.now }
+{
+    parser.current_span().unwrap()
 }
 
 #[test]
@@ -131,7 +144,7 @@ fn is_too_much(alloc: Global, input: &str) -> bool {
     let mut parser = JsonParser::new(alloc, input.as_bytes());
     match Percent::read_owned(alloc, &mut parser) {
         Ok(_) => false,
-        Err(error) => error == too_much(),
+        Err(error) => error == too_much(Span::new(1, 3)),
     }
 }
 
@@ -140,6 +153,6 @@ fn a_type_of_ones_own_may_have_bounds(rt: HostRuntime) {
     let alloc = rt.alloc();
     assert!(rt; is_itself(alloc, "100", &Percent(100)));
     assert!(rt; is_itself(alloc, "0", &Percent(0)));
-    assert!(rt; is_too_much(alloc, "101"));
+    assert!(rt; is_too_much(alloc, " 101"));
     assert!(rt; refuses::<Percent>(alloc, "256", out_of_range("u8"), Span::new(0, 3)));
 }

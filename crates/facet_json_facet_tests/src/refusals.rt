@@ -8,7 +8,10 @@ use std::alloc::Global;
 use std::collections::BTreeMap;
 
 /// Whether the value is refused so.
-fn is_told<T: Drop>(answer: Result<T, DeserializeError<'_>>, error: DeserializeError<'_>) -> bool {
+pub fn is_told<T: Drop>(
+    answer: Result<T, DeserializeError<'_>>,
+    error: DeserializeError<'_>,
+) -> bool {
     match answer {
         Ok(_) => false,
         Err(told) => told == error,

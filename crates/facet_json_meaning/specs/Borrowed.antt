@@ -1,12 +1,14 @@
 -- Texts that are borrowed of the input.
-use Rattle.std.specs.Prelude.{ℕ, Bool, false, not, cond, List, Option, Some, None}
+use Rattle.std.specs.Prelude.{◌≡◌, ◌⊎◌, ℕ, Bool, false, not, cond, List, Option, Some, None, codes}
 use Rattle.std.specs.Option.{option_and_then}
-use Rattle.facet_format.specs.Event.{EventKind}
+use Rattle.facet_format.specs.Complaint.{Complaint, invalid_value, Refusal, refusal_at}
+use Rattle.facet_format.specs.Event.{Event, EventKind}
 use Rattle.facet_format.specs.Event as event
 use Rattle.facet_json_token.specs.Token.{Kind}
 use Rattle.facet_json_token.specs.Token as token
 use Rattle.facet_json_document.specs.Node.{Node, scalar, array, object}
 use Rattle.facet_json_document.specs.Meaning.{meaning}
+use Rattle.facet_json_transcode.specs.Refusing.{mismatch_of}
 use Rattle.facet_json_meaning.specs.Readings.{text_of}
 
 -- a string without a backslash
@@ -24,6 +26,14 @@ borrowed_text buffer (object first last inside) = None
 abbrev pub lent : EventKind → Option (List ℕ)
 lent (event.scalar (event.text (event.borrowed t))) = Some t
 lent _ = None
+
+-- what is wrong with a text that has to be made, or may not be borrowed
+abbrev pub made_text : Complaint
+made_text = invalid_value (codes "a borrowed text needs an unescaped string")
+
+-- The event is no text, or one that is not lent.
+abbrev pub IsNotLent : Event → Refusal → Type 0
+IsNotLent given refusal = (refusal ≡ refusal_at made_text given.span) ⊎ (refusal ≡ mismatch_of (codes "string") given)
 
 -- Where nothing may be borrowed, no node is read.
 abbrev pub unread_text : List ℕ → Node → Option (List ℕ)

@@ -13,3 +13,4 @@ pub mod Peeking
 pub mod Lists
 pub mod Trees
 pub use Rattle.facet_json_transcode.specs.Reading as ValueReading
+pub use Rattle.facet_json_transcode.specs.Refusing as Refusing

@@ -53,6 +53,11 @@ step-sticks w c d r (restores point s e) f = cc
 step-sticks w c d r (restores_nothing point e) f = cc
 step-sticks w c d r tells f = cc
 
+-- A call for events, a skip or a capture that is refused leaves the parser refused so.
+pub refused-sticks : (old new : Now) (call : Call) (answer : Answer) (r : Refusal) → Moves old call answer new →
+    refusal_in answer ≡ Some r → new.cursor.refusal ≡ Some r
+refused-sticks old new call answer r move refused = step-sticks (on_input old.buffer old.language) old.cursor new.cursor r move.step refused
+
 module _ (w : World Standing) where
   -- A call that restores no kept point leaves a refused cursor as it is.
   step-stays : (c d : Cursor Standing) (r : Refusal) (call : Call) (answer : Answer) → c.refusal ≡ Some r →
@@ -82,6 +87,6 @@ pub refused-repeats : (old stopped new : Now) (call : Call) (answer : Answer) (r
     (answers : List Answer) → Moves old call answer stopped → refusal_in answer ≡ Some r → RestoresNone stopped.cursor.kept calls →
     MovesAll stopped calls answers new → AllRepeat r calls answers × (new ≡ stopped)
 refused-repeats old stopped new call answer r calls answers move refused none all =
-    let sticks = step-sticks (on_input old.buffer old.language) old.cursor stopped.cursor r move.step refused in
+    let sticks = refused-sticks old stopped call answer r move refused in
     let (repeat, same) = run-repeats (on_input stopped.buffer stopped.language) r sticks none all.run in
     (repeat, same_cursor-is stopped new all.input same)

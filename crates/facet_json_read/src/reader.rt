@@ -1,7 +1,7 @@
 //! Reads the tree of a value, event by event and by recursion.
 
 ghost use Rattle.std.specs.Prelude.{◌≡◌, ◌≤◌, ◌<◌, ◌+◌, ◌⊎◌, ◌++◌, ◌∷◌, false, [], string_bytes, length, None, Some, IfOk, IfErr, IfSome, OnOk, MatchResult, MatchOption};
-ghost use Rattle.facet_format.specs.Complaint.{no_memory, out_of_memory};
+ghost use Rattle.facet_format.specs.Complaint.{no_memory, out_of_memory, type_mismatch, refusal_at};
 ghost use Rattle.facet_format.specs.Event.{bytes_of, sequence_end, struct_end};
 ghost use Rattle.facet_format.specs.Views.{event_of, refusal_of, scalar_value_of, span_of};
 ghost use Rattle.facet_json_token.specs.Gap.{plain, jsonc};
@@ -15,6 +15,7 @@ ghost use Rattle.facet_json_protocol.specs.Now.{ahead, future_of};
 ghost use Rattle.facet_json_protocol.specs.Within.{RefusalWithin};
 ghost use Rattle.facet_json_transcode.specs.Told.{tree_of_scalar, is_member};
 ghost use Rattle.facet_json_transcode.specs.Reading.{LacksMemory, IsValueRead, IsValueUnread};
+ghost use Rattle.facet_json_transcode.specs.Refusing.{LacksOrIsAbout, TellsRefusal};
 ghost use Rattle.facet_json_meaning.specs.Nodes.{KeepsOn};
 ghost use Rattle.facet_json_meaning.specs.Passing.{MovesOn};
 ghost use Rattle.facet_json_meaning.specs.Reading.{IsRead, IsUnread, HasDocument, EndsStrictly};
@@ -108,6 +109,8 @@ pub fn read_tree<'t>(
     ensures keeps { KeepsOn parser.old parser.new }
     ensures shorter { OnOk result (ahead parser.new < ahead parser.old) }
     ensures within { IfErr result (λ e. RefusalWithin parser.new.buffer (refusal_of e)) }
+    ensures free { OnOk result (parser.new.cursor.refusal ≡ None) }
+    ensures tells { IfErr result (λ e. TellsRefusal parser.old parser.new (refusal_of e)) }
     ensures told { IfOk result (λ t. IsValueRead (future_of parser.old) (tree_view t) (future_of parser.new)) }
     ensures refused { parser.old.cursor.refusal ≡ None → IfErr result (λ e. IsValueUnread parser.old.buffer (future_of parser.old) (refusal_of e)) }
 {
@@ -138,6 +141,7 @@ pub(crate) fn read_value<'t>(
     ensures free { OnOk result (parser.new.cursor.refusal ≡ None) }
     ensures refused { parser.old.cursor.refusal ≡ None → IfErr result (λ e. IsValueUnreadWithin depth parser.old.buffer (future_of parser.old) (refusal_of e)) }
     ensures within { IfErr result (λ e. IfSome e.span (λ s. s.offset + s.len ≤ length parser.new.buffer)) }
+    ensures tells { IfErr result (λ e. TellsRefusal parser.old parser.new (refusal_of e)) }
 {
     let first = begin_value(alloc, parser, depth)?;
     let mut room = 0;
@@ -157,6 +161,7 @@ fn begin_value<'t>(
     ensures begun { IfOk result (λ t. BeganValue depth parser.old (tree_view t) parser.new) }
     ensures refused { parser.old.cursor.refusal ≡ None → IfErr result (λ e. IsValueUnreadWithin depth parser.old.buffer (future_of parser.old) (refusal_of e)) }
     ensures within { IfErr result (λ e. IfSome e.span (λ s. s.offset + s.len ≤ length parser.new.buffer)) }
+    ensures tells { IfErr result (λ e. TellsRefusal parser.old parser.new (refusal_of e)) }
 {
     begun(alloc, next_of_value(parser)?, depth)
 }
@@ -175,6 +180,7 @@ fn begin_item<'t>(
     ensures begun { IfOk result (λ o. MatchOption o (PassedEnd sequence_end parser.old parser.new) (λ t. BeganValue depth parser.old (tree_view t) parser.new)) }
     ensures refused { IfErr result (λ e. AreItemsUnreadWithin depth parser.old.buffer (future_of parser.old) (refusal_of e)) }
     ensures within { IfErr result (λ e. IfSome e.span (λ s. s.offset + s.len ≤ length parser.new.buffer)) }
+    ensures tells { IfErr result (λ e. TellsRefusal parser.old parser.new (refusal_of e)) }
 {
     let first = next_of_value(parser)?;
     if let ParseEventKind::SequenceEnd = first.kind {
@@ -197,6 +203,7 @@ fn begin_member<'t>(
     ensures begun { IfOk result (λ o. MatchOption o (PassedEnd struct_end parser.old parser.new) (λ m. BeganMember depth parser.old (string_bytes m.0) (tree_view m.1) parser.new)) }
     ensures refused { IfErr result (λ e. AreMembersUnreadWithin depth parser.old.buffer (future_of parser.old) (refusal_of e)) }
     ensures within { IfErr result (λ e. IfSome e.span (λ s. s.offset + s.len ≤ length parser.new.buffer)) }
+    ensures tells { IfErr result (λ e. TellsRefusal parser.old parser.new (refusal_of e)) }
 {
     match member_key(alloc, next_of_value(parser)?)? {
         Some(key) => Ok(Some((key, begin_value(alloc, parser, depth)?))),
@@ -213,6 +220,7 @@ fn member_key<'t>(
     ensures key { IfOk result (λ o. MatchOption o ((event_of event.entry).kind ≡ struct_end) (λ k. IsKey (event_of event.entry).kind (string_bytes k))) }
     ensures refused { IfErr result (λ e. LacksMemory (refusal_of e) ⊎ (is_member (event_of event.entry).kind ≡ false)) }
     ensures span { IfErr result (λ e. IfSome e.span (λ s. s ≡ event.entry.span)) }
+    ensures about { IfErr result (λ e. LacksOrIsAbout (event_of event.entry).span (refusal_of e)) }
 {
     let ParseEvent { kind, span } = event;
     match kind {
@@ -232,6 +240,7 @@ fn begun<'t>(
     ensures begun { IfOk result (λ t. HasBegun depth (event_of first.entry).kind (tree_view t)) }
     ensures refused { IfErr result (λ e. IsRefused depth (event_of first.entry) (refusal_of e)) }
     ensures span { IfErr result (λ e. IfSome e.span (λ s. s ≡ first.entry.span)) }
+    ensures about { IfErr result (λ e. LacksOrIsAbout (event_of first.entry).span (refusal_of e)) }
 {
     let ParseEvent { kind, span } = first;
     match kind {
@@ -296,6 +305,7 @@ fn finish<'t>(
     ensures level { OnOk result (IsLevel depth (tree_view begun) (future_of parser.old) (future_of parser.new)) }
     ensures refused { IfErr result (λ e. IsUnfilled depth parser.old.buffer (tree_view begun) (future_of parser.old) (refusal_of e)) }
     ensures within { IfErr result (λ e. IfSome e.span (λ s. s.offset + s.len ≤ length parser.new.buffer)) }
+    ensures tells { IfErr result (λ e. TellsRefusal parser.old parser.new (refusal_of e)) }
 {
     match begun {
         Tree::List(mut items) => {
@@ -329,6 +339,7 @@ fn push_items<'t>(
     ensures level { OnOk result (SameBeyond (future_of parser.old) depth (future_of parser.new) (outer depth)) }
     ensures refused { IfErr result (λ e. items.old.items ≡ [] → AreItemsUnreadWithin depth parser.old.buffer (future_of parser.old) (refusal_of e)) }
     ensures within { IfErr result (λ e. IfSome e.span (λ s. s.offset + s.len ≤ length parser.new.buffer)) }
+    ensures tells { IfErr result (λ e. TellsRefusal parser.old parser.new (refusal_of e)) }
 {
     let mut last = 0;
     while let Some(item) = begin_item(alloc, parser, depth)? {
@@ -354,6 +365,7 @@ fn push_members<'t>(
     ensures level { OnOk result (SameBeyond (future_of parser.old) depth (future_of parser.new) (outer depth)) }
     ensures refused { IfErr result (λ e. members.old.items ≡ [] → AreMembersUnreadWithin depth parser.old.buffer (future_of parser.old) (refusal_of e)) }
     ensures within { IfErr result (λ e. IfSome e.span (λ s. s.offset + s.len ≤ length parser.new.buffer)) }
+    ensures tells { IfErr result (λ e. TellsRefusal parser.old parser.new (refusal_of e)) }
 {
     while let Some((key, value)) = begin_member(alloc, parser, depth)? {
         let mut alone = 0;
@@ -388,6 +400,7 @@ fn scalar<'t>(
     ensures read { IfOk result (λ t. tree_of_scalar (scalar_value_of value.entry) ≡ Some (tree_view t)) }
     ensures refused { IfErr result (λ e. (u : SpecTree) → tree_of_scalar (scalar_value_of value.entry) ≡ Some u → LacksMemory (refusal_of e)) }
     ensures span { IfErr result (λ e. IfSome e.span (λ s. s ≡ span)) }
+    ensures about { IfErr result (λ e. LacksOrIsAbout (span_of span) (refusal_of e)) }
 {
     match value {
         ScalarValue::Null => Ok(Tree::Null),
@@ -414,7 +427,8 @@ fn owned<'t>(alloc: Global, decimal: Decimal<'_>) -> Result<Decimal<'static>, De
 
 /// The refusal of an event that stands there in place of what a value goes on with.
 fn mismatch<'t>(expected: &'t str, got: &'t str, span: Span) -> DeserializeError<'t>
-    ensures { result.span ≡ Some span }
+    ensures span { result.span ≡ Some span }
+    ensures told { refusal_of result ≡ refusal_at (type_mismatch expected.now got.now) (span_of span) }
 {
     DeserializeError {
         kind: DeserializeErrorKind::TypeMismatch { expected, got },

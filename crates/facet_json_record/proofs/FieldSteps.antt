@@ -4,6 +4,7 @@ use Rattle.std.specs.Option.{option_and_then}
 use Rattle.std.proofs.Common.{◌≡◌, ◌<◌, ◌≤◌, inl, inr, Option, None, Some, refl, ap, ◌∙◌, arith}
 use Rattle.facet_format.specs.Complaint.{Refusal}
 use Rattle.facet_format.specs.Cursor.{Cursor, Source}
+use Rattle.facet_format.specs.Span.{Span}
 use Rattle.facet_json_token.specs.Token.{Token}
 use Rattle.facet_json_document.specs.Node.{Node, scalar, Members, member}
 use Rattle.facet_json_document.specs.Node as node
@@ -14,7 +15,8 @@ use Rattle.facet_json_meaning.specs.Objects.{members_of, BeginsObject, IsNoObjec
 use Rattle.facet_json_meaning.specs.Reading.{IsRead, IsUnread}
 use Rattle.facet_json_meaning.proofs.Keeping.{keeps-then}
 use Rattle.facet_json_meaning.proofs.Walks.NextOnWalk.{goes-keeps}
-use Rattle.facet_json_record.specs.Fields.{Reading, Table, after_members, fields_of}
+use Rattle.facet_json_meaning.specs.Refusing.{IsAbout}
+use Rattle.facet_json_record.specs.Fields.{LacksField, Reading, Table, after_members, fields_of}
 use Rattle.facet_json_meaning.proofs.Objects.MembersOnWalk.{AtMembers, object-begins, at-key, key-comes, at-end}
 
 module _ {V : Type 0} (t : Table V) (names : List (List ℕ)) where
@@ -134,3 +136,7 @@ module _ {V : Type 0} (t : Table V) (names : List (List ℕ)) where
             let two : ahead new ≤ ahead now = then.onward in
             omega arith;
       }
+
+-- An object is refused for a field that it lacks.
+pub missing-about : {bracket : Span} {r : Refusal} → LacksField bracket r → IsAbout bracket r
+missing-about (field, is) = (_, refl, is)

@@ -1,8 +1,10 @@
 -- How an object is read as a list of fields.
-use Rattle.std.specs.Prelude.{ℕ, Bool, true, false, List, [], ◌∷◌, map, Option, Some, None}
+use Rattle.std.specs.Prelude.{◌≡◌, ℕ, Bool, true, false, List, [], ◌∷◌, map, Option, Some, None}
 use Rattle.std.specs.Borrow.{Bor}
 use Rattle.std.specs.Option.{option_map, option_and_then}
 use Rattle.std.specs.Str.{bytes_eq}
+use Rattle.facet_format.specs.Complaint.{missing_field, Refusal, refusal_at}
+use Rattle.facet_format.specs.Span.{Span}
 use Rattle.facet_json_document.specs.Meaning.{text_of, meaning}
 use Rattle.facet_json_document.specs.Node.{Node, scalar, array, object, Members, no_members, member}
 use Rattle.facet_json_meaning.specs.Optional.{optional}
@@ -29,6 +31,10 @@ first_name (name ∷ names) = name
 abbrev pub other_names : List (List ℕ) → List (List ℕ)
 other_names [] = []
 other_names (name ∷ names) = names
+
+-- The object that ends with this bracket lacks a field.
+abbrev pub LacksField : Span → Refusal → Type 0
+LacksField bracket refusal = (field : List ℕ) × (refusal ≡ refusal_at (missing_field field) bracket)
 
 -- ---- fields
 

@@ -1,13 +1,15 @@
 //! Fields of structs, in the order in which a table names them.
 
-ghost use Rattle.std.specs.Prelude.{◌≡◌, ◌≤◌, ◌<◌, cond, length, Some, IfOk, IfErr, OnOk};
+ghost use Rattle.std.specs.Prelude.{◌≡◌, ◌≤◌, ◌<◌, cond, length, None, Some, IfOk, IfErr, OnOk};
+ghost use Rattle.facet_format.specs.Complaint.{missing_field, refusal_at};
 ghost use Rattle.facet_format.specs.Span.{stop};
 ghost use Rattle.facet_format.specs.Views.{refusal_of, span_of};
-ghost use Rattle.facet_json_protocol.specs.Now.{ahead};
+ghost use Rattle.facet_json_protocol.specs.Now.{ahead, span_of as last_read};
 ghost use Rattle.facet_json_protocol.specs.Within.{RefusalWithin};
 ghost use Rattle.facet_json_meaning.specs.Nodes.{KeepsOn};
 ghost use Rattle.facet_json_meaning.specs.Reading.{IsRead, IsUnread};
-ghost use Rattle.facet_json_record.specs.Fields.{keys, table, fields_of, begins_with, first_name, other_names, joined};
+ghost use Rattle.facet_json_meaning.specs.Refusing.{TellsRefusal};
+ghost use Rattle.facet_json_record.specs.Fields.{keys, table, fields_of, begins_with, first_name, other_names, joined, LacksField};
 
 use facet_format::{DeserializeError, DeserializeErrorKind, FormatParser, Span};
 use facet_json_facet::Facet;
@@ -64,7 +66,8 @@ pub trait Fields<'de>: Sized + Drop {
         ensures read { OnOk result (IsRead (step borrows (keys names.now) key.now (seen slots.old)) parser.old (seen slots.new) parser.new) }
         ensures unread { IfErr result (λ e. IsUnread (step borrows (keys names.now) key.now (seen slots.old)) parser.old (refusal_of e)) }
         ensures keeps { KeepsOn parser.old parser.new }
-        ensures within { IfErr result (λ e. RefusalWithin parser.new.buffer (refusal_of e)) };
+        ensures within { IfErr result (λ e. RefusalWithin parser.new.buffer (refusal_of e)) }
+        ensures tells { IfErr result (λ e. TellsRefusal parser.old parser.new (refusal_of e)) };
 
     /// The fields of an object that ends with this bracket.
     ///
@@ -78,7 +81,8 @@ pub trait Fields<'de>: Sized + Drop {
     ) -> Result<Self, DeserializeError<'t>>
         ensures full { IfOk result (λ fields. ends (seen slots) ≡ Some (view fields)) }
         ensures missing { IfErr result (λ e. ends (seen slots) ≡ None) }
-        ensures span { IfErr result (λ e. e.span ≡ Some bracket) };
+        ensures span { IfErr result (λ e. e.span ≡ Some bracket) }
+        ensures told { IfErr result (λ e. LacksField (span_of bracket) (refusal_of e)) };
 }
 
 /// The end of a list of fields.
@@ -285,6 +289,8 @@ pub fn read_fields<'de, 't, F: Fields<'de>>(
     ensures keeps { KeepsOn parser.old parser.new }
     ensures shorter { OnOk result (ahead parser.new < ahead parser.old) }
     ensures within { IfErr result (λ e. RefusalWithin parser.new.buffer (refusal_of e)) }
+    ensures free { OnOk result (parser.new.cursor.refusal ≡ None) }
+    ensures tells { IfErr result (λ e. TellsRefusal parser.old parser.new (refusal_of e)) }
 {
     begin_object(parser)?;
     let mut slots = F::none();
@@ -334,6 +340,7 @@ fn value_in<'t, 'de, T: Facet<'de>>(
     ensures unread { IfErr result (λ e. IsUnread (cond borrows T.reading_borrowed T.reading) parser.old (refusal_of e)) }
     ensures keeps { KeepsOn parser.old parser.new }
     ensures within { IfErr result (λ e. RefusalWithin parser.new.buffer (refusal_of e)) }
+    ensures tells { IfErr result (λ e. TellsRefusal parser.old parser.new (refusal_of e)) }
 {
     if borrows {
         T::read(alloc, parser)
@@ -354,7 +361,8 @@ fn flat<T: Drop>(value: Option<Option<T>>) -> Option<T>
 
 /// The refusal of an object without this field.
 fn missing<'t>(field: &'t str, bracket: Span) -> DeserializeError<'t>
-    ensures { result.span ≡ Some bracket }
+    ensures span { result.span ≡ Some bracket }
+    ensures told { refusal_of result ≡ refusal_at (missing_field field.now) (span_of bracket) }
 {
     DeserializeError {
         kind: DeserializeErrorKind::MissingField { field },
@@ -364,7 +372,8 @@ fn missing<'t>(field: &'t str, bracket: Span) -> DeserializeError<'t>
 
 /// The span of the last token that was passed.
 fn last_span(parser: &JsonParser<'_>) -> Span
-    ensures { stop (span_of result) ≤ length parser.now.buffer }
+    ensures within { stop (span_of result) ≤ length parser.now.buffer }
+    ensures told { span_of result ≡ last_read parser.now }
 {
     parser.current_span().unwrap()
 }

@@ -1,9 +1,10 @@
 //! The events of a list that is read one by one.
 
-ghost use Rattle.std.specs.Prelude.{◌≡◌, ◌<◌, true, false, Some, IfOk, IfErr, OnOk};
+ghost use Rattle.std.specs.Prelude.{◌≡◌, ◌<◌, true, false, Some, codes, IfOk, IfErr, OnOk};
 ghost use Rattle.facet_format.specs.Views.{event_of, refusal_of};
 ghost use Rattle.facet_json_protocol.specs.Now.{ahead, GoesOn};
 ghost use Rattle.facet_json_protocol.specs.Within.{RefusalWithin};
+ghost use Rattle.facet_json_transcode.specs.Refusing.{mismatch_of, TellsRefusal};
 ghost use Rattle.facet_json_meaning.specs.Lists.{begins_list, ends_list, BeginsList, IsNoList, FindsEnd};
 ghost use Rattle.facet_json_meaning.specs.Passing.{LacksAlone};
 
@@ -23,6 +24,7 @@ pub fn begin_list<'t>(parser: &mut JsonParser<'_>) -> Result<(), DeserializeErro
     ensures begins { OnOk result (BeginsList parser.old parser.new) }
     ensures refused { IfErr result (λ e. IsNoList parser.old (refusal_of e)) }
     ensures within { IfErr result (λ e. RefusalWithin parser.new.buffer (refusal_of e)) }
+    ensures tells { IfErr result (λ e. TellsRefusal parser.old parser.new (refusal_of e)) }
 {
     array_in(next_of_value(parser)?)
 }
@@ -36,6 +38,7 @@ fn array_in<'t>(event: ParseEvent<'_>) -> Result<(), DeserializeError<'t>>
     ensures begins { OnOk result (begins_list (event_of event.entry).kind ≡ true) }
     ensures refused { IfErr result (λ e. begins_list (event_of event.entry).kind ≡ false) }
     ensures span { IfErr result (λ e. e.span ≡ Some event.entry.span) }
+    ensures told { IfErr result (λ e. refusal_of e ≡ mismatch_of (codes "array") (event_of event.entry)) }
 {
     match event.kind {
         ParseEventKind::SequenceStart(_) => Ok(()),
@@ -53,6 +56,7 @@ pub fn end_comes<'t>(parser: &mut JsonParser<'_>) -> Result<bool, DeserializeErr
     ensures finds { IfOk result (λ found. FindsEnd parser.old found parser.new) }
     ensures lacks { IfErr result (λ e. LacksAlone parser.old (refusal_of e)) }
     ensures within { IfErr result (λ e. RefusalWithin parser.new.buffer (refusal_of e)) }
+    ensures tells { IfErr result (λ e. TellsRefusal parser.old parser.new (refusal_of e)) }
 {
     match parser.peek_event()? {
         Some(event) => Ok(is_end(&event)),

@@ -6,15 +6,14 @@ ghost use Rattle.facet_format.specs.Views.{event_of, refusal_of};
 ghost use Rattle.facet_json_protocol.specs.Now.{ahead, GoesOn};
 ghost use Rattle.facet_json_protocol.specs.Next.{PassesNext};
 ghost use Rattle.facet_json_protocol.specs.Within.{RefusalWithin};
+ghost use Rattle.facet_json_transcode.specs.Refusing.{TellsRefusal};
 ghost use Rattle.facet_json_meaning.specs.Passing.{WalksPast, LacksAlone, PassesOne};
 ghost use Rattle.facet_json_meaning.specs.Optional.{is_null_event};
 ghost use Rattle.facet_json_meaning.specs.Peeking.{FindsNull};
 
-use facet_format::{
-    DeserializeError, DeserializeErrorKind, FormatParser, ParseEvent, ParseEventKind, ScalarValue,
-    Span,
-};
+use facet_format::{DeserializeError, FormatParser, ParseEvent, ParseEventKind, ScalarValue};
 use facet_json_meaning::JsonParser;
+use facet_json_transcode::ended;
 
 /// The next event, where a value is to come.
 ///
@@ -31,21 +30,11 @@ pub fn next_of_value<'t, 'de>(
     ensures lacks { IfErr result (λ e. LacksAlone parser.old (refusal_of e)) }
     ensures event_within { IfOk result (λ e. stop (event_of e).span ≤ length parser.new.buffer) }
     ensures within { IfErr result (λ e. RefusalWithin parser.new.buffer (refusal_of e)) }
+    ensures tells { IfErr result (λ e. TellsRefusal parser.old parser.new (refusal_of e)) }
 {
     match parser.next_event()? {
         Some(event) => Ok(event),
         None => Err(ended(parser)),
-    }
-}
-
-/// The refusal of a value where the parser is at the end.
-fn ended<'t>(parser: &JsonParser<'_>) -> DeserializeError<'t>
-    ensures { RefusalWithin parser.now.buffer (refusal_of result) }
-{
-    let end = parser.current_span().unwrap().end();
-    DeserializeError {
-        kind: DeserializeErrorKind::UnexpectedEof { expected: "value" },
-        span: Some(Span::new(end, 0)),
     }
 }
 
@@ -59,6 +48,7 @@ pub fn null_comes<'t>(parser: &mut JsonParser<'_>) -> Result<bool, DeserializeEr
     ensures finds { IfOk result (λ found. FindsNull parser.old found parser.new) }
     ensures lacks { IfErr result (λ e. LacksAlone parser.old (refusal_of e)) }
     ensures within { IfErr result (λ e. RefusalWithin parser.new.buffer (refusal_of e)) }
+    ensures tells { IfErr result (λ e. TellsRefusal parser.old parser.new (refusal_of e)) }
 {
     match parser.peek_event()? {
         Some(event) => Ok(is_null(&event)),
@@ -84,6 +74,8 @@ pub fn pass_null<'t>(parser: &mut JsonParser<'_>) -> Result<(), DeserializeError
     ensures passes { OnOk result (PassesOne parser.old parser.new) }
     ensures lacks { IfErr result (λ e. LacksAlone parser.old (refusal_of e)) }
     ensures within { IfErr result (λ e. RefusalWithin parser.new.buffer (refusal_of e)) }
+    ensures free { OnOk result (parser.new.cursor.refusal ≡ None) }
+    ensures tells { IfErr result (λ e. TellsRefusal parser.old parser.new (refusal_of e)) }
 {
     let _null = next_of_value(parser)?;
     Ok(())

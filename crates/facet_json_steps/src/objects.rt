@@ -1,12 +1,13 @@
 //! The events of an object that is read one by one.
 
-ghost use Rattle.std.specs.Prelude.{◌≡◌, ◌<◌, true, false, None, Some, string_bytes, IfOk, IfErr, OnOk};
+ghost use Rattle.std.specs.Prelude.{◌≡◌, ◌<◌, true, false, None, Some, codes, string_bytes, IfOk, IfErr, OnOk};
 ghost use Rattle.std.specs.Option.{option_map};
 ghost use Rattle.facet_format.specs.Event.{bytes_of};
 ghost use Rattle.facet_format.specs.HeldText.{text_of};
 ghost use Rattle.facet_format.specs.Views.{event_of, refusal_of};
 ghost use Rattle.facet_json_protocol.specs.Now.{ahead, GoesOn};
 ghost use Rattle.facet_json_protocol.specs.Within.{RefusalWithin};
+ghost use Rattle.facet_json_transcode.specs.Refusing.{mismatch_of, TellsRefusal};
 ghost use Rattle.facet_json_meaning.specs.Objects.{begins_object, key_or_end, BeginsObject, IsNoObject, PassesKey, LacksKey};
 
 use crate::next::next_of_value;
@@ -27,6 +28,7 @@ pub fn begin_object<'t>(parser: &mut JsonParser<'_>) -> Result<(), DeserializeEr
     ensures onward { GoesOn parser.old parser.new }
     ensures shorter { OnOk result (ahead parser.new < ahead parser.old) }
     ensures within { IfErr result (λ e. RefusalWithin parser.new.buffer (refusal_of e)) }
+    ensures tells { IfErr result (λ e. TellsRefusal parser.old parser.new (refusal_of e)) }
 {
     object_in(next_of_value(parser)?)
 }
@@ -36,6 +38,7 @@ fn object_in<'t>(event: ParseEvent<'_>) -> Result<(), DeserializeError<'t>>
     ensures begins { OnOk result (begins_object (event_of event.entry).kind ≡ true) }
     ensures refused { IfErr result (λ e. begins_object (event_of event.entry).kind ≡ false) }
     ensures span { IfErr result (λ e. e.span ≡ Some event.entry.span) }
+    ensures told { IfErr result (λ e. refusal_of e ≡ mismatch_of (codes "object") (event_of event.entry)) }
 {
     match event.kind {
         ParseEventKind::StructStart(_) => Ok(()),
@@ -61,6 +64,8 @@ pub fn next_name<'t, 'de>(
     ensures onward { GoesOn parser.old parser.new }
     ensures shorter { OnOk result (ahead parser.new < ahead parser.old) }
     ensures within { IfErr result (λ e. RefusalWithin parser.new.buffer (refusal_of e)) }
+    ensures free { OnOk result (parser.new.cursor.refusal ≡ None) }
+    ensures tells { IfErr result (λ e. TellsRefusal parser.old parser.new (refusal_of e)) }
 {
     name_in(next_of_value(parser)?)
 }
@@ -70,6 +75,7 @@ fn name_in<'t, 'de>(event: ParseEvent<'de>) -> Result<Option<CowStr<'de>>, Deser
     ensures taken { IfOk result (λ name. key_or_end (event_of event.entry).kind ≡ Some (option_map (λ s. bytes_of (text_of s)) name)) }
     ensures refused { IfErr result (λ e. key_or_end (event_of event.entry).kind ≡ None) }
     ensures span { IfErr result (λ e. e.span ≡ Some event.entry.span) }
+    ensures told { IfErr result (λ e. refusal_of e ≡ mismatch_of (codes "object") (event_of event.entry)) }
 {
     match event.kind {
         ParseEventKind::FieldKey(key) => Ok(Some(key.name)),
@@ -92,6 +98,8 @@ pub fn next_key<'t>(
     ensures onward { GoesOn parser.old parser.new }
     ensures shorter { OnOk result (ahead parser.new < ahead parser.old) }
     ensures within { IfErr result (λ e. RefusalWithin parser.new.buffer (refusal_of e)) }
+    ensures free { OnOk result (parser.new.cursor.refusal ≡ None) }
+    ensures tells { IfErr result (λ e. TellsRefusal parser.old parser.new (refusal_of e)) }
 {
     match next_name(parser)? {
         Some(name) => Ok(Some(name.into_owned(alloc)?)),

@@ -4,6 +4,7 @@ pub mod DocumentPassed
 pub mod NextEventComes
 pub mod Passing
 pub mod PrefixBreaksOff
+pub mod Refusing
 pub mod StrictFromRoot
 pub mod ValueOrBreak
 pub mod ValuePasses

@@ -1,4 +1,5 @@
 pub mod Reading
+pub mod Refusing
 pub mod Told
 pub mod Transcode
 pub mod Views

@@ -8,5 +8,5 @@ mod value;
 
 pub use error::TranscodeError;
 pub use facet_json_parser::JsonParser;
-pub use next::{mismatch, next_of_value, pass_end};
+pub use next::{ended, mismatch, next_of_value, pass_end};
 pub use value::transcode;

@@ -4,12 +4,13 @@ ghost use Rattle.std.specs.Prelude.{◌≡◌, ◌≢◌, ◌≤◌, ◌<◌, �
 ghost use Rattle.facet_format.specs.Cursor.{next, event};
 ghost use Rattle.facet_format.specs.Span.{stop};
 ghost use Rattle.facet_format.specs.Standing.{IsStep};
-ghost use Rattle.facet_format.specs.Views.{event_of, refusal_of};
+ghost use Rattle.facet_format.specs.Views.{event_kind_of, event_of, refusal_of, scalar_value_of};
 ghost use Rattle.facet_json_document.specs.Future.{finished};
-ghost use Rattle.facet_json_protocol.specs.Now.{ahead, future_of, GoesOn, StandsAt};
+ghost use Rattle.facet_json_protocol.specs.Now.{ahead, future_of, span_of as last_read, GoesOn, StandsAt};
 ghost use Rattle.facet_json_protocol.specs.Next.{IsOver, PassesNext};
 ghost use Rattle.facet_json_protocol.specs.Within.{RefusalWithin};
 ghost use Rattle.facet_json_transcode.specs.Reading.{GivesNone};
+ghost use Rattle.facet_json_transcode.specs.Refusing.{mismatch_of, name_of_event, name_of_scalar, no_value_after, TellsRefusal};
 
 use facet_format::{
     DeserializeError, DeserializeErrorKind, FormatParser, ParseEvent, ParseEventKind, ScalarValue,
@@ -33,6 +34,7 @@ pub fn next_of_value<'t, 'de>(
     ensures event_within { IfOk result (λ e. stop (event_of e).span ≤ length parser.new.buffer) }
     ensures refused { parser.old.cursor.refusal ≡ None → IfErr result (λ e. GivesNone parser.old (refusal_of e)) }
     ensures within { IfErr result (λ e. IfSome e.span (λ s. s.offset + s.len ≤ length parser.new.buffer)) }
+    ensures tells { IfErr result (λ e. TellsRefusal parser.old parser.new (refusal_of e)) }
 {
     match parser.next_event()? {
         Some(event) => Ok(event),
@@ -41,8 +43,9 @@ pub fn next_of_value<'t, 'de>(
 }
 
 /// The refusal of a value where the parser is at the end.
-fn ended<'t>(parser: &JsonParser<'_>) -> DeserializeError<'t>
-    ensures { IfSome result.span (λ s. s.offset + s.len ≤ length parser.now.buffer) }
+pub fn ended<'t>(parser: &JsonParser<'_>) -> DeserializeError<'t>
+    ensures within { IfSome result.span (λ s. s.offset + s.len ≤ length parser.now.buffer) }
+    ensures told { refusal_of result ≡ no_value_after (last_read parser.now) }
 {
     let end = parser.current_span().unwrap().end();
     DeserializeError {
@@ -67,6 +70,7 @@ pub fn pass_end<'t>(parser: &mut JsonParser<'_>) -> Result<(), DeserializeError<
     ensures only { parser.old.cursor.refusal ≡ None → OnErr result (future_of parser.old ≢ finished) }
     ensures onward { GoesOn parser.old parser.new }
     ensures within { IfErr result (λ e. RefusalWithin parser.new.buffer (refusal_of e)) }
+    ensures tells { IfErr result (λ e. TellsRefusal parser.old parser.new (refusal_of e)) }
 {
     let Some(event) = parser.next_event()? else {
         return Ok(());
@@ -76,7 +80,8 @@ pub fn pass_end<'t>(parser: &mut JsonParser<'_>) -> Result<(), DeserializeError<
 
 /// The refusal of an event with which no value of the type begins, whose name is `expected`.
 pub fn mismatch<'t>(expected: &'t str, event: ParseEvent<'_>) -> DeserializeError<'t>
-    ensures { result.span ≡ Some event.entry.span }
+    ensures span { result.span ≡ Some event.entry.span }
+    ensures told { refusal_of result ≡ mismatch_of expected.now (event_of event.entry) }
 {
     let ParseEvent { kind, span } = event;
     DeserializeError {
@@ -89,7 +94,9 @@ pub fn mismatch<'t>(expected: &'t str, event: ParseEvent<'_>) -> DeserializeErro
 }
 
 /// What an event of this kind is called in a refusal.
-fn name_of<'t>(kind: &ParseEventKind<'_>) -> &'t str {
+fn name_of<'t>(kind: &ParseEventKind<'_>) -> &'t str
+    ensures { result.now ≡ name_of_event (event_kind_of kind.now) }
+{
     match kind {
         ParseEventKind::StructStart(_) => "object",
         ParseEventKind::SequenceStart(_) => "array",
@@ -100,7 +107,9 @@ fn name_of<'t>(kind: &ParseEventKind<'_>) -> &'t str {
 }
 
 /// What a scalar is called in a refusal.
-fn scalar_name<'t>(value: &ScalarValue<'_>) -> &'t str {
+fn scalar_name<'t>(value: &ScalarValue<'_>) -> &'t str
+    ensures { result.now ≡ name_of_scalar (scalar_value_of value.now) }
+{
     match value {
         ScalarValue::Null | ScalarValue::Unit => "null",
         ScalarValue::Bool(_) => "bool",

@@ -3,9 +3,12 @@ use Rattle.std.specs.Prelude.{◌≡◌, ◌⊎◌, ℕ, List, Option, Some, Non
 use Rattle.facet_format.specs.Complaint.{Refusal}
 use Rattle.facet_json_token.specs.Gap.{Mode, plain}
 use Rattle.facet_json_document.specs.Document.{IsDocument}
+use Rattle.facet_json_document.specs.Language.{Language}
 use Rattle.facet_json_document.specs.Node.{Node}
 use Rattle.facet_json_document.specs.Tree.{Tree}
 use Rattle.facet_json_document.specs.StrictDocument.{IsStrictDocument}
+use Rattle.facet_json_protocol.specs.Now.{Now, fresh_in}
+use Rattle.facet_json_transcode.specs.Refusing.{ComesTo, TellsRefusal}
 use Rattle.facet_json_meaning.specs.ValueReading.{LacksMemory}
 
 -- The input has a document.
@@ -33,3 +36,9 @@ IsUnreadStrictly reading input refusal = (root : Node) (tree : Tree) → IsStric
 -- The text has a document without comments, which is read as the value.
 abbrev pub ComesBack : {V : Type 0} → (List ℕ → Node → Option V) → List ℕ → V → Type 0
 ComesBack reading bytes value = BeginsWithDocument bytes plain × IsReadFrom reading bytes plain value
+
+-- A new parser of the input was read by calls, and how it was refused is told.
+pub record IsToldOf (input : List ℕ) (language : Language) (refusal : Refusal) : Type 0 where
+  pub last : Now
+  pub came : ComesTo (fresh_in input language) last
+  pub tells : TellsRefusal (fresh_in input language) last refusal

@@ -3,8 +3,9 @@
 ghost use Rattle.std.specs.Prelude.{◌≡◌, true, IfOk, IfErr, OnOk};
 ghost use Rattle.facet_format.specs.Views.{refusal_of};
 ghost use Rattle.facet_json_token.specs.Gap.{plain, jsonc};
+ghost use Rattle.facet_json_document.specs.Language.{lenient};
 ghost use Rattle.facet_json_protocol.specs.Within.{RefusalWithin};
-ghost use Rattle.facet_json_typed.specs.Inputs.{IsReadFrom, IsUnreadFrom, BeginsWithDocument};
+ghost use Rattle.facet_json_typed.specs.Inputs.{IsReadFrom, IsUnreadFrom, BeginsWithDocument, IsToldOf};
 
 use facet_format::DeserializeError;
 use facet_json_facet::Facet;
@@ -31,6 +32,7 @@ pub fn from_slice<'t, 'de, T: Facet<'de>>(
     ensures unread { IfErr result (λ e. IsUnreadFrom T.reading input.now plain (refusal_of e)) }
     ensures document { T.whole ≡ true → OnOk result (BeginsWithDocument input.now plain) }
     ensures within { IfErr result (λ e. RefusalWithin input.now (refusal_of e)) }
+    ensures tells { IfErr result (λ e. IsToldOf input.now (lenient plain) (refusal_of e)) }
 {
     T::read_owned(alloc, &mut JsonParser::new(alloc, input))
 }
@@ -54,6 +56,7 @@ pub fn from_slice_borrowed<'t, 'de, T: Facet<'de>>(
     ensures unread { IfErr result (λ e. IsUnreadFrom T.reading_borrowed input.now plain (refusal_of e)) }
     ensures document { T.whole ≡ true → OnOk result (BeginsWithDocument input.now plain) }
     ensures within { IfErr result (λ e. RefusalWithin input.now (refusal_of e)) }
+    ensures tells { IfErr result (λ e. IsToldOf input.now (lenient plain) (refusal_of e)) }
 {
     T::read(alloc, &mut JsonParser::new(alloc, input))
 }
@@ -76,6 +79,7 @@ pub fn from_slice_jsonc<'t, 'de, T: Facet<'de>>(
     ensures unread { IfErr result (λ e. IsUnreadFrom T.reading input.now jsonc (refusal_of e)) }
     ensures document { T.whole ≡ true → OnOk result (BeginsWithDocument input.now jsonc) }
     ensures within { IfErr result (λ e. RefusalWithin input.now (refusal_of e)) }
+    ensures tells { IfErr result (λ e. IsToldOf input.now (lenient jsonc) (refusal_of e)) }
 {
     T::read_owned(alloc, &mut JsonParser::new_jsonc(alloc, input))
 }
@@ -98,6 +102,7 @@ pub fn from_slice_borrowed_jsonc<'t, 'de, T: Facet<'de>>(
     ensures unread { IfErr result (λ e. IsUnreadFrom T.reading_borrowed input.now jsonc (refusal_of e)) }
     ensures document { T.whole ≡ true → OnOk result (BeginsWithDocument input.now jsonc) }
     ensures within { IfErr result (λ e. RefusalWithin input.now (refusal_of e)) }
+    ensures tells { IfErr result (λ e. IsToldOf input.now (lenient jsonc) (refusal_of e)) }
 {
     T::read(alloc, &mut JsonParser::new_jsonc(alloc, input))
 }
@@ -120,6 +125,7 @@ pub fn from_str<'t, 'de, T: Facet<'de>>(
     ensures unread { IfErr result (λ e. IsUnreadFrom T.reading input.now plain (refusal_of e)) }
     ensures document { T.whole ≡ true → OnOk result (BeginsWithDocument input.now plain) }
     ensures within { IfErr result (λ e. RefusalWithin input.now (refusal_of e)) }
+    ensures tells { IfErr result (λ e. IsToldOf input.now (lenient plain) (refusal_of e)) }
 {
     T::read_owned(alloc, &mut JsonParser::new_trusted(alloc, input.as_bytes()))
 }
@@ -142,6 +148,7 @@ pub fn from_str_borrowed<'t, 'de, T: Facet<'de>>(
     ensures unread { IfErr result (λ e. IsUnreadFrom T.reading_borrowed input.now plain (refusal_of e)) }
     ensures document { T.whole ≡ true → OnOk result (BeginsWithDocument input.now plain) }
     ensures within { IfErr result (λ e. RefusalWithin input.now (refusal_of e)) }
+    ensures tells { IfErr result (λ e. IsToldOf input.now (lenient plain) (refusal_of e)) }
 {
     T::read(alloc, &mut JsonParser::new_trusted(alloc, input.as_bytes()))
 }
@@ -164,6 +171,7 @@ pub fn from_str_jsonc<'t, 'de, T: Facet<'de>>(
     ensures unread { IfErr result (λ e. IsUnreadFrom T.reading input.now jsonc (refusal_of e)) }
     ensures document { T.whole ≡ true → OnOk result (BeginsWithDocument input.now jsonc) }
     ensures within { IfErr result (λ e. RefusalWithin input.now (refusal_of e)) }
+    ensures tells { IfErr result (λ e. IsToldOf input.now (lenient jsonc) (refusal_of e)) }
 {
     let bytes = input.as_bytes();
     T::read_owned(alloc, &mut JsonParser::new_jsonc_trusted(alloc, bytes))
@@ -187,6 +195,7 @@ pub fn from_str_borrowed_jsonc<'t, 'de, T: Facet<'de>>(
     ensures unread { IfErr result (λ e. IsUnreadFrom T.reading_borrowed input.now jsonc (refusal_of e)) }
     ensures document { T.whole ≡ true → OnOk result (BeginsWithDocument input.now jsonc) }
     ensures within { IfErr result (λ e. RefusalWithin input.now (refusal_of e)) }
+    ensures tells { IfErr result (λ e. IsToldOf input.now (lenient jsonc) (refusal_of e)) }
 {
     let bytes = input.as_bytes();
     T::read(alloc, &mut JsonParser::new_jsonc_trusted(alloc, bytes))

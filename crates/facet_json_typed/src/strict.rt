@@ -8,7 +8,7 @@ ghost use Rattle.facet_json_document.specs.StrictDocument.{IsStrict};
 ghost use Rattle.facet_json_protocol.specs.Now.{fresh_in};
 ghost use Rattle.facet_json_protocol.specs.OneRun.{IsOneRun};
 ghost use Rattle.facet_json_protocol.specs.Within.{RefusalWithin};
-ghost use Rattle.facet_json_typed.specs.Inputs.{IsReadStrictly, IsUnreadStrictly};
+ghost use Rattle.facet_json_typed.specs.Inputs.{IsReadStrictly, IsToldOf, IsUnreadStrictly};
 
 use facet_format::DeserializeError;
 use facet_json_facet::Facet;
@@ -40,6 +40,7 @@ pub fn from_slice_strict<'t, 'de, T: Facet<'de>>(
     ensures document { T.whole ≡ true → OnOk result (IsStrict input.now) }
     ensures one_run { OnOk result (IsOneRun input.now plain) }
     ensures within { IfErr result (λ e. RefusalWithin input.now (refusal_of e)) }
+    ensures tells { IfErr result (λ e. IsToldOf input.now (strict plain) (refusal_of e)) }
 {
     whole_value(alloc, &mut JsonParser::new_strict(alloc, input))
 }
@@ -63,6 +64,7 @@ pub fn from_str_strict<'t, 'de, T: Facet<'de>>(
     ensures document { T.whole ≡ true → OnOk result (IsStrict input.now) }
     ensures one_run { OnOk result (IsOneRun input.now plain) }
     ensures within { IfErr result (λ e. RefusalWithin input.now (refusal_of e)) }
+    ensures tells { IfErr result (λ e. IsToldOf input.now (strict plain) (refusal_of e)) }
 {
     let bytes = input.as_bytes();
     whole_value(alloc, &mut JsonParser::new_strict_trusted(alloc, bytes))
@@ -82,6 +84,8 @@ fn whole_value<'t, 'de, T: Facet<'de>>(
     ensures one_run { (input : List ℕ) → parser.old ≡ fresh_in input (strict plain) → OnOk result (IsOneRun input plain) }
     ensures within { (input : List ℕ) → parser.old ≡ fresh_in input (strict plain)
         → IfErr result (λ e. RefusalWithin input (refusal_of e)) }
+    ensures tells { (input : List ℕ) → parser.old ≡ fresh_in input (strict plain)
+        → IfErr result (λ e. IsToldOf input (strict plain) (refusal_of e)) }
 {
     let value = T::read_owned(alloc, parser)?;
     pass_end(parser)?;

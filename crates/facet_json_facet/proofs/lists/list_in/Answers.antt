@@ -1,10 +1,12 @@
-use Rattle.std.proofs.Common.{◌≡◌, false, true, cond, List, [], ◌∷◌, ◌++◌, map, sym, ap, ◌∙◌, subst, arith, rules}
+use Rattle.std.proofs.Common.{◌≡◌, false, true, cond, List, [], ◌∷◌, ◌++◌, map, refl, sym, ap, ◌∙◌, subst, arith, rules}
 use Rattle.std.proofs.lemmas.List.{map-append}
 use Rattle.std.proofs.lemmas.Result.{err_from_is_err_and}
 use Rattle.facet_format.specs.Views.{refusal_of}
 use Rattle.facet_json_meaning.proofs.Keeping.{keeps-then}
 use Rattle.facet_json_meaning.proofs.Sequences.ListSteps.{ReadSoFar, list-begins, list-none, list-goes_on, list-stops, list-more, list-unread, list-ends, list-unseen, list-open}
 use Rattle.facet_json_meaning.proofs.Walks.NextOnWalk.{goes-keeps}
+use Rattle.facet_json_meaning.specs.Refusing.{without_memory}
+use Rattle.facet_json_meaning.proofs.Refusals.{comes-then, goes-there, keeps-there, tells-later}
 use Rattle.facet_json_facet.proofs.lists.list_in.Goals as goal
 
 pub returns-in_err-begin_list-clause-unread : goal.returns-in_err-begin_list-clause-unread
@@ -82,3 +84,28 @@ returns-in_err-begin_list-clause-shorter c = search rules
 
 pub returns-in_err-begin_list-clause-within : goal.returns-in_err-begin_list-clause-within
 returns-in_err-begin_list-clause-within c = search rules
+
+pub returns-in_err-end_comes-clause-tells : goal.returns-in_err-end_comes-clause-tells
+returns-in_err-end_comes-clause-tells g c =
+    let p = err_from_is_err_and c.from_residual-in_err-end_comes.result c.from_residual-in_err-end_comes.ensures.1 in
+    rw (p.1, p.2) (tells-later (keeps-there c.loop-items.invariant.keeps) c.in_err-end_comes.ensures.tells)
+
+pub returns-in_err-item_in-clause-tells : goal.returns-in_err-item_in-clause-tells
+returns-in_err-item_in-clause-tells g c =
+    let p = err_from_is_err_and c.from_residual-in_err-item_in.result c.from_residual-in_err-item_in.ensures.1 in
+    let came = comes-then (keeps-there c.loop-items.invariant.keeps) (goes-there c.end_comes.ensures.onward) in
+    rw (p.1, p.2) (tells-later came c.in_err-item_in.ensures.tells)
+
+pub returns-in_err-push-clause-tells : goal.returns-in_err-push-clause-tells
+returns-in_err-push-clause-tells g c =
+    let p = err_from_is_err_and c.from_residual-in_err-push.result c.from_residual-in_err-push.ensures.1 in
+    rw (p.1, p.2) (without_memory c.in_ok-item_in.ensures.free refl)
+
+pub returns-in_err-_end-clause-tells : goal.returns-in_err-_end-clause-tells
+returns-in_err-_end-clause-tells g c =
+    let p = err_from_is_err_and c.from_residual-in_err-_end.result c.from_residual-in_err-_end.ensures.1 in
+    let came = comes-then (keeps-there c.loop-items.invariant.keeps) (goes-there c.end_comes.ensures.onward) in
+    rw (p.1, p.2) (tells-later came c.in_err-_end.ensures.tells)
+
+pub returns-clause-free : goal.returns-clause-free
+returns-clause-free g c = c.in_ok-_end.ensures.passed.free

@@ -1,6 +1,8 @@
 use Rattle.std.proofs.Common.{refl, rules}
 use Rattle.std.proofs.lemmas.Result.{err_from_is_err_and}
 use Rattle.facet_json_meaning.proofs.Walks.RawOnWalk.{answer-captures, answer-uncaptured}
+use Rattle.facet_format.specs.Cursor.{capture}
+use Rattle.facet_json_meaning.proofs.Refusals.{call-tells, capture-frees}
 use Rattle.facet_json_facet.proofs.raw.captured.Goals as goal
 
 pub returns-in_err-text-clause-unread : goal.returns-in_err-text-clause-unread
@@ -24,3 +26,11 @@ returns-in_err-text-clause-shorter c = search rules
 
 pub returns-in_err-text-clause-within : goal.returns-in_err-text-clause-within
 returns-in_err-text-clause-within c = search rules
+
+pub returns-in_err-text-clause-tells : goal.returns-in_err-text-clause-tells
+returns-in_err-text-clause-tells c =
+    let p = err_from_is_err_and c.from_residual.result c.from_residual.ensures.1 in
+    rw (p.1, p.2) (call-tells _ _ capture _ _ c.in_err-text.ensures.moves refl)
+
+pub returns-clause-free : goal.returns-clause-free
+returns-clause-free c = capture-frees _ _ _ c.in_ok-text.ensures.moves

@@ -1,4 +1,4 @@
-use Rattle.std.proofs.Common.{◌∙◌, ap, rules}
+use Rattle.std.proofs.Common.{◌∙◌, ap, refl, rules}
 use Rattle.std.proofs.lemmas.List.{map-append}
 use Rattle.std.proofs.lemmas.Option.{MatchOption-at_none, MatchOption-at_some}
 use Rattle.std.proofs.lemmas.Result.{err_from_is_err_and}
@@ -12,6 +12,8 @@ use Rattle.facet_json_read.proofs.MovingOn.{leads-past, leads-behind, keeps-none
 use Rattle.facet_json_read.proofs.ReadingWithin.{within-same, within-at, item-within, items-within, member-within, members-within, list-leveled, object-leveled, list-unfilled, object-unfilled}
 use Rattle.facet_json_read.proofs.BeyondEvents.{item-leveled, member-leveled, items-leveled, members-leveled}
 use Rattle.facet_json_read.proofs.ValuesBegin.{begun-no_end, list-filled, object-filled}
+use Rattle.facet_json_transcode.specs.Refusing.{without_memory}
+use Rattle.facet_json_meaning.proofs.Refusals.{keeps-there, tells-later}
 use Rattle.facet_json_read.proofs.reader.+read.Goals as goal
 
 -- ---- values
@@ -187,3 +189,37 @@ push_members-returns-in_err-append-clause-keeps t c =
 
 pub push_members-returns-clause-keeps : goal.push_members-returns-clause-keeps
 push_members-returns-clause-keeps t c = keeps-then _ _ _ c.loop-key.invariant.keeps c.begin_member.ensures.keeps
+
+-- ---- refusals
+
+pub push_items-returns-in_err-item-clause-tells : goal.push_items-returns-in_err-item-clause-tells
+push_items-returns-in_err-item-clause-tells t c =
+    let p = err_from_is_err_and c.from_residual.result c.from_residual.ensures.1 in
+    rw (p.1, p.2) (tells-later (keeps-there c.loop-item.invariant.keeps) c.in_err-item.ensures.tells)
+
+pub push_items-returns-in_err-finish-clause-tells : goal.push_items-returns-in_err-finish-clause-tells
+push_items-returns-in_err-finish-clause-tells t c =
+    let p = err_from_is_err_and c.from_residual-in_err-finish.result c.from_residual-in_err-finish.ensures.1 in
+    let begun = keeps-then _ _ _ c.loop-item.invariant.keeps c.begin_item.ensures.keeps in
+    rw (p.1, p.2) (tells-later (keeps-there begun) c.in_err-finish.ensures.tells)
+
+pub push_items-returns-in_err-append-clause-tells : goal.push_items-returns-in_err-append-clause-tells
+push_items-returns-in_err-append-clause-tells t c =
+    let p = err_from_is_err_and c.from_residual-in_err-append.result c.from_residual-in_err-append.ensures.1 in
+    rw (p.1, p.2) (without_memory c.in_ok-finish.ensures.went.free refl)
+
+pub push_members-returns-in_err-key-clause-tells : goal.push_members-returns-in_err-key-clause-tells
+push_members-returns-in_err-key-clause-tells t c =
+    let p = err_from_is_err_and c.from_residual.result c.from_residual.ensures.1 in
+    rw (p.1, p.2) (tells-later (keeps-there c.loop-key.invariant.keeps) c.in_err-key.ensures.tells)
+
+pub push_members-returns-in_err-finish-clause-tells : goal.push_members-returns-in_err-finish-clause-tells
+push_members-returns-in_err-finish-clause-tells t c =
+    let p = err_from_is_err_and c.from_residual-in_err-finish.result c.from_residual-in_err-finish.ensures.1 in
+    let begun = keeps-then _ _ _ c.loop-key.invariant.keeps c.begin_member.ensures.keeps in
+    rw (p.1, p.2) (tells-later (keeps-there begun) c.in_err-finish.ensures.tells)
+
+pub push_members-returns-in_err-append-clause-tells : goal.push_members-returns-in_err-append-clause-tells
+push_members-returns-in_err-append-clause-tells t c =
+    let p = err_from_is_err_and c.from_residual-in_err-append.result c.from_residual-in_err-append.ensures.1 in
+    rw (p.1, p.2) (without_memory c.in_ok-finish.ensures.went.free refl)

@@ -5,6 +5,7 @@ use Rattle.facet_json_read.proofs.ItemsRead.{not_list_end, items-none}
 use Rattle.facet_json_read.proofs.MovingOn.{moves-next}
 use Rattle.facet_json_read.proofs.ReadingWithin.{none-items-within, item-within, refused-within}
 use Rattle.facet_json_read.proofs.ValuesBegin.{began, span-within}
+use Rattle.facet_json_meaning.proofs.Refusals.{lacks-tells}
 use Rattle.facet_json_read.proofs.reader.begin_item.Goals as goal
 
 pub returns-in_err-first-clause-refused : goal.returns-in_err-first-clause-refused
@@ -36,4 +37,10 @@ returns c = record {
   begun = began _ _ _ _ _ c.in_ok-first.ensures.gave c.in_ok-begun.ensures.begun;
   refused = tt;
   within = tt;
+  tells = tt;
 }
+
+pub returns-in_err-begun-clause-tells : goal.returns-in_err-begun-clause-tells
+returns-in_err-begun-clause-tells c =
+    let p = err_from_is_err_and c.from_residual-in_err-begun.result c.from_residual-in_err-begun.ensures.1 in
+    rw (p.1, p.2) (lacks-tells c.in_ok-first.ensures.gave c.in_err-begun.ensures.about)

@@ -8,6 +8,7 @@ use Rattle.facet_json_meaning.proofs.Keeping.{keeps-then}
 use Rattle.facet_json_meaning.proofs.OfTrees.TreeOnWalk.{moves_trans}
 use Rattle.facet_json_meaning.proofs.Walks.NextOnWalk.{goes-keeps}
 use Rattle.facet_json_read.proofs.MovingOn.{moves-next}
+use Rattle.facet_json_meaning.proofs.Refusals.{goes-there, lacks-tells, tells-later}
 use Rattle.facet_json_read.proofs.reader.begin_member.Goals as goal
 
 pub returns-in_err-next_of_value-clause-refused : goal.returns-in_err-next_of_value-clause-refused
@@ -46,3 +47,13 @@ returns-in_ok-begin_value-in-Some-clause-keeps c =
 
 pub returns-in-None-clause-moves : goal.returns-in-None-clause-moves
 returns-in-None-clause-moves c = moves-next c.in_ok-next_of_value.ensures.steps
+
+pub returns-in_err-key-clause-tells : goal.returns-in_err-key-clause-tells
+returns-in_err-key-clause-tells c =
+    let p = err_from_is_err_and c.from_residual-in_err-key.result c.from_residual-in_err-key.ensures.1 in
+    rw (p.1, p.2) (lacks-tells c.in_ok-next_of_value.ensures.gave c.in_err-key.ensures.about)
+
+pub returns-in_err-begin_value-in-Some-clause-tells : goal.returns-in_err-begin_value-in-Some-clause-tells
+returns-in_err-begin_value-in-Some-clause-tells c =
+    let p = err_from_is_err_and c.from_residual-in_err-begin_value-in-Some.result c.from_residual-in_err-begin_value-in-Some.ensures.1 in
+    rw (p.1, p.2) (tells-later (goes-there c.next_of_value.ensures.onward) c.in_err-begin_value-in-Some.ensures.tells)

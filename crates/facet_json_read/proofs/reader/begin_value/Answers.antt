@@ -2,6 +2,7 @@ use Rattle.std.proofs.lemmas.Result.{err_from_is_err_and, IfOk-weaker, IfErr-wea
 use Rattle.facet_json_read.proofs.MovingOn.{moves-next}
 use Rattle.facet_json_read.proofs.ReadingWithin.{none-value-within, began-within}
 use Rattle.facet_json_read.proofs.ValuesBegin.{began}
+use Rattle.facet_json_meaning.proofs.Refusals.{lacks-tells}
 use Rattle.facet_json_read.proofs.reader.begin_value.Goals as goal
 
 pub returns-in_err-next_of_value-clause-refused : goal.returns-in_err-next_of_value-clause-refused
@@ -20,3 +21,7 @@ returns-clause-begun c =
 pub returns-clause-refused : goal.returns-clause-refused
 returns-clause-refused c free =
     IfErr-weaker c.begun.result _ _ (λ e h. began-within c.args.depth _ _ _ _ _ c.in_ok-next_of_value.ensures.gave h) c.begun.ensures.refused
+
+pub returns-clause-tells : goal.returns-clause-tells
+returns-clause-tells c =
+    IfErr-weaker c.begun.result _ _ (λ e about. lacks-tells c.in_ok-next_of_value.ensures.gave about) c.begun.ensures.about

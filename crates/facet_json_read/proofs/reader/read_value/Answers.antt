@@ -4,6 +4,7 @@ use Rattle.facet_json_meaning.proofs.Keeping.{keeps-then}
 use Rattle.facet_json_read.proofs.ReadingValues.{read-at}
 use Rattle.facet_json_read.proofs.ReadingWithin.{within-at, within-same}
 use Rattle.facet_json_read.proofs.BeyondEvents.{value-leveled}
+use Rattle.facet_json_meaning.proofs.Refusals.{keeps-there, tells-later}
 use Rattle.facet_json_read.proofs.reader.read_value.Goals as goal
 
 pub returns-clause-keeps : goal.returns-clause-keeps
@@ -43,3 +44,7 @@ returns-in_err-first-clause-shorter c = search rules
 
 pub returns-in_err-first-clause-told : goal.returns-in_err-first-clause-told
 returns-in_err-first-clause-told c = search rules
+
+pub returns-clause-tells : goal.returns-clause-tells
+returns-clause-tells c =
+    IfErr-weaker c.finish.result _ _ (λ e told. tells-later (keeps-there c.begin_value.ensures.keeps) told) c.finish.ensures.tells

@@ -5,7 +5,8 @@ use Rattle.facet_format.specs.HeldText.{text_of}
 use Rattle.facet_format.specs.Views.{refusal_of}
 use Rattle.facet_format.proofs.HeldTexts.{held-bytes}
 use Rattle.facet_json_record.specs.Fields.{keys, table}
-use Rattle.facet_json_record.proofs.FieldSteps.{way-begin, way-goes_on, fields-not_begun, fields-no_key, fields-no_value, fields-end, fields-missing}
+use Rattle.facet_json_record.proofs.FieldSteps.{missing-about, way-begin, way-goes_on, fields-not_begun, fields-no_key, fields-no_value, fields-end, fields-missing}
+use Rattle.facet_json_meaning.proofs.Refusals.{comes-then, end-tells, goes-there, keeps-there, tells-later}
 use Rattle.facet_json_record.proofs.fields.read_fields.Goals as goal
 
 pub returns-in_err-begin_object-clause-unread : goal.returns-in_err-begin_object-clause-unread
@@ -71,3 +72,24 @@ returns-in_err-begin_object-clause-shorter c = search rules
 
 pub returns-in_err-begin_object-clause-within : goal.returns-in_err-begin_object-clause-within
 returns-in_err-begin_object-clause-within c = search rules
+
+pub returns-in_err-key-clause-tells : goal.returns-in_err-key-clause-tells
+returns-in_err-key-clause-tells g c =
+    let p = err_from_is_err_and c.from_residual-in_err-key.result c.from_residual-in_err-key.ensures.1 in
+    rw (p.1, p.2) (tells-later (keeps-there c.loop-slots.invariant.keeps) c.in_err-key.ensures.tells)
+
+pub returns-in_err-put-clause-tells : goal.returns-in_err-put-clause-tells
+returns-in_err-put-clause-tells g c =
+    let p = err_from_is_err_and c.from_residual-in_err-put.result c.from_residual-in_err-put.ensures.1 in
+    let came = comes-then (keeps-there c.loop-slots.invariant.keeps) (goes-there c.next_name.ensures.onward) in
+    rw (p.1, p.2) (tells-later came c.in_err-put.ensures.tells)
+
+pub returns-clause-tells : goal.returns-clause-tells
+returns-clause-tells g c =
+    let way = c.loop-slots.invariant in
+    let bracket = c.in_ok-key.ensures in
+    IfErr-weaker c.finish.result _ _
+    (λ e lacks. end-tells (keeps-there way.keeps) way.falls (goes-there bracket.onward) bracket.free (rw (← c.last_span.ensures.told) (missing-about lacks))) c.finish.ensures.told
+
+pub returns-clause-free : goal.returns-clause-free
+returns-clause-free g c = IfOk-weaker c.finish.result _ _ (λ f full. c.in_ok-key.ensures.free) c.finish.ensures.full

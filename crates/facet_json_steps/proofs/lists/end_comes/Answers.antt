@@ -3,6 +3,8 @@ use Rattle.std.proofs.lemmas.Result.{err_from_is_err_and}
 use Rattle.facet_format.specs.Views.{event_of}
 use Rattle.facet_json_meaning.proofs.Sequences.ListSteps.{peek-finds_end, peek-no_event}
 use Rattle.facet_json_meaning.proofs.Walks.PeekOnWalk.{peek-lacks}
+use Rattle.facet_format.specs.Cursor.{peek}
+use Rattle.facet_json_meaning.proofs.Refusals.{call-tells}
 use Rattle.facet_json_steps.proofs.lists.end_comes.Goals as goal
 
 pub returns-in_err-event-clause-lacks : goal.returns-in_err-event-clause-lacks
@@ -37,3 +39,8 @@ returns-in-Some-clause-lacks c = search rules
 
 pub returns-in-Some-clause-within : goal.returns-in-Some-clause-within
 returns-in-Some-clause-within c = search rules
+
+pub returns-in_err-event-clause-tells : goal.returns-in_err-event-clause-tells
+returns-in_err-event-clause-tells c =
+    let p = err_from_is_err_and c.from_residual.result c.from_residual.ensures.1 in
+    rw (p.1, p.2) (call-tells _ _ peek _ _ c.in_err-event.ensures.moves refl)

@@ -2,6 +2,8 @@ use Rattle.std.proofs.Common.{refl, rules}
 use Rattle.std.proofs.lemmas.Result.{err_from_is_err_and}
 use Rattle.facet_format.specs.Views.{refusal_of}
 use Rattle.facet_json_meaning.proofs.Walks.NextOnWalk.{answer-walks, answer-lacks, answer-no_end}
+use Rattle.facet_format.specs.Cursor.{next}
+use Rattle.facet_json_meaning.proofs.Refusals.{call-tells, over-tells}
 use Rattle.facet_json_steps.proofs.next.next_of_value.Goals as goal
 
 pub returns-in_err-event-clause-lacks : goal.returns-in_err-event-clause-lacks
@@ -36,3 +38,11 @@ returns-in_err-event-clause-event_within c = search rules
 
 pub returns-in_err-event-clause-within : goal.returns-in_err-event-clause-within
 returns-in_err-event-clause-within c = search rules
+
+pub returns-in_err-event-clause-tells : goal.returns-in_err-event-clause-tells
+returns-in_err-event-clause-tells c =
+    let p = err_from_is_err_and c.from_residual.result c.from_residual.ensures.1 in
+    rw (p.1, p.2) (call-tells _ _ next _ _ c.in_err-event.ensures.moves refl)
+
+pub returns-in-None-clause-tells : goal.returns-in-None-clause-tells
+returns-in-None-clause-tells c = over-tells (rw c.in-None.is at c.in_ok-event.ensures.end) c.ended.ensures.told

@@ -3,6 +3,7 @@ use Rattle.facet_format.specs.Views.{refusal_of}
 use Rattle.facet_json_meaning.specs.Objects.{members_of}
 use Rattle.facet_json_meaning.proofs.Leaves.LeafReadings.{none-unread}
 use Rattle.facet_json_meaning.proofs.Objects.MembersOnWalk.{object-unread}
+use Rattle.facet_json_meaning.proofs.Refusals.{event-tells, mismatch-about}
 use Rattle.facet_json_steps.proofs.objects.begin_object.Goals as goal
 
 pub returns-in_err-next_of_value-clause-unread : goal.returns-in_err-next_of_value-clause-unread
@@ -16,3 +17,7 @@ returns-clause-begun c = on_ok_weaker c.object_in.result (λ begins. (_, begins,
 pub returns-clause-unread : goal.returns-clause-unread
 returns-clause-unread c =
     IfErr-weaker c.object_in.result _ _ (λ e other. object-unread _ _ _ (refusal_of e) other c.in_ok-next_of_value.ensures.walks) c.object_in.ensures.refused
+
+pub returns-clause-tells : goal.returns-clause-tells
+returns-clause-tells c =
+    IfErr-weaker c.object_in.result _ _ (λ e told. event-tells c.in_ok-next_of_value.ensures.passed (mismatch-about _ _ told)) c.object_in.ensures.told

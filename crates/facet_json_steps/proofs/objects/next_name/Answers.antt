@@ -2,6 +2,7 @@ use Rattle.std.proofs.Common.{inr, rules}
 use Rattle.std.proofs.lemmas.Result.{IfOk-weaker, IfErr-weaker, err_from_is_err_and}
 use Rattle.facet_format.specs.Views.{refusal_of}
 use Rattle.facet_json_meaning.proofs.Objects.MembersOnWalk.{none-key, other-key}
+use Rattle.facet_json_meaning.proofs.Refusals.{event-tells, mismatch-about}
 use Rattle.facet_json_steps.proofs.objects.next_name.Goals as goal
 
 pub returns-in_err-next_of_value-clause-lacks : goal.returns-in_err-next_of_value-clause-lacks
@@ -27,3 +28,10 @@ returns-in_err-next_of_value-clause-shorter c = search rules
 
 pub returns-in_err-next_of_value-clause-within : goal.returns-in_err-next_of_value-clause-within
 returns-in_err-next_of_value-clause-within c = search rules
+
+pub returns-clause-tells : goal.returns-clause-tells
+returns-clause-tells c =
+    IfErr-weaker c.name_in.result _ _ (λ e told. event-tells c.in_ok-next_of_value.ensures.passed (mismatch-about _ _ told)) c.name_in.ensures.told
+
+pub returns-clause-free : goal.returns-clause-free
+returns-clause-free c = IfOk-weaker c.name_in.result _ _ (λ name taken. c.in_ok-next_of_value.ensures.passed.free) c.name_in.ensures.taken

@@ -1,6 +1,8 @@
 use Rattle.std.proofs.Common.{refl, rules}
 use Rattle.std.proofs.lemmas.Result.{err_from_is_err_and}
 use Rattle.facet_json_meaning.proofs.Walks.SkipOnWalk.{answer-skips, answer-unskipped}
+use Rattle.facet_format.specs.Cursor.{skip}
+use Rattle.facet_json_meaning.proofs.Refusals.{call-tells, skip-frees}
 use Rattle.facet_json_steps.proofs.values.pass_value.Goals as goal
 
 pub returns-in_err-skip_value-clause-unread : goal.returns-in_err-skip_value-clause-unread
@@ -28,3 +30,11 @@ returns-clause-keeps c = search rules
 
 pub returns-clause-within : goal.returns-clause-within
 returns-clause-within c = search rules
+
+pub returns-in_err-skip_value-clause-tells : goal.returns-in_err-skip_value-clause-tells
+returns-in_err-skip_value-clause-tells c =
+    let p = err_from_is_err_and c.from_residual.result c.from_residual.ensures.1 in
+    rw (p.1, p.2) (call-tells _ _ skip _ _ c.in_err-skip_value.ensures.moves refl)
+
+pub returns-clause-free : goal.returns-clause-free
+returns-clause-free c = skip-frees _ _ c.in_ok-skip_value.ensures.moves

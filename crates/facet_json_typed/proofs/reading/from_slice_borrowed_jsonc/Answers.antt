@@ -1,6 +1,8 @@
 use Rattle.std.proofs.lemmas.Result.{IfOk-weaker, IfErr-weaker}
 use Rattle.facet_format.specs.Views.{refusal_of}
-use Rattle.facet_json_typed.proofs.RootComes.{read-from, unread-from, within-from}
+use Rattle.facet_json_token.specs.Gap.{jsonc}
+use Rattle.facet_json_document.specs.Language.{lenient}
+use Rattle.facet_json_typed.proofs.RootComes.{read-from, told-of, unread-from, within-from}
 use Rattle.facet_json_typed.proofs.reading.from_slice_borrowed_jsonc.Goals as goal
 
 pub returns-clause-read : goal.returns-clause-read
@@ -17,3 +19,7 @@ returns-clause-document g c whole = IfOk-weaker c.read.result _ _ (λ v has. has
 pub returns-clause-within : goal.returns-clause-within
 returns-clause-within g c =
     IfErr-weaker c.read.result _ _ (λ e. within-from _ _ _ c.read.new.parser c.new_jsonc.ensures c.read.ensures.keeps.input.buffer (refusal_of e)) c.read.ensures.within
+
+pub returns-clause-tells : goal.returns-clause-tells
+returns-clause-tells g c =
+    IfErr-weaker c.read.result _ _ (λ e. told-of _ (lenient jsonc) c.new_jsonc.result c.read.new.parser c.new_jsonc.ensures c.read.ensures.keeps (refusal_of e)) c.read.ensures.tells

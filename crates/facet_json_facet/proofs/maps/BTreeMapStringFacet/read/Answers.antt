@@ -3,6 +3,8 @@ use Rattle.std.proofs.lemmas.Result.{err_from_is_err_and}
 use Rattle.facet_format.specs.Views.{refusal_of}
 use Rattle.facet_json_meaning.proofs.Objects.MapEntries.{entries-begin, entry-read}
 use Rattle.facet_json_meaning.proofs.Objects.MapReadings.{map-not_begun, map-no_value, map-no_key, map-ends}
+use Rattle.facet_json_meaning.specs.Refusing.{without_memory}
+use Rattle.facet_json_meaning.proofs.Refusals.{comes-then, goes-there, keeps-there, tells-later}
 use Rattle.facet_json_facet.proofs.maps.BTreeMapStringFacet.read.Goals as goal
 
 pub returns-in_err-begin_object-clause-unread : goal.returns-in_err-begin_object-clause-unread
@@ -51,3 +53,22 @@ returns-in_err-begin_object-clause-keeps c = search rules
 
 pub returns-in_err-begin_object-clause-shorter : goal.returns-in_err-begin_object-clause-shorter
 returns-in_err-begin_object-clause-shorter c = search rules
+
+pub returns-in_err-key-clause-tells : goal.returns-in_err-key-clause-tells
+returns-in_err-key-clause-tells g c =
+    let p = err_from_is_err_and c.from_residual-in_err-key.result c.from_residual-in_err-key.ensures.1 in
+    rw (p.1, p.2) (tells-later (keeps-there c.loop-map.invariant.keeps) c.in_err-key.ensures.tells)
+
+pub returns-in_err-value-clause-tells : goal.returns-in_err-value-clause-tells
+returns-in_err-value-clause-tells g c =
+    let p = err_from_is_err_and c.from_residual-in_err-value.result c.from_residual-in_err-value.ensures.1 in
+    let came = comes-then (keeps-there c.loop-map.invariant.keeps) (goes-there c.next_key.ensures.onward) in
+    rw (p.1, p.2) (tells-later came c.in_err-value.ensures.tells)
+
+pub returns-in_err-put-clause-tells : goal.returns-in_err-put-clause-tells
+returns-in_err-put-clause-tells g c =
+    let p = err_from_is_err_and c.from_residual-in_err-put.result c.from_residual-in_err-put.ensures.1 in
+    rw (p.1, p.2) (without_memory c.in_ok-value.ensures.free c.in_err-put.ensures.refused)
+
+pub returns-clause-free : goal.returns-clause-free
+returns-clause-free g c = c.in_ok-key.ensures.free

@@ -4,6 +4,7 @@ use Rattle.facet_format.specs.Views.{refusal_of}
 use Rattle.facet_json_meaning.specs.Optional.{optional}
 use Rattle.facet_json_meaning.proofs.Leaves.LeafReadings.{none-unread}
 use Rattle.facet_json_meaning.proofs.Nullable.OptionalReadings.{null-read, null-unread, value-read, value-unread}
+use Rattle.facet_json_meaning.proofs.Refusals.{goes-there, tells-later}
 use Rattle.facet_json_facet.proofs.options.OptionFacet.read.Goals as goal
 
 pub returns-in_err-null_comes-clause-unread : goal.returns-in_err-null_comes-clause-unread
@@ -48,3 +49,13 @@ returns-in_err-null_comes-clause-keeps c = search rules
 
 pub returns-in_err-null_comes-clause-shorter : goal.returns-in_err-null_comes-clause-shorter
 returns-in_err-null_comes-clause-shorter c = search rules
+
+pub returns-in_err-pass_null-clause-tells : goal.returns-in_err-pass_null-clause-tells
+returns-in_err-pass_null-clause-tells g c =
+    let p = err_from_is_err_and c.from_residual-in_err-pass_null.result c.from_residual-in_err-pass_null.ensures.1 in
+    rw (p.1, p.2) (tells-later (goes-there c.null_comes.ensures.onward) c.in_err-pass_null.ensures.tells)
+
+pub returns-in_err-read-clause-tells : goal.returns-in_err-read-clause-tells
+returns-in_err-read-clause-tells g c =
+    let p = err_from_is_err_and c.from_residual-in_err-read.result c.from_residual-in_err-read.ensures.1 in
+    rw (p.1, p.2) (tells-later (goes-there c.null_comes.ensures.onward) c.in_err-read.ensures.tells)

@@ -1,8 +1,9 @@
 use Rattle.std.proofs.Common.{sym, subst, rules}
-use Rattle.std.proofs.lemmas.Result.{IfOk-weaker}
+use Rattle.std.proofs.lemmas.Result.{IfErr-weaker, IfOk-weaker}
 use Rattle.facet_format.specs.Event.{bytes_of}
 use Rattle.facet_json_meaning.specs.Reading.{IsRead}
 use Rattle.facet_json_meaning.specs.Readings.{raw_of}
+use Rattle.facet_json_meaning.specs.Refusing.{without_memory}
 use Rattle.facet_json_facet.proofs.raw.RawJsonFacet.read_owned.Goals as goal
 
 pub returns-clause-read : goal.returns-clause-read
@@ -22,3 +23,10 @@ returns-in_err-captured-clause-strict c = search rules
 
 pub returns-in_err-captured-clause-keeps : goal.returns-in_err-captured-clause-keeps
 returns-in_err-captured-clause-keeps c = search rules
+
+pub returns-clause-tells : goal.returns-clause-tells
+returns-clause-tells c =
+    IfErr-weaker c.copied.result _ _ (λ e lacks. without_memory c.in_ok-captured.ensures.free lacks) c.copied.ensures.lacks
+
+pub returns-clause-free : goal.returns-clause-free
+returns-clause-free c = IfOk-weaker c.copied.result _ _ (λ v is. c.in_ok-captured.ensures.free) c.copied.ensures.copied

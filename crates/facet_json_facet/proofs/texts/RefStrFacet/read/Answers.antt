@@ -1,9 +1,10 @@
-use Rattle.std.proofs.Common.{rules}
+use Rattle.std.proofs.Common.{refl, rules}
 use Rattle.std.proofs.lemmas.Result.{err_from_is_err_and, IfOk-weaker, IfErr-weaker}
 use Rattle.facet_format.specs.Views.{refusal_of}
 use Rattle.facet_json_meaning.specs.Borrowed.{borrowed_text}
 use Rattle.facet_json_meaning.proofs.Leaves.BorrowedLaws.{borrowed-read, borrowed-unread, borrowed-document, borrowed-strict}
 use Rattle.facet_json_meaning.proofs.Leaves.LeafReadings.{none-unread}
+use Rattle.facet_json_meaning.proofs.Refusals.{either-about, event-tells}
 use Rattle.facet_json_facet.proofs.texts.RefStrFacet.read.Goals as goal
 
 pub returns-in_err-next_of_value-clause-unread : goal.returns-in_err-next_of_value-clause-unread
@@ -38,3 +39,10 @@ returns-in_err-next_of_value-clause-shorter c = search rules
 
 pub returns-in_err-next_of_value-clause-within : goal.returns-in_err-next_of_value-clause-within
 returns-in_err-next_of_value-clause-within c = search rules
+
+pub returns-clause-tells : goal.returns-clause-tells
+returns-clause-tells c =
+    IfErr-weaker c.lent_in.result _ _ (λ e told. event-tells c.in_ok-next_of_value.ensures.passed (either-about _ told refl)) c.lent_in.ensures.told
+
+pub returns-clause-free : goal.returns-clause-free
+returns-clause-free c = IfOk-weaker c.lent_in.result _ _ (λ b taken. c.in_ok-next_of_value.ensures.passed.free) c.lent_in.ensures.lent

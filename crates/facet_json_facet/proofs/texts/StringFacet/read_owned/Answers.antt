@@ -3,6 +3,7 @@ use Rattle.std.proofs.lemmas.Result.{err_from_is_err_and, IfOk-weaker, IfErr-wea
 use Rattle.facet_format.specs.Views.{refusal_of}
 use Rattle.facet_json_meaning.specs.Readings.{text_of, leaf}
 use Rattle.facet_json_meaning.proofs.Leaves.LeafReadings.{leaf-read, leaf-refused, leaf-document, leaf-strict, none-unread}
+use Rattle.facet_json_meaning.proofs.Refusals.{lacks-about, lacks-tells}
 use Rattle.facet_json_facet.proofs.texts.StringFacet.read_owned.Goals as goal
 
 pub returns-in_err-next_of_value-clause-unread : goal.returns-in_err-next_of_value-clause-unread
@@ -25,3 +26,10 @@ returns-clause-document c whole =
 pub returns-clause-strict : goal.returns-clause-strict
 returns-clause-strict c whole =
     IfOk-weaker c.string_in.result _ _ (λ b taken. leaf-strict text_of _ _ _ (string_bytes b) c.in_ok-next_of_value.ensures.passed taken) c.string_in.ensures.taken
+
+pub returns-clause-tells : goal.returns-clause-tells
+returns-clause-tells c =
+    IfErr-weaker c.string_in.result _ _ (λ e told. lacks-tells c.in_ok-next_of_value.ensures.passed (lacks-about _ told)) c.string_in.ensures.told
+
+pub returns-clause-free : goal.returns-clause-free
+returns-clause-free c = IfOk-weaker c.string_in.result _ _ (λ b taken. c.in_ok-next_of_value.ensures.passed.free) c.string_in.ensures.taken

@@ -6,6 +6,8 @@ use Rattle.std.proofs.lemmas.Result.{err_from_is_err_and}
 use Rattle.facet_format.specs.Views.{refusal_of}
 use Rattle.facet_json_meaning.specs.Readings.{whole_of, unsigned_in}
 use Rattle.facet_json_meaning.proofs.Leaves.WholeNumbers.{read-and_then, read-none, unread-and_then, unsigned-holds, unsigned-lacks}
+use Rattle.facet_json_meaning.specs.Refusing.{of_a_type}
+use Rattle.facet_json_meaning.proofs.Refusals.{range-about}
 use Rattle.facet_json_facet.proofs.unsigned.UsizeFacet.read_owned.Goals as goal
 
 pub returns-in_err-number-clause-unread : goal.returns-in_err-number-clause-unread
@@ -34,3 +36,7 @@ returns-in-Ok-clause-document c whole = c.in_ok-number.ensures.document
 
 pub returns-in-Ok-clause-strict : goal.returns-in-Ok-clause-strict
 returns-in-Ok-clause-strict c whole = c.in_ok-number.ensures.strict
+
+pub returns-in-Err-clause-tells : goal.returns-in-Err-clause-tells
+returns-in-Err-clause-tells c =
+    of_a_type _ c.in_ok-number.ensures.free c.in_ok-number.ensures.span_passed (range-about _ _ c.out_of_range.ensures.told)

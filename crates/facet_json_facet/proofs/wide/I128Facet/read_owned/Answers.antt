@@ -3,6 +3,7 @@ use Rattle.std.proofs.lemmas.Result.{err_from_is_err_and, IfOk-weaker, IfErr-wea
 use Rattle.facet_format.specs.Views.{refusal_of}
 use Rattle.facet_json_meaning.specs.Readings.{i128_of, leaf}
 use Rattle.facet_json_meaning.proofs.Leaves.LeafReadings.{leaf-read, leaf-unread, leaf-document, leaf-strict, none-unread}
+use Rattle.facet_json_meaning.proofs.Refusals.{event-tells, mismatch-about}
 use Rattle.facet_json_facet.proofs.wide.I128Facet.read_owned.Goals as goal
 
 pub returns-in_err-next_of_value-clause-unread : goal.returns-in_err-next_of_value-clause-unread
@@ -37,3 +38,10 @@ returns-in_err-next_of_value-clause-shorter c = search rules
 
 pub returns-in_err-next_of_value-clause-within : goal.returns-in_err-next_of_value-clause-within
 returns-in_err-next_of_value-clause-within c = search rules
+
+pub returns-clause-tells : goal.returns-clause-tells
+returns-clause-tells c =
+    IfErr-weaker c.i128_in.result _ _ (λ e told. event-tells c.in_ok-next_of_value.ensures.passed (mismatch-about _ _ told)) c.i128_in.ensures.told
+
+pub returns-clause-free : goal.returns-clause-free
+returns-clause-free c = IfOk-weaker c.i128_in.result _ _ (λ b taken. c.in_ok-next_of_value.ensures.passed.free) c.i128_in.ensures.taken

@@ -1,6 +1,8 @@
 use Rattle.std.proofs.Common.{◌<◌, ◌≤◌, arith}
 use Rattle.std.proofs.lemmas.Result.{err_from_is_err_and}
 use Rattle.facet_format.specs.Views.{refusal_of}
+use Rattle.facet_json_meaning.specs.Refusing.{of_a_type}
+use Rattle.facet_json_meaning.proofs.Refusals.{keeps-there, last-passed}
 use Rattle.facet_json_facet_tests.proofs.PercentLaws.{percent-read, percent-refused, percent-unread}
 use Rattle.facet_json_facet_tests.proofs.own.PercentFacet.read_owned.Goals as goal
 
@@ -20,3 +22,8 @@ returns-else-number-le100-clause-unread c =
     let number = c.in_ok-number.number in
     let more : 100 < number = omega (arith, c.if-number-le100.false) in
     percent-refused _ _ number (refusal_of c.too_much.result) more c.in_ok-number.ensures.read
+
+pub returns-else-number-le100-clause-tells : goal.returns-else-number-le100-clause-tells
+returns-else-number-le100-clause-tells c =
+    let read = c.in_ok-number.ensures in
+    of_a_type _ read.free (last-passed (keeps-there c.read_owned.ensures.keeps) read.shorter) (rw (← c.last_span.ensures.told) c.too_much.ensures.about)
