@@ -4,10 +4,13 @@ ghost use Rattle.std.specs.Prelude.{◌≡◌, ◌≤◌, ◌+◌, ◌⊎◌, le
 ghost use Rattle.facet_format.specs.Complaint.{out_of_memory};
 ghost use Rattle.facet_format.specs.Span.{Span as SpecSpan};
 ghost use Rattle.facet_format.specs.Views.{refusal_of};
+ghost use Rattle.facet_json_document.specs.Language.{strict};
 ghost use Rattle.facet_json_document.specs.Node.{Node};
 ghost use Rattle.facet_json_document.specs.Tree.{Tree as SpecTree};
 ghost use Rattle.facet_json_document.specs.StrictDocument.{IsStrictDocument};
-ghost use Rattle.facet_json_protocol.specs.Now.{future_of};
+ghost use Rattle.facet_json_protocol.specs.Now.{Now, fresh_in, future_of};
+ghost use Rattle.facet_json_token.specs.Gap.{plain};
+ghost use Rattle.facet_json_transcode.specs.Refusing.{ComesTo, TellsRefusal};
 ghost use Rattle.facet_json_read.specs.Depth.{depth_of, first_beyond, too_deep_at};
 ghost use Rattle.facet_json_read.specs.Inner.Beyond.{IsAllRead, IsNotAllRead};
 ghost use Rattle.facet_json_tree.specs.Views.{tree_view};
@@ -44,6 +47,7 @@ pub fn tree_from_slice_strict<'t>(alloc: Global, input: &[u8]) -> Result<Tree, D
     ensures only { (root : Node) (value : SpecTree) → IsStrictDocument input.now root value
         → MatchResult result (λ t. tree_view t ≡ value) (λ e. (refusal_of e).complaint ≡ out_of_memory) }
     ensures within { IfErr result (λ e. IfSome e.span (λ s. s.offset + s.len ≤ length input.now)) }
+    ensures tells { let start = fresh_in input.now (strict plain) in IfErr result (λ e. (last : Now) × ComesTo start last × TellsRefusal start last (refusal_of e)) }
 {
     strict_document(alloc, JsonParser::new_strict(alloc, input), None)
 }
@@ -73,6 +77,7 @@ pub fn tree_from_slice_within_strict<'t>(
     ensures deeper { (root : Node) (value : SpecTree) (s : SpecSpan) → IsStrictDocument input.now root value → first_beyond depth root ≡ Some s
         → MatchResult result (λ t. ⊥) (λ e. ((refusal_of e).complaint ≡ out_of_memory) ⊎ (refusal_of e ≡ too_deep_at s)) }
     ensures within { IfErr result (λ e. IfSome e.span (λ s. s.offset + s.len ≤ length input.now)) }
+    ensures tells { let start = fresh_in input.now (strict plain) in IfErr result (λ e. (last : Now) × ComesTo start last × TellsRefusal start last (refusal_of e)) }
 {
     strict_document(alloc, JsonParser::new_strict(alloc, input), Some(depth))
 }
@@ -87,6 +92,7 @@ fn strict_document<'t>(
     ensures read { IfOk result (λ t. IsAllRead depth (future_of parser.entry) (tree_view t)) }
     ensures refused { IfErr result (λ e. IsNotAllRead depth parser.entry.buffer (future_of parser.entry) (refusal_of e)) }
     ensures within { IfErr result (λ e. IfSome e.span (λ s. s.offset + s.len ≤ length parser.entry.buffer)) }
+    ensures tells { IfErr result (λ e. (last : Now) × ComesTo parser.entry last × TellsRefusal parser.entry last (refusal_of e)) }
 {
     let tree = read_value(alloc, &mut parser, depth)?;
     pass_end(&mut parser)?;

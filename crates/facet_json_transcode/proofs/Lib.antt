@@ -1,6 +1,7 @@
 pub mod Cuts
 pub mod DocumentFromRoot
 pub mod DocumentPassed
+pub mod Misplaced
 pub mod NextEventComes
 pub mod Passing
 pub mod PrefixBreaksOff

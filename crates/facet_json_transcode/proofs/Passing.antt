@@ -190,7 +190,7 @@ written start w depth now writing none passed = record {
 
 -- ---- how it is refused
 
-none-lacks : (now : Now) (r : Refusal) (p : Passed) (f : Future) → future_of now ≡ gives p f → GivesNone now r → LacksMemory r
+pub none-lacks : (now : Now) (r : Refusal) (p : Passed) (f : Future) → future_of now ≡ gives p f → GivesNone now r → LacksMemory r
 none-lacks now r p f comes (lacks_memory h) = h
 none-lacks now r p f comes (at_the_end g) = cc
 none-lacks now r p f comes (is_stuck place rest g s) = cc

@@ -1,14 +1,17 @@
 -- What a value leaves that is passed from a parser to a serializer.
-use Rattle.std.specs.Prelude.{◌≡◌, ℕ, suc, ◌-◌, Option, Some}
-use Rattle.facet_format.specs.Event.{EventKind, struct_start, struct_end, sequence_start, sequence_end, field_key as key, scalar as value, bytes_of}
+use Rattle.std.specs.Prelude.{◌≡◌, ℕ, suc, ◌-◌, false, Option, Some, codes}
+use Rattle.facet_format.specs.Complaint.{Refusal}
+use Rattle.facet_format.specs.Event.{Passed, EventKind, struct_start, struct_end, sequence_start, sequence_end, field_key as key, scalar as value, bytes_of}
 use Rattle.facet_json_token.specs.Tokens.{Tokens}
 use Rattle.facet_json_document.specs.Tree.{Tree}
 use Rattle.facet_json_document.specs.Place.{Place}
-use Rattle.facet_json_document.specs.Future.{Future}
+use Rattle.facet_json_document.specs.Future.{Future, gives}
+use Rattle.facet_json_protocol.specs.Now.{Now, future_of}
 use Rattle.facet_format.specs.SerializerCall.{Call, begin_struct, field_key, end_struct, begin_seq, end_seq, scalar}
 use Rattle.facet_json_serializer.specs.Serializer.{Writing}
 use Rattle.facet_json_serializer.specs.TreeCalls.{with_tree}
-use Rattle.facet_json_transcode.specs.Told.{Tells, Breaks}
+use Rattle.facet_json_transcode.specs.Refusing.{mismatch_of}
+use Rattle.facet_json_transcode.specs.Told.{begins, Tells, Breaks}
 
 -- the serializer's call for an event
 abbrev pub call_of : EventKind → Call
@@ -32,3 +35,12 @@ depth_after (value v) depth = depth
 pub record IsWritten (start : Future) (w : Writing) (left : Future) (after : Option Writing) : Type 0 where
   pub told : (v : Tree) (rest : Future) → Tells start v rest → (after ≡ Some (with_tree w v)) × (left ≡ rest)
   pub whole : (place : Place) (rest : Tokens) → Breaks place rest start → ⊥
+
+-- No container is open, and the event that comes begins no value: it is refused so.
+pub record BeginsNone (now : Now) (depth : ℕ) (refusal : Refusal) : Type 0 where
+  pub given : Passed
+  pub left : Future
+  pub comes : future_of now ≡ gives given left
+  pub outside : depth ≡ 0
+  pub none : begins given.event.kind ≡ false
+  pub told : refusal ≡ mismatch_of (codes "value") given.event

@@ -1,5 +1,6 @@
 -- How a value is not passed. The one file of the definitions that names types of the code.
-use Rattle.std.specs.Prelude.{◌≡◌, ◌≤◌, ◌+◌, ◌⊎◌, ℕ, List, None, IfSome}
+use Rattle.std.specs.Prelude.{◌≡◌, ◌≤◌, ◌+◌, ◌⊎◌, ℕ, List, None, IfSome, codes}
+use Rattle.facet_format.specs.Event.{Event}
 use Rattle.facet_format.specs.Views.{refusal_of}
 use Rattle.facet_json_token.specs.Gap.{Mode}
 use Rattle.facet_json_token.specs.Tokens.{Tokens}
@@ -14,6 +15,8 @@ use Rattle.facet_json_error.specs.declared.kind.JsonErrorKind.TheVariants as kin
 use Rattle.facet_json_error.specs.Views.{error_at}
 use Rattle.facet_json_transcode.specs.declared.error.TranscodeError.{TranscodeError}
 use Rattle.facet_json_transcode.specs.declared.error.TranscodeError.TheVariants.{Read, Write}
+use Rattle.facet_json_protocol.specs.Now.{Now}
+use Rattle.facet_json_transcode.specs.Refusing.{mismatch_of, TellsRefusal}
 use Rattle.facet_json_transcode.specs.Told.{Tells, Breaks}
 use Rattle.facet_json_transcode.specs.Reading as reading
 
@@ -41,6 +44,16 @@ IsRefused input mode (Write e) = serializer.refusal_of e ≡ out_of_memory
 abbrev pub IsWithin : ℕ → TranscodeError → Type 0
 IsWithin end (Read e) = IfSome e.span (λ s. s.offset + s.len ≤ end)
 IsWithin end (Write e) = Unit {0}
+
+-- What is told of the parser is its own refusal, or that nothing or no value comes, or out of memory.
+abbrev pub TellsError : Now → Now → TranscodeError → Type 0
+TellsError old new (Read e) = TellsRefusal old new (refusal_of e)
+TellsError old new (Write e) = Unit {0}
+
+-- Memory ran out, of the parser, or a value is expected in place of this event.
+abbrev pub IsMisplaced : Event → TranscodeError → Type 0
+IsMisplaced given (Read e) = reading.LacksMemory (refusal_of e) ⊎ (refusal_of e ≡ mismatch_of (codes "value") given)
+IsMisplaced given (Write e) = ⊥
 
 -- the error that a person reads
 abbrev pub error_of : TranscodeError → JsonError

@@ -1,4 +1,5 @@
-//! Tests of `facet_json_tree` with ample memory: what is looked up, what values are, copies, values from what they hold, and trees that are read within a depth.
+//! Tests of `facet_json_tree` with ample memory: what is looked up, what values are, copies, values from what they hold, and trees that are read within a depth;
+//! and how a value is refused that is passed without a tree.
 #![tactic(auto)]
 
 #[cfg(test)]
@@ -15,3 +16,5 @@ mod lookups;
 mod samples;
 #[cfg(test)]
 mod strict;
+#[cfg(test)]
+mod transcoded;

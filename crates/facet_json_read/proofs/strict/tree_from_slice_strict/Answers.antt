@@ -19,3 +19,6 @@ returns-clause-only c =
 
 pub returns-clause-within : goal.returns-clause-within
 returns-clause-within c = search rules
+
+pub returns-clause-tells : goal.returns-clause-tells
+returns-clause-tells c = rw c.new_strict.ensures at c.strict_document.ensures.tells

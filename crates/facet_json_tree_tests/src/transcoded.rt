@@ -1,0 +1,58 @@
+//! How `transcode` refuses where a parser has read some events before.
+
+use facet_format::{DeserializeError, DeserializeErrorKind, FormatParser, Span};
+use facet_json_serializer::JsonSerializer;
+use facet_json_transcode::{JsonParser, TranscodeError, transcode};
+use std::alloc::Global;
+
+/// How `transcode` refuses after so many events of the input, where the parser does, and nothing was written before.
+fn refused_after(alloc: Global, input: &[u8], events: usize) -> Option<DeserializeError<'static>> {
+    let mut parser = JsonParser::new(alloc, input);
+    for _i in 0..events {
+        if parser.next_event().is_err() {
+            return None;
+        }
+    }
+    let mut serializer = JsonSerializer::new(alloc);
+    let passed = transcode(&mut parser, &mut serializer);
+    match (passed, serializer.finish()) {
+        (Err(TranscodeError::Read(error)), Ok(text)) if text.is_empty() => Some(error),
+        _ => None,
+    }
+}
+
+/// An input, how many of its events are read before, what is got in place of a value, and where.
+const MISPLACED: [(&[u8], usize, &str, (usize, usize)); 6] = [
+    (b"{\"a\":1}", 1, "key", (1, 3)),
+    (b"{\"a\":1,\"b\":2}", 3, "key", (7, 3)),
+    (b"{}", 1, "end", (1, 1)),
+    (b"[]", 1, "end", (1, 1)),
+    (b"[1]", 2, "end", (2, 1)),
+    (b"{\"a\":1}", 3, "end", (6, 1)),
+];
+
+#[test]
+fn no_value_begins(rt: HostRuntime) {
+    let alloc = rt.alloc();
+    for &(input, events, got, (offset, len)) in &MISPLACED {
+        let kind = DeserializeErrorKind::TypeMismatch {
+            expected: "value",
+            got,
+        };
+        let span = Some(Span::new(offset, len));
+        assert!(rt; refused_after(alloc, input, events) == Some(DeserializeError { kind, span }));
+    }
+}
+
+#[test]
+fn no_event_comes(rt: HostRuntime) {
+    let alloc = rt.alloc();
+    let kind = DeserializeErrorKind::UnexpectedEof { expected: "value" };
+    let span = Some(Span::new(1, 0));
+    assert!(rt; refused_after(alloc, b"1", 1) == Some(DeserializeError { kind, span }));
+    let kind = DeserializeErrorKind::UnexpectedEof {
+        expected: "value or ']'",
+    };
+    let span = Some(Span::new(3, 0));
+    assert!(rt; refused_after(alloc, b"[1,", 2) == Some(DeserializeError { kind, span }));
+}
