@@ -7,6 +7,7 @@ ghost use Rattle.facet_json_protocol.specs.Now.{ahead, GoesOn};
 ghost use Rattle.facet_json_protocol.specs.Next.{PassesNext};
 ghost use Rattle.facet_json_protocol.specs.Within.{RefusalWithin};
 ghost use Rattle.facet_json_meaning.specs.Passing.{WalksPast, LacksAlone, PassesOne};
+ghost use Rattle.facet_json_meaning.specs.OneValue.{PassesValue, PassesByKind, ComesNext, LooksAhead};
 ghost use Rattle.facet_json_meaning.specs.Optional.{is_null_event};
 ghost use Rattle.facet_json_meaning.specs.Peeking.{FindsNull};
 
@@ -28,6 +29,7 @@ pub fn next_of_value<'t, 'de>(
     ensures shorter { OnOk result (ahead parser.new < ahead parser.old) }
     ensures passed { IfOk result (λ e. PassesNext parser.old (event_of e) parser.new) }
     ensures walks { IfOk result (λ e. WalksPast parser.old (event_of e) parser.new) }
+    ensures by_kind { IfOk result (λ e. PassesByKind (event_of e).kind parser.old parser.new) }
     ensures lacks { IfErr result (λ e. LacksAlone parser.old (refusal_of e)) }
     ensures event_within { IfOk result (λ e. stop (event_of e).span ≤ length parser.new.buffer) }
     ensures within { IfErr result (λ e. RefusalWithin parser.new.buffer (refusal_of e)) }
@@ -57,6 +59,7 @@ fn ended<'t>(parser: &JsonParser<'_>) -> DeserializeError<'t>
 pub fn null_comes<'t>(parser: &mut JsonParser<'_>) -> Result<bool, DeserializeError<'t>>
     ensures onward { GoesOn parser.old parser.new }
     ensures finds { IfOk result (λ found. FindsNull parser.old found parser.new) }
+    ensures looks { IfOk result (λ found. LooksAhead is_null_event parser.old found parser.new) }
     ensures lacks { IfErr result (λ e. LacksAlone parser.old (refusal_of e)) }
     ensures within { IfErr result (λ e. RefusalWithin parser.new.buffer (refusal_of e)) }
 {
@@ -82,6 +85,7 @@ pub fn pass_null<'t>(parser: &mut JsonParser<'_>) -> Result<(), DeserializeError
     ensures onward { GoesOn parser.old parser.new }
     ensures shorter { OnOk result (ahead parser.new < ahead parser.old) }
     ensures passes { OnOk result (PassesOne parser.old parser.new) }
+    ensures one_value { ComesNext is_null_event parser.old → OnOk result (PassesValue parser.old parser.new) }
     ensures lacks { IfErr result (λ e. LacksAlone parser.old (refusal_of e)) }
     ensures within { IfErr result (λ e. RefusalWithin parser.new.buffer (refusal_of e)) }
 {

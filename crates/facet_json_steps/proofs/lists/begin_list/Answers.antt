@@ -3,6 +3,7 @@ use Rattle.facet_format.specs.Views.{refusal_of}
 use Rattle.facet_json_meaning.specs.Lists.{nodes_of}
 use Rattle.facet_json_meaning.proofs.Leaves.LeafReadings.{none-unread}
 use Rattle.facet_json_meaning.proofs.Sequences.ListSteps.{no_list-begins}
+use Rattle.facet_json_meaning.proofs.OneValue.KindsPassed.{list-opened}
 use Rattle.facet_json_steps.proofs.lists.begin_list.Goals as goal
 
 pub returns-in_err-next_of_value-clause-refused : goal.returns-in_err-next_of_value-clause-refused
@@ -18,3 +19,7 @@ returns-clause-begins c =
 pub returns-clause-refused : goal.returns-clause-refused
 returns-clause-refused c =
     IfErr-weaker c.array_in.result _ _ (λ e none. no_list-begins _ _ _ (refusal_of e) none c.in_ok-next_of_value.ensures.walks) c.array_in.ensures.refused
+
+pub returns-clause-inside : goal.returns-clause-inside
+returns-clause-inside c =
+    on_ok_weaker c.array_in.result (λ begins. list-opened _ _ _ begins c.in_ok-next_of_value.ensures.by_kind) c.array_in.ensures.begins

@@ -2,6 +2,7 @@ use Rattle.std.proofs.Common.{refl, rules}
 use Rattle.std.proofs.lemmas.Result.{err_from_is_err_and}
 use Rattle.facet_format.specs.Views.{refusal_of}
 use Rattle.facet_json_meaning.proofs.Walks.NextOnWalk.{answer-walks, answer-lacks, answer-no_end}
+use Rattle.facet_json_meaning.proofs.OneValue.EventsPassed.{next-passes_by_kind}
 use Rattle.facet_json_steps.proofs.next.next_of_value.Goals as goal
 
 pub returns-in_err-event-clause-lacks : goal.returns-in_err-event-clause-lacks
@@ -36,3 +37,8 @@ returns-in_err-event-clause-event_within c = search rules
 
 pub returns-in_err-event-clause-within : goal.returns-in_err-event-clause-within
 returns-in_err-event-clause-within c = search rules
+
+pub returns-in-Some-clause-by_kind : goal.returns-in-Some-clause-by_kind
+returns-in-Some-clause-by_kind c =
+    let moves = rw c.in-Some.is at c.in_ok-event.ensures.moves in
+    next-passes_by_kind _ _ _ moves

@@ -2,6 +2,8 @@ use Rattle.std.proofs.Common.{refl, sym, rules}
 use Rattle.std.proofs.lemmas.Result.{err_from_is_err_and}
 use Rattle.facet_format.specs.Views.{event_of}
 use Rattle.facet_json_meaning.proofs.Walks.PeekOnWalk.{peek-finds, peek-lacks, peek-no_end}
+use Rattle.facet_json_meaning.specs.Optional.{is_null_event}
+use Rattle.facet_json_meaning.proofs.OneValue.WithinValues.{peek-looks, peek-looks_past}
 use Rattle.facet_json_steps.proofs.next.null_comes.Goals as goal
 
 pub returns-in_err-event-clause-lacks : goal.returns-in_err-event-clause-lacks
@@ -27,3 +29,13 @@ returns-in_err-event-clause-finds c = search rules
 
 pub returns-in_err-event-clause-within : goal.returns-in_err-event-clause-within
 returns-in_err-event-clause-within c = search rules
+
+pub returns-in-Some-clause-looks : goal.returns-in-Some-clause-looks
+returns-in-Some-clause-looks c =
+    let moves = rw c.in-Some.is at c.in_ok-event.ensures.moves in
+    peek-looks is_null_event _ _ (event_of c.in-Some.event) c.is_null.result (sym c.is_null.ensures) moves
+
+pub returns-in-None-clause-looks : goal.returns-in-None-clause-looks
+returns-in-None-clause-looks c =
+    let moves = rw c.in-None.is at c.in_ok-event.ensures.moves in
+    peek-looks_past is_null_event _ _ moves

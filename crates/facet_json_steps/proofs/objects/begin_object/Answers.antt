@@ -3,6 +3,7 @@ use Rattle.facet_format.specs.Views.{refusal_of}
 use Rattle.facet_json_meaning.specs.Objects.{members_of}
 use Rattle.facet_json_meaning.proofs.Leaves.LeafReadings.{none-unread}
 use Rattle.facet_json_meaning.proofs.Objects.MembersOnWalk.{object-unread}
+use Rattle.facet_json_meaning.proofs.OneValue.KindsPassed.{object-opened}
 use Rattle.facet_json_steps.proofs.objects.begin_object.Goals as goal
 
 pub returns-in_err-next_of_value-clause-unread : goal.returns-in_err-next_of_value-clause-unread
@@ -16,3 +17,7 @@ returns-clause-begun c = on_ok_weaker c.object_in.result (λ begins. (_, begins,
 pub returns-clause-unread : goal.returns-clause-unread
 returns-clause-unread c =
     IfErr-weaker c.object_in.result _ _ (λ e other. object-unread _ _ _ (refusal_of e) other c.in_ok-next_of_value.ensures.walks) c.object_in.ensures.refused
+
+pub returns-clause-inside : goal.returns-clause-inside
+returns-clause-inside c =
+    on_ok_weaker c.object_in.result (λ begins. object-opened _ _ _ begins c.in_ok-next_of_value.ensures.by_kind) c.object_in.ensures.begins

@@ -1,6 +1,7 @@
 use Rattle.std.proofs.Common.{refl, rules}
 use Rattle.std.proofs.lemmas.Result.{err_from_is_err_and}
 use Rattle.facet_json_meaning.proofs.Walks.SkipOnWalk.{answer-skips, answer-unskipped}
+use Rattle.facet_json_meaning.proofs.OneValue.PartsPassed.{skipped-value}
 use Rattle.facet_json_steps.proofs.values.pass_value.Goals as goal
 
 pub returns-in_err-skip_value-clause-unread : goal.returns-in_err-skip_value-clause-unread
@@ -28,3 +29,6 @@ returns-clause-keeps c = search rules
 
 pub returns-clause-within : goal.returns-clause-within
 returns-clause-within c = search rules
+
+pub returns-clause-one_value : goal.returns-clause-one_value
+returns-clause-one_value c after = skipped-value _ _ after c.in_ok-skip_value.ensures.moves
