@@ -8,6 +8,7 @@ ghost use Rattle.facet_json_serializer.specs.Serializer.{out_of_memory};
 ghost use Rattle.facet_json_serializer.specs.Views.{refusal_of as writing_refusal_of};
 ghost use Rattle.facet_json_write.specs.Write.{HasWritten, IsOfRust};
 ghost use Rattle.facet_json_meaning.specs.Nodes.{KeepsOn};
+ghost use Rattle.facet_json_meaning.specs.OneValue.{PassesValue};
 ghost use Rattle.facet_json_meaning.specs.Reading.{IsRead, IsUnread, HasDocument, EndsStrictly};
 
 use facet_format::DeserializeError;
@@ -70,6 +71,7 @@ pub trait Facet<'de>: Sized + Drop {
         ensures strict { whole ≡ true → OnOk result (EndsStrictly parser.old parser.new) }
         ensures keeps { KeepsOn parser.old parser.new }
         ensures shorter { OnOk result (ahead parser.new < ahead parser.old) }
+        ensures one_value { OnOk result (PassesValue parser.old parser.new) }
         ensures within { IfErr result (λ e. RefusalWithin parser.new.buffer (refusal_of e)) };
 
     /// Reads the value before which the parser stands, and may borrow of the input.
@@ -84,6 +86,7 @@ pub trait Facet<'de>: Sized + Drop {
         ensures strict { whole ≡ true → OnOk result (EndsStrictly parser.old parser.new) }
         ensures keeps { KeepsOn parser.old parser.new }
         ensures shorter { OnOk result (ahead parser.new < ahead parser.old) }
+        ensures one_value { OnOk result (PassesValue parser.old parser.new) }
         ensures within { IfErr result (λ e. RefusalWithin parser.new.buffer (refusal_of e)) };
 
     /// Writes the value, where a value stands, in the layout of the serializer's options.

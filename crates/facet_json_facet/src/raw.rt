@@ -7,6 +7,7 @@ ghost use Rattle.facet_format.specs.Views.{refusal_of};
 ghost use Rattle.facet_json_protocol.specs.Now.{ahead};
 ghost use Rattle.facet_json_protocol.specs.Within.{RefusalWithin};
 ghost use Rattle.facet_json_meaning.specs.Nodes.{KeepsOn};
+ghost use Rattle.facet_json_meaning.specs.OneValue.{PassesValue};
 ghost use Rattle.facet_json_meaning.specs.Reading.{IsRead, IsUnread};
 ghost use Rattle.facet_json_meaning.specs.Readings.{raw_of};
 
@@ -73,6 +74,7 @@ fn captured<'t, 'de>(parser: &mut JsonParser<'de>) -> Result<&'de str, Deseriali
     ensures unread { IfErr result (λ e. IsUnread raw_of parser.old (refusal_of e)) }
     ensures keeps { KeepsOn parser.old parser.new }
     ensures shorter { OnOk result (ahead parser.new < ahead parser.old) }
+    ensures one_value { OnOk result (PassesValue parser.old parser.new) }
     ensures within { IfErr result (λ e. RefusalWithin parser.new.buffer (refusal_of e)) }
 {
     let text = parser.capture_raw()?;

@@ -6,6 +6,7 @@ ghost use Rattle.facet_format.specs.Views.{event_of, refusal_of, span_of};
 ghost use Rattle.facet_json_protocol.specs.Now.{ahead};
 ghost use Rattle.facet_json_protocol.specs.Within.{RefusalWithin};
 ghost use Rattle.facet_json_meaning.specs.Nodes.{KeepsOn};
+ghost use Rattle.facet_json_meaning.specs.OneValue.{PassesValue};
 ghost use Rattle.facet_json_meaning.specs.Reading.{IsRead, IsUnread, HasDocument, EndsStrictly};
 ghost use Rattle.facet_json_meaning.specs.Readings.{leaf, taken, whole_of};
 
@@ -39,6 +40,7 @@ pub(crate) fn next_whole<'t, 'de>(
     ensures strict { OnOk result (EndsStrictly parser.old parser.new) }
     ensures keeps { KeepsOn parser.old parser.new }
     ensures shorter { OnOk result (ahead parser.new < ahead parser.old) }
+    ensures one_value { OnOk result (PassesValue parser.old parser.new) }
     ensures span_within { IfOk result (λ n. stop (span_of n.span) ≤ length parser.new.buffer) }
     ensures within { IfErr result (λ e. RefusalWithin parser.new.buffer (refusal_of e)) }
 {

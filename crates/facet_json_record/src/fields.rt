@@ -6,6 +6,7 @@ ghost use Rattle.facet_format.specs.Views.{refusal_of, span_of};
 ghost use Rattle.facet_json_protocol.specs.Now.{ahead};
 ghost use Rattle.facet_json_protocol.specs.Within.{RefusalWithin};
 ghost use Rattle.facet_json_meaning.specs.Nodes.{KeepsOn};
+ghost use Rattle.facet_json_meaning.specs.OneValue.{PassesValue, IsAfterKey};
 ghost use Rattle.facet_json_meaning.specs.Reading.{IsRead, IsUnread};
 ghost use Rattle.facet_json_record.specs.Fields.{keys, table, fields_of, begins_with, first_name, other_names, joined};
 
@@ -64,6 +65,7 @@ pub trait Fields<'de>: Sized + Drop {
         ensures read { OnOk result (IsRead (step borrows (keys names.now) key.now (seen slots.old)) parser.old (seen slots.new) parser.new) }
         ensures unread { IfErr result (λ e. IsUnread (step borrows (keys names.now) key.now (seen slots.old)) parser.old (refusal_of e)) }
         ensures keeps { KeepsOn parser.old parser.new }
+        ensures one_value { IsAfterKey parser.old → OnOk result (PassesValue parser.old parser.new) }
         ensures within { IfErr result (λ e. RefusalWithin parser.new.buffer (refusal_of e)) };
 
     /// The fields of an object that ends with this bracket.
@@ -284,6 +286,7 @@ pub fn read_fields<'de, 't, F: Fields<'de>>(
     ensures unread { IfErr result (λ e. IsUnread (fields_of (table F.start (F.step borrows) F.ends) (keys names.now)) parser.old (refusal_of e)) }
     ensures keeps { KeepsOn parser.old parser.new }
     ensures shorter { OnOk result (ahead parser.new < ahead parser.old) }
+    ensures one_value { OnOk result (PassesValue parser.old parser.new) }
     ensures within { IfErr result (λ e. RefusalWithin parser.new.buffer (refusal_of e)) }
 {
     begin_object(parser)?;
@@ -333,6 +336,7 @@ fn value_in<'t, 'de, T: Facet<'de>>(
     ensures read { IfOk result (λ v. IsRead (cond borrows T.reading_borrowed T.reading) parser.old (T.view v) parser.new) }
     ensures unread { IfErr result (λ e. IsUnread (cond borrows T.reading_borrowed T.reading) parser.old (refusal_of e)) }
     ensures keeps { KeepsOn parser.old parser.new }
+    ensures one_value { OnOk result (PassesValue parser.old parser.new) }
     ensures within { IfErr result (λ e. RefusalWithin parser.new.buffer (refusal_of e)) }
 {
     if borrows {

@@ -4,7 +4,7 @@ ghost use Rattle.std.specs.Prelude.{◌≡◌, true, IfOk, IfErr, OnOk};
 ghost use Rattle.facet_format.specs.Views.{refusal_of};
 ghost use Rattle.facet_json_token.specs.Gap.{plain, jsonc};
 ghost use Rattle.facet_json_protocol.specs.Within.{RefusalWithin};
-ghost use Rattle.facet_json_typed.specs.Inputs.{IsReadFrom, IsUnreadFrom, BeginsWithDocument};
+ghost use Rattle.facet_json_typed.specs.Inputs.{IsReadFrom, IsUnreadFrom, BeginsWithDocument, BeginsWithRun};
 
 use facet_format::DeserializeError;
 use facet_json_facet::Facet;
@@ -30,6 +30,7 @@ pub fn from_slice<'t, 'de, T: Facet<'de>>(
     ensures read { IfOk result (λ v. IsReadFrom T.reading input.now plain (T.view v)) }
     ensures unread { IfErr result (λ e. IsUnreadFrom T.reading input.now plain (refusal_of e)) }
     ensures document { T.whole ≡ true → OnOk result (BeginsWithDocument input.now plain) }
+    ensures one_value { OnOk result (BeginsWithRun input.now plain) }
     ensures within { IfErr result (λ e. RefusalWithin input.now (refusal_of e)) }
 {
     T::read_owned(alloc, &mut JsonParser::new(alloc, input))
@@ -53,6 +54,7 @@ pub fn from_slice_borrowed<'t, 'de, T: Facet<'de>>(
     ensures read { IfOk result (λ v. IsReadFrom T.reading_borrowed input.now plain (T.view v)) }
     ensures unread { IfErr result (λ e. IsUnreadFrom T.reading_borrowed input.now plain (refusal_of e)) }
     ensures document { T.whole ≡ true → OnOk result (BeginsWithDocument input.now plain) }
+    ensures one_value { OnOk result (BeginsWithRun input.now plain) }
     ensures within { IfErr result (λ e. RefusalWithin input.now (refusal_of e)) }
 {
     T::read(alloc, &mut JsonParser::new(alloc, input))
@@ -75,6 +77,7 @@ pub fn from_slice_jsonc<'t, 'de, T: Facet<'de>>(
     ensures read { IfOk result (λ v. IsReadFrom T.reading input.now jsonc (T.view v)) }
     ensures unread { IfErr result (λ e. IsUnreadFrom T.reading input.now jsonc (refusal_of e)) }
     ensures document { T.whole ≡ true → OnOk result (BeginsWithDocument input.now jsonc) }
+    ensures one_value { OnOk result (BeginsWithRun input.now jsonc) }
     ensures within { IfErr result (λ e. RefusalWithin input.now (refusal_of e)) }
 {
     T::read_owned(alloc, &mut JsonParser::new_jsonc(alloc, input))
@@ -97,6 +100,7 @@ pub fn from_slice_borrowed_jsonc<'t, 'de, T: Facet<'de>>(
     ensures read { IfOk result (λ v. IsReadFrom T.reading_borrowed input.now jsonc (T.view v)) }
     ensures unread { IfErr result (λ e. IsUnreadFrom T.reading_borrowed input.now jsonc (refusal_of e)) }
     ensures document { T.whole ≡ true → OnOk result (BeginsWithDocument input.now jsonc) }
+    ensures one_value { OnOk result (BeginsWithRun input.now jsonc) }
     ensures within { IfErr result (λ e. RefusalWithin input.now (refusal_of e)) }
 {
     T::read(alloc, &mut JsonParser::new_jsonc(alloc, input))
@@ -119,6 +123,7 @@ pub fn from_str<'t, 'de, T: Facet<'de>>(
     ensures read { IfOk result (λ v. IsReadFrom T.reading input.now plain (T.view v)) }
     ensures unread { IfErr result (λ e. IsUnreadFrom T.reading input.now plain (refusal_of e)) }
     ensures document { T.whole ≡ true → OnOk result (BeginsWithDocument input.now plain) }
+    ensures one_value { OnOk result (BeginsWithRun input.now plain) }
     ensures within { IfErr result (λ e. RefusalWithin input.now (refusal_of e)) }
 {
     T::read_owned(alloc, &mut JsonParser::new_trusted(alloc, input.as_bytes()))
@@ -141,6 +146,7 @@ pub fn from_str_borrowed<'t, 'de, T: Facet<'de>>(
     ensures read { IfOk result (λ v. IsReadFrom T.reading_borrowed input.now plain (T.view v)) }
     ensures unread { IfErr result (λ e. IsUnreadFrom T.reading_borrowed input.now plain (refusal_of e)) }
     ensures document { T.whole ≡ true → OnOk result (BeginsWithDocument input.now plain) }
+    ensures one_value { OnOk result (BeginsWithRun input.now plain) }
     ensures within { IfErr result (λ e. RefusalWithin input.now (refusal_of e)) }
 {
     T::read(alloc, &mut JsonParser::new_trusted(alloc, input.as_bytes()))
@@ -163,6 +169,7 @@ pub fn from_str_jsonc<'t, 'de, T: Facet<'de>>(
     ensures read { IfOk result (λ v. IsReadFrom T.reading input.now jsonc (T.view v)) }
     ensures unread { IfErr result (λ e. IsUnreadFrom T.reading input.now jsonc (refusal_of e)) }
     ensures document { T.whole ≡ true → OnOk result (BeginsWithDocument input.now jsonc) }
+    ensures one_value { OnOk result (BeginsWithRun input.now jsonc) }
     ensures within { IfErr result (λ e. RefusalWithin input.now (refusal_of e)) }
 {
     let bytes = input.as_bytes();
@@ -186,6 +193,7 @@ pub fn from_str_borrowed_jsonc<'t, 'de, T: Facet<'de>>(
     ensures read { IfOk result (λ v. IsReadFrom T.reading_borrowed input.now jsonc (T.view v)) }
     ensures unread { IfErr result (λ e. IsUnreadFrom T.reading_borrowed input.now jsonc (refusal_of e)) }
     ensures document { T.whole ≡ true → OnOk result (BeginsWithDocument input.now jsonc) }
+    ensures one_value { OnOk result (BeginsWithRun input.now jsonc) }
     ensures within { IfErr result (λ e. RefusalWithin input.now (refusal_of e)) }
 {
     let bytes = input.as_bytes();

@@ -1,6 +1,8 @@
 use Rattle.std.proofs.Common.{◌<◌, cond, map}
+use Rattle.facet_format.specs.Event.{array}
 use Rattle.facet_json_protocol.specs.Now.{ahead}
 use Rattle.facet_json_meaning.specs.Nodes.{KeepsOn}
+use Rattle.facet_json_meaning.specs.OneValue.{IsInside}
 use Rattle.facet_json_meaning.proofs.Sequences.ListSteps.{ReadSoFar}
 use Rattle.facet_json_facet.proofs.lists.list_in.Given as goal
 
@@ -9,6 +11,7 @@ invariant-loop-items g l = record {
   so_far : ReadSoFar (cond l.fn.borrows g.T.Facet.reading_borrowed g.T.Facet.reading) l.fn.parser (map g.T.Facet.view l.items.items) l.parser;
   keeps : KeepsOn l.fn.parser l.parser;
   shorter : ahead l.parser < ahead l.fn.parser;
+  inside : IsInside array l.fn.parser l.parser;
 }
 
 abbrev pub decreases-loop-items : goal.decreases-loop-items

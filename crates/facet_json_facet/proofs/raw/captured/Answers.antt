@@ -1,6 +1,7 @@
 use Rattle.std.proofs.Common.{refl, rules}
 use Rattle.std.proofs.lemmas.Result.{err_from_is_err_and}
 use Rattle.facet_json_meaning.proofs.Walks.RawOnWalk.{answer-captures, answer-uncaptured}
+use Rattle.facet_json_meaning.proofs.OneValue.PartsPassed.{captured-value}
 use Rattle.facet_json_facet.proofs.raw.captured.Goals as goal
 
 pub returns-in_err-text-clause-unread : goal.returns-in_err-text-clause-unread
@@ -24,3 +25,6 @@ returns-in_err-text-clause-shorter c = search rules
 
 pub returns-in_err-text-clause-within : goal.returns-in_err-text-clause-within
 returns-in_err-text-clause-within c = search rules
+
+pub returns-clause-one_value : goal.returns-clause-one_value
+returns-clause-one_value c = captured-value _ _ _ c.in_ok-text.ensures.moves

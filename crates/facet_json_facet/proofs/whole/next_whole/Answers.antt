@@ -6,6 +6,7 @@ use Rattle.facet_format.specs.Views.{refusal_of}
 use Rattle.facet_json_meaning.specs.Reading.{IsRead}
 use Rattle.facet_json_meaning.specs.Readings.{whole_of, leaf}
 use Rattle.facet_json_meaning.proofs.Leaves.LeafReadings.{leaf-read, leaf-unread, leaf-document, leaf-strict, none-unread}
+use Rattle.facet_json_meaning.proofs.OneValue.KindsPassed.{taken-passed}
 use Rattle.facet_json_facet.proofs.whole.next_whole.Goals as goal
 
 pub returns-in_err-event-clause-unread : goal.returns-in_err-event-clause-unread
@@ -27,3 +28,6 @@ returns-in-Ok-clause-strict c = leaf-strict whole_of _ _ _ c.in-Ok.value c.in_ok
 
 pub returns-in-Err-clause-unread : goal.returns-in-Err-clause-unread
 returns-in-Err-clause-unread c = leaf-unread whole_of _ _ _ (refusal_of c.in-Err.refused) c.in_ok-event.ensures.walks c.in-Err.ensures.refused
+
+pub returns-in-Ok-clause-one_value : goal.returns-in-Ok-clause-one_value
+returns-in-Ok-clause-one_value c = taken-passed _ _ whole_of _ _ c.in-Ok.ensures.taken c.in_ok-event.ensures.by_kind

@@ -1,9 +1,11 @@
 use Rattle.std.proofs.Common.{◌∙◌, rules}
+use Rattle.std.proofs.lemmas.Option.{MatchOption-at_some, MatchOption-at_none}
 use Rattle.std.proofs.lemmas.Result.{IfOk-weaker, IfErr-weaker, err_from_is_err_and}
 use Rattle.facet_format.specs.Event.{bytes_of}
 use Rattle.facet_format.specs.HeldText.{text_of}
 use Rattle.facet_format.specs.Views.{refusal_of}
 use Rattle.facet_format.proofs.HeldTexts.{held-bytes}
+use Rattle.facet_json_meaning.proofs.OneValue.WithinValues.{inside-member}
 use Rattle.facet_json_record.specs.Fields.{keys, table}
 use Rattle.facet_json_record.proofs.FieldSteps.{way-begin, way-goes_on, fields-not_begun, fields-no_key, fields-no_value, fields-end, fields-missing}
 use Rattle.facet_json_record.proofs.fields.read_fields.Goals as goal
@@ -18,7 +20,7 @@ pub loop-slots-init : goal.loop-slots-init
 loop-slots-init g c =
     let begun = c.in_ok-begin_object.ensures in
     let t = table g.F.Fields.start (g.F.Fields.step c.args.borrows) g.F.Fields.ends in
-    rw c.none-slots.ensures (way-begin t (keys c.args.names.now) _ _ begun.begun begun.onward begun.shorter)
+    rw c.none-slots.ensures (way-begin t (keys c.args.names.now) _ _ begun.begun begun.onward begun.shorter begun.inside)
 
 pub returns-in_err-key-clause-unread : goal.returns-in_err-key-clause-unread
 returns-in_err-key-clause-unread g c =
@@ -39,14 +41,20 @@ loop-slots-preserved g c =
     let t = table g.F.Fields.start (g.F.Fields.step c.args.borrows) g.F.Fields.ends in
     let named = rw c.in-Some.is at c.in_ok-key.ensures.passed in
     let read = rw (c.as_str.ensures.value ∙ held-bytes c.in-Some.key) at c.in_ok-put.ensures.read in
-    way-goes_on t (keys c.args.names.now) c.args.parser.now c.loop-slots.parser c.next_name.new.parser c.put.new.parser _ _ (bytes_of (text_of c.in-Some.key)) c.loop-slots.invariant named c.in_ok-key.ensures.onward read c.in_ok-put.ensures.keeps
+    let member = c.in_ok-key.ensures.member in
+    let at_value = MatchOption-at_some _ _ c.in-Some.key c.in-Some.is member in
+    let inside = inside-member c.args.parser.now c.loop-slots.parser c.next_name.new.parser c.put.new.parser _ c.in-Some.key c.loop-slots.invariant.inside member c.in-Some.is c.put.ensures.keeps.input (c.in_ok-put.ensures.one_value at_value.1) in
+    way-goes_on t (keys c.args.names.now) c.args.parser.now c.loop-slots.parser c.next_name.new.parser c.put.new.parser _ _ (bytes_of (text_of c.in-Some.key)) c.loop-slots.invariant named c.in_ok-key.ensures.onward read c.put.ensures.keeps inside
 
 pub loop-slots-preserved-in_ok-put : goal.loop-slots-preserved-in_ok-put
 loop-slots-preserved-in_ok-put g c =
     let t = table g.F.Fields.start (g.F.Fields.step c.args.borrows) g.F.Fields.ends in
     let named = rw c.in-Some.is at c.in_ok-key.ensures.passed in
     let read = rw (c.as_str.ensures.value ∙ held-bytes c.in-Some.key) at c.in_ok-put.ensures.read in
-    way-goes_on t (keys c.args.names.now) c.args.parser.now c.loop-slots.parser c.next_name.new.parser c.put.new.parser _ _ (bytes_of (text_of c.in-Some.key)) c.loop-slots.invariant named c.in_ok-key.ensures.onward read c.in_ok-put.ensures.keeps
+    let member = c.in_ok-key.ensures.member in
+    let at_value = MatchOption-at_some _ _ c.in-Some.key c.in-Some.is member in
+    let inside = inside-member c.args.parser.now c.loop-slots.parser c.next_name.new.parser c.put.new.parser _ c.in-Some.key c.loop-slots.invariant.inside member c.in-Some.is c.put.ensures.keeps.input (c.in_ok-put.ensures.one_value at_value.1) in
+    way-goes_on t (keys c.args.names.now) c.args.parser.now c.loop-slots.parser c.next_name.new.parser c.put.new.parser _ _ (bytes_of (text_of c.in-Some.key)) c.loop-slots.invariant named c.in_ok-key.ensures.onward read c.put.ensures.keeps inside
 
 pub returns-clause-read : goal.returns-clause-read
 returns-clause-read g c =
@@ -59,6 +67,11 @@ returns-clause-unread g c =
     let t = table g.F.Fields.start (g.F.Fields.step c.args.borrows) g.F.Fields.ends in
     let ended = rw c.in_default.is at c.in_ok-key.ensures.passed in
     IfErr-weaker c.finish.result _ _ (λ e missing. fields-missing t (keys c.args.names.now) _ _ _ _ (refusal_of e) c.loop-slots.invariant.left ended missing) c.finish.ensures.missing
+
+pub returns-clause-one_value : goal.returns-clause-one_value
+returns-clause-one_value g c =
+    let passed = MatchOption-at_none _ _ c.in_default.is c.in_ok-key.ensures.member _ c.loop-slots.invariant.inside in
+    IfOk-weaker c.finish.result _ _ (λ f full. passed) c.finish.ensures.full
 
 pub returns-in_err-begin_object-clause-read : goal.returns-in_err-begin_object-clause-read
 returns-in_err-begin_object-clause-read c = search rules

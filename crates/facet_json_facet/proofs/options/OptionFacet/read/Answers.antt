@@ -4,6 +4,7 @@ use Rattle.facet_format.specs.Views.{refusal_of}
 use Rattle.facet_json_meaning.specs.Optional.{optional}
 use Rattle.facet_json_meaning.proofs.Leaves.LeafReadings.{none-unread}
 use Rattle.facet_json_meaning.proofs.Nullable.OptionalReadings.{null-read, null-unread, value-read, value-unread}
+use Rattle.facet_json_meaning.proofs.OneValue.WithinValues.{value-stays}
 use Rattle.facet_json_facet.proofs.options.OptionFacet.read.Goals as goal
 
 pub returns-in_err-null_comes-clause-unread : goal.returns-in_err-null_comes-clause-unread
@@ -48,3 +49,12 @@ returns-in_err-null_comes-clause-keeps c = search rules
 
 pub returns-in_err-null_comes-clause-shorter : goal.returns-in_err-null_comes-clause-shorter
 returns-in_err-null_comes-clause-shorter c = search rules
+
+pub returns-then-branch-clause-one_value : goal.returns-then-branch-clause-one_value
+returns-then-branch-clause-one_value g c =
+    let looks = c.in_ok-null_comes.ensures.looks in
+    value-stays _ _ _ c.null_comes.ensures.onward.input looks.there (c.in_ok-pass_null.ensures.one_value (looks.comes c.if-branch.true))
+
+pub returns-clause-one_value : goal.returns-clause-one_value
+returns-clause-one_value g c =
+    value-stays _ _ _ c.null_comes.ensures.onward.input c.in_ok-null_comes.ensures.looks.there c.in_ok-read.ensures.one_value

@@ -4,6 +4,7 @@ use Rattle.facet_format.specs.Views.{refusal_of}
 use Rattle.facet_json_meaning.specs.Borrowed.{borrowed_text}
 use Rattle.facet_json_meaning.proofs.Leaves.BorrowedLaws.{borrowed-read, borrowed-unread, borrowed-document, borrowed-strict}
 use Rattle.facet_json_meaning.proofs.Leaves.LeafReadings.{none-unread}
+use Rattle.facet_json_meaning.proofs.OneValue.KindsPassed.{lent-passed}
 use Rattle.facet_json_facet.proofs.texts.RefStrFacet.read.Goals as goal
 
 pub returns-in_err-next_of_value-clause-unread : goal.returns-in_err-next_of_value-clause-unread
@@ -38,3 +39,7 @@ returns-in_err-next_of_value-clause-shorter c = search rules
 
 pub returns-in_err-next_of_value-clause-within : goal.returns-in_err-next_of_value-clause-within
 returns-in_err-next_of_value-clause-within c = search rules
+
+pub returns-clause-one_value : goal.returns-clause-one_value
+returns-clause-one_value c =
+    IfOk-weaker c.lent_in.result _ _ (λ s lent. lent-passed _ _ _ _ lent c.in_ok-next_of_value.ensures.by_kind) c.lent_in.ensures.lent

@@ -3,6 +3,7 @@ use Rattle.std.proofs.lemmas.Result.{err_from_is_err_and, IfOk-weaker, IfErr-wea
 use Rattle.facet_format.specs.Views.{refusal_of}
 use Rattle.facet_json_meaning.specs.Readings.{text_of, leaf}
 use Rattle.facet_json_meaning.proofs.Leaves.LeafReadings.{leaf-read, leaf-refused, leaf-document, leaf-strict, none-unread}
+use Rattle.facet_json_meaning.proofs.OneValue.KindsPassed.{taken-passed}
 use Rattle.facet_json_facet.proofs.texts.StringFacet.read_owned.Goals as goal
 
 pub returns-in_err-next_of_value-clause-unread : goal.returns-in_err-next_of_value-clause-unread
@@ -25,3 +26,7 @@ returns-clause-document c whole =
 pub returns-clause-strict : goal.returns-clause-strict
 returns-clause-strict c whole =
     IfOk-weaker c.string_in.result _ _ (λ b taken. leaf-strict text_of _ _ _ (string_bytes b) c.in_ok-next_of_value.ensures.passed taken) c.string_in.ensures.taken
+
+pub returns-clause-one_value : goal.returns-clause-one_value
+returns-clause-one_value c =
+    IfOk-weaker c.string_in.result _ _ (λ v taken. taken-passed _ _ text_of _ _ taken c.in_ok-next_of_value.ensures.by_kind) c.string_in.ensures.taken

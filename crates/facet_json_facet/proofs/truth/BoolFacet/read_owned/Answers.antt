@@ -3,6 +3,7 @@ use Rattle.std.proofs.lemmas.Result.{err_from_is_err_and, IfOk-weaker, IfErr-wea
 use Rattle.facet_format.specs.Views.{refusal_of}
 use Rattle.facet_json_meaning.specs.Readings.{bool_of, leaf}
 use Rattle.facet_json_meaning.proofs.Leaves.LeafReadings.{leaf-read, leaf-unread, leaf-document, leaf-strict, none-unread}
+use Rattle.facet_json_meaning.proofs.OneValue.KindsPassed.{taken-passed}
 use Rattle.facet_json_facet.proofs.truth.BoolFacet.read_owned.Goals as goal
 
 pub returns-in_err-next_of_value-clause-unread : goal.returns-in_err-next_of_value-clause-unread
@@ -37,3 +38,7 @@ returns-in_err-next_of_value-clause-shorter c = search rules
 
 pub returns-in_err-next_of_value-clause-within : goal.returns-in_err-next_of_value-clause-within
 returns-in_err-next_of_value-clause-within c = search rules
+
+pub returns-clause-one_value : goal.returns-clause-one_value
+returns-clause-one_value c =
+    IfOk-weaker c.bool_in.result _ _ (λ v taken. taken-passed _ _ bool_of _ _ taken c.in_ok-next_of_value.ensures.by_kind) c.bool_in.ensures.taken
