@@ -9,6 +9,7 @@ ghost use Rattle.facet_json_serializer.specs.Serializer.{out_of_memory};
 ghost use Rattle.facet_json_serializer.specs.Views.{refusal_of as writing_refusal_of};
 ghost use Rattle.facet_json_write.specs.Write.{HasWritten, IsOfRust};
 ghost use Rattle.facet_json_meaning.specs.Nodes.{KeepsOn};
+ghost use Rattle.facet_json_meaning.specs.OneValue.{PassesValue};
 ghost use Rattle.facet_json_meaning.specs.Reading.{IsRead, IsUnread, HasDocument, EndsStrictly};
 
 use facet_format::DeserializeError;
@@ -79,6 +80,7 @@ pub trait Facet<'de>: Sized + Drop {
         ensures strict { whole ≡ true → OnOk result (EndsStrictly parser.old parser.new) }
         ensures keeps { KeepsOn parser.old parser.new }
         ensures shorter { OnOk result (ahead parser.new < ahead parser.old) }
+        ensures one_value { OnOk result (PassesValue parser.old parser.new) }
         ensures within { IfErr result (λ e. RefusalWithin parser.new.buffer (refusal_of e)) }
         ensures free { OnOk result (parser.new.cursor.refusal ≡ None) }
         ensures tells { IfErr result (λ e. TellsRefusal parser.old parser.new (refusal_of e)) };
@@ -95,6 +97,7 @@ pub trait Facet<'de>: Sized + Drop {
         ensures strict { whole ≡ true → OnOk result (EndsStrictly parser.old parser.new) }
         ensures keeps { KeepsOn parser.old parser.new }
         ensures shorter { OnOk result (ahead parser.new < ahead parser.old) }
+        ensures one_value { OnOk result (PassesValue parser.old parser.new) }
         ensures within { IfErr result (λ e. RefusalWithin parser.new.buffer (refusal_of e)) }
         ensures free { OnOk result (parser.new.cursor.refusal ≡ None) }
         ensures tells { IfErr result (λ e. TellsRefusal parser.old parser.new (refusal_of e)) };

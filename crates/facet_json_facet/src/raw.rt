@@ -9,6 +9,7 @@ ghost use Rattle.facet_json_protocol.specs.Within.{RefusalWithin};
 ghost use Rattle.facet_json_meaning.specs.Refusing.{TellsRefusal};
 ghost use Rattle.facet_json_meaning.specs.Nodes.{KeepsOn};
 ghost use Rattle.facet_json_meaning.specs.Reading.{IsRead, IsUnread, HasDocument, EndsStrictly};
+ghost use Rattle.facet_json_meaning.specs.OneValue.{PassesValue};
 ghost use Rattle.facet_json_meaning.specs.Readings.{raw_of};
 
 use crate::facet::Facet;
@@ -61,6 +62,7 @@ impl<'de> Facet<'de> for RawJson<'de> {
         ensures strict { false ≡ true → OnOk result (EndsStrictly parser.old parser.new) }
         ensures keeps { KeepsOn parser.old parser.new }
         ensures shorter { OnOk result (ahead parser.new < ahead parser.old) }
+        ensures one_value { OnOk result (PassesValue parser.old parser.new) }
         ensures within { IfErr result (λ e. RefusalWithin parser.new.buffer (refusal_of e)) }
         ensures free { OnOk result (parser.new.cursor.refusal ≡ None) }
         ensures tells { IfErr result (λ e. TellsRefusal parser.old parser.new (refusal_of e)) }
@@ -90,6 +92,7 @@ fn captured<'t, 'de>(parser: &mut JsonParser<'de>) -> Result<&'de str, Deseriali
     ensures unread { IfErr result (λ e. IsUnread raw_of parser.old (refusal_of e)) }
     ensures keeps { KeepsOn parser.old parser.new }
     ensures shorter { OnOk result (ahead parser.new < ahead parser.old) }
+    ensures one_value { OnOk result (PassesValue parser.old parser.new) }
     ensures within { IfErr result (λ e. RefusalWithin parser.new.buffer (refusal_of e)) }
     ensures free { OnOk result (parser.new.cursor.refusal ≡ None) }
     ensures tells { IfErr result (λ e. TellsRefusal parser.old parser.new (refusal_of e)) }

@@ -8,6 +8,7 @@ ghost use Rattle.facet_json_protocol.specs.Now.{ahead};
 ghost use Rattle.facet_json_protocol.specs.Within.{RefusalWithin};
 ghost use Rattle.facet_json_meaning.specs.Refusing.{mismatch_of, IsSpanPassed, TellsRefusal};
 ghost use Rattle.facet_json_meaning.specs.Nodes.{KeepsOn};
+ghost use Rattle.facet_json_meaning.specs.OneValue.{PassesValue};
 ghost use Rattle.facet_json_meaning.specs.Reading.{IsRead, IsUnread, HasDocument, EndsStrictly};
 ghost use Rattle.facet_json_meaning.specs.Readings.{leaf, taken, whole_of};
 
@@ -42,6 +43,7 @@ pub(crate) fn next_whole<'t, 'de>(
     ensures keeps { KeepsOn parser.old parser.new }
     ensures shorter { OnOk result (ahead parser.new < ahead parser.old) }
     ensures span_passed { IfOk result (λ n. IsSpanPassed parser.old parser.new (span_of n.span)) }
+    ensures one_value { OnOk result (PassesValue parser.old parser.new) }
     ensures span_within { IfOk result (λ n. stop (span_of n.span) ≤ length parser.new.buffer) }
     ensures within { IfErr result (λ e. RefusalWithin parser.new.buffer (refusal_of e)) }
     ensures free { OnOk result (parser.new.cursor.refusal ≡ None) }

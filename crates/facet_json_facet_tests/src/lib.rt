@@ -9,6 +9,8 @@ mod bounds;
 #[cfg(test)]
 mod containers;
 #[cfg(test)]
+mod cuts;
+#[cfg(test)]
 mod entries;
 #[cfg(test)]
 mod growth;

@@ -4,6 +4,7 @@ pub mod Nodes
 pub mod Nullable
 pub mod Objects
 pub mod OfTrees
+pub mod OneValue
 pub mod Refusals
 pub mod Sequences
 pub mod StrictTexts

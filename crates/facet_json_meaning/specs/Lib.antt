@@ -1,5 +1,6 @@
 pub mod Nodes
 pub mod Passing
+pub mod OneValue
 pub mod Reading
 pub mod Readings
 pub mod Objects

@@ -10,4 +10,5 @@ pub mod ReadingValues
 pub mod ReadingWithin
 pub mod StrictWithin
 pub mod ValuesBegin
+pub mod ValuesPassed
 pub mod WalkWithin

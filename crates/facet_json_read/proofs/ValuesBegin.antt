@@ -1,17 +1,20 @@
 -- How a value begins: with a whole tree or an empty container, or refused at its first event.
-use Rattle.std.proofs.Common.{◌≡◌, ◌≢◌, ◌≤◌, ◌+◌, inl, ℕ, true, false, List, Option, None, Some, refl, ap, ◌∙◌}
+use Rattle.std.proofs.Common.{◌≡◌, ◌≢◌, ◌≤◌, ◌+◌, inl, ℕ, true, false, List, Option, None, Some, Ok, refl, ap, ◌∙◌}
 use Rattle.std.specs.Option.{IfSome}
 use Rattle.facet_format.specs.declared.span.Span.{Span}
 use Rattle.facet_format.specs.Complaint.{Refusal}
+use Rattle.facet_format.specs.Cursor.{next, event}
 use Rattle.facet_format.specs.Event.{Event, EventKind, Scalar, scalar, null, unit, bool, char, i64, u64, i128, u128, decimal, text, bytes, struct_start, struct_end, sequence_start, sequence_end, field_key, Passed}
 use Rattle.facet_json_token.specs.Tokens.{Tokens}
 use Rattle.facet_json_document.specs.Tree.{Tree, Trees, no_trees, Pairs, no_pairs, list, pairs}
 use Rattle.facet_json_document.specs.Place.{Place}
 use Rattle.facet_json_document.specs.Future.{Future, gives}
 use Rattle.facet_json_protocol.specs.Now.{Now}
+use Rattle.facet_json_protocol.specs.Move.{Moves}
 use Rattle.facet_json_protocol.specs.Next.{PassesNext}
 use Rattle.facet_json_transcode.specs.Told.{tree_of_scalar, opens, begins}
 use Rattle.facet_json_transcode.specs.Reading.{LacksMemory, IsUnread, IsValueUnread}
+use Rattle.facet_json_meaning.proofs.OneValue.EventsPassed.{next-passes_by_kind}
 use Rattle.facet_json_read.specs.Inner.Reading.{AreItemsRead, AreMembersRead, HasBegun, whole, a_list, an_object, BeganValue, IsFilled}
 use Rattle.facet_json_read.proofs.FirstEventTells.{told-begins, broken-opens, list-told, object-told, list-broken, object-broken}
 
@@ -45,8 +48,14 @@ lacks-unread h = record { told = λ v rest s. h; broken = λ place rest b. inl h
 
 -- The event that the parser gave is the first of the value.
 pub began : (limit : Option ℕ) (old : Now) (e : Event) (t : Tree) (new : Now) → PassesNext old e new → HasBegun limit e.kind t →
-    BeganValue limit old t new
-began limit old e t new g h = record { passed = record { event = e; last = g.last }; comes = g.comes; begun = h; free = g.free }
+    Moves old next (event (Ok (Some e))) new → BeganValue limit old t new
+began limit old e t new g h move = record {
+  passed = record { event = e; last = g.last };
+  comes = g.comes;
+  begun = h;
+  free = g.free;
+  by_kind = next-passes_by_kind old new e move;
+}
 
 -- Where the event is within the input, the refusal is.
 pub span-within : (o : Option Span) (s : Span) (end : ℕ) → IfSome o (λ x. x ≡ s) → s.offset + s.len ≤ end → IfSome o (λ x. x.offset + x.len ≤ end)

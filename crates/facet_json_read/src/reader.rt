@@ -2,7 +2,7 @@
 
 ghost use Rattle.std.specs.Prelude.{◌≡◌, ◌≤◌, ◌<◌, ◌+◌, ◌⊎◌, ◌++◌, ◌∷◌, false, [], string_bytes, length, None, Some, IfOk, IfErr, IfSome, OnOk, MatchResult, MatchOption};
 ghost use Rattle.facet_format.specs.Complaint.{no_memory, out_of_memory, type_mismatch, refusal_at};
-ghost use Rattle.facet_format.specs.Event.{bytes_of, sequence_end, struct_end};
+ghost use Rattle.facet_format.specs.Event.{bytes_of, sequence_end, struct_end, array, object};
 ghost use Rattle.facet_format.specs.Views.{event_of, refusal_of, scalar_value_of, span_of};
 ghost use Rattle.facet_json_token.specs.Gap.{plain, jsonc};
 ghost use Rattle.facet_json_document.specs.Node.{Node};
@@ -17,11 +17,12 @@ ghost use Rattle.facet_json_transcode.specs.Told.{tree_of_scalar, is_member};
 ghost use Rattle.facet_json_transcode.specs.Reading.{LacksMemory, IsValueRead, IsValueUnread};
 ghost use Rattle.facet_json_transcode.specs.Refusing.{LacksOrIsAbout, TellsRefusal};
 ghost use Rattle.facet_json_meaning.specs.Nodes.{KeepsOn};
+ghost use Rattle.facet_json_meaning.specs.OneValue.{PassesValue, PassesEndOf};
 ghost use Rattle.facet_json_meaning.specs.Passing.{MovesOn};
 ghost use Rattle.facet_json_meaning.specs.Reading.{IsRead, IsUnread, HasDocument, EndsStrictly};
 ghost use Rattle.facet_json_read.specs.Depth.{outer, too_deep_at};
 ghost use Rattle.facet_json_read.specs.Inner.Beyond.{inner as spec_inner, Admits, SameBeyond, IsValueUnreadWithin};
-ghost use Rattle.facet_json_read.specs.Inner.Reading.{WentOn, LeadsOn, AreItemsRead, AreMembersRead, AreItemsUnreadWithin, AreMembersUnreadWithin, HasBegun, IsRefused, BeganValue, BeganMember, PassedEnd, IsKey, IsFilled, IsLevel, IsUnfilled};
+ghost use Rattle.facet_json_read.specs.Inner.Reading.{WentOn, LeadsOn, AreItemsRead, AreMembersRead, AreItemsUnreadWithin, AreMembersUnreadWithin, HasBegun, IsRefused, BeganValue, BeganMember, PassedEnd, IsKey, IsFilled, PassesRest, IsLevel, IsUnfilled};
 ghost use Rattle.facet_json_tree.specs.Views.{tree_view, trees_view, pairs_view};
 
 use facet_format::{
@@ -108,6 +109,7 @@ pub fn read_tree<'t>(
     ensures strict { OnOk result (EndsStrictly parser.old parser.new) }
     ensures keeps { KeepsOn parser.old parser.new }
     ensures shorter { OnOk result (ahead parser.new < ahead parser.old) }
+    ensures one_value { OnOk result (PassesValue parser.old parser.new) }
     ensures within { IfErr result (λ e. RefusalWithin parser.new.buffer (refusal_of e)) }
     ensures free { OnOk result (parser.new.cursor.refusal ≡ None) }
     ensures tells { IfErr result (λ e. TellsRefusal parser.old parser.new (refusal_of e)) }
@@ -136,6 +138,7 @@ pub(crate) fn read_value<'t>(
     ensures keeps { KeepsOn parser.old parser.new }
     ensures moves { OnOk result (MovesOn parser.old parser.new) }
     ensures shorter { OnOk result (ahead parser.new < ahead parser.old) }
+    ensures one_value { OnOk result (PassesValue parser.old parser.new) }
     ensures told { IfOk result (λ t. IsValueRead (future_of parser.old) (tree_view t) (future_of parser.new)) }
     ensures level { OnOk result (SameBeyond (future_of parser.old) depth (future_of parser.new) depth) }
     ensures free { OnOk result (parser.new.cursor.refusal ≡ None) }
@@ -302,6 +305,7 @@ fn finish<'t>(
     ensures leads { OnOk result (LeadsOn parser.old parser.new) }
     ensures went { OnOk result (WentOn parser.old parser.new) }
     ensures read { IfOk result (λ t. IsFilled depth (tree_view begun) (future_of parser.old) (tree_view t) (future_of parser.new)) }
+    ensures passes { OnOk result (PassesRest (tree_view begun) parser.old parser.new) }
     ensures level { OnOk result (IsLevel depth (tree_view begun) (future_of parser.old) (future_of parser.new)) }
     ensures refused { IfErr result (λ e. IsUnfilled depth parser.old.buffer (tree_view begun) (future_of parser.old) (refusal_of e)) }
     ensures within { IfErr result (λ e. IfSome e.span (λ s. s.offset + s.len ≤ length parser.new.buffer)) }
@@ -336,6 +340,7 @@ fn push_items<'t>(
     ensures leads { OnOk result (LeadsOn parser.old parser.new) }
     ensures went { OnOk result (WentOn parser.old parser.new) }
     ensures read { OnOk result (items.old.items ≡ [] → AreItemsRead (future_of parser.old) (trees_view items.new.items) (future_of parser.new)) }
+    ensures passes { OnOk result (PassesEndOf array parser.old parser.new) }
     ensures level { OnOk result (SameBeyond (future_of parser.old) depth (future_of parser.new) (outer depth)) }
     ensures refused { IfErr result (λ e. items.old.items ≡ [] → AreItemsUnreadWithin depth parser.old.buffer (future_of parser.old) (refusal_of e)) }
     ensures within { IfErr result (λ e. IfSome e.span (λ s. s.offset + s.len ≤ length parser.new.buffer)) }
@@ -362,6 +367,7 @@ fn push_members<'t>(
     ensures leads { OnOk result (LeadsOn parser.old parser.new) }
     ensures went { OnOk result (WentOn parser.old parser.new) }
     ensures read { OnOk result (members.old.items ≡ [] → AreMembersRead (future_of parser.old) (pairs_view members.new.items) (future_of parser.new)) }
+    ensures passes { OnOk result (PassesEndOf object parser.old parser.new) }
     ensures level { OnOk result (SameBeyond (future_of parser.old) depth (future_of parser.new) (outer depth)) }
     ensures refused { IfErr result (λ e. members.old.items ≡ [] → AreMembersUnreadWithin depth parser.old.buffer (future_of parser.old) (refusal_of e)) }
     ensures within { IfErr result (λ e. IfSome e.span (λ s. s.offset + s.len ≤ length parser.new.buffer)) }

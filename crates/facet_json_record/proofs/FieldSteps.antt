@@ -5,6 +5,7 @@ use Rattle.std.proofs.Common.{◌≡◌, ◌<◌, ◌≤◌, inl, inr, Option, N
 use Rattle.facet_format.specs.Complaint.{Refusal}
 use Rattle.facet_format.specs.Cursor.{Cursor, Source}
 use Rattle.facet_format.specs.Span.{Span}
+use Rattle.facet_format.specs.Event.{object}
 use Rattle.facet_json_token.specs.Token.{Token}
 use Rattle.facet_json_document.specs.Node.{Node, scalar, Members, member}
 use Rattle.facet_json_document.specs.Node as node
@@ -12,6 +13,7 @@ use Rattle.facet_json_document.specs.Meaning.{text_of, meaning}
 use Rattle.facet_json_protocol.specs.Now.{Now, ahead, GoesOn}
 use Rattle.facet_json_meaning.specs.Nodes.{StandsBefore, KeepsOn}
 use Rattle.facet_json_meaning.specs.Objects.{members_of, BeginsObject, IsNoObject, PassesKey, LacksKey}
+use Rattle.facet_json_meaning.specs.OneValue.{IsInside}
 use Rattle.facet_json_meaning.specs.Reading.{IsRead, IsUnread}
 use Rattle.facet_json_meaning.proofs.Keeping.{keeps-then}
 use Rattle.facet_json_meaning.proofs.Walks.NextOnWalk.{goes-keeps}
@@ -120,13 +122,16 @@ module _ {V : Type 0} (t : Table V) (names : List (List ℕ)) where
     pub left : IsLeft old seen now
     pub keeps : KeepsOn old now
     pub falls : ahead now < ahead old
+    pub inside : IsInside object old now
 
-  pub way-begin : (old new : Now) → BeginsObject old new → GoesOn old new → ahead new < ahead old → IsUnderWay old t.start new
-  way-begin old new begins goes falls = record { left = fields-begin old new begins; keeps = goes-keeps old new goes; falls = falls }
+  pub way-begin : (old new : Now) → BeginsObject old new → GoesOn old new → ahead new < ahead old → IsInside object old new →
+      IsUnderWay old t.start new
+  way-begin old new begins goes falls inside =
+      record { left = fields-begin old new begins; keeps = goes-keeps old new goes; falls = falls; inside = inside }
 
   pub way-goes_on : (old now mid new : Now) (seen more : t.Seen) (name : List ℕ) → IsUnderWay old seen now → PassesKey now (Some name) mid → GoesOn now mid →
-      IsRead (t.step names name seen) mid more new → KeepsOn mid new → IsUnderWay old more new
-  way-goes_on old now mid new seen more name way passes goes read keeps =
+      IsRead (t.step names name seen) mid more new → KeepsOn mid new → IsInside object old new → IsUnderWay old more new
+  way-goes_on old now mid new seen more name way passes goes read keeps inside =
       let then = keeps-then now mid new (goes-keeps now mid goes) keeps in
       record {
         left = fields-goes_on old now mid new seen more name way.left passes read;
@@ -135,6 +140,7 @@ module _ {V : Type 0} (t : Table V) (names : List (List ℕ)) where
             let one : ahead now < ahead old = way.falls in
             let two : ahead new ≤ ahead now = then.onward in
             omega arith;
+        inside = inside;
       }
 
 -- An object is refused for a field that it lacks.

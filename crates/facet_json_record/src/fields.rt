@@ -7,6 +7,7 @@ ghost use Rattle.facet_format.specs.Views.{refusal_of, span_of};
 ghost use Rattle.facet_json_protocol.specs.Now.{ahead, span_of as last_read};
 ghost use Rattle.facet_json_protocol.specs.Within.{RefusalWithin};
 ghost use Rattle.facet_json_meaning.specs.Nodes.{KeepsOn};
+ghost use Rattle.facet_json_meaning.specs.OneValue.{PassesValue, IsAfterKey};
 ghost use Rattle.facet_json_meaning.specs.Reading.{IsRead, IsUnread};
 ghost use Rattle.facet_json_meaning.specs.Refusing.{TellsRefusal};
 ghost use Rattle.facet_json_record.specs.Fields.{keys, table, fields_of, begins_with, first_name, other_names, joined, LacksField};
@@ -75,7 +76,9 @@ pub trait Fields<'de>: Sized + Drop {
         ensures keeps { KeepsOn parser.old parser.new }
         ensures within { IfErr result (λ e. RefusalWithin parser.new.buffer (refusal_of e)) }
         ensures owned { borrows ≡ false → owned_slots slots.old → OnOk result (owned_slots slots.new) }
-        ensures tells { IfErr result (λ e. TellsRefusal parser.old parser.new (refusal_of e)) };
+        ensures tells { IfErr result (λ e. TellsRefusal parser.old parser.new (refusal_of e)) }
+        ensures one_value { IsAfterKey parser.old → OnOk result (PassesValue parser.old parser.new) }
+        ensures within { IfErr result (λ e. RefusalWithin parser.new.buffer (refusal_of e)) };
 
     /// The fields of an object that ends with this bracket.
     ///
@@ -310,6 +313,7 @@ pub fn read_fields<'de, 't, F: Fields<'de>>(
     ensures unread { IfErr result (λ e. IsUnread (fields_of (table F.start (F.step borrows) F.ends) (keys names.now)) parser.old (refusal_of e)) }
     ensures keeps { KeepsOn parser.old parser.new }
     ensures shorter { OnOk result (ahead parser.new < ahead parser.old) }
+    ensures one_value { OnOk result (PassesValue parser.old parser.new) }
     ensures within { IfErr result (λ e. RefusalWithin parser.new.buffer (refusal_of e)) }
     ensures free { OnOk result (parser.new.cursor.refusal ≡ None) }
     ensures tells { IfErr result (λ e. TellsRefusal parser.old parser.new (refusal_of e)) }
@@ -362,6 +366,7 @@ fn value_in<'t, 'de, T: Facet<'de>>(
     ensures owned { borrows ≡ false → IfOk result T.owned }
     ensures unread { IfErr result (λ e. IsUnread (cond borrows T.reading_borrowed T.reading) parser.old (refusal_of e)) }
     ensures keeps { KeepsOn parser.old parser.new }
+    ensures one_value { OnOk result (PassesValue parser.old parser.new) }
     ensures within { IfErr result (λ e. RefusalWithin parser.new.buffer (refusal_of e)) }
     ensures tells { IfErr result (λ e. TellsRefusal parser.old parser.new (refusal_of e)) }
 {

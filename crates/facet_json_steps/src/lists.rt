@@ -1,11 +1,13 @@
 //! The events of a list that is read one by one.
 
 ghost use Rattle.std.specs.Prelude.{◌≡◌, ◌<◌, true, false, Some, codes, IfOk, IfErr, OnOk};
+ghost use Rattle.facet_format.specs.Event.{array};
 ghost use Rattle.facet_format.specs.Views.{event_of, refusal_of};
 ghost use Rattle.facet_json_protocol.specs.Now.{ahead, GoesOn};
 ghost use Rattle.facet_json_protocol.specs.Within.{RefusalWithin};
 ghost use Rattle.facet_json_transcode.specs.Refusing.{mismatch_of, TellsRefusal};
 ghost use Rattle.facet_json_meaning.specs.Lists.{begins_list, ends_list, BeginsList, IsNoList, FindsEnd};
+ghost use Rattle.facet_json_meaning.specs.OneValue.{IsInside, LooksAhead};
 ghost use Rattle.facet_json_meaning.specs.Passing.{LacksAlone};
 
 use crate::next::next_of_value;
@@ -22,6 +24,7 @@ pub fn begin_list<'t>(parser: &mut JsonParser<'_>) -> Result<(), DeserializeErro
     ensures onward { GoesOn parser.old parser.new }
     ensures shorter { OnOk result (ahead parser.new < ahead parser.old) }
     ensures begins { OnOk result (BeginsList parser.old parser.new) }
+    ensures inside { OnOk result (IsInside array parser.old parser.new) }
     ensures refused { IfErr result (λ e. IsNoList parser.old (refusal_of e)) }
     ensures within { IfErr result (λ e. RefusalWithin parser.new.buffer (refusal_of e)) }
     ensures tells { IfErr result (λ e. TellsRefusal parser.old parser.new (refusal_of e)) }
@@ -54,6 +57,7 @@ fn array_in<'t>(event: ParseEvent<'_>) -> Result<(), DeserializeError<'t>>
 pub fn end_comes<'t>(parser: &mut JsonParser<'_>) -> Result<bool, DeserializeError<'t>>
     ensures onward { GoesOn parser.old parser.new }
     ensures finds { IfOk result (λ found. FindsEnd parser.old found parser.new) }
+    ensures looks { IfOk result (λ found. LooksAhead ends_list parser.old found parser.new) }
     ensures lacks { IfErr result (λ e. LacksAlone parser.old (refusal_of e)) }
     ensures within { IfErr result (λ e. RefusalWithin parser.new.buffer (refusal_of e)) }
     ensures tells { IfErr result (λ e. TellsRefusal parser.old parser.new (refusal_of e)) }

@@ -8,6 +8,7 @@ ghost use Rattle.facet_json_protocol.specs.Next.{PassesNext};
 ghost use Rattle.facet_json_protocol.specs.Within.{RefusalWithin};
 ghost use Rattle.facet_json_transcode.specs.Refusing.{TellsRefusal, mismatch_of};
 ghost use Rattle.facet_json_meaning.specs.Passing.{WalksPast, LacksAlone, PassesNull, LacksNull};
+ghost use Rattle.facet_json_meaning.specs.OneValue.{PassesValue, PassesByKind, LooksAhead};
 ghost use Rattle.facet_json_meaning.specs.Optional.{is_null_event};
 ghost use Rattle.facet_json_meaning.specs.Peeking.{FindsNull};
 
@@ -27,6 +28,7 @@ pub fn next_of_value<'t, 'de>(
     ensures shorter { OnOk result (ahead parser.new < ahead parser.old) }
     ensures passed { IfOk result (λ e. PassesNext parser.old (event_of e) parser.new) }
     ensures walks { IfOk result (λ e. WalksPast parser.old (event_of e) parser.new) }
+    ensures by_kind { IfOk result (λ e. PassesByKind (event_of e).kind parser.old parser.new) }
     ensures lacks { IfErr result (λ e. LacksAlone parser.old (refusal_of e)) }
     ensures event_within { IfOk result (λ e. stop (event_of e).span ≤ length parser.new.buffer) }
     ensures within { IfErr result (λ e. RefusalWithin parser.new.buffer (refusal_of e)) }
@@ -46,6 +48,7 @@ pub fn next_of_value<'t, 'de>(
 pub fn null_comes<'t>(parser: &mut JsonParser<'_>) -> Result<bool, DeserializeError<'t>>
     ensures onward { GoesOn parser.old parser.new }
     ensures finds { IfOk result (λ found. FindsNull parser.old found parser.new) }
+    ensures looks { IfOk result (λ found. LooksAhead is_null_event parser.old found parser.new) }
     ensures lacks { IfErr result (λ e. LacksAlone parser.old (refusal_of e)) }
     ensures within { IfErr result (λ e. RefusalWithin parser.new.buffer (refusal_of e)) }
     ensures tells { IfErr result (λ e. TellsRefusal parser.old parser.new (refusal_of e)) }
@@ -73,6 +76,7 @@ pub fn pass_null<'t>(parser: &mut JsonParser<'_>) -> Result<(), DeserializeError
     ensures shorter { OnOk result (ahead parser.new < ahead parser.old) }
     ensures passes { OnOk result (PassesNull parser.old parser.new) }
     ensures lacks { IfErr result (λ e. LacksNull parser.old (refusal_of e)) }
+    ensures one_value { OnOk result (PassesValue parser.old parser.new) }
     ensures within { IfErr result (λ e. RefusalWithin parser.new.buffer (refusal_of e)) }
     ensures free { OnOk result (parser.new.cursor.refusal ≡ None) }
     ensures tells { IfErr result (λ e. TellsRefusal parser.old parser.new (refusal_of e)) }

@@ -2,13 +2,14 @@
 
 ghost use Rattle.std.specs.Prelude.{◌≡◌, ◌<◌, true, false, None, Some, codes, string_bytes, IfOk, IfErr, OnOk};
 ghost use Rattle.std.specs.Option.{option_map};
-ghost use Rattle.facet_format.specs.Event.{bytes_of};
+ghost use Rattle.facet_format.specs.Event.{bytes_of, object};
 ghost use Rattle.facet_format.specs.HeldText.{text_of};
 ghost use Rattle.facet_format.specs.Views.{event_of, refusal_of};
 ghost use Rattle.facet_json_protocol.specs.Now.{ahead, GoesOn};
 ghost use Rattle.facet_json_protocol.specs.Within.{RefusalWithin};
 ghost use Rattle.facet_json_transcode.specs.Refusing.{mismatch_of, TellsRefusal};
 ghost use Rattle.facet_json_meaning.specs.Objects.{begins_object, key_or_end, BeginsObject, IsNoObject, PassesKey, LacksKey};
+ghost use Rattle.facet_json_meaning.specs.OneValue.{IsInside, PassesMemberOrEnd};
 
 use crate::next::next_of_value;
 use facet_format::{DeserializeError, ParseEvent, ParseEventKind};
@@ -24,6 +25,7 @@ use std::borrow::CowStr;
 /// As `next_of_value`; and `TypeMismatch`, where another value stands there.
 pub fn begin_object<'t>(parser: &mut JsonParser<'_>) -> Result<(), DeserializeError<'t>>
     ensures begun { OnOk result (BeginsObject parser.old parser.new) }
+    ensures inside { OnOk result (IsInside object parser.old parser.new) }
     ensures unread { IfErr result (λ e. IsNoObject parser.old (refusal_of e)) }
     ensures onward { GoesOn parser.old parser.new }
     ensures shorter { OnOk result (ahead parser.new < ahead parser.old) }
@@ -60,6 +62,7 @@ pub fn next_name<'t, 'de>(
     parser: &mut JsonParser<'de>,
 ) -> Result<Option<CowStr<'de>>, DeserializeError<'t>>
     ensures passed { IfOk result (λ name. PassesKey parser.old (option_map (λ s. bytes_of (text_of s)) name) parser.new) }
+    ensures member { IfOk result (λ name. PassesMemberOrEnd parser.old name parser.new) }
     ensures lacks { IfErr result (λ e. LacksKey parser.old (refusal_of e)) }
     ensures onward { GoesOn parser.old parser.new }
     ensures shorter { OnOk result (ahead parser.new < ahead parser.old) }
@@ -94,6 +97,7 @@ pub fn next_key<'t>(
     parser: &mut JsonParser<'_>,
 ) -> Result<Option<String>, DeserializeError<'t>>
     ensures passed { IfOk result (λ key. PassesKey parser.old (option_map string_bytes key) parser.new) }
+    ensures member { IfOk result (λ key. PassesMemberOrEnd parser.old key parser.new) }
     ensures lacks { IfErr result (λ e. LacksKey parser.old (refusal_of e)) }
     ensures onward { GoesOn parser.old parser.new }
     ensures shorter { OnOk result (ahead parser.new < ahead parser.old) }

@@ -5,6 +5,7 @@ ghost use Rattle.facet_format.specs.Views.{refusal_of};
 ghost use Rattle.facet_json_protocol.specs.Within.{RefusalWithin};
 ghost use Rattle.facet_json_transcode.specs.Refusing.{TellsRefusal};
 ghost use Rattle.facet_json_meaning.specs.Nodes.{KeepsOn};
+ghost use Rattle.facet_json_meaning.specs.OneValue.{PassesValue, IsAfterKey};
 ghost use Rattle.facet_json_meaning.specs.Passing.{anything};
 ghost use Rattle.facet_json_meaning.specs.Reading.{IsRead, IsUnread};
 
@@ -20,6 +21,7 @@ pub fn pass_value<'t>(parser: &mut JsonParser<'_>) -> Result<(), DeserializeErro
     ensures read { OnOk result (IsRead anything parser.old tt parser.new) }
     ensures unread { IfErr result (λ e. IsUnread anything parser.old (refusal_of e)) }
     ensures keeps { KeepsOn parser.old parser.new }
+    ensures one_value { IsAfterKey parser.old → OnOk result (PassesValue parser.old parser.new) }
     ensures within { IfErr result (λ e. RefusalWithin parser.new.buffer (refusal_of e)) }
     ensures free { OnOk result (parser.new.cursor.refusal ≡ None) }
     ensures tells { IfErr result (λ e. TellsRefusal parser.old parser.new (refusal_of e)) }

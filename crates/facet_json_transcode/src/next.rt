@@ -7,6 +7,7 @@ ghost use Rattle.facet_format.specs.Standing.{IsStep};
 ghost use Rattle.facet_format.specs.Views.{event_kind_of, event_of, refusal_of, scalar_value_of};
 ghost use Rattle.facet_json_document.specs.Future.{finished};
 ghost use Rattle.facet_json_protocol.specs.Now.{ahead, future_of, span_of as last_read, GoesOn, StandsAt};
+ghost use Rattle.facet_json_protocol.specs.Move.{Moves};
 ghost use Rattle.facet_json_protocol.specs.Next.{IsOver, PassesNext};
 ghost use Rattle.facet_json_protocol.specs.Within.{RefusalWithin};
 ghost use Rattle.facet_json_transcode.specs.Reading.{GivesNone};
@@ -30,6 +31,7 @@ pub fn next_of_value<'t, 'de>(
     ensures onward { GoesOn parser.old parser.new }
     ensures gave { IfOk result (λ e. PassesNext parser.old (event_of e) parser.new) }
     ensures steps { IfOk result (λ e. IsStep StandsAt parser.old next (event (Ok (Some (event_of e)))) parser.new) }
+    ensures moves { IfOk result (λ e. Moves parser.old next (event (Ok (Some (event_of e)))) parser.new) }
     ensures shorter { OnOk result (ahead parser.new < ahead parser.old) }
     ensures event_within { IfOk result (λ e. stop (event_of e).span ≤ length parser.new.buffer) }
     ensures refused { parser.old.cursor.refusal ≡ None → IfErr result (λ e. GivesNone parser.old (refusal_of e)) }

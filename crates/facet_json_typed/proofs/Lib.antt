@@ -1,3 +1,4 @@
 pub mod ComesBack
 pub mod RootComes
+pub mod RunBegins
 pub mod StrictRootComes

@@ -2,9 +2,12 @@
 use Rattle.std.specs.Prelude.{◌≡◌, ◌⊎◌, ℕ, List, Option, Some, None}
 use Rattle.facet_format.specs.Complaint.{Refusal}
 use Rattle.facet_json_token.specs.Gap.{Mode, plain}
+use Rattle.facet_json_token.specs.Token.{Token}
+use Rattle.facet_json_token.specs.Tokens.{Tokens, tokens}
 use Rattle.facet_json_document.specs.Document.{IsDocument}
 use Rattle.facet_json_document.specs.Language.{Language}
 use Rattle.facet_json_document.specs.Node.{Node}
+use Rattle.facet_json_document.specs.Run.{Run}
 use Rattle.facet_json_document.specs.Tree.{Tree}
 use Rattle.facet_json_document.specs.StrictDocument.{IsStrictDocument}
 use Rattle.facet_json_protocol.specs.Now.{Now, fresh_in}
@@ -14,6 +17,10 @@ use Rattle.facet_json_meaning.specs.ValueReading.{LacksMemory}
 -- The input has a document.
 abbrev pub BeginsWithDocument : List ℕ → Mode → Type 0
 BeginsWithDocument input mode = (root : Node) × (tree : Tree) × IsDocument input mode root tree
+
+-- The input's tokens, with these gaps between them, begin with a balanced run.
+abbrev pub BeginsWithRun : List ℕ → Mode → Type 0
+BeginsWithRun input mode = (last : Token) × (rest : Tokens) × Run (tokens input mode) last rest
 
 -- Where the input has a document, its reading is the value.
 abbrev pub IsReadFrom : {V : Type 0} → (List ℕ → Node → Option V) → List ℕ → Mode → V → Type 0

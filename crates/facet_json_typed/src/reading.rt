@@ -5,7 +5,7 @@ ghost use Rattle.facet_format.specs.Views.{refusal_of};
 ghost use Rattle.facet_json_token.specs.Gap.{plain, jsonc};
 ghost use Rattle.facet_json_document.specs.Language.{lenient};
 ghost use Rattle.facet_json_protocol.specs.Within.{RefusalWithin};
-ghost use Rattle.facet_json_typed.specs.Inputs.{IsReadFrom, IsUnreadFrom, BeginsWithDocument, IsToldOf};
+ghost use Rattle.facet_json_typed.specs.Inputs.{IsReadFrom, IsUnreadFrom, BeginsWithDocument, IsToldOf, BeginsWithRun};
 
 use facet_format::DeserializeError;
 use facet_json_facet::Facet;
@@ -32,6 +32,7 @@ pub fn from_slice<'t, 'de, T: Facet<'de>>(
     ensures owned { IfOk result T.owned }
     ensures unread { IfErr result (λ e. IsUnreadFrom T.reading input.now plain (refusal_of e)) }
     ensures document { T.whole ≡ true → OnOk result (BeginsWithDocument input.now plain) }
+    ensures one_value { OnOk result (BeginsWithRun input.now plain) }
     ensures within { IfErr result (λ e. RefusalWithin input.now (refusal_of e)) }
     ensures tells { IfErr result (λ e. IsToldOf input.now (lenient plain) (refusal_of e)) }
 {
@@ -56,6 +57,7 @@ pub fn from_slice_borrowed<'t, 'de, T: Facet<'de>>(
     ensures read { IfOk result (λ v. IsReadFrom T.reading_borrowed input.now plain (T.view v)) }
     ensures unread { IfErr result (λ e. IsUnreadFrom T.reading_borrowed input.now plain (refusal_of e)) }
     ensures document { T.whole ≡ true → OnOk result (BeginsWithDocument input.now plain) }
+    ensures one_value { OnOk result (BeginsWithRun input.now plain) }
     ensures within { IfErr result (λ e. RefusalWithin input.now (refusal_of e)) }
     ensures tells { IfErr result (λ e. IsToldOf input.now (lenient plain) (refusal_of e)) }
 {
@@ -80,6 +82,7 @@ pub fn from_slice_jsonc<'t, 'de, T: Facet<'de>>(
     ensures owned { IfOk result T.owned }
     ensures unread { IfErr result (λ e. IsUnreadFrom T.reading input.now jsonc (refusal_of e)) }
     ensures document { T.whole ≡ true → OnOk result (BeginsWithDocument input.now jsonc) }
+    ensures one_value { OnOk result (BeginsWithRun input.now jsonc) }
     ensures within { IfErr result (λ e. RefusalWithin input.now (refusal_of e)) }
     ensures tells { IfErr result (λ e. IsToldOf input.now (lenient jsonc) (refusal_of e)) }
 {
@@ -103,6 +106,7 @@ pub fn from_slice_borrowed_jsonc<'t, 'de, T: Facet<'de>>(
     ensures read { IfOk result (λ v. IsReadFrom T.reading_borrowed input.now jsonc (T.view v)) }
     ensures unread { IfErr result (λ e. IsUnreadFrom T.reading_borrowed input.now jsonc (refusal_of e)) }
     ensures document { T.whole ≡ true → OnOk result (BeginsWithDocument input.now jsonc) }
+    ensures one_value { OnOk result (BeginsWithRun input.now jsonc) }
     ensures within { IfErr result (λ e. RefusalWithin input.now (refusal_of e)) }
     ensures tells { IfErr result (λ e. IsToldOf input.now (lenient jsonc) (refusal_of e)) }
 {
@@ -127,6 +131,7 @@ pub fn from_str<'t, 'de, T: Facet<'de>>(
     ensures owned { IfOk result T.owned }
     ensures unread { IfErr result (λ e. IsUnreadFrom T.reading input.now plain (refusal_of e)) }
     ensures document { T.whole ≡ true → OnOk result (BeginsWithDocument input.now plain) }
+    ensures one_value { OnOk result (BeginsWithRun input.now plain) }
     ensures within { IfErr result (λ e. RefusalWithin input.now (refusal_of e)) }
     ensures tells { IfErr result (λ e. IsToldOf input.now (lenient plain) (refusal_of e)) }
 {
@@ -150,6 +155,7 @@ pub fn from_str_borrowed<'t, 'de, T: Facet<'de>>(
     ensures read { IfOk result (λ v. IsReadFrom T.reading_borrowed input.now plain (T.view v)) }
     ensures unread { IfErr result (λ e. IsUnreadFrom T.reading_borrowed input.now plain (refusal_of e)) }
     ensures document { T.whole ≡ true → OnOk result (BeginsWithDocument input.now plain) }
+    ensures one_value { OnOk result (BeginsWithRun input.now plain) }
     ensures within { IfErr result (λ e. RefusalWithin input.now (refusal_of e)) }
     ensures tells { IfErr result (λ e. IsToldOf input.now (lenient plain) (refusal_of e)) }
 {
@@ -174,6 +180,7 @@ pub fn from_str_jsonc<'t, 'de, T: Facet<'de>>(
     ensures owned { IfOk result T.owned }
     ensures unread { IfErr result (λ e. IsUnreadFrom T.reading input.now jsonc (refusal_of e)) }
     ensures document { T.whole ≡ true → OnOk result (BeginsWithDocument input.now jsonc) }
+    ensures one_value { OnOk result (BeginsWithRun input.now jsonc) }
     ensures within { IfErr result (λ e. RefusalWithin input.now (refusal_of e)) }
     ensures tells { IfErr result (λ e. IsToldOf input.now (lenient jsonc) (refusal_of e)) }
 {
@@ -198,6 +205,7 @@ pub fn from_str_borrowed_jsonc<'t, 'de, T: Facet<'de>>(
     ensures read { IfOk result (λ v. IsReadFrom T.reading_borrowed input.now jsonc (T.view v)) }
     ensures unread { IfErr result (λ e. IsUnreadFrom T.reading_borrowed input.now jsonc (refusal_of e)) }
     ensures document { T.whole ≡ true → OnOk result (BeginsWithDocument input.now jsonc) }
+    ensures one_value { OnOk result (BeginsWithRun input.now jsonc) }
     ensures within { IfErr result (λ e. RefusalWithin input.now (refusal_of e)) }
     ensures tells { IfErr result (λ e. IsToldOf input.now (lenient jsonc) (refusal_of e)) }
 {

@@ -1,12 +1,13 @@
 -- What a reader of a tree says of what it read, how it was refused, and how it leaves its parser.
 use Rattle.std.specs.Prelude.{◌≡◌, ◌≤◌, ℕ, true, false, List, Option, None, Some}
 use Rattle.facet_format.specs.Complaint.{Refusal}
-use Rattle.facet_format.specs.Event.{Event, EventKind, ContainerKind, Scalar, scalar, Text, bytes_of, field_key, struct_start, sequence_start, Passed}
+use Rattle.facet_format.specs.Event.{Event, EventKind, ContainerKind, array, object, Scalar, scalar, Text, bytes_of, field_key, struct_start, sequence_start, Passed}
 use Rattle.facet_json_document.specs.Tree.{Tree, Trees, no_trees, Pairs, no_pairs, list, pairs}
 use Rattle.facet_json_document.specs.Future.{Future, gives}
-use Rattle.facet_json_protocol.specs.Now.{Now, ahead, future_of}
+use Rattle.facet_json_protocol.specs.Now.{Now, ahead, future_of, SameInput}
 use Rattle.facet_json_transcode.specs.Told.{tree_of_scalar, opens, begins, TellsItems, TellsMembers, BreaksItems, BreaksMembers}
 use Rattle.facet_json_transcode.specs.Reading.{LacksMemory, IsRead, IsUnread, IsValueRead}
+use Rattle.facet_json_meaning.specs.OneValue.{PassesEndOf, PassesKeyInside, PassesByKind}
 use Rattle.facet_json_meaning.specs.Passing.{MovesOn}
 use Rattle.facet_json_read.specs.Depth.{too_deep_at}
 use Rattle.facet_json_read.specs.Inner.Beyond.{Admits, SameBeyond, IsUnreadWithin, IsValueUnreadWithin}
@@ -63,6 +64,7 @@ pub record BeganValue (limit : Option ℕ) (old : Now) (t : Tree) (new : Now) : 
   pub comes : future_of old ≡ gives passed (future_of new)
   pub begun : HasBegun limit passed.event.kind t
   pub free : new.cursor.refusal ≡ None
+  pub by_kind : PassesByKind passed.event.kind old new
 
 -- The parser gave a key, and an event with which its value begins so.
 pub record BeganMember (limit : Option ℕ) (old : Now) (key : List ℕ) (t : Tree) (new : Now) : Type 0 where
@@ -72,7 +74,9 @@ pub record BeganMember (limit : Option ℕ) (old : Now) (key : List ℕ) (t : Tr
   pub name : Text
   pub is_key : passed.event.kind ≡ field_key name
   pub bytes : key ≡ bytes_of name
+  pub inside : PassesKeyInside old between
   pub value : BeganValue limit between t new
+  pub input : SameInput between new
 
 -- The parser gave an event of this kind, the end of a container.
 pub record PassedEnd (kind : EventKind) (old new : Now) : Type 0 where
@@ -80,6 +84,7 @@ pub record PassedEnd (kind : EventKind) (old new : Now) : Type 0 where
   pub comes : future_of old ≡ gives passed (future_of new)
   pub ends : passed.event.kind ≡ kind
   pub free : new.cursor.refusal ≡ None
+  pub by_kind : PassesByKind kind old new
 
 -- an event's kind tells that a key of these bytes comes
 pub record IsKey (kind : EventKind) (key : List ℕ) : Type 0 where
@@ -90,6 +95,12 @@ pub record IsKey (kind : EventKind) (key : List ℕ) : Type 0 where
 -- Whatever the event with which the tree began, this value is read from it on.
 abbrev pub IsFilled : Option ℕ → Tree → Future → Tree → Future → Type 0
 IsFilled limit begun inner value behind = (p : Passed) → HasBegun limit p.event.kind begun → IsValueRead (gives p inner) value behind
+
+-- Of the value that began with this tree the rest is passed: the end of the container, or nothing.
+abbrev pub PassesRest : Tree → Now → Now → Type 0
+PassesRest (list items) old new = PassesEndOf array old new
+PassesRest (pairs members) old new = PassesEndOf object old new
+PassesRest _ old new = new.cursor.spot ≡ old.cursor.spot
 
 -- Whatever the event with which the tree began, from it on the same is beyond as from here.
 abbrev pub IsLevel : Option ℕ → Tree → Future → Future → Type 0

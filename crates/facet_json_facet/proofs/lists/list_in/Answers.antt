@@ -2,8 +2,12 @@ use Rattle.std.proofs.Common.{◌≡◌, false, true, cond, List, [], ◌∷◌,
 use Rattle.std.proofs.lemmas.List.{map-append}
 use Rattle.std.proofs.lemmas.List.Elements.{All-nil, All-push, All-same}
 use Rattle.std.proofs.lemmas.Result.{err_from_is_err_and}
+use Rattle.facet_format.specs.Event.{array}
 use Rattle.facet_format.specs.Views.{refusal_of}
+use Rattle.facet_json_meaning.specs.Lists.{ends_list}
 use Rattle.facet_json_meaning.proofs.Keeping.{keeps-then}
+use Rattle.facet_json_meaning.proofs.OneValue.KindsPassed.{list-ended}
+use Rattle.facet_json_meaning.proofs.OneValue.WithinValues.{inside-value, inside-stays, next-is}
 use Rattle.facet_json_meaning.proofs.Sequences.ListSteps.{ReadSoFar, list-begins, list-none, list-goes_on, list-stops, list-more, list-unread, list-ends, list-unseen, list-open}
 use Rattle.facet_json_meaning.proofs.Walks.NextOnWalk.{goes-keeps}
 use Rattle.facet_json_meaning.specs.Refusing.{without_memory}
@@ -27,6 +31,7 @@ loop-items-init g c =
       owned = λ lent. All-same g.T.Facet.owned _ [] c.new-items.ensures.items (All-nil g.T.Facet.owned);
       keeps = goes-keeps _ _ c.begin_list.ensures.onward;
       shorter = c.in_ok-begin_list.ensures.shorter;
+      inside = c.in_ok-begin_list.ensures.inside;
     }
 
 pub returns-in_err-end_comes-clause-unread : goal.returns-in_err-end_comes-clause-unread
@@ -54,6 +59,7 @@ loop-items-preserved g c =
     let more = list-more reading _ _ c.item_in.new.parser _ (view v) before c.in_ok-item_in.ensures.read in
     let seen : map view c.push.new.self.items ≡ map view c.loop-items.items.items ++ view v ∷ [] =
     ap (map view) c.in_ok-push.ensures.items ∙ map-append view c.loop-items.items.items (v ∷ []) in
+    let here = inside-stays array _ _ _ i.inside c.end_comes.ensures.onward.input c.in_ok-end_comes.ensures.looks.there in
     record {
       so_far = subst (λ (vs : List g.T.Facet.View). ReadSoFar reading c.args.parser.now vs c.item_in.new.parser) (sym seen) more;
       owned = λ lent.
@@ -61,6 +67,7 @@ loop-items-preserved g c =
           (All-push g.T.Facet.owned c.loop-items.items.items v (i.owned lent) (c.in_ok-item_in.ensures.owned lent));
       keeps = keeps-then _ _ _ (keeps-then _ _ _ i.keeps (goes-keeps _ _ c.end_comes.ensures.onward)) c.item_in.ensures.keeps;
       shorter = omega (arith, i.shorter, c.end_comes.ensures.onward.onward, c.in_ok-item_in.ensures.shorter);
+      inside = inside-value array _ _ _ here c.item_in.ensures.keeps.input c.in_ok-item_in.ensures.one_value;
     }
 
 pub returns-in_err-_end-clause-unread : goal.returns-in_err-_end-clause-unread
@@ -83,6 +90,14 @@ returns-clause-owned g c lent = c.loop-items.invariant.owned lent
 
 pub returns-in_err-begin_list-clause-owned : goal.returns-in_err-begin_list-clause-owned
 returns-in_err-begin_list-clause-owned c = search rules
+
+pub returns-clause-one_value : goal.returns-clause-one_value
+returns-clause-one_value g c =
+    let ends : c.in_ok-end_comes.field-0 ≡ true = search rules in
+    let looks = c.in_ok-end_comes.ensures.looks in
+    let here = inside-stays array _ _ _ c.loop-items.invariant.inside c.end_comes.ensures.onward.input looks.there in
+    let last = c.in_ok-_end.ensures in
+    list-ended _ _ _ (next-is ends_list _ _ _ (looks.comes ends) last.passed) last.by_kind _ here
 
 pub returns-in_err-begin_list-clause-read : goal.returns-in_err-begin_list-clause-read
 returns-in_err-begin_list-clause-read c = search rules

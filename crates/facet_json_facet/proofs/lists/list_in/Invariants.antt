@@ -1,7 +1,9 @@
 use Rattle.std.proofs.Common.{◌≡◌, ◌<◌, false, cond, map}
 use Rattle.std.specs.List.{All}
+use Rattle.facet_format.specs.Event.{array}
 use Rattle.facet_json_protocol.specs.Now.{ahead}
 use Rattle.facet_json_meaning.specs.Nodes.{KeepsOn}
+use Rattle.facet_json_meaning.specs.OneValue.{IsInside}
 use Rattle.facet_json_meaning.proofs.Sequences.ListSteps.{ReadSoFar}
 use Rattle.facet_json_facet.proofs.lists.list_in.Given as goal
 
@@ -11,6 +13,7 @@ invariant-loop-items g l = record {
   owned : l.fn.borrows ≡ false → All g.T.Facet.owned l.items.items;
   keeps : KeepsOn l.fn.parser l.parser;
   shorter : ahead l.parser < ahead l.fn.parser;
+  inside : IsInside array l.fn.parser l.parser;
 }
 
 abbrev pub decreases-loop-items : goal.decreases-loop-items

@@ -3,6 +3,7 @@ use Rattle.std.proofs.lemmas.Result.{err_from_is_err_and}
 use Rattle.facet_json_meaning.proofs.Walks.RawOnWalk.{answer-captures, answer-uncaptured}
 use Rattle.facet_format.specs.Cursor.{capture}
 use Rattle.facet_json_meaning.proofs.Refusals.{call-tells, capture-frees}
+use Rattle.facet_json_meaning.proofs.OneValue.PartsPassed.{captured-value}
 use Rattle.facet_json_facet.proofs.raw.captured.Goals as goal
 
 pub returns-in_err-text-clause-unread : goal.returns-in_err-text-clause-unread
@@ -34,3 +35,6 @@ returns-in_err-text-clause-tells c =
 
 pub returns-clause-free : goal.returns-clause-free
 returns-clause-free c = capture-frees _ _ _ c.in_ok-text.ensures.moves
+
+pub returns-clause-one_value : goal.returns-clause-one_value
+returns-clause-one_value c = captured-value _ _ _ c.in_ok-text.ensures.moves

@@ -7,6 +7,7 @@ use Rattle.facet_json_meaning.specs.Reading.{IsRead}
 use Rattle.facet_json_meaning.specs.Readings.{whole_of, leaf}
 use Rattle.facet_json_meaning.proofs.Leaves.LeafReadings.{leaf-read, leaf-unread, leaf-document, leaf-strict, none-unread}
 use Rattle.facet_json_meaning.proofs.Refusals.{event-passed, event-tells, mismatch-about}
+use Rattle.facet_json_meaning.proofs.OneValue.KindsPassed.{taken-passed}
 use Rattle.facet_json_facet.proofs.whole.next_whole.Goals as goal
 
 pub returns-in_err-event-clause-unread : goal.returns-in_err-event-clause-unread
@@ -37,3 +38,6 @@ returns-in-Ok-clause-free c = c.in_ok-event.ensures.passed.free
 
 pub returns-in-Err-clause-tells : goal.returns-in-Err-clause-tells
 returns-in-Err-clause-tells c = event-tells c.in_ok-event.ensures.passed (mismatch-about _ _ c.in-Err.ensures.told)
+
+pub returns-in-Ok-clause-one_value : goal.returns-in-Ok-clause-one_value
+returns-in-Ok-clause-one_value c = taken-passed _ _ whole_of _ _ c.in-Ok.ensures.taken c.in_ok-event.ensures.by_kind

@@ -14,6 +14,7 @@ use Rattle.facet_json_read.proofs.BeyondEvents.{item-leveled, member-leveled, it
 use Rattle.facet_json_read.proofs.ValuesBegin.{begun-no_end, list-filled, object-filled}
 use Rattle.facet_json_transcode.specs.Refusing.{without_memory}
 use Rattle.facet_json_meaning.proofs.Refusals.{keeps-there, tells-later}
+use Rattle.facet_json_read.proofs.ValuesPassed.{item-inside, member-inside}
 use Rattle.facet_json_read.proofs.reader.+read.Goals as goal
 
 -- ---- values
@@ -55,7 +56,20 @@ finish-returns-in_ok-push_members-in-Pairs-clause-level t c =
 pub finish-returns-in_default-clause-keeps : goal.finish-returns-in_default-clause-keeps
 finish-returns-in_default-clause-keeps t c = keeps-none
 
+pub finish-returns-in_ok-push_items-in-List-clause-passes : goal.finish-returns-in_ok-push_items-in-List-clause-passes
+finish-returns-in_ok-push_items-in-List-clause-passes t c =
+    rw (ap tree_view c.in-List.is ∙ tree_view-List _) c.in_ok-push_items-in-List.ensures.passes
+
+pub finish-returns-in_ok-push_members-in-Pairs-clause-passes : goal.finish-returns-in_ok-push_members-in-Pairs-clause-passes
+finish-returns-in_ok-push_members-in-Pairs-clause-passes t c =
+    rw (ap tree_view c.in-Pairs.is ∙ tree_view-Pairs _) c.in_ok-push_members-in-Pairs.ensures.passes
+
 -- ---- items
+
+pub push_items-returns-clause-passes : goal.push_items-returns-clause-passes
+push_items-returns-clause-passes t c =
+    let last = MatchOption-at_none _ _ c.in_default.is c.in_ok-item.ensures.begun in
+    λ start inside. last.by_kind start (c.loop-item.invariant.inside start inside)
 
 pub push_items-returns-clause-read : goal.push_items-returns-clause-read
 push_items-returns-clause-read t c =
@@ -87,6 +101,7 @@ push_items-loop-item-preserved t c =
       keeps = keeps-behind i.keeps c.begin_item.ensures.keeps c.finish.ensures.keeps;
       leads = leads-behind i.leads c.in_ok-item.ensures.moves c.in_ok-finish.ensures.leads;
       went = went-behind _ _ _ _ i.went c.in_ok-item.ensures.shorter c.in_ok-finish.ensures.went;
+      inside = λ start inside. item-inside c.args.depth start c.loop-item.parser c.begin_item.new.parser c.finish.new.parser _ (i.inside start inside) first c.begin_item.ensures.keeps.input c.in_ok-finish.ensures.passes c.finish.ensures.keeps.input;
       level = item-leveled i.level first.comes (c.in_ok-finish.ensures.level first.passed first.begun);
       passed = λ e.
           rw (c.in_ok-append.ensures, map-append)
@@ -103,6 +118,7 @@ push_items-loop-item-init t c = record {
   keeps = keeps-none;
   leads = search rules;
   went = search rules;
+  inside = λ start inside. inside;
   level = search rules;
   passed = search rules;
 }
@@ -122,6 +138,11 @@ pub push_items-returns-clause-keeps : goal.push_items-returns-clause-keeps
 push_items-returns-clause-keeps t c = keeps-then _ _ _ c.loop-item.invariant.keeps c.begin_item.ensures.keeps
 
 -- ---- members
+
+pub push_members-returns-clause-passes : goal.push_members-returns-clause-passes
+push_members-returns-clause-passes t c =
+    let last = MatchOption-at_none _ _ c.in_default.is c.in_ok-key.ensures.begun in
+    λ start inside. last.by_kind start (c.loop-key.invariant.inside start inside)
 
 pub push_members-returns-clause-read : goal.push_members-returns-clause-read
 push_members-returns-clause-read t c =
@@ -155,6 +176,7 @@ push_members-loop-key-preserved t c =
       keeps = keeps-behind i.keeps c.begin_member.ensures.keeps c.finish.ensures.keeps;
       leads = leads-behind i.leads c.in_ok-key.ensures.moves c.in_ok-finish.ensures.leads;
       went = went-behind _ _ _ _ i.went c.in_ok-key.ensures.shorter c.in_ok-finish.ensures.went;
+      inside = λ start inside. member-inside c.args.depth start c.loop-key.parser c.begin_member.new.parser c.finish.new.parser _ _ (i.inside start inside) first c.in_ok-finish.ensures.passes c.finish.ensures.keeps.input;
       level = member-leveled i.level first.comes first.is_key value.comes (c.in_ok-finish.ensures.level value.passed value.begun);
       passed = λ e.
           rw (c.in_ok-append.ensures, map-append, first.bytes)
@@ -172,6 +194,7 @@ push_members-loop-key-init t c = record {
   keeps = keeps-none;
   leads = search rules;
   went = search rules;
+  inside = λ start inside. inside;
   level = search rules;
   passed = search rules;
 }

@@ -1,6 +1,8 @@
 use Rattle.std.proofs.Common.{◌≡◌, ◌+◌, ◌*◌, [], map, string_bytes}
-use Rattle.facet_json_protocol.specs.Now.{ahead, future_of}
+use Rattle.facet_format.specs.Event.{array, object}
+use Rattle.facet_json_protocol.specs.Now.{Now, ahead, future_of}
 use Rattle.facet_json_meaning.specs.Nodes.{KeepsOn}
+use Rattle.facet_json_meaning.specs.OneValue.{IsInside}
 use Rattle.facet_json_read.specs.Inner.Beyond.{SameBeyond}
 use Rattle.facet_json_read.specs.Inner.Reading.{WentOn, LeadsOn}
 use Rattle.facet_json_tree.specs.Views.{tree_view}
@@ -23,6 +25,7 @@ invariant-push_items-loop-item l = record {
   keeps : KeepsOn l.fn.parser l.parser;
   leads : LeadsOn l.fn.parser l.parser;
   went : WentOn l.fn.parser l.parser;
+  inside : (start : Now) → IsInside array start l.fn.parser → IsInside array start l.parser;
   level : SameBeyond (future_of l.fn.parser) l.depth (future_of l.parser) l.depth;
   passed : l.fn.items.items ≡ [] → ItemsPassed (future_of l.fn.parser) (future_of l.parser) (map tree_view l.items.items);
 }
@@ -35,6 +38,7 @@ invariant-push_members-loop-key l = record {
   keeps : KeepsOn l.fn.parser l.parser;
   leads : LeadsOn l.fn.parser l.parser;
   went : WentOn l.fn.parser l.parser;
+  inside : (start : Now) → IsInside object start l.fn.parser → IsInside object start l.parser;
   level : SameBeyond (future_of l.fn.parser) l.depth (future_of l.parser) l.depth;
   passed : l.fn.members.items ≡ [] → MembersPassed (future_of l.fn.parser) (future_of l.parser) (map (λ p. (string_bytes p.0, tree_view p.1)) l.members.items);
 }

@@ -1,4 +1,7 @@
+use Rattle.std.proofs.Common.{ap}
 use Rattle.std.proofs.lemmas.Result.{err_from_is_err_and}
+use Rattle.facet_format.specs.Event.{sequence_end}
+use Rattle.facet_format.specs.Views.{event_kind_of}
 use Rattle.facet_json_meaning.proofs.Walks.NextOnWalk.{goes-keeps}
 use Rattle.facet_json_read.proofs.BeyondEvents.{none-leveled}
 use Rattle.facet_json_read.proofs.ItemsRead.{not_list_end, items-none}
@@ -6,6 +9,7 @@ use Rattle.facet_json_read.proofs.MovingOn.{moves-next}
 use Rattle.facet_json_read.proofs.ReadingWithin.{none-items-within, item-within, refused-within}
 use Rattle.facet_json_read.proofs.ValuesBegin.{began, span-within}
 use Rattle.facet_json_meaning.proofs.Refusals.{lacks-tells}
+use Rattle.facet_json_read.proofs.ValuesPassed.{end-passed}
 use Rattle.facet_json_read.proofs.reader.begin_item.Goals as goal
 
 pub returns-in_err-first-clause-refused : goal.returns-in_err-first-clause-refused
@@ -29,12 +33,16 @@ returns-in_err-begun-clause-within c =
 pub returns-in-SequenceEnd-clause-moves : goal.returns-in-SequenceEnd-clause-moves
 returns-in-SequenceEnd-clause-moves c = moves-next c.in_ok-first.ensures.steps
 
+pub returns-in-SequenceEnd-clause-begun : goal.returns-in-SequenceEnd-clause-begun
+returns-in-SequenceEnd-clause-begun c =
+    end-passed sequence_end _ _ _ c.in_ok-first.ensures.gave (ap event_kind_of c.in-SequenceEnd.is) c.in_ok-first.ensures.moves
+
 pub returns : goal.returns
 returns c = record {
   keeps = goes-keeps _ _ c.next_of_value.ensures.onward;
   moves = moves-next c.in_ok-first.ensures.steps;
   shorter = c.in_ok-first.ensures.shorter;
-  begun = began _ _ _ _ _ c.in_ok-first.ensures.gave c.in_ok-begun.ensures.begun;
+  begun = began _ _ _ _ _ c.in_ok-first.ensures.gave c.in_ok-begun.ensures.begun c.in_ok-first.ensures.moves;
   refused = tt;
   within = tt;
   tells = tt;

@@ -1,6 +1,7 @@
 use Rattle.std.proofs.Common.{inl, inr}
-use Rattle.std.proofs.lemmas.Option.{MatchOption-at_some}
+use Rattle.std.proofs.lemmas.Option.{MatchOption-at_some, MatchOption-at_none}
 use Rattle.std.proofs.lemmas.Result.{err_from_is_err_and}
+use Rattle.facet_format.specs.Event.{struct_end}
 use Rattle.facet_json_read.proofs.BeyondEvents.{none-leveled}
 use Rattle.facet_json_read.proofs.MembersRead.{members-none}
 use Rattle.facet_json_read.proofs.ReadingWithin.{within-same, lacks-within, none-members-within, no_key-within, member-within}
@@ -9,6 +10,7 @@ use Rattle.facet_json_meaning.proofs.OfTrees.TreeOnWalk.{moves_trans}
 use Rattle.facet_json_meaning.proofs.Walks.NextOnWalk.{goes-keeps}
 use Rattle.facet_json_read.proofs.MovingOn.{moves-next}
 use Rattle.facet_json_meaning.proofs.Refusals.{goes-there, lacks-tells, tells-later}
+use Rattle.facet_json_read.proofs.ValuesPassed.{end-passed, member-began}
 use Rattle.facet_json_read.proofs.reader.begin_member.Goals as goal
 
 pub returns-in_err-next_of_value-clause-refused : goal.returns-in_err-next_of_value-clause-refused
@@ -57,3 +59,14 @@ pub returns-in_err-begin_value-in-Some-clause-tells : goal.returns-in_err-begin_
 returns-in_err-begin_value-in-Some-clause-tells c =
     let p = err_from_is_err_and c.from_residual-in_err-begin_value-in-Some.result c.from_residual-in_err-begin_value-in-Some.ensures.1 in
     rw (p.1, p.2) (tells-later (goes-there c.next_of_value.ensures.onward) c.in_err-begin_value-in-Some.ensures.tells)
+
+pub returns-in_ok-begin_value-in-Some-clause-begun : goal.returns-in_ok-begin_value-in-Some-clause-begun
+returns-in_ok-begin_value-in-Some-clause-begun c =
+    let event = c.in_ok-next_of_value.ensures in
+    let key = MatchOption-at_some _ _ _ c.in-Some.is c.in_ok-key.ensures.key in
+    member-began c.args.depth _ _ _ _ _ _ event.gave key event.moves c.in_ok-begin_value-in-Some.ensures.begun c.begin_value.ensures.keeps.input
+
+pub returns-in-None-clause-begun : goal.returns-in-None-clause-begun
+returns-in-None-clause-begun c =
+    let event = c.in_ok-next_of_value.ensures in
+    end-passed struct_end _ _ _ event.gave (MatchOption-at_none _ _ c.in-None.is c.in_ok-key.ensures.key) event.moves

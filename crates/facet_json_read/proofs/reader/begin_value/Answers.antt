@@ -16,7 +16,7 @@ returns-clause-moves c =
 
 pub returns-clause-begun : goal.returns-clause-begun
 returns-clause-begun c =
-    IfOk-weaker c.begun.result _ _ (λ t h. began _ _ _ _ _ c.in_ok-next_of_value.ensures.gave h) c.begun.ensures.begun
+    IfOk-weaker c.begun.result _ _ (λ t h. began _ _ _ _ _ c.in_ok-next_of_value.ensures.gave h c.in_ok-next_of_value.ensures.moves) c.begun.ensures.begun
 
 pub returns-clause-refused : goal.returns-clause-refused
 returns-clause-refused c free =

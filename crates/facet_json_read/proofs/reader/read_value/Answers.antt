@@ -5,6 +5,7 @@ use Rattle.facet_json_read.proofs.ReadingValues.{read-at}
 use Rattle.facet_json_read.proofs.ReadingWithin.{within-at, within-same}
 use Rattle.facet_json_read.proofs.BeyondEvents.{value-leveled}
 use Rattle.facet_json_meaning.proofs.Refusals.{keeps-there, tells-later}
+use Rattle.facet_json_read.proofs.ValuesPassed.{value-passed}
 use Rattle.facet_json_read.proofs.reader.read_value.Goals as goal
 
 pub returns-clause-keeps : goal.returns-clause-keeps
@@ -18,6 +19,10 @@ pub returns-clause-told : goal.returns-clause-told
 returns-clause-told c =
     let first = c.in_ok-first.ensures.begun in
     IfOk-weaker c.finish.result _ _ (λ t h. read-at first.comes (h first.passed first.begun)) c.finish.ensures.read
+
+pub returns-clause-one_value : goal.returns-clause-one_value
+returns-clause-one_value c =
+    IfOk-weaker c.finish.result _ _ (λ t rest. value-passed c.args.depth _ _ _ _ c.in_ok-first.ensures.begun rest) c.finish.ensures.passes
 
 pub returns-clause-level : goal.returns-clause-level
 returns-clause-level c =

@@ -1,9 +1,11 @@
 use Rattle.std.proofs.Common.{◌∙◌, rules}
+use Rattle.std.proofs.lemmas.Option.{MatchOption-at_some, MatchOption-at_none}
 use Rattle.std.proofs.lemmas.Result.{IfOk-weaker, IfErr-weaker, err_from_is_err_and}
 use Rattle.facet_format.specs.Event.{bytes_of}
 use Rattle.facet_format.specs.HeldText.{text_of}
 use Rattle.facet_format.specs.Views.{refusal_of}
 use Rattle.facet_format.proofs.HeldTexts.{held-bytes}
+use Rattle.facet_json_meaning.proofs.OneValue.WithinValues.{inside-member}
 use Rattle.facet_json_record.specs.Fields.{keys, table}
 use Rattle.facet_json_record.proofs.FieldSteps.{missing-about, way-begin, way-goes_on, fields-not_begun, fields-no_key, fields-no_value, fields-end, fields-missing}
 use Rattle.facet_json_meaning.proofs.Refusals.{comes-then, end-tells, goes-there, keeps-there, tells-later}
@@ -20,7 +22,7 @@ loop-slots-init g c =
     let begun = c.in_ok-begin_object.ensures in
     let t = table g.F.Fields.start (g.F.Fields.step c.args.borrows) g.F.Fields.ends in
     record {
-      way = rw c.none-slots.ensures.none (way-begin t (keys c.args.names.now) _ _ begun.begun begun.onward begun.shorter);
+      way = rw c.none-slots.ensures.none (way-begin t (keys c.args.names.now) _ _ begun.begun begun.onward begun.shorter begun.inside);
       owned = λ kept. c.none-slots.ensures.owned;
     }
 
@@ -43,8 +45,11 @@ loop-slots-preserved g c =
     let t = table g.F.Fields.start (g.F.Fields.step c.args.borrows) g.F.Fields.ends in
     let named = rw c.in-Some.is at c.in_ok-key.ensures.passed in
     let read = rw (c.as_str.ensures.value ∙ held-bytes c.in-Some.key) at c.in_ok-put.ensures.read in
+    let member = c.in_ok-key.ensures.member in
+    let at_value = MatchOption-at_some _ _ c.in-Some.key c.in-Some.is member in
+    let inside = inside-member c.args.parser.now c.loop-slots.parser c.next_name.new.parser c.put.new.parser _ c.in-Some.key c.loop-slots.invariant.way.inside member c.in-Some.is c.put.ensures.keeps.input (c.in_ok-put.ensures.one_value at_value.1) in
     record {
-      way = way-goes_on t (keys c.args.names.now) c.args.parser.now c.loop-slots.parser c.next_name.new.parser c.put.new.parser _ _ (bytes_of (text_of c.in-Some.key)) c.loop-slots.invariant.way named c.in_ok-key.ensures.onward read c.in_ok-put.ensures.keeps;
+      way = way-goes_on t (keys c.args.names.now) c.args.parser.now c.loop-slots.parser c.next_name.new.parser c.put.new.parser _ _ (bytes_of (text_of c.in-Some.key)) c.loop-slots.invariant.way named c.in_ok-key.ensures.onward read c.put.ensures.keeps inside;
       owned = λ kept. c.in_ok-put.ensures.owned kept (c.loop-slots.invariant.owned kept);
     }
 
@@ -53,8 +58,11 @@ loop-slots-preserved-in_ok-put g c =
     let t = table g.F.Fields.start (g.F.Fields.step c.args.borrows) g.F.Fields.ends in
     let named = rw c.in-Some.is at c.in_ok-key.ensures.passed in
     let read = rw (c.as_str.ensures.value ∙ held-bytes c.in-Some.key) at c.in_ok-put.ensures.read in
+    let member = c.in_ok-key.ensures.member in
+    let at_value = MatchOption-at_some _ _ c.in-Some.key c.in-Some.is member in
+    let inside = inside-member c.args.parser.now c.loop-slots.parser c.next_name.new.parser c.put.new.parser _ c.in-Some.key c.loop-slots.invariant.way.inside member c.in-Some.is c.put.ensures.keeps.input (c.in_ok-put.ensures.one_value at_value.1) in
     record {
-      way = way-goes_on t (keys c.args.names.now) c.args.parser.now c.loop-slots.parser c.next_name.new.parser c.put.new.parser _ _ (bytes_of (text_of c.in-Some.key)) c.loop-slots.invariant.way named c.in_ok-key.ensures.onward read c.in_ok-put.ensures.keeps;
+      way = way-goes_on t (keys c.args.names.now) c.args.parser.now c.loop-slots.parser c.next_name.new.parser c.put.new.parser _ _ (bytes_of (text_of c.in-Some.key)) c.loop-slots.invariant.way named c.in_ok-key.ensures.onward read c.put.ensures.keeps inside;
       owned = λ kept. c.in_ok-put.ensures.owned kept (c.loop-slots.invariant.owned kept);
     }
 
@@ -76,6 +84,11 @@ returns-clause-owned g c kept = c.finish.ensures.owned (c.loop-slots.invariant.o
 pub returns-in_err-begin_object-clause-owned : goal.returns-in_err-begin_object-clause-owned
 returns-in_err-begin_object-clause-owned g c kept = tt
 
+pub returns-clause-one_value : goal.returns-clause-one_value
+returns-clause-one_value g c =
+    let passed = MatchOption-at_none _ _ c.in_default.is c.in_ok-key.ensures.member _ c.loop-slots.invariant.way.inside in
+    IfOk-weaker c.finish.result _ _ (λ f full. passed) c.finish.ensures.full
+
 pub returns-in_err-begin_object-clause-read : goal.returns-in_err-begin_object-clause-read
 returns-in_err-begin_object-clause-read c = search rules
 
@@ -91,17 +104,17 @@ returns-in_err-begin_object-clause-within c = search rules
 pub returns-in_err-key-clause-tells : goal.returns-in_err-key-clause-tells
 returns-in_err-key-clause-tells g c =
     let p = err_from_is_err_and c.from_residual-in_err-key.result c.from_residual-in_err-key.ensures.1 in
-    rw (p.1, p.2) (tells-later (keeps-there c.loop-slots.invariant.keeps) c.in_err-key.ensures.tells)
+    rw (p.1, p.2) (tells-later (keeps-there c.loop-slots.invariant.way.keeps) c.in_err-key.ensures.tells)
 
 pub returns-in_err-put-clause-tells : goal.returns-in_err-put-clause-tells
 returns-in_err-put-clause-tells g c =
     let p = err_from_is_err_and c.from_residual-in_err-put.result c.from_residual-in_err-put.ensures.1 in
-    let came = comes-then (keeps-there c.loop-slots.invariant.keeps) (goes-there c.next_name.ensures.onward) in
+    let came = comes-then (keeps-there c.loop-slots.invariant.way.keeps) (goes-there c.next_name.ensures.onward) in
     rw (p.1, p.2) (tells-later came c.in_err-put.ensures.tells)
 
 pub returns-clause-tells : goal.returns-clause-tells
 returns-clause-tells g c =
-    let way = c.loop-slots.invariant in
+    let way = c.loop-slots.invariant.way in
     let bracket = c.in_ok-key.ensures in
     IfErr-weaker c.finish.result _ _
     (λ e lacks. end-tells (keeps-there way.keeps) way.falls (goes-there bracket.onward) bracket.free (rw (← c.last_span.ensures.told) (missing-about lacks))) c.finish.ensures.told

@@ -4,6 +4,7 @@ use Rattle.facet_json_meaning.specs.Lists.{nodes_of}
 use Rattle.facet_json_meaning.proofs.Leaves.LeafReadings.{none-unread}
 use Rattle.facet_json_meaning.proofs.Sequences.ListSteps.{no_list-begins}
 use Rattle.facet_json_meaning.proofs.Refusals.{event-tells, mismatch-about}
+use Rattle.facet_json_meaning.proofs.OneValue.KindsPassed.{list-opened}
 use Rattle.facet_json_steps.proofs.lists.begin_list.Goals as goal
 
 pub returns-in_err-next_of_value-clause-refused : goal.returns-in_err-next_of_value-clause-refused
@@ -23,3 +24,7 @@ returns-clause-refused c =
 pub returns-clause-tells : goal.returns-clause-tells
 returns-clause-tells c =
     IfErr-weaker c.array_in.result _ _ (λ e told. event-tells c.in_ok-next_of_value.ensures.passed (mismatch-about _ _ told)) c.array_in.ensures.told
+
+pub returns-clause-inside : goal.returns-clause-inside
+returns-clause-inside c =
+    on_ok_weaker c.array_in.result (λ begins. list-opened _ _ _ begins c.in_ok-next_of_value.ensures.by_kind) c.array_in.ensures.begins

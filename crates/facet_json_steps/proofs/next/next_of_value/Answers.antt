@@ -4,6 +4,7 @@ use Rattle.facet_format.specs.Views.{refusal_of}
 use Rattle.facet_json_meaning.proofs.Walks.NextOnWalk.{answer-walks, answer-lacks, answer-no_end}
 use Rattle.facet_format.specs.Cursor.{next}
 use Rattle.facet_json_meaning.proofs.Refusals.{call-tells, over-tells}
+use Rattle.facet_json_meaning.proofs.OneValue.EventsPassed.{next-passes_by_kind}
 use Rattle.facet_json_steps.proofs.next.next_of_value.Goals as goal
 
 pub returns-in_err-event-clause-lacks : goal.returns-in_err-event-clause-lacks
@@ -46,3 +47,8 @@ returns-in_err-event-clause-tells c =
 
 pub returns-in-None-clause-tells : goal.returns-in-None-clause-tells
 returns-in-None-clause-tells c = over-tells (rw c.in-None.is at c.in_ok-event.ensures.end) c.ended.ensures.told
+
+pub returns-in-Some-clause-by_kind : goal.returns-in-Some-clause-by_kind
+returns-in-Some-clause-by_kind c =
+    let moves = rw c.in-Some.is at c.in_ok-event.ensures.moves in
+    next-passes_by_kind _ _ _ moves

@@ -4,6 +4,8 @@ use Rattle.facet_format.specs.Views.{event_of}
 use Rattle.facet_json_meaning.proofs.Walks.PeekOnWalk.{peek-finds, peek-lacks, peek-no_end}
 use Rattle.facet_format.specs.Cursor.{peek}
 use Rattle.facet_json_meaning.proofs.Refusals.{call-tells}
+use Rattle.facet_json_meaning.specs.Optional.{is_null_event}
+use Rattle.facet_json_meaning.proofs.OneValue.WithinValues.{peek-looks, peek-looks_past}
 use Rattle.facet_json_steps.proofs.next.null_comes.Goals as goal
 
 pub returns-in_err-event-clause-lacks : goal.returns-in_err-event-clause-lacks
@@ -34,3 +36,13 @@ pub returns-in_err-event-clause-tells : goal.returns-in_err-event-clause-tells
 returns-in_err-event-clause-tells c =
     let p = err_from_is_err_and c.from_residual.result c.from_residual.ensures.1 in
     rw (p.1, p.2) (call-tells _ _ peek _ _ c.in_err-event.ensures.moves refl)
+
+pub returns-in-Some-clause-looks : goal.returns-in-Some-clause-looks
+returns-in-Some-clause-looks c =
+    let moves = rw c.in-Some.is at c.in_ok-event.ensures.moves in
+    peek-looks is_null_event _ _ (event_of c.in-Some.event) c.is_null.result (sym c.is_null.ensures) moves
+
+pub returns-in-None-clause-looks : goal.returns-in-None-clause-looks
+returns-in-None-clause-looks c =
+    let moves = rw c.in-None.is at c.in_ok-event.ensures.moves in
+    peek-looks_past is_null_event _ _ moves

@@ -1,12 +1,13 @@
-use Rattle.std.proofs.Common.{◌≡◌, true, false, ap, sym, ◌∙◌}
+use Rattle.std.proofs.Common.{◌≡◌, true, false, ap, sym, ◌∙◌, rules}
 use Rattle.std.proofs.lemmas.Result.{err_from_is_err_and, IfErr-weaker, on_ok_weaker}
 use Rattle.facet_format.specs.Complaint.{Refusal}
 use Rattle.facet_format.specs.Event.{Event}
-use Rattle.facet_format.specs.Views.{refusal_of}
+use Rattle.facet_format.specs.Views.{refusal_of, event_of}
 use Rattle.facet_json_protocol.specs.Now.{Now}
 use Rattle.facet_json_meaning.specs.Optional.{is_null_event}
 use Rattle.facet_json_meaning.specs.Passing.{WalksPast, LacksAlone, LacksNull}
 use Rattle.facet_json_transcode.proofs.Refusing.{event-tells, mismatch-about}
+use Rattle.facet_json_meaning.proofs.OneValue.KindsPassed.{null-passed}
 use Rattle.facet_json_steps.proofs.next.pass_null.Goals as goal
 
 -- Where memory alone was lacking, it was before null.
@@ -45,3 +46,6 @@ returns-clause-free c = on_ok_weaker c.null_in.result (λ is. c.in_ok-next_of_va
 pub returns-clause-tells : goal.returns-clause-tells
 returns-clause-tells c =
     IfErr-weaker c.null_in.result _ _ (λ e told. event-tells c.in_ok-next_of_value.ensures.passed (mismatch-about _ _ told)) c.null_in.ensures.told
+
+pub returns-clause-one_value : goal.returns-clause-one_value
+returns-clause-one_value c = on_ok_weaker c.null_in.result (λ is. null-passed _ _ _ is c.in_ok-next_of_value.ensures.by_kind) c.null_in.ensures.null

@@ -4,6 +4,7 @@ use Rattle.facet_json_meaning.specs.Objects.{members_of}
 use Rattle.facet_json_meaning.proofs.Leaves.LeafReadings.{none-unread}
 use Rattle.facet_json_meaning.proofs.Objects.MembersOnWalk.{object-unread}
 use Rattle.facet_json_meaning.proofs.Refusals.{event-tells, mismatch-about}
+use Rattle.facet_json_meaning.proofs.OneValue.KindsPassed.{object-opened}
 use Rattle.facet_json_steps.proofs.objects.begin_object.Goals as goal
 
 pub returns-in_err-next_of_value-clause-unread : goal.returns-in_err-next_of_value-clause-unread
@@ -21,3 +22,7 @@ returns-clause-unread c =
 pub returns-clause-tells : goal.returns-clause-tells
 returns-clause-tells c =
     IfErr-weaker c.object_in.result _ _ (λ e told. event-tells c.in_ok-next_of_value.ensures.passed (mismatch-about _ _ told)) c.object_in.ensures.told
+
+pub returns-clause-inside : goal.returns-clause-inside
+returns-clause-inside c =
+    on_ok_weaker c.object_in.result (λ begins. object-opened _ _ _ begins c.in_ok-next_of_value.ensures.by_kind) c.object_in.ensures.begins

@@ -1,4 +1,5 @@
 use Rattle.std.proofs.Common.{rules}
+use Rattle.std.proofs.lemmas.Option.{MatchOption-at_some, MatchOption-at_none}
 use Rattle.facet_json_steps.proofs.objects.next_key.Goals as goal
 
 pub returns-in_err-name-clause-passed : goal.returns-in_err-name-clause-passed
@@ -15,3 +16,9 @@ returns-in_err-name-clause-shorter c = search rules
 
 pub returns-in_err-name-clause-within : goal.returns-in_err-name-clause-within
 returns-in_err-name-clause-within c = search rules
+
+pub returns-in_ok-into_owned-in-Some-clause-member : goal.returns-in_ok-into_owned-in-Some-clause-member
+returns-in_ok-into_owned-in-Some-clause-member c = MatchOption-at_some _ _ _ c.in-Some.is c.in_ok-name.ensures.member
+
+pub returns-in-None-clause-member : goal.returns-in-None-clause-member
+returns-in-None-clause-member c = MatchOption-at_none _ _ c.in-None.is c.in_ok-name.ensures.member

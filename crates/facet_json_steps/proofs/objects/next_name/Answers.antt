@@ -3,6 +3,9 @@ use Rattle.std.proofs.lemmas.Result.{IfOk-weaker, IfErr-weaker, err_from_is_err_
 use Rattle.facet_format.specs.Views.{refusal_of}
 use Rattle.facet_json_meaning.proofs.Objects.MembersOnWalk.{none-key, other-key}
 use Rattle.facet_json_meaning.proofs.Refusals.{event-tells, mismatch-about}
+use Rattle.facet_format.specs.Event.{bytes_of}
+use Rattle.facet_format.specs.HeldText.{text_of}
+use Rattle.facet_json_meaning.proofs.OneValue.KindsPassed.{member-passed}
 use Rattle.facet_json_steps.proofs.objects.next_name.Goals as goal
 
 pub returns-in_err-next_of_value-clause-lacks : goal.returns-in_err-next_of_value-clause-lacks
@@ -35,3 +38,7 @@ returns-clause-tells c =
 
 pub returns-clause-free : goal.returns-clause-free
 returns-clause-free c = IfOk-weaker c.name_in.result _ _ (λ name taken. c.in_ok-next_of_value.ensures.passed.free) c.name_in.ensures.taken
+
+pub returns-clause-member : goal.returns-clause-member
+returns-clause-member c =
+    IfOk-weaker c.name_in.result _ _ (λ name taken. member-passed _ _ (λ s. bytes_of (text_of s)) name _ taken c.in_ok-next_of_value.ensures.by_kind) c.name_in.ensures.taken

@@ -3,6 +3,7 @@ use Rattle.std.proofs.lemmas.Result.{err_from_is_err_and}
 use Rattle.facet_json_meaning.proofs.Walks.SkipOnWalk.{answer-skips, answer-unskipped}
 use Rattle.facet_format.specs.Cursor.{skip}
 use Rattle.facet_json_meaning.proofs.Refusals.{call-tells, skip-frees}
+use Rattle.facet_json_meaning.proofs.OneValue.PartsPassed.{skipped-value}
 use Rattle.facet_json_steps.proofs.values.pass_value.Goals as goal
 
 pub returns-in_err-skip_value-clause-unread : goal.returns-in_err-skip_value-clause-unread
@@ -38,3 +39,6 @@ returns-in_err-skip_value-clause-tells c =
 
 pub returns-clause-free : goal.returns-clause-free
 returns-clause-free c = skip-frees _ _ c.in_ok-skip_value.ensures.moves
+
+pub returns-clause-one_value : goal.returns-clause-one_value
+returns-clause-one_value c after = skipped-value _ _ after c.in_ok-skip_value.ensures.moves

@@ -3,6 +3,7 @@ use Rattle.facet_format.specs.Views.{refusal_of}
 use Rattle.facet_json_token.specs.Gap.{plain}
 use Rattle.facet_json_document.specs.Language.{lenient}
 use Rattle.facet_json_typed.proofs.RootComes.{read-from, told-of, unread-from, within-from}
+use Rattle.facet_json_typed.proofs.RunBegins.{begins-from}
 use Rattle.facet_json_typed.proofs.reading.from_slice_borrowed.Goals as goal
 
 pub returns-clause-read : goal.returns-clause-read
@@ -15,6 +16,9 @@ returns-clause-unread g c =
 
 pub returns-clause-document : goal.returns-clause-document
 returns-clause-document g c whole = IfOk-weaker c.read.result _ _ (λ v has. has _ _ c.new.ensures) (c.read.ensures.document whole)
+
+pub returns-clause-one_value : goal.returns-clause-one_value
+returns-clause-one_value g c = IfOk-weaker c.read.result _ _ (λ v one. begins-from _ _ _ _ c.new.ensures one) c.read.ensures.one_value
 
 pub returns-clause-within : goal.returns-clause-within
 returns-clause-within g c =

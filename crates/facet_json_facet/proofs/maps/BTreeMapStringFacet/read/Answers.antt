@@ -1,4 +1,5 @@
 use Rattle.std.proofs.Common.{string_bytes, rules}
+use Rattle.std.proofs.lemmas.Option.{MatchOption-at_none}
 use Rattle.std.proofs.lemmas.Result.{err_from_is_err_and}
 use Rattle.facet_format.specs.Views.{refusal_of}
 use Rattle.facet_json_meaning.proofs.Objects.MapEntries.{entries-begin, entry-read}
@@ -15,7 +16,7 @@ returns-in_err-begin_object-clause-unread g c =
 pub loop-map-init : goal.loop-map-init
 loop-map-init g c =
     let begun = c.in_ok-begin_object.ensures in
-    entries-begin g.T.Facet.reading_borrowed g.T.Facet.view _ _ c.new-map.result.entries begun.begun begun.onward begun.shorter c.new-map.ensures.empty
+    entries-begin g.T.Facet.reading_borrowed g.T.Facet.view _ _ c.new-map.result.entries begun.begun begun.onward begun.shorter begun.inside c.new-map.ensures.empty
 
 pub returns-in_err-key-clause-unread : goal.returns-in_err-key-clause-unread
 returns-in_err-key-clause-unread g c =
@@ -32,12 +33,15 @@ pub loop-map-preserved : goal.loop-map-preserved
 loop-map-preserved g c =
     let key = c.in_ok-key.ensures in
     let value = c.in_ok-value.ensures in
-    entry-read g.T.Facet.reading_borrowed g.T.Facet.view c.args.parser.now c.loop-map.parser c.next_key.new.parser _ c.loop-map.map.entries c.put.new.map.entries c.in_ok-key.field-0 c.in-Some.key c.in_ok-value.value c.loop-map.invariant key.passed c.in-Some.is key.onward value.read value.keeps c.in_ok-put.ensures.put
+    entry-read g.T.Facet.reading_borrowed g.T.Facet.view c.args.parser.now c.loop-map.parser c.next_key.new.parser _ c.loop-map.map.entries c.put.new.map.entries c.in_ok-key.field-0 c.in-Some.key c.in_ok-value.value c.loop-map.invariant key.passed key.member c.in-Some.is key.onward value.read value.keeps value.one_value c.in_ok-put.ensures.put
 
 pub returns-clause-read : goal.returns-clause-read
 returns-clause-read g c =
     let ended = rw c.in_default.is at c.in_ok-key.ensures.passed in
     map-ends g.T.Facet.reading_borrowed _ _ _ _ c.loop-map.invariant.left ended
+
+pub returns-clause-one_value : goal.returns-clause-one_value
+returns-clause-one_value g c = MatchOption-at_none _ _ c.in_default.is c.in_ok-key.ensures.member _ c.loop-map.invariant.inside
 
 pub returns-in_err-begin_object-clause-read : goal.returns-in_err-begin_object-clause-read
 returns-in_err-begin_object-clause-read c = search rules

@@ -1,6 +1,7 @@
 use Rattle.std.proofs.Common.{[], string_bytes, rules}
 use Rattle.std.specs.String.{string_cmp}
 use Rattle.std.proofs.lemmas.List.Elements.{All-nil, All-same}
+use Rattle.std.proofs.lemmas.Option.{MatchOption-at_none}
 use Rattle.std.proofs.lemmas.Result.{err_from_is_err_and}
 use Rattle.facet_format.specs.Views.{refusal_of}
 use Rattle.facet_json_meaning.proofs.Objects.MapEntries.{all-inserted, entries-begin, entry-read}
@@ -18,7 +19,7 @@ pub loop-map-init : goal.loop-map-init
 loop-map-init g c =
     let begun = c.in_ok-begin_object.ensures in
     record {
-      way = entries-begin g.T.Facet.reading g.T.Facet.view _ _ c.new-map.result.entries begun.begun begun.onward begun.shorter c.new-map.ensures.empty;
+      way = entries-begin g.T.Facet.reading g.T.Facet.view _ _ c.new-map.result.entries begun.begun begun.onward begun.shorter begun.inside c.new-map.ensures.empty;
       owned = All-same (λ e. g.T.Facet.owned e.1) _ [] c.new-map.ensures.empty (All-nil (λ e. g.T.Facet.owned e.1));
     }
 
@@ -38,7 +39,7 @@ loop-map-preserved g c =
     let key = c.in_ok-key.ensures in
     let value = c.in_ok-value.ensures in
     record {
-      way = entry-read g.T.Facet.reading g.T.Facet.view c.args.parser.now c.loop-map.parser c.next_key.new.parser _ c.loop-map.map.entries c.put.new.map.entries c.in_ok-key.field-0 c.in-Some.key c.in_ok-value.value c.loop-map.invariant.way key.passed c.in-Some.is key.onward value.read value.keeps c.in_ok-put.ensures.put;
+      way = entry-read g.T.Facet.reading g.T.Facet.view c.args.parser.now c.loop-map.parser c.next_key.new.parser _ c.loop-map.map.entries c.put.new.map.entries c.in_ok-key.field-0 c.in-Some.key c.in_ok-value.value c.loop-map.invariant.way key.passed key.member c.in-Some.is key.onward value.read value.keeps value.one_value c.in_ok-put.ensures.put;
       owned =
           All-same (λ e. g.T.Facet.owned e.1) _ _ c.in_ok-put.ensures.put
           (all-inserted string_cmp g.T.Facet.owned c.loop-map.map.entries c.in-Some.key c.in_ok-value.value c.loop-map.invariant.owned value.owned);
@@ -54,6 +55,9 @@ returns-clause-owned g c = c.loop-map.invariant.owned
 
 pub returns-in_err-begin_object-clause-owned : goal.returns-in_err-begin_object-clause-owned
 returns-in_err-begin_object-clause-owned c = search rules
+
+pub returns-clause-one_value : goal.returns-clause-one_value
+returns-clause-one_value g c = MatchOption-at_none _ _ c.in_default.is c.in_ok-key.ensures.member _ c.loop-map.invariant.way.inside
 
 pub returns-in_err-begin_object-clause-read : goal.returns-in_err-begin_object-clause-read
 returns-in_err-begin_object-clause-read c = search rules
@@ -73,12 +77,12 @@ returns-in_err-begin_object-clause-shorter c = search rules
 pub returns-in_err-key-clause-tells : goal.returns-in_err-key-clause-tells
 returns-in_err-key-clause-tells g c =
     let p = err_from_is_err_and c.from_residual-in_err-key.result c.from_residual-in_err-key.ensures.1 in
-    rw (p.1, p.2) (tells-later (keeps-there c.loop-map.invariant.keeps) c.in_err-key.ensures.tells)
+    rw (p.1, p.2) (tells-later (keeps-there c.loop-map.invariant.way.keeps) c.in_err-key.ensures.tells)
 
 pub returns-in_err-value-clause-tells : goal.returns-in_err-value-clause-tells
 returns-in_err-value-clause-tells g c =
     let p = err_from_is_err_and c.from_residual-in_err-value.result c.from_residual-in_err-value.ensures.1 in
-    let came = comes-then (keeps-there c.loop-map.invariant.keeps) (goes-there c.next_key.ensures.onward) in
+    let came = comes-then (keeps-there c.loop-map.invariant.way.keeps) (goes-there c.next_key.ensures.onward) in
     rw (p.1, p.2) (tells-later came c.in_err-value.ensures.tells)
 
 pub returns-in_err-put-clause-tells : goal.returns-in_err-put-clause-tells

@@ -5,6 +5,7 @@ use Rattle.facet_json_meaning.specs.Optional.{optional}
 use Rattle.facet_json_meaning.proofs.Leaves.LeafReadings.{none-unread}
 use Rattle.facet_json_meaning.proofs.Nullable.OptionalReadings.{null-read, null-unread, value-read, value-unread}
 use Rattle.facet_json_meaning.proofs.Refusals.{goes-there, tells-later}
+use Rattle.facet_json_meaning.proofs.OneValue.WithinValues.{value-stays}
 use Rattle.facet_json_facet.proofs.options.OptionFacet.read_owned.Goals as goal
 
 pub returns-in_err-null_comes-clause-unread : goal.returns-in_err-null_comes-clause-unread
@@ -62,3 +63,12 @@ pub returns-in_err-read_owned-clause-tells : goal.returns-in_err-read_owned-clau
 returns-in_err-read_owned-clause-tells g c =
     let p = err_from_is_err_and c.from_residual-in_err-read_owned.result c.from_residual-in_err-read_owned.ensures.1 in
     rw (p.1, p.2) (tells-later (goes-there c.null_comes.ensures.onward) c.in_err-read_owned.ensures.tells)
+
+pub returns-then-branch-clause-one_value : goal.returns-then-branch-clause-one_value
+returns-then-branch-clause-one_value g c =
+    let looks = c.in_ok-null_comes.ensures.looks in
+    value-stays _ _ _ c.null_comes.ensures.onward.input looks.there c.in_ok-pass_null.ensures.one_value
+
+pub returns-clause-one_value : goal.returns-clause-one_value
+returns-clause-one_value g c =
+    value-stays _ _ _ c.null_comes.ensures.onward.input c.in_ok-null_comes.ensures.looks.there c.in_ok-read_owned.ensures.one_value

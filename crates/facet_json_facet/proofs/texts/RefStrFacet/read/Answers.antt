@@ -5,6 +5,7 @@ use Rattle.facet_json_meaning.specs.Borrowed.{borrowed_text}
 use Rattle.facet_json_meaning.proofs.Leaves.BorrowedLaws.{borrowed-read, borrowed-unread, borrowed-document, borrowed-strict}
 use Rattle.facet_json_meaning.proofs.Leaves.LeafReadings.{none-unread}
 use Rattle.facet_json_meaning.proofs.Refusals.{either-about, event-tells}
+use Rattle.facet_json_meaning.proofs.OneValue.KindsPassed.{lent-passed}
 use Rattle.facet_json_facet.proofs.texts.RefStrFacet.read.Goals as goal
 
 pub returns-in_err-next_of_value-clause-unread : goal.returns-in_err-next_of_value-clause-unread
@@ -46,3 +47,7 @@ returns-clause-tells c =
 
 pub returns-clause-free : goal.returns-clause-free
 returns-clause-free c = IfOk-weaker c.lent_in.result _ _ (λ b taken. c.in_ok-next_of_value.ensures.passed.free) c.lent_in.ensures.lent
+
+pub returns-clause-one_value : goal.returns-clause-one_value
+returns-clause-one_value c =
+    IfOk-weaker c.lent_in.result _ _ (λ s lent. lent-passed _ _ _ _ lent c.in_ok-next_of_value.ensures.by_kind) c.lent_in.ensures.lent

@@ -4,6 +4,7 @@ use Rattle.facet_format.specs.Views.{refusal_of}
 use Rattle.facet_json_meaning.specs.Readings.{text_of, leaf}
 use Rattle.facet_json_meaning.proofs.Leaves.LeafReadings.{leaf-read, leaf-refused, leaf-document, leaf-strict, none-unread}
 use Rattle.facet_json_meaning.proofs.Refusals.{lacks-about, lacks-tells}
+use Rattle.facet_json_meaning.proofs.OneValue.KindsPassed.{taken-passed}
 use Rattle.facet_json_facet.proofs.texts.StringFacet.read_owned.Goals as goal
 
 pub returns-in_err-next_of_value-clause-unread : goal.returns-in_err-next_of_value-clause-unread
@@ -33,3 +34,7 @@ returns-clause-tells c =
 
 pub returns-clause-free : goal.returns-clause-free
 returns-clause-free c = IfOk-weaker c.string_in.result _ _ (λ b taken. c.in_ok-next_of_value.ensures.passed.free) c.string_in.ensures.taken
+
+pub returns-clause-one_value : goal.returns-clause-one_value
+returns-clause-one_value c =
+    IfOk-weaker c.string_in.result _ _ (λ v taken. taken-passed _ _ text_of _ _ taken c.in_ok-next_of_value.ensures.by_kind) c.string_in.ensures.taken

@@ -4,6 +4,7 @@ use Rattle.facet_format.specs.Views.{refusal_of}
 use Rattle.facet_json_meaning.specs.Readings.{bool_of, leaf}
 use Rattle.facet_json_meaning.proofs.Leaves.LeafReadings.{leaf-read, leaf-unread, leaf-document, leaf-strict, none-unread}
 use Rattle.facet_json_meaning.proofs.Refusals.{event-tells, mismatch-about}
+use Rattle.facet_json_meaning.proofs.OneValue.KindsPassed.{taken-passed}
 use Rattle.facet_json_facet.proofs.truth.BoolFacet.read_owned.Goals as goal
 
 pub returns-in_err-next_of_value-clause-unread : goal.returns-in_err-next_of_value-clause-unread
@@ -45,3 +46,7 @@ returns-clause-tells c =
 
 pub returns-clause-free : goal.returns-clause-free
 returns-clause-free c = IfOk-weaker c.bool_in.result _ _ (λ b taken. c.in_ok-next_of_value.ensures.passed.free) c.bool_in.ensures.taken
+
+pub returns-clause-one_value : goal.returns-clause-one_value
+returns-clause-one_value c =
+    IfOk-weaker c.bool_in.result _ _ (λ v taken. taken-passed _ _ bool_of _ _ taken c.in_ok-next_of_value.ensures.by_kind) c.bool_in.ensures.taken
