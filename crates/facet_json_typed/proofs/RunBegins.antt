@@ -24,8 +24,8 @@ root-first _ first last others rest (with_value _ _ _ b) run = run
 root-first _ first last others rest (after_separator _ other t _ ts _ e more) run = absurd (no-separator t.kind other e)
 
 pub begins-from : (input : List ℕ) (mode : Mode) (old new : Now) → old ≡ fresh input mode → PassesValue old new → BeginsWithRun input mode
-begins-from input mode old new is_new passes =
-    let v = subst (λ now. PassesValue now new) is_new passes in
+begins-from input mode old new is_new value =
+    let v = subst (λ now. PassesValue now new) is_new value in
     let stage = v.before.stage in
     let at_root : v.before.place ≡ root = cc in
     let goes = subst (λ place. GoesOnWith lenient_rules place (tokens input mode) v.first v.others) at_root v.before.value in
