@@ -4,6 +4,8 @@ use Rattle.facet_format.specs.Event.{bytes_of}
 use Rattle.facet_format.specs.HeldText.{text_of}
 use Rattle.facet_format.specs.Views.{refusal_of}
 use Rattle.facet_format.proofs.HeldTexts.{held-bytes}
+use Rattle.facet_json_meaning.proofs.Keeping.{keeps-then}
+use Rattle.facet_json_meaning.proofs.Walks.NextOnWalk.{goes-keeps}
 use Rattle.facet_json_record.specs.Fields.{keys, table}
 use Rattle.facet_json_record.proofs.FieldSteps.{way-begin, way-goes_on, fields-not_begun, fields-no_key, fields-no_value, fields-end, fields-missing}
 use Rattle.facet_json_record.proofs.fields.read_fields.Goals as goal
@@ -36,6 +38,10 @@ returns-in_err-put-clause-unread g c =
     let named = rw c.in-Some.is at c.in_ok-key.ensures.passed in
     let unread = rw (c.as_str.ensures.value ∙ held-bytes c.in-Some.key) at c.in_err-put.ensures.unread in
     rw (p.1, p.2) (fields-no_value t (keys c.args.names.now) _ _ _ _ (bytes_of (text_of c.in-Some.key)) (refusal_of c.in_err-put.field-0.0) c.loop-slots.invariant.way.left named unread)
+
+pub returns-in_err-put-clause-keeps : goal.returns-in_err-put-clause-keeps
+returns-in_err-put-clause-keeps g c =
+    keeps-then _ _ _ (keeps-then _ _ _ c.loop-slots.invariant.way.keeps (goes-keeps _ _ c.in_ok-key.ensures.onward)) c.put.ensures.keeps
 
 pub loop-slots-preserved : goal.loop-slots-preserved
 loop-slots-preserved g c =
@@ -73,7 +79,8 @@ pub returns-clause-owned : goal.returns-clause-owned
 returns-clause-owned g c kept = c.finish.ensures.owned (c.loop-slots.invariant.owned kept)
 
 pub returns-in_err-begin_object-clause-owned : goal.returns-in_err-begin_object-clause-owned
-returns-in_err-begin_object-clause-owned g c kept = tt
+returns-in_err-begin_object-clause-owned g c kept =
+    let p = err_from_is_err_and c.from_residual.result c.from_residual.ensures.1 in rw (p.1) tt
 
 pub returns-in_err-begin_object-clause-read : goal.returns-in_err-begin_object-clause-read
 returns-in_err-begin_object-clause-read c = search rules
