@@ -1,4 +1,5 @@
 use Rattle.std.proofs.Common.{rules}
+use Rattle.std.proofs.lemmas.Result.{err_from_is_err_and}
 use Rattle.std.proofs.lemmas.Str.{IsUtf8-from_is_utf8}
 use Rattle.facet_json_typed.proofs.writing.to_string_with_options.Goals as goal
 
@@ -24,7 +25,8 @@ pub returns-clause-read_back : goal.returns-clause-read_back
 returns-clause-read_back c = search rules
 
 pub returns-clause-comes_back : goal.returns-clause-comes_back
-returns-clause-comes_back g c default = search rules
+returns-clause-comes_back g c default can_be = rw (c.from_utf8_unchecked.ensures.value) (c.in_ok-bytes.ensures.comes_back default can_be)
 
 pub returns-in_err-bytes-clause-comes_back : goal.returns-in_err-bytes-clause-comes_back
-returns-in_err-bytes-clause-comes_back g c default = tt
+returns-in_err-bytes-clause-comes_back g c default =
+    let p = err_from_is_err_and c.from_residual.result c.from_residual.ensures.1 in rw (p.1) tt

@@ -1,5 +1,6 @@
 use Rattle.std.proofs.Common.{◌≡◌, rules}
 use Rattle.std.specs.Prelude.{IsUtf8, IfOk}
+use Rattle.std.proofs.lemmas.Result.{err_from_is_err_and}
 use Rattle.facet_json_document.specs.Text.{text}
 use Rattle.facet_json_options.specs.Views.{options_of}
 use Rattle.facet_json_write.proofs.ReadBack.{answered-readable}
@@ -50,4 +51,5 @@ returns-clause-comes_back g c default =
     answered-comes_back (λ v. v.items) _ _ _ _ laws.reads_back c.finish.result _ o c.in_ok-write.ensures.always is default
 
 pub returns-in_err-write-clause-comes_back : goal.returns-in_err-write-clause-comes_back
-returns-in_err-write-clause-comes_back g c default = tt
+returns-in_err-write-clause-comes_back g c default =
+    let p = err_from_is_err_and c.from_residual.result c.from_residual.ensures.1 in rw (p.1) tt
