@@ -107,8 +107,6 @@ impl<'de, T: Facet<'de>> Facet<'de> for Response<T> {
 
     ghost readable = { (response (shape T.reading T.reading_borrowed T.tree_of T.always T.readable)).readable };
 
-    ghost owned = { λ r. T.owned r.payload };
-
     ghost whole = { false };
 
     fn read_owned<'t>(

@@ -30,6 +30,8 @@ impl<'de> Facet<'de> for Person<'de> {
 
     ghost tree_of = { person.tree_of };
 
+    ghost always = { person.always };
+
     ghost readable = { person.readable };
 
     ghost whole = { false };
@@ -84,6 +86,8 @@ impl<'de> Facet<'de> for Labelled<'de> {
     ghost reading_borrowed = { labelled.reading_borrowed };
 
     ghost tree_of = { labelled.tree_of };
+
+    ghost always = { labelled.always };
 
     ghost readable = { labelled.readable };
 

@@ -1,9 +1,8 @@
-use Rattle.std.proofs.Common.{◌≡◌, codes, refl, sym, ap, ◌∙◌, subst}
+use Rattle.std.proofs.Common.{refl, sym, ap, ◌∙◌, subst}
 use Rattle.std.proofs.lemmas.Result.{err_from_is_err_and}
-use Rattle.facet_json.specs.Complaint.{Complaint, out_of_memory}
+use Rattle.facet_json.specs.Complaint.{Complaint}
 use Rattle.facet_json.specs.Document.{IsWholeDocument}
-use Rattle.facet_json.specs.ErrorKind.{code, read, write}
-use Rattle.facet_json.specs.ErrorViews.{kind_of}
+use Rattle.facet_json.specs.ErrorKind.{code, read}
 use Rattle.facet_json.specs.Gap.{plain}
 use Rattle.facet_json.specs.Text.{text, default_options}
 use Rattle.facet_json.specs.TypedTrees.{without_plus}
@@ -16,7 +15,7 @@ returns-clause-written c =
     let value = tree_view c.in_ok-tree.tree in
     let is = c.in_ok-to_vec.ensures.text in
     let back = c.document_comes_back.ensures c.args.input.now plain document.0 value default_options document.1 refl in
-    (document.0, value, document.1, is, back.0, subst (λ bytes. IsWholeDocument bytes back.0 (without_plus value)) (sym is) back.1)
+    (document.0, value, document.1, is, (back.0, subst (λ bytes. IsWholeDocument bytes back.0 (without_plus value)) (sym is) back.1))
 
 pub returns-clause-only : goal.returns-clause-only
 returns-clause-only c root value document =
