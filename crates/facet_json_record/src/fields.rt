@@ -74,11 +74,10 @@ pub trait Fields<'de>: Sized + Drop {
         ensures read { OnOk result (IsRead (step borrows (keys names.now) key.now (seen slots.old)) parser.old (seen slots.new) parser.new) }
         ensures unread { IfErr result (λ e. IsUnread (step borrows (keys names.now) key.now (seen slots.old)) parser.old (refusal_of e)) }
         ensures keeps { KeepsOn parser.old parser.new }
+        ensures one_value { IsAfterKey parser.old → OnOk result (PassesValue parser.old parser.new) }
         ensures within { IfErr result (λ e. RefusalWithin parser.new.buffer (refusal_of e)) }
         ensures owned { borrows ≡ false → owned_slots slots.old → OnOk result (owned_slots slots.new) }
-        ensures tells { IfErr result (λ e. TellsRefusal parser.old parser.new (refusal_of e)) }
-        ensures one_value { IsAfterKey parser.old → OnOk result (PassesValue parser.old parser.new) }
-        ensures within { IfErr result (λ e. RefusalWithin parser.new.buffer (refusal_of e)) };
+        ensures tells { IfErr result (λ e. TellsRefusal parser.old parser.new (refusal_of e)) };
 
     /// The fields of an object that ends with this bracket.
     ///
