@@ -3,9 +3,10 @@
 use crate::compared::{Mode, parser_of};
 use crate::pieces::agree;
 use crate::row::{first_word, modes};
+use crate::scans::scan_of;
 use crate::shown::{Telling, push_answer};
 use facet_format::{FormatParser, ParseError, ParseEvent};
-use facet_json::scanner::{Marked, scan_reader};
+use facet_json::scanner::Mode as Gaps;
 use facet_json::{Answer, Call, JsonParser, drive};
 use facet_json_command::script::parse_script;
 use std::alloc::{AllocError, Global};
@@ -148,10 +149,13 @@ fn answer_scan(
     if step == 0 {
         return writeln!(told, "NO STEP");
     }
+    let gaps = match mode {
+        Mode::Jsonc => Gaps::Jsonc,
+        _ => Gaps::Plain,
+    };
     let mut reader = input;
     mark(alloc);
-    let mut source = Marked::new(&mut reader);
-    let scanned = scan_reader(alloc, &mut source, step, matches!(mode, Mode::Jsonc));
+    let scanned = scan_of(alloc, &mut reader, step, gaps);
     mark(alloc);
     writeln!(told, "{scanned:?}")
 }

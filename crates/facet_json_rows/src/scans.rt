@@ -66,7 +66,7 @@ fn scan(alloc: Global, input: &[u8], mode: Mode, step: usize, fails_at: usize) -
 }
 
 /// What a scan of all that the reader has finds.
-fn scan_of<R: Read>(
+pub fn scan_of<R: Read>(
     alloc: Global,
     reader: &mut R,
     step: usize,
