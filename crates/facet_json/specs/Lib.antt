@@ -17,15 +17,15 @@ pub use Rattle.facet_json_token.specs.Cut
 pub use Rattle.facet_json_token.specs.Faults
 pub use Rattle.facet_json_token.specs.Open
 pub use Rattle.facet_json_token.specs.Tokens
-pub use Rattle.facet_json_decode.specs.Decode
-pub use Rattle.facet_json_decode.specs.Fault
-pub use Rattle.facet_json_strict.specs.RfcNumber
-pub use Rattle.facet_json_strict.specs.RfcNumberTest
-pub use Rattle.facet_json_strict.specs.Strict
-pub use Rattle.facet_json_strict.specs.Views as StrictViews
-pub use Rattle.facet_json_scanner.specs.Scanner
-pub use Rattle.facet_json_pieces.specs.Source as Sources
-pub use Rattle.facet_json_pieces.specs.Listed
+pub use Rattle.facet_json_token.specs.Decode
+pub use Rattle.facet_json_token.specs.Fault
+pub use Rattle.facet_json_token.specs.RfcNumber
+pub use Rattle.facet_json_token.specs.RfcNumberTest
+pub use Rattle.facet_json_token.specs.Strict
+pub use Rattle.facet_json_token.specs.StrictViews as StrictViews
+pub use Rattle.facet_json_scan.specs.Scanner
+pub use Rattle.facet_json_scan.specs.Source as Sources
+pub use Rattle.facet_json_scan.specs.Listed
 pub use Rattle.facet_json_document.specs.Node
 pub use Rattle.facet_json_document.specs.Tree
 pub use Rattle.facet_json_document.specs.Meaning
@@ -51,42 +51,42 @@ pub use Rattle.facet_json_tree.specs.Lookup
 pub use Rattle.facet_json_tree.specs.Same
 pub use Rattle.facet_json_tree.specs.Views
 pub use Rattle.facet_format.specs.SerializerCall
-pub use Rattle.facet_json_options.specs.Views as OptionsViews
+pub use Rattle.facet_json_serializer.specs.OptionsViews as OptionsViews
 pub use Rattle.facet_json_serializer.specs.Serializer
 pub use Rattle.facet_json_serializer.specs.TreeCalls
 pub use Rattle.facet_json_serializer.specs.Views as SerializerViews
-pub use Rattle.facet_json_written.specs.AsRead
-pub use Rattle.facet_json_written.specs.ReadBack
-pub use Rattle.facet_json_written.specs.RfcText
-pub use Rattle.facet_json_written.specs.RfcLaws
-pub use Rattle.facet_json_written.specs.RfcReadable
-pub use Rattle.facet_json_written.specs.StrictTexts
-pub use Rattle.facet_json_write.specs.Write
-pub use Rattle.facet_json_prefix.specs.Begun
-pub use Rattle.facet_json_prefix.specs.EventLaws
-pub use Rattle.facet_json_prefix.specs.StrictLaws
-pub use Rattle.facet_json_prefix.specs.Refusal
-pub use Rattle.facet_json_protocol.specs.Now
-pub use Rattle.facet_json_protocol.specs.Move
-pub use Rattle.facet_json_protocol.specs.Next
-pub use Rattle.facet_json_protocol.specs.Within
-pub use Rattle.facet_json_protocol.specs.Alone
-pub use Rattle.facet_json_protocol.specs.ParserLaws
-pub use Rattle.facet_json_protocol.specs.CallLaws
-pub use Rattle.facet_json_protocol.specs.SkipLaws
-pub use Rattle.facet_json_protocol.specs.Headline
-pub use Rattle.facet_json_protocol.specs.StrictHeadline
-pub use Rattle.facet_json_protocol.specs.OneRun
+pub use Rattle.facet_json_document.specs.AsRead
+pub use Rattle.facet_json_document.specs.ReadBack
+pub use Rattle.facet_json_document.specs.RfcText
+pub use Rattle.facet_json_document.specs.RfcLaws
+pub use Rattle.facet_json_document.specs.RfcReadable
+pub use Rattle.facet_json_document.specs.StrictTexts
+pub use Rattle.facet_json_tree.specs.Write
+pub use Rattle.facet_json_document.specs.Begun
+pub use Rattle.facet_json_document.specs.EventLaws
+pub use Rattle.facet_json_document.specs.StrictLaws
+pub use Rattle.facet_json_document.specs.PrefixRefusal
+pub use Rattle.facet_json_document.specs.Now
+pub use Rattle.facet_json_document.specs.Move
+pub use Rattle.facet_json_document.specs.Next
+pub use Rattle.facet_json_document.specs.Within
+pub use Rattle.facet_json_document.specs.Alone
+pub use Rattle.facet_json_document.specs.ParserLaws
+pub use Rattle.facet_json_document.specs.CallLaws
+pub use Rattle.facet_json_document.specs.SkipLaws
+pub use Rattle.facet_json_document.specs.Headline
+pub use Rattle.facet_json_document.specs.StrictHeadline
+pub use Rattle.facet_json_document.specs.OneRun
 pub use Rattle.facet_json_core.specs.ScriptViews
-pub use Rattle.facet_json_error.specs.ErrorKind
-pub use Rattle.facet_json_error.specs.Views as ErrorViews
-pub use Rattle.facet_json_report.specs.Line
-pub use Rattle.facet_json_report.specs.Report
-pub use Rattle.facet_json_transcode.specs.Told
-pub use Rattle.facet_json_transcode.specs.Reading
-pub use Rattle.facet_json_transcode.specs.Refusing
-pub use Rattle.facet_json_transcode.specs.Transcode
-pub use Rattle.facet_json_transcode.specs.Views as TranscodeViews
+pub use Rattle.facet_json_core.specs.ErrorKind
+pub use Rattle.facet_json_core.specs.ErrorViews as ErrorViews
+pub use Rattle.facet_json_core.specs.Line
+pub use Rattle.facet_json_core.specs.Report
+pub use Rattle.facet_json_core.specs.Told
+pub use Rattle.facet_json_core.specs.Reading
+pub use Rattle.facet_json_core.specs.Refusing
+pub use Rattle.facet_json_core.specs.Transcode
+pub use Rattle.facet_json_core.specs.TranscodeViews as TranscodeViews
 pub use Rattle.facet_json_meaning.specs.Nodes
 pub use Rattle.facet_json_meaning.specs.Passing
 pub use Rattle.facet_json_meaning.specs.Peeking
@@ -101,14 +101,14 @@ pub use Rattle.facet_json_meaning.specs.Lists
 pub use Rattle.facet_json_meaning.specs.Objects
 pub use Rattle.facet_json_meaning.specs.Maps
 pub use Rattle.facet_json_meaning.specs.Trees as TypedTrees
-pub use Rattle.facet_json_read.specs.Depth
-pub use Rattle.facet_json_typed.specs.Inputs
-pub use Rattle.facet_json_record.specs.Fields
-pub use Rattle.facet_json_record.specs.Shapes
-pub use Rattle.facet_json_record.specs.Types
-pub use Rattle.facet_json_record.specs.Written
+pub use Rattle.facet_json_tree.specs.Depth
 pub use Rattle.facet_format.specs.Views as FormatViews
 pub use Rattle.facet_format.specs.Laws as FormatLaws
 pub use Rattle.facet_json_scan.specs.Views as ScanViews
 pub use Rattle.facet_json_scan.specs.Laws as ScanLaws
 pub use Rattle.facet_json_document.specs.Laws as DocumentLaws
+pub mod Fields
+pub mod Inputs
+pub mod Shapes
+pub mod Types
+pub mod Written

@@ -3,7 +3,7 @@
 use crate::seen::Seen;
 use facet_json::scanner::Mode;
 use facet_json::{DeserializeError, from_slice, from_slice_jsonc};
-use facet_json_accounts::Account;
+use facet_json_examples::accounts::Account;
 use std::alloc::Global;
 use std::hint::black_box;
 

@@ -2,8 +2,8 @@
 use Rattle.std.proofs.Common.{◌≡◌, ◌≢◌, ◌⊎◌, ℕ, List, [], Option, Some, None, IfSome, refl, sym, subst, ◌∙◌, inl, inr}
 use Rattle.std.specs.Io.KnownBytes.{Keeps}
 use Rattle.facet_json_document.specs.Language.{Language}
-use Rattle.facet_json_command_line.specs.declared.outcome.Outcome.{Outcome}
-use Rattle.facet_json_command_line.specs.declared.outcome.Outcome.TheVariants.{Done, Refused, Io, Usage}
+use Rattle.facet_json_command.specs.declared.outcome.Outcome.{Outcome}
+use Rattle.facet_json_command.specs.declared.outcome.Outcome.TheVariants.{Done, Refused, Io, Usage}
 use Rattle.facet_json_command.specs.Run.{IsFailure, IsFault, IsWithin, Grows, Lists}
 use Rattle.facet_json_command.proofs.Printing.{appends_nothing}
 use Rattle.facet_json_command.proofs.Listing.{grows_keeps, lists_keeps, lists_grow}

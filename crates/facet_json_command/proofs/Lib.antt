@@ -1,6 +1,10 @@
-pub mod Printing
-pub mod TokenListing
-pub mod Listing
+pub mod Calls
+pub mod Cuts
 pub mod Endings
-pub mod Unasked
+pub mod Listing
+pub mod OneCommand
+pub mod Operands
+pub mod Printing
 pub mod Reformatting
+pub mod TokenListing
+pub mod Unasked

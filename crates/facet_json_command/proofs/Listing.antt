@@ -7,12 +7,12 @@ use Rattle.std.proofs.lemmas.Grind.{flat_map-append}
 use Rattle.facet_format.specs.Event.{Event}
 use Rattle.facet_format.specs.Cursor.{next, Answer, event, no_calls}
 use Rattle.facet_json_document.specs.Language.{Language}
-use Rattle.facet_json_protocol.specs.Now.{Now, fresh_in}
-use Rattle.facet_json_protocol.specs.Move.{Moves, MovesAll}
-use Rattle.facet_json_protocol.proofs.MoveLaws.{moves-one_more}
+use Rattle.facet_json_document.specs.Now.{Now, fresh_in}
+use Rattle.facet_json_document.specs.Move.{Moves, MovesAll}
+use Rattle.facet_json_document.proofs.MoveLaws.{moves-one_more}
 use Rattle.facet_json_command.specs.Lines.{event_line}
-use Rattle.facet_json_command_line.specs.declared.outcome.Outcome.{Outcome}
-use Rattle.facet_json_command_line.specs.declared.outcome.Outcome.TheVariants.{Done, Refused, Io, Usage}
+use Rattle.facet_json_command.specs.declared.outcome.Outcome.{Outcome}
+use Rattle.facet_json_command.specs.declared.outcome.Outcome.TheVariants.{Done, Refused, Io, Usage}
 use Rattle.facet_json_command.specs.Run.{Grows, Stops, AreListed, Lists}
 use Rattle.facet_json_command.proofs.Printing.{appends_nothing, appends_both, appends_keeps, stops_behind, stops_keeps}
 

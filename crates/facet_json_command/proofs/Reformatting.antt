@@ -7,12 +7,12 @@ use Rattle.facet_json_document.specs.Node.{Node}
 use Rattle.facet_json_document.specs.Tree.{Tree}
 use Rattle.facet_json_document.specs.Document.{IsDocument}
 use Rattle.facet_json_document.specs.StrictDocument.{IsStrictDocument, IsStrict}
-use Rattle.facet_json_place.specs.declared.language.Language.{Language}
-use Rattle.facet_json_place.specs.declared.language.Language.TheVariants.{Lenient, Strict}
-use Rattle.facet_json_protocol.specs.Now.{Now, fresh, fresh_in}
+use Rattle.facet_json_reader.specs.declared.language.Language.{Language}
+use Rattle.facet_json_reader.specs.declared.language.Language.TheVariants.{Lenient, Strict}
+use Rattle.facet_json_document.specs.Now.{Now, fresh, fresh_in}
 use Rattle.facet_json_serializer.specs.Serializer.{Writing}
 use Rattle.facet_json_serializer.specs.TreeCalls.{with_tree}
-use Rattle.facet_json_command_line.specs.declared.outcome.Outcome.{Outcome}
+use Rattle.facet_json_command.specs.declared.outcome.Outcome.{Outcome}
 use Rattle.facet_json_command.specs.Views.{read_as}
 use Rattle.facet_json_command.specs.Run.{IsDocumentIn, HasDocument, IsRefusal}
 

@@ -13,13 +13,13 @@ use Rattle.facet_json_token.specs.Gap.{Mode}
 use Rattle.facet_json_token.specs.Token.{Token, Fault}
 use Rattle.facet_json_token.specs.Token as token
 use Rattle.facet_json_token.specs.Tokens.{Tokens, ended, refused, next, AreCuts}
-use Rattle.facet_json_scanner.specs.Scanner.{Answer, needs_more, cuts, refuses}
-use Rattle.facet_json_scanner.specs.Scanner as scanner
-use Rattle.facet_json_scanner.specs.Views.{answered, fault_answered}
-use Rattle.facet_json_pieces.specs.declared.answer.Scanned.{Scanned}
-use Rattle.facet_json_pieces.specs.Listed.{token_then, list_of, refused_by, last_of, AreAllOf, AreTokensOf}
-use Rattle.facet_json_command_line.specs.declared.outcome.Outcome.{Outcome}
-use Rattle.facet_json_command_line.specs.declared.outcome.Outcome.TheVariants.{Done, Refused, Io, Usage}
+use Rattle.facet_json_scan.specs.Scanner.{Answer, needs_more, cuts, refuses}
+use Rattle.facet_json_scan.specs.Scanner as scanner
+use Rattle.facet_json_scan.specs.ScannerViews.{answered, fault_answered}
+use Rattle.facet_json_scan.specs.declared.answer.Scanned.{Scanned}
+use Rattle.facet_json_scan.specs.Listed.{token_then, list_of, refused_by, last_of, AreAllOf, AreTokensOf}
+use Rattle.facet_json_command.specs.declared.outcome.Outcome.{Outcome}
+use Rattle.facet_json_command.specs.declared.outcome.Outcome.TheVariants.{Done, Refused, Io, Usage}
 use Rattle.facet_json_command.specs.Lines.{place_line}
 use Rattle.facet_json_command.specs.TokenLines.{token_line, token_lines, fault_code, EndAs}
 use Rattle.facet_json_command.specs.TokenViews.{line_answered, text_of_token, code_of_kind}

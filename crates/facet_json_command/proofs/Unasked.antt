@@ -1,8 +1,8 @@
 -- What is answered where memory is wanted before anything is read.
 use Rattle.std.proofs.Common.{◌≡◌, ℕ, List, [], Option, Some, None, IfSome, ◌⊎◌, refl, inl, inr}
-use Rattle.facet_json_command_line.specs.Arguments.{Command, fmt, events, tokens, drive}
-use Rattle.facet_json_command_line.specs.declared.outcome.Outcome.{Outcome}
-use Rattle.facet_json_command_line.specs.declared.outcome.Outcome.TheVariants.{Done, Refused}
+use Rattle.facet_json_command.specs.Arguments.{Command, fmt, events, tokens, drive}
+use Rattle.facet_json_command.specs.declared.outcome.Outcome.{Outcome}
+use Rattle.facet_json_command.specs.declared.outcome.Outcome.TheVariants.{Done, Refused}
 use Rattle.facet_json_document.specs.Language.{Language}
 use Rattle.facet_json_command.specs.Run.{Answers, HasDocument, IsFailure}
 use Rattle.facet_json_command.proofs.Printing.{appends_nothing}

@@ -12,19 +12,19 @@ use Rattle.facet_json_document.specs.Tree.{Tree}
 use Rattle.facet_json_document.specs.Document.{IsDocument}
 use Rattle.facet_json_document.specs.StrictDocument.{IsStrictDocument, IsStrict}
 use Rattle.facet_format.specs.Complaint.{Refusal, code_of}
-use Rattle.facet_json_prefix.specs.Refusal.{Refuses}
-use Rattle.facet_json_protocol.specs.Now.{Now, fresh_in}
-use Rattle.facet_json_protocol.specs.Move.{MovesAll}
+use Rattle.facet_json_document.specs.PrefixRefusal.{Refuses}
+use Rattle.facet_json_document.specs.Now.{Now, fresh_in}
+use Rattle.facet_json_document.specs.Move.{MovesAll}
 use Rattle.facet_format.specs.Event.{Event}
 use Rattle.facet_format.specs.Cursor.{Call, next, Answer, event}
 use Rattle.facet_json_document.specs.Text.{Options, default_options, text}
 use Rattle.facet_format.specs.Views.{span_of}
-use Rattle.facet_json_command_line.specs.Arguments.{Command, fmt, events, tokens, drive}
+use Rattle.facet_json_command.specs.Arguments.{Command, fmt, events, tokens, drive}
 use Rattle.facet_json_command.specs.Lines.{event_line, answer_lines}
 use Rattle.facet_json_command.specs.TokenLines.{token_lines, EndAs}
-use Rattle.facet_json_command_line.specs.declared.outcome.Outcome.{Outcome}
-use Rattle.facet_json_command_line.specs.declared.outcome.Outcome.TheVariants.{Done, Refused, Io, Usage}
-pub use Rattle.facet_json_command_line.specs.Outcome.{IsFailure, IsFault}
+use Rattle.facet_json_command.specs.declared.outcome.Outcome.{Outcome}
+use Rattle.facet_json_command.specs.declared.outcome.Outcome.TheVariants.{Done, Refused, Io, Usage}
+pub use Rattle.facet_json_command.specs.Outcome.{IsFailure, IsFault}
 
 -- The input begins with this document, or, where RFC 8259 alone is read, is it. No arguments ask for `strict jsonc`.
 abbrev pub IsDocumentIn : Language → List ℕ → Node → Tree → Type 0

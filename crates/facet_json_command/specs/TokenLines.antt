@@ -7,8 +7,8 @@ use Rattle.facet_format.specs.Views.{span_of}
 use Rattle.facet_json_token.specs.Token as token
 use Rattle.facet_json_token.specs.Token.{Kind, Token, FaultKind}
 use Rattle.facet_json_token.specs.Tokens.{Tokens, ended, refused, next}
-use Rattle.facet_json_command_line.specs.declared.outcome.Outcome.{Outcome}
-use Rattle.facet_json_command_line.specs.declared.outcome.Outcome.TheVariants.{Done, Refused}
+use Rattle.facet_json_command.specs.declared.outcome.Outcome.{Outcome}
+use Rattle.facet_json_command.specs.declared.outcome.Outcome.TheVariants.{Done, Refused}
 use Rattle.facet_json_command.specs.Lines.{place_line, value_line}
 
 -- what stands in a number

@@ -3,8 +3,8 @@ use Rattle.std.specs.Prelude.{ℕ, List, [], Option, Some, Ok}
 use Rattle.facet_json_token.specs.declared.token.SpannedToken.{SpannedToken}
 use Rattle.facet_json_token.specs.declared.token.ScanErrorKind.{ScanErrorKind}
 use Rattle.facet_json_token.specs.declared.token.ScanErrorKind.TheVariants as scan
-use Rattle.facet_json_scanner.specs.Scanner.{Answer, cuts}
-use Rattle.facet_json_scanner.specs.Views.{answered}
+use Rattle.facet_json_scan.specs.Scanner.{Answer, cuts}
+use Rattle.facet_json_scan.specs.ScannerViews.{answered}
 use Rattle.facet_json_command.specs.TokenLines.{token_line}
 
 -- the line of a token that is answered, and of nothing else

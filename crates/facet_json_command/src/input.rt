@@ -2,7 +2,7 @@
 
 ghost use Rattle.std.specs.Prelude.{◌≡◌, false};
 
-use facet_json_pieces::ByteSource;
+use facet_json_scan::ByteSource;
 use std::io;
 use std::io::{ErrorKind, Read};
 

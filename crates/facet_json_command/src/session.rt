@@ -1,11 +1,11 @@
 //! What a run of the program bears in mind.
 
 ghost use Rattle.std.specs.Prelude.{◌≡◌, Ok, false, MatchResult};
-ghost use Rattle.facet_json_command_line.specs.declared.outcome.Outcome.TheVariants as outcome;
-ghost use Rattle.facet_json_command_line.specs.Outcome.{IsFault, IsToldAs};
+ghost use Rattle.facet_json_command.specs.declared.outcome.Outcome.TheVariants as outcome;
+ghost use Rattle.facet_json_command.specs.Outcome.{IsFault, IsToldAs};
 ghost use Rattle.facet_json_command.specs.Session.{Marks, outcome_of};
 
-use facet_json_command_line::outcome::{Outcome, failure_of};
+use crate::outcome::{Outcome, failure_of};
 use std::alloc::Global;
 use std::io;
 use std::io::ErrorKind;

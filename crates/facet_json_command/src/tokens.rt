@@ -5,21 +5,21 @@ ghost use Rattle.std.specs.List.{flat_map};
 ghost use Rattle.facet_format.specs.Views.{hint_of};
 ghost use Rattle.facet_json_token.specs.Gap.{Mode as SpecMode};
 ghost use Rattle.facet_json_token.specs.Views.{mode_of};
-ghost use Rattle.facet_json_pieces.specs.Listed.{mode_with, AreTokensOf, RefusalWithin};
-ghost use Rattle.facet_json_command_line.specs.declared.outcome.Outcome.TheVariants as outcome;
+ghost use Rattle.facet_json_scan.specs.Listed.{mode_with, AreTokensOf, RefusalWithin};
+ghost use Rattle.facet_json_command.specs.declared.outcome.Outcome.TheVariants as outcome;
 ghost use Rattle.facet_json_command.specs.TokenLines.{hint_name};
 ghost use Rattle.facet_json_command.specs.TokenViews.{text_of_token, code_of_kind};
 ghost use Rattle.facet_json_command.specs.Run.{IsWithin, Prints, ListsTokens};
 ghost use Rattle.facet_json_command.specs.Session.{Marks, outcome_of};
-ghost use Rattle.facet_json_command_line.specs.Outcome.{IsFault, IsToldAs};
+ghost use Rattle.facet_json_command.specs.Outcome.{IsFault, IsToldAs};
 
 use crate::input::Input;
 use crate::lines::{write_place, write_value};
 use crate::session::Session;
 use facet_format::Span;
 use facet_format::numeral::NumberHint;
-use facet_json_command_line::outcome::{OUT_OF_MEMORY, Outcome};
-use facet_json_pieces::{ScanReadError, Scanned, scan_reader};
+use crate::outcome::{OUT_OF_MEMORY, Outcome};
+use facet_json_scan::{ScanReadError, Scanned, scan_reader};
 use facet_json_token::{Mode, ScanErrorKind, SpannedToken, Token};
 use std::io::{Read, Write};
 

@@ -7,12 +7,12 @@ use Rattle.facet_json_core.specs.declared.script.Call.{Call}
 use Rattle.facet_json_core.specs.declared.script.Answer.{Answer}
 use Rattle.facet_format.specs.Cursor as cursor
 use Rattle.facet_format.specs.Cursor.{Source, on_walk, Cursor, Run}
-use Rattle.facet_json_protocol.specs.Now.{Now, StandsAt}
-use Rattle.facet_json_protocol.specs.Move.{Moves, MovesAll}
-use Rattle.facet_json_protocol.specs.Within.{AnswerWithin}
+use Rattle.facet_json_document.specs.Now.{Now, StandsAt}
+use Rattle.facet_json_document.specs.Move.{Moves, MovesAll}
+use Rattle.facet_json_document.specs.Within.{AnswerWithin}
 use Rattle.facet_json_core.specs.ScriptViews.{call_of, answer_of}
-use Rattle.facet_json_protocol.proofs.MoveIsStep.{moves-run}
-use Rattle.facet_json_protocol.proofs.MoveLaws.{moves-one_more}
+use Rattle.facet_json_document.proofs.MoveIsStep.{moves-run}
+use Rattle.facet_json_document.proofs.MoveLaws.{moves-one_more}
 
 take-next : (calls : List Call) (i : ℕ) (d : Call) → i < length calls → take (suc i) calls ≡ take i calls ++ get_or calls i d ∷ []
 take-next [] i d h = absurd (omega (arith, h))

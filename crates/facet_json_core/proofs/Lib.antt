@@ -1,1 +1,15 @@
 pub mod CallsInOrder
+pub mod Cuts
+pub mod DocumentFromRoot
+pub mod DocumentPassed
+pub mod Lines
+pub mod Misplaced
+pub mod Names
+pub mod NextEventComes
+pub mod Passing
+pub mod PrefixBreaksOff
+pub mod Refusing
+pub mod StrictFromRoot
+pub mod ValueOrBreak
+pub mod ValuePasses
+pub mod WalkTells

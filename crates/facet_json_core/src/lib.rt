@@ -1,16 +1,35 @@
 //! The parser of JSON documents by events, `JsonParser` (RFC 8259, alone or with lenient readings, and JSONC comments), and `drive`,
-//! which makes a list of its calls; the serializer, `JsonSerializer`, which writes call by call, and its options; `RawJson`,
-//! JSON text that is kept as it stands; and `JsonError`, the error that a person reads. `laws` has what shows the definitions of documents, parsers and serializers right.
+//! which makes a list of its calls; the serializer, `JsonSerializer`, which writes call by call, and its options; `transcode`, which passes
+//! a value from the one to the other; `RawJson`, JSON text that is kept as it stands; and `JsonError`, the error that a person reads, with
+//! its `Report`. `laws` has what shows the definitions of documents, parsers and serializers right.
 #![tactic(auto)]
 
+mod error;
+mod kind;
+mod label;
 pub mod laws;
+mod line;
+mod next;
+mod place;
+mod raw;
+mod refusals;
+mod report;
 mod script;
+mod text;
+mod transcode_error;
+mod value;
 
+pub use raw::RawJson;
+pub use error::{JsonError, Result};
+pub use kind::JsonErrorKind;
+pub use line::{Position, position_at};
+pub use place::Place;
+pub use report::Report;
 pub use facet_format::{FormatParser, FormatSerializer};
-pub use facet_json_error::{JsonError, JsonErrorKind, Result};
-pub use facet_json_options::{BytesFormat, HexBytesOptions, SerializeOptions};
 pub use facet_json_parser::JsonParser;
-pub use facet_json_raw::RawJson;
 pub use facet_json_reader::{MaterializedToken, TokenKind};
-pub use facet_json_serializer::{JsonSerializeError, JsonSerializer};
+pub use facet_json_serializer::{BytesFormat, HexBytesOptions, JsonSerializeError, JsonSerializer, SerializeOptions};
+pub use next::{ended, mismatch, next_of_value, pass_end};
+pub use transcode_error::TranscodeError;
+pub use value::transcode;
 pub use script::{Answer, Call, drive};

@@ -3,9 +3,9 @@
 ghost use Rattle.std.specs.Prelude.{◌≡◌, ◌+◌, ◌≤◌, ℕ, List, length, map, IfOk, IfErr};
 ghost use Rattle.std.specs.List.{All};
 ghost use Rattle.facet_format.specs.Cursor.{Source, on_walk, Cursor, Run};
-ghost use Rattle.facet_json_protocol.specs.Now.{StandsAt, SameInput};
-ghost use Rattle.facet_json_protocol.specs.Move.{Moves, MovesAll};
-ghost use Rattle.facet_json_protocol.specs.Within.{AnswerWithin};
+ghost use Rattle.facet_json_document.specs.Now.{StandsAt, SameInput};
+ghost use Rattle.facet_json_document.specs.Move.{Moves, MovesAll};
+ghost use Rattle.facet_json_document.specs.Within.{AnswerWithin};
 ghost use Rattle.facet_json_core.specs.ScriptViews.{call_of, answer_of};
 
 use facet_format::{FormatParser, ParseError, ParseEvent, SavePoint, Span};

@@ -5,7 +5,7 @@ use Rattle.facet_format.specs.Event.{ContainerKind, Passed}
 use Rattle.facet_json_token.specs.Token.{Kind, Token, Fault}
 use Rattle.facet_json_token.specs.Token as token
 use Rattle.facet_json_token.specs.Tokens.{Tokens, ended, refused, next}
-use Rattle.facet_json_strict.specs.Strict.{strict_fault}
+use Rattle.facet_json_token.specs.Strict.{strict_fault}
 use Rattle.facet_json_document.specs.Future.{Future, finished, events_before, Stage, within, over, behind_root, stack_after, stage_after, after_value, reads_by, reads_colon_by}
 use Rattle.facet_json_document.specs.Language.{strict_rules}
 use Rattle.facet_json_document.specs.Place.{Place, root, before_key, after_key, after_colon, after_member, before_item, after_item, next_key, next_item, after_root, Turn, stops, passes, says, says_scalar, names, place_turn, goes_on, led}

@@ -5,8 +5,8 @@ use Rattle.facet_format.specs.Complaint.{Refusal}
 use Rattle.facet_json_token.specs.Token.{Token}
 use Rattle.facet_json_token.specs.Token as token
 use Rattle.facet_json_token.specs.Tokens.{Tokens}
-use Rattle.facet_json_decode.specs.Fault.{FirstFault}
-use Rattle.facet_json_decode.proofs.FaultLaws.{one_fault}
+use Rattle.facet_json_token.specs.Fault.{FirstFault}
+use Rattle.facet_json_token.proofs.FaultLaws.{one_fault}
 use Rattle.facet_json_document.specs.Place.{Place}
 use Rattle.facet_json_document.specs.Refusal.{is_number, Complains, of_number, of_plain_string, of_escaped_string, IsStuck, at_end, at_fault, meaningless, misplaced}
 

@@ -11,8 +11,8 @@ use Rattle.facet_json_token.specs.Token as token
 use Rattle.facet_json_token.specs.Tokens.{Tokens, ended, refused, next, tokens_from}
 use Rattle.facet_json_token.specs.Cut.{Cut, nothing_left, token as cut_token, fault, cut}
 use Rattle.facet_json_token.proofs.TokensSteps.{tokens_from-others, tokens_from-token, tokens_from-fault, tokens_from-nothing}
-use Rattle.facet_json_strict.specs.RfcNumberTest.{is_rfc_number}
-use Rattle.facet_json_strict.specs.Strict.{may_stand, wrong_at, content_fault, strict_fault, strict_fault_of}
+use Rattle.facet_json_token.specs.RfcNumberTest.{is_rfc_number}
+use Rattle.facet_json_token.specs.Strict.{may_stand, wrong_at, content_fault, strict_fault, strict_fault_of}
 use Rattle.facet_json_document.specs.Language.{Language, lenient, strict, gaps}
 use Rattle.facet_json_document.specs.StrictTokens.{strict_tokens, tokens_in, strict_cut, cut_in, Allows}
 use Rattle.facet_json_document.specs.Refusal.{needs_meaning}

@@ -4,7 +4,7 @@ use Rattle.facet_format.specs.Span.{span_at}
 use Rattle.facet_json_token.specs.Token.{Kind, Token, Fault}
 use Rattle.facet_json_token.specs.Token as token
 use Rattle.facet_json_token.specs.Tokens.{Tokens, ended, refused, next}
-use Rattle.facet_json_decode.specs.Fault.{Fault as TextFault, FirstFault, fault_refusal}
+use Rattle.facet_json_token.specs.Fault.{Fault as TextFault, FirstFault, fault_refusal}
 use Rattle.facet_json_document.specs.Meaning.{meaning}
 use Rattle.facet_json_document.specs.Place.{Place, goes_on, expected_at, complaint_at_end, complaint_of_fault, kind_name}
 use Rattle.facet_format.specs.Complaint.{Complaint, unexpected_char, unexpected_token, invalid_utf8, Refusal, refusal_at}

@@ -1,3 +1,5 @@
+pub mod AccountLaws
+pub mod Accounts
 pub mod Driving
-pub mod Records
 pub mod RecordLaws
+pub mod Records

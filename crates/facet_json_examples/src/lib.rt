@@ -1,6 +1,7 @@
 //! Callers of `facet_json`, short and proved: the examples of the README, and more.
 #![tactic(auto)]
 
+pub mod accounts;
 pub mod driving;
 pub mod events;
 pub mod log_filter;
@@ -17,3 +18,4 @@ pub mod transcoding;
 pub mod trees;
 pub mod typed;
 pub mod writing;
+

@@ -6,10 +6,7 @@ ghost use Rattle.facet_json.specs.Gap.{plain};
 ghost use Rattle.facet_json_examples.specs.Records.{person};
 ghost use Rattle.facet_json.specs.Inputs.{IsReadFrom, IsUnreadFrom};
 
-use facet_json::{
-    DeserializeError, Done, Facet, JsonParser, JsonSerializeError, JsonSerializer, Maybe, Need,
-    RawJson, from_slice, from_slice_borrowed, read_fields, write_fields,
-};
+use facet_json::{DeserializeError, Done, Facet, JsonParser, JsonSerializeError, JsonSerializer, Maybe, Need, RawJson, from_slice, from_slice_borrowed, read_fields, write_fields};
 use std::alloc::Global;
 
 /// A person, as `{"name":"Alice","age":30}`.
@@ -89,7 +86,7 @@ pub struct Response<T> {
 impl<'de, T: Facet<'de>> Facet<'de> for Response<T> {
     ghost use Rattle.std.specs.Prelude.{ℕ, false};
     ghost use Rattle.facet_json.specs.Shapes.{shape};
-    ghost use Rattle.facet_json_record.proofs.StructLaws.{shape-laws};
+    ghost use Rattle.facet_json.proofs.StructLaws.{shape-laws};
     ghost use Rattle.facet_json_examples.specs.Records.{response};
     ghost use Rattle.facet_json_examples.specs.RecordLaws.{response-laws};
 

@@ -1,3 +1,3 @@
+pub mod ListCalls
 pub mod MapCalls
 pub mod ScalarsOfRust
-pub mod ListCalls

@@ -10,9 +10,9 @@ use Rattle.facet_json_serializer.specs.declared.error.JsonSerializeError.{JsonSe
 use Rattle.facet_json_serializer.specs.Serializer.{Writing, out_of_memory, Appends}
 use Rattle.facet_json_serializer.specs.TreeCalls.{tree_calls, item_calls}
 use Rattle.facet_json_serializer.specs.Views.{answer_of, refusal_of}
-use Rattle.facet_json_write.specs.Write.{HasWritten, IsOfRust}
-use Rattle.facet_json_write.proofs.CallsLeft.{AreLeft, first-made, tree-made, last-answered, last-refused, last-spent}
-use Rattle.facet_json_write.proofs.OfRust.{item-of_rust, no_item-of_rust, seen-of_rust}
+use Rattle.facet_json_tree.specs.Write.{HasWritten, IsOfRust}
+use Rattle.facet_json_tree.proofs.CallsLeft.{AreLeft, first-made, tree-made, last-answered, last-refused, last-spent}
+use Rattle.facet_json_tree.proofs.OfRust.{item-of_rust, no_item-of_rust, seen-of_rust}
 use Rattle.facet_json_meaning.specs.Lists.{trees_by, list_by}
 use Rattle.facet_json_facet.proofs.ScalarsOfRust.{on-ok}
 

@@ -10,9 +10,9 @@ use Rattle.facet_json_document.specs.Tree.{Tree, pairs, Pairs}
 use Rattle.facet_json_meaning.specs.Maps.{seen_entries, pairs_of_entries}
 use Rattle.facet_json_serializer.specs.Serializer.{Writing, Appends}
 use Rattle.facet_json_serializer.specs.TreeCalls.{tree_calls, member_calls}
-use Rattle.facet_json_write.specs.Write.{HasWritten, IsOfRust}
-use Rattle.facet_json_write.proofs.CallsLeft.{AreLeft, call-made, first-made, tree-made}
-use Rattle.facet_json_write.proofs.OfRust.{member-of_rust, no_member-of_rust}
+use Rattle.facet_json_tree.specs.Write.{HasWritten, IsOfRust}
+use Rattle.facet_json_tree.proofs.CallsLeft.{AreLeft, call-made, first-made, tree-made}
+use Rattle.facet_json_tree.proofs.OfRust.{member-of_rust, no_member-of_rust}
 
 module _ {Z T V : Type 0} (view : T → V) (tree : V → Tree) (always : V → Type 0) where
   abbrev members : List (String Z × T) → Pairs

@@ -3,8 +3,8 @@ use Rattle.std.proofs.Common.{◌≡◌, ◌<◌, ◌^◌, ℕ, Bool, true, List
 use Rattle.std.specs.Result.{OnOk}
 use Rattle.std.specs.Str.{is_utf8}
 use Rattle.facet_json_document.specs.Tree.{null, bool, i64, u64, text, i128, u128, raw}
-use Rattle.facet_json_written.specs.AsRead.{IsWithin, WellFormed, RawParts}
-use Rattle.facet_json_write.specs.Write.{IsOfRust}
+use Rattle.facet_json_document.specs.AsRead.{IsWithin, WellFormed, RawParts}
+use Rattle.facet_json_tree.specs.Write.{IsOfRust}
 
 -- what holds whatever was answered
 pub on-ok : {E : Type 0} (P : Type 0) (r : Result (Unit {0}) E) → P → OnOk r P

@@ -2,18 +2,18 @@
 
 ghost use Rattle.std.specs.Prelude.{◌≡◌, ◌<◌, true, None, OnOk, OnErr, IfOk, IfErr};
 ghost use Rattle.facet_format.specs.Views.{refusal_of};
-ghost use Rattle.facet_json_protocol.specs.Now.{ahead};
-ghost use Rattle.facet_json_protocol.specs.Within.{RefusalWithin};
+ghost use Rattle.facet_json_document.specs.Now.{ahead};
+ghost use Rattle.facet_json_document.specs.Within.{RefusalWithin};
 ghost use Rattle.facet_json_meaning.specs.Refusing.{TellsRefusal};
 ghost use Rattle.facet_json_serializer.specs.Serializer.{out_of_memory};
 ghost use Rattle.facet_json_serializer.specs.Views.{refusal_of as writing_refusal_of};
-ghost use Rattle.facet_json_write.specs.Write.{HasWritten, IsOfRust};
+ghost use Rattle.facet_json_tree.specs.Write.{HasWritten, IsOfRust};
 ghost use Rattle.facet_json_meaning.specs.Nodes.{KeepsOn};
 ghost use Rattle.facet_json_meaning.specs.OneValue.{PassesValue};
 ghost use Rattle.facet_json_meaning.specs.Reading.{IsRead, IsUnread, HasDocument, EndsStrictly};
 
 use facet_format::DeserializeError;
-use facet_json_meaning::JsonParser;
+use facet_json_parser::JsonParser;
 use facet_json_serializer::{JsonSerializeError, JsonSerializer};
 use std::alloc::Global;
 

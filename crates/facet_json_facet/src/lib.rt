@@ -1,6 +1,5 @@
-//! Types that are read from JSON and written as JSON: the trait `Facet`, and the types of std and of this library that have it. What it means that a
-//! type is read is defined in `facet_json_meaning`. The parser that they read from is `JsonParser`, and the serializer that they
-//! write to is `JsonSerializer`.
+//! Types that are read from JSON and written as JSON: the trait `Facet`, and the types of std and of this library that have it. What it means
+//! that a type is read is defined in `facet_json_meaning`. `steps` has what readers by hand are made of.
 #![tactic(auto)]
 
 mod facet;
@@ -10,6 +9,7 @@ mod maps;
 mod options;
 mod raw;
 mod signed;
+pub mod steps;
 mod texts;
 mod trees;
 mod truth;
@@ -18,4 +18,3 @@ mod whole;
 mod wide;
 
 pub use facet::Facet;
-pub use facet_json_steps as steps;

@@ -3,8 +3,8 @@
 ghost use Rattle.std.specs.Prelude.{◌≡◌, ◌<◌, false, cond, map, None, IfOk, IfErr, OnOk};
 ghost use Rattle.std.specs.List.{All};
 ghost use Rattle.facet_format.specs.Views.{refusal_of};
-ghost use Rattle.facet_json_protocol.specs.Now.{ahead};
-ghost use Rattle.facet_json_protocol.specs.Within.{RefusalWithin};
+ghost use Rattle.facet_json_document.specs.Now.{ahead};
+ghost use Rattle.facet_json_document.specs.Within.{RefusalWithin};
 ghost use Rattle.facet_json_meaning.specs.Refusing.{TellsRefusal};
 ghost use Rattle.facet_json_meaning.specs.Lists.{list_of};
 ghost use Rattle.facet_json_meaning.specs.Nodes.{KeepsOn};
@@ -13,9 +13,10 @@ ghost use Rattle.facet_json_meaning.specs.Reading.{IsRead, IsUnread};
 
 use crate::facet::Facet;
 use facet_format::{DeserializeError, FormatSerializer};
-use facet_json_meaning::JsonParser;
+use facet_json_parser::JsonParser;
 use facet_json_serializer::{JsonSerializeError, JsonSerializer};
-use facet_json_steps::{begin_list, end_comes, next_of_value};
+use crate::steps::lists::{begin_list, end_comes};
+use crate::steps::next::next_of_value;
 use std::alloc::Global;
 
 /// A list (RFC 8259, section 5): an array, each of whose elements is read as a `T`, in order. Only `read` borrows of the input, where

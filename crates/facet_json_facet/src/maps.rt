@@ -8,9 +8,9 @@ ghost use Rattle.facet_format.specs.Views.{refusal_of};
 
 use crate::facet::Facet;
 use facet_format::{DeserializeError, FormatSerializer};
-use facet_json_meaning::JsonParser;
+use facet_json_parser::JsonParser;
 use facet_json_serializer::{JsonSerializeError, JsonSerializer};
-use facet_json_steps::{begin_object, next_key};
+use crate::steps::objects::{begin_object, next_key};
 use std::alloc::Global;
 use std::collections::BTreeMap;
 

@@ -2,9 +2,9 @@
 
 use crate::facet::Facet;
 use facet_format::{DeserializeError, FormatSerializer, ScalarValue};
-use facet_json_meaning::JsonParser;
+use facet_json_parser::JsonParser;
 use facet_json_serializer::{JsonSerializeError, JsonSerializer};
-use facet_json_steps::{null_comes, pass_null};
+use crate::steps::next::{null_comes, pass_null};
 use std::alloc::Global;
 
 /// A value that may be null (RFC 8259, section 3): `null` is `None`, and every other value is read as a `T`.

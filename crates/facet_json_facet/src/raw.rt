@@ -4,8 +4,8 @@ ghost use Rattle.std.specs.Prelude.{◌≡◌, ◌<◌, true, false, None, IfOk,
 ghost use Rattle.facet_format.specs.Complaint.{no_memory};
 ghost use Rattle.facet_format.specs.Event.{bytes_of, owned, is_owned};
 ghost use Rattle.facet_format.specs.Views.{refusal_of};
-ghost use Rattle.facet_json_protocol.specs.Now.{ahead};
-ghost use Rattle.facet_json_protocol.specs.Within.{RefusalWithin};
+ghost use Rattle.facet_json_document.specs.Now.{ahead};
+ghost use Rattle.facet_json_document.specs.Within.{RefusalWithin};
 ghost use Rattle.facet_json_meaning.specs.Refusing.{TellsRefusal};
 ghost use Rattle.facet_json_meaning.specs.Nodes.{KeepsOn};
 ghost use Rattle.facet_json_meaning.specs.Reading.{IsRead, IsUnread, HasDocument, EndsStrictly};
@@ -14,8 +14,8 @@ ghost use Rattle.facet_json_meaning.specs.Readings.{raw_of};
 
 use crate::facet::Facet;
 use facet_format::{DeserializeError, FormatParser, FormatSerializer};
-use facet_json_meaning::JsonParser;
-use facet_json_raw::RawJson;
+use facet_json_parser::JsonParser;
+use facet_json_core::RawJson;
 use facet_json_serializer::{JsonSerializeError, JsonSerializer};
 use std::alloc::Global;
 

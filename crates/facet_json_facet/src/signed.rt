@@ -3,14 +3,14 @@
 use crate::facet::Facet;
 use crate::whole::{next_whole, out_of_range};
 use facet_format::{DeserializeError, FormatSerializer, ScalarValue};
-use facet_json_meaning::JsonParser;
+use facet_json_parser::JsonParser;
 use facet_json_serializer::{JsonSerializeError, JsonSerializer};
 use std::alloc::Global;
 
 impl<'de> Facet<'de> for i8 {
     ghost use Rattle.std.specs.Prelude.{ℤ, true};
     ghost use Rattle.facet_json_document.specs.Tree.{i64 as i64_tree};
-    ghost use Rattle.facet_json_written.specs.AsRead.{IsWithin};
+    ghost use Rattle.facet_json_document.specs.AsRead.{IsWithin};
     ghost use Rattle.facet_json_meaning.specs.Readings.{leaf, signed_of};
     ghost use Rattle.facet_json_meaning.proofs.Leaves.LeafLaws.{leaf-same};
     ghost use Rattle.facet_json_meaning.proofs.Leaves.WholeNumbers.{i8-reads_back};
@@ -60,7 +60,7 @@ impl<'de> Facet<'de> for i8 {
 impl<'de> Facet<'de> for i16 {
     ghost use Rattle.std.specs.Prelude.{ℤ, true};
     ghost use Rattle.facet_json_document.specs.Tree.{i64 as i64_tree};
-    ghost use Rattle.facet_json_written.specs.AsRead.{IsWithin};
+    ghost use Rattle.facet_json_document.specs.AsRead.{IsWithin};
     ghost use Rattle.facet_json_meaning.specs.Readings.{leaf, signed_of};
     ghost use Rattle.facet_json_meaning.proofs.Leaves.LeafLaws.{leaf-same};
     ghost use Rattle.facet_json_meaning.proofs.Leaves.WholeNumbers.{i16-reads_back};
@@ -110,7 +110,7 @@ impl<'de> Facet<'de> for i16 {
 impl<'de> Facet<'de> for i32 {
     ghost use Rattle.std.specs.Prelude.{ℤ, true};
     ghost use Rattle.facet_json_document.specs.Tree.{i64 as i64_tree};
-    ghost use Rattle.facet_json_written.specs.AsRead.{IsWithin};
+    ghost use Rattle.facet_json_document.specs.AsRead.{IsWithin};
     ghost use Rattle.facet_json_meaning.specs.Readings.{leaf, signed_of};
     ghost use Rattle.facet_json_meaning.proofs.Leaves.LeafLaws.{leaf-same};
     ghost use Rattle.facet_json_meaning.proofs.Leaves.WholeNumbers.{i32-reads_back};
@@ -160,7 +160,7 @@ impl<'de> Facet<'de> for i32 {
 impl<'de> Facet<'de> for i64 {
     ghost use Rattle.std.specs.Prelude.{ℤ, true};
     ghost use Rattle.facet_json_document.specs.Tree.{i64 as i64_tree};
-    ghost use Rattle.facet_json_written.specs.AsRead.{IsWithin};
+    ghost use Rattle.facet_json_document.specs.AsRead.{IsWithin};
     ghost use Rattle.facet_json_meaning.specs.Readings.{leaf, signed_of};
     ghost use Rattle.facet_json_meaning.proofs.Leaves.LeafLaws.{leaf-same};
     ghost use Rattle.facet_json_meaning.proofs.Leaves.WholeNumbers.{i64-reads_back};
@@ -210,7 +210,7 @@ impl<'de> Facet<'de> for i64 {
 impl<'de> Facet<'de> for isize {
     ghost use Rattle.std.specs.Prelude.{ℤ, true};
     ghost use Rattle.facet_json_document.specs.Tree.{i64 as i64_tree};
-    ghost use Rattle.facet_json_written.specs.AsRead.{IsWithin};
+    ghost use Rattle.facet_json_document.specs.AsRead.{IsWithin};
     ghost use Rattle.facet_json_meaning.specs.Readings.{leaf, signed_of};
     ghost use Rattle.facet_json_meaning.proofs.Leaves.LeafLaws.{leaf-same};
     ghost use Rattle.facet_json_meaning.proofs.Leaves.WholeNumbers.{i64-reads_back};

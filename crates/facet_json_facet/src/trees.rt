@@ -2,11 +2,11 @@
 
 use crate::facet::Facet;
 use facet_format::DeserializeError;
-use facet_json_meaning::JsonParser;
-use facet_json_read::read_tree;
+use facet_json_parser::JsonParser;
+use facet_json_tree::read_tree;
 use facet_json_serializer::{JsonSerializeError, JsonSerializer};
 use facet_json_tree::Tree;
-use facet_json_write::write_tree;
+use facet_json_tree::write_tree;
 use std::alloc::Global;
 
 /// Any value (RFC 8259, section 3), as the tree that it stands for. Nothing of the input is borrowed.
@@ -22,7 +22,7 @@ impl<'de> Facet<'de> for Tree {
     ghost use Rattle.std.specs.Prelude.{true};
     ghost use Rattle.facet_json_document.specs.Meaning.{tree_of as tree_of_node};
     ghost use Rattle.facet_json_document.specs.Tree.{Tree as SpecTree};
-    ghost use Rattle.facet_json_written.specs.AsRead.{WellFormed};
+    ghost use Rattle.facet_json_document.specs.AsRead.{WellFormed};
     ghost use Rattle.facet_json_meaning.specs.Trees.{IsReadableTree};
     ghost use Rattle.facet_json_meaning.proofs.OfTrees.TreeLaws.{tree-same, tree-reads_back};
     ghost use Rattle.facet_json_tree.specs.Views.{tree_view};

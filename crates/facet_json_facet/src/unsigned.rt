@@ -3,7 +3,7 @@
 use crate::facet::Facet;
 use crate::whole::{next_whole, out_of_range};
 use facet_format::{DeserializeError, FormatSerializer, ScalarValue};
-use facet_json_meaning::JsonParser;
+use facet_json_parser::JsonParser;
 use facet_json_serializer::{JsonSerializeError, JsonSerializer};
 use std::alloc::Global;
 

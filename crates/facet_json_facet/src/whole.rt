@@ -4,19 +4,18 @@ ghost use Rattle.std.specs.Prelude.{◌≡◌, ◌≤◌, ◌<◌, None, Some, l
 ghost use Rattle.facet_format.specs.Complaint.{number_out_of_range, refusal_at};
 ghost use Rattle.facet_format.specs.Span.{stop};
 ghost use Rattle.facet_format.specs.Views.{event_of, refusal_of, span_of};
-ghost use Rattle.facet_json_protocol.specs.Now.{ahead};
-ghost use Rattle.facet_json_protocol.specs.Within.{RefusalWithin};
+ghost use Rattle.facet_json_document.specs.Now.{ahead};
+ghost use Rattle.facet_json_document.specs.Within.{RefusalWithin};
 ghost use Rattle.facet_json_meaning.specs.Refusing.{mismatch_of, IsSpanPassed, TellsRefusal};
 ghost use Rattle.facet_json_meaning.specs.Nodes.{KeepsOn};
 ghost use Rattle.facet_json_meaning.specs.OneValue.{PassesValue};
 ghost use Rattle.facet_json_meaning.specs.Reading.{IsRead, IsUnread, HasDocument, EndsStrictly};
 ghost use Rattle.facet_json_meaning.specs.Readings.{leaf, taken, whole_of};
 
-use facet_format::{
-    DeserializeError, DeserializeErrorKind, ParseEvent, ParseEventKind, ScalarValue, Span,
-};
-use facet_json_meaning::JsonParser;
-use facet_json_steps::{mismatch, next_of_value};
+use facet_format::{DeserializeError, DeserializeErrorKind, ParseEvent, ParseEventKind, ScalarValue, Span};
+use facet_json_parser::JsonParser;
+use facet_json_core::mismatch;
+use crate::steps::next::next_of_value;
 
 /// A whole number, and the bytes of the input that it stands in.
 #[derive(Debug, Clone, Copy)]

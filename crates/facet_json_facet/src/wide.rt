@@ -9,9 +9,10 @@ ghost use Rattle.facet_json_meaning.specs.Readings.{taken, u128_of, i128_of, uns
 use crate::facet::Facet;
 use crate::whole::out_of_range;
 use facet_format::{DeserializeError, FormatSerializer, ParseEvent, ParseEventKind, ScalarValue};
-use facet_json_meaning::JsonParser;
+use facet_json_parser::JsonParser;
 use facet_json_serializer::{JsonSerializeError, JsonSerializer};
-use facet_json_steps::{mismatch, next_of_value};
+use facet_json_core::mismatch;
+use crate::steps::next::next_of_value;
 use std::alloc::Global;
 
 impl<'de> Facet<'de> for u128 {
@@ -62,7 +63,7 @@ impl<'de> Facet<'de> for u128 {
 impl<'de> Facet<'de> for i128 {
     ghost use Rattle.std.specs.Prelude.{ℤ, true};
     ghost use Rattle.facet_json_document.specs.Tree.{i128 as i128_tree};
-    ghost use Rattle.facet_json_written.specs.AsRead.{IsWithin};
+    ghost use Rattle.facet_json_document.specs.AsRead.{IsWithin};
     ghost use Rattle.facet_json_meaning.specs.Readings.{leaf, i128_of};
     ghost use Rattle.facet_json_meaning.proofs.Leaves.LeafLaws.{leaf-same};
     ghost use Rattle.facet_json_meaning.proofs.Leaves.WideNumbers.{i128-reads_back};

@@ -1,7 +1,7 @@
 -- How the structs of `lent` are read and written: their fields, by their names in a document.
 use Rattle.std.specs.Prelude.{ℕ, ℤ, List, codes}
-use Rattle.facet_json_record.specs.Shapes.{Shape, struct_of, needs, no_more}
-use Rattle.facet_json_record.specs.Types.{borrowed, u32, i32}
+use Rattle.facet_json.specs.Shapes.{Shape, struct_of, needs, no_more}
+use Rattle.facet_json.specs.Types.{borrowed, u32, i32}
 
 abbrev pub person : Shape (List ℕ × (ℕ × Unit {0}))
 person = struct_of (needs (codes "name") borrowed (needs (codes "age") u32 no_more))

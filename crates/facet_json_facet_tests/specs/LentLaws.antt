@@ -1,8 +1,8 @@
 -- The laws of the structs of `lent`, field by field.
 use Rattle.std.specs.Prelude.{codes, refl}
-use Rattle.facet_json_record.specs.Shapes.{ShapeLaws}
-use Rattle.facet_json_record.proofs.StructLaws.{struct-laws, needs-laws, no_more-laws}
-use Rattle.facet_json_record.proofs.TypeLaws.{borrowed-laws, u32-laws, i32-laws}
+use Rattle.facet_json.specs.Shapes.{ShapeLaws}
+use Rattle.facet_json.proofs.StructLaws.{struct-laws, needs-laws, no_more-laws}
+use Rattle.facet_json.proofs.TypeLaws.{borrowed-laws, u32-laws, i32-laws}
 use Rattle.facet_json_facet_tests.specs.Lent.{person, labelled}
 
 pub person-laws : ShapeLaws person

@@ -1,4 +1,4 @@
-pub mod Percents
-pub mod PercentLaws
 pub mod Lent
 pub mod LentLaws
+pub mod PercentLaws
+pub mod Percents

@@ -2,7 +2,7 @@
 
 use crate::typed::{comes_back, out_of_range, reads, refuses};
 use facet_format::{DeserializeErrorKind, Span};
-use facet_json_accounts::Account;
+use facet_json_examples::accounts::Account;
 use std::alloc::{AllocError, Global};
 
 /// An account without a city and a parent.

@@ -2,7 +2,7 @@
 
 use crate::typed::{comes_back, out_of_range, refuses};
 use facet_format::Span;
-use facet_json_typed::Facet;
+use facet_json_facet::Facet;
 use std::alloc::Global;
 
 /// Whether each of these texts, which blanks part, is read as a number of the type, which is written as the text.

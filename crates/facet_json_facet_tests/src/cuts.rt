@@ -2,9 +2,10 @@
 //! no number, and each is refused as the parser refuses it.
 
 use facet_format::{DeserializeError, DeserializeErrorKind, Span};
-use facet_json_meaning::JsonParser;
-use facet_json_record::{Done, Need, read_fields};
-use facet_json_typed::{Facet, from_slice, from_slice_borrowed};
+use facet_json_parser::JsonParser;
+use facet_json::{Done, Need, read_fields};
+use facet_json_facet::Facet;
+use facet_json::{from_slice, from_slice_borrowed};
 use std::alloc::Global;
 use std::collections::BTreeMap;
 

@@ -1,5 +1,5 @@
-//! Tests of `facet_json_facet` and `facet_json_typed`: with ample memory each type is read and written, refusals are told as they should be, refused
-//! growths change nothing else, and a type of a user's own is read and written too.
+//! Tests of `facet_json_facet`, `facet_json` and `facet_json_examples`: with ample memory each type is read and written, refusals are told as
+//! they should be, failed allocations change nothing else, and types of a user's own are read and written too.
 #![tactic(auto)]
 
 #[cfg(test)]
@@ -11,7 +11,11 @@ mod containers;
 #[cfg(test)]
 mod cuts;
 #[cfg(test)]
+mod driving;
+#[cfg(test)]
 mod entries;
+#[cfg(test)]
+mod example_records;
 #[cfg(test)]
 mod growth;
 #[cfg(test)]
@@ -27,6 +31,8 @@ mod records;
 #[cfg(test)]
 mod refusals;
 #[cfg(test)]
+mod rewriting;
+#[cfg(test)]
 mod strict;
 #[cfg(test)]
 mod texts;
@@ -38,3 +44,4 @@ mod trees;
 mod typed;
 #[cfg(test)]
 mod wide;
+

@@ -3,14 +3,14 @@
 ghost use Rattle.std.specs.Prelude.{◌≡◌, ◌≤◌, Some, length};
 ghost use Rattle.facet_format.specs.Span.{stop};
 ghost use Rattle.facet_format.specs.Views.{refusal_of, span_of};
-ghost use Rattle.facet_json_protocol.specs.Now.{span_of as last_read};
+ghost use Rattle.facet_json_document.specs.Now.{span_of as last_read};
 ghost use Rattle.facet_json_meaning.specs.Refusing.{IsAbout};
 
 use crate::typed::{is_itself, out_of_range, refuses};
 use facet_format::{DeserializeError, DeserializeErrorKind, FormatParser, Span};
-use facet_json_meaning::JsonParser;
+use facet_json_parser::JsonParser;
 use facet_json_serializer::{JsonSerializeError, JsonSerializer};
-use facet_json_typed::Facet;
+use facet_json_facet::Facet;
 use std::alloc::Global;
 
 /// A value with a name of its own, which is read and written as the value is.

@@ -2,7 +2,7 @@
 
 use crate::typed::{is_itself, mismatch, reads, refuses};
 use facet_format::Span;
-use facet_json_typed::{from_str, to_string};
+use facet_json::{from_str, to_string};
 use std::alloc::Global;
 
 /// Whether the input is read as this text.

@@ -2,7 +2,7 @@
 
 use crate::typed::{is_itself, reads};
 use facet_json_tree::Tree;
-use facet_json_typed::from_slice;
+use facet_json::from_slice;
 use std::alloc::{AllocError, Global};
 use std::collections::BTreeMap;
 

@@ -2,7 +2,7 @@
 
 use crate::typed::{is_itself, mismatch, out_of_range, reads, refuses};
 use facet_format::Span;
-use facet_json_typed::Facet;
+use facet_json_facet::Facet;
 use std::alloc::Global;
 
 #[test]

@@ -8,7 +8,7 @@ use Rattle.facet_json_token.specs.Token.{Kind}
 use Rattle.facet_json_token.specs.Token as token
 use Rattle.facet_json_document.specs.Node.{Node, scalar, array, object}
 use Rattle.facet_json_document.specs.Meaning.{meaning}
-use Rattle.facet_json_transcode.specs.Refusing.{mismatch_of}
+use Rattle.facet_json_core.specs.Refusing.{mismatch_of}
 use Rattle.facet_json_meaning.specs.Readings.{text_of}
 
 -- a string without a backslash

@@ -4,7 +4,7 @@ use Rattle.facet_json_document.specs.Document.{IsWholeDocument}
 use Rattle.facet_json_document.specs.Node.{Node}
 use Rattle.facet_json_document.specs.Text.{text, default_options}
 use Rattle.facet_json_document.specs.Tree.{Tree}
-use Rattle.facet_json_written.specs.AsRead.{RawParts, IsDocumentText}
+use Rattle.facet_json_document.specs.AsRead.{RawParts, IsDocumentText}
 use Rattle.facet_json_meaning.specs.Nodes.{SameText}
 
 -- Nodes that the same bytes spell have the same reading.

@@ -13,5 +13,5 @@ pub mod Optional
 pub mod Peeking
 pub mod Lists
 pub mod Trees
-pub use Rattle.facet_json_transcode.specs.Reading as ValueReading
-pub use Rattle.facet_json_transcode.specs.Refusing as Refusing
+pub use Rattle.facet_json_core.specs.Reading as ValueReading
+pub use Rattle.facet_json_core.specs.Refusing as Refusing

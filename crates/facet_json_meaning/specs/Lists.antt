@@ -6,7 +6,7 @@ use Rattle.facet_format.specs.Cursor.{Cursor, Source, at_spot, peeked_at}
 use Rattle.facet_format.specs.Event.{Event, EventKind, sequence_start, sequence_end, Passed}
 use Rattle.facet_json_document.specs.Node.{Node, scalar, array, object, Nodes, no_nodes, item}
 use Rattle.facet_json_document.specs.Tree.{Tree, list, Trees, no_trees, tree}
-use Rattle.facet_json_protocol.specs.Now.{Now, StandsAt}
+use Rattle.facet_json_document.specs.Now.{Now, StandsAt}
 use Rattle.facet_json_meaning.specs.Passing.{WalksPast}
 use Rattle.facet_json_meaning.specs.Reading.{IsUnread}
 

@@ -11,8 +11,8 @@ use Rattle.facet_json_document.specs.Meaning.{tree_of}
 use Rattle.facet_json_document.specs.Refusal.{needs_meaning}
 use Rattle.facet_json_document.specs.Walk.{walk}
 use Rattle.facet_json_document.specs.InputPlace.{Standing}
-use Rattle.facet_json_protocol.specs.Now.{Now, StandsAt, SameInput, ahead, LeadsTo}
-use Rattle.facet_json_protocol.specs.SkipLaws.{bytes_between}
+use Rattle.facet_json_document.specs.Now.{Now, StandsAt, SameInput, ahead, LeadsTo}
+use Rattle.facet_json_document.specs.SkipLaws.{bytes_between}
 
 -- ---- before and after a node
 

@@ -4,8 +4,8 @@ use Rattle.facet_format.specs.Complaint.{Refusal}
 use Rattle.facet_format.specs.Cursor.{Cursor, Source}
 use Rattle.facet_format.specs.Event.{Event, EventKind, struct_start, struct_end, field_key, bytes_of, Passed}
 use Rattle.facet_json_document.specs.Node.{Node, scalar, array, object, Members}
-use Rattle.facet_json_protocol.specs.Now.{Now, StandsAt}
-use Rattle.facet_json_transcode.specs.Reading.{LacksMemory}
+use Rattle.facet_json_document.specs.Now.{Now, StandsAt}
+use Rattle.facet_json_core.specs.Reading.{LacksMemory}
 use Rattle.facet_json_meaning.specs.Passing.{WalksPast}
 use Rattle.facet_json_meaning.specs.Reading.{IsUnread}
 

@@ -4,9 +4,9 @@ use Rattle.facet_format.specs.Complaint.{Refusal}
 use Rattle.facet_format.specs.Event.{Event, Passed}
 use Rattle.facet_format.specs.Cursor.{Cursor, Source, at_spot, unpeeked}
 use Rattle.facet_json_document.specs.Node.{Node}
-use Rattle.facet_json_protocol.specs.Now.{Now, StandsAt}
-use Rattle.facet_json_protocol.specs.Next.{PassesNext}
-use Rattle.facet_json_transcode.specs.Reading.{LacksMemory}
+use Rattle.facet_json_document.specs.Now.{Now, StandsAt}
+use Rattle.facet_json_document.specs.Next.{PassesNext}
+use Rattle.facet_json_core.specs.Reading.{LacksMemory}
 use Rattle.facet_json_meaning.specs.Optional.{is_null_event}
 
 -- The event stands at the cursor's place, and is passed.

@@ -2,7 +2,7 @@
 use Rattle.std.specs.Prelude.{◌≡◌, ℕ, Bool, slice_get, Some, None}
 use Rattle.facet_format.specs.Event.{Passed}
 use Rattle.facet_format.specs.Cursor.{Cursor, Source, at_spot, peeked_at}
-use Rattle.facet_json_protocol.specs.Now.{Now, StandsAt}
+use Rattle.facet_json_document.specs.Now.{Now, StandsAt}
 use Rattle.facet_json_meaning.specs.Optional.{is_null_event}
 
 -- The answer is whether this event is null, and the event stays the next one.

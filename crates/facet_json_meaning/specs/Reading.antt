@@ -9,8 +9,8 @@ use Rattle.facet_json_document.specs.Document.{IsDocument}
 use Rattle.facet_json_document.specs.Future.{finished}
 use Rattle.facet_json_document.specs.Language.{strict}
 use Rattle.facet_json_document.specs.StrictDocument.{IsStrict}
-use Rattle.facet_json_protocol.specs.Now.{Now, fresh, fresh_in, future_of}
-use Rattle.facet_json_transcode.specs.Reading.{LacksMemory}
+use Rattle.facet_json_document.specs.Now.{Now, fresh, fresh_in, future_of}
+use Rattle.facet_json_core.specs.Reading.{LacksMemory}
 use Rattle.facet_json_meaning.specs.Nodes.{StandsBefore, StandsAfter}
 
 -- Before whatever node the parser stood, the value is that node's reading, and the parser stands right after the node.

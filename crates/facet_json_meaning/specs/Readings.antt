@@ -13,8 +13,8 @@ use Rattle.facet_json_document.specs.RunLaws.{last_token}
 use Rattle.facet_json_document.specs.UnreadLaws.{first_token}
 use Rattle.facet_json_document.specs.Tree.{Tree, bool, i64, u64, text}
 use Rattle.facet_json_document.specs.Meaning.{meaning}
-use Rattle.facet_json_protocol.specs.SkipLaws.{bytes_between}
-use Rattle.facet_json_transcode.specs.Told.{tree_of_scalar}
+use Rattle.facet_json_document.specs.SkipLaws.{bytes_between}
+use Rattle.facet_json_core.specs.Told.{tree_of_scalar}
 
 -- what a type reads that has its value from a scalar alone
 abbrev pub leaf : {V : Type 0} → (Tree → Option V) → List ℕ → Node → Option V

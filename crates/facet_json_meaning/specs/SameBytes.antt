@@ -8,7 +8,7 @@ use Rattle.facet_json_document.specs.Node.{Node, array, object, Nodes, item, Mem
 use Rattle.facet_json_document.specs.RunLaws.{last_token}
 use Rattle.facet_json_document.specs.Tree.{Tree}
 use Rattle.facet_json_document.specs.UnreadLaws.{first_token}
-use Rattle.facet_json_protocol.specs.SkipLaws.{bytes_between}
+use Rattle.facet_json_document.specs.SkipLaws.{bytes_between}
 use Rattle.facet_json_meaning.specs.Nodes.{SameText}
 
 -- ---- nodes of a buffer

@@ -4,4 +4,4 @@
 
 pub mod laws;
 
-pub use facet_json_transcode::JsonParser;
+pub use facet_json_parser::JsonParser;

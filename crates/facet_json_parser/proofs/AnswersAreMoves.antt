@@ -11,19 +11,19 @@ use Rattle.facet_format.specs.Kept.{found, without, with_point}
 use Rattle.facet_format.specs.Cursor.{Call, Answer, event, saved, restored, spans, next, peek, save, restore, span, World, Spot, Cursor, at_spot, refused_at, greatest, no_memory_at, Step, repeats, saves, saves_at_the_limit, saves_without_memory, restores, restores_nothing, tells}
 use Rattle.facet_format.specs.Cursor as cursor
 use Rattle.facet_json_document.specs.InputPlace.{Standing}
-use Rattle.facet_json_protocol.specs.Now.{Now, on_input, span_of}
-use Rattle.facet_json_protocol.specs.Move.{Moves}
-use Rattle.facet_json_protocol.specs.Next.{PassesNext, ShowsNext, IsOver}
-use Rattle.facet_json_protocol.proofs.MoveLaws.{with_cursor}
-use Rattle.facet_json_protocol.proofs.MovesNext.{next-passes, next-over, peek-shows, peek-over}
-use Rattle.facet_json_place.specs.declared.language.Language.{Language}
-use Rattle.facet_json_place.specs.declared.refusal.Refused.{Refused}
-use Rattle.facet_json_place.specs.Views.{language_of, refused_of}
-use Rattle.facet_json_standing.specs.declared.standing.Standing.{Standing as RustStanding}
-use Rattle.facet_json_standing.specs.declared.points.Point.{Point}
-use Rattle.facet_json_standing.specs.Fill.{spot_of}
-use Rattle.facet_json_standing.specs.Views.{filling_of, now_of}
-use Rattle.facet_json_standing.specs.Steps.{PassesOne, passes, passes_the_end, passes_without_memory, passes_nothing, ShowsOne, shows, shows_the_end, shows_without_memory, shows_nothing}
+use Rattle.facet_json_document.specs.Now.{Now, on_input, span_of}
+use Rattle.facet_json_document.specs.Move.{Moves}
+use Rattle.facet_json_document.specs.Next.{PassesNext, ShowsNext, IsOver}
+use Rattle.facet_json_document.proofs.MoveLaws.{with_cursor}
+use Rattle.facet_json_document.proofs.MovesNext.{next-passes, next-over, peek-shows, peek-over}
+use Rattle.facet_json_reader.specs.declared.language.Language.{Language}
+use Rattle.facet_json_reader.specs.declared.refusal.Refused.{Refused}
+use Rattle.facet_json_reader.specs.PlaceViews.{language_of, refused_of}
+use Rattle.facet_json_parser.specs.declared.standing.Standing.{Standing as RustStanding}
+use Rattle.facet_json_parser.specs.declared.points.Point.{Point}
+use Rattle.facet_json_parser.specs.Fill.{spot_of}
+use Rattle.facet_json_parser.specs.Views.{filling_of, now_of}
+use Rattle.facet_json_parser.specs.Steps.{PassesOne, passes, passes_the_end, passes_without_memory, passes_nothing, ShowsOne, shows, shows_the_end, shows_without_memory, shows_nothing}
 
 -- ---- steps
 

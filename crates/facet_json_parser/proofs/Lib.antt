@@ -1,4 +1,17 @@
 pub mod AnswersAreMoves
 pub mod EventsInBatch
+pub mod FirstParts
+pub mod KeptSpots
+pub mod MarksAreCut
+pub mod OpenedContainers
 pub mod ParserWithin
 pub mod PartsArePassed
+pub mod PassedParts
+pub mod PointsByPlace
+pub mod QuietTokens
+pub mod RefusedWithin
+pub mod RunSteps
+pub mod SkippedParts
+pub mod StandingSteps
+pub mod UnopenedContainers
+pub mod UnreadTokens

@@ -14,18 +14,18 @@ use Rattle.facet_format.specs.Cursor.{Call, next, events, save, restore, Spot, C
 use Rattle.facet_format.specs.Span.{Span}
 use Rattle.facet_json_document.specs.Language.{Language}
 use Rattle.facet_json_document.specs.InputPlace.{Standing}
-use Rattle.facet_json_protocol.specs.Now.{Now, on_input, span_of, ahead, GoesOn}
-use Rattle.facet_json_protocol.specs.Move.{Moves}
-use Rattle.facet_json_protocol.specs.Within.{StandsWithin, RefusalWithin, NowWithin, AnswerWithin, no_events}
-use Rattle.facet_json_protocol.proofs.MoveLaws.{with_cursor, same_cursor-is}
-use Rattle.facet_json_protocol.proofs.Spans.AnswersWithin.{moves-within, current-within}
-use Rattle.facet_json_protocol.proofs.Spans.BytesAhead.{moves-onward, moves-goes_on, next-lowers, events-lower}
-use Rattle.facet_json_standing.proofs.KeptSpots.{found-spot}
-use Rattle.facet_json_standing.proofs.PointsByPlace.{above-missing, without-missing}
-use Rattle.facet_json_standing.specs.Fill.{Filling, first_filling, spot_of}
-use Rattle.facet_json_standing.specs.Ready.{IsSound, ArePoints, IsReady}
-use Rattle.facet_json_standing.specs.Steps.{PassesOne, ShowsOne, QueuesOne}
-use Rattle.facet_json_standing.specs.Views.{kept_spot, cursor_of}
+use Rattle.facet_json_document.specs.Now.{Now, on_input, span_of, ahead, GoesOn}
+use Rattle.facet_json_document.specs.Move.{Moves}
+use Rattle.facet_json_document.specs.Within.{StandsWithin, RefusalWithin, NowWithin, AnswerWithin, no_events}
+use Rattle.facet_json_document.proofs.MoveLaws.{with_cursor, same_cursor-is}
+use Rattle.facet_json_document.proofs.Spans.AnswersWithin.{moves-within, current-within}
+use Rattle.facet_json_document.proofs.Spans.BytesAhead.{moves-onward, moves-goes_on, next-lowers, events-lower}
+use Rattle.facet_json_parser.proofs.KeptSpots.{found-spot}
+use Rattle.facet_json_parser.proofs.PointsByPlace.{above-missing, without-missing}
+use Rattle.facet_json_parser.specs.Fill.{Filling, first_filling, spot_of}
+use Rattle.facet_json_parser.specs.Ready.{IsSound, ArePoints, IsReady}
+use Rattle.facet_json_parser.specs.Steps.{PassesOne, ShowsOne, QueuesOne}
+use Rattle.facet_json_parser.specs.Views.{kept_spot, cursor_of}
 use Rattle.facet_json_parser.proofs.AnswersAreMoves.{next-refused, peek-refused}
 use Rattle.facet_json_parser.proofs.EventsInBatch.{queue-refuses}
 

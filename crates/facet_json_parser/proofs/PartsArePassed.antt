@@ -5,11 +5,11 @@ use Rattle.facet_format.specs.Complaint.{Refusal}
 use Rattle.facet_format.specs.Cursor.{skipped, raw, skip, capture, World, Spot, Cursor, at_spot, refused_at, Step, repeats}
 use Rattle.facet_format.specs.Cursor as cursor
 use Rattle.facet_json_document.specs.InputPlace.{Standing}
-use Rattle.facet_json_protocol.specs.Now.{Now, on_input}
-use Rattle.facet_json_protocol.specs.Move.{Moves}
-use Rattle.facet_json_protocol.specs.Within.{RefusalWithin, NowWithin}
-use Rattle.facet_json_protocol.proofs.MoveLaws.{with_cursor}
-use Rattle.facet_json_standing.specs.Steps.{SkipsOne, skips, skips_without_memory, skips_nothing, CapturesOne, captures, captures_without_memory, captures_nothing}
+use Rattle.facet_json_document.specs.Now.{Now, on_input}
+use Rattle.facet_json_document.specs.Move.{Moves}
+use Rattle.facet_json_document.specs.Within.{RefusalWithin, NowWithin}
+use Rattle.facet_json_document.proofs.MoveLaws.{with_cursor}
+use Rattle.facet_json_parser.specs.Steps.{SkipsOne, skips, skips_without_memory, skips_nothing, CapturesOne, captures, captures_without_memory, captures_nothing}
 use Rattle.facet_json_parser.proofs.AnswersAreMoves.{step-moves, none-made}
 use Rattle.facet_json_parser.proofs.ParserWithin.{answer-within}
 

@@ -1,7 +1,14 @@
 //! The parser of JSON documents, `JsonParser`: event by event, with a look ahead and points to go back to. Its calls are the methods of
-//! `FormatParser`.
+//! `FormatParser`. Values that are skipped or captured are passed by their brackets alone, and nothing of them is decoded.
 #![tactic(auto)]
 
 mod parser;
+mod part;
+mod passing;
+mod points;
+mod quiet;
+mod run;
+mod standing;
 
 pub use parser::JsonParser;
+pub use run::pass_run;

@@ -11,17 +11,18 @@ ghost use Rattle.facet_format.specs.Views.{event_of, parse_refusal, answer_of_ev
 ghost use Rattle.facet_json_token.specs.Gap.{plain, jsonc};
 ghost use Rattle.facet_json_document.specs.Language.{strict};
 ghost use Rattle.facet_json_document.specs.Future.{finished};
-ghost use Rattle.facet_json_place.specs.Views.{language_of, refused_of};
-ghost use Rattle.facet_json_protocol.specs.Now.{fresh, fresh_in, span_of, ahead, future_of, SameInput, GoesOn, StandsAt};
-ghost use Rattle.facet_json_protocol.specs.Move.{Moves, with_kept};
-ghost use Rattle.facet_json_protocol.specs.Next.{PassesNext, ShowsNext, PassesAll, IsOver};
-ghost use Rattle.facet_json_protocol.specs.Within.{RefusalWithin, NowWithin, AnswerWithin};
-ghost use Rattle.facet_json_standing.specs.Steps.{QueuesNow};
+ghost use Rattle.facet_json_reader.specs.PlaceViews.{language_of, refused_of};
+ghost use Rattle.facet_json_document.specs.Now.{fresh, fresh_in, span_of, ahead, future_of, SameInput, GoesOn, StandsAt};
+ghost use Rattle.facet_json_document.specs.Move.{Moves, with_kept};
+ghost use Rattle.facet_json_document.specs.Next.{PassesNext, ShowsNext, PassesAll, IsOver};
+ghost use Rattle.facet_json_document.specs.Within.{RefusalWithin, NowWithin, AnswerWithin};
+ghost use Rattle.facet_json_parser.specs.Steps.{QueuesNow};
 
 use facet_format::{FormatParser, ParseError, ParseEvent, SavePoint, Span};
-use facet_json_place::{Language, Refused};
+use facet_json_reader::{Language, Refused};
 use facet_json_reader::Trust;
-use facet_json_standing::{Point, Standing, bring_back, keep};
+use crate::points::{Point, bring_back, keep};
+use crate::standing::Standing;
 use facet_json_token::Mode;
 use std::alloc::Global;
 use std::collections::VecDeque;
@@ -68,11 +69,11 @@ pub struct JsonParser<'de> {
 impl<'de> Model for JsonParser<'de> {
     ghost use Rattle.std.specs.Prelude.{◌≡◌, map, IsUtf8};
     ghost use Rattle.std.specs.Option.{option_map};
-    ghost use Rattle.facet_json_protocol.specs.Now.{Now};
+    ghost use Rattle.facet_json_document.specs.Now.{Now};
     ghost use Rattle.facet_json_reader.specs.declared.quick.Trust.TheVariants.{Utf8};
-    ghost use Rattle.facet_json_place.specs.Views.{language_of, refused_of};
-    ghost use Rattle.facet_json_standing.specs.Ready.{IsReady};
-    ghost use Rattle.facet_json_standing.specs.Views.{filling_of, point_of, now_of};
+    ghost use Rattle.facet_json_reader.specs.PlaceViews.{language_of, refused_of};
+    ghost use Rattle.facet_json_parser.specs.Ready.{IsReady};
+    ghost use Rattle.facet_json_parser.specs.Views.{filling_of, point_of, now_of};
 
     ghost Value = { Now };
 

@@ -3,8 +3,8 @@ use Rattle.std.proofs.Common.{◌≡◌, ◌≤◌, ℕ, false, List, length, Op
 use Rattle.facet_json_token.specs.declared.token.Token.TheVariants as code
 use Rattle.facet_json_token.specs.declared.token.SpannedToken.{SpannedToken}
 use Rattle.facet_json_token.specs.declared.token.ScanError.{ScanError}
-use Rattle.facet_json_place.specs.declared.place.Place.TheVariants as places
-use Rattle.facet_json_place.specs.declared.place.Turn.TheVariants as turns
+use Rattle.facet_json_reader.specs.declared.place.Place.TheVariants as places
+use Rattle.facet_json_reader.specs.declared.place.Turn.TheVariants as turns
 use Rattle.facet_format.specs.Complaint.{Refusal}
 use Rattle.facet_format.specs.Span.{Span}
 use Rattle.facet_format.specs.Views.{span_of}
@@ -17,9 +17,9 @@ use Rattle.facet_json_document.specs.Language.{strict, strict_rules}
 use Rattle.facet_json_document.specs.Place.{after_root, goes_on}
 use Rattle.facet_json_document.specs.Refusal.{at_fault}
 use Rattle.facet_json_document.specs.StrictTokens.{tokens_in, cut_in}
-use Rattle.facet_json_place.specs.Views.{IsNamed, turn_of, turn_by}
-use Rattle.facet_json_place.proofs.ScannedTokens.{is_refused}
-use Rattle.facet_json_place.proofs.StoppingTokens.{none-at_end, stopped-at_place}
+use Rattle.facet_json_reader.specs.PlaceViews.{IsNamed, turn_of, turn_by}
+use Rattle.facet_json_reader.proofs.CutsAtPlaces.{is_refused}
+use Rattle.facet_json_reader.proofs.StoppingTokens.{none-at_end, stopped-at_place}
 use Rattle.facet_json_reader.specs.Views.{StopsAt, IsRefusedBefore, at_a_stop}
 
 nowhere : (o : Option Kind) → turn_of turns.Stops ≡ turn_by after_root o

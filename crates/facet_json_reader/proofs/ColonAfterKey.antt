@@ -16,8 +16,8 @@ use Rattle.facet_json_token.specs.Views.{kind_of, scanned}
 use Rattle.facet_json_document.specs.Place.{after_key, goes_on}
 use Rattle.facet_json_document.specs.Refusal.{at_end}
 use Rattle.facet_json_reader.specs.Views.{IsColon, StopsAt}
-use Rattle.facet_json_place.proofs.ScannedTokens.{IsCut, ends, stands, is_cut}
-use Rattle.facet_json_place.proofs.StoppingTokens.{none-at_end, stopped-after_key}
+use Rattle.facet_json_reader.proofs.CutsAtPlaces.{IsCut, ends, stands, is_cut}
+use Rattle.facet_json_reader.proofs.StoppingTokens.{none-at_end, stopped-after_key}
 
 module _ (buffer : List ℕ) (position : ℕ) (language : Language) (t : SpannedToken) where
   colon_by : IsCut buffer position language t → t.token ≡ code.Colon → IsColon buffer language position (span_of t.span)

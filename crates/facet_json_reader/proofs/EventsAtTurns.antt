@@ -4,15 +4,15 @@ use Rattle.std.specs.Prelude.{ℕ, List, ◌⊎◌, IsSome, is_none, slice_range
 use Rattle.std.specs.Option.{option_map}
 use Rattle.facet_format.specs.declared.span.Span.{Span as RustSpan}
 use Rattle.facet_json_token.specs.declared.token.SpannedToken.{SpannedToken}
-use Rattle.facet_json_place.specs.declared.place.Turn.{Turn as RustTurn}
-use Rattle.facet_json_place.specs.declared.place.Turn.TheVariants as turns
+use Rattle.facet_json_reader.specs.declared.place.Turn.{Turn as RustTurn}
+use Rattle.facet_json_reader.specs.declared.place.Turn.TheVariants as turns
 use Rattle.facet_json_reader.specs.declared.reader.Held.{Held}
 use Rattle.facet_format.specs.Complaint.{Refusal}
 use Rattle.facet_format.specs.Cursor.{no_memory_at}
 use Rattle.facet_format.specs.Event.{ContainerKind, EventKind, Event, Passed, Scalar, Text, scalar, field_key, takes_memory, is_made, is_owned}
 use Rattle.facet_format.specs.Span.{Span, stop}
 use Rattle.facet_format.specs.Views.{span_of, event_of}
-use Rattle.facet_json_decode.specs.Decode.{decoded}
+use Rattle.facet_json_token.specs.Decode.{decoded}
 use Rattle.facet_json_document.specs.Language.{Language, rules}
 use Rattle.facet_json_document.specs.StrictTokens.{tokens_in}
 use Rattle.facet_json_token.specs.Token.{Kind, Token, colon}
@@ -25,12 +25,12 @@ use Rattle.facet_json_document.specs.Refusal.{needs_meaning, meaningless}
 use Rattle.facet_json_document.specs.Tree.{Tree}
 use Rattle.facet_json_document.specs.Tree as tree
 use Rattle.facet_json_document.specs.Walk.{scalar_event, key_event, scalar_of, name_of}
-use Rattle.facet_json_place.specs.Views.{turn_of}
+use Rattle.facet_json_reader.specs.PlaceViews.{turn_of}
 use Rattle.facet_json_reader.specs.TokenViews.{IsTextOf, IsUnmade, IsMeaningless}
 use Rattle.facet_json_reader.specs.Views.{passed_of, comes_at, IsTurn, StopsAt, IsUnmadeScalar, IsColon, GivesHeld, IsRefusedBefore, without_memory, at_a_stop}
 use Rattle.facet_json_document.proofs.WalkComes.{follows, reads-turn, turn-plain}
 use Rattle.facet_json_document.proofs.StuckComes.{stuck-reads, stuck-reads_colon}
-use Rattle.facet_json_place.proofs.TurnsAtPlaces.{is_mark, mark-plain}
+use Rattle.facet_json_reader.proofs.TurnsAtPlaces.{is_mark, mark-plain}
 
 -- ---- what needs a meaning and has it
 

@@ -9,15 +9,15 @@ use Rattle.facet_json_token.specs.declared.token.ScanError.{ScanError}
 use Rattle.facet_json_token.specs.Views.{scan_complaint, scan_refusal}
 use Rattle.facet_format.specs.Complaint.{Refusal, refusal_at, invalid_utf8}
 use Rattle.facet_format.specs.Views.{span_of}
-use Rattle.facet_json_decode.specs.Fault.{FaultKind, ends_in_escape, ends_in_digits, not_digits, no_character, fault_complaint}
-use Rattle.facet_json_decode.specs.Views.{IsItsText, TellsFirstFault}
+use Rattle.facet_json_token.specs.Fault.{FaultKind, ends_in_escape, ends_in_digits, not_digits, no_character, fault_complaint}
+use Rattle.facet_json_token.specs.DecodeViews.{IsItsText, TellsFirstFault}
 use Rattle.facet_json_token.specs.Token as token
-use Rattle.facet_json_decode.proofs.FaultSteps.{told-no_text}
-use Rattle.facet_json_decode.proofs.PlainText.{decoded-plain_none}
+use Rattle.facet_json_token.proofs.FaultSteps.{told-no_text}
+use Rattle.facet_json_token.proofs.PlainText.{decoded-plain_none}
 use Rattle.facet_json_document.specs.Refusal.{of_plain_string, of_escaped_string}
 use Rattle.facet_json_document.specs.Tree as tree
-use Rattle.facet_json_place.specs.declared.refusal.Inside.TheVariants as insides
-use Rattle.facet_json_place.specs.Views.{IsNamed}
+use Rattle.facet_json_reader.specs.declared.refusal.Inside.TheVariants as insides
+use Rattle.facet_json_reader.specs.PlaceViews.{IsNamed}
 use Rattle.facet_json_reader.specs.TokenViews.{IsContent, IsMeaningless}
 
 -- A content's fault says so, too, inside of what the content ends.

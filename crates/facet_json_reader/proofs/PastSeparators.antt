@@ -4,9 +4,9 @@ use Rattle.std.proofs.Common.{◌≡◌, ◌≤◌, ◌∙◌, ℕ, false, List,
 use Rattle.facet_json_token.specs.declared.token.Token.{Token as RustToken}
 use Rattle.facet_json_token.specs.declared.token.Token.TheVariants as code
 use Rattle.facet_json_token.specs.declared.token.SpannedToken.{SpannedToken}
-use Rattle.facet_json_place.specs.declared.place.Place.{Place as RustPlace}
-use Rattle.facet_json_place.specs.declared.place.Turn.{Turn as RustTurn}
-use Rattle.facet_json_place.specs.declared.place.Turn.TheVariants as turns
+use Rattle.facet_json_reader.specs.declared.place.Place.{Place as RustPlace}
+use Rattle.facet_json_reader.specs.declared.place.Turn.{Turn as RustTurn}
+use Rattle.facet_json_reader.specs.declared.place.Turn.TheVariants as turns
 use Rattle.facet_json_reader.specs.declared.reader.Reader.{Reader}
 use Rattle.facet_json_reader.specs.declared.reader.Stage.TheVariants as stages
 use Rattle.facet_format.specs.Complaint.{Refusal}
@@ -20,11 +20,11 @@ use Rattle.facet_json_token.specs.Tokens.{Tokens, ended, next}
 use Rattle.facet_json_token.specs.Views.{kind_of, scanned}
 use Rattle.facet_json_document.specs.Future.{Future, within, over, reads_by, behind_root}
 use Rattle.facet_json_document.specs.Place.{stops, goes_on}
-use Rattle.facet_json_place.specs.Views.{place_of, turn_of, turn_by}
+use Rattle.facet_json_reader.specs.PlaceViews.{place_of, turn_of, turn_by}
 use Rattle.facet_json_reader.specs.Views.{stage_of, comes_at, coming, IsTurn, StopsAt, IsRefusedBefore}
 use Rattle.facet_json_reader.proofs.EventsAtTurns.{stops-refused}
-use Rattle.facet_json_place.proofs.ScannedTokens.{IsCut, ends, stands, is_cut}
-use Rattle.facet_json_place.proofs.StoppingTokens.{stopped-at_place}
+use Rattle.facet_json_reader.proofs.CutsAtPlaces.{IsCut, ends, stands, is_cut}
+use Rattle.facet_json_reader.proofs.StoppingTokens.{stopped-at_place}
 
 -- ---- the end
 

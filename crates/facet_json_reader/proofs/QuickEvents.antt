@@ -28,9 +28,9 @@ use Rattle.facet_json_document.specs.Tree.{Tree}
 use Rattle.facet_json_document.specs.Tree as tree
 use Rattle.facet_json_document.specs.Walk.{event_at, scalar_event, key_event, scalar_of, name_of}
 use Rattle.facet_json_document.proofs.WalkComes.{TakesValue, at_root, of_member, of_list, of_next_item, follows, reads-turn, turn-plain, turn-meant, scalar_here}
-use Rattle.facet_json_place.proofs.TokensThere.{mark-cut, tokens_in-past_gap, word-cut}
-use Rattle.facet_json_place.proofs.TurnsAtPlaces.{is_mark, mark-plain}
-use Rattle.facet_json_plain.specs.Values.{IsPlainText, IsScalarThere}
+use Rattle.facet_json_reader.proofs.TokensThere.{mark-cut, tokens_in-past_gap, word-cut}
+use Rattle.facet_json_reader.proofs.TurnsAtPlaces.{is_mark, mark-plain}
+use Rattle.facet_json_reader.specs.Values.{IsPlainText, IsScalarThere}
 use Rattle.facet_json_reader.specs.Quick.{MayBeKey, MayBeValue, Reaches, IsWord, null_stands, true_stands, false_stands, Leaves, PassesEvent}
 use Rattle.facet_json_reader.specs.Views.{stage_of, comes_at, coming}
 

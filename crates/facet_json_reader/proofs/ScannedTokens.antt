@@ -16,8 +16,8 @@ use Rattle.facet_json_token.specs.Views.{kind_of, scanned, scan_refusal}
 use Rattle.facet_json_token.proofs.CutBounds.{KindFits, StringFits, NumberFits}
 use Rattle.facet_json_document.specs.Place.{Place}
 use Rattle.facet_json_document.specs.Refusal.{at_fault}
-use Rattle.facet_json_place.specs.Views.{IsNamed}
-use Rattle.facet_json_place.proofs.ScannedTokens.{IsCut, ends, stands, is_cut, is_refused}
+use Rattle.facet_json_reader.specs.PlaceViews.{IsNamed}
+use Rattle.facet_json_reader.proofs.CutsAtPlaces.{IsCut, ends, stands, is_cut, is_refused}
 use Rattle.facet_json_reader.specs.TokenViews.{CanBeRead}
 use Rattle.facet_json_reader.specs.Views.{StopsAt}
 

@@ -6,8 +6,8 @@ use Rattle.std.specs.declared.borrow.CowStr.{CowStr}
 use Rattle.facet_json_reader.specs.declared.materialized.TokenKind.{TokenKind}
 use Rattle.facet_json_reader.specs.declared.materialized.TokenKind.TheVariants as kinds
 use Rattle.facet_json_reader.specs.declared.materialized.MaterializedToken.{MaterializedToken}
-use Rattle.facet_json_place.specs.declared.refusal.Name.{Name}
-use Rattle.facet_json_place.specs.declared.refusal.Expected.{Expected}
+use Rattle.facet_json_reader.specs.declared.refusal.Name.{Name}
+use Rattle.facet_json_reader.specs.declared.refusal.Expected.{Expected}
 use Rattle.facet_format.specs.Complaint.{refusal_at, unexpected_token}
 use Rattle.facet_format.specs.Number.{Number}
 use Rattle.facet_format.specs.Span.{Span}
@@ -17,7 +17,7 @@ use Rattle.facet_json_token.specs.Tokens.{Tokens, next}
 use Rattle.facet_json_document.specs.Meaning.{meaning_of}
 use Rattle.facet_json_document.specs.Place.{Place, kind_name, expected_at, goes_on}
 use Rattle.facet_json_document.specs.Refusal.{needs_meaning, misplaced}
-use Rattle.facet_json_place.specs.Views.{name_text, expected_text}
+use Rattle.facet_json_reader.specs.PlaceViews.{name_text, expected_text}
 use Rattle.facet_json_reader.specs.TokenViews.{number_at, number_in, holds_made, IsReadAs, IsRead, IsUnmade}
 use Rattle.facet_json_reader.specs.Views.{IsNamed, IsNameOf, StopsAt}
 

@@ -5,9 +5,9 @@ use Rattle.std.specs.declared.borrow.CowStr.{CowStr}
 use Rattle.facet_format.specs.declared.span.Span.{Span as RustSpan}
 use Rattle.facet_format.specs.declared.event.ScalarValue.{ScalarValue}
 use Rattle.facet_json_token.specs.declared.token.SpannedToken.{SpannedToken}
-use Rattle.facet_json_place.specs.declared.place.Turn.{Turn as RustTurn}
-use Rattle.facet_json_place.specs.declared.refusal.Name.{Name}
-use Rattle.facet_json_place.specs.declared.refusal.Refused.{Refused}
+use Rattle.facet_json_reader.specs.declared.place.Turn.{Turn as RustTurn}
+use Rattle.facet_json_reader.specs.declared.refusal.Name.{Name}
+use Rattle.facet_json_reader.specs.declared.refusal.Refused.{Refused}
 use Rattle.facet_json_reader.specs.declared.reader.Stage.{Stage as RustStage}
 use Rattle.facet_json_reader.specs.declared.reader.Stage.TheVariants as stages
 use Rattle.facet_json_reader.specs.declared.reader.Held.{Held}
@@ -30,7 +30,7 @@ use Rattle.facet_json_document.specs.Place.{Place, after_key, place_turn, kind_n
 use Rattle.facet_json_document.specs.Refusal.{needs_meaning, IsStuck}
 use Rattle.facet_json_document.specs.InputPlace.{Standing}
 use Rattle.facet_json_document.specs.Walk.{scalar_of}
-use Rattle.facet_json_place.specs.Views.{place_of, turn_of, name_text, refused_of}
+use Rattle.facet_json_reader.specs.PlaceViews.{place_of, turn_of, name_text, refused_of}
 use Rattle.facet_json_reader.specs.TokenViews.{IsTextOf, IsUnmade, IsMeaningless}
 
 -- ---- values

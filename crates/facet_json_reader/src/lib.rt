@@ -1,10 +1,26 @@
-//! The next event of a document, `Reader`: at once where a few bytes decide it (`pass_quickly`), and else from the tokens (`upcoming`).
+//! The next event of a document, `Reader`: at once where a few bytes decide it (`pass_quickly`), and else from the tokens (`upcoming`); in
+//! which `Language`, inside which open containers (`Contexts`), at which `Place` within the innermost one, and how it is refused (`Refused`).
 #![tactic(auto)]
 
+mod contexts;
+mod digits;
+mod language;
 mod materialized;
+mod number;
+mod place;
 mod quick;
 mod reader;
+mod refusal;
+mod text;
+mod whole;
+mod window;
 
+pub use contexts::Contexts;
+pub use language::Language;
+pub use place::{Place, Turn};
+pub use refusal::{Expected, Inside, Name, NoRaw, Refused, Why};
+pub use number::{short_number, short_number_strict};
+pub use text::{checked_text_at, quoted_text_at};
 pub use materialized::{MaterializedToken, TokenKind};
 pub use quick::Trust;
 pub use reader::{Held, Reader, Stage};

@@ -4,19 +4,19 @@ ghost use Rattle.std.specs.Prelude.{◌≡◌, true, false, List, ℕ, Some, IfO
 ghost use Rattle.facet_format.specs.Event.{is_made};
 ghost use Rattle.facet_format.specs.HeldText.{text_of};
 ghost use Rattle.facet_format.specs.Views.{span_of, scalar_value_of};
-ghost use Rattle.facet_json_number.specs.Views.{number_of, is_made_number};
+ghost use Rattle.facet_json_token.specs.NumberViews.{number_of, is_made_number};
 ghost use Rattle.facet_json_token.specs.Views.{kind_of};
 ghost use Rattle.facet_json_token.specs.Token.{Kind, string};
 ghost use Rattle.facet_json_document.specs.Meaning.{meaning_of};
 ghost use Rattle.facet_json_document.specs.Place.{kind_name};
 ghost use Rattle.facet_json_document.specs.Walk.{scalar_of};
-ghost use Rattle.facet_json_place.specs.Views.{refused_of, name_text};
+ghost use Rattle.facet_json_reader.specs.PlaceViews.{refused_of, name_text};
 ghost use Rattle.facet_json_reader.specs.TokenViews.{number_in, holds_made, CanBeRead, IsContent, IsReadAs, IsRead, IsTextOf, IsUnmade, IsMeaningless};
 
 use facet_format::{Decimal, ScalarValue, Span};
-use facet_json_decode::{DecodeError, check_content, decode_string_owned, plain_text};
-use facet_json_number::{ParsedNumber, parse_measured};
-use facet_json_place::{Name, Refused, Why};
+use facet_json_token::{DecodeError, check_content, decode_string_owned, plain_text};
+use facet_json_token::{ParsedNumber, parse_measured};
+use crate::refusal::{Name, Refused, Why};
 use facet_json_token::{SpannedToken, Token};
 use std::alloc::{AllocError, Global};
 use std::borrow::CowStr;

@@ -13,17 +13,17 @@ ghost use Rattle.facet_json_document.specs.Place.{Place as SpecPlace, led, passe
 ghost use Rattle.facet_json_document.specs.Language.{Language as SpecLanguage, lenient, strict, rules};
 ghost use Rattle.facet_json_token.specs.Gap.{Mode as SpecMode};
 ghost use Rattle.facet_json_document.specs.StrictTokens.{Allows};
-ghost use Rattle.facet_json_place.specs.Views.{language_of, least_of, place_of, opening, closing};
-ghost use Rattle.facet_json_plain.specs.Values.{AreUnescaped, IsPlainText};
+ghost use Rattle.facet_json_reader.specs.PlaceViews.{language_of, least_of, place_of, opening, closing};
+ghost use Rattle.facet_json_reader.specs.Values.{AreUnescaped, IsPlainText};
 ghost use Rattle.facet_json_reader.specs.Quick.{MayBeKey, MayBeValue, Reaches, IsWord, Leaves, PassesEvent};
 ghost use Rattle.facet_json_reader.specs.Views.{stage_of};
 
 use crate::reader::{Reader, Stage, closing, opening};
-use facet_format::{
-    ContainerKind, FieldKey, FieldLocationHint, ParseEvent, ParseEventKind, ScalarValue, Span,
-};
-use facet_json_place::{Language, Place};
-use facet_json_plain::{checked_text_at, quoted_text_at, short_number, short_number_strict};
+use facet_format::{ContainerKind, FieldKey, FieldLocationHint, ParseEvent, ParseEventKind, ScalarValue, Span};
+use crate::language::Language;
+use crate::place::Place;
+use crate::text::{checked_text_at, quoted_text_at};
+use crate::number::{short_number, short_number_strict};
 use facet_json_token::plain_cut::common_len;
 use facet_json_token::quick::gap_end;
 use std::borrow::CowStr;

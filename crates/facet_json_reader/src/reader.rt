@@ -12,15 +12,16 @@ ghost use Rattle.facet_json_token.specs.Views.{kind_of, mode_of};
 ghost use Rattle.facet_json_document.specs.Future.{after_value, around, behind_root, finished, stage_after, within};
 ghost use Rattle.facet_json_document.specs.Place.{Place as SpecPlace, expected_at, goes_on};
 ghost use Rattle.facet_json_document.specs.InputPlace.{first_standing, past};
-ghost use Rattle.facet_json_place.specs.Views.{language_of, place_of, expected_text, refused_of, opening, closing, is_text};
+ghost use Rattle.facet_json_reader.specs.PlaceViews.{language_of, place_of, expected_text, refused_of, opening, closing, is_text};
 ghost use Rattle.facet_json_reader.specs.TokenViews.{CanBeRead, IsMeaningless};
 ghost use Rattle.facet_json_reader.specs.Views.{stage_of, passed_of, standing_of, with_opened, comes_at, StopsAt, IsNamed, IsTurn, IsValueOf, IsNameOf, IsColonAt, IsRefusedBefore, Answers, IsUpcoming};
 
 use crate::materialized::{materialize, string_text};
-use facet_format::{
-    ContainerKind, FieldKey, FieldLocationHint, ParseEvent, ParseEventKind, ScalarValue, Span,
-};
-use facet_json_place::{Contexts, Expected, Language, Name, Place, Refused, Turn, Why};
+use facet_format::{ContainerKind, FieldKey, FieldLocationHint, ParseEvent, ParseEventKind, ScalarValue, Span};
+use crate::contexts::Contexts;
+use crate::refusal::{Expected, Name, Refused, Why};
+use crate::language::Language;
+use crate::place::{Place, Turn};
 use facet_json_token::{Mode, SpannedToken, Token};
 use std::alloc::{AllocError, Global};
 use std::borrow::CowStr;

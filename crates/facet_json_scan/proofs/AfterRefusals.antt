@@ -7,10 +7,10 @@ use Rattle.facet_json_token.specs.Token.{Fault}
 use Rattle.facet_json_token.specs.Cut.{Cut, nothing_left, token, fault, past_gap, cut}
 use Rattle.facet_json_token.specs.Open.{IsOpen}
 use Rattle.facet_json_token.proofs.Gaps.{past_gap-again, cut-past_gap}
-use Rattle.facet_json_scanner.specs.Scanner.{Scanner, idle, Describes, GoesOnFrom, Answer, needs_more, refuses, answer_for, Gives, first_of, first_byte_of, stands_after}
-use Rattle.facet_json_scanner.specs.Laws.{RefusalRepeats, RefusalAtEnd, PendingAgain}
-use Rattle.facet_json_scanner.proofs.Refusals.{growing_gap-again, shut-past_gap}
-use Rattle.facet_json_pieces.proofs.Pending.{something_within, pending_here}
+use Rattle.facet_json_scan.specs.Scanner.{Scanner, idle, Describes, GoesOnFrom, Answer, needs_more, refuses, answer_for, Gives, first_of, first_byte_of, stands_after}
+use Rattle.facet_json_scan.specs.ScannerLaws.{RefusalRepeats, RefusalAtEnd, PendingAgain}
+use Rattle.facet_json_scan.proofs.Refusals.{growing_gap-again, shut-past_gap}
+use Rattle.facet_json_scan.proofs.Pending.{something_within, pending_here}
 
 -- ---- after a refusal
 

@@ -15,10 +15,10 @@ use Rattle.facet_json_token.proofs.CutBounds.{common_len-bound}
 use Rattle.facet_json_token.proofs.Gaps.{piece_len-blank, past_gap-ends}
 use Rattle.facet_json_token.proofs.ShapesCut.{bare_behind, cut_here-shape, cut_here-text}
 use Rattle.facet_json_token.proofs.Starts.{Begins, a_mark, a_word, a_text, a_number, a_comment, no_token, start_of-begins, start_of-structural, start_of-number}
-use Rattle.facet_json_scanner.proofs.Pieces.Beginnings.{literal_starts, pieces_go_on, pieces_go_on_escaped}
-use Rattle.facet_json_scanner.proofs.Growth.GrowthOfGap.{opens_block, with_mark-none}
-use Rattle.facet_json_scanner.proofs.Growth.GrowthOfText.{IsUnended, content_len-none}
-use Rattle.facet_json_scanner.proofs.Pieces.PendingWord.{common_len-prefix, prefix_of_word}
+use Rattle.facet_json_scan.proofs.Pieces.Beginnings.{literal_starts, pieces_go_on, pieces_go_on_escaped}
+use Rattle.facet_json_scan.proofs.Growth.GrowthOfGap.{opens_block, with_mark-none}
+use Rattle.facet_json_scan.proofs.Growth.GrowthOfText.{IsUnended, content_len-none}
+use Rattle.facet_json_scan.proofs.Pieces.PendingWord.{common_len-prefix, prefix_of_word}
 
 -- ---- what is wrong is cut
 

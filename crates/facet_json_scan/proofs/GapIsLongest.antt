@@ -6,7 +6,7 @@ use Rattle.facet_format.specs.Bytes.{is_space, slash, star, line_feed}
 use Rattle.facet_json_token.specs.Gap.{Mode, plain, jsonc, Input, whole, growing, ClosesBlock, OpensLine, ClosesLine, IsPiece, blank, block, line, last_line, IsGap, empty, piece, one_more, through_block_end, through_line_end, with_mark, with_line_mark, comment_len, piece_len, gap_len}
 use Rattle.facet_json_token.specs.Laws.{GapIsLongest}
 use Rattle.facet_json_token.proofs.Gaps.{piece_len-blank, gap_len-none, gap_len-piece, gap_len-bound}
-use Rattle.facet_json_scanner.proofs.NoPiece.{opens_line-none}
+use Rattle.facet_json_scan.proofs.NoPiece.{opens_line-none}
 
 -- ---- what is measured is a piece
 

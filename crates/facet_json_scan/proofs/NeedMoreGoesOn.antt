@@ -7,9 +7,9 @@ use Rattle.facet_format.specs.Span.{Span}
 use Rattle.facet_json_token.specs.Cut.{Cut, nothing_left, token, fault, cut}
 use Rattle.facet_json_token.specs.Gap.{Mode}
 use Rattle.facet_json_token.specs.Open.{IsBeginning, IsOpen}
-use Rattle.facet_json_scanner.specs.Scanner.{State, Describes, GoesOnFrom, needs_more, answer_for, Gives, waiting, past_growing_gap}
-use Rattle.facet_json_scanner.proofs.Pieces.Beginnings.{nothing_shut}
-use Rattle.facet_json_pieces.proofs.PassedGap.{cut-passed}
+use Rattle.facet_json_scan.specs.Scanner.{State, Describes, GoesOnFrom, needs_more, answer_for, Gives, waiting, past_growing_gap}
+use Rattle.facet_json_scan.proofs.Pieces.Beginnings.{nothing_shut}
+use Rattle.facet_json_scan.proofs.PassedGap.{cut-passed}
 use Rattle.facet_json_scan.specs.Laws.{GoesOnIn, NeedMoreGoesOn}
 
 -- What is cut is not that more bytes are needed.

@@ -12,11 +12,11 @@ use Rattle.facet_json_token.specs.Inner.OpenTest.{is_prefix_by, is_open_comment,
 use Rattle.facet_json_token.specs.Inner.OpenTest.{OpenIsTested}
 use Rattle.facet_format.proofs.NumberLaws.{parts_len-is, begins_number-is}
 use Rattle.facet_json_token.proofs.Starts.{Begins, a_mark, a_word, a_text, a_number, a_comment, no_token, start_of-begins, start_of-number}
-use Rattle.facet_json_scanner.proofs.Growth.GrowthOfGap.{opens_block, opens_line}
-use Rattle.facet_json_scanner.proofs.Growth.GrowthOfNumber.{number_begins}
-use Rattle.facet_json_scanner.proofs.Growth.GrowthOfText.{text_begins}
-use Rattle.facet_json_scanner.proofs.NoPiece.{opens_block-none, opens_line-none}
-use Rattle.facet_json_scanner.proofs.Pieces.PendingWord.{common_len-prefix, prefix_of_word}
+use Rattle.facet_json_scan.proofs.Growth.GrowthOfGap.{opens_block, opens_line}
+use Rattle.facet_json_scan.proofs.Growth.GrowthOfNumber.{number_begins}
+use Rattle.facet_json_scan.proofs.Growth.GrowthOfText.{text_begins}
+use Rattle.facet_json_scan.proofs.NoPiece.{opens_block-none, opens_line-none}
+use Rattle.facet_json_scan.proofs.Pieces.PendingWord.{common_len-prefix, prefix_of_word}
 
 -- ---- what is tested to be a beginning is one
 

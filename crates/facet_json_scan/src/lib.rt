@@ -1,19 +1,18 @@
 //! JSON text (RFC 8259, with lenient readings, and JSONC comments) to tokens, strings' contents to texts, and numbers'
-//! texts to values, proved. `Scanner` cuts tokens off a buffer that grows, `cut` one token at a position, `decode_string`
-//! and its kin read a string's content, and `parse_number` a number's text. `check_string_strict` and
-//! `check_number_strict` say whether these are of RFC 8259 alone. `scan_reader` reads and scans all that a source has.
+//! texts to values, proved. `cut` cuts one token at an offset, `Scanner` tokens off a buffer that grows, and `scan_reader` reads and
+//! scans all that a source has. `decode_string` and its kin read a string's content, `parse_number` a number's text.
+//! `check_string_strict` and `check_number_strict` say whether these are of RFC 8259 alone.
 #![tactic(auto)]
 
+mod answer;
 pub mod laws;
+mod reader;
+mod scanner;
+mod source;
 
+pub use answer::{ScanReadError, Scanned};
 pub use facet_format::numeral::NumberHint;
-pub use facet_json_decode::{
-    DecodeError, check_content, decode_string, decode_string_borrowed,
-    decode_string_borrowed_unchecked, decode_string_owned, decode_string_owned_unchecked,
-    decode_string_unchecked,
-};
-pub use facet_json_number::{ParsedNumber, parse_number, parse_number_unchecked};
-pub use facet_json_pieces::{ByteSource, Marked, ScanReadError, Scanned, scan_reader};
-pub use facet_json_scanner::Scanner;
-pub use facet_json_strict::{check_number_strict, check_string_strict};
-pub use facet_json_token::{Mode, ScanError, ScanErrorKind, ScanResult, SpannedToken, Token, cut};
+pub use facet_json_token::{DecodeError, Mode, ParsedNumber, ScanError, ScanErrorKind, ScanResult, SpannedToken, Token, check_content, check_number_strict, check_string_strict, cut, decode_string, decode_string_borrowed, decode_string_borrowed_unchecked, decode_string_owned, decode_string_owned_unchecked, decode_string_unchecked, parse_number, parse_number_unchecked};
+pub use reader::scan_reader;
+pub use scanner::Scanner;
+pub use source::{ByteSource, Marked};

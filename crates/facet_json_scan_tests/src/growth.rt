@@ -1,19 +1,9 @@
-//! Refused growths. With ample memory this test passes as any other does. `./check_growths` at the top runs it once more for each of its
-//! requests for memory, which is refused, and it has to pass in every such run. The decoders that take memory are called twice: as one
-//! request is refused in a run, memory runs out in one of the two at most, and the other gives the whole answer. What takes none gives
-//! it always.
+//! Refused growths. With ample memory these tests pass as any other does. `./check_growths` at the top runs them once more for each
+//! of their requests for memory, which is refused, and they have to pass in every such run. Each row is tried twice, its set-up too: as
+//! one request is refused in a run, memory runs out in one of the two at most, and the other gives the whole answer.
 
-use facet_format::numeral::NumberHint;
-use facet_format::{Decimal, Span};
-use facet_json_decode::{
-    DecodeError, check_content, decode_string, decode_string_borrowed,
-    decode_string_borrowed_unchecked, decode_string_owned, decode_string_owned_unchecked,
-    decode_string_unchecked,
-};
-use facet_json_number::{ParsedNumber, parse_number, parse_number_unchecked};
-use facet_json_strict::{check_number_strict, check_string_strict};
-use facet_json_token::{ScanError, ScanErrorKind};
-use std::alloc::Global;
+use facet_format::{ContainerKind, Decimal, FieldKey, FieldLocationHint, ParseEvent, ParseEventKind, ScalarValue, Span};
+use std::alloc::{AllocError, Global};
 use std::borrow::CowStr;
 
 /// Whether a call that was made twice gave its whole answer, but for one time at most in which memory ran out.
@@ -21,180 +11,98 @@ fn but_once(first: Option<bool>, again: Option<bool>) -> bool {
     first.unwrap_or(true) && again.unwrap_or(true) && (first.is_some() || again.is_some())
 }
 
-/// A string's content, its text or refusal, and whether strict mode has it.
-type Row = (&'static str, Result<&'static str, ScanError>, bool);
-
-static ROWS: [Row; 6] = [
-    ("", Ok(""), true),
-    ("ab", Ok("ab"), true),
-    ("caf\\u00e9\\n", Ok("caf\u{e9}\n"), true),
-    ("\\uD83D\\uDE00 \\q", Ok("\u{1f600} q"), false),
-    (
-        "ab\\ud800",
-        Err(ScanError {
-            kind: ScanErrorKind::InvalidUtf8,
-            span: Span { offset: 2, len: 6 },
-        }),
-        true,
-    ),
-    (
-        "ab\\u12",
-        Err(ScanError {
-            kind: ScanErrorKind::UnexpectedEof("in unicode escape"),
-            span: Span { offset: 2, len: 4 },
-        }),
-        true,
-    ),
-];
-
-/// Whether a decoder gave the row's answer, or ran out of memory.
-fn is_answer(answer: Result<&str, &DecodeError>, row: &Row) -> Option<bool> {
-    match (answer, &row.1) {
-        (Ok(text), Ok(wanted)) => Some(text == *wanted),
-        (Err(DecodeError::OutOfMemory), _) => None,
-        (Err(DecodeError::Scan(error)), Err(wanted)) => Some(*error == *wanted),
-        _ => Some(false),
-    }
-}
-
-/// The same of a text of its own.
-fn is_string(answer: &Result<String, DecodeError>, row: &Row) -> Option<bool> {
-    match answer {
-        Ok(text) => is_answer(Ok(text.as_str()), row),
-        Err(error) => is_answer(Err(error), row),
-    }
-}
-
-/// The same of a text that has to be its own.
-fn is_owned(answer: &Result<CowStr<'_>, DecodeError>, row: &Row) -> Option<bool> {
-    match answer {
-        Ok(CowStr::Owned(text)) => is_answer(Ok(text.as_str()), row),
-        Ok(CowStr::Borrowed(_)) => Some(false),
-        Err(error) => is_answer(Err(error), row),
-    }
-}
-
-/// Whether each decoder that takes memory gives the row's answer.
-fn decodes(alloc: Global, row: &Row) -> Option<bool> {
-    let buf = row.0.as_bytes();
-    let end = buf.len();
-    let string = is_string(&decode_string_owned(alloc, buf, 0, end), row)?;
-    let owned = is_owned(&decode_string(alloc, buf, 0, end, true), row)?;
-    match str::from_utf8(&buf[0..end]) {
-        Ok(_) => {
-            let again = is_string(&decode_string_owned_unchecked(alloc, buf, 0, end), row)?;
-            let unchecked = is_owned(&decode_string_unchecked(alloc, buf, 0, end, true), row)?;
-            Some(string && owned && again && unchecked)
-        }
-        Err(_) => Some(false),
-    }
-}
-
-/// Whether the content is lent as it stands, and refused whole where a backslash stands in it.
-fn is_lent(answer: Result<CowStr<'_>, DecodeError>, content: &str) -> bool {
-    match answer {
-        Ok(CowStr::Borrowed(text)) => text == content && !content.contains('\\'),
-        Ok(CowStr::Owned(_)) => false,
-        Err(error) => {
-            let whole = ScanError {
-                kind: ScanErrorKind::InvalidUtf8,
-                span: Span::new(0, content.len()),
-            };
-            content.contains('\\') && error == DecodeError::Scan(whole)
-        }
-    }
-}
-
-/// Whether the decoders that lend the content do, but where a backslash stands in it.
-fn lends(alloc: Global, content: &str) -> bool {
-    let buf = content.as_bytes();
-    let end = buf.len();
-    let lent = if content.contains('\\') {
-        None
-    } else {
-        Some(content)
+/// Whether the text is a decimal, which is copied without memory, and kept in memory of its own; or memory runs out, and it comes back
+/// as it was.
+fn is_kept(alloc: Global, text: &str) -> Option<bool> {
+    let Some(decimal) = copied_free(alloc, text) else {
+        return Some(false);
     };
-    match str::from_utf8(&buf[0..end]) {
-        Ok(_) => {
-            decode_string_borrowed(buf, 0, end) == lent
-                && decode_string_borrowed_unchecked(buf, 0, end) == lent
-                && is_lent(decode_string(alloc, buf, 0, end, false), content)
-                && is_lent(decode_string_unchecked(alloc, buf, 0, end, false), content)
+    match decimal.into_owned(alloc) {
+        Ok(owned) => is_kept_again(alloc, owned, text),
+        Err(lent) => {
+            if lent.as_str() == text {
+                None
+            } else {
+                Some(false)
+            }
         }
+    }
+}
+
+/// A copy of the decimal of this text, which takes no memory.
+fn copied_free<'t>(alloc: Global, text: &'t str) -> Option<Decimal<'t>> {
+    Decimal::new(text)?.clone(alloc).ok()
+}
+
+/// Whether a decimal in memory of its own is copied, or memory runs out; and stays as it is without memory.
+fn is_kept_again(alloc: Global, owned: Decimal<'static>, text: &str) -> Option<bool> {
+    match owned.clone(alloc) {
+        Ok(copy) => Some(copy == owned && is_its_own(alloc, owned, text)),
+        Err(AllocError) => None,
+    }
+}
+
+fn is_its_own(alloc: Global, owned: Decimal<'static>, text: &str) -> bool {
+    match owned.into_owned(alloc) {
+        Ok(again) => again.as_str() == text,
         Err(_) => false,
     }
-}
-
-/// Whether the content is checked as the row says.
-fn is_checked(row: &Row) -> bool {
-    let buf = row.0.as_bytes();
-    let checked = match (check_content(buf, 0, buf.len()), &row.1) {
-        (Ok(()), Ok(_)) => true,
-        (Err(error), Err(wanted)) => error == *wanted,
-        _ => false,
-    };
-    checked && check_string_strict(buf, 0, buf.len()).is_ok() == row.2
 }
 
 #[test]
-fn a_growth_is_refused_in_a_decoder(rt: HostRuntime) {
+fn a_growth_is_refused_in_a_decimal(rt: HostRuntime) {
     let alloc = rt.alloc();
-    for row in &ROWS {
+    for text in ["1.", "-0.50", "5e-05"] {
         assert!(rt;
-            but_once(decodes(alloc, row), decodes(alloc, row)),
-            "{}",
-            row.0
+            but_once(is_kept(alloc, text), is_kept(alloc, text)),
+            "{text}"
         );
-        assert!(rt; lends(alloc, row.0) && is_checked(row), "{}", row.0);
-    }
-    for (text, hint, number) in numbers() {
-        assert!(rt; is_number(text, hint, number), "{text}");
     }
 }
 
-/// Texts of numbers, their hints and what they are read as.
-fn numbers() -> [(&'static str, NumberHint, Option<ParsedNumber<'static>>); 6] {
-    let decimal = match Decimal::new("1.5") {
-        Some(decimal) => Some(ParsedNumber::Decimal(decimal)),
-        None => None,
+/// Whether an event of this kind is copied, or memory runs out.
+fn is_copied(alloc: Global, kind: ParseEventKind<'_>) -> Option<bool> {
+    let event = ParseEvent::new(kind, Span::new(3, 4));
+    match event.clone(alloc) {
+        Ok(copy) => Some(copy == event),
+        Err(AllocError) => None,
+    }
+}
+
+/// A text of its own.
+fn text(alloc: Global) -> Result<CowStr<'static>, AllocError> {
+    Ok(CowStr::Owned(String::from_str(alloc, "ab")?))
+}
+
+/// Whether events with texts of their own are copied: a key's and a scalar's.
+fn texts_are_copied(alloc: Global) -> Option<bool> {
+    let (Ok(name), Ok(value)) = (text(alloc), text(alloc)) else {
+        return None;
     };
+    let key = FieldKey::new(name, FieldLocationHint::KeyValue);
+    let key = is_copied(alloc, ParseEventKind::FieldKey(key))?;
+    let scalar = ScalarValue::Str(value);
+    Some(key && is_copied(alloc, ParseEventKind::Scalar(scalar))?)
+}
+
+/// Events that hold nothing of their own.
+fn small_events() -> [ParseEventKind<'static>; 6] {
+    let lent = CowStr::Borrowed("ab");
     [
-        ("42", NumberHint::Unsigned, Some(ParsedNumber::U64(42))),
-        ("-42", NumberHint::Signed, Some(ParsedNumber::I64(-42))),
-        (
-            "18446744073709551616",
-            NumberHint::Unsigned,
-            Some(ParsedNumber::U128(18446744073709551616)),
-        ),
-        (
-            "-9223372036854775809",
-            NumberHint::Signed,
-            Some(ParsedNumber::I128(-9223372036854775809)),
-        ),
-        ("1.5", NumberHint::Float, decimal),
-        ("5x", NumberHint::Unsigned, None),
+        ParseEventKind::StructStart(ContainerKind::Object),
+        ParseEventKind::SequenceEnd,
+        ParseEventKind::Scalar(ScalarValue::U128(2)),
+        ParseEventKind::Scalar(ScalarValue::Bytes(&[1, 255])),
+        ParseEventKind::Scalar(ScalarValue::Str(CowStr::Borrowed("ab"))),
+        ParseEventKind::FieldKey(FieldKey::new(lent, FieldLocationHint::KeyValue)),
     ]
 }
 
-/// Whether the text is read as this number, and is one of RFC 8259 alone; or is refused whole where there is none.
-fn is_number(text: &str, hint: NumberHint, number: Option<ParsedNumber<'_>>) -> bool {
-    let buf = text.as_bytes();
-    let end = buf.len();
-    let refused = ScanError {
-        kind: ScanErrorKind::UnexpectedChar('?'),
-        span: Span::new(0, end),
-    };
-    let is_strict = check_number_strict(buf, 0, end).is_ok();
-    let wanted = match number {
-        Some(number) => Ok(number),
-        None => Err(refused),
-    };
-    match str::from_utf8(&buf[0..end]) {
-        Ok(_) => {
-            parse_number(buf, 0, end, hint) == wanted
-                && parse_number_unchecked(buf, 0, end, hint) == wanted
-                && is_strict == wanted.is_ok()
-        }
-        Err(_) => false,
+#[test]
+fn a_growth_is_refused_in_an_event(rt: HostRuntime) {
+    let alloc = rt.alloc();
+    assert!(rt; but_once(texts_are_copied(alloc), texts_are_copied(alloc)));
+    for kind in small_events() {
+        assert!(rt; is_copied(alloc, kind) == Some(true));
     }
 }

@@ -1,6 +1,27 @@
-//! Tests of `facet_json_decode`, `facet_json_number` and `facet_json_strict` with growths refused: which of their functions take no memory, and
-//! how the others tell that it ran out.
+//! Tests of `facet_format`, `facet_json_token`, `facet_json_scan` and `facet_json_parser`: what public types derive, copies of events,
+//! decimals, generic code over parsers; rows read in pieces of each length, with a read that fails, and with allocations that fail.
 #![tactic(auto)]
 
 #[cfg(test)]
+mod decimals;
+#[cfg(test)]
+mod decoding_growth;
+#[cfg(test)]
+mod events;
+#[cfg(test)]
 mod growth;
+#[cfg(test)]
+mod parsers;
+#[cfg(test)]
+mod pieces;
+#[cfg(test)]
+mod pieces_growth;
+#[cfg(test)]
+mod rows;
+#[cfg(test)]
+mod runs;
+#[cfg(test)]
+mod sources;
+#[cfg(test)]
+mod values;
+

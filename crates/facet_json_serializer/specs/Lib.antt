@@ -1,4 +1,5 @@
 pub mod Inner
+pub mod OptionsViews
 pub mod Serializer
 pub mod TreeCalls
 pub mod Views

@@ -3,7 +3,7 @@ use Rattle.std.specs.Prelude.{Bool, Result, Ok, Err}
 use Rattle.facet_json_serializer.specs.declared.error.JsonSerializeError.{JsonSerializeError}
 use Rattle.facet_json_serializer.specs.declared.error.JsonSerializeError.TheVariants as error
 use Rattle.facet_json_serializer.specs.declared.writing.Writing.{Writing as RustWriting}
-use Rattle.facet_json_options.specs.Views.{options_of}
+use Rattle.facet_json_serializer.specs.OptionsViews.{options_of}
 use Rattle.facet_json_serializer.specs.Serializer.{Writing, Refusal, misfits, key_outside_struct, no_struct_to_end, no_list_to_end, out_of_memory}
 
 abbrev pub refusal_of : JsonSerializeError → Refusal

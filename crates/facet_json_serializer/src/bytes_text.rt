@@ -4,12 +4,12 @@ ghost use Rattle.std.specs.Prelude.{◌≡◌, ◌≤◌, ◌++◌, ◌∷◌, l
 ghost use Rattle.std.specs.List.{flat_map};
 ghost use Rattle.facet_json_document.specs.Quoted.{hex_byte};
 ghost use Rattle.facet_json_document.specs.Text.{bytes_text, numbers, shortened, hex};
-ghost use Rattle.facet_json_options.specs.Views.{bytes_format_of};
+ghost use Rattle.facet_json_serializer.specs.OptionsViews.{bytes_format_of};
 
 use crate::append::{push_bytes, push_number};
 use crate::layout::push_separator;
 use facet_json_escape::hex_digit;
-use facet_json_options::{BytesFormat, HexBytesOptions};
+use crate::options::{BytesFormat, HexBytesOptions};
 use std::alloc::AllocError;
 
 /// Appends bytes in this format.

@@ -4,11 +4,11 @@ ghost use Rattle.std.specs.Prelude.{◌≡◌, ◌∷◌, ◌++◌, OnOk};
 ghost use Rattle.facet_format.specs.Bytes.{line_feed};
 ghost use Rattle.facet_json_document.specs.Quoted.{quoted};
 ghost use Rattle.facet_json_document.specs.Text.{indents, new_line, separator, line_at_end, colon_text};
-ghost use Rattle.facet_json_options.specs.Views.{options_of};
+ghost use Rattle.facet_json_serializer.specs.OptionsViews.{options_of};
 
 use crate::append::push_bytes;
 use facet_json_escape::{push_framed, push_quoted};
-use facet_json_options::SerializeOptions;
+use crate::options::SerializeOptions;
 use std::alloc::AllocError;
 
 /// A new line, and the indent once for each open container, where the text is indented.

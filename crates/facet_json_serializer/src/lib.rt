@@ -1,4 +1,5 @@
-//! Writing JSON (RFC 8259) call by call: `JsonSerializer`, and how writing is refused (`JsonSerializeError`).
+//! Writing JSON (RFC 8259) call by call: `JsonSerializer`, how text is laid out and bytes are written (`SerializeOptions`), and how writing
+//! is refused (`JsonSerializeError`). The texts themselves are defined in `facet_json_document`.
 #![tactic(auto)]
 
 mod append;
@@ -8,9 +9,11 @@ mod digits;
 mod error;
 pub mod laws;
 mod layout;
+mod options;
 mod scalar_text;
 mod serializer;
 mod writing;
 
+pub use options::{BytesFormat, HexBytesOptions, SerializeOptions};
 pub use error::JsonSerializeError;
 pub use serializer::JsonSerializer;

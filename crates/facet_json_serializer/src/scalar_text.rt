@@ -6,13 +6,13 @@ ghost use Rattle.facet_format.specs.Views.{scalar_value_of};
 ghost use Rattle.facet_json_document.specs.Quoted.{quoted};
 ghost use Rattle.facet_json_document.specs.Text.{bool_text};
 ghost use Rattle.facet_json_serializer.specs.Serializer.{scalar_text};
-ghost use Rattle.facet_json_options.specs.Views.{options_of};
+ghost use Rattle.facet_json_serializer.specs.OptionsViews.{options_of};
 
 use crate::append::{push_bytes, push_number};
 use crate::bytes_text::push_bytes_text;
 use facet_format::ScalarValue;
 use facet_json_escape::push_quoted;
-use facet_json_options::SerializeOptions;
+use crate::options::SerializeOptions;
 use std::alloc::AllocError;
 
 /// Appends the text of a value.

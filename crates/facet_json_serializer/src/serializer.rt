@@ -5,14 +5,14 @@ ghost use Rattle.facet_format.specs.Views.{scalar_value_of};
 ghost use Rattle.facet_json_document.specs.Text.{default_options};
 ghost use Rattle.facet_format.specs.SerializerCall.{begin_struct, field_key, end_struct, begin_seq, end_seq, scalar, raw_scalar, byte_sequence, byte_array, IsServed, IsServedOrLeft};
 ghost use Rattle.facet_json_serializer.specs.Serializer.{Writing as SpecWriting, out_of_memory, Appends, Takes, IsSpent};
-ghost use Rattle.facet_json_options.specs.Views.{options_of};
+ghost use Rattle.facet_json_serializer.specs.OptionsViews.{options_of};
 ghost use Rattle.facet_json_serializer.specs.Views.{answer_of, bytes_answer_of, refusal_of};
 ghost use Rattle.facet_json_serializer.specs.Inner.Writes.{settled};
 
 use crate::error::JsonSerializeError;
 use crate::writing::Writing;
 use facet_format::{FormatSerializer, ScalarValue};
-use facet_json_options::SerializeOptions;
+use crate::options::SerializeOptions;
 use std::alloc::Global;
 use std::marker::Model;
 

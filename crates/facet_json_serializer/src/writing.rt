@@ -6,7 +6,7 @@ ghost use Rattle.facet_format.specs.Event as event;
 ghost use Rattle.facet_format.specs.HeldText.{text_of};
 ghost use Rattle.facet_format.specs.Views.{scalar_value_of};
 ghost use Rattle.facet_format.specs.SerializerCall as calls;
-ghost use Rattle.facet_json_options.specs.Views.{options_of};
+ghost use Rattle.facet_json_serializer.specs.OptionsViews.{options_of};
 ghost use Rattle.facet_json_serializer.specs.Views.{writing_of, answer_of};
 ghost use Rattle.facet_json_serializer.specs.Inner.Writes.{Writes, value_begun, with_text};
 
@@ -19,7 +19,7 @@ use crate::layout::{push_key, push_line, push_line_at_end, push_separator};
 use crate::scalar_text::push_scalar;
 use facet_format::ScalarValue;
 use facet_json_escape::push_framed;
-use facet_json_options::SerializeOptions;
+use crate::options::SerializeOptions;
 use std::alloc::{AllocError, Global};
 use std::borrow::CowStr;
 

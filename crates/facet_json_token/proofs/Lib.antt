@@ -1,16 +1,32 @@
+pub use Rattle.facet_format.proofs.Lanes
+pub use Rattle.facet_format.proofs.Windows
+pub mod AsciiRuns
+pub mod CharAt
 pub mod CutBounds
+pub mod DecodeLaws
+pub mod DecodeSteps
+mod DigitValues
+pub mod EscapeSteps
+pub mod FaultLaws
+pub mod FaultSteps
 pub mod FirstBytes
 pub mod GapSteps
 pub mod Gaps
+pub mod HexDigits
 pub mod InSight
-pub use Rattle.facet_format.proofs.Lanes
 pub mod NumberCuts
 pub mod Offsets
+pub mod PlainRuns
+pub mod PlainText
+pub mod RfcNumbers
 pub mod ShapeIsCut
 pub mod ShapesCut
+mod ShortNumbers
+pub mod SignedNumbers
 pub mod Starts
+pub mod StringSteps
 pub mod TextShapes
 pub mod TextSteps
 pub mod TextWindows
 pub mod TokensSteps
-pub use Rattle.facet_format.proofs.Windows
+pub mod Utf8Runs

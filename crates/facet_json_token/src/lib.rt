@@ -1,16 +1,30 @@
-//! Tokens of JSON text (RFC 8259, section 2, and JSONC comments): what they are, and one token cut at a
-//! position. Next door: `facet_json_decode` and `facet_json_number` read what tokens hold, `facet_json_scanner` cuts them off a
-//! buffer that grows, and `facet_json_scan` gathers all of them.
+//! One token of JSON text (RFC 8259, sections 2, 6 and 7, and JSONC comments), and what it stands for: `cut` finds the token at an offset,
+//! `decode_string` and its kin read what a string holds, `parse_number` reads a number, and `check_string_strict` and
+//! `check_number_strict` say whether these are of RFC 8259 alone. `facet_json_scan` cuts tokens off buffers that grow.
 #![tactic(auto)]
 
+mod ascii;
+mod decode;
+mod decode_refusal;
 mod in_sight;
 mod mode;
+mod number;
+mod plain;
 pub mod plain_cut;
 pub mod quick;
 mod refusal;
+mod rfc_number;
+mod rfc_string;
+mod rfc_window;
+mod runs;
 mod token;
 mod window;
 
 pub use mode::Mode;
 pub use plain_cut::cut;
 pub use token::{ScanError, ScanErrorKind, ScanResult, SpannedToken, Token};
+pub use decode::{DecodeError, check_content, decode_string, decode_string_borrowed, decode_string_borrowed_unchecked, decode_string_owned, decode_string_owned_unchecked, decode_string_unchecked};
+pub use plain::{plain_text, plain_text_unchecked, quoted_text};
+pub use number::{ParsedNumber, parse_measured, parse_number, parse_number_unchecked};
+pub use rfc_number::{check_number_strict, has_rfc_parts};
+pub use rfc_string::check_string_strict;

@@ -1,4 +1,7 @@
 -- Where the last member with a name stands.
-pub mod LastNamed
 -- The laws of `PartialEq` and `Eq`, whose proofs the language wants here.
+-- Definitions that serve private contracts alone.
+pub mod Beyond
+pub mod LastNamed
+pub mod Reading
 pub mod SameLaws

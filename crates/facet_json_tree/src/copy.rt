@@ -6,7 +6,7 @@ ghost use Rattle.facet_json_tree.specs.Content.{may_allocate};
 ghost use Rattle.facet_json_tree.specs.Views.{tree_view, trees_view, pairs_view};
 
 use crate::tree::Tree;
-use facet_json_raw::RawJson;
+use facet_json_core::RawJson;
 use std::alloc::{AllocError, Global};
 use std::borrow::CowStr;
 

@@ -7,7 +7,7 @@ ghost use Rattle.facet_json_tree.specs.Views.{tree_view, trees_view, pairs_view}
 
 use crate::tree::Tree;
 use facet_format::Decimal;
-use facet_json_raw::RawJson;
+use facet_json_core::RawJson;
 
 /// `true` or `false`.
 impl From<bool> for Tree {

@@ -7,7 +7,7 @@ ghost use Rattle.facet_json_tree.specs.Views.{tree_view, trees_view, pairs_view}
 ghost use Rattle.facet_json_tree.specs.Inner.SameLaws.{same_tree-equivalence};
 
 use facet_format::Decimal;
-use facet_json_raw::RawJson;
+use facet_json_core::RawJson;
 
 /// A JSON value. Lists and pairs keep their order, and a key that comes twice stands twice.
 ///

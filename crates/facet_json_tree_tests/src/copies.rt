@@ -1,7 +1,7 @@
 //! Copies.
 
 use crate::samples::{each_kind, object};
-use facet_json_raw::RawJson;
+use facet_json_core::RawJson;
 use facet_json_tree::Tree;
 use std::alloc::{AllocError, Global};
 use std::borrow::CowStr;

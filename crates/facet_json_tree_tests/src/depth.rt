@@ -1,7 +1,7 @@
 //! Trees that are read within a depth: what the least depth is that takes them, and how they are refused below it.
 
 use facet_format::{DeserializeError, DeserializeErrorKind, Span};
-use facet_json_read::{tree_from_slice, tree_from_slice_within, tree_from_slice_within_jsonc};
+use facet_json_tree::{tree_from_slice, tree_from_slice_within, tree_from_slice_within_jsonc};
 use facet_json_tree::Tree;
 use std::alloc::Global;
 

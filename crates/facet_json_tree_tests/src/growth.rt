@@ -4,12 +4,9 @@
 
 use crate::samples::{each_kind, object};
 use facet_format::{Decimal, DeserializeError, DeserializeErrorKind};
-use facet_json_meaning::JsonParser;
-use facet_json_raw::RawJson;
-use facet_json_read::{
-    read_tree, tree_from_slice, tree_from_slice_jsonc, tree_from_slice_strict,
-    tree_from_slice_within, tree_from_slice_within_jsonc, tree_from_slice_within_strict,
-};
+use facet_json_parser::JsonParser;
+use facet_json_core::RawJson;
+use facet_json_tree::{read_tree, tree_from_slice, tree_from_slice_jsonc, tree_from_slice_strict, tree_from_slice_within, tree_from_slice_within_jsonc, tree_from_slice_within_strict};
 use facet_json_tree::Tree;
 use std::alloc::{AllocError, Global};
 

@@ -1,7 +1,7 @@
 //! Members by their names, items by their index.
 
 use crate::samples::{list, object};
-use facet_json_read::tree_from_slice;
+use facet_json_tree::tree_from_slice;
 use facet_json_tree::Tree;
 use std::alloc::Global;
 

@@ -1,7 +1,7 @@
 //! Values that the tests look into.
 
 use facet_format::Decimal;
-use facet_json_raw::RawJson;
+use facet_json_core::RawJson;
 use facet_json_tree::Tree;
 use std::alloc::{AllocError, Global};
 

@@ -2,7 +2,8 @@
 
 use facet_format::{DeserializeError, DeserializeErrorKind, FormatParser, Span};
 use facet_json_serializer::JsonSerializer;
-use facet_json_transcode::{JsonParser, TranscodeError, transcode};
+use facet_json_parser::JsonParser;
+use facet_json_core::{TranscodeError, transcode};
 use std::alloc::Global;
 
 /// How `transcode` refuses after so many events of the input, where the parser does, and nothing was written before.

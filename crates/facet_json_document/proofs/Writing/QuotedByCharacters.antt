@@ -7,7 +7,7 @@ use Rattle.std.proofs.lemmas.Bool.{lt-ltb, le-ltb}
 use Rattle.facet_format.specs.Bytes.{quote}
 use Rattle.facet_json_document.specs.Quoted.{escaped}
 use Rattle.facet_json_document.specs.TextLaws.{escaped_character, QuotedByCharacters}
-use Rattle.facet_json_decode.proofs.CharAt.{Shape, one, two, three, four, shape, next}
+use Rattle.facet_json_token.proofs.CharAt.{Shape, one, two, three, four, shape, next}
 
 -- A byte past ASCII is written as it is.
 escaped-past_ascii : (b : ℕ) → 128 ≤ b → escaped b ≡ b ∷ []

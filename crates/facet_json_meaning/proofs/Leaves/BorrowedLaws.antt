@@ -13,8 +13,8 @@ use Rattle.facet_json_document.specs.Meaning.{meaning}
 use Rattle.facet_json_document.specs.Tree.{Tree}
 use Rattle.facet_json_document.specs.Tree as trees
 use Rattle.facet_json_document.specs.Walk.{walk, text_by, scalar_of}
-use Rattle.facet_json_protocol.specs.Now.{Now}
-use Rattle.facet_json_protocol.specs.Next.{PassesNext}
+use Rattle.facet_json_document.specs.Now.{Now}
+use Rattle.facet_json_document.specs.Next.{PassesNext}
 use Rattle.facet_json_meaning.specs.Nodes.{SameToken, same_mark, same_string, same_number, same_scalars, same_arrays, same_objects}
 use Rattle.facet_json_meaning.specs.Borrowed.{is_plain, borrowed_text, lent, unread_text}
 use Rattle.facet_json_meaning.specs.Laws.{SameReading, ReadsBack}

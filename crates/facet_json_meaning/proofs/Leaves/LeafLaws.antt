@@ -2,7 +2,7 @@
 use Rattle.std.specs.Prelude.{ℕ, List}
 use Rattle.std.specs.Option.{option_map, option_and_then}
 use Rattle.std.proofs.Common.{◌≡◌, ℕ, false, List, Option, None, Some, refl, sym, ap, ◌∙◌}
-use Rattle.facet_json_decode.specs.Decode.{decoded}
+use Rattle.facet_json_token.specs.Decode.{decoded}
 use Rattle.facet_format.specs.Number.{number}
 use Rattle.facet_json_token.specs.Token.{Kind, Token}
 use Rattle.facet_json_token.specs.Token as token
@@ -13,9 +13,9 @@ use Rattle.facet_json_document.specs.Tree as trees
 use Rattle.facet_json_document.specs.Meaning.{meaning_of, meaning, tree_of_number, tree_of, trees_of, pairs_of}
 use Rattle.facet_json_document.specs.Text.{as_array, text, default_options}
 use Rattle.facet_json_document.proofs.TreesOfParts.{list_meant, object_meant}
-use Rattle.facet_json_written.specs.AsRead.{RawParts, WellFormed, IsDocumentText}
-use Rattle.facet_json_written.specs.AsRead as written
-use Rattle.facet_json_written.proofs.Values.TreeTexts.{written_is_read}
+use Rattle.facet_json_document.specs.AsRead.{RawParts, WellFormed, IsDocumentText}
+use Rattle.facet_json_document.specs.AsRead as written
+use Rattle.facet_json_document.proofs.Values.TreeTexts.{written_is_read}
 use Rattle.facet_json_document.specs.Refusal.{needs_meaning}
 use Rattle.facet_json_meaning.specs.Nodes.{SameToken, same_mark, same_string, same_number, same_scalars, same_arrays, same_objects}
 use Rattle.facet_json_meaning.specs.Laws.{SameReading, ReadsAs}

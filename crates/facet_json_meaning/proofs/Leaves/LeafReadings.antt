@@ -14,11 +14,11 @@ use Rattle.facet_json_document.specs.Meaning.{tree_of}
 use Rattle.facet_json_document.specs.Place.{Place}
 use Rattle.facet_json_document.specs.Walk.{walk, event_at, scalar_event}
 use Rattle.facet_json_document.specs.Future.{Future, gives, finished}
-use Rattle.facet_json_protocol.specs.Now.{Now, future_of}
-use Rattle.facet_json_protocol.specs.Next.{PassesNext}
-use Rattle.facet_json_transcode.specs.Told.{tree_of_scalar, Tells, a_scalar, a_list, an_object, Breaks, in_list, in_object}
-use Rattle.facet_json_transcode.specs.Reading.{IsValueRead}
-use Rattle.facet_json_transcode.proofs.WalkTells.{walk-tells}
+use Rattle.facet_json_document.specs.Now.{Now, future_of}
+use Rattle.facet_json_document.specs.Next.{PassesNext}
+use Rattle.facet_json_core.specs.Told.{tree_of_scalar, Tells, a_scalar, a_list, an_object, Breaks, in_list, in_object}
+use Rattle.facet_json_core.specs.Reading.{IsValueRead}
+use Rattle.facet_json_core.proofs.WalkTells.{walk-tells}
 use Rattle.facet_json_meaning.specs.Nodes.{StandsBefore}
 use Rattle.facet_json_meaning.specs.Passing.{WalksPast, LacksAlone}
 use Rattle.facet_json_meaning.specs.Reading.{IsRead, IsUnread, HasDocument, EndsStrictly}

@@ -6,8 +6,8 @@ use Rattle.facet_json_document.specs.RunLaws.{last_token}
 use Rattle.facet_json_document.specs.Text.{text}
 use Rattle.facet_json_document.specs.Tree.{raw}
 use Rattle.facet_json_document.specs.UnreadLaws.{first_token}
-use Rattle.facet_json_protocol.specs.SkipLaws.{bytes_between}
-use Rattle.facet_json_written.specs.AsRead.{RawParts}
+use Rattle.facet_json_document.specs.SkipLaws.{bytes_between}
+use Rattle.facet_json_document.specs.AsRead.{RawParts}
 use Rattle.facet_json_meaning.specs.Nodes.{same_scalars, same_arrays, same_objects}
 use Rattle.facet_json_meaning.specs.Laws.{SameReading, ReadsBack}
 use Rattle.facet_json_meaning.specs.Readings.{raw_of, IsBareDocument}

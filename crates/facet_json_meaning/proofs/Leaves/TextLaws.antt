@@ -3,7 +3,7 @@ use Rattle.std.proofs.Common.{◌≡◌, ℕ, true, List, Some, refl}
 use Rattle.std.specs.Str.{is_utf8}
 use Rattle.facet_json_document.specs.Text.{as_array}
 use Rattle.facet_json_document.specs.Tree.{Tree, text}
-use Rattle.facet_json_written.specs.AsRead.{ReadsAs, text_is_itself, RawParts, WellFormed}
+use Rattle.facet_json_document.specs.AsRead.{ReadsAs, text_is_itself, RawParts, WellFormed}
 use Rattle.facet_json_meaning.specs.Laws.{ReadsBack}
 use Rattle.facet_json_meaning.specs.Readings.{leaf, text_of}
 use Rattle.facet_json_meaning.proofs.Leaves.LeafLaws.{leaf-back}

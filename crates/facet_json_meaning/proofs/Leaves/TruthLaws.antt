@@ -2,7 +2,7 @@
 use Rattle.std.proofs.Common.{◌≡◌, Bool, Some, refl}
 use Rattle.facet_json_document.specs.Text.{as_array}
 use Rattle.facet_json_document.specs.Tree.{Tree, bool}
-use Rattle.facet_json_written.specs.AsRead.{ReadsAs, bool_is_itself, RawParts, WellFormed}
+use Rattle.facet_json_document.specs.AsRead.{ReadsAs, bool_is_itself, RawParts, WellFormed}
 use Rattle.facet_json_meaning.specs.Laws.{ReadsBack}
 use Rattle.facet_json_meaning.specs.Readings.{leaf, bool_of}
 use Rattle.facet_json_meaning.proofs.Leaves.LeafLaws.{leaf-back}

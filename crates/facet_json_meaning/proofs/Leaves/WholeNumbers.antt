@@ -12,8 +12,8 @@ use Rattle.facet_json_document.specs.Node as node
 use Rattle.facet_json_document.specs.Text.{as_array}
 use Rattle.facet_json_document.specs.Tree.{Tree, u64, i64}
 use Rattle.facet_json_document.specs.Meaning.{meaning}
-use Rattle.facet_json_protocol.specs.Now.{Now}
-use Rattle.facet_json_written.specs.AsRead.{ReadsAs, u64_is_whole, i64_is_whole, IsWithin, RawParts, WellFormed}
+use Rattle.facet_json_document.specs.Now.{Now}
+use Rattle.facet_json_document.specs.AsRead.{ReadsAs, u64_is_whole, i64_is_whole, IsWithin, RawParts, WellFormed}
 use Rattle.facet_json_meaning.specs.Laws.{ReadsBack}
 use Rattle.facet_json_meaning.specs.Reading.{IsRead, IsUnread}
 use Rattle.facet_json_meaning.specs.Readings.{leaf, unsigned_in, signed_in, unsigned_of, signed_of}

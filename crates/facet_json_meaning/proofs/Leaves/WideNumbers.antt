@@ -12,7 +12,7 @@ use Rattle.std.proofs.lemmas.Str.Parse.{numerals_by_value, tells_digits, not_in_
 use Rattle.std.proofs.lemmas.Bool.{ltb-true, lt-ltb, ne_eqb}
 use Rattle.facet_json_document.specs.Text.{as_array}
 use Rattle.facet_json_document.specs.Tree.{Tree, u64, i64, u128, i128, text}
-use Rattle.facet_json_written.specs.AsRead.{ReadsAs, u128_is_whole, i128_is_whole, IsWithin, RawParts, WellFormed}
+use Rattle.facet_json_document.specs.AsRead.{ReadsAs, u128_is_whole, i128_is_whole, IsWithin, RawParts, WellFormed}
 use Rattle.facet_json_meaning.specs.Laws.{ReadsBack}
 use Rattle.facet_json_meaning.specs.Readings.{leaf, unsigned_in, signed_in, unsigned_text, signed_text, u128_of, i128_of}
 use Rattle.facet_json_meaning.proofs.Leaves.LeafLaws.{leaf-back}

@@ -16,10 +16,10 @@ use Rattle.facet_json_document.proofs.InOrder.{InOrder}
 use Rattle.facet_json_document.proofs.Spelling.OneSpelling.{one_spelling}
 use Rattle.facet_json_document.proofs.Spelling.PlainIsJsonc.{cut-either}
 use Rattle.facet_json_document.proofs.TokensInOrder.{tokens-in_order}
-use Rattle.facet_json_written.proofs.Cuts.CutsWithin.{part, cut-within, cut-again}
-use Rattle.facet_json_written.proofs.Cuts.MovedTokens.{moved_kind, moved, moved-stop, moved-is_scalar, moved-is_string}
-use Rattle.facet_json_written.proofs.Values.OneValue.{IsLeft}
-use Rattle.facet_json_protocol.specs.SkipLaws.{bytes_between}
+use Rattle.facet_json_document.proofs.Cuts.CutsWithin.{part, cut-within, cut-again}
+use Rattle.facet_json_document.proofs.Cuts.MovedTokens.{moved_kind, moved, moved-stop, moved-is_scalar, moved-is_string}
+use Rattle.facet_json_document.proofs.Values.OneValue.{IsLeft}
+use Rattle.facet_json_document.specs.SkipLaws.{bytes_between}
 use Rattle.facet_json_meaning.specs.Laws.{SameReading}
 use Rattle.facet_json_meaning.specs.Nodes.{SameToken, SameText, same_scalars, same_arrays, same_objects, SameItems, same_none, same_first, SameMembers, same_no_members, same_member}
 use Rattle.facet_json_meaning.specs.SameBytes.{node_bytes, SameBytesSameText, ReadsBytesAlike}

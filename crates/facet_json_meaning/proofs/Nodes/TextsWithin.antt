@@ -11,10 +11,10 @@ use Rattle.facet_json_document.specs.Quoted.{quoted}
 use Rattle.facet_json_document.specs.Text.{text, items_text, members_text, new_line, separator, colon_text, default_options}
 use Rattle.facet_json_document.specs.Tree.{Tree, null, unit, bool, char, i64, u64, i128, u128, decimal, bytes, raw, list, pairs, Trees, no_trees, tree, Pairs, no_pairs, pair}
 use Rattle.facet_json_document.specs.Tree as trees
-use Rattle.facet_json_written.proofs.Cuts.MovedTokens.{moved_node}
-use Rattle.facet_json_written.proofs.Scalars.OneToken.{ends_number}
-use Rattle.facet_json_written.proofs.Values.OneValue.{IsLeft}
-use Rattle.facet_json_written.proofs.Values.RawValues.{document-moved}
+use Rattle.facet_json_document.proofs.Cuts.MovedTokens.{moved_node}
+use Rattle.facet_json_document.proofs.Scalars.OneToken.{ends_number}
+use Rattle.facet_json_document.proofs.Values.OneValue.{IsLeft}
+use Rattle.facet_json_document.proofs.Values.RawValues.{document-moved}
 use Rattle.facet_json_meaning.specs.Laws.{SameReading, ReadsAs, ReadsBack}
 use Rattle.facet_json_meaning.proofs.Nodes.MovedNodes.{moved-same}
 

@@ -4,7 +4,7 @@ use Rattle.std.specs.Option.{option_map, IfSome}
 use Rattle.std.proofs.Common.{◌≡◌, ℕ, Bool, true, false, List, Option, None, Some, refl, sym, ap, ◌∙◌, subst}
 use Rattle.facet_format.specs.Number.{Number, number}
 use Rattle.facet_format.specs.Number as numbers
-use Rattle.facet_json_decode.specs.Decode.{decoded}
+use Rattle.facet_json_token.specs.Decode.{decoded}
 use Rattle.facet_json_token.specs.Token.{Kind, Token}
 use Rattle.facet_json_token.specs.Token as token
 use Rattle.facet_json_document.specs.Document.{IsWholeDocument}
@@ -14,9 +14,9 @@ use Rattle.facet_json_document.specs.Meaning.{meaning_of, tree_of_number, tree_o
 use Rattle.facet_json_document.specs.Text.{as_array, text, default_options}
 use Rattle.facet_json_document.specs.Tree.{Tree, Trees, Pairs}
 use Rattle.facet_json_document.specs.Tree as trees
-use Rattle.facet_json_written.specs.AsRead.{RawParts, WellFormed, IsDocumentText, null_is_null}
-use Rattle.facet_json_written.specs.AsRead as written
-use Rattle.facet_json_written.proofs.Values.TreeTexts.{written_is_read}
+use Rattle.facet_json_document.specs.AsRead.{RawParts, WellFormed, IsDocumentText, null_is_null}
+use Rattle.facet_json_document.specs.AsRead as written
+use Rattle.facet_json_document.proofs.Values.TreeTexts.{written_is_read}
 use Rattle.facet_json_meaning.specs.Nodes.{SameToken, same_mark, same_string, same_number, SameText, same_scalars, same_arrays, same_objects}
 use Rattle.facet_json_meaning.specs.Laws.{SameReading, ReadsAs, ReadsBack}
 use Rattle.facet_json_meaning.specs.Optional.{is_null_token, is_null, optional, optional_tree, IsNullText, OptionalReadable}

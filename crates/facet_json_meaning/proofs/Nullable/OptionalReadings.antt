@@ -6,7 +6,7 @@ use Rattle.facet_format.specs.Complaint.{Refusal}
 use Rattle.facet_format.specs.Event.{Event}
 use Rattle.facet_format.specs.Cursor.{Cursor, Source, at_spot, peeked_at}
 use Rattle.facet_json_document.specs.Node.{Node}
-use Rattle.facet_json_protocol.specs.Now.{Now}
+use Rattle.facet_json_document.specs.Now.{Now}
 use Rattle.facet_json_meaning.specs.Nodes.{StandsBefore, StandsAfter}
 use Rattle.facet_json_meaning.specs.Optional.{is_null, optional}
 use Rattle.facet_json_meaning.specs.Passing.{WalksPast, LacksNull}

@@ -16,7 +16,7 @@ use Rattle.std.proofs.lemmas.List.Elements.{All-nil, All-cons, All-head, All-tai
 use Rattle.std.proofs.lemmas.Str.{is_utf8-from_IsUtf8, IsUtf8-string_bytes}
 use Rattle.facet_format.specs.Event.{object}
 use Rattle.facet_json_document.specs.Node.{Node}
-use Rattle.facet_json_protocol.specs.Now.{Now, ahead, GoesOn}
+use Rattle.facet_json_document.specs.Now.{Now, ahead, GoesOn}
 use Rattle.facet_json_meaning.specs.Maps.{seen_entries, by_bytes, with_entry, IsMap}
 use Rattle.facet_json_meaning.specs.Nodes.{KeepsOn}
 use Rattle.facet_json_meaning.specs.Objects.{BeginsObject, PassesKey}

@@ -8,8 +8,8 @@ use Rattle.facet_json_token.specs.Token.{Token}
 use Rattle.facet_json_document.specs.Node.{Node, scalar, Members, no_members, member}
 use Rattle.facet_json_document.specs.Node as node
 use Rattle.facet_json_document.specs.Meaning.{text_of, meaning}
-use Rattle.facet_json_protocol.specs.Now.{Now}
-use Rattle.facet_json_transcode.specs.Reading.{LacksMemory}
+use Rattle.facet_json_document.specs.Now.{Now}
+use Rattle.facet_json_core.specs.Reading.{LacksMemory}
 use Rattle.facet_json_meaning.specs.Nodes.{StandsBefore}
 use Rattle.facet_json_meaning.specs.Reading.{IsRead, IsUnread}
 use Rattle.facet_json_meaning.specs.Objects.{members_of, BeginsObject, IsNoObject, PassesKey, LacksKey}

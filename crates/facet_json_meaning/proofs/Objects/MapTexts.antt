@@ -12,7 +12,7 @@ use Rattle.std.proofs.lemmas.List.Elements.{All-head, All-tail}
 use Rattle.facet_json_document.specs.Node.{Node, Members, no_members}
 use Rattle.facet_json_document.specs.Text.{text, members_text, default_options}
 use Rattle.facet_json_document.specs.Tree.{Tree, no_pairs}
-use Rattle.facet_json_written.specs.AsRead.{RawParts, RawMembers, IsDocumentText}
+use Rattle.facet_json_document.specs.AsRead.{RawParts, RawMembers, IsDocumentText}
 use Rattle.facet_json_meaning.specs.Laws.{SameReading, ReadsBack}
 use Rattle.facet_json_meaning.specs.Maps.{Entries, by_bytes, with_entry, with_members, map_of, pairs_of_entries, tree_of_entries, IsMap, IsReadableMap}
 use Rattle.facet_json_meaning.proofs.Objects.MapReadings.{first-is}

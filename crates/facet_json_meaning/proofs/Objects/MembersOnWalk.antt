@@ -13,8 +13,8 @@ use Rattle.facet_json_document.specs.Tree.{Pairs}
 use Rattle.facet_json_document.specs.Meaning.{tree_of, pairs_of, text_of, meaning}
 use Rattle.facet_json_document.specs.Walk.{walk, walk_members, event_at, key_event, scalar_event, name_of}
 use Rattle.facet_json_document.proofs.TreesOfParts.{object_meant, member_meant}
-use Rattle.facet_json_protocol.specs.Now.{Now, StandsAt}
-use Rattle.facet_json_transcode.proofs.WalkTells.{key-named}
+use Rattle.facet_json_document.specs.Now.{Now, StandsAt}
+use Rattle.facet_json_core.proofs.WalkTells.{key-named}
 use Rattle.facet_json_meaning.specs.Nodes.{StandsBefore, StandsAfter}
 use Rattle.facet_json_meaning.specs.Passing.{WalksPast, LacksAlone}
 use Rattle.facet_json_meaning.specs.Objects.{members_of, begins_object, BeginsObject, IsNoObject, key_or_end, LacksKey}

@@ -14,10 +14,10 @@ use Rattle.facet_json_document.specs.Node.{Node, object, Members, no_members, me
 use Rattle.facet_json_document.specs.Quoted.{quoted}
 use Rattle.facet_json_document.specs.Text.{text, members_text, default_options}
 use Rattle.facet_json_document.specs.Tree.{Tree, pairs, Pairs, no_pairs, pair}
-use Rattle.facet_json_written.proofs.Values.Containers.{key_stands}
-use Rattle.facet_json_written.proofs.Scalars.OneToken.{IsOneString}
-use Rattle.facet_json_written.proofs.Values.OneValue.{IsLeft, IsLeft-past, IsLeft-as, mark_at, tokens_from-structural}
-use Rattle.facet_json_written.proofs.Scalars.QuotedTexts.{quoted-one_string}
+use Rattle.facet_json_document.proofs.Values.Containers.{key_stands}
+use Rattle.facet_json_document.proofs.Scalars.OneToken.{IsOneString}
+use Rattle.facet_json_document.proofs.Values.OneValue.{IsLeft, IsLeft-past, IsLeft-as, mark_at, tokens_from-structural}
+use Rattle.facet_json_document.proofs.Scalars.QuotedTexts.{quoted-one_string}
 use Rattle.facet_json_meaning.proofs.Nodes.TextsWithin.{ReadsAnywhere}
 
 -- From an offset of the buffer on, up to another, stand the members of an object and its closing brace, and this is known of them.

@@ -17,12 +17,12 @@ use Rattle.facet_json_document.specs.Text.{BytesFormat, text}
 use Rattle.facet_json_document.specs.Tree.{Tree, null, bool, i64, u64, list, pairs, Trees, no_trees, tree, Pairs, no_pairs, pair}
 use Rattle.facet_json_document.specs.Tree as trees
 use Rattle.facet_json_document.proofs.TreesOfParts.{item_meant, member_meant}
-use Rattle.facet_json_written.specs.AsRead.{WellFormed, ItemsWellFormed, MembersWellFormed, RawParts, RawItems, RawMembers, IsDocumentText, ReadsAs, null_is_null, bool_is_itself, i64_is_whole, u64_is_whole, decimal_is_itself, text_is_itself, list_is_list, pairs_are_pairs, ItemsReadAs, no_items, one_item, MembersReadAs, one_member}
-use Rattle.facet_json_written.specs.AsRead as written
-use Rattle.facet_json_written.specs.RfcText.{InUtf8}
-use Rattle.facet_json_written.proofs.Rfc.Numbers.{number-decimal, number-signed}
-use Rattle.facet_json_written.proofs.Values.Readings.{one_reading}
-use Rattle.facet_json_written.proofs.Values.TreeTexts.{written_is_read}
+use Rattle.facet_json_document.specs.AsRead.{WellFormed, ItemsWellFormed, MembersWellFormed, RawParts, RawItems, RawMembers, IsDocumentText, ReadsAs, null_is_null, bool_is_itself, i64_is_whole, u64_is_whole, decimal_is_itself, text_is_itself, list_is_list, pairs_are_pairs, ItemsReadAs, no_items, one_item, MembersReadAs, one_member}
+use Rattle.facet_json_document.specs.AsRead as written
+use Rattle.facet_json_document.specs.RfcText.{InUtf8}
+use Rattle.facet_json_document.proofs.Rfc.Numbers.{number-decimal, number-signed}
+use Rattle.facet_json_document.proofs.Values.Readings.{one_reading}
+use Rattle.facet_json_document.proofs.Values.TreeTexts.{written_is_read}
 use Rattle.facet_json_meaning.specs.Trees.{without_plus, items_without_plus, members_without_plus, IsReadAgain, DocumentIsReadable, DocumentComesBack}
 use Rattle.facet_json_meaning.proofs.OfTrees.TextsDecoded.{decoded-utf8}
 

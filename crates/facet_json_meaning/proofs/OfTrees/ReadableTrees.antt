@@ -6,7 +6,7 @@ use Rattle.std.proofs.lemmas.Bool.{lt-ltb}
 use Rattle.facet_json_document.specs.Text.{as_array}
 use Rattle.facet_json_document.specs.Tree.{Tree, null, bool, i64, u64, list, pairs, Trees, no_trees, tree, Pairs, no_pairs, pair}
 use Rattle.facet_json_document.specs.Tree as trees
-use Rattle.facet_json_written.specs.AsRead.{ReadsAs, null_is_null, bool_is_itself, i64_is_whole, u64_is_whole, decimal_is_itself, text_is_itself, list_is_list, pairs_are_pairs, ItemsReadAs, no_items, one_item, MembersReadAs, no_members, one_member}
+use Rattle.facet_json_document.specs.AsRead.{ReadsAs, null_is_null, bool_is_itself, i64_is_whole, u64_is_whole, decimal_is_itself, text_is_itself, list_is_list, pairs_are_pairs, ItemsReadAs, no_items, one_item, MembersReadAs, no_members, one_member}
 use Rattle.facet_json_meaning.specs.Trees.{IsReadableTree}
 
 pub null-readable : IsReadableTree null

@@ -6,10 +6,10 @@ use Rattle.facet_json_document.specs.Meaning.{tree_of, trees_of, pairs_of, text_
 use Rattle.facet_json_document.specs.Node.{Nodes, Members}
 use Rattle.facet_json_document.specs.Text.{as_array, default_options}
 use Rattle.facet_json_document.specs.Tree.{Tree, list, pairs, Trees, Pairs}
-use Rattle.facet_json_written.specs.AsRead.{WellFormed, RawParts, RawItems, RawMembers, IsDocumentText, null_is_null, unit_is_null, bool_is_itself, char_is_text, i64_is_whole, u64_is_whole, i128_is_whole, u128_is_whole, decimal_is_itself, text_is_itself, bytes_are_read, raw_is_read, list_is_list, pairs_are_pairs, ItemsReadAs, no_items, one_item, MembersReadAs, no_members, one_member}
-use Rattle.facet_json_written.specs.AsRead as written
-use Rattle.facet_json_written.proofs.Values.Readings.{one_reading}
-use Rattle.facet_json_written.proofs.Values.TreeTexts.{written_is_read}
+use Rattle.facet_json_document.specs.AsRead.{WellFormed, RawParts, RawItems, RawMembers, IsDocumentText, null_is_null, unit_is_null, bool_is_itself, char_is_text, i64_is_whole, u64_is_whole, i128_is_whole, u128_is_whole, decimal_is_itself, text_is_itself, bytes_are_read, raw_is_read, list_is_list, pairs_are_pairs, ItemsReadAs, no_items, one_item, MembersReadAs, no_members, one_member}
+use Rattle.facet_json_document.specs.AsRead as written
+use Rattle.facet_json_document.proofs.Values.Readings.{one_reading}
+use Rattle.facet_json_document.proofs.Values.TreeTexts.{written_is_read}
 use Rattle.facet_json_meaning.specs.Laws.{SameReading, ReadsBack}
 use Rattle.facet_json_meaning.specs.Nodes.{same_scalars, same_arrays, same_objects, SameItems, same_none, same_first, SameMembers, same_no_members, same_member}
 use Rattle.facet_json_meaning.specs.Trees.{IsReadableTree}

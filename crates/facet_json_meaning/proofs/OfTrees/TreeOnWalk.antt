@@ -11,12 +11,12 @@ use Rattle.facet_json_document.specs.Node.{Node}
 use Rattle.facet_json_document.specs.Tree.{Tree}
 use Rattle.facet_json_document.specs.Walk.{walk}
 use Rattle.facet_json_document.proofs.WalkComes.{events_before-append}
-use Rattle.facet_json_protocol.specs.Now.{Now, future_of}
-use Rattle.facet_json_transcode.specs.Told.{Tells}
-use Rattle.facet_json_transcode.specs.Reading.{IsValueRead, IsValueUnread}
-use Rattle.facet_json_transcode.proofs.DocumentFromRoot.{read-document}
-use Rattle.facet_json_transcode.proofs.StrictFromRoot.{strict-read}
-use Rattle.facet_json_transcode.proofs.WalkTells.{walk-tells}
+use Rattle.facet_json_document.specs.Now.{Now, future_of}
+use Rattle.facet_json_core.specs.Told.{Tells}
+use Rattle.facet_json_core.specs.Reading.{IsValueRead, IsValueUnread}
+use Rattle.facet_json_core.proofs.DocumentFromRoot.{read-document}
+use Rattle.facet_json_core.proofs.StrictFromRoot.{strict-read}
+use Rattle.facet_json_core.proofs.WalkTells.{walk-tells}
 use Rattle.facet_json_meaning.specs.Nodes.{StandsBefore, StandsAfter}
 use Rattle.facet_json_meaning.specs.Passing.{WalksPast, StandsOnward, MovesOn}
 use Rattle.facet_json_meaning.specs.Reading.{IsRead, IsUnread, HasDocument, EndsStrictly}

@@ -19,12 +19,12 @@ use Rattle.facet_json_document.specs.Run.{opening, closing, is_separator, one_to
 use Rattle.facet_json_document.specs.Unread.{begins_value, past_value}
 use Rattle.facet_json_document.proofs.Parts.BracketsOnWalk.{a_colon}
 use Rattle.facet_json_document.proofs.PastEvents.{nothing-behind}
-use Rattle.facet_json_protocol.specs.Move.{Moves}
-use Rattle.facet_json_protocol.specs.Now.{Now, future_of}
-use Rattle.facet_json_protocol.specs.SkipLaws.{GoesOnWith, with_value, after_separator, BeforeValue}
-use Rattle.facet_json_protocol.proofs.MoveLaws.{with_cursor, StepOf, by_step}
-use Rattle.facet_json_protocol.proofs.MovesNext.{event-comes}
-use Rattle.facet_json_protocol.proofs.OneRun.BracketTurns.{TurnsTo, turns}
+use Rattle.facet_json_document.specs.Move.{Moves}
+use Rattle.facet_json_document.specs.Now.{Now, future_of}
+use Rattle.facet_json_document.specs.SkipLaws.{GoesOnWith, with_value, after_separator, BeforeValue}
+use Rattle.facet_json_document.proofs.MoveLaws.{with_cursor, StepOf, by_step}
+use Rattle.facet_json_document.proofs.MovesNext.{event-comes}
+use Rattle.facet_json_document.proofs.OneRun.BracketTurns.{TurnsTo, turns}
 use Rattle.facet_json_meaning.specs.OneValue.{PassesValue, tokens_left, IsInside, PassesByKind}
 use Rattle.facet_json_meaning.proofs.OneValue.EventTokens.{AfterSeparators, none, one_more, GivesHere, an_event as gives_event, a_scalar, a_key, GivesEvent, tokens-give}
 

@@ -3,7 +3,7 @@ use Rattle.std.proofs.Common.{◌≡◌, true, List, ℕ, Option, Some, None}
 use Rattle.std.specs.Option.{option_map}
 use Rattle.facet_format.specs.Event.{array, object, EventKind, struct_start, struct_end, sequence_start, sequence_end, field_key, scalar}
 use Rattle.facet_json_document.specs.Tree.{Tree}
-use Rattle.facet_json_protocol.specs.Now.{Now}
+use Rattle.facet_json_document.specs.Now.{Now}
 use Rattle.facet_json_meaning.specs.Borrowed.{lent}
 use Rattle.facet_json_meaning.specs.Lists.{begins_list, ends_list}
 use Rattle.facet_json_meaning.specs.Objects.{begins_object, key_or_end}

@@ -14,10 +14,10 @@ use Rattle.facet_json_document.specs.Place.{Place, after_colon, passes, names, p
 use Rattle.facet_json_document.specs.Run.{Run}
 use Rattle.facet_json_document.specs.Unread.{closes_container, past_value, PartFrom, separator, a_value, a_broken_value, a_key, a_closing, none_of_them, PartIn, PartAt}
 use Rattle.facet_json_document.proofs.Parts.PartsWithin.{captured-place}
-use Rattle.facet_json_protocol.specs.Move.{Moves}
-use Rattle.facet_json_protocol.specs.Now.{Now}
-use Rattle.facet_json_protocol.specs.SkipLaws.{GoesOnWith, with_value, after_separator}
-use Rattle.facet_json_protocol.proofs.MoveLaws.{with_cursor, StepOf, by_step}
+use Rattle.facet_json_document.specs.Move.{Moves}
+use Rattle.facet_json_document.specs.Now.{Now}
+use Rattle.facet_json_document.specs.SkipLaws.{GoesOnWith, with_value, after_separator}
+use Rattle.facet_json_document.proofs.MoveLaws.{with_cursor, StepOf, by_step}
 use Rattle.facet_json_meaning.specs.OneValue.{PassesValue, tokens_left, IsAfterKey}
 
 -- ---- a value that is passed unread

@@ -11,11 +11,11 @@ use Rattle.facet_json_document.specs.InputPlace.{Standing}
 use Rattle.facet_json_document.specs.Language.{rules, gaps}
 use Rattle.facet_json_document.specs.Run.{a_run, nothing}
 use Rattle.facet_json_document.proofs.Parts.TokensAfterRuns.{tokens_from-run}
-use Rattle.facet_json_protocol.specs.Move.{Moves}
-use Rattle.facet_json_protocol.specs.Next.{PassesNext}
-use Rattle.facet_json_protocol.specs.Now.{Now, SameInput}
-use Rattle.facet_json_protocol.proofs.MoveLaws.{with_cursor, StepOf, by_step}
-use Rattle.facet_json_protocol.proofs.MovesNext.{event-comes}
+use Rattle.facet_json_document.specs.Move.{Moves}
+use Rattle.facet_json_document.specs.Next.{PassesNext}
+use Rattle.facet_json_document.specs.Now.{Now, SameInput}
+use Rattle.facet_json_document.proofs.MoveLaws.{with_cursor, StepOf, by_step}
+use Rattle.facet_json_document.proofs.MovesNext.{event-comes}
 use Rattle.facet_json_meaning.specs.OneValue.{PassesValue, tokens_left, IsInside, PassesMemberOrEnd, ComesNext, LooksAhead}
 use Rattle.facet_json_meaning.proofs.OneValue.EventsPassed.{runs-then, value-runs, value-stands}
 

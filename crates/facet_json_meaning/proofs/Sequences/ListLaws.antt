@@ -14,8 +14,8 @@ use Rattle.facet_json_document.specs.Meaning.{tree_of, trees_of, put_item}
 use Rattle.facet_json_document.specs.Node.{Node, array, Nodes, no_nodes, item, Spells, brackets, SpellsItems, closed, item_and_comma, last_item}
 use Rattle.facet_json_document.specs.Text.{text, items_text, default_options}
 use Rattle.facet_json_document.specs.Tree.{Tree, list, Trees, no_trees, tree}
-use Rattle.facet_json_written.specs.AsRead.{RawParts, RawItems, IsDocumentText}
-use Rattle.facet_json_written.proofs.Values.OneValue.{IsLeft, IsLeft-past, IsLeft-as, mark_at, tokens_from-structural}
+use Rattle.facet_json_document.specs.AsRead.{RawParts, RawItems, IsDocumentText}
+use Rattle.facet_json_document.proofs.Values.OneValue.{IsLeft, IsLeft-past, IsLeft-as, mark_at, tokens_from-structural}
 use Rattle.facet_json_meaning.specs.Laws.{SameReading, ReadsBack}
 use Rattle.facet_json_meaning.specs.Lists.{put_value, items_of, list_of, trees_by, list_by}
 use Rattle.facet_json_meaning.specs.Nodes.{same_scalars, same_arrays, same_objects, SameItems, same_none, same_first}

@@ -15,8 +15,8 @@ use Rattle.facet_json_document.specs.Tree.{Trees}
 use Rattle.facet_json_document.specs.Meaning.{tree_of, trees_of}
 use Rattle.facet_json_document.specs.Walk.{walk, walk_items, event_at, scalar_event}
 use Rattle.facet_json_document.proofs.TreesOfParts.{list_meant, item_meant}
-use Rattle.facet_json_protocol.specs.Now.{Now, StandsAt}
-use Rattle.facet_json_transcode.specs.Reading.{LacksMemory}
+use Rattle.facet_json_document.specs.Now.{Now, StandsAt}
+use Rattle.facet_json_core.specs.Reading.{LacksMemory}
 use Rattle.facet_json_meaning.specs.Nodes.{StandsBefore, StandsAfter}
 use Rattle.facet_json_meaning.specs.Passing.{WalksPast, LacksAlone}
 use Rattle.facet_json_meaning.specs.Reading.{IsRead, IsUnread}

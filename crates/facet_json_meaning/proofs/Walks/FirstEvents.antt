@@ -8,7 +8,7 @@ use Rattle.facet_format.specs.Event as event
 use Rattle.facet_format.specs.Cursor.{Cursor, Source, at_spot, unpeeked}
 use Rattle.facet_format.specs.Number.{Number, number}
 use Rattle.facet_format.specs.Number as numbers
-use Rattle.facet_json_decode.specs.Decode.{decoded}
+use Rattle.facet_json_token.specs.Decode.{decoded}
 use Rattle.facet_json_token.specs.Token.{Kind, Token}
 use Rattle.facet_json_token.specs.Token as token
 use Rattle.facet_json_document.specs.Node.{Node, scalar}
@@ -17,7 +17,7 @@ use Rattle.facet_json_document.specs.Tree.{Tree}
 use Rattle.facet_json_document.specs.Tree as trees
 use Rattle.facet_json_document.specs.Meaning.{tree_of, meaning_of, tree_of_number}
 use Rattle.facet_json_document.specs.Walk.{walk, event_at, scalar_event, scalar_of}
-use Rattle.facet_json_protocol.specs.Now.{Now}
+use Rattle.facet_json_document.specs.Now.{Now}
 use Rattle.facet_json_meaning.specs.Nodes.{StandsBefore, StandsAfter}
 use Rattle.facet_json_meaning.specs.Passing.{WalksPast}
 use Rattle.facet_json_meaning.specs.Reading.{IsRead, IsUnread}

@@ -10,7 +10,7 @@ use Rattle.facet_json_document.specs.RunLaws.{last_token}
 use Rattle.facet_json_document.specs.UnreadLaws.{first_token, is_container}
 use Rattle.facet_json_document.specs.Walk.{walk}
 use Rattle.facet_json_document.proofs.Parts.WalksAreValues.{walk_is_one_value}
-use Rattle.facet_json_protocol.specs.Now.{Now}
+use Rattle.facet_json_document.specs.Now.{Now}
 use Rattle.facet_json_meaning.specs.Nodes.{StandsBefore}
 use Rattle.facet_json_meaning.proofs.Leaves.LeafReadings.{walk-first}
 

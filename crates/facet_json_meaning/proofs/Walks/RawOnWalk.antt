@@ -8,9 +8,9 @@ use Rattle.facet_format.specs.Standing.{IsStep}
 use Rattle.facet_json_document.specs.Node.{Node}
 use Rattle.facet_json_document.specs.RunLaws.{last_token}
 use Rattle.facet_json_document.specs.UnreadLaws.{first_token}
-use Rattle.facet_json_protocol.specs.Now.{Now, StandsAt}
-use Rattle.facet_json_protocol.specs.SkipLaws.{bytes_between}
-use Rattle.facet_json_transcode.specs.Reading.{LacksMemory}
+use Rattle.facet_json_document.specs.Now.{Now, StandsAt}
+use Rattle.facet_json_document.specs.SkipLaws.{bytes_between}
+use Rattle.facet_json_core.specs.Reading.{LacksMemory}
 use Rattle.facet_json_meaning.specs.Nodes.{StandsBefore, StandsAfter}
 use Rattle.facet_json_meaning.specs.Reading.{IsRead, IsUnread}
 use Rattle.facet_json_meaning.specs.Readings.{raw_of}

@@ -2,9 +2,9 @@
 -- In the texts of this file a backslash stands after a backslash of its own.
 use Rattle.std.proofs.Common.{◌≡◌, [], ◌∷◌, Some, None, codes, refl}
 use Rattle.std.specs.Char.{encode_utf8}
-use Rattle.facet_json_decode.specs.Decode.{short_escape, code_unit, utf8_at, unit_at, escape_at, piece_at}
-use Rattle.facet_json_decode.specs.Fault.{fault_at, ends_in_escape, ends_in_digits, not_digits, no_character}
-use Rattle.facet_json_decode.specs.Inner.FirstFault.{fault_of, fault_past, first_fault}
+use Rattle.facet_json_token.specs.Decode.{short_escape, code_unit, utf8_at, unit_at, escape_at, piece_at}
+use Rattle.facet_json_token.specs.Fault.{fault_at, ends_in_escape, ends_in_digits, not_digits, no_character}
+use Rattle.facet_json_token.specs.Inner.FirstFault.{fault_of, fault_past, first_fault}
 
 row_lone_backslash : first_fault (codes "a\\") ≡ Some (fault_at ends_in_escape 1 1)
 unfolding fault_past fault_of piece_at escape_at unit_at code_unit short_escape utf8_at encode_utf8

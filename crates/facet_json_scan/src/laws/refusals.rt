@@ -1,6 +1,6 @@
 //! What a scanner over a buffer that grows answers after a refusal.
 
-ghost use Rattle.facet_json_scanner.specs.Laws.{RefusalRepeats, RefusalAtEnd, PendingAgain};
+ghost use Rattle.facet_json_scan.specs.ScannerLaws.{RefusalRepeats, RefusalAtEnd, PendingAgain};
 
 /// After a refusal of `next_token` the same call on the same buffer refuses alike, and leaves the scanner as it is.
 pub fn refusal_repeats()

@@ -1,6 +1,6 @@
 use Rattle.std.proofs.Common.{◌≡◌, IfSome, IfNone, subst}
 use Rattle.facet_json_token.specs.Views.{mode_of}
-use Rattle.facet_json_pieces.specs.Listed.{AreTokensOf}
+use Rattle.facet_json_scan.specs.Listed.{AreTokensOf}
 use Rattle.facet_json_command.proofs.Endings.{no_growth}
 use Rattle.facet_json_command.proofs.TokenListing.{unread_tokens, tokens_end, tokens_end_grows, tokens_not_usage}
 use Rattle.facet_json_command.proofs.run.print_tokens.Goals as goal

@@ -1,7 +1,7 @@
 use Rattle.std.proofs.Common.{length, refl, inl, subst}
 use Rattle.std.proofs.lemmas.Result.{IfOk-weaker, IfErr-weaker}
-use Rattle.facet_json_protocol.specs.Now.{Now}
-use Rattle.facet_json_transcode.specs.Views.{IsWithin}
+use Rattle.facet_json_document.specs.Now.{Now}
+use Rattle.facet_json_core.specs.TranscodeViews.{IsWithin}
 use Rattle.facet_json_command.proofs.Reformatting.{refusal_is}
 use Rattle.facet_json_command.proofs.run.reformatted.Goals as goal
 

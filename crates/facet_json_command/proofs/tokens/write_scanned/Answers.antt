@@ -5,8 +5,8 @@ use Rattle.std.specs.Io.KnownBytes.{Appends}
 use Rattle.facet_format.specs.Span.{span_at}
 use Rattle.facet_format.specs.Views.{span_of}
 use Rattle.facet_json_token.specs.Tokens.{ended}
-use Rattle.facet_json_pieces.specs.Listed.{list_of, last_of, AreAllOf}
-use Rattle.facet_json_command_line.specs.declared.outcome.Outcome.TheVariants.{Refused}
+use Rattle.facet_json_scan.specs.Listed.{list_of, last_of, AreAllOf}
+use Rattle.facet_json_command.specs.declared.outcome.Outcome.TheVariants.{Refused}
 use Rattle.facet_json_command.specs.Lines.{place_line}
 use Rattle.facet_json_command.specs.TokenViews.{text_of_token}
 use Rattle.facet_json_command.specs.Run.{Prints, ListsTokens}

@@ -1,7 +1,7 @@
 use Rattle.std.proofs.Common.{◌≡◌, ◌<◌, false, cond, map}
 use Rattle.std.specs.List.{All}
 use Rattle.facet_format.specs.Event.{array}
-use Rattle.facet_json_protocol.specs.Now.{ahead}
+use Rattle.facet_json_document.specs.Now.{ahead}
 use Rattle.facet_json_meaning.specs.Nodes.{KeepsOn}
 use Rattle.facet_json_meaning.specs.OneValue.{IsInside}
 use Rattle.facet_json_meaning.proofs.Sequences.ListSteps.{ReadSoFar}

@@ -2,8 +2,8 @@ use Rattle.std.proofs.Common.{ap, arith}
 use Rattle.std.proofs.lemmas.Result.{err_from_is_err_and}
 use Rattle.facet_format.specs.HeldText.{text_of}
 use Rattle.facet_format.specs.Views.{span_of}
-use Rattle.facet_json_place.specs.Views.{language_of}
-use Rattle.facet_json_place.specs.declared.place.Turn.TheVariants as turns
+use Rattle.facet_json_reader.specs.PlaceViews.{language_of}
+use Rattle.facet_json_reader.specs.declared.place.Turn.TheVariants as turns
 use Rattle.facet_json_reader.proofs.EventsAtTurns.{key-given, key-unmade, key-stopped, meaningless-refused}
 use Rattle.facet_json_reader.proofs.TokenMeanings.{key_means, key-none}
 use Rattle.facet_json_reader.proofs.reader.key.Goals as goal

@@ -1,6 +1,6 @@
 use Rattle.std.proofs.Common.{rules}
 use Rattle.facet_json_document.specs.Refusal.{at_end}
-use Rattle.facet_json_place.specs.Views.{place_of}
+use Rattle.facet_json_reader.specs.PlaceViews.{place_of}
 use Rattle.facet_json_reader.proofs.reader.stopped.Goals as goal
 
 pub returns-in-Eof-clause-end : goal.returns-in-Eof-clause-end

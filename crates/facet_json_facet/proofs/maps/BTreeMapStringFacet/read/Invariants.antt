@@ -1,4 +1,4 @@
-use Rattle.facet_json_protocol.specs.Now.{ahead}
+use Rattle.facet_json_document.specs.Now.{ahead}
 use Rattle.facet_json_meaning.proofs.Objects.MapEntries.{IsUnderWay}
 use Rattle.facet_json_facet.proofs.maps.BTreeMapStringFacet.read.Given as goal
 

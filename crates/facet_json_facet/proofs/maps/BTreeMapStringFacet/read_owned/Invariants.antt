@@ -1,5 +1,5 @@
 use Rattle.std.specs.List.{All}
-use Rattle.facet_json_protocol.specs.Now.{ahead}
+use Rattle.facet_json_document.specs.Now.{ahead}
 use Rattle.facet_json_meaning.proofs.Objects.MapEntries.{IsUnderWay}
 use Rattle.facet_json_facet.proofs.maps.BTreeMapStringFacet.read_owned.Given as goal
 

@@ -3,9 +3,9 @@ use Rattle.facet_format.specs.Event as event
 use mir.Val.{to_z, of_z}
 use Rattle.std.proofs.lemmas.Int.{to_z-of_z}
 use Rattle.facet_json_document.specs.Tree.{i64}
-use Rattle.facet_json_written.specs.AsRead.{IsWithin}
-use Rattle.facet_json_write.proofs.ScalarCalls.{scalar-called}
-use Rattle.facet_json_write.proofs.OfRust.{fits-within}
+use Rattle.facet_json_document.specs.AsRead.{IsWithin}
+use Rattle.facet_json_tree.proofs.ScalarCalls.{scalar-called}
+use Rattle.facet_json_tree.proofs.OfRust.{fits-within}
 use Rattle.facet_json_facet.proofs.ScalarsOfRust.{on-ok, i64-of_rust}
 use Rattle.facet_json_facet.proofs.signed.I32Facet.write.Goals as goal
 

@@ -3,7 +3,7 @@ use Rattle.std.specs.Str.{is_utf8}
 use Rattle.std.specs.String.{string_bytes}
 use Rattle.std.proofs.lemmas.Str.{is_utf8-from_IsUtf8, IsUtf8-string_bytes}
 use Rattle.facet_json_document.specs.Tree.{text}
-use Rattle.facet_json_write.proofs.ScalarCalls.{scalar-called}
+use Rattle.facet_json_tree.proofs.ScalarCalls.{scalar-called}
 use Rattle.facet_json_facet.proofs.ScalarsOfRust.{on-ok, text-of_rust}
 use Rattle.facet_json_facet.proofs.texts.StringFacet.write.Goals as goal
 

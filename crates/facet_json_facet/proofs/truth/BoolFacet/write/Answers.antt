@@ -1,5 +1,5 @@
 use Rattle.std.proofs.Common.{refl, rules}
-use Rattle.facet_json_write.proofs.ScalarCalls.{scalar-called}
+use Rattle.facet_json_tree.proofs.ScalarCalls.{scalar-called}
 use Rattle.facet_json_facet.proofs.ScalarsOfRust.{on-ok, bool-of_rust}
 use Rattle.facet_json_facet.proofs.truth.BoolFacet.write.Goals as goal
 

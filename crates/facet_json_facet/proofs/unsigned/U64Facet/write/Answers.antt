@@ -1,6 +1,6 @@
 use Rattle.std.proofs.Common.{◌<◌, ◌^◌, refl, rules}
 use Rattle.facet_format.specs.Event as event
-use Rattle.facet_json_write.proofs.ScalarCalls.{scalar-called}
+use Rattle.facet_json_tree.proofs.ScalarCalls.{scalar-called}
 use Rattle.facet_json_facet.proofs.ScalarsOfRust.{on-ok, u64-of_rust}
 use Rattle.facet_json_facet.proofs.unsigned.U64Facet.write.Goals as goal
 

@@ -1,7 +1,7 @@
 use Rattle.std.proofs.Common.{◌<◌, ◌^◌, sym, ap, rules}
 use Rattle.facet_format.specs.Event as event
 use Rattle.facet_json_document.specs.Tree.{u64}
-use Rattle.facet_json_write.proofs.ScalarCalls.{scalar-called}
+use Rattle.facet_json_tree.proofs.ScalarCalls.{scalar-called}
 use Rattle.facet_json_facet.proofs.ScalarsOfRust.{on-ok, u64-of_rust}
 use Rattle.facet_json_facet.proofs.unsigned.U8Facet.write.Goals as goal
 

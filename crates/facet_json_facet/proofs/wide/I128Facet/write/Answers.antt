@@ -4,8 +4,8 @@ use Rattle.facet_format.specs.Event as event
 use mir.Val.{to_z, of_z}
 use Rattle.std.proofs.lemmas.Int.{to_z-of_z}
 use Rattle.facet_json_document.specs.Tree.{i128}
-use Rattle.facet_json_written.specs.AsRead.{IsWithin}
-use Rattle.facet_json_write.proofs.ScalarCalls.{scalar-called}
+use Rattle.facet_json_document.specs.AsRead.{IsWithin}
+use Rattle.facet_json_tree.proofs.ScalarCalls.{scalar-called}
 use Rattle.facet_json_meaning.proofs.Leaves.WideNumbers.{wide-within}
 use Rattle.facet_json_facet.proofs.ScalarsOfRust.{on-ok, i128-of_rust}
 use Rattle.facet_json_facet.proofs.wide.I128Facet.write.Goals as goal

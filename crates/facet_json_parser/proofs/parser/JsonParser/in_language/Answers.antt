@@ -1,6 +1,6 @@
 use Rattle.std.proofs.Common.{ap, map, rules}
-use Rattle.facet_json_place.specs.Views.{language_of}
-use Rattle.facet_json_standing.specs.Views.{filling_of, point_of}
+use Rattle.facet_json_reader.specs.PlaceViews.{language_of}
+use Rattle.facet_json_parser.specs.Views.{filling_of, point_of}
 use Rattle.facet_json_parser.proofs.ParserWithin.{first-ready}
 use Rattle.facet_json_parser.proofs.parser.JsonParser.in_language.Goals as goal
 

@@ -2,9 +2,9 @@ use Rattle.std.proofs.Common.{refl}
 use Rattle.std.specs.Option.{option_map}
 use Rattle.std.proofs.lemmas.Result.{err_from_is_err_and}
 use Rattle.facet_format.specs.Views.{event_of}
-use Rattle.facet_json_place.specs.Views.{refused_of}
-use Rattle.facet_json_standing.specs.Fill.{spot_of}
-use Rattle.facet_json_standing.specs.Views.{filling_of}
+use Rattle.facet_json_reader.specs.PlaceViews.{refused_of}
+use Rattle.facet_json_parser.specs.Fill.{spot_of}
+use Rattle.facet_json_parser.specs.Views.{filling_of}
 use Rattle.facet_json_parser.proofs.AnswersAreMoves.{next-repeats, next-answers, next-refused}
 use Rattle.facet_json_parser.proofs.ParserWithin.{ready-within, next-refusal_within}
 use Rattle.facet_json_parser.proofs.parser.JsonParser.next_by_tokens.Goals as goal

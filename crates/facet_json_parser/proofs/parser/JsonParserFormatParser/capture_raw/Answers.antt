@@ -1,10 +1,10 @@
 use Rattle.std.proofs.Common.{refl}
 use Rattle.std.proofs.lemmas.Result.{err_from_is_err_and}
-use Rattle.facet_json_place.specs.Views.{refused_of}
-use Rattle.facet_json_protocol.proofs.MoveIsStep.{move-steps}
-use Rattle.facet_json_protocol.proofs.Spans.BytesAhead.{moves-goes_on, capture-lowers}
-use Rattle.facet_json_standing.specs.Fill.{spot_of}
-use Rattle.facet_json_standing.specs.Views.{filling_of}
+use Rattle.facet_json_reader.specs.PlaceViews.{refused_of}
+use Rattle.facet_json_document.proofs.MoveIsStep.{move-steps}
+use Rattle.facet_json_document.proofs.Spans.BytesAhead.{moves-goes_on, capture-lowers}
+use Rattle.facet_json_parser.specs.Fill.{spot_of}
+use Rattle.facet_json_parser.specs.Views.{filling_of}
 use Rattle.facet_json_parser.proofs.ParserWithin.{ready-within, answer-within}
 use Rattle.facet_json_parser.proofs.PartsArePassed.{capture-repeats, capture-answers, capture-refused, capture-refusal_within}
 use Rattle.facet_json_parser.proofs.parser.JsonParserFormatParser.capture_raw.Goals as goal

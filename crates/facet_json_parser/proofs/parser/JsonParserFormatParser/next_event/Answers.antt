@@ -1,7 +1,7 @@
 -- What is passed at once, or token by token, is a move.
 use Rattle.std.proofs.Common.{Some, Ok, refl}
-use Rattle.facet_json_protocol.proofs.MoveIsStep.{move-steps}
-use Rattle.facet_json_protocol.proofs.Spans.BytesAhead.{moves-goes_on}
+use Rattle.facet_json_document.proofs.MoveIsStep.{move-steps}
+use Rattle.facet_json_document.proofs.Spans.BytesAhead.{moves-goes_on}
 use Rattle.facet_json_parser.proofs.AnswersAreMoves.{result-passes, result-over}
 use Rattle.facet_json_parser.proofs.ParserWithin.{answer-within, result-lowers}
 use Rattle.facet_json_parser.proofs.parser.JsonParserFormatParser.next_event.Goals as goal

@@ -2,11 +2,11 @@ use Rattle.std.proofs.Common.{refl}
 use Rattle.std.specs.Option.{option_map}
 use Rattle.std.proofs.lemmas.Result.{err_from_is_err_and}
 use Rattle.facet_format.specs.Views.{event_of}
-use Rattle.facet_json_place.specs.Views.{refused_of}
-use Rattle.facet_json_protocol.proofs.MoveIsStep.{move-steps}
-use Rattle.facet_json_protocol.proofs.Spans.BytesAhead.{moves-goes_on}
-use Rattle.facet_json_standing.specs.Fill.{spot_of}
-use Rattle.facet_json_standing.specs.Views.{filling_of}
+use Rattle.facet_json_reader.specs.PlaceViews.{refused_of}
+use Rattle.facet_json_document.proofs.MoveIsStep.{move-steps}
+use Rattle.facet_json_document.proofs.Spans.BytesAhead.{moves-goes_on}
+use Rattle.facet_json_parser.specs.Fill.{spot_of}
+use Rattle.facet_json_parser.specs.Views.{filling_of}
 use Rattle.facet_json_parser.proofs.AnswersAreMoves.{peek-repeats, peek-answers, peek-refused, event-shows, no-event-over}
 use Rattle.facet_json_parser.proofs.ParserWithin.{ready-within, answer-within, peek-refusal_within}
 use Rattle.facet_json_parser.proofs.parser.JsonParserFormatParser.peek_event.Goals as goal

@@ -1,10 +1,10 @@
 use Rattle.std.proofs.Common.{◌∙◌, sym, ap, map}
 use Rattle.std.specs.Option.{option_map}
-use Rattle.facet_json_standing.specs.Fill.{spot_of}
-use Rattle.facet_json_standing.specs.Views.{filling_of, point_of, kept_spot, now_of}
-use Rattle.facet_json_standing.proofs.KeptSpots.{found-spot, without-spots}
-use Rattle.facet_json_standing.proofs.PointsByPlace.{old-ready}
-use Rattle.facet_json_protocol.proofs.MoveIsStep.{move-steps}
+use Rattle.facet_json_parser.specs.Fill.{spot_of}
+use Rattle.facet_json_parser.specs.Views.{filling_of, point_of, kept_spot, now_of}
+use Rattle.facet_json_parser.proofs.KeptSpots.{found-spot, without-spots}
+use Rattle.facet_json_parser.proofs.PointsByPlace.{old-ready}
+use Rattle.facet_json_document.proofs.MoveIsStep.{move-steps}
 use Rattle.facet_json_parser.proofs.AnswersAreMoves.{restore-brings, restore-leaves}
 use Rattle.facet_json_parser.proofs.ParserWithin.{restore-uses}
 use Rattle.facet_json_parser.proofs.parser.JsonParserFormatParser.restore.Goals as goal

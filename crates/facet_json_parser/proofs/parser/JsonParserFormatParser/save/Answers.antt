@@ -2,11 +2,11 @@ use Rattle.std.proofs.Common.{◌∙◌, refl, ap, map}
 use Rattle.std.proofs.lemmas.Result.{err_from_is_err_and}
 use Rattle.facet_format.specs.Cursor.{no_memory_at}
 use Rattle.facet_format.specs.Complaint.{refusal_at, save_limit}
-use Rattle.facet_json_standing.specs.Views.{filling_of, point_of, kept_spot, now_of}
-use Rattle.facet_json_standing.proofs.KeptSpots.{with_point-spots}
-use Rattle.facet_json_standing.proofs.PointsByPlace.{at-greatest, below-greatest, next-number, new-ready}
-use Rattle.facet_json_protocol.proofs.MoveIsStep.{move-steps}
-use Rattle.facet_json_protocol.proofs.MoveLaws.{moves-saved, moves-unsaved}
+use Rattle.facet_json_parser.specs.Views.{filling_of, point_of, kept_spot, now_of}
+use Rattle.facet_json_parser.proofs.KeptSpots.{with_point-spots}
+use Rattle.facet_json_parser.proofs.PointsByPlace.{at-greatest, below-greatest, next-number, new-ready}
+use Rattle.facet_json_document.proofs.MoveIsStep.{move-steps}
+use Rattle.facet_json_document.proofs.MoveLaws.{moves-saved, moves-unsaved}
 use Rattle.facet_json_parser.proofs.AnswersAreMoves.{save-repeats, save-stops, save-fails, save-keeps}
 use Rattle.facet_json_parser.proofs.ParserWithin.{ready-within, answer-within, save-onward, number-new}
 use Rattle.facet_json_parser.proofs.parser.JsonParserFormatParser.save.Goals as goal

@@ -3,7 +3,7 @@ use Rattle.std.proofs.Common.{false}
 use Rattle.facet_format.specs.Bytes.{colon as colon_byte}
 use Rattle.facet_format.specs.Views.{event_of}
 use Rattle.facet_json_token.proofs.Offsets.{slice_get-from_read}
-use Rattle.facet_json_place.specs.Views.{language_of, place_of}
+use Rattle.facet_json_reader.specs.PlaceViews.{language_of, place_of}
 use Rattle.facet_json_reader.proofs.QuickEvents.{key-passes}
 use Rattle.facet_json_reader.proofs.reader.Reader.pass_key.Goals as goal
 

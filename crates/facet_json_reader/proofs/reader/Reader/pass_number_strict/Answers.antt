@@ -2,7 +2,7 @@
 use Rattle.std.proofs.Common.{◌+◌}
 use Rattle.facet_format.specs.Views.{event_of, scalar_value_of}
 use Rattle.facet_json_document.specs.Language.{strict}
-use Rattle.facet_json_plain.proofs.AllowedTexts.{rfc_number-allowed}
+use Rattle.facet_json_reader.proofs.AllowedTexts.{rfc_number-allowed}
 use Rattle.facet_json_reader.proofs.QuickEvents.{number-kind, scalar-passes}
 use Rattle.facet_json_reader.proofs.reader.Reader.pass_number_strict.Goals as goal
 

@@ -1,7 +1,7 @@
 -- The bracket gives the end of the object.
 use Rattle.std.proofs.Common.{◌≡◌, ◌⊎◌, inl, inr, ap, refl}
-use Rattle.facet_json_place.specs.declared.place.Place.{Place as RustPlace}
-use Rattle.facet_json_place.specs.declared.place.Place.TheVariants as places
+use Rattle.facet_json_reader.specs.declared.place.Place.{Place as RustPlace}
+use Rattle.facet_json_reader.specs.declared.place.Place.TheVariants as places
 use Rattle.facet_format.specs.Bytes as byte
 use Rattle.facet_format.specs.Event.{struct_end}
 use Rattle.facet_format.specs.Views.{event_of}
@@ -9,8 +9,8 @@ use Rattle.facet_json_token.specs.Cut.{start_of}
 use Rattle.facet_json_token.specs.Token.{object_end}
 use Rattle.facet_json_document.specs.Language.{gaps}
 use Rattle.facet_json_document.specs.Place.{place_turn, says}
-use Rattle.facet_json_place.specs.Views.{place_of}
-use Rattle.facet_json_place.proofs.TokensThere.{mark-cut}
+use Rattle.facet_json_reader.specs.PlaceViews.{place_of}
+use Rattle.facet_json_reader.proofs.TokensThere.{mark-cut}
 use Rattle.facet_json_reader.proofs.QuickEvents.{bracket-passes}
 use Rattle.facet_json_reader.proofs.reader.Reader.pass_object_end.Goals as goal
 

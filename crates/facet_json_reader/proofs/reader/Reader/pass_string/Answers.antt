@@ -2,9 +2,9 @@
 use Rattle.std.proofs.Common.{false, ◌+◌}
 use Rattle.facet_format.specs.Event.{text, borrowed}
 use Rattle.facet_format.specs.Views.{event_of}
-use Rattle.facet_json_place.specs.Views.{language_of, place_of}
-use Rattle.facet_json_plain.proofs.ValuesThere.{text-there, text_there-kind}
-use Rattle.facet_json_plain.proofs.AllowedTexts.{unescaped-allowed}
+use Rattle.facet_json_reader.specs.PlaceViews.{language_of, place_of}
+use Rattle.facet_json_reader.proofs.ValuesThere.{text-there, text_there-kind}
+use Rattle.facet_json_reader.proofs.AllowedTexts.{unescaped-allowed}
 use Rattle.facet_json_reader.proofs.QuickEvents.{scalar-passes}
 use Rattle.facet_json_reader.proofs.reader.Reader.pass_string.Goals as goal
 

@@ -7,8 +7,8 @@ use Rattle.facet_json_token.specs.Token.{object_start, array_start}
 use Rattle.facet_json_token.proofs.FirstBytes.{start_of-number_range}
 use Rattle.facet_json_document.specs.Language.{gaps}
 use Rattle.facet_json_document.proofs.WalkComes.{object_here, array_here}
-use Rattle.facet_json_place.specs.Views.{language_of, place_of}
-use Rattle.facet_json_place.proofs.TokensThere.{mark-cut}
+use Rattle.facet_json_reader.specs.PlaceViews.{language_of, place_of}
+use Rattle.facet_json_reader.proofs.TokensThere.{mark-cut}
 use Rattle.facet_json_reader.specs.Quick.{null_stands, true_stands, false_stands}
 use Rattle.facet_json_reader.proofs.QuickEvents.{takes_value, start-passes}
 use Rattle.facet_json_reader.proofs.reader.Reader.pass_value.Goals as goal

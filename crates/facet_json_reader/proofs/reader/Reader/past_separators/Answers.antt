@@ -6,8 +6,8 @@ use Rattle.facet_json_token.specs.Cut.{start_of}
 use Rattle.facet_json_token.specs.Token.{comma}
 use Rattle.facet_json_document.specs.Language.{gaps}
 use Rattle.facet_json_token.proofs.Offsets.{slice_get-from_read}
-use Rattle.facet_json_place.specs.Views.{language_of, place_of}
-use Rattle.facet_json_place.proofs.TokensThere.{mark-cut}
+use Rattle.facet_json_reader.specs.PlaceViews.{language_of, place_of}
+use Rattle.facet_json_reader.proofs.TokensThere.{mark-cut}
 use Rattle.facet_json_reader.proofs.QuickEvents.{stands-reaches, separator-reaches}
 use Rattle.facet_json_reader.proofs.reader.Reader.past_separators.Goals as goal
 

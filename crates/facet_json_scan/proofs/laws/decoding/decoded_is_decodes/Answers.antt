@@ -1,4 +1,4 @@
-use Rattle.facet_json_decode.proofs.DecodeLaws as laws
+use Rattle.facet_json_token.proofs.DecodeLaws as laws
 use Rattle.facet_json_scan.proofs.laws.decoding.decoded_is_decodes.Goals as goal
 
 pub returns : goal.returns

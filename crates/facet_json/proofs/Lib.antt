@@ -1,0 +1,11 @@
+pub mod ComesBack
+pub mod FieldCells
+pub mod FieldLaws
+pub mod FieldSteps
+pub mod FieldsBack
+pub mod MemberCalls
+pub mod RootComes
+pub mod RunBegins
+pub mod StrictRootComes
+pub mod StructLaws
+pub mod TypeLaws

@@ -1,0 +1,133 @@
+-- The laws of structs, field by field: nodes of the same text are read alike, and what is written of a readable struct is read as it.
+use Rattle.std.proofs.Common.{◌≡◌, ℕ, Bool, true, false, cond, List, [], ◌∷◌, Option, refl, sym, ap, ◌∙◌, subst}
+use Rattle.std.proofs.lemmas.Bool.{and_parts}
+use Rattle.std.proofs.lemmas.Str.{is_utf8-from_IsUtf8}
+use Rattle.std.specs.Char.{is_ascii}
+use Rattle.std.specs.List.{list_all}
+use Rattle.std.specs.Str.{is_utf8}
+use Rattle.facet_json_document.specs.Node.{no_members}
+use Rattle.facet_json_document.specs.Text.{text, members_text, default_options}
+use Rattle.facet_json_document.specs.Tree.{Tree, pairs, no_pairs}
+use Rattle.facet_json_document.specs.AsRead.{RawParts, RawMembers, IsDocumentText}
+use Rattle.facet_json_document.proofs.Rfc.Encoded.{ascii}
+use Rattle.facet_json_meaning.specs.Laws.{SameReading, ReadsBack}
+use Rattle.facet_json_meaning.specs.Optional.{optional}
+use Rattle.facet_json_meaning.proofs.Nullable.OptionalLaws.{optional-same, optional-reads_back}
+use Rattle.facet_json_meaning.proofs.Nodes.TextsWithin.{ReadsAnywhere, reads-anywhere, reads-alone, text-depth}
+use Rattle.facet_json.specs.Fields.{Reading, fields_of}
+use Rattle.facet_json.specs.Shapes.{Shape, ShapeLaws, shape, nullable, FieldList, no_more, needs, may_have, struct_of, is_text, lacks, are_names}
+use Rattle.facet_json.proofs.FieldLaws.{SameSteps, none-same, need-same, maybe-same, fields-same}
+use Rattle.facet_json.proofs.FieldsBack.{FieldsAre, none-are, need-are, maybe-are}
+use Rattle.facet_json_meaning.proofs.Objects.ObjectTexts.{MembersAnywhere, members-none, members-join, object-whole}
+
+-- ---- types
+
+-- A type's laws, one by one.
+pub shape-laws : {V : Type 0} {reading reading_borrowed : Reading V} {tree_of : V → Tree} {always readable : V → Type 0} → SameReading reading →
+    SameReading reading_borrowed → ReadsBack reading tree_of always readable → ShapeLaws (shape reading reading_borrowed tree_of always readable)
+shape-laws same same_borrowed back = record { same_reading = same; same_reading_borrowed = same_borrowed; reads_back = back }
+
+pub nullable-laws : {V : Type 0} {s : Shape V} → ShapeLaws s → ShapeLaws (nullable s)
+nullable-laws {s = s} laws = record {
+  same_reading = optional-same s.reading laws.same_reading;
+  same_reading_borrowed = optional-same s.reading_borrowed laws.same_reading_borrowed;
+  reads_back = optional-reads_back s.reading s.tree_of s.always s.readable laws.reads_back;
+}
+
+-- ---- names
+
+text-by : (name : List ℕ) (b : Bool) → list_all is_ascii name ≡ b → cond b true (is_utf8 name) ≡ true → is_utf8 name ≡ true
+text-by name true all is =
+    let own = ascii {P = λ (t : List ℕ). Unit {0}} name all tt in is_utf8-from_IsUtf8 name (own.characters, (own.are_scalars, own.encoded))
+text-by name false some is = is
+
+text-utf8 : (name : List ℕ) → is_text name ≡ true → is_utf8 name ≡ true
+text-utf8 name is = text-by name (list_all is_ascii name) refl is
+
+-- ---- fields
+
+-- As members of these names the value's raw parts are documents, and the members' text is read as the value.
+pub record FieldsBack {V : Type 0} (fields : FieldList V) (v : V) : Type 0 where
+  pub raw : RawMembers IsDocumentText (fields.written v)
+  pub none : fields.written v ≡ no_pairs → (buffer : List ℕ) → FieldsAre fields.table fields.names v buffer no_members
+  pub stand : MembersAnywhere (members_text default_options 0 true (fields.written v)) (FieldsAre fields.table fields.names v)
+
+pub record FieldListLaws {V : Type 0} (fields : FieldList V) : Type 0 where
+  pub same : SameSteps fields.table
+  pub same_borrowed : SameSteps fields.table_borrowed
+  pub back : are_names fields.names ≡ true → (v : V) → fields.always v → fields.readable v → FieldsBack fields v
+
+pub no_more-laws : FieldListLaws no_more
+unfolding RawMembers members_text
+no_more-laws = record {
+  same = none-same;
+  same_borrowed = none-same;
+  back = λ names v has is. record {
+    raw = tt;
+    none = λ e buffer. none-are buffer;
+    stand = members-none (FieldsAre no_more.table [] tt) none-are;
+  };
+}
+
+module _ {V : Type 0} (s : Shape V) (laws : ShapeLaws s) where
+  -- Within an object too the text of a readable value is read as it.
+  value-stands : (v : V) → s.always v → s.readable v → ReadsAnywhere s.reading (text default_options 1 (s.tree_of v)) v
+  value-stands v has is =
+      subst (λ t. ReadsAnywhere s.reading t v) (text-depth 0 1 (s.tree_of v))
+      (reads-anywhere s.reading laws.same_reading (text default_options 0 (s.tree_of v)) v (laws.reads_back v has is).1)
+
+pub needs-laws : {V W : Type 0} {s : Shape V} {others : FieldList W} (name : List ℕ) → ShapeLaws s → FieldListLaws others →
+    FieldListLaws (needs name s others)
+unfolding RawMembers
+needs-laws {s = s} {others = others} name laws more = record {
+  same = need-same laws.same_reading more.same;
+  same_borrowed = need-same laws.same_reading_borrowed more.same_borrowed;
+  back = λ names v has is.
+      let named = and_parts (is_text name) _ names in
+      let apart = and_parts (lacks name others.names) (are_names others.names) named.1 in
+      let behind = more.back apart.1 v.1 has.1 is.1 in
+      record {
+        raw = ((laws.reads_back v.0 has.0 is.0).0, behind.raw);
+        none = λ e buffer. absurd (cc);
+        stand = members-join s.reading name v.0 (FieldsAre others.table others.names v.1) (FieldsAre (needs name s others).table (name ∷ others.names) v)
+            (need-are s.reading others.table name others.names apart.0 v.1 v.0) (s.tree_of v.0) (others.written v.1) (text-utf8 name named.0)
+            (value-stands s laws v.0 has.0 is.0) behind.none behind.stand;
+      };
+}
+
+pub may_have-laws : {V W : Type 0} {s : Shape V} {others : FieldList W} (name : List ℕ) → ShapeLaws s → FieldListLaws others →
+    FieldListLaws (may_have name s others)
+unfolding RawMembers
+may_have-laws {s = s} {others = others} name laws more = record {
+  same = maybe-same laws.same_reading more.same;
+  same_borrowed = maybe-same laws.same_reading_borrowed more.same_borrowed;
+  back = λ names v has is.
+      let named = and_parts (is_text name) _ names in
+      let apart = and_parts (lacks name others.names) (are_names others.names) named.1 in
+      let behind = more.back apart.1 v.1 has.1 is.1 in
+      let option = nullable-laws laws in
+      record {
+        raw = ((option.reads_back v.0 has.0 is.0).0, behind.raw);
+        none = λ e buffer. absurd (cc);
+        stand = members-join (optional s.reading) name v.0 (FieldsAre others.table others.names v.1) (FieldsAre (may_have name s others).table (name ∷ others.names) v)
+            (maybe-are s.reading others.table name others.names apart.0 v.1 v.0) ((nullable s).tree_of v.0) (others.written v.1) (text-utf8 name named.0)
+            (value-stands (nullable s) option v.0 has.0 is.0) behind.none behind.stand;
+      };
+}
+
+-- ---- structs
+
+-- A struct's laws, where its fields have names of their own.
+pub struct-laws : {V : Type 0} {fields : FieldList V} → FieldListLaws fields → are_names fields.names ≡ true → ShapeLaws (struct_of fields)
+unfolding text RawParts
+struct-laws {fields = fields} laws names = record {
+  same_reading = fields-same laws.same fields.names;
+  same_reading_borrowed = fields-same laws.same_borrowed fields.names;
+  reads_back = λ v has is.
+      let b = laws.back names v has is in (
+        b.raw,
+        reads-alone (fields_of fields.table fields.names) (text default_options 0 (pairs (fields.written v))) v
+            (object-whole (fields_of fields.table fields.names) v (FieldsAre fields.table fields.names v) (members_text default_options 0 true (fields.written v))
+            (λ buffer first last members h. h.are) b.stand),
+      );
+}

@@ -1,0 +1,75 @@
+-- The laws of each type.
+use Rattle.std.proofs.Common.{ℕ}
+use Rattle.facet_json_meaning.specs.Readings.{bool_of, unsigned_of, signed_of, text_of, u128_of, i128_of, raw_of}
+use Rattle.facet_json_meaning.proofs.Leaves.BorrowedLaws.{borrowed-same, unread-same, unread-reads_back}
+use Rattle.facet_json_meaning.proofs.Leaves.LeafLaws.{leaf-same}
+use Rattle.facet_json_meaning.proofs.Sequences.ListLaws.{list-same, list-reads_back}
+use Rattle.facet_json_meaning.proofs.Objects.MapLaws.{map-same}
+use Rattle.facet_json_meaning.proofs.Objects.MapTexts.{map-reads_back}
+use Rattle.facet_json_meaning.proofs.Leaves.RawLaws.{raw-same, raw-reads_back}
+use Rattle.facet_json_meaning.proofs.Leaves.TextLaws.{text-reads_back}
+use Rattle.facet_json_meaning.proofs.OfTrees.TreeLaws.{tree-same, tree-reads_back}
+use Rattle.facet_json_meaning.proofs.Leaves.TruthLaws.{bool-reads_back}
+use Rattle.facet_json_meaning.proofs.Leaves.WholeNumbers.{u8-reads_back, u16-reads_back, u32-reads_back, u64-reads_back, i8-reads_back, i16-reads_back, i32-reads_back, i64-reads_back}
+use Rattle.facet_json_meaning.proofs.Leaves.WideNumbers.{u128-reads_back, i128-reads_back}
+use Rattle.facet_json.specs.Shapes.{Shape, ShapeLaws}
+use Rattle.facet_json.specs.Types as types
+
+pub bool-laws : ShapeLaws types.bool
+bool-laws = record { same_reading = leaf-same bool_of; same_reading_borrowed = leaf-same bool_of; reads_back = bool-reads_back }
+
+pub u8-laws : ShapeLaws types.u8
+u8-laws = record { same_reading = leaf-same (unsigned_of 8); same_reading_borrowed = leaf-same (unsigned_of 8); reads_back = u8-reads_back }
+
+pub u16-laws : ShapeLaws types.u16
+u16-laws = record { same_reading = leaf-same (unsigned_of 16); same_reading_borrowed = leaf-same (unsigned_of 16); reads_back = u16-reads_back }
+
+pub u32-laws : ShapeLaws types.u32
+u32-laws = record { same_reading = leaf-same (unsigned_of 32); same_reading_borrowed = leaf-same (unsigned_of 32); reads_back = u32-reads_back }
+
+pub u64-laws : ShapeLaws types.u64
+u64-laws = record { same_reading = leaf-same (unsigned_of 64); same_reading_borrowed = leaf-same (unsigned_of 64); reads_back = u64-reads_back }
+
+pub u128-laws : ShapeLaws types.u128
+u128-laws = record { same_reading = leaf-same u128_of; same_reading_borrowed = leaf-same u128_of; reads_back = u128-reads_back }
+
+pub i8-laws : ShapeLaws types.i8
+i8-laws = record { same_reading = leaf-same (signed_of 7); same_reading_borrowed = leaf-same (signed_of 7); reads_back = i8-reads_back }
+
+pub i16-laws : ShapeLaws types.i16
+i16-laws = record { same_reading = leaf-same (signed_of 15); same_reading_borrowed = leaf-same (signed_of 15); reads_back = i16-reads_back }
+
+pub i32-laws : ShapeLaws types.i32
+i32-laws = record { same_reading = leaf-same (signed_of 31); same_reading_borrowed = leaf-same (signed_of 31); reads_back = i32-reads_back }
+
+pub i64-laws : ShapeLaws types.i64
+i64-laws = record { same_reading = leaf-same (signed_of 63); same_reading_borrowed = leaf-same (signed_of 63); reads_back = i64-reads_back }
+
+pub i128-laws : ShapeLaws types.i128
+i128-laws = record { same_reading = leaf-same i128_of; same_reading_borrowed = leaf-same i128_of; reads_back = i128-reads_back }
+
+pub text-laws : ShapeLaws types.text
+text-laws = record { same_reading = leaf-same text_of; same_reading_borrowed = leaf-same text_of; reads_back = text-reads_back }
+
+pub borrowed-laws : ShapeLaws types.borrowed
+borrowed-laws = record { same_reading = unread-same; same_reading_borrowed = borrowed-same; reads_back = unread-reads_back }
+
+pub raw-laws : ShapeLaws types.raw
+raw-laws = record { same_reading = raw-same; same_reading_borrowed = raw-same; reads_back = raw-reads_back }
+
+pub list-laws : {V : Type 0} {s : Shape V} → ShapeLaws s → ShapeLaws (types.list s)
+list-laws {s = s} laws = record {
+  same_reading = list-same s.reading laws.same_reading;
+  same_reading_borrowed = list-same s.reading_borrowed laws.same_reading_borrowed;
+  reads_back = list-reads_back s.reading s.tree_of s.always s.readable laws.same_reading laws.reads_back;
+}
+
+pub entries-laws : {V : Type 0} {s : Shape V} → ShapeLaws s → ShapeLaws (types.entries s)
+entries-laws {s = s} laws = record {
+  same_reading = map-same s.reading laws.same_reading;
+  same_reading_borrowed = map-same s.reading_borrowed laws.same_reading_borrowed;
+  reads_back = map-reads_back s.reading s.tree_of s.always s.readable laws.same_reading laws.reads_back;
+}
+
+pub any-laws : ShapeLaws types.any
+any-laws = record { same_reading = tree-same; same_reading_borrowed = tree-same; reads_back = tree-reads_back }

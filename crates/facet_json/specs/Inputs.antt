@@ -1,0 +1,51 @@
+-- What it means that an input is read as a value of a type, and that a text comes back.
+use Rattle.std.specs.Prelude.{◌≡◌, ◌⊎◌, ℕ, List, Option, Some, None}
+use Rattle.facet_format.specs.Complaint.{Refusal}
+use Rattle.facet_json_token.specs.Gap.{Mode, plain}
+use Rattle.facet_json_token.specs.Token.{Token}
+use Rattle.facet_json_token.specs.Tokens.{Tokens, tokens}
+use Rattle.facet_json_document.specs.Document.{IsDocument}
+use Rattle.facet_json_document.specs.Language.{Language}
+use Rattle.facet_json_document.specs.Node.{Node}
+use Rattle.facet_json_document.specs.Run.{Run}
+use Rattle.facet_json_document.specs.Tree.{Tree}
+use Rattle.facet_json_document.specs.StrictDocument.{IsStrictDocument}
+use Rattle.facet_json_document.specs.Now.{Now, fresh_in}
+use Rattle.facet_json_core.specs.Refusing.{ComesTo, TellsRefusal}
+use Rattle.facet_json_meaning.specs.ValueReading.{LacksMemory}
+
+-- The input has a document.
+abbrev pub BeginsWithDocument : List ℕ → Mode → Type 0
+BeginsWithDocument input mode = (root : Node) × (tree : Tree) × IsDocument input mode root tree
+
+-- The input's tokens, with these gaps between them, begin with a balanced run.
+abbrev pub BeginsWithRun : List ℕ → Mode → Type 0
+BeginsWithRun input mode = (last : Token) × (rest : Tokens) × Run (tokens input mode) last rest
+
+-- Where the input has a document, its reading is the value.
+abbrev pub IsReadFrom : {V : Type 0} → (List ℕ → Node → Option V) → List ℕ → Mode → V → Type 0
+IsReadFrom reading input mode value = (root : Node) (tree : Tree) → IsDocument input mode root tree → reading input root ≡ Some value
+
+-- Where the input has a document, memory ran out, or the document has no reading.
+abbrev pub IsUnreadFrom : {V : Type 0} → (List ℕ → Node → Option V) → List ℕ → Mode → Refusal → Type 0
+IsUnreadFrom reading input mode refusal = (root : Node) (tree : Tree) → IsDocument input mode root tree →
+    LacksMemory refusal ⊎ (reading input root ≡ None)
+
+-- Where the input is a strict document, its reading is the value.
+abbrev pub IsReadStrictly : {V : Type 0} → (List ℕ → Node → Option V) → List ℕ → V → Type 0
+IsReadStrictly reading input value = (root : Node) (tree : Tree) → IsStrictDocument input root tree → reading input root ≡ Some value
+
+-- Where the input is a strict document, memory ran out, or the document has no reading.
+abbrev pub IsUnreadStrictly : {V : Type 0} → (List ℕ → Node → Option V) → List ℕ → Refusal → Type 0
+IsUnreadStrictly reading input refusal = (root : Node) (tree : Tree) → IsStrictDocument input root tree →
+    LacksMemory refusal ⊎ (reading input root ≡ None)
+
+-- The text has a document without comments, which is read as the value.
+abbrev pub ComesBack : {V : Type 0} → (List ℕ → Node → Option V) → List ℕ → V → Type 0
+ComesBack reading bytes value = BeginsWithDocument bytes plain × IsReadFrom reading bytes plain value
+
+-- A new parser of the input was read by calls, and how it was refused is told.
+pub record IsToldOf (input : List ℕ) (language : Language) (refusal : Refusal) : Type 0 where
+  pub last : Now
+  pub came : ComesTo (fresh_in input language) last
+  pub tells : TellsRefusal (fresh_in input language) last refusal

@@ -1,0 +1,89 @@
+-- How the values of each type are read and written that has the trait. A type that may be null, `Option`, is `nullable` of `Shapes`.
+use Rattle.std.specs.Prelude.{◌≡◌, ℕ, ◌^◌, ◌<◌, ℤ, Bool, true, List}
+use Rattle.std.specs.List.{All}
+use Rattle.std.specs.Str.{is_utf8}
+use Rattle.facet_json_document.specs.Meaning.{tree_of}
+use Rattle.facet_json_document.specs.Tree.{Tree}
+use Rattle.facet_json_document.specs.Tree as tree
+use Rattle.facet_json_document.specs.AsRead.{IsWithin, WellFormed}
+use Rattle.facet_json_meaning.specs.Borrowed.{borrowed_text, unread_text}
+use Rattle.facet_json_meaning.specs.Lists.{list_of, list_by}
+use Rattle.facet_json_meaning.specs.Maps.{Entries, map_of, tree_of_entries, IsMap, IsReadableMap}
+use Rattle.facet_json_meaning.specs.Readings.{leaf, bool_of, unsigned_of, signed_of, text_of, u128_of, i128_of, raw_of, IsBareDocument}
+use Rattle.facet_json_meaning.specs.Trees.{IsReadableTree}
+use Rattle.facet_json.specs.Shapes.{Shape, shape}
+
+abbrev pub bool : Shape Bool
+bool = shape (leaf bool_of) (leaf bool_of) tree.bool (λ b. Unit {0}) (λ b. Unit {0})
+
+-- ---- numbers
+
+-- a whole number without a sign that so many bits hold
+abbrev pub unsigned : ℕ → Shape ℕ
+unsigned bits = shape (leaf (unsigned_of bits)) (leaf (unsigned_of bits)) tree.u64 (λ n. n < 2 ^ bits) (λ n. Unit {0})
+
+-- a whole number that so many bits beside its sign hold
+abbrev pub signed : ℕ → Shape ℤ
+signed bits = shape (leaf (signed_of bits)) (leaf (signed_of bits)) tree.i64 (λ n. IsWithin bits n) (λ n. Unit {0})
+
+abbrev pub u8 : Shape ℕ
+u8 = unsigned 8
+
+abbrev pub u16 : Shape ℕ
+u16 = unsigned 16
+
+abbrev pub u32 : Shape ℕ
+u32 = unsigned 32
+
+-- also `usize`
+abbrev pub u64 : Shape ℕ
+u64 = unsigned 64
+
+abbrev pub u128 : Shape ℕ
+u128 = shape (leaf u128_of) (leaf u128_of) tree.u128 (λ n. n < 2 ^ 128) (λ n. Unit {0})
+
+abbrev pub i8 : Shape ℤ
+i8 = signed 7
+
+abbrev pub i16 : Shape ℤ
+i16 = signed 15
+
+abbrev pub i32 : Shape ℤ
+i32 = signed 31
+
+-- also `isize`
+abbrev pub i64 : Shape ℤ
+i64 = signed 63
+
+abbrev pub i128 : Shape ℤ
+i128 = shape (leaf i128_of) (leaf i128_of) tree.i128 (λ n. IsWithin 127 n) (λ n. Unit {0})
+
+-- ---- texts
+
+-- `String`
+abbrev pub text : Shape (List ℕ)
+text = shape (leaf text_of) (leaf text_of) tree.text (λ t. is_utf8 t ≡ true) (λ t. Unit {0})
+
+-- `&str`, which is read only where it may be borrowed
+abbrev pub borrowed : Shape (List ℕ)
+borrowed = shape unread_text borrowed_text tree.text (λ t. Unit {0}) (λ t. ⊥)
+
+-- `RawJson`
+abbrev pub raw : Shape (List ℕ)
+raw = shape raw_of raw_of tree.raw (λ t. is_utf8 t ≡ true) IsBareDocument
+
+-- ---- containers
+
+-- `Vec`
+abbrev pub list : {V : Type 0} → Shape V → Shape (List V)
+list s = shape (list_of s.reading) (list_of s.reading_borrowed) (list_by s.tree_of) (λ vs. All s.always vs) (λ vs. All s.readable vs)
+
+-- `BTreeMap` from `String`
+abbrev pub entries : {V : Type 0} → Shape V → Shape (Entries V)
+entries s = shape (map_of s.reading) (map_of s.reading_borrowed) (tree_of_entries s.tree_of) (IsMap s.always) (IsReadableMap s.readable)
+
+-- ---- any value
+
+-- `Tree`
+abbrev pub any : Shape Tree
+any = shape tree_of tree_of (λ t. t) WellFormed IsReadableTree

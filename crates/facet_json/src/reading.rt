@@ -1,0 +1,214 @@
+//! Values of a type from the bytes or the text that they stand in.
+
+ghost use Rattle.std.specs.Prelude.{◌≡◌, true, IfOk, IfErr, OnOk};
+ghost use Rattle.facet_format.specs.Views.{refusal_of};
+ghost use Rattle.facet_json_token.specs.Gap.{plain, jsonc};
+ghost use Rattle.facet_json_document.specs.Language.{lenient};
+ghost use Rattle.facet_json_document.specs.Within.{RefusalWithin};
+ghost use Rattle.facet_json.specs.Inputs.{IsReadFrom, IsUnreadFrom, BeginsWithDocument, IsToldOf, BeginsWithRun};
+
+use facet_format::DeserializeError;
+use facet_json_facet::Facet;
+use facet_json_parser::JsonParser;
+use std::alloc::Global;
+
+/// Reads the value of the document that the bytes begin with (RFC 8259, sections 2 to 7, with lenient readings such as a trailing comma),
+/// and borrows nothing of the input. What follows the document is not looked at.
+///
+/// ```text
+/// from_slice::<u8>(alloc, b" 7 ")        Ok: 7
+/// from_slice::<u8>(alloc, b"300")        Err: NumberOutOfRange { target_type: "u8" }, span 0+3
+/// ```
+///
+/// # Errors
+///
+/// The input's document is no value of the type: `TypeMismatch`, `NumberOutOfRange`, `InvalidValue` or `MissingField`. Or the input begins with no
+/// document, as far as it was looked at: a refusal of the kinds 1 to 4. Or out of memory. A span is an offset and a length in bytes.
+pub fn from_slice<'t, 'de, T: Facet<'de>>(
+    alloc: Global,
+    input: &'de [u8],
+) -> Result<T, DeserializeError<'t>>
+    ensures read { IfOk result (λ v. IsReadFrom T.reading input.now plain (T.view v)) }
+    ensures owned { IfOk result T.owned }
+    ensures unread { IfErr result (λ e. IsUnreadFrom T.reading input.now plain (refusal_of e)) }
+    ensures document { T.whole ≡ true → OnOk result (BeginsWithDocument input.now plain) }
+    ensures one_value { OnOk result (BeginsWithRun input.now plain) }
+    ensures within { IfErr result (λ e. RefusalWithin input.now (refusal_of e)) }
+    ensures tells { IfErr result (λ e. IsToldOf input.now (lenient plain) (refusal_of e)) }
+{
+    T::read_owned(alloc, &mut JsonParser::new(alloc, input))
+}
+
+/// Reads the value of the document that the bytes begin with (RFC 8259, sections 2 to 7, with lenient readings such as a trailing comma),
+/// and borrows what it can of the input. What follows the document is not looked at.
+///
+/// ```text
+/// from_slice_borrowed::<String>(alloc, br#""ab""#)        Ok: ab
+/// ```
+///
+/// # Errors
+///
+/// The input's document is no value of the type: `TypeMismatch`, `NumberOutOfRange`, `InvalidValue` or `MissingField`. Or the input begins with no
+/// document, as far as it was looked at: a refusal of the kinds 1 to 4. Or out of memory. A span is an offset and a length in bytes.
+pub fn from_slice_borrowed<'t, 'de, T: Facet<'de>>(
+    alloc: Global,
+    input: &'de [u8],
+) -> Result<T, DeserializeError<'t>>
+    ensures read { IfOk result (λ v. IsReadFrom T.reading_borrowed input.now plain (T.view v)) }
+    ensures unread { IfErr result (λ e. IsUnreadFrom T.reading_borrowed input.now plain (refusal_of e)) }
+    ensures document { T.whole ≡ true → OnOk result (BeginsWithDocument input.now plain) }
+    ensures one_value { OnOk result (BeginsWithRun input.now plain) }
+    ensures within { IfErr result (λ e. RefusalWithin input.now (refusal_of e)) }
+    ensures tells { IfErr result (λ e. IsToldOf input.now (lenient plain) (refusal_of e)) }
+{
+    T::read(alloc, &mut JsonParser::new(alloc, input))
+}
+
+/// Reads a value as `from_slice`, where comments may stand wherever white space may: `//` up to the line's end, and `/*` up to `*/`.
+///
+/// ```text
+/// from_slice_jsonc::<bool>(alloc, b"/* yes */ true")        Ok: true
+/// ```
+///
+/// # Errors
+///
+/// The input's document is no value of the type: `TypeMismatch`, `NumberOutOfRange`, `InvalidValue` or `MissingField`. Or the input begins with no
+/// document, as far as it was looked at: a refusal of the kinds 1 to 4. Or out of memory. A span is an offset and a length in bytes.
+pub fn from_slice_jsonc<'t, 'de, T: Facet<'de>>(
+    alloc: Global,
+    input: &'de [u8],
+) -> Result<T, DeserializeError<'t>>
+    ensures read { IfOk result (λ v. IsReadFrom T.reading input.now jsonc (T.view v)) }
+    ensures owned { IfOk result T.owned }
+    ensures unread { IfErr result (λ e. IsUnreadFrom T.reading input.now jsonc (refusal_of e)) }
+    ensures document { T.whole ≡ true → OnOk result (BeginsWithDocument input.now jsonc) }
+    ensures one_value { OnOk result (BeginsWithRun input.now jsonc) }
+    ensures within { IfErr result (λ e. RefusalWithin input.now (refusal_of e)) }
+    ensures tells { IfErr result (λ e. IsToldOf input.now (lenient jsonc) (refusal_of e)) }
+{
+    T::read_owned(alloc, &mut JsonParser::new_jsonc(alloc, input))
+}
+
+/// Reads a value as `from_slice_borrowed`, where comments may stand as in `from_slice_jsonc`.
+///
+/// ```text
+/// from_slice_borrowed_jsonc::<String>(alloc, b"\"ab\" // two letters")        Ok: ab
+/// ```
+///
+/// # Errors
+///
+/// The input's document is no value of the type: `TypeMismatch`, `NumberOutOfRange`, `InvalidValue` or `MissingField`. Or the input begins with no
+/// document, as far as it was looked at: a refusal of the kinds 1 to 4. Or out of memory. A span is an offset and a length in bytes.
+pub fn from_slice_borrowed_jsonc<'t, 'de, T: Facet<'de>>(
+    alloc: Global,
+    input: &'de [u8],
+) -> Result<T, DeserializeError<'t>>
+    ensures read { IfOk result (λ v. IsReadFrom T.reading_borrowed input.now jsonc (T.view v)) }
+    ensures unread { IfErr result (λ e. IsUnreadFrom T.reading_borrowed input.now jsonc (refusal_of e)) }
+    ensures document { T.whole ≡ true → OnOk result (BeginsWithDocument input.now jsonc) }
+    ensures one_value { OnOk result (BeginsWithRun input.now jsonc) }
+    ensures within { IfErr result (λ e. RefusalWithin input.now (refusal_of e)) }
+    ensures tells { IfErr result (λ e. IsToldOf input.now (lenient jsonc) (refusal_of e)) }
+{
+    T::read(alloc, &mut JsonParser::new_jsonc(alloc, input))
+}
+
+/// Reads a value as `from_slice`, from a text, which is known to be UTF-8.
+///
+/// ```text
+/// from_str::<i8>(alloc, "-128")        Ok: -128
+/// ```
+///
+/// # Errors
+///
+/// The input's document is no value of the type: `TypeMismatch`, `NumberOutOfRange`, `InvalidValue` or `MissingField`. Or the input begins with no
+/// document, as far as it was looked at: a refusal of the kinds 1 to 4. Or out of memory. A span is an offset and a length in bytes.
+pub fn from_str<'t, 'de, T: Facet<'de>>(
+    alloc: Global,
+    input: &'de str,
+) -> Result<T, DeserializeError<'t>>
+    ensures read { IfOk result (λ v. IsReadFrom T.reading input.now plain (T.view v)) }
+    ensures owned { IfOk result T.owned }
+    ensures unread { IfErr result (λ e. IsUnreadFrom T.reading input.now plain (refusal_of e)) }
+    ensures document { T.whole ≡ true → OnOk result (BeginsWithDocument input.now plain) }
+    ensures one_value { OnOk result (BeginsWithRun input.now plain) }
+    ensures within { IfErr result (λ e. RefusalWithin input.now (refusal_of e)) }
+    ensures tells { IfErr result (λ e. IsToldOf input.now (lenient plain) (refusal_of e)) }
+{
+    T::read_owned(alloc, &mut JsonParser::new_trusted(alloc, input.as_bytes()))
+}
+
+/// Reads a value as `from_slice_borrowed`, from a text, which is known to be UTF-8.
+///
+/// ```text
+/// from_str_borrowed::<String>(alloc, r#""ab""#)        Ok: ab
+/// ```
+///
+/// # Errors
+///
+/// The input's document is no value of the type: `TypeMismatch`, `NumberOutOfRange`, `InvalidValue` or `MissingField`. Or the input begins with no
+/// document, as far as it was looked at: a refusal of the kinds 1 to 4. Or out of memory. A span is an offset and a length in bytes.
+pub fn from_str_borrowed<'t, 'de, T: Facet<'de>>(
+    alloc: Global,
+    input: &'de str,
+) -> Result<T, DeserializeError<'t>>
+    ensures read { IfOk result (λ v. IsReadFrom T.reading_borrowed input.now plain (T.view v)) }
+    ensures unread { IfErr result (λ e. IsUnreadFrom T.reading_borrowed input.now plain (refusal_of e)) }
+    ensures document { T.whole ≡ true → OnOk result (BeginsWithDocument input.now plain) }
+    ensures one_value { OnOk result (BeginsWithRun input.now plain) }
+    ensures within { IfErr result (λ e. RefusalWithin input.now (refusal_of e)) }
+    ensures tells { IfErr result (λ e. IsToldOf input.now (lenient plain) (refusal_of e)) }
+{
+    T::read(alloc, &mut JsonParser::new_trusted(alloc, input.as_bytes()))
+}
+
+/// Reads a value as `from_slice_jsonc`, from a text, which is known to be UTF-8.
+///
+/// ```text
+/// from_str_jsonc::<i8>(alloc, "-1 // below zero")        Ok: -1
+/// ```
+///
+/// # Errors
+///
+/// The input's document is no value of the type: `TypeMismatch`, `NumberOutOfRange`, `InvalidValue` or `MissingField`. Or the input begins with no
+/// document, as far as it was looked at: a refusal of the kinds 1 to 4. Or out of memory. A span is an offset and a length in bytes.
+pub fn from_str_jsonc<'t, 'de, T: Facet<'de>>(
+    alloc: Global,
+    input: &'de str,
+) -> Result<T, DeserializeError<'t>>
+    ensures read { IfOk result (λ v. IsReadFrom T.reading input.now jsonc (T.view v)) }
+    ensures owned { IfOk result T.owned }
+    ensures unread { IfErr result (λ e. IsUnreadFrom T.reading input.now jsonc (refusal_of e)) }
+    ensures document { T.whole ≡ true → OnOk result (BeginsWithDocument input.now jsonc) }
+    ensures one_value { OnOk result (BeginsWithRun input.now jsonc) }
+    ensures within { IfErr result (λ e. RefusalWithin input.now (refusal_of e)) }
+    ensures tells { IfErr result (λ e. IsToldOf input.now (lenient jsonc) (refusal_of e)) }
+{
+    let bytes = input.as_bytes();
+    T::read_owned(alloc, &mut JsonParser::new_jsonc_trusted(alloc, bytes))
+}
+
+/// Reads a value as `from_slice_borrowed_jsonc`, from a text, which is known to be UTF-8.
+///
+/// ```text
+/// from_str_borrowed_jsonc::<String>(alloc, "/**/\"ab\"")        Ok: ab
+/// ```
+///
+/// # Errors
+///
+/// The input's document is no value of the type: `TypeMismatch`, `NumberOutOfRange`, `InvalidValue` or `MissingField`. Or the input begins with no
+/// document, as far as it was looked at: a refusal of the kinds 1 to 4. Or out of memory. A span is an offset and a length in bytes.
+pub fn from_str_borrowed_jsonc<'t, 'de, T: Facet<'de>>(
+    alloc: Global,
+    input: &'de str,
+) -> Result<T, DeserializeError<'t>>
+    ensures read { IfOk result (λ v. IsReadFrom T.reading_borrowed input.now jsonc (T.view v)) }
+    ensures unread { IfErr result (λ e. IsUnreadFrom T.reading_borrowed input.now jsonc (refusal_of e)) }
+    ensures document { T.whole ≡ true → OnOk result (BeginsWithDocument input.now jsonc) }
+    ensures one_value { OnOk result (BeginsWithRun input.now jsonc) }
+    ensures within { IfErr result (λ e. RefusalWithin input.now (refusal_of e)) }
+    ensures tells { IfErr result (λ e. IsToldOf input.now (lenient jsonc) (refusal_of e)) }
+{
+    let bytes = input.as_bytes();
+    T::read(alloc, &mut JsonParser::new_jsonc_trusted(alloc, bytes))
+}

@@ -1,2 +1,0 @@
-pub mod AccountLaws
-pub mod Accounts

@@ -1,4 +1,0 @@
-pub mod Cuts
-pub mod Calls
-pub mod Operands
-pub mod OneCommand

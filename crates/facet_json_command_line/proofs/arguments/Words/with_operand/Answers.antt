@@ -1,9 +1,0 @@
-use Rattle.std.proofs.Common.{ap, rules}
-use Rattle.facet_json_command_line.specs.Views.{operands_of}
-use Rattle.facet_json_command_line.proofs.arguments.Words.with_operand.Goals as goal
-
-pub returns-in-Some : goal.returns-in-Some
-returns-in-Some c = (c.in-Some.field-0.now, ap operands_of c.in-Some.is)
-
-pub returns-in-None : goal.returns-in-None
-returns-in-None c = search rules

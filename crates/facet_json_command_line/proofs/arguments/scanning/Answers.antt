@@ -1,7 +1,0 @@
-use Rattle.std.proofs.Common.{refl, ap}
-use Rattle.facet_json_command_line.specs.Views.{read_as}
-use Rattle.facet_json_command_line.proofs.Operands.{strict_tokens_ask_nothing}
-use Rattle.facet_json_command_line.proofs.arguments.scanning.Goals as goal
-
-pub returns-in-Strict : goal.returns-in-Strict
-returns-in-Strict c rest words = (refl, strict_tokens_ask_nothing rest _ words (ap read_as c.in-Strict.is))

@@ -1,0 +1,61 @@
+-- How a value is not passed. The one file of the definitions that names types of the code.
+use Rattle.std.specs.Prelude.{◌≡◌, ◌≤◌, ◌+◌, ◌⊎◌, ℕ, List, None, IfSome, codes}
+use Rattle.facet_format.specs.Event.{Event}
+use Rattle.facet_format.specs.Views.{refusal_of}
+use Rattle.facet_json_token.specs.Gap.{Mode}
+use Rattle.facet_json_token.specs.Tokens.{Tokens}
+use Rattle.facet_json_document.specs.Tree.{Tree}
+use Rattle.facet_json_document.specs.Place.{Place}
+use Rattle.facet_json_document.specs.Future.{Future}
+use Rattle.facet_json_document.specs.PrefixRefusal.{Refuses}
+use Rattle.facet_json_serializer.specs.Serializer.{out_of_memory}
+use Rattle.facet_json_serializer.specs.Views as serializer
+use Rattle.facet_json_core.specs.declared.error.JsonError.{JsonError}
+use Rattle.facet_json_core.specs.declared.kind.JsonErrorKind.TheVariants as kind
+use Rattle.facet_json_core.specs.ErrorViews.{error_at}
+use Rattle.facet_json_core.specs.declared.transcode_error.TranscodeError.{TranscodeError}
+use Rattle.facet_json_core.specs.declared.transcode_error.TranscodeError.TheVariants.{Read, Write}
+use Rattle.facet_json_document.specs.Now.{Now}
+use Rattle.facet_json_core.specs.Refusing.{mismatch_of, TellsRefusal}
+use Rattle.facet_json_core.specs.Told.{Tells, Breaks}
+use Rattle.facet_json_core.specs.Reading as reading
+
+-- Memory ran out, of the parser or of the serializer.
+abbrev pub LacksMemory : TranscodeError → Type 0
+LacksMemory (Read e) = reading.LacksMemory (refusal_of e)
+LacksMemory (Write e) = serializer.refusal_of e ≡ out_of_memory
+
+-- Memory ran out, or no document goes on with the tokens at the place, and the parser refuses it so.
+abbrev pub LacksOrStops : List ℕ → Place → Tokens → TranscodeError → Type 0
+LacksOrStops buffer place rest (Read e) = reading.LacksOrStops buffer place rest (refusal_of e)
+LacksOrStops buffer place rest (Write e) = serializer.refusal_of e ≡ out_of_memory
+
+-- Where the events tell a value it is out of memory, and where they break off within one that or how the input is refused there.
+pub record IsUnwritten (buffer : List ℕ) (start : Future) (e : TranscodeError) : Type 0 where
+  pub told : (v : Tree) (rest : Future) → Tells start v rest → LacksMemory e
+  pub broken : (place : Place) (rest : Tokens) → Breaks place rest start → LacksOrStops buffer place rest e
+
+-- Memory ran out, or the input has no document and is refused so.
+abbrev pub IsRefused : List ℕ → Mode → TranscodeError → Type 0
+IsRefused input mode (Read e) = reading.LacksMemory (refusal_of e) ⊎ Refuses input mode (refusal_of e)
+IsRefused input mode (Write e) = serializer.refusal_of e ≡ out_of_memory
+
+-- What the parser refuses stands within so many bytes, where its place is known.
+abbrev pub IsWithin : ℕ → TranscodeError → Type 0
+IsWithin end (Read e) = IfSome e.span (λ s. s.offset + s.len ≤ end)
+IsWithin end (Write e) = Unit {0}
+
+-- What is told of the parser is its own refusal, or that nothing or no value comes, or out of memory.
+abbrev pub TellsError : Now → Now → TranscodeError → Type 0
+TellsError old new (Read e) = TellsRefusal old new (refusal_of e)
+TellsError old new (Write e) = Unit {0}
+
+-- Memory ran out, of the parser, or a value is expected in place of this event.
+abbrev pub IsMisplaced : Event → TranscodeError → Type 0
+IsMisplaced given (Read e) = reading.LacksMemory (refusal_of e) ⊎ (refusal_of e ≡ mismatch_of (codes "value") given)
+IsMisplaced given (Write e) = ⊥
+
+-- the error that a person reads
+abbrev pub error_of : TranscodeError → JsonError
+error_of (Read e) = error_at (kind.Read e.kind) e.span
+error_of (Write e) = error_at (kind.Write e) None

@@ -1,4 +1,0 @@
--- Definitions that serve private contracts alone.
-pub mod Ascii
-pub mod FirstFault
-pub mod Run

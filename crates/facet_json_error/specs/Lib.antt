@@ -1,2 +1,0 @@
-pub mod ErrorKind
-pub mod Views

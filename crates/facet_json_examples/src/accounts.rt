@@ -1,0 +1,156 @@
+//! A struct of ten fields, which is read and written by a table of their names, and has its laws by a list of them: for the tests of types and for the
+//! benchmark.
+#![tactic(auto)]
+
+use facet_format::DeserializeError;
+use facet_json_parser::JsonParser;
+use facet_json::{Done, Maybe, Need, read_fields, write_fields};
+use facet_json_serializer::{JsonSerializeError, JsonSerializer};
+use facet_json_facet::Facet;
+use std::alloc::Global;
+
+/// An account, as `{"id":7,"name":"Ann","email":"a@b.example","active":true,"age":40,"score":-3,"visits":12,"tags":["new"]}`.
+/// The city and the parent may be missing.
+#[derive(PartialEq, Drop)]
+pub struct Account {
+    pub id: u64,
+    pub name: String,
+    pub email: String,
+    pub active: bool,
+    pub age: u8,
+    pub score: i32,
+    pub visits: u32,
+    pub city: Option<String>,
+    pub tags: Vec<String>,
+    pub parent: Option<u64>,
+}
+
+impl<'de> Facet<'de> for Account {
+    ghost use Rattle.std.specs.Prelude.{ℕ, ℤ, Bool, List, Option, false, map, string_bytes};
+    ghost use Rattle.std.specs.Option.{option_map};
+    ghost use Rattle.facet_json_examples.specs.Accounts.{account};
+    ghost use Rattle.facet_json_examples.specs.AccountLaws.{account-laws};
+
+    ghost View = { ℕ × (List ℕ × (List ℕ × (Bool × (ℕ × (ℤ × (ℕ × (Option (List ℕ) × (List (List ℕ) × (Option ℕ × Unit {0}))))))))) };
+
+    ghost view = { λ a. (
+      a.id,
+      (
+        string_bytes a.name,
+        (
+          string_bytes a.email,
+          (
+            a.active,
+            (
+              a.age,
+              (
+                a.score,
+                (
+                  a.visits,
+                  (option_map string_bytes a.city, (map string_bytes a.tags.items, (option_map (λ n. n) a.parent, tt))),
+                ),
+              ),
+            ),
+          ),
+        ),
+      ),
+    ) };
+
+    ghost reading = { account.reading };
+
+    ghost reading_borrowed = { account.reading_borrowed };
+
+    ghost tree_of = { account.tree_of };
+
+    ghost always = { account.always };
+
+    ghost readable = { account.readable };
+
+    ghost whole = { false };
+
+    fn read_owned<'t>(
+        alloc: Global,
+        parser: &mut JsonParser<'de>,
+    ) -> Result<Account, DeserializeError<'t>> {
+        let Need(
+            id,
+            Need(
+                name,
+                Need(
+                    email,
+                    Need(
+                        active,
+                        Need(
+                            age,
+                            Need(score, Need(visits, Maybe(city, Need(tags, Maybe(parent, Done))))),
+                        ),
+                    ),
+                ),
+            ),
+        ) = read_fields(
+            alloc,
+            parser,
+            false,
+            &[
+                "id", "name", "email", "active", "age", "score", "visits", "city", "tags", "parent",
+            ],
+        )?;
+        Ok(Account {
+            id,
+            name,
+            email,
+            active,
+            age,
+            score,
+            visits,
+            city,
+            tags,
+            parent,
+        })
+    }
+
+    fn read<'t>(
+        alloc: Global,
+        parser: &mut JsonParser<'de>,
+    ) -> Result<Account, DeserializeError<'t>> {
+        Account::read_owned(alloc, parser)
+    }
+
+    fn write(&self, serializer: &mut JsonSerializer<'_>) -> Result<(), JsonSerializeError> {
+        let fields = Need(
+            &self.id,
+            Need(
+                &self.name,
+                Need(
+                    &self.email,
+                    Need(
+                        &self.active,
+                        Need(
+                            &self.age,
+                            Need(
+                                &self.score,
+                                Need(
+                                    &self.visits,
+                                    Need(&self.city, Need(&self.tags, Need(&self.parent, Done))),
+                                ),
+                            ),
+                        ),
+                    ),
+                ),
+            ),
+        );
+        write_fields(
+            serializer,
+            &[
+                "id", "name", "email", "active", "age", "score", "visits", "city", "tags", "parent",
+            ],
+            &fields,
+        )
+    }
+
+    ghost same_reading = { account-laws.same_reading };
+
+    ghost same_reading_borrowed = { account-laws.same_reading_borrowed };
+
+    ghost reads_back = { account-laws.reads_back };
+}

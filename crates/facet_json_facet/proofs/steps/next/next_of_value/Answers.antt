@@ -1,0 +1,54 @@
+use Rattle.std.proofs.Common.{refl, rules}
+use Rattle.std.proofs.lemmas.Result.{err_from_is_err_and}
+use Rattle.facet_format.specs.Views.{refusal_of}
+use Rattle.facet_json_meaning.proofs.Walks.NextOnWalk.{answer-walks, answer-lacks, answer-no_end}
+use Rattle.facet_format.specs.Cursor.{next}
+use Rattle.facet_json_meaning.proofs.Refusals.{call-tells, over-tells}
+use Rattle.facet_json_meaning.proofs.OneValue.EventsPassed.{next-passes_by_kind}
+use Rattle.facet_json_facet.proofs.steps.next.next_of_value.Goals as goal
+
+pub returns-in_err-event-clause-lacks : goal.returns-in_err-event-clause-lacks
+returns-in_err-event-clause-lacks c =
+    let p = err_from_is_err_and c.from_residual.result c.from_residual.ensures.1 in
+    rw (p.1, p.2) (answer-lacks _ _ _ _ refl c.in_err-event.ensures.steps)
+
+pub returns-in-Some-clause-walks : goal.returns-in-Some-clause-walks
+returns-in-Some-clause-walks c =
+    let steps = rw c.in-Some.is at c.in_ok-event.ensures.steps in
+    answer-walks _ _ _ _ refl steps
+
+pub returns-in-None-clause-lacks : goal.returns-in-None-clause-lacks
+returns-in-None-clause-lacks c =
+    let steps = rw c.in-None.is at c.in_ok-event.ensures.steps in
+    answer-no_end _ _ (refusal_of c.ended.result) _ refl steps
+
+pub returns-in_err-event-clause-onward : goal.returns-in_err-event-clause-onward
+returns-in_err-event-clause-onward c = search rules
+
+pub returns-in_err-event-clause-shorter : goal.returns-in_err-event-clause-shorter
+returns-in_err-event-clause-shorter c = search rules
+
+pub returns-in_err-event-clause-passed : goal.returns-in_err-event-clause-passed
+returns-in_err-event-clause-passed c = search rules
+
+pub returns-in_err-event-clause-walks : goal.returns-in_err-event-clause-walks
+returns-in_err-event-clause-walks c = search rules
+
+pub returns-in_err-event-clause-event_within : goal.returns-in_err-event-clause-event_within
+returns-in_err-event-clause-event_within c = search rules
+
+pub returns-in_err-event-clause-within : goal.returns-in_err-event-clause-within
+returns-in_err-event-clause-within c = search rules
+
+pub returns-in_err-event-clause-tells : goal.returns-in_err-event-clause-tells
+returns-in_err-event-clause-tells c =
+    let p = err_from_is_err_and c.from_residual.result c.from_residual.ensures.1 in
+    rw (p.1, p.2) (call-tells _ _ next _ _ c.in_err-event.ensures.moves refl)
+
+pub returns-in-None-clause-tells : goal.returns-in-None-clause-tells
+returns-in-None-clause-tells c = over-tells (rw c.in-None.is at c.in_ok-event.ensures.end) c.ended.ensures.told
+
+pub returns-in-Some-clause-by_kind : goal.returns-in-Some-clause-by_kind
+returns-in-Some-clause-by_kind c =
+    let moves = rw c.in-Some.is at c.in_ok-event.ensures.moves in
+    next-passes_by_kind _ _ _ moves

@@ -1,0 +1,102 @@
+//! The next event of a value that is read.
+
+ghost use Rattle.std.specs.Prelude.{◌≡◌, ◌≤◌, ◌<◌, ◌+◌, true, false, None, Some, length, codes, IfOk, IfErr, OnOk};
+ghost use Rattle.facet_format.specs.Span.{stop};
+ghost use Rattle.facet_format.specs.Views.{event_of, refusal_of};
+ghost use Rattle.facet_json_document.specs.Now.{ahead, GoesOn};
+ghost use Rattle.facet_json_document.specs.Next.{PassesNext};
+ghost use Rattle.facet_json_document.specs.Within.{RefusalWithin};
+ghost use Rattle.facet_json_core.specs.Refusing.{TellsRefusal, mismatch_of};
+ghost use Rattle.facet_json_meaning.specs.Passing.{WalksPast, LacksAlone, PassesNull, LacksNull};
+ghost use Rattle.facet_json_meaning.specs.OneValue.{PassesValue, PassesByKind, LooksAhead};
+ghost use Rattle.facet_json_meaning.specs.Optional.{is_null_event};
+ghost use Rattle.facet_json_meaning.specs.Peeking.{FindsNull};
+
+use facet_format::{DeserializeError, FormatParser, ParseEvent, ParseEventKind, ScalarValue};
+use facet_json_parser::JsonParser;
+use facet_json_core::{ended, mismatch};
+
+/// The next event, where a value is to come.
+///
+/// # Errors
+///
+/// As the parser's `next_event`; and where the parser is at the end of its document, an unexpected end.
+pub fn next_of_value<'t, 'de>(
+    parser: &mut JsonParser<'de>,
+) -> Result<ParseEvent<'de>, DeserializeError<'t>>
+    ensures onward { GoesOn parser.old parser.new }
+    ensures shorter { OnOk result (ahead parser.new < ahead parser.old) }
+    ensures passed { IfOk result (λ e. PassesNext parser.old (event_of e) parser.new) }
+    ensures walks { IfOk result (λ e. WalksPast parser.old (event_of e) parser.new) }
+    ensures by_kind { IfOk result (λ e. PassesByKind (event_of e).kind parser.old parser.new) }
+    ensures lacks { IfErr result (λ e. LacksAlone parser.old (refusal_of e)) }
+    ensures event_within { IfOk result (λ e. stop (event_of e).span ≤ length parser.new.buffer) }
+    ensures within { IfErr result (λ e. RefusalWithin parser.new.buffer (refusal_of e)) }
+    ensures tells { IfErr result (λ e. TellsRefusal parser.old parser.new (refusal_of e)) }
+{
+    match parser.next_event()? {
+        Some(event) => Ok(event),
+        None => Err(ended(parser)),
+    }
+}
+
+/// Whether null comes, where a value is to come. It stays the next event.
+///
+/// # Errors
+///
+/// As the parser's `peek_event`.
+pub fn null_comes<'t>(parser: &mut JsonParser<'_>) -> Result<bool, DeserializeError<'t>>
+    ensures onward { GoesOn parser.old parser.new }
+    ensures finds { IfOk result (λ found. FindsNull parser.old found parser.new) }
+    ensures looks { IfOk result (λ found. LooksAhead is_null_event parser.old found parser.new) }
+    ensures lacks { IfErr result (λ e. LacksAlone parser.old (refusal_of e)) }
+    ensures within { IfErr result (λ e. RefusalWithin parser.new.buffer (refusal_of e)) }
+    ensures tells { IfErr result (λ e. TellsRefusal parser.old parser.new (refusal_of e)) }
+{
+    match parser.peek_event()? {
+        Some(event) => Ok(is_null(&event)),
+        None => Ok(false),
+    }
+}
+
+/// The event is null.
+fn is_null(event: &ParseEvent<'_>) -> bool
+    ensures { result ≡ is_null_event (event_of event.now).kind }
+{
+    matches!(event.kind, ParseEventKind::Scalar(ScalarValue::Null))
+}
+
+/// Passes null.
+///
+/// # Errors
+///
+/// As `next_of_value`; and where another event comes, which is passed, a mismatch.
+pub fn pass_null<'t>(parser: &mut JsonParser<'_>) -> Result<(), DeserializeError<'t>>
+    ensures onward { GoesOn parser.old parser.new }
+    ensures shorter { OnOk result (ahead parser.new < ahead parser.old) }
+    ensures passes { OnOk result (PassesNull parser.old parser.new) }
+    ensures lacks { IfErr result (λ e. LacksNull parser.old (refusal_of e)) }
+    ensures one_value { OnOk result (PassesValue parser.old parser.new) }
+    ensures within { IfErr result (λ e. RefusalWithin parser.new.buffer (refusal_of e)) }
+    ensures free { OnOk result (parser.new.cursor.refusal ≡ None) }
+    ensures tells { IfErr result (λ e. TellsRefusal parser.old parser.new (refusal_of e)) }
+{
+    null_in(next_of_value(parser)?)
+}
+
+/// Whether the event is null.
+///
+/// # Errors
+///
+/// It is another event: a mismatch, with its span.
+fn null_in<'t>(event: ParseEvent<'_>) -> Result<(), DeserializeError<'t>>
+    ensures null { OnOk result (is_null_event (event_of event.entry).kind ≡ true) }
+    ensures refused { IfErr result (λ e. is_null_event (event_of event.entry).kind ≡ false) }
+    ensures span { IfErr result (λ e. e.span ≡ Some event.entry.span) }
+    ensures told { IfErr result (λ e. refusal_of e ≡ mismatch_of (codes "null") (event_of event.entry)) }
+{
+    match event.kind {
+        ParseEventKind::Scalar(ScalarValue::Null) => Ok(()),
+        _ => Err(mismatch("null", event)),
+    }
+}

@@ -1,3 +1,0 @@
-mod DigitValues
-mod ShortNumbers
-pub mod SignedNumbers

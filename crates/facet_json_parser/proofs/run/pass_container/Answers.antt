@@ -1,0 +1,109 @@
+use Rattle.std.proofs.Common.{◌≡◌, ◌∷◌, ◌∙◌, ap, arith, rules}
+use Rattle.std.proofs.lemmas.Result.{err_from_is_err_and}
+use Rattle.facet_format.specs.Span.{stop, span_at}
+use Rattle.facet_format.specs.Views.{span_of, container_of}
+use Rattle.facet_json_token.specs.Views.{mode_of}
+use Rattle.facet_json_parser.proofs.RunSteps.{leads-first, leads-ends, unopened, fault-stops, token-goes_on, token-stops}
+use Rattle.facet_json_parser.proofs.QuietTokens.{leads-on}
+use Rattle.facet_json_parser.proofs.RefusedWithin.{answer-within}
+use Rattle.facet_json_parser.proofs.run.pass_container.Goals as goal
+
+pub returns-in_err-open_bracket-clause-run : goal.returns-in_err-open_bracket-clause-run
+returns-in_err-open_bracket-clause-run c =
+    let p = err_from_is_err_and c.from_residual.result c.from_residual.ensures.1 in
+    rw (p.1, p.2) (unopened c.args.input.now (mode_of c.args.mode) (container_of c.args.kind) (span_of c.args.first) (span_of c.args.last) _ c.in_err-open_bracket.ensures)
+
+pub loop-innermost-init : goal.loop-innermost-init
+loop-innermost-init c = record {
+  ends = c.requires;
+  onward = omega arith;
+  leads = leads-first c.args.input.now (mode_of c.args.mode) c.open_bracket.new.contexts (container_of c.args.kind) (span_of c.args.first) (c.in_ok-open_bracket.ensures ∙ ap (λ s. container_of c.args.kind ∷ s) c.new-contexts.ensures);
+}
+
+pub token_beyond-requires : goal.token_beyond-requires
+token_beyond-requires c =
+    let l = c.loop-innermost in omega (arith, c.end.ensures.fits (omega (arith, l.invariant.ends)), l.invariant.ends)
+
+pub returns-in_err-token-clause-run : goal.returns-in_err-token-clause-run
+returns-in_err-token-clause-run c =
+    let l = c.loop-innermost in
+    let at = c.token_beyond.result.0 in
+    let position : at ≡ stop (span_at at 0) = omega arith in
+    let behind = c.end.ensures.fits (omega (arith, l.invariant.ends)) in
+    let on = leads-on c.args.input.now (mode_of c.args.mode) l.contexts c.in-Some.ensures.0 (container_of c.in-Some.innermost) (span_of l.passed) at _ c.in-Some.ensures.1 l.invariant.leads (rw behind at c.token_beyond.ensures.on) in
+    let answer = rw c.in_err-token.was at c.token_beyond.ensures.answer in
+    let p = err_from_is_err_and c.from_residual-in_err-token.result c.from_residual-in_err-token.ensures.1 in
+    let around = c.in-Some.ensures in
+    rw p.1 (fault-stops c.args.input.now (mode_of c.args.mode) (container_of c.args.kind) (span_of c.args.first) (span_of c.args.last) (container_of c.in-Some.innermost) around.0 l.contexts (span_at at 0) around.1 on c.in_err-token.field-0.0 _ (omega (arith, c.token_beyond.ensures)) (rw position at answer) p.2)
+
+pub returns-in_err-pass_token-clause-run : goal.returns-in_err-pass_token-clause-run
+returns-in_err-pass_token-clause-run c =
+    let l = c.loop-innermost in
+    let at = c.token_beyond.result.0 in
+    let position : at ≡ stop (span_at at 0) = omega arith in
+    let behind = c.end.ensures.fits (omega (arith, l.invariant.ends)) in
+    let on = leads-on c.args.input.now (mode_of c.args.mode) l.contexts c.in-Some.ensures.0 (container_of c.in-Some.innermost) (span_of l.passed) at _ c.in-Some.ensures.1 l.invariant.leads (rw behind at c.token_beyond.ensures.on) in
+    let p = err_from_is_err_and c.from_residual-in_err-pass_token.result c.from_residual-in_err-pass_token.ensures.1 in
+    let around = c.in-Some.ensures in
+    let answer = rw c.in_ok-token.was at c.token_beyond.ensures.answer in
+    let end = rw c.in_ok-token.was at c.token_beyond.ensures.end in
+    rw (p.1, p.2) (token-stops c.args.input.now (mode_of c.args.mode) (container_of c.args.kind) (span_of c.args.first) (span_of c.args.last) (container_of c.in-Some.innermost) around.0 l.contexts (span_at at 0) around.1 on c.in_ok-token.token (omega (arith, c.token_beyond.ensures.on.ends)) (rw position at answer) _ end c.in_err-pass_token.ensures.end (λ kind is. c.in_err-pass_token.ensures.token kind around.0 is around.1))
+
+pub loop-innermost-smaller : goal.loop-innermost-smaller
+loop-innermost-smaller c =
+    let l = c.loop-innermost in
+    let at = c.token_beyond.result.0 in
+    let position : at ≡ stop (span_at at 0) = omega arith in
+    let behind = c.end.ensures.fits (omega (arith, l.invariant.ends)) in
+    let on = leads-on c.args.input.now (mode_of c.args.mode) l.contexts c.in-Some.ensures.0 (container_of c.in-Some.innermost) (span_of l.passed) at _ c.in-Some.ensures.1 l.invariant.leads (rw behind at c.token_beyond.ensures.on) in
+    let around = c.in-Some.ensures in
+    let answer = rw c.in_ok-token.was at c.token_beyond.ensures.answer in
+    let next = token-goes_on c.args.input.now (mode_of c.args.mode) (container_of c.args.kind) (span_of c.args.first) (span_of c.args.last) (container_of c.in-Some.innermost) around.0 l.contexts (span_at at 0) around.1 on c.in_ok-token.token (omega (arith, c.token_beyond.ensures.on.ends)) (rw position at answer) c.pass_token.new.contexts c.in_ok-pass_token.ensures.end (λ kind is. c.in_ok-pass_token.ensures.token kind around.0 is around.1) in
+    omega (arith, next.past, next.ends, c.token_beyond.ensures.on.past, behind)
+
+pub loop-innermost-preserved : goal.loop-innermost-preserved
+loop-innermost-preserved c =
+    let l = c.loop-innermost in
+    let at = c.token_beyond.result.0 in
+    let position : at ≡ stop (span_at at 0) = omega arith in
+    let behind = c.end.ensures.fits (omega (arith, l.invariant.ends)) in
+    let on = leads-on c.args.input.now (mode_of c.args.mode) l.contexts c.in-Some.ensures.0 (container_of c.in-Some.innermost) (span_of l.passed) at _ c.in-Some.ensures.1 l.invariant.leads (rw behind at c.token_beyond.ensures.on) in
+    let around = c.in-Some.ensures in
+    let answer = rw c.in_ok-token.was at c.token_beyond.ensures.answer in
+    let next = token-goes_on c.args.input.now (mode_of c.args.mode) (container_of c.args.kind) (span_of c.args.first) (span_of c.args.last) (container_of c.in-Some.innermost) around.0 l.contexts (span_at at 0) around.1 on c.in_ok-token.token (omega (arith, c.token_beyond.ensures.on.ends)) (rw position at answer) c.pass_token.new.contexts c.in_ok-pass_token.ensures.end (λ kind is. c.in_ok-pass_token.ensures.token kind around.0 is around.1) in
+    record { ends = next.ends; onward = omega (arith, next.past, c.token_beyond.ensures.on.past, behind, l.invariant.onward); leads = next.leads }
+
+pub returns-clause-run : goal.returns-clause-run
+returns-clause-run c =
+    let l = c.loop-innermost in
+    leads-ends c.args.input.now (mode_of c.args.mode) l.contexts (container_of c.args.kind) (span_of c.args.first) (span_of l.passed) c.in_default.ensures l.invariant.leads
+
+pub returns-clause-onward : goal.returns-clause-onward
+returns-clause-onward c = c.loop-innermost.invariant.onward
+
+pub returns-clause-within : goal.returns-clause-within
+returns-clause-within c = c.loop-innermost.invariant.ends
+
+pub returns-in_err-open_bracket-clause-refused : goal.returns-in_err-open_bracket-clause-refused
+returns-in_err-open_bracket-clause-refused c =
+    answer-within c.args.input.now (mode_of c.args.mode) _ (span_of c.args.last) c.from_residual.result (returns-in_err-open_bracket-clause-run c) c.requires
+
+pub returns-in_err-token-clause-refused : goal.returns-in_err-token-clause-refused
+returns-in_err-token-clause-refused c =
+    answer-within c.args.input.now (mode_of c.args.mode) _ (span_of c.args.last) c.from_residual-in_err-token.result (returns-in_err-token-clause-run c) c.requires
+
+pub returns-in_err-pass_token-clause-refused : goal.returns-in_err-pass_token-clause-refused
+returns-in_err-pass_token-clause-refused c =
+    answer-within c.args.input.now (mode_of c.args.mode) _ (span_of c.args.last) c.from_residual-in_err-pass_token.result (returns-in_err-pass_token-clause-run c) c.requires
+
+pub returns-in_err-open_bracket-clause-onward : goal.returns-in_err-open_bracket-clause-onward
+returns-in_err-open_bracket-clause-onward c = search rules
+
+pub returns-in_err-open_bracket-clause-within : goal.returns-in_err-open_bracket-clause-within
+returns-in_err-open_bracket-clause-within c = search rules
+
+pub returns-in_err-token-clause-onward : goal.returns-in_err-token-clause-onward
+returns-in_err-token-clause-onward c = search rules
+
+pub returns-in_err-token-clause-within : goal.returns-in_err-token-clause-within
+returns-in_err-token-clause-within c = search rules

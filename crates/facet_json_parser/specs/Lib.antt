@@ -1,0 +1,7 @@
+pub mod Fill
+pub mod Inner
+pub mod PartViews
+pub mod Ready
+pub mod RunViews
+pub mod Steps
+pub mod Views

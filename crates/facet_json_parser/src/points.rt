@@ -1,0 +1,57 @@
+//! The points that a parser keeps, each under its number, the last one last.
+
+ghost use Rattle.std.specs.Prelude.{◌≡◌, ◌≢◌, ◌<◌, ℕ, List, Some, None, map, length, slice_index_or, MatchOption, MatchResult};
+ghost use Rattle.std.specs.List.{All};
+ghost use Rattle.facet_json_parser.specs.declared.points.Point.{Point as RustPoint};
+ghost use Rattle.facet_format.specs.Kept.{found, without, with_point};
+ghost use Rattle.facet_json_parser.specs.Ready.{ArePoints};
+ghost use Rattle.facet_json_parser.specs.Views.{filling_of, point_of};
+ghost use Rattle.facet_json_document.specs.Language.{Language};
+
+use crate::standing::Standing;
+use std::alloc::{AllocError, Global};
+
+/// A standing that is kept under a number.
+#[derive(Debug, Drop)]
+pub struct Point<'de> {
+    /// The number.
+    pub number: u64,
+    /// Where the parser stood.
+    pub standing: Standing<'de>,
+}
+
+/// Keeps a copy of the standing under this number. Without memory for it nothing changes.
+pub fn keep<'de>(
+    points: &mut Vec<Point<'de>>,
+    alloc: Global,
+    number: u64,
+    standing: &Standing<'de>,
+) -> Result<(), AllocError>
+    ensures { MatchResult result
+        (λ _. map point_of points.new.items ≡ with_point number (filling_of standing.now) (map point_of points.old.items))
+        (λ _. points.new.items ≡ points.old.items) }
+{
+    let standing = standing.copy(alloc)?;
+    Ok(points.push(Point { number, standing })?)
+}
+
+/// Where in the list the point of this number is.
+fn place_of(points: &[Point<'_>], number: u64) -> Option<usize>
+    ensures { MatchOption result
+        (All (λ p. p.number ≢ number) points.now)
+        (λ i. (i < length points.now) × ((p : RustPoint) → (slice_index_or points.now i p).number ≡ number)) }
+{
+    points.iter().position(|point| point.number == number)
+}
+
+/// Takes out the standing under this number, if one is kept.
+pub fn bring_back<'de>(points: &mut Vec<Point<'de>>, number: u64) -> Option<Standing<'de>>
+    ensures { MatchOption result
+        ((found number (map point_of points.old.items) ≡ None) × (points.new.items ≡ points.old.items))
+        (λ s. (buffer : List ℕ) (language : Language) (counter : ℕ) → ArePoints buffer language counter (map point_of points.old.items)
+        → (found number (map point_of points.old.items) ≡ Some (filling_of s))
+        × (map point_of points.new.items ≡ without number (map point_of points.old.items))) }
+{
+    let at = place_of(points, number)?;
+    Some(points.remove(at).standing)
+}

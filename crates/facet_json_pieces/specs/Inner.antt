@@ -1,2 +1,0 @@
--- Definitions that serve private contracts alone.
-pub mod Stands

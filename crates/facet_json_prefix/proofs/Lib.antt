@@ -1,9 +1,0 @@
-pub mod BegunIsPrefix
-pub mod LongestPrefix
-pub mod OwnTokens
-pub mod PrefixGivesWalk
-pub mod RefusedHasNone
-pub mod RefusedOnce
-pub mod SomeRefusal
-pub mod StrictRoot
-pub mod ValueOrPrefix

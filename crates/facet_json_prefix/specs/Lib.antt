@@ -1,4 +1,0 @@
-pub mod Begun
-pub mod EventLaws
-pub mod Refusal
-pub mod StrictLaws

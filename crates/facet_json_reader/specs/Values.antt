@@ -1,0 +1,31 @@
+-- Values that stand at an offset, as their tokens mean them.
+use Rattle.std.specs.Prelude.{◌≡◌, ◌+◌, ◌-◌, ◌==◌, ◌&&◌, ℕ, true, false, not, nat_le, List, Some, drop, slice_range}
+use Rattle.std.specs.List.{list_all}
+use Rattle.facet_format.specs.Bytes.{backslash}
+use Rattle.facet_format.specs.Event.{Scalar}
+use Rattle.facet_json_token.specs.Cut.{cut_here, token_at}
+use Rattle.facet_json_token.specs.Gap.{Mode}
+use Rattle.facet_json_token.specs.Token.{Kind, string}
+use Rattle.facet_json_token.specs.Decode.{decoded}
+use Rattle.facet_json_document.specs.Meaning.{meaning_of}
+use Rattle.facet_json_document.specs.Node.{is_scalar}
+use Rattle.facet_json_document.specs.Tree.{Tree}
+use Rattle.facet_json_document.specs.Walk.{scalar_of}
+
+-- From this offset up to that one stands a string without an escape, whose text this is.
+pub record IsPlainText (buffer : List ℕ) (at finish : ℕ) (text : List ℕ) : Type 0 where
+  pub cut : (mode : Mode) → cut_here mode at (drop at buffer) ≡ token_at (string (at + 1) finish false) at ((finish + 1) - at)
+  pub means : decoded (slice_range buffer (at + 1) finish) ≡ Some text
+
+-- Each byte may stand in a text unescaped: it is no backslash, and no less than this one.
+abbrev pub AreUnescaped : ℕ → List ℕ → Type 0
+AreUnescaped least bytes = list_all (λ b. not (b == backslash) && nat_le least b) bytes ≡ true
+
+-- At this offset stands a scalar's token of this length, which is read as this value.
+pub record IsScalarThere (buffer : List ℕ) (at len : ℕ) (value : Scalar) : Type 0 where
+  pub kind : Kind
+  pub meant : Tree
+  pub cut : (mode : Mode) → cut_here mode at (drop at buffer) ≡ token_at kind at len
+  pub scalar : is_scalar kind ≡ true
+  pub means : meaning_of buffer kind ≡ Some meant
+  pub read : value ≡ scalar_of kind (Some meant)

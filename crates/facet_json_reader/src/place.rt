@@ -1,0 +1,188 @@
+//! Where a parser stands in a document, and what follows from a token there.
+
+ghost use Rattle.std.specs.Prelude.{◌≡◌, true, Some};
+ghost use Rattle.facet_json_token.specs.Token.{Kind};
+ghost use Rattle.facet_json_token.specs.Views.{kind_of};
+ghost use Rattle.facet_json_document.specs.Place.{root, after_colon, before_key, after_member, before_item, after_item, next_key, next_item, complaint_at_end, expected_at};
+ghost use Rattle.facet_json_reader.specs.PlaceViews.{place_of, turn_of, turn_by, expected_text, why_of, is_text};
+
+use crate::refusal::{Expected, Why};
+use facet_format::ContainerKind;
+use facet_json_token::Token;
+
+/// Where no value has begun yet, or what stands before, within the innermost open container. After a key's string
+/// is no place of its own: its colon is taken with it.
+#[derive(Debug, Clone, Copy, PartialEq, Eq)]
+pub enum Place {
+    /// Before the root.
+    Root,
+    /// After `{`, or after a comma in an object.
+    BeforeKey,
+    /// After a comma in an object, where none may trail.
+    NextKey,
+    /// After a key's colon.
+    AfterColon,
+    /// After `[`, or after a comma in an array.
+    BeforeItem,
+    /// After a comma in an array, where none may trail.
+    NextItem,
+    /// After a member's value.
+    AfterMember,
+    /// After an item.
+    AfterItem,
+    /// Behind the root, where nothing may stand.
+    AfterRoot,
+}
+
+/// What follows from a token at a place.
+#[derive(Debug, Clone, Copy, PartialEq, Eq)]
+pub enum Turn {
+    /// No document goes on with it.
+    Stops,
+    /// It is a separator, after which this place is.
+    Passes(Place),
+    /// It opens a container.
+    Opens(ContainerKind),
+    /// It closes the innermost container, one of this kind.
+    Closes(ContainerKind),
+    /// It is a scalar.
+    Scalar,
+    /// It is a key, whose colon has to follow.
+    Names,
+}
+
+impl Place {
+    /// What is wrong where the input ends at this place.
+    pub fn why_at_end(self) -> Why
+        ensures { why_of result ≡ complaint_at_end (place_of self) }
+    {
+        Why::End(match self {
+            Place::Root | Place::AfterColon | Place::NextItem => Expected::Value,
+            Place::BeforeKey => Expected::FieldNameOrEnd,
+            Place::AfterMember => Expected::CommaOrObjectEnd,
+            Place::BeforeItem => Expected::ValueOrArrayEnd,
+            Place::AfterItem => Expected::CommaOrArrayEnd,
+            Place::NextKey => Expected::FieldName,
+            Place::AfterRoot => Expected::EndOfInput,
+        })
+    }
+
+    /// What is expected at this place, where a token stands with which the document doesn't go on.
+    pub fn expected(self, token: &Token) -> Expected
+        ensures { (kind : Kind) → kind_of token.now ≡ Some kind → expected_text result ≡ expected_at (place_of self) kind }
+    {
+        match self {
+            Place::Root | Place::AfterColon | Place::NextItem => Expected::Value,
+            Place::BeforeKey => Expected::FieldNameOrEnd,
+            Place::AfterMember => Expected::CommaOrObjectEnd,
+            Place::BeforeItem => expected_item(token),
+            Place::AfterItem => Expected::CommaOrArrayEnd,
+            Place::NextKey => Expected::FieldName,
+            Place::AfterRoot => Expected::EndOfInput,
+        }
+    }
+
+    /// What follows from a token at this place.
+    pub fn turn(self, token: &Token) -> Turn
+        ensures turn { turn_of result ≡ turn_by (place_of self) (kind_of token.now) }
+        ensures names { result ≡ Turn.Names → is_text token.now ≡ true }
+    {
+        match self {
+            Place::Root | Place::AfterColon | Place::NextItem => value_turn(token),
+            Place::BeforeKey => key_turn(token),
+            Place::AfterMember => member_turn(token),
+            Place::BeforeItem => first_item_turn(token),
+            Place::AfterItem => item_turn(token),
+            Place::NextKey => next_key_turn(token),
+            Place::AfterRoot => Turn::Stops,
+        }
+    }
+}
+
+/// What is expected before an item, where this token stands.
+fn expected_item(token: &Token) -> Expected
+    ensures { (kind : Kind) → kind_of token.now ≡ Some kind → expected_text result ≡ expected_at before_item kind }
+{
+    match token {
+        Token::Comma => Expected::ValueOrArrayEnd,
+        Token::Colon => Expected::ValueOrArrayEnd,
+        _ => Expected::Value,
+    }
+}
+
+/// The turn of a token where a value may stand.
+fn value_turn(token: &Token) -> Turn
+    ensures root { turn_of result ≡ turn_by root (kind_of token.now) }
+    ensures colon { turn_of result ≡ turn_by after_colon (kind_of token.now) }
+    ensures item { turn_of result ≡ turn_by next_item (kind_of token.now) }
+    ensures names { result ≡ Turn.Names → is_text token.now ≡ true }
+{
+    match token {
+        Token::ObjectStart => Turn::Opens(ContainerKind::Object),
+        Token::ArrayStart => Turn::Opens(ContainerKind::Array),
+        Token::Null => Turn::Scalar,
+        Token::True => Turn::Scalar,
+        Token::False => Turn::Scalar,
+        Token::String { .. } => Turn::Scalar,
+        Token::Number { .. } => Turn::Scalar,
+        _ => Turn::Stops,
+    }
+}
+
+/// The turn of a token after `{`, or after a comma in an object.
+fn key_turn(token: &Token) -> Turn
+    ensures turn { turn_of result ≡ turn_by before_key (kind_of token.now) }
+    ensures names { result ≡ Turn.Names → is_text token.now ≡ true }
+{
+    match token {
+        Token::ObjectEnd => Turn::Closes(ContainerKind::Object),
+        Token::String { .. } => Turn::Names,
+        _ => Turn::Stops,
+    }
+}
+
+/// The turn of a token after a comma in an object, where none may trail.
+fn next_key_turn(token: &Token) -> Turn
+    ensures turn { turn_of result ≡ turn_by next_key (kind_of token.now) }
+    ensures names { result ≡ Turn.Names → is_text token.now ≡ true }
+{
+    match token {
+        Token::String { .. } => Turn::Names,
+        _ => Turn::Stops,
+    }
+}
+
+/// The turn of a token after a member.
+fn member_turn(token: &Token) -> Turn
+    ensures turn { turn_of result ≡ turn_by after_member (kind_of token.now) }
+    ensures names { result ≡ Turn.Names → is_text token.now ≡ true }
+{
+    match token {
+        Token::Comma => Turn::Passes(Place::BeforeKey),
+        Token::ObjectEnd => Turn::Closes(ContainerKind::Object),
+        _ => Turn::Stops,
+    }
+}
+
+/// The turn of a token after `[`, or after a comma in an array.
+fn first_item_turn(token: &Token) -> Turn
+    ensures turn { turn_of result ≡ turn_by before_item (kind_of token.now) }
+    ensures names { result ≡ Turn.Names → is_text token.now ≡ true }
+{
+    match token {
+        Token::ArrayEnd => Turn::Closes(ContainerKind::Array),
+        token => value_turn(token),
+    }
+}
+
+/// The turn of a token after an item.
+fn item_turn(token: &Token) -> Turn
+    ensures turn { turn_of result ≡ turn_by after_item (kind_of token.now) }
+    ensures names { result ≡ Turn.Names → is_text token.now ≡ true }
+{
+    match token {
+        Token::Comma => Turn::Passes(Place::BeforeItem),
+        Token::ArrayEnd => Turn::Closes(ContainerKind::Array),
+        _ => Turn::Stops,
+    }
+}

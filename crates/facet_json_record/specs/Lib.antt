@@ -1,4 +1,0 @@
-pub mod Fields
-pub mod Shapes
-pub mod Types
-pub mod Written

@@ -1,4 +1,0 @@
-pub mod MarksAreCut
-pub mod QuietTokens
-pub mod RefusedWithin
-pub mod RunSteps

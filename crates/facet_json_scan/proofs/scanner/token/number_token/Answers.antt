@@ -1,0 +1,87 @@
+-- The part and the first byte tell the token, and a minus alone is refused.
+use Rattle.std.proofs.Common.{◌≡◌, ◌+◌, ◌-◌, drop, slice_get, Some, get_or, refl, ap, ◌∙◌, arith}
+use Rattle.std.proofs.lemmas.Option.{slice_get-get_or}
+use Rattle.facet_format.specs.Bytes.{minus}
+use Rattle.facet_format.specs.Span.{span_at}
+use Rattle.facet_json_token.specs.Gap.{plain}
+use Rattle.facet_json_token.specs.Token.{number}
+use Rattle.facet_format.specs.Views.{hint_of}
+use Rattle.facet_json_token.specs.Cut.{token_at}
+use Rattle.facet_json_scan.specs.Inner.Found.{part_of}
+use Rattle.facet_json_scan.proofs.AnswersOfCuts.{answered-ends, number-answered}
+use Rattle.facet_json_token.proofs.NumberCuts.{number_at}
+use Rattle.facet_json_scan.proofs.Pieces.PendingNumber.{number-token}
+use Rattle.facet_json_scan.proofs.Refusals.{token-no_refusal, minus-refused}
+use Rattle.facet_json_scan.proofs.scanner.token.number_token.Goals as goal
+use Rattle.facet_json_scan.proofs.scanner.token.number_token.Goals.{else-is_negative-via-then-is_negative+else-end-start, else-is_negative-via-else-is_negative}
+
+pub returns-then-end-start-clause-token : goal.returns-then-end-start-clause-token
+returns-then-end-start-clause-token c = λ i same.
+    let buffer = c.args.buffer.now in
+    let start = c.args.start in
+    c.cut_number.ensures ∙ ap (λ p. Some (number_at start (drop (start + 1) buffer) p)) same
+
+pub returns-then-end-start-clause-refusal : goal.returns-then-end-start-clause-refusal
+returns-then-end-start-clause-refusal c = λ mode.
+    let buffer = c.args.buffer.now in
+    let start = c.args.start in
+    let here : slice_get buffer start ≡ Some minus =
+    slice_get-get_or buffer start 0 (omega arith) ∙ ap Some c.if-is_negative.true in
+    minus-refused mode buffer start c.cut_number.result here (omega arith) c.cut_number.ensures
+
+pub returns-then-end-start-clause-span : goal.returns-then-end-start-clause-span
+returns-then-end-start-clause-span c =
+    let buffer = c.args.buffer.now in
+    let start = c.args.start in
+    let here : slice_get buffer start ≡ Some minus =
+    slice_get-get_or buffer start 0 (omega arith) ∙ ap Some c.if-is_negative.true in
+    (number-answered plain buffer start minus c.cut_number.result here refl c.cut_number.ensures).0
+
+pub returns-then-end-start-clause-indices : goal.returns-then-end-start-clause-indices
+returns-then-end-start-clause-indices c =
+    let buffer = c.args.buffer.now in
+    let start = c.args.start in
+    let here : slice_get buffer start ≡ Some minus =
+    slice_get-get_or buffer start 0 (omega arith) ∙ ap Some c.if-is_negative.true in
+    (number-answered plain buffer start minus c.cut_number.result here refl c.cut_number.ensures).1
+
+pub returns-clause-token : goal.returns-clause-token
+returns-clause-token c = λ i same.
+    let buffer = c.args.buffer.now in
+    let start = c.args.start in
+    let end = c.args.end in
+    let b = get_or buffer start 0 in
+    let here : slice_get buffer start ≡ Some b = slice_get-get_or buffer start 0 (omega arith) in
+    let more : b ≡ minus → end ≡ start + 1 → ⊥ =
+    λ m e. elim c.else-is_negative.branch [
+      | else-is_negative-via-then-is_negative+else-end-start w ↦ w.if-end-start.false e
+      | else-is_negative-via-else-is_negative w ↦ w.if-is_negative.false m
+    ] in
+    c.token_at.ensures (number start end (hint_of c.hint.result)) refl
+    ∙ ap (λ h. Some (token_at (number start end h) start (end - start))) c.hint.ensures
+    ∙ ap Some (number-token buffer (drop (start + 1) buffer) start end b (part_of c.args.part) c.requires.order
+    (omega arith) here more i)
+
+pub returns-clause-refusal : goal.returns-clause-refusal
+returns-clause-refusal c = λ mode.
+    let start = c.args.start in
+    let end = c.args.end in
+    let kind = number start end (hint_of c.hint.result) in
+    token-no_refusal c.token_at.result (record { kind = kind; span = span_at start (end - start) }) _
+    (c.token_at.ensures kind refl)
+
+pub returns-clause-span : goal.returns-clause-span
+returns-clause-span c =
+    let start = c.args.start in
+    let end = c.args.end in
+    let kind = number start end (hint_of c.hint.result) in
+    (answered-ends c.token_at.result (token_at kind start (end - start)) _ (c.token_at.ensures kind refl)
+    (omega arith, (omega arith, omega arith))).0
+
+pub returns-clause-indices : goal.returns-clause-indices
+returns-clause-indices c =
+    let start = c.args.start in
+    let end = c.args.end in
+    let kind = number start end (hint_of c.hint.result) in
+    (answered-ends c.token_at.result (token_at kind start (end - start)) _ (c.token_at.ensures kind refl)
+    (omega arith, (omega arith, omega arith))).1

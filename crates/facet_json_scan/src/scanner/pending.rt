@@ -1,0 +1,133 @@
+//! What the end of a buffer cuts, and how it goes on.
+
+ghost use Rattle.std.specs.Prelude.{◌≡◌, MatchOption};
+ghost use Rattle.facet_format.specs.Bytes as bytes;
+ghost use Rattle.facet_json_scan.specs.Scanner.{part_hint, GoesOnWith, EndsBefore};
+ghost use Rattle.facet_json_scan.specs.Inner.Found.{part_of};
+ghost use Rattle.facet_format.specs.Views.{hint_of};
+
+use facet_format::numeral::NumberHint;
+
+/// The part of a number (RFC 8259, section 6) in which its last byte stands.
+#[derive(Debug, Clone, Copy, PartialEq)]
+pub enum Part {
+    /// The minus and the digits.
+    Digits,
+    /// The dot and its digits.
+    Fraction,
+    /// The exponent mark.
+    Mark,
+    /// The exponent's sign and its digits.
+    Exponent,
+}
+
+/// How an open token or comment goes on.
+#[derive(Debug, Clone, Copy, PartialEq)]
+pub enum State {
+    /// In a string.
+    Text {
+        /// Whether a backslash escapes the next byte.
+        escaped: bool,
+        /// Whether a backslash was seen.
+        has_escapes: bool,
+    },
+    /// In a literal, of which at most five letters are compared again.
+    Word,
+    /// In this part of a number.
+    Number(Part),
+    /// After a slash.
+    Slash,
+    /// In a line comment.
+    Line,
+    /// In a block comment.
+    Block {
+        /// Whether the last byte is a star.
+        after_star: bool,
+    },
+}
+
+/// A token or comment that the end of the buffer cuts.
+#[derive(Debug, Clone, Copy, PartialEq)]
+pub struct Pending {
+    /// Its first byte.
+    pub start: usize,
+    /// How it goes on.
+    pub state: State,
+}
+
+impl Part {
+    /// The part in which this byte stands, if it goes on with the number.
+    pub fn after(self, byte: u8) -> Option<Part>
+        ensures { MatchOption result (EndsBefore (part_of self) byte)
+            (λ next. GoesOnWith (part_of self) byte (part_of next)) }
+    {
+        let is_digit = is_digit(byte);
+        match self {
+            Part::Digits => {
+                if is_digit {
+                    Some(Part::Digits)
+                } else if byte == b'.' {
+                    Some(Part::Fraction)
+                } else if is_exponent_mark(byte) {
+                    Some(Part::Mark)
+                } else {
+                    None
+                }
+            }
+            Part::Fraction => {
+                if is_digit {
+                    Some(Part::Fraction)
+                } else if is_exponent_mark(byte) {
+                    Some(Part::Mark)
+                } else {
+                    None
+                }
+            }
+            Part::Mark => {
+                if is_digit || is_sign(byte) {
+                    Some(Part::Exponent)
+                } else {
+                    None
+                }
+            }
+            Part::Exponent => { if is_digit { Some(Part::Exponent) } else { None } }
+        }
+    }
+
+    /// What stands in a number whose last byte stands in this part.
+    pub fn hint(self, is_negative: bool) -> NumberHint
+        ensures { hint_of result ≡ part_hint (part_of self) is_negative }
+    {
+        match self {
+            Part::Digits => {
+                if is_negative {
+                    NumberHint::Signed
+                } else {
+                    NumberHint::Unsigned
+                }
+            }
+            _ => NumberHint::Float,
+        }
+    }
+}
+
+/// Whether the byte is a digit.
+fn is_digit(byte: u8) -> bool
+    ensures { result ≡ bytes.is_digit byte }
+{
+    matches!(byte, b'0'..=b'9')
+}
+
+/// Whether the byte is the mark of an exponent.
+fn is_exponent_mark(byte: u8) -> bool
+    ensures { result ≡ bytes.is_exponent_mark byte }
+{
+    byte == b'e' || byte == b'E'
+}
+
+/// Whether the byte is the sign of an exponent.
+fn is_sign(byte: u8) -> bool
+    ensures { result ≡ bytes.is_sign byte }
+{
+    byte == b'-' || byte == b'+'
+}

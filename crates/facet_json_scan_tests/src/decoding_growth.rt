@@ -1,0 +1,196 @@
+//! Refused growths. With ample memory this test passes as any other does. `./check_growths` at the top runs it once more for each of its
+//! requests for memory, which is refused, and it has to pass in every such run. The decoders that take memory are called twice: as one
+//! request is refused in a run, memory runs out in one of the two at most, and the other gives the whole answer. What takes none gives
+//! it always.
+
+use facet_format::numeral::NumberHint;
+use facet_format::{Decimal, Span};
+use facet_json_token::{DecodeError, check_content, decode_string, decode_string_borrowed, decode_string_borrowed_unchecked, decode_string_owned, decode_string_owned_unchecked, decode_string_unchecked};
+use facet_json_token::{ParsedNumber, parse_number, parse_number_unchecked};
+use facet_json_token::{check_number_strict, check_string_strict};
+use facet_json_token::{ScanError, ScanErrorKind};
+use std::alloc::Global;
+use std::borrow::CowStr;
+
+/// Whether a call that was made twice gave its whole answer, but for one time at most in which memory ran out.
+fn but_once(first: Option<bool>, again: Option<bool>) -> bool {
+    first.unwrap_or(true) && again.unwrap_or(true) && (first.is_some() || again.is_some())
+}
+
+/// A string's content, its text or refusal, and whether strict mode has it.
+type Row = (&'static str, Result<&'static str, ScanError>, bool);
+
+static ROWS: [Row; 6] = [
+    ("", Ok(""), true),
+    ("ab", Ok("ab"), true),
+    ("caf\\u00e9\\n", Ok("caf\u{e9}\n"), true),
+    ("\\uD83D\\uDE00 \\q", Ok("\u{1f600} q"), false),
+    (
+        "ab\\ud800",
+        Err(ScanError {
+            kind: ScanErrorKind::InvalidUtf8,
+            span: Span { offset: 2, len: 6 },
+        }),
+        true,
+    ),
+    (
+        "ab\\u12",
+        Err(ScanError {
+            kind: ScanErrorKind::UnexpectedEof("in unicode escape"),
+            span: Span { offset: 2, len: 4 },
+        }),
+        true,
+    ),
+];
+
+/// Whether a decoder gave the row's answer, or ran out of memory.
+fn is_answer(answer: Result<&str, &DecodeError>, row: &Row) -> Option<bool> {
+    match (answer, &row.1) {
+        (Ok(text), Ok(wanted)) => Some(text == *wanted),
+        (Err(DecodeError::OutOfMemory), _) => None,
+        (Err(DecodeError::Scan(error)), Err(wanted)) => Some(*error == *wanted),
+        _ => Some(false),
+    }
+}
+
+/// The same of a text of its own.
+fn is_string(answer: &Result<String, DecodeError>, row: &Row) -> Option<bool> {
+    match answer {
+        Ok(text) => is_answer(Ok(text.as_str()), row),
+        Err(error) => is_answer(Err(error), row),
+    }
+}
+
+/// The same of a text that has to be its own.
+fn is_owned(answer: &Result<CowStr<'_>, DecodeError>, row: &Row) -> Option<bool> {
+    match answer {
+        Ok(CowStr::Owned(text)) => is_answer(Ok(text.as_str()), row),
+        Ok(CowStr::Borrowed(_)) => Some(false),
+        Err(error) => is_answer(Err(error), row),
+    }
+}
+
+/// Whether each decoder that takes memory gives the row's answer.
+fn decodes(alloc: Global, row: &Row) -> Option<bool> {
+    let buf = row.0.as_bytes();
+    let end = buf.len();
+    let string = is_string(&decode_string_owned(alloc, buf, 0, end), row)?;
+    let owned = is_owned(&decode_string(alloc, buf, 0, end, true), row)?;
+    match str::from_utf8(&buf[0..end]) {
+        Ok(_) => {
+            let again = is_string(&decode_string_owned_unchecked(alloc, buf, 0, end), row)?;
+            let unchecked = is_owned(&decode_string_unchecked(alloc, buf, 0, end, true), row)?;
+            Some(string && owned && again && unchecked)
+        }
+        Err(_) => Some(false),
+    }
+}
+
+/// Whether the content is lent as it stands, and refused whole where a backslash stands in it.
+fn is_lent(answer: Result<CowStr<'_>, DecodeError>, content: &str) -> bool {
+    match answer {
+        Ok(CowStr::Borrowed(text)) => text == content && !content.contains('\\'),
+        Ok(CowStr::Owned(_)) => false,
+        Err(error) => {
+            let whole = ScanError {
+                kind: ScanErrorKind::InvalidUtf8,
+                span: Span::new(0, content.len()),
+            };
+            content.contains('\\') && error == DecodeError::Scan(whole)
+        }
+    }
+}
+
+/// Whether the decoders that lend the content do, but where a backslash stands in it.
+fn lends(alloc: Global, content: &str) -> bool {
+    let buf = content.as_bytes();
+    let end = buf.len();
+    let lent = if content.contains('\\') {
+        None
+    } else {
+        Some(content)
+    };
+    match str::from_utf8(&buf[0..end]) {
+        Ok(_) => {
+            decode_string_borrowed(buf, 0, end) == lent
+                && decode_string_borrowed_unchecked(buf, 0, end) == lent
+                && is_lent(decode_string(alloc, buf, 0, end, false), content)
+                && is_lent(decode_string_unchecked(alloc, buf, 0, end, false), content)
+        }
+        Err(_) => false,
+    }
+}
+
+/// Whether the content is checked as the row says.
+fn is_checked(row: &Row) -> bool {
+    let buf = row.0.as_bytes();
+    let checked = match (check_content(buf, 0, buf.len()), &row.1) {
+        (Ok(()), Ok(_)) => true,
+        (Err(error), Err(wanted)) => error == *wanted,
+        _ => false,
+    };
+    checked && check_string_strict(buf, 0, buf.len()).is_ok() == row.2
+}
+
+#[test]
+fn a_growth_is_refused_in_a_decoder(rt: HostRuntime) {
+    let alloc = rt.alloc();
+    for row in &ROWS {
+        assert!(rt;
+            but_once(decodes(alloc, row), decodes(alloc, row)),
+            "{}",
+            row.0
+        );
+        assert!(rt; lends(alloc, row.0) && is_checked(row), "{}", row.0);
+    }
+    for (text, hint, number) in numbers() {
+        assert!(rt; is_number(text, hint, number), "{text}");
+    }
+}
+
+/// Texts of numbers, their hints and what they are read as.
+fn numbers() -> [(&'static str, NumberHint, Option<ParsedNumber<'static>>); 6] {
+    let decimal = match Decimal::new("1.5") {
+        Some(decimal) => Some(ParsedNumber::Decimal(decimal)),
+        None => None,
+    };
+    [
+        ("42", NumberHint::Unsigned, Some(ParsedNumber::U64(42))),
+        ("-42", NumberHint::Signed, Some(ParsedNumber::I64(-42))),
+        (
+            "18446744073709551616",
+            NumberHint::Unsigned,
+            Some(ParsedNumber::U128(18446744073709551616)),
+        ),
+        (
+            "-9223372036854775809",
+            NumberHint::Signed,
+            Some(ParsedNumber::I128(-9223372036854775809)),
+        ),
+        ("1.5", NumberHint::Float, decimal),
+        ("5x", NumberHint::Unsigned, None),
+    ]
+}
+
+/// Whether the text is read as this number, and is one of RFC 8259 alone; or is refused whole where there is none.
+fn is_number(text: &str, hint: NumberHint, number: Option<ParsedNumber<'_>>) -> bool {
+    let buf = text.as_bytes();
+    let end = buf.len();
+    let refused = ScanError {
+        kind: ScanErrorKind::UnexpectedChar('?'),
+        span: Span::new(0, end),
+    };
+    let is_strict = check_number_strict(buf, 0, end).is_ok();
+    let wanted = match number {
+        Some(number) => Ok(number),
+        None => Err(refused),
+    };
+    match str::from_utf8(&buf[0..end]) {
+        Ok(_) => {
+            parse_number(buf, 0, end, hint) == wanted
+                && parse_number_unchecked(buf, 0, end, hint) == wanted
+                && is_strict == wanted.is_ok()
+        }
+        Err(_) => false,
+    }
+}

@@ -1,9 +1,0 @@
-pub mod AnswersOfCuts
-pub mod FoundPastGap
-pub mod Growth
-pub mod NoPiece
-pub mod OpenNeedsMore
-pub mod Pieces
-pub mod Refusals
-pub mod Segments
-pub mod WholeTokens

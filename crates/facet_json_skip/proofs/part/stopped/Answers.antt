@@ -1,6 +1,0 @@
-use Rattle.facet_json_document.specs.Unread.{at_end}
-use Rattle.facet_json_place.specs.Views.{place_of}
-use Rattle.facet_json_skip.proofs.part.stopped.Goals as goal
-
-pub returns-in-Eof-clause-end : goal.returns-in-Eof-clause-end
-returns-in-Eof-clause-end c = λ buffer e s. rw (c.why_at_end.ensures, s) (at_end (place_of c.args.place))

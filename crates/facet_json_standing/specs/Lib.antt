@@ -1,4 +1,0 @@
-pub mod Fill
-pub mod Ready
-pub mod Steps
-pub mod Views

@@ -1,2 +1,0 @@
-pub mod RfcNumbers
-pub mod StringSteps

@@ -1,5 +1,0 @@
-pub mod Inner
-pub mod RfcNumber
-pub mod RfcNumberTest
-pub mod Strict
-pub mod Views

@@ -1,5 +1,0 @@
-use Rattle.std.proofs.Common.{rules}
-use Rattle.facet_json_transcode.proofs.value.depth_after.Goals as goal
-
-pub returns-in-Some : goal.returns-in-Some
-returns-in-Some c = search rules

@@ -1,0 +1,15 @@
+use Rattle.std.proofs.Common.{refl, arith}
+use Rattle.facet_format.specs.Event as event
+use Rattle.facet_json_document.specs.Tree.{bytes}
+use Rattle.facet_json_document.specs.AsRead.{WellFormed, RawParts}
+use Rattle.facet_json_tree.proofs.OfRust.{bytes-below, seen-of_rust}
+use Rattle.facet_json_tree.proofs.ScalarCalls.{scalar-called}
+use Rattle.facet_json_tree.proofs.tree_calls.write_bytes.Goals as goal
+
+pub returns-clause-written : goal.returns-clause-written
+returns-clause-written c = scalar-called _ _ (event.bytes c.args.bytes.now) _ _ refl c.scalar.ensures.appends
+
+pub returns-clause-of_rust : goal.returns-clause-of_rust
+unfolding WellFormed RawParts
+returns-clause-of_rust c =
+    seen-of_rust _ _ (bytes c.args.bytes.now) refl (bytes-below c.args.bytes.now (λ i. let f = c.type_inv.bytes i in omega arith), tt)

@@ -1,4 +1,0 @@
-pub mod ComesBack
-pub mod RootComes
-pub mod RunBegins
-pub mod StrictRootComes

@@ -1,6 +1,0 @@
-pub mod CallsLeft
-pub mod OfRust
-pub mod ReadBack
-pub mod ScalarCalls
-pub mod Utf8Parts
-pub mod Utf8Text

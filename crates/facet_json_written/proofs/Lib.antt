@@ -1,6 +1,0 @@
-pub mod Cuts
-pub mod Rfc
-pub mod Rows
-pub mod Scalars
-pub mod Strict
-pub mod Values
