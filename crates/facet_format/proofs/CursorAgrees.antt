@@ -9,7 +9,7 @@ use Rattle.facet_format.specs.Kept.{found}
 use Rattle.facet_format.specs.Part.{Part, skip_of, capture_of}
 use Rattle.facet_format.specs.Cursor.{Upcoming, an_event, the_end, a_refusal, World, Call, next, peek, events, skip, capture, save, restore, span, Answer, event, batch, skipped, raw, saved, restored, spans, Spot, Cursor, Comes, Step, repeats, passes, passes_without_memory, passes_the_end, passes_nothing, peeks, peeks_without_memory, peeks_at_the_end, peeks_at_nothing, gives_none, gives, gives_without_memory, gives_up, skips, skips_without_memory, skips_nothing, captures, captures_without_memory, captures_nothing, saves, saves_at_the_limit, saves_without_memory, restores, restores_nothing, tells, repeated, current_span, unpeeked, peeked_at, spot_after, at_spot, refused_at, kept_here, back_at, greatest, Run, no_calls, one_call}
 use Rattle.facet_format.specs.Cursor as cursor
-use Rattle.facet_format.specs.Agree.{LacksMemory, no_event, no_more, no_skip, no_capture, no_point, Agree, lacks, other_lacks, is_one, AgreeToLack, no_answers, first_lacks, second_lacks, same_answer}
+use Rattle.facet_format.specs.Agree.{AnswerLacksMemory, no_event, no_more, no_skip, no_capture, no_point, Agree, lacks, other_lacks, is_one, AgreeToLack, no_answers, first_lacks, second_lacks, same_answer}
 use Rattle.facet_format.specs.Laws.{PassesUnread, by_skip, by_capture}
 use Rattle.facet_format.proofs.CursorSteps.{same-event}
 
@@ -108,7 +108,7 @@ untold (Some r) call none = none r
 
 -- The answer is out of memory, repeats a refusal, or is free.
 data Shows {P : Type 0} (w : World P) (c : Cursor P) (call : Call) (a : Answer) (d : Cursor P) : Type 0 where
-  is_lack : LacksMemory a → Shows w c call a d
+  is_lack : AnswerLacksMemory a → Shows w c call a d
   is_told : told c.refusal call ≡ Some a → d ≡ c → Shows w c call a d
   is_free : told c.refusal call ≡ None → IsFree w c call a d → Shows w c call a d
 

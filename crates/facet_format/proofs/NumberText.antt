@@ -6,7 +6,7 @@ use Rattle.std.proofs.lemmas.Bool.{and_parts, or_cases, eqb-true, leb-true}
 use Rattle.std.proofs.lemmas.List.{drop_more, append-nil, take_all}
 use Rattle.std.proofs.lemmas.Str.{IsUtf8-nil, IsUtf8-append, IsUtf8-from_ascii}
 use Rattle.facet_format.specs.Bytes.{is_digit, is_exponent_mark, is_sign, minus, plus, dot, lower_e, upper_e}
-use Rattle.facet_format.specs.Number.{Hint, AreDigits, none, digit, IsMinus, IsFraction, IsExponentSign, IsExponent, digits_value, hint_of, unsigned, signed, float, is_some_len, Parts, parts, minus_len, is_number, unsigned_number, negative_number, any_digit, has_value, value_by, decimal, number}
+use Rattle.facet_format.specs.Number.{Hint, AreDigits, none, digit, IsMinus, IsFraction, IsExponentSign, IsExponent, digits_value, hint_by, unsigned, signed, float, is_some_len, Parts, parts, minus_len, is_number, unsigned_number, negative_number, any_digit, has_value, value_by, decimal, number}
 use Rattle.facet_format.proofs.NumberLaws.{is_number-sound}
 
 -- The byte at a place among digits is a digit.
@@ -38,7 +38,7 @@ digits_value-above n m bytes i h e =
 
 -- Parts that leave an unsigned number are digits alone.
 digits-alone : (sign digits fraction exponent : List ℕ) (m f x : Bool) → IsMinus sign m → IsFraction fraction f →
-    IsExponent exponent x → unsigned ≡ hint_of m f x → sign ++ digits ++ fraction ++ exponent ≡ digits
+    IsExponent exponent x → unsigned ≡ hint_by m f x → sign ++ digits ++ fraction ++ exponent ≡ digits
 digits-alone _ digits _ _ _ _ _ IsMinus.absent IsFraction.absent IsExponent.absent e =
     append-nil (digits ++ []) ∙ append-nil digits
 digits-alone _ digits _ _ _ _ _ IsMinus.present IsFraction.absent IsExponent.absent e = cc
@@ -68,7 +68,7 @@ number-none text hint isnt = ap (λ t. cond t (value_by hint (parts text) text) 
 
 -- Parts that leave a signed number are digits after a minus.
 digits-behind : (sign digits fraction exponent : List ℕ) (m f x : Bool) → IsMinus sign m → IsFraction fraction f →
-    IsExponent exponent x → signed ≡ hint_of m f x → sign ++ digits ++ fraction ++ exponent ≡ minus ∷ digits
+    IsExponent exponent x → signed ≡ hint_by m f x → sign ++ digits ++ fraction ++ exponent ≡ minus ∷ digits
 digits-behind _ digits _ _ _ _ _ IsMinus.present IsFraction.absent IsExponent.absent e =
     append-nil (minus ∷ digits ++ []) ∙ append-nil (minus ∷ digits)
 digits-behind _ digits _ _ _ _ _ IsMinus.absent IsFraction.absent IsExponent.absent e = cc

@@ -25,8 +25,8 @@ abbrev pub MemoryIsItsKind : Type 0
 MemoryIsItsKind = (kind : DeserializeErrorKind) → complaint_of kind ≡ out_of_memory → kind ≡ error.OutOfMemory
 
 -- The call after a peek answers what the peek did.
-abbrev pub PeekIsNext : Type 0
-PeekIsNext = (w : Source) (c between last : Cursor ℕ) (shown answer : Answer) → Step (on_walk w) c peek shown between →
+abbrev pub CursorPeekIsNext : Type 0
+CursorPeekIsNext = (w : Source) (c between last : Cursor ℕ) (shown answer : Answer) → Step (on_walk w) c peek shown between →
     Step (on_walk w) between next answer last → shown ≡ answer
 
 -- A cursor answers a call in one way, and is then in one state, out of memory aside.

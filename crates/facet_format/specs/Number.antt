@@ -36,11 +36,11 @@ pub data IsExponent : List ℕ → Bool → Type 0 where
   present : (mark : ℕ) (sign digits : List ℕ) → is_exponent_mark mark ≡ true → IsExponentSign sign →
       AreDigits digits → IsExponent (mark ∷ sign ++ digits) true
 
-abbrev pub hint_of : Bool → Bool → Bool → Hint
-hint_of has_minus true has_exponent = float
-hint_of has_minus false true = float
-hint_of true false false = signed
-hint_of false false false = unsigned
+abbrev pub hint_by : Bool → Bool → Bool → Hint
+hint_by has_minus true has_exponent = float
+hint_by has_minus false true = float
+hint_by true false false = signed
+hint_by false false false = unsigned
 
 -- The bytes are a minus, digits, a fraction and an exponent, each of which may be missing, the hint says which stand there,
 -- and the bytes start with a minus or a digit.
@@ -58,7 +58,7 @@ pub record IsNumeral (bytes : List ℕ) (hint : Hint) : Type 0 where
   pub is_exponent : IsExponent exponent has_exponent
   pub whole : bytes ≡ sign ++ digits ++ fraction ++ exponent
   pub starts : sign ++ digits ≢ []
-  pub kind : hint ≡ hint_of has_minus has_fraction has_exponent
+  pub kind : hint ≡ hint_by has_minus has_fraction has_exponent
 
 -- The bytes are a number: a minus alone is none.
 pub record IsNumber (bytes : List ℕ) (hint : Hint) : Type 0 where
@@ -114,7 +114,7 @@ is_some_len zero = false
 is_some_len (suc n) = true
 
 abbrev pub parts_hint : Parts → Hint
-parts_hint p = hint_of (is_some_len p.sign) (is_some_len p.fraction) (is_some_len p.exponent)
+parts_hint p = hint_by (is_some_len p.sign) (is_some_len p.fraction) (is_some_len p.exponent)
 
 -- ---- what a number's text stands for
 

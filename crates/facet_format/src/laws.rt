@@ -1,7 +1,7 @@
 //! What the definitions of numbers, refusals and cursors mean, in the subject's own words: each law is the contract of a function
 //! without effect.
 
-ghost use Rattle.facet_format.specs.Laws.{NumberIsLongest, NumberIsTested, MemoryIsItsKind, PeekIsNext, PeekChangesNoSkip, StepsAgree, RunsAgree};
+ghost use Rattle.facet_format.specs.Laws.{NumberIsLongest, NumberIsTested, MemoryIsItsKind, CursorPeekIsNext, PeekChangesNoSkip, StepsAgree, RunsAgree};
 
 /// Where more than a minus stands, the number at the start of the bytes is a number, and no longer prefix of them is one
 /// (RFC 8259, section 6).
@@ -22,7 +22,7 @@ pub fn memory_is_its_kind()
 /// A peek is the next event: the call after it answers what it did, a refusal too, and out of memory comes between
 /// them nowhere.
 pub fn peek_is_next()
-    ensures { PeekIsNext }
+    ensures { CursorPeekIsNext }
 {}
 
 /// After a peek that answers an event, a skip and a capture answer what they answer without it, out of memory aside.

@@ -18,13 +18,13 @@ use crate::event::ScalarValue;
 /// serializer.end_seq()
 /// ```
 pub trait FormatSerializer {
-    ghost use Rattle.facet_format.specs.SerializerCall.{Call};
+    ghost use Rattle.facet_format.specs.SerializerCall.{SerializerCall};
 
     /// How a call is refused.
     type Error: Drop;
 
     /// From the first state it takes the call, and is then in the second.
-    ghost takes: { Self → Call → Self → Type 0 };
+    ghost takes: { Self → SerializerCall → Self → Type 0 };
 
     /// Memory ran out, for good.
     ghost spent: { Self → Type 0 };

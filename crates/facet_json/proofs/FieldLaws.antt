@@ -1,7 +1,7 @@
 -- Fields: nodes of the same text are read alike.
 use Rattle.std.proofs.Common.{◌≡◌, ℕ, List, Option, refl, ap, ◌∙◌}
 use Rattle.std.specs.Option.{option_and_then}
-use Rattle.facet_json_document.specs.Meaning.{text_of, meaning}
+use Rattle.facet_json_document.specs.Meaning.{text_in_tree, meaning}
 use Rattle.facet_json_document.specs.Node.{Members}
 use Rattle.facet_json_meaning.specs.Laws.{SameReading}
 use Rattle.facet_json_meaning.specs.Nodes.{same_scalars, same_arrays, same_objects, SameMembers, same_no_members, same_member}
@@ -39,7 +39,7 @@ members-same step same these those _ _ same_no_members seen = refl
 members-same step same these those _ _ (same_member key mark name colon n m members others t h more) seen =
     and_then-same _ _
     (λ k. and_then-same _ _ (members-same step same these those members others more) (step k seen these n) (step k seen those m) (same k seen these those n m h))
-    (text_of (meaning these key)) (text_of (meaning those name)) (ap text_of (same-means these those key name t))
+    (text_in_tree (meaning these key)) (text_in_tree (meaning those name)) (ap text_in_tree (same-means these those key name t))
 
 pub fields-same : {V : Type 0} {t : Table V} → SameSteps t → (names : List (List ℕ)) → SameReading (fields_of t names)
 fields-same {t = t} s names these those _ _ (same_scalars a b token bytes) = refl

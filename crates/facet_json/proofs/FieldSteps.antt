@@ -9,7 +9,7 @@ use Rattle.facet_format.specs.Event.{object}
 use Rattle.facet_json_token.specs.Token.{Token}
 use Rattle.facet_json_document.specs.Node.{Node, scalar, Members, member}
 use Rattle.facet_json_document.specs.Node as node
-use Rattle.facet_json_document.specs.Meaning.{text_of, meaning}
+use Rattle.facet_json_document.specs.Meaning.{text_in_tree, meaning}
 use Rattle.facet_json_document.specs.Now.{Now, ahead, GoesOn}
 use Rattle.facet_json_meaning.specs.Nodes.{StandsBefore, KeepsOn}
 use Rattle.facet_json_meaning.specs.Objects.{members_of, BeginsObject, IsNoObject, PassesKey, LacksKey}
@@ -60,7 +60,7 @@ module _ {V : Type 0} (t : Table V) (names : List (List ℕ)) where
 
   -- What the first member adds is known before the others.
   first-is : {S : Type 0} (step : List ℕ → S → Reading S) (buffer : List ℕ) (key mark : Token) (value : Node) (rest : Members) (seen : S) (name : List ℕ) (o : Option S) →
-      text_of (meaning buffer key) ≡ Some name → step name seen buffer value ≡ o →
+      text_in_tree (meaning buffer key) ≡ Some name → step name seen buffer value ≡ o →
       after_members step buffer (member key mark value rest) seen ≡ option_and_then (after_members step buffer rest) o
   first-is step buffer key mark value rest seen name o named is =
       ap (λ k. option_and_then (λ k. option_and_then (after_members step buffer rest) (step k seen buffer value)) k) named

@@ -4,7 +4,7 @@ use Rattle.std.specs.Option.{option_map, option_and_then}
 use Rattle.std.specs.Str.{bytes_eq}
 use Rattle.std.proofs.lemmas.Slice.Eq.{bytes_eq-Decides}
 use Rattle.facet_json_token.specs.Token.{Token}
-use Rattle.facet_json_document.specs.Meaning.{text_of, meaning}
+use Rattle.facet_json_document.specs.Meaning.{text_in_tree, meaning}
 use Rattle.facet_json_document.specs.Node.{Node, Members, no_members, member}
 use Rattle.facet_json_meaning.specs.Optional.{optional}
 use Rattle.facet_json.specs.Fields.{Reading, Table, none, need, maybe, seen_by, field_step, need_ends, maybe_ends, joined, after_members}
@@ -15,7 +15,7 @@ abbrev pub KeysAre : List ℕ → List (List ℕ) → Members → Type 0
 KeysAre buffer [] no_members = Unit {0}
 KeysAre buffer [] (member key mark value rest) = ⊥
 KeysAre buffer (name ∷ names) no_members = ⊥
-KeysAre buffer (name ∷ names) (member key mark value rest) = (text_of (meaning buffer key) ≡ Some name) × KeysAre buffer names rest
+KeysAre buffer (name ∷ names) (member key mark value rest) = (text_in_tree (meaning buffer key) ≡ Some name) × KeysAre buffer names rest
 
 -- The members have the fields' names, and are read as the value.
 pub record FieldsAre {V : Type 0} (t : Table V) (names : List (List ℕ)) (v : V) (buffer : List ℕ) (members : Members) : Type 0 where
@@ -53,7 +53,7 @@ module _ {V S : Type 0} (reading : Reading V) (others : List (List ℕ) → List
       ∙ sym (ap (λ o. option_map (λ s. (old, s)) (option_and_then (λ j. option_and_then (after_members (others names) buffer rest) (others names j seen buffer value)) o)) are.0)
 
   -- The first member is the first field's.
-  first-filled : (key mark : Token) (value : Node) (rest : Members) (v : V) (seen : S) → text_of (meaning buffer key) ≡ Some name →
+  first-filled : (key mark : Token) (value : Node) (rest : Members) (v : V) (seen : S) → text_in_tree (meaning buffer key) ≡ Some name →
       reading buffer value ≡ Some v → KeysAre buffer names rest → lacks name names ≡ true →
       after_members step buffer (member key mark value rest) (None, seen) ≡ option_map (λ s. (Some v, s)) (after_members (others names) buffer rest seen)
   first-filled key mark value rest v seen named is are apart =
@@ -74,7 +74,7 @@ maybe-over ends v (Some s) = refl
 
 module _ {V W : Type 0} (reading : Reading V) (t : Table W) (name : List ℕ) (names : List (List ℕ)) (apart : lacks name names ≡ true) (w : W) where
   -- A member of the name that reads as the field's value is the field, before the others.
-  pub need-are : (v : V) (buffer : List ℕ) (key mark : Token) (value : Node) (rest : Members) → text_of (meaning buffer key) ≡ Some name →
+  pub need-are : (v : V) (buffer : List ℕ) (key mark : Token) (value : Node) (rest : Members) → text_in_tree (meaning buffer key) ≡ Some name →
       reading buffer value ≡ Some v → FieldsAre t names w buffer rest → FieldsAre (need reading t) (name ∷ names) (v, w) buffer (member key mark value rest)
   need-are v buffer key mark value rest named is h = record {
     keys = (named, h.keys);
@@ -82,7 +82,7 @@ module _ {V W : Type 0} (reading : Reading V) (t : Table W) (name : List ℕ) (n
         ∙ need-over t.ends v (after_members (t.step names) buffer rest t.start) ∙ ap (option_map (λ x. (v, x))) h.are;
   }
 
-  pub maybe-are : (v : Option V) (buffer : List ℕ) (key mark : Token) (value : Node) (rest : Members) → text_of (meaning buffer key) ≡ Some name →
+  pub maybe-are : (v : Option V) (buffer : List ℕ) (key mark : Token) (value : Node) (rest : Members) → text_in_tree (meaning buffer key) ≡ Some name →
       optional reading buffer value ≡ Some v → FieldsAre t names w buffer rest →
       FieldsAre (maybe reading t) (name ∷ names) (v, w) buffer (member key mark value rest)
   maybe-are v buffer key mark value rest named is h = record {

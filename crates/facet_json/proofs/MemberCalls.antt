@@ -1,10 +1,10 @@
 -- The calls by which a struct's fields are written.
 use Rattle.std.proofs.Common.{◌≡◌, Bool, true, false, List, [], ◌∷◌, ◌++◌, Option, None, Some, Result, Ok, Err, refl, sym, ap, ◌∙◌, subst}
 use Rattle.std.specs.Prelude.{ℕ}
-use Rattle.facet_format.specs.SerializerCall.{Call, begin_struct, field_key, end_struct, TakesAll}
+use Rattle.facet_format.specs.SerializerCall.{SerializerCall, begin_struct, field_key, end_struct, TakesAll}
 use Rattle.facet_json_document.specs.Text.{Options}
 use Rattle.facet_json_document.specs.Tree.{Tree, pairs, Pairs, no_pairs, pair}
-use Rattle.facet_json_serializer.specs.Serializer.{Opened, in_struct, in_list, Writing, Addition, Misfit, Refusal, out_of_memory, key_added, addition, appended, after_value, Takes, Appends, appends, refuses, runs_out, stays_out}
+use Rattle.facet_json_serializer.specs.Serializer.{Opened, in_struct, in_list, Writing, Addition, Misfit, WriteRefusal, out_of_memory, key_added, addition, appended, after_written, Takes, Appends, appends, refuses, runs_out, stays_out}
 use Rattle.facet_json_serializer.specs.TreeCalls.{and_then, after_calls, tree_calls, member_calls, with_tree}
 use Rattle.facet_json_serializer.proofs.TreesByCalls.{tree_by_calls}
 use Rattle.facet_json_tree.specs.Write.{HasWritten}
@@ -14,7 +14,7 @@ use Rattle.facet_json.specs.Written.{HasWrittenMembers, is_in_struct, IsWithinSt
 -- ---- calls that are taken
 
 -- A first call that fits is taken, and the others after it.
-first-taken : (w v : Writing) (call : Call) (calls : List Call) (r : Result Addition Misfit) →
+first-taken : (w v : Writing) (call : SerializerCall) (calls : List SerializerCall) (r : Result Addition Misfit) →
     ((u : Writing) → after_calls u calls ≡ Ok v → TakesAll Takes (Some u) calls (Some v)) → addition w.options w.stack call ≡ r →
     and_then r (λ a. after_calls (appended w a) calls) ≡ Ok v → TakesAll Takes (Some w) (call ∷ calls) (Some v)
 unfolding TakesAll
@@ -22,7 +22,7 @@ first-taken w v call calls (Ok a) others can e = (Some (appended w a), appends w
 first-taken w v call calls (Err why) others cannot e = absurd (cc)
 
 -- Calls that fit are taken, with ample memory.
-fits-taken : (w v : Writing) (calls : List Call) → after_calls w calls ≡ Ok v → TakesAll Takes (Some w) calls (Some v)
+fits-taken : (w v : Writing) (calls : List SerializerCall) → after_calls w calls ≡ Ok v → TakesAll Takes (Some w) calls (Some v)
 unfolding after_calls TakesAll
 fits-taken w v [] e = cc
 fits-taken w v (call ∷ calls) e = first-taken w v call calls (addition w.options w.stack call) (λ u h. fits-taken u v calls h) refl e
@@ -35,14 +35,14 @@ tree-taken old new t wrote =
     (fits-taken wrote.0 (with_tree wrote.0 t) (tree_calls t) (tree_by_calls wrote.0 t)))
 
 -- Calls after others.
-taken-then : (start mid end : Option Writing) (calls more : List Call) → TakesAll Takes start calls mid → TakesAll Takes mid more end →
+taken-then : (start mid end : Option Writing) (calls more : List SerializerCall) → TakesAll Takes start calls mid → TakesAll Takes mid more end →
     TakesAll Takes start (calls ++ more) end
 unfolding TakesAll
 taken-then start mid end [] more h g = subst (λ s. TakesAll Takes s more end) h g
 taken-then start mid end (call ∷ calls) more h g = (h.0, h.1, taken-then h.0 mid end calls more h.2 g)
 
 -- Of a tree's calls those that are taken are left no more.
-pub taken-made : (old now new : Option Writing) (t : Tree) (calls rest : List Call) → AreLeft old t (calls ++ rest) now → TakesAll Takes now calls new →
+pub taken-made : (old now new : Option Writing) (t : Tree) (calls rest : List SerializerCall) → AreLeft old t (calls ++ rest) now → TakesAll Takes now calls new →
     AreLeft old t rest new
 unfolding TakesAll
 taken-made old now new t [] rest left taken = subst (λ s. AreLeft old t rest s) (sym taken) left
@@ -82,7 +82,7 @@ key-fits o name [] why within e = cc
 key-fits o name (in_struct first ∷ around) why within e = cc
 key-fits o name (in_list first ∷ around) why within e = cc
 
-after-key : (old new : Option Writing) (name : List ℕ) (call : Call) (answer : Result (Unit {0}) Refusal) → Appends old call answer new →
+after-key : (old new : Option Writing) (name : List ℕ) (call : SerializerCall) (answer : Result (Unit {0}) WriteRefusal) → Appends old call answer new →
     call ≡ field_key name → answer ≡ Ok tt → IsWithinStruct new
 after-key old new name call answer (appends w _ a can) is e =
     key-added w.options name w.stack a (ap (addition w.options w.stack) (sym is) ∙ can)
@@ -94,7 +94,7 @@ after-key old new name call answer (stays_out _) is e = tt
 pub key-within : (old new : Option Writing) (name : List ℕ) → Appends old (field_key name) (Ok tt) new → IsWithinStruct new
 key-within old new name step = after-key old new name (field_key name) (Ok tt) step refl refl
 
-key-lacks : (old new : Option Writing) (name : List ℕ) (call : Call) (answer : Result (Unit {0}) Refusal) (why : Refusal) → Appends old call answer new →
+key-lacks : (old new : Option Writing) (name : List ℕ) (call : SerializerCall) (answer : Result (Unit {0}) WriteRefusal) (why : WriteRefusal) → Appends old call answer new →
     call ≡ field_key name → answer ≡ Err why → IsWithinStruct old → (why ≡ out_of_memory) × (new ≡ None)
 key-lacks old new name call answer why (appends w _ a can) is e within = absurd (cc)
 key-lacks old new name call answer why (refuses w _ misfit cannot) is e within =
@@ -103,11 +103,11 @@ key-lacks old new name call answer why (runs_out w _ a can) is e within = (cc, r
 key-lacks old new name call answer why (stays_out _) is e within = (cc, refl)
 
 -- Within an object a key is refused for lack of memory alone.
-pub key-refused : (old new : Option Writing) (name : List ℕ) (why : Refusal) → IsWithinStruct old → Appends old (field_key name) (Err why) new →
+pub key-refused : (old new : Option Writing) (name : List ℕ) (why : WriteRefusal) → IsWithinStruct old → Appends old (field_key name) (Err why) new →
     (why ≡ out_of_memory) × (new ≡ None)
 key-refused old new name why within step = key-lacks old new name (field_key name) (Err why) why step refl refl within
 
-value-within : (stack : List Opened) → is_in_struct stack ≡ true → is_in_struct (after_value stack) ≡ true
+value-within : (stack : List Opened) → is_in_struct stack ≡ true → is_in_struct (after_written stack) ≡ true
 value-within [] within = within
 value-within (in_struct first ∷ around) within = refl
 value-within (in_list first ∷ around) within = cc
@@ -117,7 +117,7 @@ pub tree-within : (old new : Option Writing) (t : Tree) → IsWithinStruct old �
 tree-within old new t within wrote =
     subst IsWithinStruct (sym wrote.2) (value-within wrote.0.stack (subst IsWithinStruct wrote.1 within))
 
-after-begin : (old new : Option Writing) (call : Call) (answer : Result (Unit {0}) Refusal) → Appends old call answer new → call ≡ begin_struct →
+after-begin : (old new : Option Writing) (call : SerializerCall) (answer : Result (Unit {0}) WriteRefusal) → Appends old call answer new → call ≡ begin_struct →
     IsWithinStruct new
 after-begin old new call answer (appends w _ a can) is =
     let begun = ap (addition w.options w.stack) (sym is) ∙ can in cc
@@ -127,5 +127,5 @@ after-begin old new call answer (runs_out w _ a can) is = tt
 after-begin old new call answer (stays_out _) is = tt
 
 -- An object that is begun is open.
-pub begin-within : (old new : Option Writing) (answer : Result (Unit {0}) Refusal) → Appends old begin_struct answer new → IsWithinStruct new
+pub begin-within : (old new : Option Writing) (answer : Result (Unit {0}) WriteRefusal) → Appends old begin_struct answer new → IsWithinStruct new
 begin-within old new answer step = after-begin old new begin_struct answer step refl

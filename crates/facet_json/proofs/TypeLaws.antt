@@ -1,6 +1,6 @@
 -- The laws of each type.
 use Rattle.std.proofs.Common.{ℕ}
-use Rattle.facet_json_meaning.specs.Readings.{bool_of, unsigned_of, signed_of, text_of, u128_of, i128_of, raw_of}
+use Rattle.facet_json_meaning.specs.Readings.{bool_of, unsigned_of, signed_of, text_of_tree, u128_of, i128_of, raw_of}
 use Rattle.facet_json_meaning.proofs.Leaves.BorrowedLaws.{borrowed-same, unread-same, unread-reads_back}
 use Rattle.facet_json_meaning.proofs.Leaves.LeafLaws.{leaf-same}
 use Rattle.facet_json_meaning.proofs.Sequences.ListLaws.{list-same, list-reads_back}
@@ -49,7 +49,7 @@ pub i128-laws : ShapeLaws types.i128
 i128-laws = record { same_reading = leaf-same i128_of; same_reading_borrowed = leaf-same i128_of; reads_back = i128-reads_back }
 
 pub text-laws : ShapeLaws types.text
-text-laws = record { same_reading = leaf-same text_of; same_reading_borrowed = leaf-same text_of; reads_back = text-reads_back }
+text-laws = record { same_reading = leaf-same text_of_tree; same_reading_borrowed = leaf-same text_of_tree; reads_back = text-reads_back }
 
 pub borrowed-laws : ShapeLaws types.borrowed
 borrowed-laws = record { same_reading = unread-same; same_reading_borrowed = borrowed-same; reads_back = unread-reads_back }

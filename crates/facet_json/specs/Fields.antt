@@ -5,7 +5,7 @@ use Rattle.std.specs.Option.{option_map, option_and_then}
 use Rattle.std.specs.Str.{bytes_eq}
 use Rattle.facet_format.specs.Complaint.{missing_field, Refusal, refusal_at}
 use Rattle.facet_format.specs.Span.{Span}
-use Rattle.facet_json_document.specs.Meaning.{text_of, meaning}
+use Rattle.facet_json_document.specs.Meaning.{text_in_tree, meaning}
 use Rattle.facet_json_document.specs.Node.{Node, scalar, array, object, Members, no_members, member}
 use Rattle.facet_json_meaning.specs.Optional.{optional}
 use Rattle.facet_json_meaning.specs.Passing.{anything}
@@ -96,7 +96,7 @@ maybe reading t = table (None, t.start) (field_step (optional reading) t.step) (
 abbrev pub after_members : {S : Type 0} → (List ℕ → S → Reading S) → List ℕ → Members → S → Option S
 after_members step buffer no_members seen = Some seen
 after_members step buffer (member key mark node members) seen =
-    option_and_then (λ k. option_and_then (after_members step buffer members) (step k seen buffer node)) (text_of (meaning buffer key))
+    option_and_then (λ k. option_and_then (after_members step buffer members) (step k seen buffer node)) (text_in_tree (meaning buffer key))
 
 -- An object is read as the fields of these names.
 abbrev pub fields_of : {V : Type 0} → Table V → List (List ℕ) → Reading V

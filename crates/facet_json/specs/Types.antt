@@ -5,11 +5,11 @@ use Rattle.std.specs.Str.{is_utf8}
 use Rattle.facet_json_document.specs.Meaning.{tree_of}
 use Rattle.facet_json_document.specs.Tree.{Tree}
 use Rattle.facet_json_document.specs.Tree as tree
-use Rattle.facet_json_document.specs.AsRead.{IsWithin, WellFormed}
+use Rattle.facet_json_document.specs.AsRead.{FitsBits, WellFormed}
 use Rattle.facet_json_meaning.specs.Borrowed.{borrowed_text, unread_text}
 use Rattle.facet_json_meaning.specs.Lists.{list_of, list_by}
 use Rattle.facet_json_meaning.specs.Maps.{Entries, map_of, tree_of_entries, IsMap, IsReadableMap}
-use Rattle.facet_json_meaning.specs.Readings.{leaf, bool_of, unsigned_of, signed_of, text_of, u128_of, i128_of, raw_of, IsBareDocument}
+use Rattle.facet_json_meaning.specs.Readings.{leaf, bool_of, unsigned_of, signed_of, text_of_tree, u128_of, i128_of, raw_of, IsBareDocument}
 use Rattle.facet_json_meaning.specs.Trees.{IsReadableTree}
 use Rattle.facet_json.specs.Shapes.{Shape, shape}
 
@@ -24,7 +24,7 @@ unsigned bits = shape (leaf (unsigned_of bits)) (leaf (unsigned_of bits)) tree.u
 
 -- a whole number that so many bits beside its sign hold
 abbrev pub signed : ℕ → Shape ℤ
-signed bits = shape (leaf (signed_of bits)) (leaf (signed_of bits)) tree.i64 (λ n. IsWithin bits n) (λ n. Unit {0})
+signed bits = shape (leaf (signed_of bits)) (leaf (signed_of bits)) tree.i64 (λ n. FitsBits bits n) (λ n. Unit {0})
 
 abbrev pub u8 : Shape ℕ
 u8 = unsigned 8
@@ -56,13 +56,13 @@ abbrev pub i64 : Shape ℤ
 i64 = signed 63
 
 abbrev pub i128 : Shape ℤ
-i128 = shape (leaf i128_of) (leaf i128_of) tree.i128 (λ n. IsWithin 127 n) (λ n. Unit {0})
+i128 = shape (leaf i128_of) (leaf i128_of) tree.i128 (λ n. FitsBits 127 n) (λ n. Unit {0})
 
 -- ---- texts
 
 -- `String`
 abbrev pub text : Shape (List ℕ)
-text = shape (leaf text_of) (leaf text_of) tree.text (λ t. is_utf8 t ≡ true) (λ t. Unit {0})
+text = shape (leaf text_of_tree) (leaf text_of_tree) tree.text (λ t. is_utf8 t ≡ true) (λ t. Unit {0})
 
 -- `&str`, which is read only where it may be borrowed
 abbrev pub borrowed : Shape (List ℕ)

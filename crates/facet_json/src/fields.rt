@@ -4,7 +4,7 @@ ghost use Rattle.std.specs.Prelude.{◌≡◌, ◌≤◌, ◌<◌, false, cond, 
 ghost use Rattle.facet_format.specs.Complaint.{missing_field, refusal_at};
 ghost use Rattle.facet_format.specs.Span.{stop};
 ghost use Rattle.facet_format.specs.Views.{refusal_of, span_of};
-ghost use Rattle.facet_json_document.specs.Now.{ahead, span_of as last_read};
+ghost use Rattle.facet_json_document.specs.Now.{ahead, current_span_of as last_read};
 ghost use Rattle.facet_json_document.specs.Within.{RefusalWithin};
 ghost use Rattle.facet_json_meaning.specs.Nodes.{KeepsOn};
 ghost use Rattle.facet_json_meaning.specs.OneValue.{PassesValue, IsAfterKey};

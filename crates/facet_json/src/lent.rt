@@ -3,7 +3,7 @@
 ghost use Rattle.std.specs.Prelude.{◌≡◌, None, IfErr, OnErr, OnOk};
 ghost use Rattle.facet_json_document.specs.Tree.{pairs, no_pairs, pair};
 ghost use Rattle.facet_json_serializer.specs.Serializer.{out_of_memory};
-ghost use Rattle.facet_json_serializer.specs.Views.{refusal_of};
+ghost use Rattle.facet_json_serializer.specs.Views.{write_refusal_of};
 ghost use Rattle.facet_json_tree.specs.Write.{HasWritten, IsOfRust};
 ghost use Rattle.facet_json.specs.Fields.{keys, first_name, other_names};
 ghost use Rattle.facet_json.specs.Written.{HasWrittenMembers, IsWithinStruct};
@@ -35,7 +35,7 @@ pub trait LentFields<'de> {
         serializer: &mut JsonSerializer<'_>,
     ) -> Result<(), JsonSerializeError>
         ensures written { OnOk result (HasWrittenMembers serializer.old (members (keys names.now) self.now) serializer.new) }
-        ensures refused { IsWithinStruct serializer.old → IfErr result (λ e. refusal_of e ≡ out_of_memory) }
+        ensures refused { IsWithinStruct serializer.old → IfErr result (λ e. write_refusal_of e ≡ out_of_memory) }
         ensures spent { IsWithinStruct serializer.old → OnErr result (serializer.new ≡ None) }
         ensures of_rust { OnOk result (IsOfRust (pairs (members (keys names.now) self.now))) }
         ensures always { OnOk result (always self.now) };
@@ -91,7 +91,7 @@ pub fn write_fields<'de, F: LentFields<'de>>(
     fields: &F,
 ) -> Result<(), JsonSerializeError>
     ensures written { OnOk result (HasWritten serializer.old (pairs (F.members (keys names.now) fields.now)) serializer.new) }
-    ensures refused { IfErr result (λ e. refusal_of e ≡ out_of_memory) }
+    ensures refused { IfErr result (λ e. write_refusal_of e ≡ out_of_memory) }
     ensures spent { OnErr result (serializer.new ≡ None) }
     ensures of_rust { OnOk result (IsOfRust (pairs (F.members (keys names.now) fields.now))) }
     ensures always { OnOk result (F.always fields.now) }

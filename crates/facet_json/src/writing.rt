@@ -6,7 +6,7 @@ ghost use Rattle.std.specs.String.{string_bytes};
 ghost use Rattle.facet_json_document.specs.Text.{default_options, text};
 ghost use Rattle.facet_json_serializer.specs.OptionsViews.{options_of};
 ghost use Rattle.facet_json_serializer.specs.Serializer.{out_of_memory};
-ghost use Rattle.facet_json_serializer.specs.Views.{refusal_of};
+ghost use Rattle.facet_json_serializer.specs.Views.{write_refusal_of};
 ghost use Rattle.facet_json_tree.specs.Write.{pretty_options, IsReadable};
 ghost use Rattle.facet_json.specs.Inputs.{ComesBack};
 
@@ -27,7 +27,7 @@ use std::alloc::Global;
 /// `OutOfMemory` alone, where a growth is refused.
 pub fn to_vec<'de, T: Facet<'de>>(alloc: Global, value: &T) -> Result<Vec<u8>, JsonSerializeError>
     ensures text { IfOk result (λ v. v.items ≡ text default_options 0 (T.tree_of (T.view value.now))) }
-    ensures refused { IfErr result (λ e. refusal_of e ≡ out_of_memory) }
+    ensures refused { IfErr result (λ e. write_refusal_of e ≡ out_of_memory) }
     ensures read_back { IfOk result (λ v. IsReadable default_options (T.tree_of (T.view value.now)) v.items) }
     ensures comes_back { IfOk result (λ v. T.readable (T.view value.now) → ComesBack T.reading v.items (T.view value.now)) }
 {
@@ -48,7 +48,7 @@ pub fn to_vec_pretty<'de, T: Facet<'de>>(
     value: &T,
 ) -> Result<Vec<u8>, JsonSerializeError>
     ensures text { IfOk result (λ v. v.items ≡ text pretty_options 0 (T.tree_of (T.view value.now))) }
-    ensures refused { IfErr result (λ e. refusal_of e ≡ out_of_memory) }
+    ensures refused { IfErr result (λ e. write_refusal_of e ≡ out_of_memory) }
     ensures read_back { IfOk result (λ v. IsReadable pretty_options (T.tree_of (T.view value.now)) v.items) }
 {
     to_vec_with_options(alloc, value, &SerializeOptions::new().pretty())
@@ -69,7 +69,7 @@ pub fn to_vec_with_options<'de, T: Facet<'de>>(
     options: &SerializeOptions<'_>,
 ) -> Result<Vec<u8>, JsonSerializeError>
     ensures text { IfOk result (λ v. v.items ≡ text (options_of options.now) 0 (T.tree_of (T.view value.now))) }
-    ensures refused { IfErr result (λ e. refusal_of e ≡ out_of_memory) }
+    ensures refused { IfErr result (λ e. write_refusal_of e ≡ out_of_memory) }
     ensures read_back { IfOk result (λ v. IsReadable (options_of options.now) (T.tree_of (T.view value.now)) v.items) }
     ensures comes_back { options_of options.now ≡ default_options
         → IfOk result (λ v. T.readable (T.view value.now) → ComesBack T.reading v.items (T.view value.now)) }
@@ -91,7 +91,7 @@ pub fn to_vec_with_options<'de, T: Facet<'de>>(
 /// `OutOfMemory` alone, where a growth is refused.
 pub fn to_string<'de, T: Facet<'de>>(alloc: Global, value: &T) -> Result<String, JsonSerializeError>
     ensures text { IfOk result (λ v. string_bytes v ≡ text default_options 0 (T.tree_of (T.view value.now))) }
-    ensures refused { IfErr result (λ e. refusal_of e ≡ out_of_memory) }
+    ensures refused { IfErr result (λ e. write_refusal_of e ≡ out_of_memory) }
     ensures read_back { IfOk result (λ v. IsReadable default_options (T.tree_of (T.view value.now)) (string_bytes v)) }
     ensures comes_back { IfOk result (λ v. T.readable (T.view value.now) → ComesBack T.reading (string_bytes v) (T.view value.now)) }
 {
@@ -112,7 +112,7 @@ pub fn to_string_pretty<'de, T: Facet<'de>>(
     value: &T,
 ) -> Result<String, JsonSerializeError>
     ensures text { IfOk result (λ v. string_bytes v ≡ text pretty_options 0 (T.tree_of (T.view value.now))) }
-    ensures refused { IfErr result (λ e. refusal_of e ≡ out_of_memory) }
+    ensures refused { IfErr result (λ e. write_refusal_of e ≡ out_of_memory) }
     ensures read_back { IfOk result (λ v. IsReadable pretty_options (T.tree_of (T.view value.now)) (string_bytes v)) }
 {
     to_string_with_options(alloc, value, &SerializeOptions::new().pretty())
@@ -133,7 +133,7 @@ pub fn to_string_with_options<'de, T: Facet<'de>>(
     options: &SerializeOptions<'_>,
 ) -> Result<String, JsonSerializeError>
     ensures text { IfOk result (λ v. string_bytes v ≡ text (options_of options.now) 0 (T.tree_of (T.view value.now))) }
-    ensures refused { IfErr result (λ e. refusal_of e ≡ out_of_memory) }
+    ensures refused { IfErr result (λ e. write_refusal_of e ≡ out_of_memory) }
     ensures read_back { IfOk result (λ v. IsReadable (options_of options.now) (T.tree_of (T.view value.now)) (string_bytes v)) }
     ensures comes_back { options_of options.now ≡ default_options
         → IfOk result (λ v. T.readable (T.view value.now) → ComesBack T.reading (string_bytes v) (T.view value.now)) }

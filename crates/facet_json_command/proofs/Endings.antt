@@ -4,7 +4,7 @@ use Rattle.std.specs.Io.KnownBytes.{Keeps}
 use Rattle.facet_json_document.specs.Language.{Language}
 use Rattle.facet_json_command.specs.declared.outcome.Outcome.{Outcome}
 use Rattle.facet_json_command.specs.declared.outcome.Outcome.TheVariants.{Done, Refused, Io, Usage}
-use Rattle.facet_json_command.specs.Run.{IsFailure, IsFault, IsWithin, Grows, Lists}
+use Rattle.facet_json_command.specs.Run.{IsFailure, IsFault, OutcomeWithin, Grows, Lists}
 use Rattle.facet_json_command.proofs.Printing.{appends_nothing}
 use Rattle.facet_json_command.proofs.Listing.{grows_keeps, lists_keeps, lists_grow}
 
@@ -14,7 +14,7 @@ Ends before after printed final = (final ≡ Io) ⊎ ((final ≡ printed) × Kee
 
 -- ---- where nothing could be read
 
-pub fault_within : (outcome : Outcome) (len : ℕ) → IsFault outcome → IsWithin len outcome
+pub fault_within : (outcome : Outcome) (len : ℕ) → IsFault outcome → OutcomeWithin len outcome
 fault_within outcome len (inl memory) = rw memory tt
 fault_within outcome len (inr io) = rw io tt
 

@@ -5,7 +5,7 @@ use Rattle.std.specs.Io.KnownBytes.{Appends, Keeps}
 use Rattle.std.proofs.lemmas.List.{append-nil, append_assoc}
 use Rattle.facet_json_command.specs.declared.outcome.Outcome.{Outcome}
 use Rattle.facet_json_command.specs.declared.outcome.Outcome.TheVariants.{Done, Refused, Io, Usage}
-use Rattle.facet_json_command.specs.Run.{Grows, IsWithin, Stops, Prints}
+use Rattle.facet_json_command.specs.Run.{Grows, OutcomeWithin, Stops, Prints}
 
 pub appends_nothing : (held : Option (List ℕ)) → Appends held held []
 appends_nothing None = tt
@@ -42,7 +42,7 @@ stops_keeps a b c Io stops keeps = stops
 stops_keeps a b c Usage stops keeps = stops
 
 -- It has no place in an input.
-pub stops_within : (a b : Option (List ℕ)) (outcome : Outcome) (len : ℕ) → Stops a b outcome → IsWithin len outcome
+pub stops_within : (a b : Option (List ℕ)) (outcome : Outcome) (len : ℕ) → Stops a b outcome → OutcomeWithin len outcome
 stops_within a b Done len stops = tt
 stops_within a b (Refused code span) len stops = rw stops.1 tt
 stops_within a b Io len stops = tt

@@ -14,7 +14,7 @@ use Rattle.facet_json_serializer.specs.Serializer.{Writing}
 use Rattle.facet_json_serializer.specs.TreeCalls.{with_tree}
 use Rattle.facet_json_command.specs.declared.outcome.Outcome.{Outcome}
 use Rattle.facet_json_command.specs.Views.{read_as}
-use Rattle.facet_json_command.specs.Run.{IsDocumentIn, HasDocument, IsRefusal}
+use Rattle.facet_json_command.specs.Run.{IsDocumentIn, HasDocumentIn, IsRefusal}
 
 -- Behind the end of a value the document is passed.
 pub document_passed : (language : Language) (input : List ℕ) (w : Writing) (old : Now) (after : Option Writing) (Over : Type 0) →
@@ -31,7 +31,7 @@ document_passed (Strict mode) input w old after Over is begun whole over = whole
 pub where_document : (language : Language) (input : List ℕ) (old : Now) (P : Type 0) → old ≡ fresh_in input (read_as language) →
     ((mode : Mode) → old ≡ fresh input mode → (root : Node) (value : Tree) → IsDocument input mode root value → P) →
     (old ≡ fresh_in input (strict plain) → (root : Node) (value : Tree) → IsStrictDocument input root value → P) →
-    HasDocument (read_as language) input → P
+    HasDocumentIn (read_as language) input → P
 where_document (Lenient mode) input old P is begun whole has = begun (mode_of mode) is has.0 has.1 has.2
 where_document (Strict mode) input old P is begun whole has = whole is has.0 has.1 has.2
 
@@ -40,6 +40,6 @@ pub refusal_is : (language : Language) (input : List ℕ) (outcome : Outcome) (P
     parser ≡ fresh_in input (read_as language) →
     ((mode : Mode) → parser ≡ fresh input mode → IsRefusal (lenient mode) input outcome) →
     ((IsStrict input → P) → IsRefusal (strict plain) input outcome) →
-    (HasDocument (read_as language) input → P) → IsRefusal (read_as language) input outcome
+    (HasDocumentIn (read_as language) input → P) → IsRefusal (read_as language) input outcome
 refusal_is (Lenient mode) input outcome P is begun whole only = begun (mode_of mode) is
 refusal_is (Strict mode) input outcome P is begun whole only = whole only

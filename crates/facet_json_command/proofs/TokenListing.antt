@@ -13,11 +13,11 @@ use Rattle.facet_json_token.specs.Gap.{Mode}
 use Rattle.facet_json_token.specs.Token.{Token, Fault}
 use Rattle.facet_json_token.specs.Token as token
 use Rattle.facet_json_token.specs.Tokens.{Tokens, ended, refused, next, AreCuts}
-use Rattle.facet_json_scan.specs.Scanner.{Answer, needs_more, cuts, refuses}
+use Rattle.facet_json_scan.specs.Scanner.{ScanAnswer, needs_more, cuts, refuses}
 use Rattle.facet_json_scan.specs.Scanner as scanner
 use Rattle.facet_json_scan.specs.ScannerViews.{answered, fault_answered}
 use Rattle.facet_json_scan.specs.declared.answer.Scanned.{Scanned}
-use Rattle.facet_json_scan.specs.Listed.{token_then, list_of, refused_by, last_of, AreAllOf, AreTokensOf}
+use Rattle.facet_json_scan.specs.Listed.{token_then, tokens_of_list, refused_by, rest_after, AreAllOf, AreTokensOf}
 use Rattle.facet_json_command.specs.declared.outcome.Outcome.{Outcome}
 use Rattle.facet_json_command.specs.declared.outcome.Outcome.TheVariants.{Done, Refused, Io, Usage}
 use Rattle.facet_json_command.specs.Lines.{place_line}
@@ -32,14 +32,14 @@ use Rattle.facet_json_command.proofs.Endings.{Ends, no_growth, io_is_not_usage}
 -- ---- what a list of tokens begins with
 
 -- The first token of a list is answered, and the others follow it.
-pub record BeginsWith (answer : Option Answer) (others : Option Tokens) (these : Tokens) : Type 0 where
+pub record BeginsWith (answer : Option ScanAnswer) (others : Option Tokens) (these : Tokens) : Type 0 where
   pub first : Token
   pub rest : Tokens
   pub is_answered : answer ≡ Some (cuts first)
   pub follow : others ≡ Some rest
   pub all : these ≡ next first rest
 
-begins_with : (answer : Option Answer) (others : Option Tokens) (these : Tokens) → token_then answer others ≡ Some these →
+begins_with : (answer : Option ScanAnswer) (others : Option Tokens) (these : Tokens) → token_then answer others ≡ Some these →
     BeginsWith answer others these
 begins_with None others these e = cc
 begins_with (Some (needs_more consumed span)) others these e = cc
@@ -50,11 +50,11 @@ begins_with (Some (cuts t)) (Some rest) these e =
     record { first = t; rest = rest; is_answered = refl; follow = refl; all = cc }
 
 -- Their lines are those of the list, and then those of what follows.
-pub listed_lines : (len : ℕ) (tokens : List SpannedToken) (last these : Tokens) → list_of tokens (Some last) ≡ Some these →
+pub listed_lines : (len : ℕ) (tokens : List SpannedToken) (last these : Tokens) → tokens_of_list tokens (Some last) ≡ Some these →
     token_lines len these ≡ flat_map text_of_token tokens ++ token_lines len last
 listed_lines len [] last these e = let same : last ≡ these = cc in ap (token_lines len) (sym same)
 listed_lines len (t ∷ tokens) last these e =
-    let b = begins_with (answered (Ok t)) (list_of tokens (Some last)) these e in
+    let b = begins_with (answered (Ok t)) (tokens_of_list tokens (Some last)) these e in
     let here : text_of_token t ≡ token_line b.first = ap line_answered b.is_answered in
     ap (token_lines len) b.all
     ∙ ap (λ l. token_line b.first ++ l) (listed_lines len tokens last b.rest b.follow)
@@ -62,19 +62,19 @@ listed_lines len (t ∷ tokens) last these e =
     ∙ ap (λ l. (l ++ flat_map text_of_token tokens) ++ token_lines len last) (sym here)
 
 -- They end as what follows.
-pub listed_ends : (tokens : List SpannedToken) (last these : Tokens) (outcome : Outcome) → list_of tokens (Some last) ≡ Some these →
+pub listed_ends : (tokens : List SpannedToken) (last these : Tokens) (outcome : Outcome) → tokens_of_list tokens (Some last) ≡ Some these →
     EndAs last outcome → EndAs these outcome
 listed_ends [] last these outcome e h = let same : last ≡ these = cc in subst (λ t. EndAs t outcome) same h
 listed_ends (t ∷ tokens) last these outcome e h =
-    let b = begins_with (answered (Ok t)) (list_of tokens (Some last)) these e in
+    let b = begins_with (answered (Ok t)) (tokens_of_list tokens (Some last)) these e in
     subst (λ t. EndAs t outcome) (sym b.all) (listed_ends tokens last b.rest outcome b.follow h)
 
 -- Something follows.
-listed_last : (tokens : List SpannedToken) (last : Option Tokens) (these : Tokens) → list_of tokens last ≡ Some these →
+listed_last : (tokens : List SpannedToken) (last : Option Tokens) (these : Tokens) → tokens_of_list tokens last ≡ Some these →
     (end : Tokens) × (last ≡ Some end)
 listed_last [] last these e = (these, e)
 listed_last (t ∷ tokens) last these e =
-    let b = begins_with (answered (Ok t)) (list_of tokens last) these e in listed_last tokens last b.rest b.follow
+    let b = begins_with (answered (Ok t)) (tokens_of_list tokens last) these e in listed_last tokens last b.rest b.follow
 
 -- all of an input
 pub all_cuts : (input : List ℕ) (mode : Mode) (o : Option Tokens) → AreAllOf input mode o →
@@ -97,10 +97,10 @@ refusal_told s scan.InvalidUtf8 end e = cc
 
 -- The tokens are printed, and the end.
 pub end_listed : {T : Type 0} (mode : Mode) (input : List ℕ) (tokens : List SpannedToken) (a b c : Option (List ℕ)) (result : Result T Outcome) →
-    AreAllOf input mode (list_of tokens (Some ended)) → Appends a b (flat_map text_of_token tokens) →
+    AreAllOf input mode (tokens_of_list tokens (Some ended)) → Appends a b (flat_map text_of_token tokens) →
     Prints b c (place_line (codes "Eof") (span_at (length input) 0)) result → ListsTokens mode input a c (outcome_of result)
 end_listed mode input tokens a b c (Ok done) all printed last =
-    let these = all_cuts input mode (list_of tokens (Some ended)) all in
+    let these = all_cuts input mode (tokens_of_list tokens (Some ended)) all in
     let text = flat_map text_of_token tokens in
     let end = place_line (codes "Eof") (span_at (length input) 0) in
     record {
@@ -118,14 +118,14 @@ end_listed mode input tokens a b c (Err Usage) all printed stops = absurd stops
 
 -- The tokens are printed, and a refusal follows.
 pub refusal_listed : (mode : Mode) (input : List ℕ) (tokens : List SpannedToken) (e : ScanError) (a b : Option (List ℕ)) →
-    AreAllOf input mode (list_of tokens (last_of (Some e))) → Appends a b (flat_map text_of_token tokens) →
+    AreAllOf input mode (tokens_of_list tokens (rest_after (Some e))) → Appends a b (flat_map text_of_token tokens) →
     ListsTokens mode input a b (Refused (code_of_kind e.kind) (Some e.span))
 refusal_listed mode input tokens e a b all printed =
-    let these = all_cuts input mode (list_of tokens (last_of (Some e))) all in
-    let last = listed_last tokens (last_of (Some e)) these.0 these.1 in
+    let these = all_cuts input mode (tokens_of_list tokens (rest_after (Some e))) all in
+    let last = listed_last tokens (rest_after (Some e)) these.0 these.1 in
     let told = refusal_told (span_of e.span) e.kind last.0 last.1 in
     let text = flat_map text_of_token tokens in
-    let listed : list_of tokens (Some last.0) ≡ Some these.0 = ap (list_of tokens) (sym last.1) ∙ these.1 in
+    let listed : tokens_of_list tokens (Some last.0) ≡ Some these.0 = ap (tokens_of_list tokens) (sym last.1) ∙ these.1 in
     let lines : token_lines (length input) these.0 ≡ text =
     listed_lines (length input) tokens last.0 these.0 listed
     ∙ ap (λ end. text ++ token_lines (length input) end) told.1

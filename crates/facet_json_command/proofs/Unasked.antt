@@ -4,11 +4,11 @@ use Rattle.facet_json_command.specs.Arguments.{Command, fmt, events, tokens, dri
 use Rattle.facet_json_command.specs.declared.outcome.Outcome.{Outcome}
 use Rattle.facet_json_command.specs.declared.outcome.Outcome.TheVariants.{Done, Refused}
 use Rattle.facet_json_document.specs.Language.{Language}
-use Rattle.facet_json_command.specs.Run.{Answers, HasDocument, IsFailure}
+use Rattle.facet_json_command.specs.Run.{AnswersInput, HasDocumentIn, IsFailure}
 use Rattle.facet_json_command.proofs.Printing.{appends_nothing}
 
 pub no_memory_answers : (command : Command) (remaining held : Option (List ℕ)) (outcome : Outcome) → outcome ≡ Refused 9 None →
-    IfSome remaining (λ input. Answers command input held held outcome)
+    IfSome remaining (λ input. AnswersInput command input held held outcome)
 no_memory_answers command None held outcome is = tt
 no_memory_answers (fmt language pretty) (Some input) None outcome is = tt
 no_memory_answers (fmt language pretty) (Some input) (Some before) outcome is = rw is (inl refl, refl)
@@ -18,6 +18,6 @@ no_memory_answers (drive language calls) (Some input) None outcome is = tt
 no_memory_answers (drive language calls) (Some input) (Some before) outcome is = rw is (refl, refl)
 
 pub no_memory_only : (language : Language) (remaining : Option (List ℕ)) (outcome : Outcome) → outcome ≡ Refused 9 None →
-    IfSome remaining (λ input. HasDocument language input → (outcome ≡ Done) ⊎ IsFailure outcome)
+    IfSome remaining (λ input. HasDocumentIn language input → (outcome ≡ Done) ⊎ IsFailure outcome)
 no_memory_only language None outcome is = tt
 no_memory_only language (Some input) outcome is = λ has. inr (rw is refl)

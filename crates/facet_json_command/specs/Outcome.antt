@@ -13,8 +13,8 @@ IsFailure Io = Unit {0}
 IsFailure Usage = ⊥
 
 -- The same, where the memory that was wanted has no place in the input.
-abbrev pub IsFault : Outcome → Type 0
-IsFault outcome = (outcome ≡ Refused 9 None) ⊎ (outcome ≡ Io)
+abbrev pub IsFaultOfRun : Outcome → Type 0
+IsFaultOfRun outcome = (outcome ≡ Refused 9 None) ⊎ (outcome ≡ Io)
 
 -- A call of the system that failed with an error of this kind is answered so: a growth that was refused in its midst is out of memory.
 abbrev pub IsToldAs : ErrorKind → Outcome → Type 0

@@ -24,15 +24,15 @@ use Rattle.facet_json_command.specs.Lines.{event_line, answer_lines}
 use Rattle.facet_json_command.specs.TokenLines.{token_lines, EndAs}
 use Rattle.facet_json_command.specs.declared.outcome.Outcome.{Outcome}
 use Rattle.facet_json_command.specs.declared.outcome.Outcome.TheVariants.{Done, Refused, Io, Usage}
-pub use Rattle.facet_json_command.specs.Outcome.{IsFailure, IsFault}
+pub use Rattle.facet_json_command.specs.Outcome.{IsFailure, IsFaultOfRun}
 
 -- The input begins with this document, or, where RFC 8259 alone is read, is it. No arguments ask for `strict jsonc`.
 abbrev pub IsDocumentIn : Language → List ℕ → Node → Tree → Type 0
 IsDocumentIn (lenient mode) input root value = IsDocument input mode root value
 IsDocumentIn (strict mode) input root value = IsStrictDocument input root value
 
-abbrev pub HasDocument : Language → List ℕ → Type 0
-HasDocument language input = (root : Node) × (value : Tree) × IsDocumentIn language input root value
+abbrev pub HasDocumentIn : Language → List ℕ → Type 0
+HasDocumentIn language input = (root : Node) × (value : Tree) × IsDocumentIn language input root value
 
 -- how the text is laid out: compact, or indented by two spaces
 abbrev pub layout : (pretty : Bool) → Options
@@ -65,11 +65,11 @@ IsRefusal language input Io = ⊥
 IsRefusal language input Usage = ⊥
 
 -- A refusal is about bytes of an input of this length, or about none.
-abbrev pub IsWithin : (len : ℕ) → Outcome → Type 0
-IsWithin len Done = Unit {0}
-IsWithin len (Refused code span) = IfSome span (λ s. s.offset + s.len ≤ len)
-IsWithin len Io = Unit {0}
-IsWithin len Usage = Unit {0}
+abbrev pub OutcomeWithin : (len : ℕ) → Outcome → Type 0
+OutcomeWithin len Done = Unit {0}
+OutcomeWithin len (Refused code span) = IfSome span (λ s. s.offset + s.len ≤ len)
+OutcomeWithin len Io = Unit {0}
+OutcomeWithin len Usage = Unit {0}
 
 -- What `fmt` answers to an input, where the writer held the bytes before and then holds those after.
 abbrev pub Formats : Language → (pretty : Bool) → List ℕ → List ℕ → Option (List ℕ) → Outcome → Type 0
@@ -146,11 +146,11 @@ Drives language calls input before after Io = Unit {0}
 Drives language calls input before after Usage = ⊥
 
 -- What a command answers to an input, where the writer held the known bytes before and then holds those after.
-abbrev pub Answers : Command → List ℕ → Option (List ℕ) → Option (List ℕ) → Outcome → Type 0
-Answers (fmt language pretty) input before after outcome = IfSome before (λ held. Formats language pretty input held after outcome)
-Answers (events language) input before after outcome = Lists language input before after outcome
-Answers (tokens mode) input before after outcome = ListsTokens mode input before after outcome
-Answers (drive language calls) input before after outcome = IfSome before (λ held. Drives language calls input held after outcome)
+abbrev pub AnswersInput : Command → List ℕ → Option (List ℕ) → Option (List ℕ) → Outcome → Type 0
+AnswersInput (fmt language pretty) input before after outcome = IfSome before (λ held. Formats language pretty input held after outcome)
+AnswersInput (events language) input before after outcome = Lists language input before after outcome
+AnswersInput (tokens mode) input before after outcome = ListsTokens mode input before after outcome
+AnswersInput (drive language calls) input before after outcome = IfSome before (λ held. Drives language calls input held after outcome)
 
 -- where the command is `fmt`
 abbrev pub ForFmt : Command → (Language → Type 0) → Type 0

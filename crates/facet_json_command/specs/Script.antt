@@ -7,14 +7,14 @@ abbrev pub comma : ℕ
 comma = 44
 
 -- The text is one or more decimal digits, without a sign, of this number, which is below 2^64.
-pub record IsNumber (text : List ℕ) (number : ℕ) : Type 0 where
+pub record IsPointNumber (text : List ℕ) (number : ℕ) : Type 0 where
   pub numeral : IsNumeral 10 text
   pub value : digits_value 10 text ≡ number
   pub fits : number < 2 ^ 64
 
 -- The word is the name, and then the number: `events:2`
 abbrev pub IsNumbered : List ℕ → List ℕ → ℕ → Type 0
-IsNumbered name word number = (digits : List ℕ) × (word ≡ name ++ digits) × IsNumber digits number
+IsNumbered name word number = (digits : List ℕ) × (word ≡ name ++ digits) × IsPointNumber digits number
 
 -- The call's word
 abbrev pub IsWordOf : Call → List ℕ → Type 0

@@ -18,21 +18,21 @@ hint_name signed = codes "Signed"
 hint_name float = codes "Float"
 
 -- the line of a token of this kind, as `Colon 3+1`, and of a number with what stands in it, as `Number 0+2 Unsigned`
-abbrev pub kind_line : Kind → Span → List ℕ
-kind_line token.object_start span = place_line (codes "ObjectStart") span
-kind_line token.object_end span = place_line (codes "ObjectEnd") span
-kind_line token.array_start span = place_line (codes "ArrayStart") span
-kind_line token.array_end span = place_line (codes "ArrayEnd") span
-kind_line token.colon span = place_line (codes "Colon") span
-kind_line token.comma span = place_line (codes "Comma") span
-kind_line token.null span = place_line (codes "Null") span
-kind_line token.true_literal span = place_line (codes "True") span
-kind_line token.false_literal span = place_line (codes "False") span
-kind_line (token.string start finish has_escapes) span = place_line (codes "String") span
-kind_line (token.number start finish hint) span = value_line (codes "Number") span (hint_name hint)
+abbrev pub token_kind_line : Kind → Span → List ℕ
+token_kind_line token.object_start span = place_line (codes "ObjectStart") span
+token_kind_line token.object_end span = place_line (codes "ObjectEnd") span
+token_kind_line token.array_start span = place_line (codes "ArrayStart") span
+token_kind_line token.array_end span = place_line (codes "ArrayEnd") span
+token_kind_line token.colon span = place_line (codes "Colon") span
+token_kind_line token.comma span = place_line (codes "Comma") span
+token_kind_line token.null span = place_line (codes "Null") span
+token_kind_line token.true_literal span = place_line (codes "True") span
+token_kind_line token.false_literal span = place_line (codes "False") span
+token_kind_line (token.string start finish has_escapes) span = place_line (codes "String") span
+token_kind_line (token.number start finish hint) span = value_line (codes "Number") span (hint_name hint)
 
 abbrev pub token_line : Token → List ℕ
-token_line t = kind_line t.kind t.span
+token_line t = token_kind_line t.kind t.span
 
 -- a line for each token, and one for the end of an input of this length, as `Eof 2+0`
 abbrev pub token_lines : (len : ℕ) → Tokens → List ℕ

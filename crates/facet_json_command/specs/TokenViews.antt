@@ -3,12 +3,12 @@ use Rattle.std.specs.Prelude.{ℕ, List, [], Option, Some, Ok}
 use Rattle.facet_json_token.specs.declared.token.SpannedToken.{SpannedToken}
 use Rattle.facet_json_token.specs.declared.token.ScanErrorKind.{ScanErrorKind}
 use Rattle.facet_json_token.specs.declared.token.ScanErrorKind.TheVariants as scan
-use Rattle.facet_json_scan.specs.Scanner.{Answer, cuts}
+use Rattle.facet_json_scan.specs.Scanner.{ScanAnswer, cuts}
 use Rattle.facet_json_scan.specs.ScannerViews.{answered}
 use Rattle.facet_json_command.specs.TokenLines.{token_line}
 
 -- the line of a token that is answered, and of nothing else
-abbrev pub line_answered : Option Answer → List ℕ
+abbrev pub line_answered : Option ScanAnswer → List ℕ
 line_answered (Some (cuts t)) = token_line t
 line_answered _ = []
 

@@ -3,7 +3,7 @@
 ghost use Rattle.std.specs.Prelude.{◌≡◌, ◌⊎◌, None};
 ghost use Rattle.std.specs.IoError.{error_kind};
 ghost use Rattle.facet_json_command.specs.declared.outcome.Outcome.TheVariants as outcome;
-ghost use Rattle.facet_json_command.specs.Outcome.{IsFault, IsToldAs};
+ghost use Rattle.facet_json_command.specs.Outcome.{IsFaultOfRun, IsToldAs};
 
 use facet_format::Span;
 use std::io;
@@ -29,7 +29,7 @@ pub const OUT_OF_MEMORY: Outcome = Outcome::Refused(9, None);
 /// How a call of the system that failed is answered. A growth that was refused in the midst of it is out of memory.
 pub fn failure(error: &io::Error) -> Outcome
     ensures told { IsToldAs (error_kind error.now) result }
-    ensures fault { IsFault result }
+    ensures fault { IsFaultOfRun result }
 {
     failure_of(error.kind())
 }
@@ -37,7 +37,7 @@ pub fn failure(error: &io::Error) -> Outcome
 /// The same, by the kind of its error.
 pub fn failure_of(kind: ErrorKind) -> Outcome
     ensures told { IsToldAs kind result }
-    ensures fault { IsFault result }
+    ensures fault { IsFaultOfRun result }
 {
     if kind == ErrorKind::OutOfMemory {
         OUT_OF_MEMORY
@@ -50,7 +50,7 @@ pub fn failure_of(kind: ErrorKind) -> Outcome
 pub fn without_arguments(error: &io::Error) -> Outcome
     ensures usage { error_kind error.now ≡ ErrorKind.InvalidData → result ≡ outcome.Usage }
     ensures memory { error_kind error.now ≡ ErrorKind.OutOfMemory → result ≡ outcome.Refused 9 None }
-    ensures ends { (result ≡ outcome.Usage) ⊎ IsFault result }
+    ensures ends { (result ≡ outcome.Usage) ⊎ IsFaultOfRun result }
 {
     match error.kind() {
         ErrorKind::InvalidData => Outcome::Usage,

@@ -18,12 +18,12 @@ ghost use Rattle.facet_json_document.specs.Move.{MovesAll};
 ghost use Rattle.facet_json_core.specs.ScriptViews.{call_of, answer_of};
 ghost use Rattle.facet_json_serializer.specs.Serializer.{Writing as SpecWriting};
 ghost use Rattle.facet_json_serializer.specs.TreeCalls.{with_tree};
-ghost use Rattle.facet_json_core.specs.TranscodeViews.{IsRefused, LacksMemory, IsWithin as RefusesWithin};
+ghost use Rattle.facet_json_core.specs.TranscodeViews.{IsTranscodeRefused, TranscodeLacksMemory, ErrorWithin as RefusesWithin};
 ghost use Rattle.facet_json_command.specs.declared.outcome.Outcome.TheVariants as outcome;
 ghost use Rattle.facet_json_command.specs.Arguments.{Command as SpecCommand, AskFor, AskForNothing, fmt, drive as drives};
 ghost use Rattle.facet_json_command.specs.Views.{words_of, read_as, command_view};
 ghost use Rattle.facet_json_command.specs.Lines.{answer_lines};
-ghost use Rattle.facet_json_command.specs.Run.{IsDocumentIn, HasDocument, layout, IsReformatted, IsFailure, IsFault, IsRefusal, IsWithin, Formats, Grows, Prints, Lists, ListsTokens, Drives, Answers, ForFmt, ForDrive};
+ghost use Rattle.facet_json_command.specs.Run.{IsDocumentIn, HasDocumentIn, layout, IsReformatted, IsFailure, IsFault, IsRefusal, OutcomeWithin, Formats, Grows, Prints, Lists, ListsTokens, Drives, AnswersInput, ForFmt, ForDrive};
 ghost use Rattle.facet_json_command.specs.Session.{Marks, outcome_of};
 
 use crate::input::Input;
@@ -54,14 +54,14 @@ pub fn run<R: Read, W: Write>(
     ensures told { AskForNothing (words_of args.now) → (result ≡ outcome.Usage) ⊎ (result ≡ outcome.Refused 9 None) }
     ensures untouched { AskForNothing (words_of args.now) → (reader.new ≡ reader.old) × (writer.new ≡ writer.old) }
     ensures answer { (command : SpecCommand) → AskFor command (words_of args.now) → IfSome (R.remaining reader.old) (λ input.
-        Answers command input (W.contents writer.old) (W.contents writer.new) result) }
+        AnswersInput command input (W.contents writer.old) (W.contents writer.new) result) }
     ensures refused { (language : SpecLanguage) (pretty : Bool) (code : ℕ) (span : Option TheSpan) → AskFor (fmt language pretty) (words_of args.now)
         → result ≡ outcome.Refused code span → writer.new ≡ writer.old }
     ensures only { (language : SpecLanguage) (pretty : Bool) → AskFor (fmt language pretty) (words_of args.now)
-        → IfSome (R.remaining reader.old) (λ input. HasDocument language input → (result ≡ outcome.Done) ⊎ IsFailure result) }
+        → IfSome (R.remaining reader.old) (λ input. HasDocumentIn language input → (result ≡ outcome.Done) ⊎ IsFailure result) }
     ensures driven { (language : SpecLanguage) (calls : List SpecCall) → AskFor (drives language calls) (words_of args.now)
         → (result ≡ outcome.Done) ⊎ IsFault result }
-    ensures within { IfSome (R.remaining reader.old) (λ input. IsWithin (length input) result) }
+    ensures within { IfSome (R.remaining reader.old) (λ input. OutcomeWithin (length input) result) }
     ensures grows { result ≢ outcome.Io → Grows (W.contents writer.old) (W.contents writer.new) }
 {
     let mut session = Session::new(alloc);
@@ -80,14 +80,14 @@ fn obey<R: Read, W: Write>(
 ) -> Outcome
     ensures ends { result ≢ outcome.Usage }
     ensures answer { IfSome (R.remaining reader.old) (λ input.
-        Answers (command_view command) input (W.contents writer.old) (W.contents writer.new) result) }
+        AnswersInput (command_view command) input (W.contents writer.old) (W.contents writer.new) result) }
     ensures refused { ForFmt (command_view command) (λ language. (code : ℕ) (span : Option TheSpan)
         → result ≡ outcome.Refused code span → writer.new ≡ writer.old) }
     ensures only { ForFmt (command_view command) (λ language. IfSome (R.remaining reader.old) (λ input.
-        HasDocument language input → (result ≡ outcome.Done) ⊎ IsFailure result)) }
+        HasDocumentIn language input → (result ≡ outcome.Done) ⊎ IsFailure result)) }
     ensures driven { ForDrive (command_view command) ((result ≡ outcome.Done) ⊎ IsFault result) }
     ensures grows { result ≢ outcome.Io → Grows (W.contents writer.old) (W.contents writer.new) }
-    ensures within { IfSome (R.remaining reader.old) (λ input. IsWithin (length input) result) }
+    ensures within { IfSome (R.remaining reader.old) (λ input. OutcomeWithin (length input) result) }
     ensures marks { Marks session.old.failed session.new.failed result }
 {
     match command {
@@ -113,10 +113,10 @@ fn format<R: Read, W: Write>(
         → writer.new ≡ writer.old }
     ensures answer { IfSome (R.remaining reader.old) (λ input. IfSome (W.contents writer.old)
         (λ before. Formats (read_as language) pretty input before (W.contents writer.new) result)) }
-    ensures only { IfSome (R.remaining reader.old) (λ input. HasDocument (read_as language) input
+    ensures only { IfSome (R.remaining reader.old) (λ input. HasDocumentIn (read_as language) input
         → (result ≡ outcome.Done) ⊎ IsFailure result) }
     ensures grows { result ≢ outcome.Io → Grows (W.contents writer.old) (W.contents writer.new) }
-    ensures within { IfSome (R.remaining reader.old) (λ input. IsWithin (length input) result) }
+    ensures within { IfSome (R.remaining reader.old) (λ input. OutcomeWithin (length input) result) }
     ensures marks { Marks session.old.failed session.new.failed result }
 {
     match formatted(session, language, pretty, reader) {
@@ -135,8 +135,8 @@ fn formatted<R: Read>(
     ensures ends { IfErr result (λ o. o ≢ outcome.Usage) }
     ensures text { IfSome (R.remaining reader.old) (λ input. IfOk result (λ v. IsReformatted (read_as language) pretty input v.items)) }
     ensures refused { IfSome (R.remaining reader.old) (λ input. IfErr result (λ o. (o ≡ outcome.Io) ⊎ IsRefusal (read_as language) input o)) }
-    ensures only { IfSome (R.remaining reader.old) (λ input. HasDocument (read_as language) input → IfErr result IsFailure) }
-    ensures within { IfSome (R.remaining reader.old) (λ input. IfErr result (IsWithin (length input))) }
+    ensures only { IfSome (R.remaining reader.old) (λ input. HasDocumentIn (read_as language) input → IfErr result IsFailure) }
+    ensures within { IfSome (R.remaining reader.old) (λ input. IfErr result (OutcomeWithin (length input))) }
     ensures marks { Marks session.old.failed session.new.failed (outcome_of result) }
 {
     let input = read_all(session, reader)?;
@@ -165,8 +165,8 @@ fn reformatted(
 ) -> Result<Vec<u8>, Outcome>
     ensures text { IfOk result (λ v. IsReformatted (read_as language) pretty input.now v.items) }
     ensures refused { IfErr result (λ o. IsRefusal (read_as language) input.now o) }
-    ensures only { HasDocument (read_as language) input.now → IfErr result IsFailure }
-    ensures within { IfErr result (IsWithin (length input.now)) }
+    ensures only { HasDocumentIn (read_as language) input.now → IfErr result IsFailure }
+    ensures within { IfErr result (OutcomeWithin (length input.now)) }
 {
     let mut parser = parser_of(alloc, language, input);
     let mut serializer = serializer_of(alloc, pretty);
@@ -185,9 +185,9 @@ fn pass_document<'t>(
         → serializer.old ≡ Some w → OnOk result ((root : Node) × (value : SpecTree)
         × IsDocumentIn (read_as language) input root value × (serializer.new ≡ Some (with_tree w value))) }
     ensures refused { (input : List ℕ) (mode : SpecMode) (w : SpecWriting) → parser.old ≡ fresh input mode → serializer.old ≡ Some w
-        → IfErr result (λ e. IsRefused input mode e) }
+        → IfErr result (λ e. IsTranscodeRefused input mode e) }
     ensures only { (input : List ℕ) (language : TheLanguage) (w : SpecWriting) → parser.old ≡ fresh_in input (read_as language)
-        → serializer.old ≡ Some w → HasDocument (read_as language) input → IfErr result (λ e. LacksMemory e) }
+        → serializer.old ≡ Some w → HasDocumentIn (read_as language) input → IfErr result (λ e. TranscodeLacksMemory e) }
     ensures within { IfErr result (λ e. RefusesWithin (length parser.old.buffer) e) }
 {
     transcode(parser, serializer)?;
@@ -222,10 +222,10 @@ fn text_of(serializer: JsonSerializer<'_>) -> Result<Vec<u8>, Outcome>
 
 /// How it ends the run that the document was not passed.
 fn refused(error: TranscodeError<'_>) -> Outcome
-    ensures refused { (mode : SpecMode) (input : List ℕ) → IsRefused input mode error.entry → IsRefusal (lenient mode) input result }
-    ensures strictly { (input : List ℕ) → (IsStrict input → LacksMemory error.entry) → IsRefusal (strict plain) input result }
-    ensures failed { LacksMemory error.entry → IsFailure result }
-    ensures within { (len : ℕ) → RefusesWithin len error.entry → IsWithin len result }
+    ensures refused { (mode : SpecMode) (input : List ℕ) → IsTranscodeRefused input mode error.entry → IsRefusal (lenient mode) input result }
+    ensures strictly { (input : List ℕ) → (IsStrict input → TranscodeLacksMemory error.entry) → IsRefusal (strict plain) input result }
+    ensures failed { TranscodeLacksMemory error.entry → IsFailure result }
+    ensures within { (len : ℕ) → RefusesWithin len error.entry → OutcomeWithin len result }
 {
     match error {
         TranscodeError::Read(error) => Outcome::Refused(error.kind.code(), error.span),
@@ -254,7 +254,7 @@ fn print_events<R: Read, W: Write>(
     ensures listed { IfSome (R.remaining reader.old) (λ input.
         Lists (read_as language) input (W.contents writer.old) (W.contents writer.new) result) }
     ensures grows { result ≢ outcome.Io → Grows (W.contents writer.old) (W.contents writer.new) }
-    ensures within { IfSome (R.remaining reader.old) (λ input. IsWithin (length input) result) }
+    ensures within { IfSome (R.remaining reader.old) (λ input. OutcomeWithin (length input) result) }
     ensures marks { Marks session.old.failed session.new.failed result }
 {
     match read_all(session, reader) {
@@ -274,7 +274,7 @@ fn list_events<W: Write>(
     writer: &mut W,
 ) -> Result<(), Outcome>
     ensures listed { Lists (read_as language) input.now (W.contents writer.old) (W.contents writer.new) (outcome_of result) }
-    ensures within { IfErr result (IsWithin (length input.now)) }
+    ensures within { IfErr result (OutcomeWithin (length input.now)) }
     ensures marks { Marks session.old.failed session.new.failed (outcome_of result) }
 {
     let mut parser = parser_of(session.alloc, language, input);
@@ -289,7 +289,7 @@ fn list_ahead<W: Write>(
 ) -> Result<(), Outcome>
     ensures listed { (language : SpecLanguage) (input : List ℕ) → parser.old ≡ fresh_in input language
         → Lists language input (W.contents writer.old) (W.contents writer.new) (outcome_of result) }
-    ensures within { IfErr result (IsWithin (length parser.old.buffer)) }
+    ensures within { IfErr result (OutcomeWithin (length parser.old.buffer)) }
     ensures marks { Marks session.old.failed session.new.failed (outcome_of result) }
 {
     loop {
@@ -312,7 +312,7 @@ fn print_tokens<R: Read, W: Write>(
     ensures listed { IfSome (R.remaining reader.old) (λ input.
         ListsTokens (mode_of mode) input (W.contents writer.old) (W.contents writer.new) result) }
     ensures grows { result ≢ outcome.Io → Grows (W.contents writer.old) (W.contents writer.new) }
-    ensures within { IfSome (R.remaining reader.old) (λ input. IsWithin (length input) result) }
+    ensures within { IfSome (R.remaining reader.old) (λ input. OutcomeWithin (length input) result) }
     ensures marks { Marks session.old.failed session.new.failed result }
 {
     let mut input = Input::new(reader);
@@ -337,7 +337,7 @@ fn print_answers<R: Read, W: Write>(
     ensures answers { IfSome (R.remaining reader.old) (λ input. IfSome (W.contents writer.old) (λ before.
         Drives (read_as language) (map call_of calls.now) input before (W.contents writer.new) result)) }
     ensures grows { result ≢ outcome.Io → Grows (W.contents writer.old) (W.contents writer.new) }
-    ensures within { IfSome (R.remaining reader.old) (λ input. IsWithin (length input) result) }
+    ensures within { IfSome (R.remaining reader.old) (λ input. OutcomeWithin (length input) result) }
     ensures marks { Marks session.old.failed session.new.failed result }
 {
     match read_all(session, reader) {

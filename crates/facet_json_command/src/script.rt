@@ -4,7 +4,7 @@ ghost use Rattle.std.specs.Prelude.{◌≡◌, ◌≢◌, ◌⊎◌, ℕ, List, 
 ghost use Rattle.facet_format.specs.Cursor.{Call as SpecCall};
 ghost use Rattle.facet_json_core.specs.ScriptViews.{call_of};
 ghost use Rattle.facet_json_command.specs.declared.outcome.Outcome.TheVariants as outcome;
-ghost use Rattle.facet_json_command.specs.Script.{IsNumber, IsNumbered, IsWordOf, IsScript};
+ghost use Rattle.facet_json_command.specs.Script.{IsPointNumber, IsNumbered, IsWordOf, IsScript};
 
 use crate::outcome::{OUT_OF_MEMORY, Outcome};
 use facet_json_core::Call;
@@ -81,7 +81,7 @@ fn parse_restore(word: &str) -> Option<Call>
 
 /// The number of events that the digits write.
 fn parse_limit(digits: &str) -> Option<usize>
-    ensures { MatchOption result ((number : ℕ) → ¬ IsNumber digits.now number) (IsNumber digits.now) }
+    ensures { MatchOption result ((number : ℕ) → ¬ IsPointNumber digits.now number) (IsPointNumber digits.now) }
 {
     if digits.starts_with('+') {
         return None;
@@ -91,7 +91,7 @@ fn parse_limit(digits: &str) -> Option<usize>
 
 /// The number of a point that the digits write.
 fn parse_point(digits: &str) -> Option<u64>
-    ensures { MatchOption result ((number : ℕ) → ¬ IsNumber digits.now number) (IsNumber digits.now) }
+    ensures { MatchOption result ((number : ℕ) → ¬ IsPointNumber digits.now number) (IsPointNumber digits.now) }
 {
     if digits.starts_with('+') {
         return None;

@@ -2,7 +2,7 @@
 
 ghost use Rattle.std.specs.Prelude.{◌≡◌, Ok, false, MatchResult};
 ghost use Rattle.facet_json_command.specs.declared.outcome.Outcome.TheVariants as outcome;
-ghost use Rattle.facet_json_command.specs.Outcome.{IsFault, IsToldAs};
+ghost use Rattle.facet_json_command.specs.Outcome.{IsFaultOfRun, IsToldAs};
 ghost use Rattle.facet_json_command.specs.Session.{Marks, outcome_of};
 
 use crate::outcome::{Outcome, failure_of};
@@ -49,7 +49,7 @@ impl Session {
     /// How it ends the run that a read failed with an error of this kind.
     pub fn unread(&mut self, kind: ErrorKind) -> Outcome
         ensures told { IsToldAs kind result }
-        ensures fault { IsFault result }
+        ensures fault { IsFaultOfRun result }
         ensures marks { Marks self.old.failed self.new.failed result }
     {
         match failure_of(kind) {

@@ -5,13 +5,13 @@ ghost use Rattle.std.specs.List.{flat_map};
 ghost use Rattle.facet_format.specs.Views.{hint_of};
 ghost use Rattle.facet_json_token.specs.Gap.{Mode as SpecMode};
 ghost use Rattle.facet_json_token.specs.Views.{mode_of};
-ghost use Rattle.facet_json_scan.specs.Listed.{mode_with, AreTokensOf, RefusalWithin};
+ghost use Rattle.facet_json_scan.specs.Listed.{mode_with, AreTokensOf, ScanRefusalWithin};
 ghost use Rattle.facet_json_command.specs.declared.outcome.Outcome.TheVariants as outcome;
 ghost use Rattle.facet_json_command.specs.TokenLines.{hint_name};
 ghost use Rattle.facet_json_command.specs.TokenViews.{text_of_token, code_of_kind};
-ghost use Rattle.facet_json_command.specs.Run.{IsWithin, Prints, ListsTokens};
+ghost use Rattle.facet_json_command.specs.Run.{OutcomeWithin, Prints, ListsTokens};
 ghost use Rattle.facet_json_command.specs.Session.{Marks, outcome_of};
-ghost use Rattle.facet_json_command.specs.Outcome.{IsFault, IsToldAs};
+ghost use Rattle.facet_json_command.specs.Outcome.{IsFaultOfRun, IsToldAs};
 
 use crate::input::Input;
 use crate::lines::{write_place, write_value};
@@ -37,10 +37,10 @@ pub fn scan_all<R: Read>(
     ensures scanned { IfOk result (λ s. IfSome (R.remaining input.old.reader.now) (λ bytes. AreTokensOf bytes (mode_of mode) s)) }
     ensures so_far { IfOk result (λ s. AreTokensOf s.buf.items (mode_of mode) s) }
     ensures whole { IfOk result (λ s. IfNone s.refusal (IfSome (R.remaining input.old.reader.now) (λ bytes. s.buf.items ≡ bytes))) }
-    ensures within { IfOk result (λ s. IfSome (R.remaining input.old.reader.now) (λ bytes. RefusalWithin (length bytes) s.refusal)) }
+    ensures within { IfOk result (λ s. IfSome (R.remaining input.old.reader.now) (λ bytes. ScanRefusalWithin (length bytes) s.refusal)) }
     ensures memory { input.new.failed ≡ false → IfErr result (λ o. o ≡ outcome.Refused 9 None) }
     ensures unread { input.old.failed ≡ false → input.new.failed ≡ true → MatchResult result (λ _. ⊥) (IsToldAs input.new.kind) }
-    ensures fault { IfErr result IsFault }
+    ensures fault { IfErr result IsFaultOfRun }
     ensures marks { Marks session.old.failed session.new.failed (outcome_of result) }
 {
     match scan_reader(session.alloc, input, STEP, has_comments(mode)) {
@@ -70,7 +70,7 @@ pub fn write_scanned<W: Write>(
         → IfNone scanned.now.refusal (scanned.now.buf.items ≡ input)
         → ListsTokens mode input (W.contents writer.old) (W.contents writer.new) (outcome_of result) }
     ensures marks { Marks session.old.failed session.new.failed (outcome_of result) }
-    ensures within { (len : ℕ) → RefusalWithin len scanned.now.refusal → IsWithin len (outcome_of result) }
+    ensures within { (len : ℕ) → ScanRefusalWithin len scanned.now.refusal → OutcomeWithin len (outcome_of result) }
 {
     match write_tokens(session, scanned.tokens.as_slice(), writer) {
         Ok(()) => match &scanned.refusal {

@@ -19,7 +19,7 @@ use Rattle.facet_json_core.specs.declared.transcode_error.TranscodeError.TheVari
 use Rattle.facet_json_core.specs.Told.{Tells, Breaks}
 use Rattle.facet_json_core.specs.Reading.{IsValueUnread}
 use Rattle.facet_json_core.specs.Transcode.{IsWritten}
-use Rattle.facet_json_core.specs.TranscodeViews.{IsUnwritten, LacksMemory, IsRefused}
+use Rattle.facet_json_core.specs.TranscodeViews.{IsUnwritten, TranscodeLacksMemory, IsTranscodeRefused}
 use Rattle.facet_json_core.proofs.Cuts.{Cut, GoesOn, uncut, value-ends}
 use Rattle.facet_json_core.proofs.DocumentFromRoot.{document-told, unread-refused}
 use Rattle.facet_json_core.proofs.PrefixBreaksOff.{begun-breaks}
@@ -33,7 +33,7 @@ read-unwritten buffer start e unread = record { told = unread.told; broken = unr
 
 -- The serializer refuses it.
 pub write-unwritten : (buffer : List ℕ) (start : Future) (e : JsonSerializeError) →
-    ((o : Option Cut) (g : Future) (v : Tree) (rest : Future) → GoesOn o start g → Tells g v rest → serializer.refusal_of e ≡ out_of_memory) →
+    ((o : Option Cut) (g : Future) (v : Tree) (rest : Future) → GoesOn o start g → Tells g v rest → serializer.write_refusal_of e ≡ out_of_memory) →
     IsUnwritten buffer start (Write e)
 write-unwritten buffer start e none = record {
   told = λ v rest told. none _ start v rest (uncut start) told;
@@ -50,7 +50,7 @@ module _ (buffer : List ℕ) (mode : Mode) where
 
   -- Where there is a document, only out of memory is refused.
   pub unwritten-only : (e : TranscodeError) → IsUnwritten buffer (future_of (fresh buffer mode)) e →
-      (root : Node) (value : Tree) → IsDocument buffer mode root value → LacksMemory e
+      (root : Node) (value : Tree) → IsDocument buffer mode root value → TranscodeLacksMemory e
   unwritten-only e unwritten root value d = unwritten.told value finished (document-told buffer mode root value d)
 
   written_by : (w : Writing) (behind : Future) (after : Option Writing) → IsWritten (future_of (fresh buffer mode)) w behind after →
@@ -66,7 +66,7 @@ module _ (buffer : List ℕ) (mode : Mode) where
   written-document w behind after written = written_by w behind after written (input-comes buffer mode)
 
   write-refused : (e : JsonSerializeError) → IsUnwritten buffer (future_of (fresh buffer mode)) (Write e) → RootComes buffer mode →
-      IsRefused buffer mode (Write e)
+      IsTranscodeRefused buffer mode (Write e)
   write-refused e unwritten (document_comes node value d comes) = unwritten-only (Write e) unwritten node value d
   write-refused e unwritten (prefix_comes events here left front more) =
       unwritten.broken here left (subst (λ f. Breaks here left f) (sym more) (begun-breaks buffer front.begun))
@@ -83,7 +83,7 @@ module _ (buffer : List ℕ) (mode : Mode) where
   written-over w behind after written = over_by w behind after written (input-comes buffer mode)
 
   -- What is refused for anything but out of memory is so refused after the longest prefix.
-  pub unwritten-refused : (e : TranscodeError) → IsUnwritten buffer (future_of (fresh buffer mode)) e → IsRefused buffer mode e
+  pub unwritten-refused : (e : TranscodeError) → IsUnwritten buffer (future_of (fresh buffer mode)) e → IsTranscodeRefused buffer mode e
   unwritten-refused (Read e) unwritten =
       unread-refused buffer mode (refusal_of e) (record { told = unwritten.told; broken = unwritten.broken })
   unwritten-refused (Write e) unwritten = write-refused e unwritten (input-comes buffer mode)

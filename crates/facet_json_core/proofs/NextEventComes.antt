@@ -4,7 +4,7 @@ use Rattle.std.specs.Prelude.{Err}
 use Rattle.facet_format.specs.Complaint.{Refusal}
 use Rattle.facet_format.specs.Cursor.{Cursor, current_span, no_memory_at, next, Answer, event, Step, repeats, passes, passes_without_memory, passes_the_end, passes_nothing}
 use Rattle.facet_json_document.specs.Future.{Future, gives, finished, stuck}
-use Rattle.facet_json_document.specs.InputPlace.{Standing}
+use Rattle.facet_json_document.specs.InputPlace.{Reader}
 use Rattle.facet_json_document.specs.Now.{Now, RefusedAt, on_input, future_of}
 use Rattle.facet_json_document.specs.Move.{Moves}
 use Rattle.facet_json_core.specs.Reading.{GivesNone, lacks_memory, is_stuck}
@@ -15,7 +15,7 @@ stuck-there now r (gives p future) e so = absurd so
 stuck-there now r finished e so = absurd so
 stuck-there now r (stuck place rest) e so = is_stuck place rest e so
 
-refused-step : (old : Now) (d : Cursor Standing) (r : Refusal) (answer : Answer) → old.cursor.refusal ≡ None → answer ≡ event (Err r) →
+refused-step : (old : Now) (d : Cursor Reader) (r : Refusal) (answer : Answer) → old.cursor.refusal ≡ None → answer ≡ event (Err r) →
     Step (on_input old.buffer old.language) old.cursor next answer d → GivesNone old r
 refused-step old d r answer free is (repeats s call _ f a) = cc
 refused-step old d r answer free is (passes p none up) = cc

@@ -6,32 +6,32 @@ use Rattle.facet_json_document.specs.Tree.{Tree}
 use Rattle.facet_json_document.specs.Refusal.{IsStuck}
 use Rattle.facet_json_document.specs.Future.{Future, gives, finished, stuck}
 use Rattle.facet_json_document.specs.Now.{Now, future_of}
-use Rattle.facet_format.specs.SerializerCall.{Call}
+use Rattle.facet_format.specs.SerializerCall.{SerializerCall}
 use Rattle.facet_json_serializer.specs.Serializer.{Writing, Addition, Misfit, addition, appended, Appends, appends, refuses, runs_out, stays_out, out_of_memory}
 use Rattle.facet_json_serializer.specs.Serializer as serializer
 use Rattle.facet_json_serializer.specs.TreeCalls.{and_then, after_calls, tree_calls, with_tree}
 use Rattle.facet_json_serializer.proofs.TreesByCalls.{tree_by_calls}
 use Rattle.facet_json_core.specs.Told.{Tells}
 use Rattle.facet_json_core.specs.Reading.{LacksMemory, LacksOrStops, GivesNone, lacks_memory, at_the_end, is_stuck, IsValueUnread}
-use Rattle.facet_json_core.specs.Transcode.{call_of, depth_after, IsWritten}
+use Rattle.facet_json_core.specs.Transcode.{serializer_call_of, containers_after, IsWritten}
 use Rattle.facet_json_core.proofs.ValuePasses.{nothing, Before, value, After, over, goes_on, AddAlike, steps}
 use Rattle.facet_json_core.proofs.Cuts.{Cut, GoesOn, uncut, cut, past, value-ends}
 
 -- ---- between two events
 
 -- What comes goes on with what is left of the value, and the calls that are left make of what is written what is to be.
-pub record Stands (L : ℕ → Future → List Call → Future → Type 0) (o : Option Cut) (now : Future) (depth : ℕ) (writing : Option Writing)
+pub record Stands (L : ℕ → Future → List SerializerCall → Future → Type 0) (o : Option Cut) (now : Future) (depth : ℕ) (writing : Option Writing)
     (goal : Writing) (rest : Future) : Type 0 where
   pub ahead : Future
   pub on : GoesOn o now ahead
-  pub calls : List Call
+  pub calls : List SerializerCall
   pub is_left : L depth ahead calls rest
   pub written : Writing
   pub is : writing ≡ Some written
   pub left : after_calls written calls ≡ Ok goal
 
 -- Whatever value the events tell, or would tell if they went on, the parser and the serializer stand within it.
-abbrev pub StandsWithin : (ℕ → Future → List Call → Future → Type 0) → Future → Writing → ℕ → Future → Option Writing → Type 0
+abbrev pub StandsWithin : (ℕ → Future → List SerializerCall → Future → Type 0) → Future → Writing → ℕ → Future → Option Writing → Type 0
 StandsWithin L start w depth now writing = (o : Option Cut) (g : Future) (v : Tree) (rest : Future) →
     GoesOn o start g → Tells g v rest → Stands L o now depth writing (with_tree w v) rest
 
@@ -56,7 +56,7 @@ begins start w writing is o g v rest on told = record {
 }
 
 -- Where containers are open, the value has not ended.
-still : (depth : ℕ) (f : Future) (calls : List Call) (rest : Future) → ¬ (depth ≡ 0) → After depth f calls rest → Before depth f calls rest
+still : (depth : ℕ) (f : Future) (calls : List SerializerCall) (rest : Future) → ¬ (depth ≡ 0) → After depth f calls rest → Before depth f calls rest
 still _ _ _ _ some (over rest) = absurd (some refl)
 still _ f calls rest some (goes_on n _ _ _ before) = before
 
@@ -90,7 +90,7 @@ past-on _ p q _ f _ h (past o r a b on) e d =
     (cc, subst (λ x. GoesOn o x h) before (subst (λ x. GoesOn o a x) behind on))
 
 -- The call of an event does what the first call does that is left.
-call-passes : (writing after : Option Writing) (w goal : Writing) (first call : Call) (left : List Call) (answer : Result (Unit {0}) serializer.Refusal) →
+call-passes : (writing after : Option Writing) (w goal : Writing) (first call : SerializerCall) (left : List SerializerCall) (answer : Result (Unit {0}) serializer.WriteRefusal) →
     writing ≡ Some w → AddAlike first call → after_calls w (first ∷ left) ≡ Ok goal → Appends writing call answer after →
     answer ≡ Ok tt → (n : Writing) × (after ≡ Some n) × (after_calls n left ≡ Ok goal)
 unfolding after_calls
@@ -107,8 +107,8 @@ call-passes _ _ w goal first call left _ is alike can (runs_out u _ a adds) ok =
 call-passes _ _ w goal first call left _ is alike can (stays_out _) ok = cc
 
 -- It is refused for lack of memory alone.
-call-refused : (writing after : Option Writing) (w goal : Writing) (first call : Call) (left : List Call) (answer : Result (Unit {0}) serializer.Refusal)
-    (r : serializer.Refusal) → writing ≡ Some w → AddAlike first call → after_calls w (first ∷ left) ≡ Ok goal → Appends writing call answer after →
+call-refused : (writing after : Option Writing) (w goal : Writing) (first call : SerializerCall) (left : List SerializerCall) (answer : Result (Unit {0}) serializer.WriteRefusal)
+    (r : serializer.WriteRefusal) → writing ≡ Some w → AddAlike first call → after_calls w (first ∷ left) ≡ Ok goal → Appends writing call answer after →
     answer ≡ Err r → r ≡ out_of_memory
 unfolding after_calls
 call-refused _ _ w goal first call left _ r is alike can (appends u _ a adds) refusal = cc
@@ -121,43 +121,43 @@ call-refused _ _ w goal first call left _ r is alike can (stays_out _) refusal =
 
 module _ (start : Future) (w : Writing) (depth : ℕ) (now : Future) (writing : Option Writing) (passing : Passing start w depth now writing) where
   -- An event is passed.
-  pub one-passed : (p : Passed) (f : Future) (after : Option Writing) (answer : Result (Unit {0}) serializer.Refusal) → now ≡ gives p f →
-      Appends writing (call_of p.event.kind) answer after → answer ≡ Ok tt → HasPassed start w (depth_after p.event.kind depth) f after
+  pub one-passed : (p : Passed) (f : Future) (after : Option Writing) (answer : Result (Unit {0}) serializer.WriteRefusal) → now ≡ gives p f →
+      Appends writing (serializer_call_of p.event.kind) answer after → answer ≡ Ok tt → HasPassed start w (containers_after p.event.kind depth) f after
   one-passed p f after answer comes call ok o g v rest on told =
       let s = passing o g v rest on told in
       let next = steps depth s.ahead s.calls rest s.is_left in
       let inside = past-on o p next.passed now f s.ahead next.others s.on comes next.comes in
       let kind = ap (λ (x : Passed). x.event.kind) inside.0 in
-      let done = call-passes writing after s.written (with_tree w v) next.first (call_of p.event.kind) next.left answer s.is
-      (subst (λ k. AddAlike next.first (call_of k)) (sym kind) next.alike)
+      let done = call-passes writing after s.written (with_tree w v) next.first (serializer_call_of p.event.kind) next.left answer s.is
+      (subst (λ k. AddAlike next.first (serializer_call_of k)) (sym kind) next.alike)
       (sym (ap (after_calls s.written) next.are) ∙ s.left) call ok in
       record {
         ahead = next.others;
         on = inside.1;
         calls = next.left;
-        is_left = subst (λ k. After (depth_after k depth) next.others next.left rest) (sym kind) next.after;
+        is_left = subst (λ k. After (containers_after k depth) next.others next.left rest) (sym kind) next.after;
         written = done.0;
         is = done.1;
         left = done.2;
       }
 
   -- An event is not written.
-  pub one-refused : (p : Passed) (f : Future) (after : Option Writing) (answer : Result (Unit {0}) serializer.Refusal) (r : serializer.Refusal) →
-      now ≡ gives p f → Appends writing (call_of p.event.kind) answer after → answer ≡ Err r →
+  pub one-refused : (p : Passed) (f : Future) (after : Option Writing) (answer : Result (Unit {0}) serializer.WriteRefusal) (r : serializer.WriteRefusal) →
+      now ≡ gives p f → Appends writing (serializer_call_of p.event.kind) answer after → answer ≡ Err r →
       (o : Option Cut) (g : Future) (v : Tree) (rest : Future) → GoesOn o start g → Tells g v rest → r ≡ out_of_memory
   one-refused p f after answer r comes call refusal o g v rest on told =
       let s = passing o g v rest on told in
       let next = steps depth s.ahead s.calls rest s.is_left in
       let inside = past-on o p next.passed now f s.ahead next.others s.on comes next.comes in
       let kind = ap (λ (x : Passed). x.event.kind) inside.0 in
-      call-refused writing after s.written (with_tree w v) next.first (call_of p.event.kind) next.left answer r s.is
-      (subst (λ k. AddAlike next.first (call_of k)) (sym kind) next.alike)
+      call-refused writing after s.written (with_tree w v) next.first (serializer_call_of p.event.kind) next.left answer r s.is
+      (subst (λ k. AddAlike next.first (serializer_call_of k)) (sym kind) next.alike)
       (sym (ap (after_calls s.written) next.are) ∙ s.left) call refusal
 
 -- ---- how it ends
 
 -- No more is to come, and no call is left.
-ended : (depth : ℕ) (f : Future) (calls : List Call) (rest : Future) → depth ≡ 0 → After depth f calls rest → (f ≡ rest) × (calls ≡ [])
+ended : (depth : ℕ) (f : Future) (calls : List SerializerCall) (rest : Future) → depth ≡ 0 → After depth f calls rest → (f ≡ rest) × (calls ≡ [])
 ended _ _ _ _ none (over rest) = (refl, refl)
 ended _ f calls rest none (goes_on n _ _ _ before) = absurd (omega (arith, none))
 

@@ -10,7 +10,7 @@ use Rattle.facet_format.specs.declared.span.Span.{Span as RustSpan}
 use Rattle.facet_json_document.specs.CallLaws.{refusal_in}
 use Rattle.facet_json_document.specs.Move.{Moves}
 use Rattle.facet_json_document.specs.Next.{PassesNext, IsOver}
-use Rattle.facet_json_document.specs.Now.{Now, ahead, span_of, GoesOn}
+use Rattle.facet_json_document.specs.Now.{Now, ahead, current_span_of, GoesOn}
 use Rattle.facet_json_document.proofs.RefusalRepeats.{refused-sticks}
 use Rattle.facet_json_core.specs.Refusing.{is_own, IsAbout, LacksOrIsAbout, no_value_after, mismatch_of, ComesTo, IsSpanPassed, of_an_event, of_the_last_token, TellsRefusal, as_it_came, at_the_end, of_a_type, without_memory}
 
@@ -43,7 +43,7 @@ pub event-passed : {old new : Now} {given : Event} → PassesNext old given new 
 event-passed {old = old} {new = new} {given = given} passes = of_an_event old new given (stays-there old) passes (stays-there new) refl
 
 -- The last token after something was passed.
-pub last-passed : {old new : Now} → ComesTo old new → ahead new < ahead old → IsSpanPassed old new (span_of new)
+pub last-passed : {old new : Now} → ComesTo old new → ahead new < ahead old → IsSpanPassed old new (current_span_of new)
 last-passed {new = new} came passed = of_the_last_token new came passed (stays-there new) refl
 
 -- ---- refusals
@@ -61,7 +61,7 @@ pub call-tells : (old new : Now) (call : Call) (answer : Answer) (r : Refusal) �
 call-tells old new call answer r move refused = as_it_came (refused-sticks old new call answer r move refused)
 
 -- The end, where a value was to come.
-pub over-tells : {old new : Now} {r : Refusal} → IsOver old new → r ≡ no_value_after (span_of new) → TellsRefusal old new r
+pub over-tells : {old new : Now} {r : Refusal} → IsOver old new → r ≡ no_value_after (current_span_of new) → TellsRefusal old new r
 over-tells over is = at_the_end over.free over.stays is
 
 pub mismatch-about : {r : Refusal} (expected : List ℕ) (given : Event) → r ≡ mismatch_of expected given → IsAbout given.span r
@@ -86,7 +86,7 @@ event-tells passes so = of_a_type _ passes.free (event-passed passes) so
 
 -- A refusal at the last token that was passed, after others.
 pub end-tells : {old now new : Now} {r : Refusal} → ComesTo old now → ahead now < ahead old → ComesTo now new → new.cursor.refusal ≡ None →
-    IsAbout (span_of new) r → TellsRefusal old new r
+    IsAbout (current_span_of new) r → TellsRefusal old new r
 end-tells {old = old} {now = now} {new = new} came passed goes free so =
     let far : ahead new ≤ ahead now = goes.onward in
     of_a_type _ free (last-passed (comes-then came goes) (omega (arith, passed, far))) so

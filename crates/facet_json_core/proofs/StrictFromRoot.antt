@@ -21,7 +21,7 @@ use Rattle.facet_json_serializer.specs.TreeCalls.{with_tree}
 use Rattle.facet_json_core.specs.Told.{Tells, a_scalar, a_list, an_object, TellsItems, no_item, one_item, TellsMembers, no_member, one_member, Breaks}
 use Rattle.facet_json_core.specs.Reading.{LacksMemory, IsValueRead, IsValueUnread}
 use Rattle.facet_json_core.specs.Transcode.{IsWritten}
-use Rattle.facet_json_core.specs.TranscodeViews.{IsUnwritten, LacksMemory as LacksMemoryFor}
+use Rattle.facet_json_core.specs.TranscodeViews.{IsUnwritten, TranscodeLacksMemory as LacksMemoryFor}
 use Rattle.facet_json_core.specs.declared.transcode_error.TranscodeError.{TranscodeError}
 use Rattle.facet_json_core.proofs.ValueOrBreak.{ValueOrBreak, a_value, a_break, root-value_or_break}
 use Rattle.facet_json_core.proofs.WalkTells.{walk-tells}

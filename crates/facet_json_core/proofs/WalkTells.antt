@@ -12,7 +12,7 @@ use Rattle.facet_json_document.specs.Node.{Node, scalar, Nodes, no_nodes, item, 
 use Rattle.facet_json_document.specs.Node as node
 use Rattle.facet_json_document.specs.Tree.{Tree, Trees, no_trees, tree, Pairs, no_pairs, pair}
 use Rattle.facet_json_document.specs.Tree as trees
-use Rattle.facet_json_document.specs.Meaning.{tree_of_number, meaning_of, meaning, tree_of, trees_of, pairs_of, text_of, put_item, put_pair}
+use Rattle.facet_json_document.specs.Meaning.{tree_of_number, meaning_of, meaning, tree_of, trees_of, pairs_of, text_in_tree, put_item, put_pair}
 use Rattle.facet_json_document.specs.Walk.{text_by, scalar_by, scalar_of, name_of, event_at, scalar_event, key_event, walk, walk_items, walk_members}
 use Rattle.facet_json_document.specs.Future.{Future, gives, events_before}
 use Rattle.facet_json_document.proofs.WalkComes.{events_before-append}
@@ -73,8 +73,8 @@ module _ (buffer : List ℕ) where
   scalar-told t value e = ap (λ o. tree_of_scalar (scalar_of t.kind o)) e ∙ meant-told buffer t.kind value e
 
   -- The name in a key's event is the key's text.
-  pub key-named : (key : Token) (name : List ℕ) → text_of (meaning buffer key) ≡ Some name →
-      bytes_of (name_of key.kind (text_of (meaning buffer key))) ≡ name
+  pub key-named : (key : Token) (name : List ℕ) → text_in_tree (meaning buffer key) ≡ Some name →
+      bytes_of (name_of key.kind (text_in_tree (meaning buffer key))) ≡ name
   key-named key name e = ap (λ o. bytes_of (name_of key.kind o)) e ∙ text_by-bytes key.kind name
 
   -- ---- walks

@@ -31,20 +31,20 @@ pub data GivesNone (now : Now) (refusal : Refusal) : Type 0 where
 -- ---- values
 
 -- What was read is what the events tell, where they tell something, and they don't break off within it.
-pub record IsRead (V : Type 0) (tells : Future → V → Future → Type 0) (breaks : Place → Tokens → Future → Type 0)
+pub record IsReadBy (V : Type 0) (tells : Future → V → Future → Type 0) (breaks : Place → Tokens → Future → Type 0)
     (start : Future) (value : V) (left : Future) : Type 0 where
   pub told : (v : V) (rest : Future) → tells start v rest → (value ≡ v) × (left ≡ rest)
   pub whole : (place : Place) (rest : Tokens) → breaks place rest start → ⊥
 
 -- It was refused: where the events tell something, for lack of memory, and where they break off within it, for that or because
 -- nothing goes on there.
-pub record IsUnread (V : Type 0) (tells : Future → V → Future → Type 0) (breaks : Place → Tokens → Future → Type 0)
+pub record IsUnreadBy (V : Type 0) (tells : Future → V → Future → Type 0) (breaks : Place → Tokens → Future → Type 0)
     (buffer : List ℕ) (start : Future) (refusal : Refusal) : Type 0 where
   pub told : (v : V) (rest : Future) → tells start v rest → LacksMemory refusal
   pub broken : (place : Place) (rest : Tokens) → breaks place rest start → LacksOrStops buffer place rest refusal
 
 abbrev pub IsValueRead : Future → Tree → Future → Type 0
-IsValueRead = IsRead Tree Tells Breaks
+IsValueRead = IsReadBy Tree Tells Breaks
 
 abbrev pub IsValueUnread : List ℕ → Future → Refusal → Type 0
-IsValueUnread = IsUnread Tree Tells Breaks
+IsValueUnread = IsUnreadBy Tree Tells Breaks

@@ -5,7 +5,7 @@ use Rattle.facet_format.specs.Event.{Event, EventKind, Scalar}
 use Rattle.facet_format.specs.Event as event
 use Rattle.facet_format.specs.Span.{Span, stop, span_at}
 use Rattle.facet_json_document.specs.Future.{finished}
-use Rattle.facet_json_document.specs.Now.{Now, ahead, future_of, span_of, LeadsTo}
+use Rattle.facet_json_document.specs.Now.{Now, ahead, future_of, current_span_of, LeadsTo}
 use Rattle.facet_json_document.specs.Next.{PassesNext}
 
 -- ---- what refusals say
@@ -68,7 +68,7 @@ pub record ComesTo (old new : Now) : Type 0 where
 pub data IsSpanPassed (old new : Now) (span : Span) : Type 0 where
   of_an_event : (before after : Now) (given : Event) → ComesTo old before → PassesNext before given after → ComesTo after new →
       given.span ≡ span → IsSpanPassed old new span
-  of_the_last_token : (after : Now) → ComesTo old after → ahead after < ahead old → ComesTo after new → span_of after ≡ span →
+  of_the_last_token : (after : Now) → ComesTo old after → ahead after < ahead old → ComesTo after new → current_span_of after ≡ span →
       IsSpanPassed old new span
 
 -- ---- how a refusal is told
@@ -78,7 +78,7 @@ pub data TellsRefusal (old new : Now) (refusal : Refusal) : Type 0 where
   -- The parser is refused so.
   as_it_came : new.cursor.refusal ≡ Some refusal → TellsRefusal old new refusal
   -- It is not, nor in what follows, but nothing comes any more where a value was to come.
-  at_the_end : new.cursor.refusal ≡ None → future_of new ≡ finished → refusal ≡ no_value_after (span_of new) → TellsRefusal old new refusal
+  at_the_end : new.cursor.refusal ≡ None → future_of new ≡ finished → refusal ≡ no_value_after (current_span_of new) → TellsRefusal old new refusal
   -- A type refuses what was passed.
   of_a_type : (span : Span) → new.cursor.refusal ≡ None → IsSpanPassed old new span → IsAbout span refusal → TellsRefusal old new refusal
   -- A growth of the value itself was refused.

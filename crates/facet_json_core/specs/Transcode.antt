@@ -7,29 +7,29 @@ use Rattle.facet_json_document.specs.Tree.{Tree}
 use Rattle.facet_json_document.specs.Place.{Place}
 use Rattle.facet_json_document.specs.Future.{Future, gives}
 use Rattle.facet_json_document.specs.Now.{Now, future_of}
-use Rattle.facet_format.specs.SerializerCall.{Call, begin_struct, field_key, end_struct, begin_seq, end_seq, scalar}
+use Rattle.facet_format.specs.SerializerCall.{SerializerCall, begin_struct, field_key, end_struct, begin_seq, end_seq, scalar}
 use Rattle.facet_json_serializer.specs.Serializer.{Writing}
 use Rattle.facet_json_serializer.specs.TreeCalls.{with_tree}
 use Rattle.facet_json_core.specs.Refusing.{mismatch_of}
 use Rattle.facet_json_core.specs.Told.{begins, Tells, Breaks}
 
 -- the serializer's call for an event
-abbrev pub call_of : EventKind → Call
-call_of (struct_start kind) = begin_struct
-call_of struct_end = end_struct
-call_of (sequence_start kind) = begin_seq
-call_of sequence_end = end_seq
-call_of (key name) = field_key (bytes_of name)
-call_of (value v) = scalar v
+abbrev pub serializer_call_of : EventKind → SerializerCall
+serializer_call_of (struct_start kind) = begin_struct
+serializer_call_of struct_end = end_struct
+serializer_call_of (sequence_start kind) = begin_seq
+serializer_call_of sequence_end = end_seq
+serializer_call_of (key name) = field_key (bytes_of name)
+serializer_call_of (value v) = scalar v
 
 -- how many containers are open after an event, of so many before it
-abbrev pub depth_after : EventKind → ℕ → ℕ
-depth_after (struct_start kind) depth = suc depth
-depth_after struct_end depth = depth - 1
-depth_after (sequence_start kind) depth = suc depth
-depth_after sequence_end depth = depth - 1
-depth_after (key name) depth = depth
-depth_after (value v) depth = depth
+abbrev pub containers_after : EventKind → ℕ → ℕ
+containers_after (struct_start kind) depth = suc depth
+containers_after struct_end depth = depth - 1
+containers_after (sequence_start kind) depth = suc depth
+containers_after sequence_end depth = depth - 1
+containers_after (key name) depth = depth
+containers_after (value v) depth = depth
 
 -- What is written is what the events tell, where they tell a value, and they don't break off within it.
 pub record IsWritten (start : Future) (w : Writing) (left : Future) (after : Option Writing) : Type 0 where

@@ -21,29 +21,29 @@ use Rattle.facet_json_core.specs.Told.{Tells, Breaks}
 use Rattle.facet_json_core.specs.Reading as reading
 
 -- Memory ran out, of the parser or of the serializer.
-abbrev pub LacksMemory : TranscodeError → Type 0
-LacksMemory (Read e) = reading.LacksMemory (refusal_of e)
-LacksMemory (Write e) = serializer.refusal_of e ≡ out_of_memory
+abbrev pub TranscodeLacksMemory : TranscodeError → Type 0
+TranscodeLacksMemory (Read e) = reading.LacksMemory (refusal_of e)
+TranscodeLacksMemory (Write e) = serializer.write_refusal_of e ≡ out_of_memory
 
 -- Memory ran out, or no document goes on with the tokens at the place, and the parser refuses it so.
-abbrev pub LacksOrStops : List ℕ → Place → Tokens → TranscodeError → Type 0
-LacksOrStops buffer place rest (Read e) = reading.LacksOrStops buffer place rest (refusal_of e)
-LacksOrStops buffer place rest (Write e) = serializer.refusal_of e ≡ out_of_memory
+abbrev pub TranscodeLacksOrStops : List ℕ → Place → Tokens → TranscodeError → Type 0
+TranscodeLacksOrStops buffer place rest (Read e) = reading.LacksOrStops buffer place rest (refusal_of e)
+TranscodeLacksOrStops buffer place rest (Write e) = serializer.write_refusal_of e ≡ out_of_memory
 
 -- Where the events tell a value it is out of memory, and where they break off within one that or how the input is refused there.
 pub record IsUnwritten (buffer : List ℕ) (start : Future) (e : TranscodeError) : Type 0 where
-  pub told : (v : Tree) (rest : Future) → Tells start v rest → LacksMemory e
-  pub broken : (place : Place) (rest : Tokens) → Breaks place rest start → LacksOrStops buffer place rest e
+  pub told : (v : Tree) (rest : Future) → Tells start v rest → TranscodeLacksMemory e
+  pub broken : (place : Place) (rest : Tokens) → Breaks place rest start → TranscodeLacksOrStops buffer place rest e
 
 -- Memory ran out, or the input has no document and is refused so.
-abbrev pub IsRefused : List ℕ → Mode → TranscodeError → Type 0
-IsRefused input mode (Read e) = reading.LacksMemory (refusal_of e) ⊎ Refuses input mode (refusal_of e)
-IsRefused input mode (Write e) = serializer.refusal_of e ≡ out_of_memory
+abbrev pub IsTranscodeRefused : List ℕ → Mode → TranscodeError → Type 0
+IsTranscodeRefused input mode (Read e) = reading.LacksMemory (refusal_of e) ⊎ Refuses input mode (refusal_of e)
+IsTranscodeRefused input mode (Write e) = serializer.write_refusal_of e ≡ out_of_memory
 
 -- What the parser refuses stands within so many bytes, where its place is known.
-abbrev pub IsWithin : ℕ → TranscodeError → Type 0
-IsWithin end (Read e) = IfSome e.span (λ s. s.offset + s.len ≤ end)
-IsWithin end (Write e) = Unit {0}
+abbrev pub ErrorWithin : ℕ → TranscodeError → Type 0
+ErrorWithin end (Read e) = IfSome e.span (λ s. s.offset + s.len ≤ end)
+ErrorWithin end (Write e) = Unit {0}
 
 -- What is told of the parser is its own refusal, or that nothing or no value comes, or out of memory.
 abbrev pub TellsError : Now → Now → TranscodeError → Type 0

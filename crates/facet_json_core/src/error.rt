@@ -1,7 +1,7 @@
 //! What is wrong, where, and in which source.
 
 ghost use Rattle.std.specs.Prelude.{◌≡◌, Some, None, IfOk, IfErr};
-ghost use Rattle.facet_json_core.specs.ErrorViews.{error_at, source_of};
+ghost use Rattle.facet_json_core.specs.ErrorViews.{error_at, error_source_of};
 
 use crate::kind::JsonErrorKind;
 use facet_format::Span;
@@ -59,7 +59,7 @@ impl JsonError {
         source: &str,
     ) -> std::result::Result<JsonError, JsonError>
         ensures ok { IfOk result (λ error. (error.kind ≡ self.kind) × (error.span ≡ self.span)
-            × (source_of error ≡ Some source.now)) }
+            × (error_source_of error ≡ Some source.now)) }
         ensures err { IfErr result (λ error. error ≡ self) }
     {
         match String::from_str(alloc, source) {

@@ -2,9 +2,9 @@
 
 ghost use Rattle.std.specs.Prelude.{◌≡◌};
 ghost use Rattle.facet_format.specs.Views.{complaint_of};
-ghost use Rattle.facet_json_serializer.specs.Views.{refusal_of};
-ghost use Rattle.facet_json_core.specs.ErrorKind.{code, read_code, write};
-ghost use Rattle.facet_json_core.specs.ErrorViews.{kind_of};
+ghost use Rattle.facet_json_serializer.specs.Views.{write_refusal_of};
+ghost use Rattle.facet_json_core.specs.ErrorKind.{kind_code, read_code, write};
+ghost use Rattle.facet_json_core.specs.ErrorViews.{error_kind_of};
 
 use facet_format::{DeserializeErrorKind, Span};
 use facet_json_serializer::JsonSerializeError;
@@ -101,7 +101,7 @@ impl JsonErrorKind {
     /// JsonErrorKind::InvalidUtf8.code()     "json::invalid_utf8"
     /// ```
     pub fn code(&self) -> &'static str
-        ensures { result.now ≡ code (kind_of self.now) }
+        ensures { result.now ≡ kind_code (error_kind_of self.now) }
     {
         match self {
             JsonErrorKind::Scan(_) | JsonErrorKind::ScanWithContext { .. } => "json::scan",
@@ -143,7 +143,7 @@ fn code_of_read(refused: &DeserializeErrorKind<'static>) -> &'static str
 
 /// The name of a writer's refusal.
 fn code_of_write(refused: &JsonSerializeError) -> &'static str
-    ensures { result.now ≡ code (write (refusal_of refused.now)) }
+    ensures { result.now ≡ kind_code (write (write_refusal_of refused.now)) }
 {
     match refused {
         JsonSerializeError::OutOfMemory => "json::out_of_memory",

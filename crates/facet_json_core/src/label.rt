@@ -2,9 +2,9 @@
 
 ghost use Rattle.std.specs.Prelude.{◌≡◌, IfOk, string_bytes};
 ghost use Rattle.facet_format.specs.Views.{complaint_of};
-ghost use Rattle.facet_json_serializer.specs.Views.{refusal_of};
+ghost use Rattle.facet_json_serializer.specs.Views.{write_refusal_of};
 ghost use Rattle.facet_json_core.specs.ErrorKind.{label, read_label, scan, scan_with_context, write};
-ghost use Rattle.facet_json_core.specs.ErrorViews.{kind_of, scan_of};
+ghost use Rattle.facet_json_core.specs.ErrorViews.{error_kind_of, scan_of};
 
 use crate::kind::JsonErrorKind;
 use crate::text::tells_where;
@@ -21,7 +21,7 @@ impl JsonErrorKind {
     /// JsonErrorKind::TypeMismatch { expected: "u8", got: "string" }.label(alloc)?     "expected u8, got string"
     /// ```
     pub fn label(&self, alloc: Global) -> Result<String, AllocError>
-        ensures { IfOk result (λ text. string_bytes text ≡ label (kind_of self.now)) }
+        ensures { IfOk result (λ text. string_bytes text ≡ label (error_kind_of self.now)) }
     {
         match self {
             JsonErrorKind::Scan(error) => scan_label(alloc, error),
@@ -138,7 +138,7 @@ fn label_of_read(
 
 /// The label of a writer's refusal.
 fn label_of_write(alloc: Global, refused: &JsonSerializeError) -> Result<String, AllocError>
-    ensures { IfOk result (λ text. string_bytes text ≡ label (write (refusal_of refused.now))) }
+    ensures { IfOk result (λ text. string_bytes text ≡ label (write (write_refusal_of refused.now))) }
 {
     match refused {
         JsonSerializeError::OutOfMemory => String::from_str(alloc, "out of memory"),

@@ -6,7 +6,7 @@ ghost use Rattle.facet_format.specs.Span.{stop};
 ghost use Rattle.facet_format.specs.Standing.{IsStep};
 ghost use Rattle.facet_format.specs.Views.{event_kind_of, event_of, refusal_of, scalar_value_of};
 ghost use Rattle.facet_json_document.specs.Future.{finished};
-ghost use Rattle.facet_json_document.specs.Now.{ahead, future_of, span_of as last_read, GoesOn, StandsAt};
+ghost use Rattle.facet_json_document.specs.Now.{ahead, future_of, current_span_of as last_read, GoesOn, StandsAt};
 ghost use Rattle.facet_json_document.specs.Move.{Moves};
 ghost use Rattle.facet_json_document.specs.Next.{IsOver, PassesNext};
 ghost use Rattle.facet_json_document.specs.Within.{RefusalWithin};

@@ -2,8 +2,8 @@
 
 ghost use Rattle.std.specs.Option.{option_map};
 ghost use Rattle.facet_format.specs.Views.{span_of};
-ghost use Rattle.facet_json_core.specs.ErrorKind.{text};
-ghost use Rattle.facet_json_core.specs.ErrorViews.{kind_of};
+ghost use Rattle.facet_json_core.specs.ErrorKind.{error_text};
+ghost use Rattle.facet_json_core.specs.ErrorViews.{error_kind_of};
 ghost use Rattle.facet_json_core.specs.Report.{report_text};
 
 use crate::place::Place;
@@ -27,7 +27,7 @@ pub struct Report<'a> {
 }
 
 impl fmt::Display for Report<'_> {
-    ghost output = { λ report. report_text (text (kind_of report.error.now.kind)) report.source.now
+    ghost output = { λ report. report_text (error_text (error_kind_of report.error.now.kind)) report.source.now
         (option_map span_of report.error.now.span) };
 
     fn fmt<W: fmt::Write>(&self, f: &mut fmt::Formatter<W>) -> fmt::Result {

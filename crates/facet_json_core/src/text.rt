@@ -4,8 +4,8 @@ ghost use Rattle.std.specs.Prelude.{◌≡◌, map, Some};
 ghost use Rattle.std.specs.Fmt.{◌++?◌, DisplaysOnOk};
 ghost use Rattle.facet_format.specs.Views.{complaint_of};
 ghost use Rattle.facet_json_core.specs.ErrorKind as table;
-ghost use Rattle.facet_json_core.specs.ErrorKind.{read_text, suggestion_text, text, unknown_text};
-ghost use Rattle.facet_json_core.specs.ErrorViews.{kind_of};
+ghost use Rattle.facet_json_core.specs.ErrorKind.{read_text, suggestion_text, error_text, unknown_text};
+ghost use Rattle.facet_json_core.specs.ErrorViews.{error_kind_of};
 
 use crate::error::JsonError;
 use crate::kind::JsonErrorKind;
@@ -14,7 +14,7 @@ use std::fmt;
 
 /// The message: a line for a person, without its line feed.
 impl fmt::Display for JsonErrorKind {
-    ghost output = { λ kind. text (kind_of kind) };
+    ghost output = { λ kind. error_text (error_kind_of kind) };
 
     fn fmt<W: fmt::Write>(&self, f: &mut fmt::Formatter<W>) -> fmt::Result {
         match self {
@@ -138,7 +138,7 @@ pub(crate) fn tells_where(expected: &str) -> bool
 
 /// The message of its kind.
 impl fmt::Display for JsonError {
-    ghost output = { λ error. text (kind_of error.kind) };
+    ghost output = { λ error. error_text (error_kind_of error.kind) };
 
     fn fmt<W: fmt::Write>(&self, f: &mut fmt::Formatter<W>) -> fmt::Result {
         fmt::Display::fmt(&self.kind, f)

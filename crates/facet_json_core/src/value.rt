@@ -15,12 +15,12 @@ ghost use Rattle.facet_json_document.specs.Next.{PassesNext};
 ghost use Rattle.facet_json_document.specs.Now.{ahead, fresh, fresh_in, future_of, GoesOn};
 ghost use Rattle.facet_json_serializer.specs.Serializer.{Writing as SpecWriting, Appends};
 ghost use Rattle.facet_json_serializer.specs.TreeCalls.{with_tree};
-ghost use Rattle.facet_json_serializer.specs.Views.{answer_of};
+ghost use Rattle.facet_json_serializer.specs.Views.{call_answer_of};
 ghost use Rattle.facet_json_core.specs.Reading.{GivesNone};
 ghost use Rattle.facet_json_core.specs.Refusing.{TellsRefusal};
 ghost use Rattle.facet_json_core.specs.Told.{begins};
-ghost use Rattle.facet_json_core.specs.Transcode.{call_of, depth_after as spec_depth_after, IsWritten, BeginsNone};
-ghost use Rattle.facet_json_core.specs.TranscodeViews.{IsUnwritten, LacksMemory, IsRefused, IsWithin, IsMisplaced, TellsError};
+ghost use Rattle.facet_json_core.specs.Transcode.{serializer_call_of, containers_after as spec_depth_after, IsWritten, BeginsNone};
+ghost use Rattle.facet_json_core.specs.TranscodeViews.{IsUnwritten, TranscodeLacksMemory, IsTranscodeRefused, ErrorWithin, IsMisplaced, TellsError};
 
 use crate::transcode_error::TranscodeError;
 use crate::next::{mismatch, next_of_value};
@@ -56,10 +56,10 @@ pub fn transcode<'t>(
     ensures document { (input : List ℕ) (mode : SpecMode) (w : SpecWriting) → parser.old ≡ fresh input mode → serializer.old ≡ Some w
         → OnOk result ((root : Node) × (value : SpecTree) × IsDocument input mode root value × (serializer.new ≡ Some (with_tree w value))) }
     ensures refused { (input : List ℕ) (mode : SpecMode) (w : SpecWriting) → parser.old ≡ fresh input mode → serializer.old ≡ Some w
-        → IfErr result (λ e. IsRefused input mode e) }
+        → IfErr result (λ e. IsTranscodeRefused input mode e) }
     ensures only { (input : List ℕ) (mode : SpecMode) (w : SpecWriting) → parser.old ≡ fresh input mode → serializer.old ≡ Some w
         → (root : Node) (value : SpecTree) → IsDocument input mode root value
-        → MatchResult result (λ _. serializer.new ≡ Some (with_tree w value)) (λ e. LacksMemory e) }
+        → MatchResult result (λ _. serializer.new ≡ Some (with_tree w value)) (λ e. TranscodeLacksMemory e) }
     ensures over { (input : List ℕ) (mode : SpecMode) (w : SpecWriting) → parser.old ≡ fresh input mode → serializer.old ≡ Some w
         → OnOk result (future_of parser.new ≡ finished) }
     ensures strict { (input : List ℕ) (w : SpecWriting) → parser.old ≡ fresh_in input (strict plain) → serializer.old ≡ Some w
@@ -67,8 +67,8 @@ pub fn transcode<'t>(
         → (root : Node) × (value : SpecTree) × IsStrictDocument input root value × (serializer.new ≡ Some (with_tree w value))) }
     ensures strict_only { (input : List ℕ) (w : SpecWriting) → parser.old ≡ fresh_in input (strict plain) → serializer.old ≡ Some w
         → (root : Node) (value : SpecTree) → IsStrictDocument input root value
-        → MatchResult result (λ _. (serializer.new ≡ Some (with_tree w value)) × (future_of parser.new ≡ finished)) (λ e. LacksMemory e) }
-    ensures within { IfErr result (λ e. IsWithin (length parser.old.buffer) e) }
+        → MatchResult result (λ _. (serializer.new ≡ Some (with_tree w value)) × (future_of parser.new ≡ finished)) (λ e. TranscodeLacksMemory e) }
+    ensures within { IfErr result (λ e. ErrorWithin (length parser.old.buffer) e) }
     ensures tells { IfErr result (λ e. TellsError parser.old parser.new e) }
     ensures misplaced { (p : Passed) (rest : Future) → parser.old.cursor.refusal ≡ None → future_of parser.old ≡ gives p rest → begins p.event.kind ≡ false
         → MatchResult result (λ _. ⊥) (IsMisplaced p.event) × (serializer.new ≡ serializer.old) }
@@ -87,7 +87,7 @@ fn pass_value<'t>(
         → OnOk result (IsWritten (future_of parser.old) w (future_of parser.new) serializer.new) }
     ensures unwritten { (w : SpecWriting) → serializer.old ≡ Some w → parser.old.cursor.refusal ≡ None
         → IfErr result (λ e. IsUnwritten parser.old.buffer (future_of parser.old) e) }
-    ensures within { IfErr result (λ e. IsWithin (length parser.old.buffer) e) }
+    ensures within { IfErr result (λ e. ErrorWithin (length parser.old.buffer) e) }
     ensures tells { IfErr result (λ e. TellsError parser.old parser.new e) }
     ensures misplaced { (p : Passed) (rest : Future) → parser.old.cursor.refusal ≡ None → future_of parser.old ≡ gives p rest → begins p.event.kind ≡ false
         → MatchResult result (λ _. ⊥) (IsMisplaced p.event) × (serializer.new ≡ serializer.old) }
@@ -170,7 +170,7 @@ fn pass(
     serializer: &mut JsonSerializer<'_>,
     kind: ParseEventKind<'_>,
 ) -> Result<(), JsonSerializeError>
-    ensures { Appends serializer.old (call_of (event_kind_of kind.entry)) (answer_of result) serializer.new }
+    ensures { Appends serializer.old (serializer_call_of (event_kind_of kind.entry)) (call_answer_of result) serializer.new }
 {
     match kind {
         ParseEventKind::StructStart(_) => serializer.begin_struct(),

@@ -11,7 +11,7 @@ use Rattle.facet_json_document.specs.Refusal.{IsStuck}
 use Rattle.facet_format.specs.Event.{Passed, takes_memory}
 use Rattle.facet_format.specs.Cursor.{Upcoming, Cursor, World, last_seen, current_span, at_spot, unpeeked, Call, next, Answer, event, no_memory_at, Step, repeats, passes, passes_without_memory, passes_the_end, passes_nothing, Run, no_calls, one_call}
 use Rattle.facet_json_document.specs.Future.{gives, stuck, events_before}
-use Rattle.facet_json_document.specs.InputPlace.{Standing, past, future_at}
+use Rattle.facet_json_document.specs.InputPlace.{Reader, past, future_at}
 use Rattle.facet_json_document.specs.Now.{Now, fresh, first_of, on_input, RefusedAt}
 use Rattle.facet_json_document.specs.Move.{MovesAll}
 use Rattle.facet_json_document.specs.Begun.{RefusesAfter}
@@ -49,13 +49,13 @@ module _ {P : Type 0} (w : World P) where
 module _ (buffer : List ℕ) (language : Language) (refusal : Refusal) (here : Place) (rest : Tokens)
     (only_so : (r : Refusal) → IsStuck buffer here rest r → r ≡ refusal) where
   -- These events come at the cursor's place, which is after this last token, and then no document goes on.
-  pub record ComesAlone (c : Cursor Standing) (last : Span) (events : List Passed) : Type 0 where
+  pub record ComesAlone (c : Cursor Reader) (last : Span) (events : List Passed) : Type 0 where
     pub free : c.refusal ≡ None
     pub last_is : c.spot.place.last ≡ last
     pub comes : future_at buffer language c.spot.place ≡ events_before events (stuck here rest)
 
   -- The first answer, and the others.
-  step_alone : (c : Cursor Standing) (last : Span) (events : List Passed) (answers : List Answer) {between d : Cursor Standing}
+  step_alone : (c : Cursor Reader) (last : Span) (events : List Passed) (answers : List Answer) {between d : Cursor Reader}
       {answer : Answer} {calls : List Call} → ComesAlone c last events → AllNext calls →
       Step (on_input buffer language) c next answer between → Run (on_input buffer language) between calls answers d →
       ((p : Passed) (others : List Passed) → events ≡ p ∷ others → ComesAlone between p.last others →
@@ -94,7 +94,7 @@ module _ (buffer : List ℕ) (language : Language) (refusal : Refusal) (here : P
       let first = ap first_of at.comes in cc
 
   -- What comes is answered event by event, and then the refusal.
-  pub answers-alone : (last : Span) (events : List Passed) {c d : Cursor Standing} {calls : List Call} {answers : List Answer} →
+  pub answers-alone : (last : Span) (events : List Passed) {c d : Cursor Reader} {calls : List Call} {answers : List Answer} →
       ComesAlone c last events → AllNext calls → Run (on_input buffer language) c calls answers d →
       AnswersAlone refusal last events answers
   answers-alone last events at no_call (no_calls c) = not_asked last events

@@ -10,7 +10,7 @@ use Rattle.facet_json_document.specs.Node.{Node, scalar, Nodes, no_nodes, item, 
 use Rattle.facet_json_document.specs.Node as shapes
 use Rattle.facet_json_document.specs.Tree.{Tree, Trees, no_trees, Pairs, no_pairs}
 use Rattle.facet_json_document.specs.Tree as trees
-use Rattle.facet_json_document.specs.Meaning.{meaning, tree_of, trees_of, pairs_of, text_of}
+use Rattle.facet_json_document.specs.Meaning.{meaning, tree_of, trees_of, pairs_of, text_in_tree}
 use Rattle.facet_json_document.specs.Place.{Place, root, before_key, after_key, after_colon, after_member, before_item, after_item}
 use Rattle.facet_format.specs.Event.{Passed}
 use Rattle.facet_format.specs.Event as event
@@ -97,7 +97,7 @@ module _ (buffer : List ℕ) where
 
   -- A member is completed by what completes its value and a closing brace.
   member_completes : (key mark : Token) (ts rest : Tokens) (name : List ℕ) (events : List Passed) → is_string key.kind ≡ true →
-      text_of (meaning buffer key) ≡ Some name → mark.kind ≡ token.colon → Completed ts rest events →
+      text_in_tree (meaning buffer key) ≡ Some name → mark.kind ≡ token.colon → Completed ts rest events →
       ObjectCompleted (next key (next mark ts)) rest (key_event buffer key mark ∷ events)
   unfolding pairs_of
   member_completes key mark ts rest name events k n p c =
@@ -297,7 +297,7 @@ module _ (buffer : List ℕ) where
   item_passed ts others rest mid node value separator s t k (inr b) =
       inr (walk buffer node ++ b.0, b.1, past_item ts others mid node value separator b.0 (walk buffer node ++ b.0) b.1 s t k b.2 refl)
 
-  module _ (key mark : Token) (ts : Tokens) (name : List ℕ) (k : is_string key.kind ≡ true) (n : text_of (meaning buffer key) ≡ Some name)
+  module _ (key mark : Token) (ts : Tokens) (name : List ℕ) (k : is_string key.kind ≡ true) (n : text_in_tree (meaning buffer key) ≡ Some name)
       (p : mark.kind ≡ token.colon) where
     member_value_begins : (mid : Tokens) → HasBegun after_colon (within after_member) ts mid → ObjectHasBegun (next key (next mark ts)) mid
     member_value_begins mid b = (key_event buffer key mark ∷ b.0, b.1, begins_member key mark ts mid name b.0 b.1 k n p b.2)

@@ -5,7 +5,7 @@ use Rattle.facet_json_token.specs.Gap.{Mode}
 use Rattle.facet_format.specs.Complaint.{Refusal}
 use Rattle.facet_format.specs.Event.{Event}
 use Rattle.facet_format.specs.Cursor.{Call, next, Answer, event, World, Cursor, Step, repeats, passes, passes_without_memory, passes_the_end, passes_nothing, Run, one_call}
-use Rattle.facet_json_document.specs.InputPlace.{Standing}
+use Rattle.facet_json_document.specs.InputPlace.{Reader}
 use Rattle.facet_json_document.specs.Now.{Now, fresh, fresh_in, on_input, ahead}
 use Rattle.facet_json_document.specs.StrictHeadline.{EndsInTimeIn}
 use Rattle.facet_json_document.specs.Move.{Moves, MovesAll}
@@ -37,7 +37,7 @@ first-ends now between answers good (one (Ok (Some e))) move more =
     past_event e answers (more (next-lowers now good between e move))
 
 -- Of more calls than there are bytes ahead one is answered with the end or a refusal.
-ahead-ends : (now : Now) (d : Cursor Standing) (calls : List Call) (answers : List Answer) → NowWithin now → AllNext calls →
+ahead-ends : (now : Now) (d : Cursor Reader) (calls : List Call) (answers : List Answer) → NowWithin now → AllNext calls →
     ahead now < length calls → Run (on_input now.buffer now.language) now.cursor calls answers d → Ends answers
 ahead-ends now d _ _ good no_call h run = absurd (omega (arith, h))
 ahead-ends now d _ _ good (one_next _ only) h (one_call c between _ call answer calls answers step more) =

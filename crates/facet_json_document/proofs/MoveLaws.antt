@@ -5,13 +5,13 @@ use Rattle.facet_format.specs.Complaint.{Refusal}
 use Rattle.facet_format.specs.Event.{Event}
 use Rattle.facet_format.specs.Kept.{found}
 use Rattle.facet_format.specs.Cursor.{Call, next, peek, save, restore, Answer, event, saved, Cursor, Step, no_calls, one_call}
-use Rattle.facet_json_document.specs.InputPlace.{Standing}
+use Rattle.facet_json_document.specs.InputPlace.{Reader}
 use Rattle.facet_json_document.specs.Now.{Now, on_input, SameInput, SamePoints}
 use Rattle.facet_json_document.specs.Move.{Moves, MovesAll, with_kept}
 use Rattle.facet_json_document.proofs.StepLaws.{leaves_points, step-points, step-peeked, step-saved, step-unsaved, step-unknown, run-append}
 
 -- the parser with another cursor
-abbrev pub with_cursor : Now → Cursor Standing → Now
+abbrev pub with_cursor : Now → Cursor Reader → Now
 with_cursor now c = record now { cursor = c }
 
 -- A parser of the same input is the one with its cursor.
@@ -23,12 +23,12 @@ pub same_cursor-is : (old new : Now) → SameInput old new → new.cursor ≡ ol
 same_cursor-is old new input same = same_input-is old new input ∙ ap (with_cursor old) same
 
 -- a step of the parser's cursor
-abbrev pub StepOf : Now → Call → Answer → Cursor Standing → Type 0
+abbrev pub StepOf : Now → Call → Answer → Cursor Reader → Type 0
 StepOf now call answer c = Step (on_input now.buffer now.language) now.cursor call answer c
 
 -- What holds of the parser after each step holds of the one that a move leaves.
 pub by_step : (F : Now → Type 0) (old new : Now) {call : Call} {answer : Answer} → Moves old call answer new →
-    ((d : Cursor Standing) → StepOf old call answer d → F (with_cursor old d)) → F new
+    ((d : Cursor Reader) → StepOf old call answer d → F (with_cursor old d)) → F new
 by_step F old new move h = subst F (sym (same_input-is old new move.input)) (h new.cursor move.step)
 
 -- Every call but a save and a restore leaves the points and the counter.
@@ -39,7 +39,7 @@ moves-points old new move e =
     record { kept = points.0; counter = points.1 }
 
 -- The step of a parser of the same input.
-step-here : (old between : Now) {call : Call} {answer : Answer} {d : Cursor Standing} → SameInput old between →
+step-here : (old between : Now) {call : Call} {answer : Answer} {d : Cursor Reader} → SameInput old between →
     Step (on_input between.buffer between.language) between.cursor call answer d →
     Step (on_input old.buffer old.language) between.cursor call answer d
 step-here old between input step = rw (← input.buffer, ← input.language) step

@@ -6,7 +6,7 @@ use Rattle.facet_format.specs.Event.{Event, Passed}
 use Rattle.facet_format.specs.Cursor.{next, peek, events, Answer, event, batch, an_event, the_end, Cursor, Comes, no_event, one_event, repeats, passes, passes_the_end, peeks, peeks_at_the_end, gives_none, gives, gives_up, gives_without_memory, spot_after, Spot}
 use Rattle.facet_json_document.specs.Language.{Language}
 use Rattle.facet_json_document.specs.Future.{Future, gives as gives_first, finished, stuck, events_before}
-use Rattle.facet_json_document.specs.InputPlace.{Standing, past, future_at}
+use Rattle.facet_json_document.specs.InputPlace.{Reader, past, future_at}
 use Rattle.facet_json_document.proofs.PastEvents.{past-comes}
 use Rattle.facet_json_document.specs.Now.{Now, future_of, first_of, on_input}
 use Rattle.facet_json_document.specs.Move.{Moves}
@@ -26,19 +26,19 @@ first-over (gives_first q rest) e = cc
 first-over (stuck place rest) e = cc
 
 -- Where an event comes, what comes at the place after it comes behind it.
-pub event-comes : (buffer : List ℕ) (language : Language) (s : Standing) (p : Passed) → first_of (future_at buffer language s) ≡ an_event p →
+pub event-comes : (buffer : List ℕ) (language : Language) (s : Reader) (p : Passed) → first_of (future_at buffer language s) ≡ an_event p →
     future_at buffer language s ≡ gives_first p (future_at buffer language (past p s))
 event-comes buffer language s p e =
     let (rest, is) = first-gives (future_at buffer language s) p e in
     is ∙ ap (gives_first p) (sym (past-comes buffer language s p rest is))
 
 -- Where the end comes, nothing does.
-pub end-comes : (buffer : List ℕ) (language : Language) (s : Standing) → first_of (future_at buffer language s) ≡ the_end →
+pub end-comes : (buffer : List ℕ) (language : Language) (s : Reader) → first_of (future_at buffer language s) ≡ the_end →
     future_at buffer language s ≡ finished
 end-comes buffer language s e = first-over (future_at buffer language s) e
 
 -- Events that come one after another are what comes before the place after them.
-pub Comes-before : (buffer : List ℕ) (language : Language) {s after : Standing} {given : List Event} →
+pub Comes-before : (buffer : List ℕ) (language : Language) {s after : Reader} {given : List Event} →
     Comes (on_input buffer language) s given after → (passed : List Passed) × (map (λ p. p.event) passed ≡ given)
     × (future_at buffer language s ≡ events_before passed (future_at buffer language after))
 Comes-before buffer language (no_event place) = ([], refl, refl)
@@ -52,12 +52,12 @@ none-passed : (now : Now) {given : List Event} → [] ≡ given → PassesAll no
 none-passed now e = record { passed = []; events = e; comes = refl }
 
 -- The spot after events is at the place after them.
-pub spot_after-place : {given : List Event} (buffer : List ℕ) (language : Language) (spot : Spot Standing) {after : Standing} →
+pub spot_after-place : {given : List Event} (buffer : List ℕ) (language : Language) (spot : Spot Reader) {after : Reader} →
     Comes (on_input buffer language) spot.place given after → (spot_after given after spot).place ≡ after
 spot_after-place buffer language spot (no_event place) = refl
 spot_after-place buffer language spot (one_event place after p others e more) = refl
 
-all-passed : (now : Now) (d : Cursor Standing) (after : Standing) {es given : List Event} →
+all-passed : (now : Now) (d : Cursor Reader) (after : Reader) {es given : List Event} →
     Comes (on_input now.buffer now.language) now.cursor.spot.place es after → d.spot ≡ spot_after es after now.cursor.spot →
     es ≡ given → PassesAll now given (with_cursor now d)
 all-passed now d after all spot same =
@@ -70,7 +70,7 @@ all-passed now d after all spot same =
     }
 
 module _ (now : Now) where
-  next_passes : (d : Cursor Standing) (e : Event) (answer : Answer) → answer ≡ event (Ok (Some e)) →
+  next_passes : (d : Cursor Reader) (e : Event) (answer : Answer) → answer ≡ event (Ok (Some e)) →
       StepOf now next answer d → PassesNext now e (with_cursor now d)
   next_passes d e answer is (repeats r call a f g) = cc
   next_passes d e answer is (passes p none goes) =
@@ -84,14 +84,14 @@ module _ (now : Now) where
       }
   next_passes d e answer is _ = cc
 
-  next_over : (d : Cursor Standing) (answer : Answer) → answer ≡ event (Ok None) →
+  next_over : (d : Cursor Reader) (answer : Answer) → answer ≡ event (Ok None) →
       StepOf now next answer d → IsOver now (with_cursor now d)
   next_over d answer is (repeats r call a f g) = cc
   next_over d answer is (passes_the_end none f) =
       let over = end-comes now.buffer now.language now.cursor.spot.place f in record { over = over; stays = over; free = none }
   next_over d answer is _ = cc
 
-  peek_shows : (d : Cursor Standing) (e : Event) (answer : Answer) → answer ≡ event (Ok (Some e)) →
+  peek_shows : (d : Cursor Reader) (e : Event) (answer : Answer) → answer ≡ event (Ok (Some e)) →
       StepOf now peek answer d → ShowsNext now e (with_cursor now d)
   peek_shows d e answer is (repeats r call a f g) = cc
   peek_shows d e answer is (peeks p none goes) =
@@ -107,14 +107,14 @@ module _ (now : Now) where
       }
   peek_shows d e answer is _ = cc
 
-  peek_over : (d : Cursor Standing) (answer : Answer) → answer ≡ event (Ok None) →
+  peek_over : (d : Cursor Reader) (answer : Answer) → answer ≡ event (Ok None) →
       StepOf now peek answer d → IsOver now (with_cursor now d)
   peek_over d answer is (repeats r call a f g) = cc
   peek_over d answer is (peeks_at_the_end none f) =
       let over = end-comes now.buffer now.language now.cursor.spot.place f in record { over = over; stays = over; free = none }
   peek_over d answer is _ = cc
 
-  events_pass : (d : Cursor Standing) (limit : ℕ) (given : List Event) (result : Result ℕ Refusal) (answer : Answer) →
+  events_pass : (d : Cursor Reader) (limit : ℕ) (given : List Event) (result : Result ℕ Refusal) (answer : Answer) →
       answer ≡ batch given result → StepOf now (events limit) answer d → PassesAll now given (with_cursor now d)
   events_pass d zero given result answer is (repeats r call a f g) = cc
   events_pass d (suc k) given result answer is (repeats r call a f g) = let none : [] ≡ given = cc in none-passed now none
@@ -126,7 +126,7 @@ module _ (now : Now) where
   events_pass d limit given result answer is (gives_up k es place r none all le stops so) =
       let same : es ≡ given = cc in all-passed now d place all refl same
 
-  events_count : (d : Cursor Standing) (limit n : ℕ) (given : List Event) (answer : Answer) → answer ≡ batch given (Ok n) →
+  events_count : (d : Cursor Reader) (limit n : ℕ) (given : List Event) (answer : Answer) → answer ≡ batch given (Ok n) →
       StepOf now (events limit) answer d → n ≡ length given
   events_count d zero n given answer is (repeats r call a f g) = cc
   events_count d (suc k) n given answer is (repeats r call a f g) = cc
@@ -136,7 +136,7 @@ module _ (now : Now) where
   events_count d limit n given answer is (gives_without_memory k es place p spot none all le more there) = cc
   events_count d limit n given answer is (gives_up k es place r none all le stops so) = cc
 
-  events_over : (d : Cursor Standing) (limit n : ℕ) (given : List Event) (answer : Answer) → answer ≡ batch given (Ok n) →
+  events_over : (d : Cursor Reader) (limit n : ℕ) (given : List Event) (answer : Answer) → answer ≡ batch given (Ok n) →
       StepOf now (events limit) answer d → n < limit →
       future_of (with_cursor now d) ≡ finished
   events_over d zero n given answer is (repeats r call a f g) less = cc

@@ -11,7 +11,7 @@ use Rattle.facet_json_document.specs.Place.{Place, after_key, after_colon, Turn,
 use Rattle.facet_json_document.proofs.InOrder.{InOrder}
 use Rattle.facet_json_document.specs.Walk.{event_at, scalar_event, key_event}
 use Rattle.facet_json_document.specs.Future.{Future, gives, stuck, Stage, within, over, stack_after, stage_after, turn, behind_root, reads_by, reads_colon_by}
-use Rattle.facet_json_document.specs.InputPlace.{Standing, past, future_at}
+use Rattle.facet_json_document.specs.InputPlace.{Reader, past, future_at}
 use Rattle.facet_json_document.proofs.TokensIn.{tokens_in-others}
 use Rattle.facet_json_document.proofs.WalkComes.{follows, reads-turn}
 use Rattle.facet_json_document.proofs.EventsInOrder.{IsSound, sound_event, sound_stuck, comes-sound}
@@ -86,14 +86,14 @@ module _ (language : Language) (buffer : List ℕ) where
 -- ---- from a place of an input
 
 -- After an event comes what comes at the place after it.
-pub past-comes : (buffer : List ℕ) (language : Language) (s : Standing) (p : Passed) (rest : Future) →
+pub past-comes : (buffer : List ℕ) (language : Language) (s : Reader) (p : Passed) (rest : Future) →
     future_at buffer language s ≡ gives p rest → future_at buffer language (past p s) ≡ rest
 past-comes buffer language s p rest e =
     let at = stop s.last in
     tokens_past_event language buffer (tokens_in language buffer at) s.stack s.stage at p rest refl e
 
 -- What comes from a place within the input lies after it.
-comes_in_order : (buffer : List ℕ) (language : Language) (s : Standing) (future : Future) → stop s.last ≤ length buffer →
+comes_in_order : (buffer : List ℕ) (language : Language) (s : Reader) (future : Future) → stop s.last ≤ length buffer →
     future_at buffer language s ≡ future → IsSound buffer (stop s.last) future
 comes_in_order buffer language s future w e =
     subst (IsSound buffer (stop s.last)) e (comes-sound language buffer s.stack s.stage (stop s.last) w)
@@ -103,7 +103,7 @@ event_within : (buffer : List ℕ) (from : ℕ) (p : Passed) (rest : Future) →
 event_within buffer from p rest (sound_event _ _ _ b e w more) = (b, e, w)
 
 -- So an event lies within the input, after the last token before it.
-pub comes-within : (buffer : List ℕ) (language : Language) (s : Standing) (p : Passed) (rest : Future) → stop s.last ≤ length buffer →
+pub comes-within : (buffer : List ℕ) (language : Language) (s : Reader) (p : Passed) (rest : Future) → stop s.last ≤ length buffer →
     future_at buffer language s ≡ gives p rest →
     (stop s.last < stop p.last) × (stop p.event.span ≤ stop p.last) × (stop p.last ≤ length buffer)
 comes-within buffer language s p rest w e = event_within buffer (stop s.last) p rest (comes_in_order buffer language s _ w e)
@@ -113,6 +113,6 @@ stuck_in_order : (buffer : List ℕ) (from : ℕ) (place : Place) (rest : Tokens
 stuck_in_order buffer from place rest (sound_stuck _ _ _ o) = o
 
 -- The tokens with which no document goes on are in order, and lie after the last token before them.
-pub stuck-in_order : (buffer : List ℕ) (language : Language) (s : Standing) (place : Place) (rest : Tokens) → stop s.last ≤ length buffer →
+pub stuck-in_order : (buffer : List ℕ) (language : Language) (s : Reader) (place : Place) (rest : Tokens) → stop s.last ≤ length buffer →
     future_at buffer language s ≡ stuck place rest → InOrder buffer (stop s.last) rest
 stuck-in_order buffer language s place rest w e = stuck_in_order buffer (stop s.last) place rest (comes_in_order buffer language s _ w e)

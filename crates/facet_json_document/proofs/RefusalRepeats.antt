@@ -4,7 +4,7 @@ use Rattle.std.specs.Prelude.{Err}
 use Rattle.facet_format.specs.Complaint.{Refusal}
 use Rattle.facet_format.specs.Kept.{found}
 use Rattle.facet_format.specs.Cursor.{Call, next, peek, events, skip, capture, save, restore, span, Answer, event, batch, skipped, raw, saved, World, Cursor, Step, repeats, passes, passes_without_memory, passes_the_end, passes_nothing, peeks, peeks_without_memory, peeks_at_the_end, peeks_at_nothing, gives_none, gives, gives_up, gives_without_memory, skips, skips_without_memory, skips_nothing, captures, captures_without_memory, captures_nothing, saves, saves_at_the_limit, saves_without_memory, restores, restores_nothing, tells, Run, no_calls, one_call, repeated}
-use Rattle.facet_json_document.specs.InputPlace.{Standing}
+use Rattle.facet_json_document.specs.InputPlace.{Reader}
 use Rattle.facet_json_document.specs.Now.{Now, on_input}
 use Rattle.facet_json_document.specs.Move.{Moves, MovesAll}
 use Rattle.facet_json_document.specs.CallLaws.{refusal_in, RestoresNone, no_call, another, AllRepeat}
@@ -58,9 +58,9 @@ pub refused-sticks : (old new : Now) (call : Call) (answer : Answer) (r : Refusa
     refusal_in answer ≡ Some r → new.cursor.refusal ≡ Some r
 refused-sticks old new call answer r move refused = step-sticks (on_input old.buffer old.language) old.cursor new.cursor r move.step refused
 
-module _ (w : World Standing) where
+module _ (w : World Reader) where
   -- A call that restores no kept point leaves a refused cursor as it is.
-  step-stays : (c d : Cursor Standing) (r : Refusal) (call : Call) (answer : Answer) → c.refusal ≡ Some r →
+  step-stays : (c d : Cursor Reader) (r : Refusal) (call : Call) (answer : Answer) → c.refusal ≡ Some r →
       ((point : ℕ) → call ≡ restore point → found point c.kept ≡ None) → Step w c call answer d → d ≡ c
   step-stays c d r next answer f none step = step-refused w c d r next answer step refl f
   step-stays c d r peek answer f none step = step-refused w c d r peek answer step refl f
@@ -72,7 +72,7 @@ module _ (w : World Standing) where
   step-stays c d r span answer f none step = step-refused w c d r span answer step refl f
 
   -- A refused cursor repeats its refusal, and stays as it is, by all calls that restore no kept point.
-  run-repeats : {c d : Cursor Standing} {calls : List Call} {answers : List Answer} (r : Refusal) → c.refusal ≡ Some r →
+  run-repeats : {c d : Cursor Reader} {calls : List Call} {answers : List Answer} (r : Refusal) → c.refusal ≡ Some r →
       RestoresNone c.kept calls → Run w c calls answers d → AllRepeat r calls answers × (d ≡ c)
   run-repeats r f no_call (no_calls c) = (laws.no_call, refl)
   run-repeats r f (another _ _ none others) (one_call c between d call answer calls answers step more) =

@@ -6,8 +6,8 @@ use Rattle.facet_json_document.specs.Language.{lenient}
 use Rattle.facet_format.specs.Complaint.{Refusal, refusal_at, save_limit}
 use Rattle.facet_format.specs.Kept.{found, with_point}
 use Rattle.facet_format.specs.Cursor.{Call, save, restore, Answer, saved, World, Spot, Cursor, Step, repeats, saves, saves_at_the_limit, saves_without_memory, restores, Run, no_calls, one_call, no_memory_at, back_at}
-use Rattle.facet_json_document.specs.InputPlace.{Standing}
-use Rattle.facet_json_document.specs.Now.{Now, fresh, on_input, span_of, SameInput}
+use Rattle.facet_json_document.specs.InputPlace.{Reader}
+use Rattle.facet_json_document.specs.Now.{Now, fresh, on_input, current_span_of, SameInput}
 use Rattle.facet_json_document.specs.Move.{Moves, MovesAll, with_kept}
 use Rattle.facet_json_document.specs.CallLaws.{NoPoint, no_number, no_memory, NeverRestored, no_call, another, IsBack}
 use Rattle.facet_format.proofs.KeptLaws.{AreUpTo, found-new, found-other, found-kept, found-used, up_to-new, up_to-used}
@@ -94,7 +94,7 @@ abbrev IsNumbered : Now → Result ℕ Refusal → Now → Type 0
 IsNumbered now result new =
     MatchResult result (λ n. (n ≡ suc now.cursor.counter) × (new ≡ with_kept now)) (λ r. NoPoint now r × (new ≡ now))
 
-step-numbered : (now : Now) (d : Cursor Standing) (result : Result ℕ Refusal) (answer : Answer) → answer ≡ saved result →
+step-numbered : (now : Now) (d : Cursor Reader) (result : Result ℕ Refusal) (answer : Answer) → answer ≡ saved result →
     now.cursor.refusal ≡ None → StepOf now save answer d → IsNumbered now result (with_cursor now d)
 step-numbered now d result answer a free (repeats r call _ e f) = cc
 step-numbered now d (Ok n) answer a free (saves none h) = (cc, refl)
@@ -102,9 +102,9 @@ step-numbered now d (Ok n) answer a free (saves_at_the_limit none e) = cc
 step-numbered now d (Ok n) answer a free (saves_without_memory none h) = cc
 step-numbered now d (Err r) answer a free (saves none h) = cc
 step-numbered now d (Err r) answer a free (saves_at_the_limit none e) =
-    let same : r ≡ refusal_at save_limit (span_of now) = cc in rw same (no_number e, refl)
+    let same : r ≡ refusal_at save_limit (current_span_of now) = cc in rw same (no_number e, refl)
 step-numbered now d (Err r) answer a free (saves_without_memory none h) =
-    let same : r ≡ no_memory_at (span_of now) = cc in rw same (no_memory h, refl)
+    let same : r ≡ no_memory_at (current_span_of now) = cc in rw same (no_memory h, refl)
 
 pub moves-numbered : (now new : Now) (result : Result ℕ Refusal) → now.cursor.refusal ≡ None → Moves now save (saved result) new →
     MatchResult result (λ n. (n ≡ suc now.cursor.counter) × (new ≡ with_kept now)) (λ r. NoPoint now r × (new ≡ now))

@@ -10,7 +10,7 @@ use Rattle.facet_format.specs.Span.{span_at, stop}
 use Rattle.facet_json_token.specs.Token.{Token}
 use Rattle.facet_json_token.specs.Tokens.{Tokens, next}
 use Rattle.facet_json_document.specs.Future.{Stage}
-use Rattle.facet_json_document.specs.InputPlace.{Standing}
+use Rattle.facet_json_document.specs.InputPlace.{Reader}
 use Rattle.facet_json_document.specs.Language.{Rules, rules}
 use Rattle.facet_json_document.specs.Node.{is_scalar}
 use Rattle.facet_json_document.specs.Place.{Place, Turn, stops, passes, says, place_turn, leads_on, led}
@@ -34,7 +34,7 @@ stops-none stops l b = cc
 stops-none _ l b = cc
 
 -- A value that begins with this token: a run, or one that breaks off.
-data IsValueFrom (buffer : List ℕ) (stack : List ContainerKind) (first : Token) (others : Tokens) : Part Standing → Type 0 where
+data IsValueFrom (buffer : List ℕ) (stack : List ContainerKind) (first : Token) (others : Tokens) : Part Reader → Type 0 where
   is_run : (last : Token) (rest : Tokens) → Run (next first others) last rest →
       IsValueFrom buffer stack first others
       (value (not (is_scalar first.kind)) first.span.offset (stop last.span) (past_value last.span stack))
@@ -42,7 +42,7 @@ data IsValueFrom (buffer : List ℕ) (stack : List ContainerKind) (first : Token
 
 module _ (buffer : List ℕ) (by : Rules) (stack : List ContainerKind) where
   -- At the value's first token the part is that value.
-  value-here : (place : Place) (first : Token) (others : Tokens) (part : Part Standing) →
+  value-here : (place : Place) (first : Token) (others : Tokens) (part : Part Reader) →
       begins_value (place_turn place first.kind) ≡ true → PartFrom buffer by stack place (next first others) part →
       IsValueFrom buffer stack first others part
   value-here place first others part b (separator _ other _ _ _ e more) = cc
@@ -53,7 +53,7 @@ module _ (buffer : List ℕ) (by : Rules) (stack : List ContainerKind) where
   value-here place first others _ b (none_of_them _ _ r (misplaced _ _ _ e)) = absurd (stops-none (place_turn place first.kind) e b)
 
   -- After a separator the part stands at the next place.
-  past-separator : (place other : Place) (t : Token) (ts : Tokens) (part : Part Standing) → place_turn place t.kind ≡ passes other →
+  past-separator : (place other : Place) (t : Token) (ts : Tokens) (part : Part Reader) → place_turn place t.kind ≡ passes other →
       PartFrom buffer by stack place (next t ts) part → PartFrom buffer by stack (led by other) ts part
   past-separator place other t ts part e (separator _ there _ _ _ f more) =
       let same : there ≡ other = cc in subst (λ x. PartFrom buffer by stack (led by x) ts part) same more
@@ -64,14 +64,14 @@ module _ (buffer : List ℕ) (by : Rules) (stack : List ContainerKind) where
   past-separator place other t ts _ e (none_of_them _ _ r (misplaced _ _ _ f)) = cc
 
   -- Where the tokens go on with a value, the part is that value.
-  value-from : (place : Place) (ts : Tokens) (first : Token) (others : Tokens) (part : Part Standing) →
+  value-from : (place : Place) (ts : Tokens) (first : Token) (others : Tokens) (part : Part Reader) →
       GoesOnWith by place ts first others → PartFrom buffer by stack place ts part → IsValueFrom buffer stack first others part
   value-from place _ first others part (with_value _ _ _ b) p = value-here place first others part b p
   value-from place _ first others part (after_separator _ other t _ ts _ e more) p =
       value-from (led by other) ts first others part more (past-separator place other t ts part e p)
 
 -- Where a parser stands before a value, the part that stands there is that value.
-value-stands : (now : Now) (first : Token) (others : Tokens) (part : Part Standing) → BeforeValue now first others →
+value-stands : (now : Now) (first : Token) (others : Tokens) (part : Part Reader) → BeforeValue now first others →
     PartAt now.buffer now.language now.cursor.spot.place part →
     IsValueFrom now.buffer now.cursor.spot.place.stack first others part
 value-stands now first others part at stands =
@@ -83,20 +83,20 @@ value-stands now first others part at stands =
 
 module _ (now : Now) (first : Token) (others : Tokens) where
   -- A value that is skipped is a run, and the place is right after it.
-  skipped-run : (part : Part Standing) (place : Standing) →
+  skipped-run : (part : Part Reader) (place : Reader) →
       IsValueFrom now.buffer now.cursor.spot.place.stack first others part → skip_of part ≡ Ok place →
       (last : Token) × (rest : Tokens) × Run (next first others) last rest × (place ≡ past_value last.span now.cursor.spot.place.stack)
   skipped-run _ place (is_run last rest run) e = (last, rest, run, cc)
   skipped-run _ place (is_broken r breaks) e = cc
 
   -- One that is not skipped breaks off.
-  unskipped-breaks : (part : Part Standing) (r : Refusal) →
+  unskipped-breaks : (part : Part Reader) (r : Refusal) →
       IsValueFrom now.buffer now.cursor.spot.place.stack first others part → skip_of part ≡ Err r → BreaksOff now.buffer (next first others) r
   unskipped-breaks _ r (is_run last rest run) e = cc
   unskipped-breaks _ r (is_broken q breaks) e = let same : q ≡ r = cc in subst (BreaksOff now.buffer (next first others)) same breaks
 
   -- A value with brackets begins with one.
-  bracket-opens : (part : Part Standing) → IsValueFrom now.buffer now.cursor.spot.place.stack first others part →
+  bracket-opens : (part : Part Reader) → IsValueFrom now.buffer now.cursor.spot.place.stack first others part →
       has_brackets part ≡ true → (kind : ContainerKind) × (first.kind ≡ opening kind)
   bracket-opens _ (is_run _ rest (one_token _ _ is)) has = let no : not true ≡ true = ap not (sym is) ∙ has in cc
   bracket-opens _ (is_run last rest (brackets kind _ _ inner _ opens inside closes)) has = (kind, opens)
@@ -105,7 +105,7 @@ module _ (now : Now) (first : Token) (others : Tokens) where
   bracket-opens _ (is_broken r (crossed kind _ last inner rest opens inside closes)) has = (kind, opens)
   bracket-opens _ (is_broken r (nested kind _ inner others refusal opens inside breaks)) has = (kind, opens)
 
-  skip_runs : (d : Cursor Standing) (result : Result (Unit {0}) Refusal) (answer : Answer) → answer ≡ skipped result →
+  skip_runs : (d : Cursor Reader) (result : Result (Unit {0}) Refusal) (answer : Answer) → answer ≡ skipped result →
       now.cursor.refusal ≡ None → BeforeValue now first others → StepOf now skip answer d →
       MatchResult result (λ nothing. PassesRun now first others (with_cursor now d)) (λ r. NotPassed now first others r)
   skip_runs d result answer a free at (repeats r call _ e f) = cc
@@ -131,15 +131,15 @@ skip-runs old new first others result free at move =
 -- ---- captures
 
 -- A text that is captured is UTF-8.
-captured-text : (start finish : ℕ) (there place : Standing) (content text : List ℕ) (valid : Bool) → is_utf8 content ≡ valid →
+captured-text : (start finish : ℕ) (there place : Reader) (content text : List ℕ) (valid : Bool) → is_utf8 content ≡ valid →
     captured start finish there content valid ≡ Ok (text, place) → (text ≡ content) × (is_utf8 content ≡ true) × (place ≡ there)
 captured-text start finish there place content text true is e =
-    let same : ◌≡◌ {A = List ℕ × Standing} (content, there) (text, place) = cc in
-    (sym (ap (λ (x : List ℕ × Standing). x.0) same), is, sym (ap (λ (x : List ℕ × Standing). x.1) same))
+    let same : ◌≡◌ {A = List ℕ × Reader} (content, there) (text, place) = cc in
+    (sym (ap (λ (x : List ℕ × Reader). x.0) same), is, sym (ap (λ (x : List ℕ × Reader). x.1) same))
 captured-text start finish there place content text false is e = cc
 
 -- One that is not captured is not UTF-8, and is refused over all of it.
-uncaptured-text : (start finish : ℕ) (there : Standing) (content : List ℕ) (valid : Bool) (r : Refusal) → is_utf8 content ≡ valid →
+uncaptured-text : (start finish : ℕ) (there : Reader) (content : List ℕ) (valid : Bool) (r : Refusal) → is_utf8 content ≡ valid →
     captured start finish there content valid ≡ Err r →
     (is_utf8 content ≡ false) × (r ≡ no_raw (codes "invalid UTF-8 in raw JSON") (span_at start (finish - start)))
 uncaptured-text start finish there content true r is e = cc
@@ -147,7 +147,7 @@ uncaptured-text start finish there content false r is e = (is, cc)
 
 module _ (now : Now) (first : Token) (others : Tokens) where
   -- A value that is captured is a run, and its bytes are given.
-  given-run : (d : Cursor Standing) (part : Part Standing) (text : List ℕ) (place : Standing) →
+  given-run : (d : Cursor Reader) (part : Part Reader) (text : List ℕ) (place : Reader) →
       IsValueFrom now.buffer now.cursor.spot.place.stack first others part → capture_of now.buffer part ≡ Ok (text, place) →
       d.spot ≡ unpeeked place → GivesRun now first others (Some text) (with_cursor now d)
   given-run d _ text place (is_run last rest run) e there =
@@ -160,14 +160,14 @@ module _ (now : Now) (first : Token) (others : Tokens) where
   given-run d _ text place (is_broken r breaks) e there = cc
 
   -- One that is not captured breaks off, or is not UTF-8.
-  ungiven-run : (part : Part Standing) (r : Refusal) → IsValueFrom now.buffer now.cursor.spot.place.stack first others part →
+  ungiven-run : (part : Part Reader) (r : Refusal) → IsValueFrom now.buffer now.cursor.spot.place.stack first others part →
       capture_of now.buffer part ≡ Err r → NotGiven now first others r
   ungiven-run _ r (is_run last rest run) e =
       let (bad, same) = uncaptured-text first.span.offset (stop last.span) _ _ _ r refl e in not_utf8 last rest run bad same
   ungiven-run _ r (is_broken q breaks) e =
       let same : q ≡ r = cc in not_passed (breaks_off (subst (BreaksOff now.buffer (next first others)) same breaks))
 
-  capture_runs : (d : Cursor Standing) (result : Result (Option (List ℕ)) Refusal) (answer : Answer) → answer ≡ raw result →
+  capture_runs : (d : Cursor Reader) (result : Result (Option (List ℕ)) Refusal) (answer : Answer) → answer ≡ raw result →
       now.cursor.refusal ≡ None → BeforeValue now first others → StepOf now capture answer d →
       MatchResult result (λ text. GivesRun now first others text (with_cursor now d)) (λ r. NotGiven now first others r)
   capture_runs d result answer a free at (repeats r call _ e f) = cc

@@ -11,7 +11,7 @@ use Rattle.facet_json_document.specs.Tree.{Tree}
 use Rattle.facet_json_document.specs.Document.{IsDocument}
 use Rattle.facet_json_document.specs.Walk.{source_of}
 use Rattle.facet_json_document.specs.Future.{finished, events_before}
-use Rattle.facet_json_document.specs.InputPlace.{Standing, past, future_at}
+use Rattle.facet_json_document.specs.InputPlace.{Reader, past, future_at}
 use Rattle.facet_json_document.proofs.WalkComes.{document-comes}
 use Rattle.facet_json_document.specs.Now.{fresh, first_of, on_input, StandsOn, StandsAt}
 use Rattle.facet_format.proofs.StepsAlike.{WorldsAlike}
@@ -61,7 +61,7 @@ input-on_walk buffer language w = record {
   stands = λ s place part on stands. parts-on_walk buffer language w s place part on stands;
 }
   where
-    passed : (s : Standing) (place : ℕ) (p : Passed) → StandsOn buffer language w s place →
+    passed : (s : Reader) (place : ℕ) (p : Passed) → StandsOn buffer language w s place →
         first_of (future_at buffer language s) ≡ an_event p → StandsOn buffer language w (past p s) (suc place)
     passed s place p on comes =
         let first = first-gives (future_at buffer language s) p comes in

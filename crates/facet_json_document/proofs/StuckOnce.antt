@@ -8,19 +8,19 @@ use Rattle.facet_json_token.specs.Tokens.{Tokens}
 use Rattle.facet_json_token.specs.Fault.{FirstFault}
 use Rattle.facet_json_token.proofs.FaultLaws.{one_fault}
 use Rattle.facet_json_document.specs.Place.{Place}
-use Rattle.facet_json_document.specs.Refusal.{is_number, Complains, of_number, of_plain_string, of_escaped_string, IsStuck, at_end, at_fault, meaningless, misplaced}
+use Rattle.facet_json_document.specs.Refusal.{is_number_kind, Complains, of_number, of_plain_string, of_escaped_string, IsStuck, at_end, at_fault, meaningless, misplaced}
 
 module _ (buffer : List ℕ) where
   -- A token without a meaning is refused in one way.
   complains-once : {t : Token} {r s : Refusal} → Complains buffer t r → Complains buffer t s → r ≡ s
   complains-once (of_number n e) (of_number _ f) = e ∙ sym f
-  complains-once (of_number n e) (of_plain_string start finish k f) = let no : true ≡ false = sym n ∙ ap is_number k in cc
-  complains-once (of_number n e) (of_escaped_string start finish g k is f) = let no : true ≡ false = sym n ∙ ap is_number k in cc
-  complains-once (of_plain_string start finish k e) (of_number n f) = let no : true ≡ false = sym n ∙ ap is_number k in cc
+  complains-once (of_number n e) (of_plain_string start finish k f) = let no : true ≡ false = sym n ∙ ap is_number_kind k in cc
+  complains-once (of_number n e) (of_escaped_string start finish g k is f) = let no : true ≡ false = sym n ∙ ap is_number_kind k in cc
+  complains-once (of_plain_string start finish k e) (of_number n f) = let no : true ≡ false = sym n ∙ ap is_number_kind k in cc
   complains-once (of_plain_string start finish k e) (of_plain_string _ _ _ f) = e ∙ sym f
   complains-once (of_plain_string start finish k e) (of_escaped_string from to g j is f) =
       let no : token.string start finish false ≡ token.string from to true = sym k ∙ j in cc
-  complains-once (of_escaped_string start finish g k is e) (of_number n f) = let no : true ≡ false = sym n ∙ ap is_number k in cc
+  complains-once (of_escaped_string start finish g k is e) (of_number n f) = let no : true ≡ false = sym n ∙ ap is_number_kind k in cc
   complains-once (of_escaped_string start finish g k is e) (of_plain_string from to j f) =
       let no : token.string start finish true ≡ token.string from to false = sym k ∙ j in cc
   complains-once (of_escaped_string start finish g k is e) (of_escaped_string from to h j other f) =

@@ -6,7 +6,7 @@ use Rattle.facet_json_token.specs.Token.{Token}
 use Rattle.facet_json_document.specs.Node.{Node, Nodes, item, Members, member}
 use Rattle.facet_json_document.specs.Tree.{Tree, Trees, Pairs}
 use Rattle.facet_json_document.specs.Tree as tree
-use Rattle.facet_json_document.specs.Meaning.{tree_of, trees_of, pairs_of, text_of, put_item, put_pair, meaning}
+use Rattle.facet_json_document.specs.Meaning.{tree_of, trees_of, pairs_of, text_in_tree, put_item, put_pair, meaning}
 
 -- the first item's tree and the others'
 put_item_meant : (a : Option Tree) (b : Option Trees) (all : Trees) → put_item a b ≡ Some all →
@@ -42,6 +42,6 @@ item_meant buffer node nodes all e = put_item_meant (tree_of buffer node) (trees
 -- Members with a meaning: the key's name, the value, and the others.
 pub member_meant : (buffer : List ℕ) (key mark : Token) (node : Node) (members : Members) (all : Pairs) →
     pairs_of buffer (member key mark node members) ≡ Some all →
-    (name : List ℕ) × (value : Tree) × (values : Pairs) × (text_of (meaning buffer key) ≡ Some name) × (tree_of buffer node ≡ Some value) × (pairs_of buffer members ≡ Some values)
+    (name : List ℕ) × (value : Tree) × (values : Pairs) × (text_in_tree (meaning buffer key) ≡ Some name) × (tree_of buffer node ≡ Some value) × (pairs_of buffer members ≡ Some values)
 unfolding pairs_of
-member_meant buffer key mark node members all e = put_pair_meant (text_of (meaning buffer key)) (tree_of buffer node) (pairs_of buffer members) all e
+member_meant buffer key mark node members all e = put_pair_meant (text_in_tree (meaning buffer key)) (tree_of buffer node) (pairs_of buffer members) all e

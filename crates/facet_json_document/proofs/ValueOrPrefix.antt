@@ -10,7 +10,7 @@ use Rattle.facet_json_document.specs.Node.{Node, scalar, Nodes, no_nodes, item, 
 use Rattle.facet_json_document.specs.Node as shapes
 use Rattle.facet_json_document.specs.Tree.{Tree, Trees, no_trees, Pairs, no_pairs}
 use Rattle.facet_json_document.specs.Tree as trees
-use Rattle.facet_json_document.specs.Meaning.{tree_of, trees_of, pairs_of, text_of, meaning, meaning_of}
+use Rattle.facet_json_document.specs.Meaning.{tree_of, trees_of, pairs_of, text_in_tree, meaning, meaning_of}
 use Rattle.facet_json_document.specs.Order.{count}
 use Rattle.facet_json_document.specs.Place.{Place, root, before_key, after_key, after_colon, after_member, before_item, after_item, stops, names, value_turn, place_turn, goes_on}
 use Rattle.facet_json_document.specs.Refusal.{needs_meaning}
@@ -51,13 +51,13 @@ scalar_meant buffer (token.number start finish hint) k e = some_by _ e
 scalar_meant buffer _ k e = cc
 
 text_meant : (o : Option (List ℕ)) → is_none (option_map trees.text o) ≡ false →
-    (name : List ℕ) × (text_of (option_map trees.text o) ≡ Some name)
+    (name : List ℕ) × (text_in_tree (option_map trees.text o) ≡ Some name)
 text_meant (Some name) e = (name, refl)
 text_meant None e = cc
 
 -- A string that is not without meaning has a text.
 name_meant : (buffer : List ℕ) (kind : Kind) → is_string kind ≡ true → needs_meaning kind && is_none (meaning_of buffer kind) ≡ false →
-    (name : List ℕ) × (text_of (meaning_of buffer kind) ≡ Some name)
+    (name : List ℕ) × (text_in_tree (meaning_of buffer kind) ≡ Some name)
 name_meant buffer (token.string start finish has_escapes) k e = text_meant _ e
 name_meant buffer _ k e = cc
 
@@ -254,12 +254,12 @@ module _ (buffer : List ℕ) where
 
   -- A key, and no colon after it.
   key_stops : (stack : List ContainerKind) (key : Token) (rest : Tokens) (name : List ℕ) → is_string key.kind ≡ true →
-      text_of (meaning buffer key) ≡ Some name → reads buffer (object ∷ stack) (within before_key) (next key rest) ≡ stuck after_key rest →
+      text_in_tree (meaning buffer key) ≡ Some name → reads buffer (object ∷ stack) (within before_key) (next key rest) ≡ stuck after_key rest →
       MembersCome buffer stack (next key rest)
   key_stops stack key rest name k n e = members_stop [] after_key rest (key_alone key rest name k n) e
 
   module _ (stack : List ContainerKind) (key mark : Token) (ts : Tokens) (name : List ℕ) (k : is_string key.kind ≡ true)
-      (n : text_of (meaning buffer key) ≡ Some name) (c : mark.kind ≡ token.colon) where
+      (n : text_in_tree (meaning buffer key) ≡ Some name) (c : mark.kind ≡ token.colon) where
     -- A key, its colon and what comes after them.
     key-comes : (future : Future) → reads buffer (object ∷ stack) (within after_colon) ts ≡ future →
         reads buffer (object ∷ stack) (within before_key) (next key (next mark ts)) ≡ gives (key_event buffer key mark) future
@@ -378,7 +378,7 @@ module _ (buffer : List ℕ) where
     ]
 
     key_out : (n : ℕ) (stack : List ContainerKind) (key : Token) (rest : Tokens) (name : List ℕ) → is_string key.kind ≡ true →
-        text_of (meaning buffer key) ≡ Some name →
+        text_in_tree (meaning buffer key) ≡ Some name →
         reads buffer (object ∷ stack) (within before_key) (next key rest) ≡ reads_colon buffer (object ∷ stack) key rest →
         2 * count rest + 2 ≤ n → MembersCome buffer stack (next key rest)
     key_out n stack key ended name k p e h = key_stops stack key ended name k p (e ∙ colon-ended lenient_rules buffer (object ∷ stack) key)
@@ -391,7 +391,7 @@ module _ (buffer : List ℕ) where
     ]
 
     member_out : (n : ℕ) (stack : List ContainerKind) (key mark : Token) (ts : Tokens) (name : List ℕ) →
-        is_string key.kind ≡ true → text_of (meaning buffer key) ≡ Some name → mark.kind ≡ token.colon →
+        is_string key.kind ≡ true → text_in_tree (meaning buffer key) ≡ Some name → mark.kind ≡ token.colon →
         ValueComes buffer (object ∷ stack) after_colon ts → 2 * count ts ≤ n → MembersCome buffer stack (next key (next mark ts))
     member_out n stack key mark ts name k p c (value_stops events here rest b e) h =
         member_begins stack key mark ts name k p c events here rest b e

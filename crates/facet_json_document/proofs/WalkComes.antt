@@ -7,7 +7,7 @@ use Rattle.facet_json_token.specs.Token as token
 use Rattle.facet_json_token.specs.Tokens.{Tokens, ended, refused, next, tokens}
 use Rattle.facet_json_document.specs.Node.{Node, Nodes, no_nodes, Members, no_members, is_scalar, is_string, Spells, one_token, brackets, braces, SpellsItems, closed, item_and_comma, last_item, SpellsMembers, ended_members, member_and_comma, last_member}
 use Rattle.facet_json_document.specs.Tree.{Tree, Trees, Pairs}
-use Rattle.facet_json_document.specs.Meaning.{tree_of, trees_of, pairs_of, text_of, meaning}
+use Rattle.facet_json_document.specs.Meaning.{tree_of, trees_of, pairs_of, text_in_tree, meaning}
 use Rattle.facet_json_document.specs.Place.{Place, root, before_key, after_key, after_colon, after_member, before_item, after_item, next_key, next_item, Turn, stops, passes, says, says_scalar, names, place_turn, leads_on, goes_on, led}
 use Rattle.facet_json_document.specs.Language.{Rules, lenient_rules, strict_rules}
 use Rattle.facet_json_document.specs.Refusal.{needs_meaning}
@@ -93,7 +93,7 @@ module _ (buffer : List ℕ) where
   key_here _ _ _ e = cc
 
   -- What has a text has a meaning.
-  text_of-some : (o : Option Tree) (name : List ℕ) → text_of o ≡ Some name → (value : Tree) × (o ≡ Some value)
+  text_of-some : (o : Option Tree) (name : List ℕ) → text_in_tree o ≡ Some name → (value : Tree) × (o ≡ Some value)
   text_of-some None name e = cc
   text_of-some (Some value) name e = (value, refl)
 
@@ -188,25 +188,25 @@ module _ (by : Rules) (buffer : List ℕ) where
 
   -- A key: its colon has to follow.
   names_at : (stack : List ContainerKind) (place : Place) (key : Token) (rest : Tokens) (name : List ℕ) → TakesKey place →
-      is_string key.kind ≡ true → text_of (meaning buffer key) ≡ Some name →
+      is_string key.kind ≡ true → text_in_tree (meaning buffer key) ≡ Some name →
       reads_by by buffer stack (within place) (next key rest) ≡ reads_colon_by by buffer stack key rest
   names_at stack place key rest name at k n =
       let meant = text_of-some buffer (meaning buffer key) name n in
       reads-turn stack place key rest names (turn-meant buffer place key meant.0 meant.1 ∙ key_here buffer place key.kind at k)
 
   pub reads-names : (stack : List ContainerKind) (key : Token) (rest : Tokens) (name : List ℕ) → is_string key.kind ≡ true →
-      text_of (meaning buffer key) ≡ Some name → reads_by by buffer stack (within before_key) (next key rest) ≡ reads_colon_by by buffer stack key rest
+      text_in_tree (meaning buffer key) ≡ Some name → reads_by by buffer stack (within before_key) (next key rest) ≡ reads_colon_by by buffer stack key rest
   reads-names stack key rest name k n = names_at stack before_key key rest name of_object k n
 
   -- A key and its colon.
   key_at : (stack : List ContainerKind) (place : Place) (key mark : Token) (rest : Tokens) (name : List ℕ) → TakesKey place →
-      is_string key.kind ≡ true → text_of (meaning buffer key) ≡ Some name → mark.kind ≡ token.colon →
+      is_string key.kind ≡ true → text_in_tree (meaning buffer key) ≡ Some name → mark.kind ≡ token.colon →
       reads_by by buffer stack (within place) (next key (next mark rest)) ≡ gives (key_event buffer key mark) (reads_by by buffer stack (within after_colon) rest)
   unfolding reads_by
   key_at stack place key mark rest name at k n c = names_at stack place key (next mark rest) name at k n ∙ rw (c, reads_colon_by) refl
 
   pub reads-key : (stack : List ContainerKind) (key mark : Token) (rest : Tokens) (name : List ℕ) →
-      is_string key.kind ≡ true → text_of (meaning buffer key) ≡ Some name → mark.kind ≡ token.colon →
+      is_string key.kind ≡ true → text_in_tree (meaning buffer key) ≡ Some name → mark.kind ≡ token.colon →
       reads_by by buffer stack (within before_key) (next key (next mark rest)) ≡ gives (key_event buffer key mark) (reads_by by buffer stack (within after_colon) rest)
   reads-key stack key mark rest name k n c = key_at stack before_key key mark rest name of_object k n c
 

@@ -61,9 +61,9 @@ mutual
 -- ---- what it takes for that
 
 -- within so many bits and a sign
-abbrev pub IsWithin : ℕ → ℤ → Type 0
-IsWithin bits (pos n) = n < 2 ^ bits
-IsWithin bits (negsuc n) = n < 2 ^ bits
+abbrev pub FitsBits : ℕ → ℤ → Type 0
+FitsBits bits (pos n) = n < 2 ^ bits
+FitsBits bits (negsuc n) = n < 2 ^ bits
 
 unfoldable mutual
   -- What the types of Rust see to: texts and keys are UTF-8, characters are scalar values, numbers are within their bits,
@@ -73,9 +73,9 @@ unfoldable mutual
   WellFormed unit = Unit {0}
   WellFormed (bool b) = Unit {0}
   WellFormed (char c) = IsScalar c
-  WellFormed (i64 n) = IsWithin 63 n
+  WellFormed (i64 n) = FitsBits 63 n
   WellFormed (u64 n) = n < 2 ^ 64
-  WellFormed (i128 n) = IsWithin 127 n
+  WellFormed (i128 n) = FitsBits 127 n
   WellFormed (u128 n) = n < 2 ^ 128
   WellFormed (trees.decimal t) = number t float ≡ Some (numbers.decimal t)
   WellFormed (trees.text t) = is_utf8 t ≡ true

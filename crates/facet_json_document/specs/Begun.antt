@@ -6,7 +6,7 @@ use Rattle.facet_json_token.specs.Token as token
 use Rattle.facet_json_token.specs.Tokens.{Tokens, next, tokens}
 use Rattle.facet_json_document.specs.Node.{Node, Spells, is_string}
 use Rattle.facet_json_document.specs.Tree.{Tree}
-use Rattle.facet_json_document.specs.Meaning.{meaning, tree_of, text_of}
+use Rattle.facet_json_document.specs.Meaning.{meaning, tree_of, text_in_tree}
 use Rattle.facet_json_document.specs.Order.{count}
 use Rattle.facet_json_document.specs.Place.{Place, root, before_key, after_key, after_colon, after_member, before_item, after_item}
 use Rattle.facet_format.specs.Complaint.{Refusal}
@@ -48,14 +48,14 @@ mutual
     no_key : (ts : Tokens) → ObjectBegun buffer ts [] (within before_key) ts
     -- its event is given with its colon
     key_alone : (key : Token) (rest : Tokens) (name : List ℕ) → is_string key.kind ≡ true →
-        text_of (meaning buffer key) ≡ Some name → ObjectBegun buffer (next key rest) [] (within after_key) rest
+        text_in_tree (meaning buffer key) ≡ Some name → ObjectBegun buffer (next key rest) [] (within after_key) rest
     begins_member : (key mark : Token) (ts rest : Tokens) (name : List ℕ) (events : List Passed) (here : Stage) →
-        is_string key.kind ≡ true → text_of (meaning buffer key) ≡ Some name → mark.kind ≡ token.colon →
+        is_string key.kind ≡ true → text_in_tree (meaning buffer key) ≡ Some name → mark.kind ≡ token.colon →
         Begun buffer after_colon (within after_member) ts events here rest →
         ObjectBegun buffer (next key (next mark ts)) (key_event buffer key mark ∷ events) here rest
     past_member : (key mark : Token) (ts others rest : Tokens) (name : List ℕ) (node : Node) (value : Tree)
         (separator : Token) (events all : List Passed) (here : Stage) → is_string key.kind ≡ true →
-        text_of (meaning buffer key) ≡ Some name → mark.kind ≡ token.colon → Spells ts node (next separator others) →
+        text_in_tree (meaning buffer key) ≡ Some name → mark.kind ≡ token.colon → Spells ts node (next separator others) →
         tree_of buffer node ≡ Some value → separator.kind ≡ token.comma → ObjectBegun buffer others events here rest →
         all ≡ key_event buffer key mark ∷ walk buffer node ++ events → ObjectBegun buffer (next key (next mark ts)) all here rest
 

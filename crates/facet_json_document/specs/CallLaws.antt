@@ -6,8 +6,8 @@ use Rattle.facet_format.specs.Event.{Event}
 use Rattle.facet_format.specs.Kept.{found}
 use Rattle.facet_format.specs.Cursor.{Call, next, peek, save, restore, Spot, Answer, event, batch, skipped, raw, saved, greatest, no_memory_at, repeated}
 use Rattle.facet_format.specs.Standing.{IsStep}
-use Rattle.facet_json_document.specs.InputPlace.{Standing}
-use Rattle.facet_json_document.specs.Now.{Now, fresh, span_of, SameInput, StandsAt}
+use Rattle.facet_json_document.specs.InputPlace.{Reader}
+use Rattle.facet_json_document.specs.Now.{Now, fresh, current_span_of, SameInput, StandsAt}
 use Rattle.facet_json_document.specs.Move.{Moves, MovesAll, with_kept}
 use Rattle.facet_json_document.specs.Alone.{AllNext}
 
@@ -36,7 +36,7 @@ refusal_in (raw (Err r)) = Some r
 refusal_in _ = None
 
 -- None of the calls restores one of these points.
-pub data RestoresNone (kept : List (ℕ × Spot Standing)) : List Call → Type 0 where
+pub data RestoresNone (kept : List (ℕ × Spot Reader)) : List Call → Type 0 where
   no_call : RestoresNone kept []
   another : (call : Call) (calls : List Call) → ((point : ℕ) → call ≡ restore point → found point kept ≡ None) →
       RestoresNone kept calls → RestoresNone kept (call ∷ calls)
@@ -58,8 +58,8 @@ RefusalRepeats = (old stopped new : Now) (call : Call) (answer : Answer) (r : Re
 
 -- why a save answers no point, where the parser is not refused
 pub data NoPoint (now : Now) : Refusal → Type 0 where
-  no_number : now.cursor.counter ≡ greatest → NoPoint now (refusal_at save_limit (span_of now))
-  no_memory : now.cursor.counter < greatest → NoPoint now (no_memory_at (span_of now))
+  no_number : now.cursor.counter ≡ greatest → NoPoint now (refusal_at save_limit (current_span_of now))
+  no_memory : now.cursor.counter < greatest → NoPoint now (no_memory_at (current_span_of now))
 
 -- A save of a parser that is not refused keeps where it stands under the next number; or it changes nothing, for lack of a number or of
 -- memory.

@@ -7,7 +7,7 @@ use Rattle.facet_json_document.specs.Place.{root}
 use Rattle.facet_json_document.specs.StrictTokens.{tokens_in}
 use Rattle.facet_json_document.specs.Future.{Future, Stage, within, reads_by, stack_after, stage_after}
 
-pub record Standing : Type 0 where
+pub record Reader : Type 0 where
   -- the last token that an event passed: the tokens go on at its end
   pub last : Span
   -- the open containers, the innermost first
@@ -15,13 +15,13 @@ pub record Standing : Type 0 where
   pub stage : Stage
 
 -- before the root
-abbrev pub first_standing : Standing
-first_standing = record { last = span_at 0 0; stack = []; stage = within root }
+abbrev pub first_reader : Reader
+first_reader = record { last = span_at 0 0; stack = []; stage = within root }
 
 -- after an event
-abbrev pub past : Passed → Standing → Standing
+abbrev pub past : Passed → Reader → Reader
 past p s = record { last = p.last; stack = stack_after p.event.kind s.stack; stage = stage_after p.event.kind s.stack }
 
 -- what is given out from the standing on
-abbrev pub future_at : List ℕ → Language → Standing → Future
+abbrev pub future_at : List ℕ → Language → Reader → Future
 future_at buffer language s = reads_by (rules language) buffer s.stack s.stage (tokens_in language buffer (stop s.last))

@@ -40,9 +40,9 @@ meaning buffer t = meaning_of buffer t.kind
 
 -- ---- the tree of a node
 
-abbrev pub text_of : Option Tree → Option (List ℕ)
-text_of (Some (text t)) = Some t
-text_of _ = None
+abbrev pub text_in_tree : Option Tree → Option (List ℕ)
+text_in_tree (Some (text t)) = Some t
+text_in_tree _ = None
 
 abbrev pub put_item : Option Tree → Option Trees → Option Trees
 put_item first others = option_and_then (λ t. option_map (trees.tree t) others) first
@@ -63,4 +63,4 @@ unfoldable mutual
 
   pub pairs_of : List ℕ → Members → Option Pairs
   pairs_of buffer no_members = Some no_pairs
-  pairs_of buffer (member key mark node members) = put_pair (text_of (meaning buffer key)) (tree_of buffer node) (pairs_of buffer members)
+  pairs_of buffer (member key mark node members) = put_pair (text_in_tree (meaning buffer key)) (tree_of buffer node) (pairs_of buffer members)

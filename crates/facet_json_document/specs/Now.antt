@@ -8,18 +8,18 @@ use Rattle.facet_json_token.specs.Gap.{Mode}
 use Rattle.facet_json_document.specs.Language.{Language, lenient}
 use Rattle.facet_json_document.specs.Refusal.{IsStuck}
 use Rattle.facet_json_document.specs.Future.{Future, gives, finished, stuck}
-use Rattle.facet_json_document.specs.InputPlace.{Standing, first_standing, past, future_at}
+use Rattle.facet_json_document.specs.InputPlace.{Reader, first_reader, past, future_at}
 use Rattle.facet_json_document.specs.Unread.{PartAt}
-pub use Rattle.facet_json_document.specs.StandsOn.{StandsOn}
+pub use Rattle.facet_json_document.specs.StandsOn.{IsOnWalk}
 
 pub record Now : Type 0 where
   pub buffer : List ℕ
   pub language : Language
-  pub cursor : Cursor Standing
+  pub cursor : Cursor Reader
 
 -- a parser that has read nothing
 abbrev pub fresh_in : List ℕ → Language → Now
-fresh_in buffer language = record { buffer = buffer; language = language; cursor = start_at first_standing }
+fresh_in buffer language = record { buffer = buffer; language = language; cursor = start_at first_reader }
 
 -- a lenient one
 abbrev pub fresh : List ℕ → Mode → Now
@@ -41,7 +41,7 @@ RefusedAt buffer (stuck place rest) refusal = IsStuck buffer place rest refusal
 RefusedAt buffer _ refusal = ⊥
 
 -- an input's places
-abbrev pub on_input : List ℕ → Language → World Standing
+abbrev pub on_input : List ℕ → Language → World Reader
 on_input buffer language = record {
   comes = λ s. first_of (future_at buffer language s);
   refuses = λ s refusal. RefusedAt buffer (future_at buffer language s) refusal;
@@ -52,8 +52,8 @@ on_input buffer language = record {
 }
 
 -- the last token that was read, also of an event that was peeked at
-abbrev pub span_of : Now → Span
-span_of now = current_span (on_input now.buffer now.language) now.cursor.spot
+abbrev pub current_span_of : Now → Span
+current_span_of now = current_span (on_input now.buffer now.language) now.cursor.spot
 
 -- how many bytes stand after the last token that an event passed
 abbrev pub ahead : Now → ℕ
@@ -90,4 +90,4 @@ pub record GoesOn (old new : Now) : Type 0 where
 
 -- The parser stands where the cursor stands on the walk.
 abbrev pub StandsAt : Now → Source → Cursor ℕ → Type 0
-StandsAt now w c = CursorsAlike (StandsOn now.buffer now.language w) now.cursor c
+StandsAt now w c = CursorsAlike (IsOnWalk now.buffer now.language w) now.cursor c

@@ -4,14 +4,14 @@ use Rattle.facet_format.specs.Span.{span_at}
 use Rattle.facet_json_token.specs.Token.{Kind, Token, Fault}
 use Rattle.facet_json_token.specs.Token as token
 use Rattle.facet_json_token.specs.Tokens.{Tokens, ended, refused, next}
-use Rattle.facet_json_token.specs.Fault.{Fault as TextFault, FirstFault, fault_refusal}
+use Rattle.facet_json_token.specs.Fault.{DecodeFault as TextFault, FirstFault, fault_refusal}
 use Rattle.facet_json_document.specs.Meaning.{meaning}
 use Rattle.facet_json_document.specs.Place.{Place, goes_on, expected_at, complaint_at_end, complaint_of_fault, kind_name}
 use Rattle.facet_format.specs.Complaint.{Complaint, unexpected_char, unexpected_token, invalid_utf8, Refusal, refusal_at}
 
-abbrev pub is_number : Kind → Bool
-is_number (token.number start finish hint) = true
-is_number _ = false
+abbrev pub is_number_kind : Kind → Bool
+is_number_kind (token.number start finish hint) = true
+is_number_kind _ = false
 
 -- a string or a number, whose text is judged before its place
 abbrev pub needs_meaning : Kind → Bool
@@ -28,7 +28,7 @@ number_complaint = unexpected_char 0x3f (codes "valid JSON token")
 -- How a token of the buffer without a meaning is refused: a number as a question mark over all of it, a string without a backslash
 -- as bytes that are not UTF-8 over all of it, and a string with one for the first fault of its content.
 pub data Complains (buffer : List ℕ) (t : Token) (refusal : Refusal) : Type 0 where
-  of_number : is_number t.kind ≡ true → refusal ≡ refusal_at number_complaint t.span → Complains buffer t refusal
+  of_number : is_number_kind t.kind ≡ true → refusal ≡ refusal_at number_complaint t.span → Complains buffer t refusal
   of_plain_string : (start finish : ℕ) → t.kind ≡ token.string start finish false →
       refusal ≡ refusal_at invalid_utf8 t.span → Complains buffer t refusal
   of_escaped_string : (start finish : ℕ) (f : TextFault) → t.kind ≡ token.string start finish true →

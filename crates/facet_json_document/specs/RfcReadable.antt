@@ -4,7 +4,7 @@ use Rattle.std.specs.Prelude.{◌≡◌, ℕ, List, [], ◌∷◌, ◌++◌, Som
 use Rattle.std.specs.Str.{encode_utf8_all}
 use Rattle.facet_format.specs.Number.{Hint, Number, number}
 use Rattle.facet_json_token.specs.Decode.{Decodes}
-use Rattle.facet_json_document.specs.RfcText.{quotation_mark, IsRfcNumber, IsContent, IsValueOf, Spaced}
+use Rattle.facet_json_document.specs.RfcText.{quotation_mark, IsRfcNumber, IsRfcContent, IsValueOf, Spaced}
 
 -- a number of RFC 8259 that has a value
 pub record IsReadableNumber (characters : List ℕ) : Type 0 where
@@ -17,7 +17,7 @@ pub record IsReadableNumber (characters : List ℕ) : Type 0 where
 pub record IsReadableString (characters : List ℕ) : Type 0 where
   pub content : List ℕ
   pub text : List ℕ
-  pub is_content : IsContent content
+  pub is_content : IsRfcContent content
   pub has_text : Decodes (encode_utf8_all content) text
   pub quoted : characters ≡ quotation_mark ∷ content ++ quotation_mark ∷ []
 

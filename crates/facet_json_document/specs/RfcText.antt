@@ -4,17 +4,17 @@
 use Rattle.std.specs.Prelude.{◌≡◌, ℕ, Bool, true, not, ◌==◌, ◌&&◌, ◌||◌, nat_le, List, [], ◌∷◌, ◌++◌, codes}
 use Rattle.std.specs.List.{list_all}
 use Rattle.std.specs.Str.{all_scalars, encode_utf8_all}
-use Rattle.facet_json_token.specs.RfcNumber.{is_digit}
-pub use Rattle.facet_json_token.specs.RfcNumber.{is_first_digit, SomeDigits, IsWhole, nought, IsFraction, IsExponent, IsRfcNumber}
+use Rattle.facet_json_token.specs.RfcNumber.{is_rfc_digit}
+pub use Rattle.facet_json_token.specs.RfcNumber.{is_first_digit, SomeDigits, IsRfcWhole, nought, IsRfcFraction, IsRfcExponent, IsRfcNumber}
 
 -- ---- section 2: white space and structural characters
 
 -- a space, a tab, a line feed or a carriage return
-abbrev pub is_space : ℕ → Bool
-is_space c = (c == 0x20) || (c == 0x09) || (c == 0x0a) || (c == 0x0d)
+abbrev pub is_rfc_space : ℕ → Bool
+is_rfc_space c = (c == 0x20) || (c == 0x09) || (c == 0x0a) || (c == 0x0d)
 
 abbrev pub AreSpaces : List ℕ → Type 0
-AreSpaces characters = list_all is_space characters ≡ true
+AreSpaces characters = list_all is_rfc_space characters ≡ true
 
 -- such characters, with white space alone around them
 pub record Spaced (P : List ℕ → Type 0) (characters : List ℕ) : Type 0 where
@@ -46,8 +46,8 @@ abbrev pub value_separator : ℕ
 value_separator = 0x2c
 
 -- one of these six structural characters
-abbrev pub IsStructural : ℕ → List ℕ → Type 0
-IsStructural c = Spaced (λ inside. inside ≡ c ∷ [])
+abbrev pub IsRfcStructural : ℕ → List ℕ → Type 0
+IsRfcStructural c = Spaced (λ inside. inside ≡ c ∷ [])
 
 -- Section 6, numbers, stands in `RfcNumber` of facet_json_strict.
 
@@ -61,8 +61,8 @@ abbrev pub escape : ℕ
 escape = 0x5c
 
 -- a character that may stand for itself: from U+0020 on, and neither quotation mark nor backslash
-abbrev pub is_unescaped : ℕ → Bool
-is_unescaped c = nat_le 0x20 c && not (c == quotation_mark) && not (c == escape)
+abbrev pub is_rfc_unescaped : ℕ → Bool
+is_rfc_unescaped c = nat_le 0x20 c && not (c == quotation_mark) && not (c == escape)
 
 -- a quotation mark, a backslash, a slash, or one of `b`, `f`, `n`, `r` and `t`
 abbrev pub is_escapable : ℕ → Bool
@@ -71,19 +71,19 @@ is_escapable c =
 
 -- a hexadecimal digit of either case
 abbrev pub is_hex_digit : ℕ → Bool
-is_hex_digit c = is_digit c || (nat_le 0x41 c && nat_le c 0x46) || (nat_le 0x61 c && nat_le c 0x66)
+is_hex_digit c = is_rfc_digit c || (nat_le 0x41 c && nat_le c 0x46) || (nat_le 0x61 c && nat_le c 0x66)
 
 -- what stands between the quotation marks: such characters, the eight short escapes, and `\u` with four hexadecimal digits
-pub data IsContent : List ℕ → Type 0 where
-  empty : IsContent []
-  unescaped : (c : ℕ) (others : List ℕ) → is_unescaped c ≡ true → IsContent others → IsContent (c ∷ others)
-  short : (c : ℕ) (others : List ℕ) → is_escapable c ≡ true → IsContent others → IsContent (escape ∷ c ∷ others)
+pub data IsRfcContent : List ℕ → Type 0 where
+  empty : IsRfcContent []
+  unescaped : (c : ℕ) (others : List ℕ) → is_rfc_unescaped c ≡ true → IsRfcContent others → IsRfcContent (c ∷ others)
+  short : (c : ℕ) (others : List ℕ) → is_escapable c ≡ true → IsRfcContent others → IsRfcContent (escape ∷ c ∷ others)
   unit : (a b c d : ℕ) (others : List ℕ) → is_hex_digit a ≡ true → is_hex_digit b ≡ true → is_hex_digit c ≡ true → is_hex_digit d ≡ true →
-      IsContent others → IsContent (escape ∷ 0x75 ∷ a ∷ b ∷ c ∷ d ∷ others)
+      IsRfcContent others → IsRfcContent (escape ∷ 0x75 ∷ a ∷ b ∷ c ∷ d ∷ others)
 
 pub record IsRfcString (characters : List ℕ) : Type 0 where
   pub content : List ℕ
-  pub is_content : IsContent content
+  pub is_content : IsRfcContent content
   pub quoted : characters ≡ quotation_mark ∷ content ++ quotation_mark ∷ []
 
 -- ---- sections 3 to 5: values, objects and arrays
@@ -92,8 +92,8 @@ pub record IsRfcString (characters : List ℕ) : Type 0 where
 pub record IsEnclosed (open_character close_character : ℕ) (inside characters : List ℕ) : Type 0 where
   pub start : List ℕ
   pub finish : List ℕ
-  pub opens : IsStructural open_character start
-  pub closes : IsStructural close_character finish
+  pub opens : IsRfcStructural open_character start
+  pub closes : IsRfcStructural close_character finish
   pub whole : characters ≡ start ++ inside ++ finish
 
 mutual
@@ -114,18 +114,18 @@ mutual
   -- values, separated by commas
   pub data AreItemsOf (N S : List ℕ → Type 0) : List ℕ → Type 0 where
     one_item : (value : List ℕ) → IsValueOf N S value → AreItemsOf N S value
-    more_items : (value separator others characters : List ℕ) → IsValueOf N S value → IsStructural value_separator separator →
+    more_items : (value separator others characters : List ℕ) → IsValueOf N S value → IsRfcStructural value_separator separator →
         AreItemsOf N S others → characters ≡ value ++ separator ++ others → AreItemsOf N S characters
 
   -- members, separated by commas
   pub data AreMembersOf (N S : List ℕ → Type 0) : List ℕ → Type 0 where
     one_member : (member : List ℕ) → IsMemberOf N S member → AreMembersOf N S member
-    more_members : (member separator others characters : List ℕ) → IsMemberOf N S member → IsStructural value_separator separator →
+    more_members : (member separator others characters : List ℕ) → IsMemberOf N S member → IsRfcStructural value_separator separator →
         AreMembersOf N S others → characters ≡ member ++ separator ++ others → AreMembersOf N S characters
 
   -- a string, a colon and a value
   pub data IsMemberOf (N S : List ℕ → Type 0) : List ℕ → Type 0 where
-    member : (key separator value characters : List ℕ) → S key → IsStructural name_separator separator → IsValueOf N S value →
+    member : (key separator value characters : List ℕ) → S key → IsRfcStructural name_separator separator → IsValueOf N S value →
         characters ≡ key ++ separator ++ value → IsMemberOf N S characters
 
 abbrev pub IsRfcValue : List ℕ → Type 0

@@ -12,14 +12,14 @@ abbrev pub OneRun : Type 0
 OneRun = (ts r s : Tokens) (a b : Token) → Run ts a r → Run ts b s → (a ≡ b) × (r ≡ s)
 
 -- a value's last token
-abbrev pub last_token : Node → Token
-last_token (scalar t) = t
-last_token (array first last items) = last
-last_token (object first last pairs) = last
+abbrev pub last_token_of : Node → Token
+last_token_of (scalar t) = t
+last_token_of (array first last items) = last
+last_token_of (object first last pairs) = last
 
 -- The tokens of a value are a run.
 abbrev pub SpelledIsRun : Type 0
-SpelledIsRun = (ts rest : Tokens) (node : Node) → Spells ts node rest → Run ts (last_token node) rest
+SpelledIsRun = (ts rest : Tokens) (node : Node) → Spells ts node rest → Run ts (last_token_of node) rest
 
 -- Tokens that begin with an opening bracket begin with a run, or break off.
 abbrev pub RunsOrBreaksOff : Type 0

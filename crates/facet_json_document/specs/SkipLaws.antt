@@ -13,7 +13,7 @@ use Rattle.facet_json_document.specs.Language.{gaps, Rules, rules}
 use Rattle.facet_json_document.specs.Place.{Place, passes, place_turn, led}
 use Rattle.facet_json_document.specs.Run.{opening, Run, BreaksOff}
 use Rattle.facet_json_document.specs.Unread.{begins_value, past_value}
-use Rattle.facet_json_document.specs.Now.{Now, span_of}
+use Rattle.facet_json_document.specs.Now.{Now, current_span_of}
 use Rattle.facet_json_document.specs.Move.{Moves}
 
 -- ---- before a value
@@ -44,7 +44,7 @@ pub record PassesRun (old : Now) (first : Token) (others : Tokens) (new : Now) :
 -- brackets, of which there is none but where the value begins with one.
 pub data NotPassed (old : Now) (first : Token) (others : Tokens) (r : Refusal) : Type 0 where
   breaks_off : BreaksOff old.buffer (next first others) r → NotPassed old first others r
-  lacks_memory : (kind : ContainerKind) → first.kind ≡ opening kind → r ≡ no_memory_at (span_of old) → NotPassed old first others r
+  lacks_memory : (kind : ContainerKind) → first.kind ≡ opening kind → r ≡ no_memory_at (current_span_of old) → NotPassed old first others r
 
 -- Where a parser that is not refused stands before a value, a skip passes the run that begins there; and it is refused only at an opening
 -- bracket: where the tokens break off, as they do, or for lack of memory.

@@ -3,10 +3,10 @@ use Rattle.std.specs.Prelude.{◌≡◌, ◌≤◌, ℕ, List, length, drop}
 use Rattle.facet_format.specs.Part.{Source, last_of}
 use Rattle.facet_json_document.specs.Language.{Language}
 use Rattle.facet_json_document.specs.Future.{finished, events_before}
-use Rattle.facet_json_document.specs.InputPlace.{Standing, future_at}
+use Rattle.facet_json_document.specs.InputPlace.{Reader, future_at}
 
 -- The standing is the place on the walk in the same input: the same events come, after the same token.
-pub record StandsOn (buffer : List ℕ) (language : Language) (w : Source) (s : Standing) (place : ℕ) : Type 0 where
+pub record IsOnWalk (buffer : List ℕ) (language : Language) (w : Source) (s : Reader) (place : ℕ) : Type 0 where
   pub bytes : buffer ≡ w.bytes
   pub place_within : place ≤ length w.events
   pub comes : future_at buffer language s ≡ events_before (drop place w.events) finished

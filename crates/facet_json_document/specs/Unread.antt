@@ -11,7 +11,7 @@ use Rattle.facet_json_document.specs.Node.{is_scalar}
 use Rattle.facet_json_document.specs.Place.{Place, after_key, after_colon, Turn, passes, says, says_scalar, names, place_turn, goes_on, led, kind_name, expected_at, complaint_at_end, complaint_of_fault}
 use Rattle.facet_json_document.specs.Run.{Run, BreaksOff}
 use Rattle.facet_json_document.specs.Future.{Stage, within, over, after_value, around}
-use Rattle.facet_json_document.specs.InputPlace.{Standing}
+use Rattle.facet_json_document.specs.InputPlace.{Reader}
 
 -- ---- refusals
 
@@ -45,22 +45,22 @@ closes_container (says sequence_end) = true
 closes_container _ = false
 
 -- after a value whose last token takes these bytes, in these containers
-abbrev pub past_value : Span → List ContainerKind → Standing
+abbrev pub past_value : Span → List ContainerKind → Reader
 past_value s stack = record { last = s; stack = stack; stage = after_value stack }
 
 -- after a key whose colon takes these bytes, in these containers
-abbrev pub past_key : Span → List ContainerKind → Standing
+abbrev pub past_key : Span → List ContainerKind → Reader
 past_key s stack = record { last = s; stack = stack; stage = within after_colon }
 
 -- After a key's string its colon stands, and this place is after it; or it is missing, and the tokens are refused so.
-pub data HasColon (buffer : List ℕ) (stack : List ContainerKind) : Tokens → Result Standing Refusal → Type 0 where
+pub data HasColon (buffer : List ℕ) (stack : List ContainerKind) : Tokens → Result Reader Refusal → Type 0 where
   colon_stands : (mark : Token) (rest : Tokens) → goes_on after_key mark.kind ≡ true →
       HasColon buffer stack (next mark rest) (Ok (past_key mark.span stack))
   colon_missing : (ts : Tokens) (r : Refusal) → IsStuckUnread buffer after_key ts r → HasColon buffer stack ts (Err r)
 
 -- At a place within these containers the tokens begin with this part, after separators.
-pub data PartFrom (buffer : List ℕ) (by : Rules) (stack : List ContainerKind) : Place → Tokens → Part Standing → Type 0 where
-  separator : (place other : Place) (t : Token) (rest : Tokens) (part : Part Standing) → place_turn place t.kind ≡ passes other →
+pub data PartFrom (buffer : List ℕ) (by : Rules) (stack : List ContainerKind) : Place → Tokens → Part Reader → Type 0 where
+  separator : (place other : Place) (t : Token) (rest : Tokens) (part : Part Reader) → place_turn place t.kind ≡ passes other →
       PartFrom buffer by stack (led by other) rest part → PartFrom buffer by stack place (next t rest) part
   -- a run, which ends with the last token
   a_value : (place : Place) (t last : Token) (rest others : Tokens) → begins_value (place_turn place t.kind) ≡ true →
@@ -69,7 +69,7 @@ pub data PartFrom (buffer : List ℕ) (by : Rules) (stack : List ContainerKind) 
       (value (not (is_scalar t.kind)) t.span.offset (stop last.span) (past_value last.span stack))
   a_broken_value : (place : Place) (t : Token) (rest : Tokens) (r : Refusal) → begins_value (place_turn place t.kind) ≡ true →
       BreaksOff buffer (next t rest) r → PartFrom buffer by stack place (next t rest) (broken r)
-  a_key : (place : Place) (t : Token) (rest : Tokens) (result : Result Standing Refusal) → place_turn place t.kind ≡ names →
+  a_key : (place : Place) (t : Token) (rest : Tokens) (result : Result Reader Refusal) → place_turn place t.kind ≡ names →
       HasColon buffer stack rest result → PartFrom buffer by stack place (next t rest) (key t.span.offset result)
   a_closing : (place : Place) (t : Token) (rest : Tokens) → closes_container (place_turn place t.kind) ≡ true →
       PartFrom buffer by stack place (next t rest) (closing t.span.offset (past_value t.span (around stack)))
@@ -77,10 +77,10 @@ pub data PartFrom (buffer : List ℕ) (by : Rules) (stack : List ContainerKind) 
       PartFrom buffer by stack place ts (nothing r)
 
 -- after the root, no value
-abbrev pub PartIn : List ℕ → Language → Standing → Stage → Part Standing → Type 0
+abbrev pub PartIn : List ℕ → Language → Reader → Stage → Part Reader → Type 0
 PartIn buffer language s over part = part ≡ nothing (refusal_at (unexpected_eof (codes "value")) (span_at (stop s.last) 0))
 PartIn buffer language s (within place) part = PartFrom buffer (rules language) s.stack place (tokens_from buffer (gaps language) (stop s.last)) part
 
 -- What stands at a place of the input.
-abbrev pub PartAt : List ℕ → Language → Standing → Part Standing → Type 0
+abbrev pub PartAt : List ℕ → Language → Reader → Part Reader → Type 0
 PartAt buffer language s part = PartIn buffer language s s.stage part

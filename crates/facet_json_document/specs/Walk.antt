@@ -5,7 +5,7 @@ use Rattle.facet_json_token.specs.Token as token
 use Rattle.facet_json_document.specs.Node.{Node, scalar, array, object, Nodes, no_nodes, item, Members, no_members, member}
 use Rattle.facet_json_document.specs.Tree.{Tree}
 use Rattle.facet_json_document.specs.Tree as tree
-use Rattle.facet_json_document.specs.Meaning.{text_of, meaning}
+use Rattle.facet_json_document.specs.Meaning.{text_in_tree, meaning}
 use Rattle.facet_format.specs.Event.{Text, Scalar, EventKind, Passed}
 use Rattle.facet_format.specs.Event as event
 use Rattle.facet_format.specs.Part.{Source}
@@ -48,7 +48,7 @@ scalar_event buffer t = event_at (event.scalar (scalar_of t.kind (meaning buffer
 -- the event of a key and its colon
 abbrev pub key_event : List ℕ → Token → Token → Passed
 key_event buffer key mark = record {
-  event = record { kind = event.field_key (name_of key.kind (text_of (meaning buffer key))); span = key.span };
+  event = record { kind = event.field_key (name_of key.kind (text_in_tree (meaning buffer key))); span = key.span };
   last = mark.span;
 }
 

@@ -5,18 +5,18 @@ use Rattle.facet_format.specs.Span.{stop}
 use Rattle.facet_format.specs.Complaint.{Refusal}
 use Rattle.facet_format.specs.Event.{Event}
 use Rattle.facet_format.specs.Cursor.{Answer, event, batch, skipped, raw, saved, restored, spans}
-use Rattle.facet_json_document.specs.InputPlace.{Standing}
+use Rattle.facet_json_document.specs.InputPlace.{Reader}
 pub use Rattle.facet_json_document.specs.UnreadLaws.{RefusalWithin}
 use Rattle.facet_json_document.specs.Now.{Now}
 
 -- The last token that was passed lies within the buffer.
-abbrev pub StandsWithin : List ℕ → Standing → Type 0
-StandsWithin buffer s = stop s.last ≤ length buffer
+abbrev pub ReaderWithin : List ℕ → Reader → Type 0
+ReaderWithin buffer s = stop s.last ≤ length buffer
 
 -- All that a parser keeps lies within its input.
 pub record NowWithin (now : Now) : Type 0 where
-  pub standing : StandsWithin now.buffer now.cursor.spot.place
-  pub kept : All (λ point. StandsWithin now.buffer point.1.place) now.cursor.kept
+  pub standing : ReaderWithin now.buffer now.cursor.spot.place
+  pub kept : All (λ point. ReaderWithin now.buffer point.1.place) now.cursor.kept
   pub refusal : IfSome now.cursor.refusal (RefusalWithin now.buffer)
 
 -- ---- answers

@@ -7,7 +7,7 @@ use Rattle.std.proofs.lemmas.List.Edits.{between_more, between_none}
 use Rattle.std.specs.List.{flat_map, prefix_len, slice_range}
 use Rattle.facet_format.specs.Bytes.{quote, backslash, backspace, form_feed, line_feed, carriage_return, tab, space, delete}
 use Rattle.facet_json_document.specs.Quoted.{escaped, hex_byte}
-use Rattle.facet_json_escape.specs.Inner.Window.{needs_escape, is_plain}
+use Rattle.facet_json_escape.specs.Inner.Window.{needs_escape, needs_no_escape}
 
 -- where no escape of two characters stands for the byte
 pub long_escape : (b : ℕ) → b ≢ quote → b ≢ backslash → b ≢ line_feed → b ≢ carriage_return → b ≢ tab → b ≢ backspace
@@ -38,17 +38,17 @@ run-step false b n bytes e ih =
     ap₂ (λ p r. p ++ r) (plain_escape b (sym e)) ih ∙ ap (λ k. take k (b ∷ bytes) ++ flat_map escaped (drop k (b ∷ bytes))) next
 
 -- the bytes up to the first that needs an escape stand for themselves
-escaped-run : (bytes : List ℕ) → let n = prefix_len is_plain bytes in
+escaped-run : (bytes : List ℕ) → let n = prefix_len needs_no_escape bytes in
     flat_map escaped bytes ≡ take n bytes ++ flat_map escaped (drop n bytes)
 escaped-run [] = refl
-escaped-run (b ∷ bytes) = run-step (needs_escape b) b (prefix_len is_plain bytes) bytes refl (escaped-run bytes)
+escaped-run (b ∷ bytes) = run-step (needs_escape b) b (prefix_len needs_no_escape bytes) bytes refl (escaped-run bytes)
 
 -- what stands for the rest of a text: the run up to the next byte that needs an escape, and what stands for the rest after it
-pub escaped-to : (text : List ℕ) (at stop : ℕ) → stop ≡ at + prefix_len is_plain (drop at text)
+pub escaped-to : (text : List ℕ) (at stop : ℕ) → stop ≡ at + prefix_len needs_no_escape (drop at text)
     → flat_map escaped (drop at text) ≡ slice_range text at stop ++ flat_map escaped (drop stop text)
 escaped-to text at stop e =
     let rest = drop at text in
-    let n = prefix_len is_plain rest in
+    let n = prefix_len needs_no_escape rest in
     let long : n ≡ stop - at = omega (arith, e) in
     escaped-run rest ∙ ap₂ (λ k r. take k rest ++ flat_map escaped r) long (drop-drop n at text ∙ ap (λ i. drop i text) (sym e))
 

@@ -8,23 +8,23 @@ use Rattle.std.specs.List.{flat_map, prefix_len}
 use lib.Lanes.{chunk, mask_l, zip2, top}
 use Rattle.facet_json_document.specs.Quoted.{escaped}
 use Rattle.facet_json_token.proofs.Lanes.{equal, below, either, masked}
-use Rattle.facet_json_escape.specs.Inner.Window.{needs_escape, is_plain, PlainBetween}
+use Rattle.facet_json_escape.specs.Inner.Window.{needs_escape, needs_no_escape, PlainBetween}
 use Rattle.facet_json_escape.proofs.Escapes.{plain_escape}
 
 all_byte : (p : Bool) (n l : ℕ) → n ≤ l → cond p (1 + n) 0 ≡ suc l → (p ≡ true) × (n ≡ l)
 all_byte true n l h e = (refl, omega arith)
 all_byte false n l h e = absurd (omega arith)
 
-all_plain : (xs : List ℕ) → prefix_len is_plain xs ≡ length xs → PlainBetween xs 0 (length xs)
+all_plain : (xs : List ℕ) → prefix_len needs_no_escape xs ≡ length xs → PlainBetween xs 0 (length xs)
 all_plain [] e k p q = absurd (omega arith)
-all_plain (x ∷ xs) e zero p q = (all_byte (is_plain x) _ (length xs) (prefix_len-le-length is_plain xs) e).0
-all_plain (x ∷ xs) e (suc k) p q = all_plain xs (all_byte (is_plain x) _ (length xs) (prefix_len-le-length is_plain xs) e).1 k (omega arith) (omega arith)
+all_plain (x ∷ xs) e zero p q = (all_byte (needs_no_escape x) _ (length xs) (prefix_len-le-length needs_no_escape xs) e).0
+all_plain (x ∷ xs) e (suc k) p q = all_plain xs (all_byte (needs_no_escape x) _ (length xs) (prefix_len-le-length needs_no_escape xs) e).1 k (omega arith) (omega arith)
 
 plain_from_mask : (d : List ℕ) (i n : ℕ) → i + n ≤ length d → mask_l (map needs_escape (chunk i n d)) ≡ 0 → PlainBetween d i (i + n)
 plain_from_mask d i n room none k p q =
     let long = length-chunk i n d room in
     let back : i + (k - i) ≡ k = omega arith in
-    ap is_plain (sym (get_or-take n (drop i d) (k - i) 0 (omega arith) ∙ get_or-drop i d (k - i) 0 ∙ ap (λ j. get_or d j 0) back))
+    ap needs_no_escape (sym (get_or-take n (drop i d) (k - i) 0 (omega arith) ∙ get_or-drop i d (k - i) 0 ∙ ap (λ j. get_or d j 0) back))
     ∙ all_plain (chunk i n d) (leading_from_mask_l needs_escape (chunk i n d) none) (k - i) (omega arith) (omega arith)
 
 on_true : (b : Bool) (P : Type 0) → (b ≡ true → P) → OnTrue b P

@@ -3,7 +3,7 @@
 ghost use Rattle.std.specs.Prelude.{◌≡◌, ◌+◌, ◌≤◌, length, drop, map};
 ghost use Rattle.std.specs.List.{prefix_len};
 ghost use Rattle.std.specs.Simd.Lanes.{mask_l};
-ghost use Rattle.facet_json_escape.specs.Inner.Window.{needs_escape, is_plain};
+ghost use Rattle.facet_json_escape.specs.Inner.Window.{needs_escape, needs_no_escape};
 
 use std::simd::prelude::*;
 
@@ -21,7 +21,7 @@ fn escapes(window: u8x16) -> u64
 /// How many of sixteen bytes may be copied as they stand, up to the first that needs an escape: sixteen where all may.
 #[inline(always)]
 fn plain_lanes(window: u8x16) -> usize
-    ensures value { result ≡ prefix_len is_plain window }
+    ensures value { result ≡ prefix_len needs_no_escape window }
     ensures within { result ≤ 16 }
 {
     let found = escapes(window);
@@ -37,7 +37,7 @@ fn plain_lanes(window: u8x16) -> usize
 #[inline(always)]
 pub(crate) fn plain_end(bytes: &[u8], from: usize) -> usize
     requires { from + 16 ≤ length bytes.now }
-    ensures value { result ≡ from + prefix_len is_plain (drop from bytes.now) }
+    ensures value { result ≡ from + prefix_len needs_no_escape (drop from bytes.now) }
     ensures within { result ≤ length bytes.now }
 {
     let mut at = from;

@@ -9,7 +9,7 @@ use Rattle.facet_json_document.specs.Tree.{Tree, list}
 use Rattle.facet_json_serializer.specs.declared.error.JsonSerializeError.{JsonSerializeError}
 use Rattle.facet_json_serializer.specs.Serializer.{Writing, out_of_memory, Appends}
 use Rattle.facet_json_serializer.specs.TreeCalls.{tree_calls, item_calls}
-use Rattle.facet_json_serializer.specs.Views.{answer_of, refusal_of}
+use Rattle.facet_json_serializer.specs.Views.{call_answer_of, write_refusal_of}
 use Rattle.facet_json_tree.specs.Write.{HasWritten, IsOfRust}
 use Rattle.facet_json_tree.proofs.CallsLeft.{AreLeft, first-made, tree-made, last-answered, last-refused, last-spent}
 use Rattle.facet_json_tree.proofs.OfRust.{item-of_rust, no_item-of_rust, seen-of_rust}
@@ -56,11 +56,11 @@ module _ {T V : Type 0} (view : T → V) (tree_by : V → Tree) (always : V → 
       subst (λ s. AreLeft old (list_by tree_by (map view xs)) s now) (ap (λ ts. item_calls ts ++ end_seq ∷ []) none) before.calls
 
   module _ (old now new : Option Writing) (xs : List T) (i : ℕ) (r : Result (Unit {0}) JsonSerializeError) (h : length xs ≤ i)
-      (before : ItemsLeft old xs i now) (step : Appends now end_seq (answer_of r) new) where
+      (before : ItemsLeft old xs i now) (step : Appends now end_seq (call_answer_of r) new) where
     pub list-written : OnOk r (HasWritten old (list_by tree_by (map view xs)) new)
     list-written = last-answered old now new _ end_seq r (none-left old now xs i h before) step
 
-    pub list-refused : IfErr r (λ e. refusal_of e ≡ out_of_memory)
+    pub list-refused : IfErr r (λ e. write_refusal_of e ≡ out_of_memory)
     list-refused = last-refused old now new _ end_seq r (none-left old now xs i h before) step
 
     pub list-spent : OnErr r (new ≡ None)

@@ -3,7 +3,7 @@ use Rattle.std.proofs.Common.{◌≡◌, ◌<◌, ◌^◌, ℕ, Bool, true, List
 use Rattle.std.specs.Result.{OnOk}
 use Rattle.std.specs.Str.{is_utf8}
 use Rattle.facet_json_document.specs.Tree.{null, bool, i64, u64, text, i128, u128, raw}
-use Rattle.facet_json_document.specs.AsRead.{IsWithin, WellFormed, RawParts}
+use Rattle.facet_json_document.specs.AsRead.{FitsBits, WellFormed, RawParts}
 use Rattle.facet_json_tree.specs.Write.{IsOfRust}
 
 -- what holds whatever was answered
@@ -23,7 +23,7 @@ pub u64-of_rust : {E : Type 0} (n : ℕ) (r : Result (Unit {0}) E) → n < 2 ^ 6
 unfolding WellFormed RawParts
 u64-of_rust n r fits = on-ok (IsOfRust (u64 n)) r (fits, tt)
 
-pub i64-of_rust : {E : Type 0} (z : ℤ) (r : Result (Unit {0}) E) → IsWithin 63 z → OnOk r (IsOfRust (i64 z))
+pub i64-of_rust : {E : Type 0} (z : ℤ) (r : Result (Unit {0}) E) → FitsBits 63 z → OnOk r (IsOfRust (i64 z))
 unfolding WellFormed RawParts
 i64-of_rust z r fits = on-ok (IsOfRust (i64 z)) r (fits, tt)
 
@@ -35,7 +35,7 @@ pub u128-of_rust : {E : Type 0} (n : ℕ) (r : Result (Unit {0}) E) → n < 2 ^ 
 unfolding WellFormed RawParts
 u128-of_rust n r fits = on-ok (IsOfRust (u128 n)) r (fits, tt)
 
-pub i128-of_rust : {E : Type 0} (z : ℤ) (r : Result (Unit {0}) E) → IsWithin 127 z → OnOk r (IsOfRust (i128 z))
+pub i128-of_rust : {E : Type 0} (z : ℤ) (r : Result (Unit {0}) E) → FitsBits 127 z → OnOk r (IsOfRust (i128 z))
 unfolding WellFormed RawParts
 i128-of_rust z r fits = on-ok (IsOfRust (i128 z)) r (fits, tt)
 

@@ -6,7 +6,7 @@ ghost use Rattle.facet_json_document.specs.Now.{ahead};
 ghost use Rattle.facet_json_document.specs.Within.{RefusalWithin};
 ghost use Rattle.facet_json_meaning.specs.Refusing.{TellsRefusal};
 ghost use Rattle.facet_json_serializer.specs.Serializer.{out_of_memory};
-ghost use Rattle.facet_json_serializer.specs.Views.{refusal_of as writing_refusal_of};
+ghost use Rattle.facet_json_serializer.specs.Views.{write_refusal_of as writing_refusal_of};
 ghost use Rattle.facet_json_tree.specs.Write.{HasWritten, IsOfRust};
 ghost use Rattle.facet_json_meaning.specs.Nodes.{KeepsOn};
 ghost use Rattle.facet_json_meaning.specs.OneValue.{PassesValue};

@@ -10,7 +10,7 @@ use std::alloc::Global;
 impl<'de> Facet<'de> for i8 {
     ghost use Rattle.std.specs.Prelude.{ℤ, true};
     ghost use Rattle.facet_json_document.specs.Tree.{i64 as i64_tree};
-    ghost use Rattle.facet_json_document.specs.AsRead.{IsWithin};
+    ghost use Rattle.facet_json_document.specs.AsRead.{FitsBits};
     ghost use Rattle.facet_json_meaning.specs.Readings.{leaf, signed_of};
     ghost use Rattle.facet_json_meaning.proofs.Leaves.LeafLaws.{leaf-same};
     ghost use Rattle.facet_json_meaning.proofs.Leaves.WholeNumbers.{i8-reads_back};
@@ -25,7 +25,7 @@ impl<'de> Facet<'de> for i8 {
 
     ghost tree_of = { i64_tree };
 
-    ghost always = { λ n. IsWithin 7 n };
+    ghost always = { λ n. FitsBits 7 n };
 
     ghost readable = { λ _. Unit {0} };
 
@@ -60,7 +60,7 @@ impl<'de> Facet<'de> for i8 {
 impl<'de> Facet<'de> for i16 {
     ghost use Rattle.std.specs.Prelude.{ℤ, true};
     ghost use Rattle.facet_json_document.specs.Tree.{i64 as i64_tree};
-    ghost use Rattle.facet_json_document.specs.AsRead.{IsWithin};
+    ghost use Rattle.facet_json_document.specs.AsRead.{FitsBits};
     ghost use Rattle.facet_json_meaning.specs.Readings.{leaf, signed_of};
     ghost use Rattle.facet_json_meaning.proofs.Leaves.LeafLaws.{leaf-same};
     ghost use Rattle.facet_json_meaning.proofs.Leaves.WholeNumbers.{i16-reads_back};
@@ -75,7 +75,7 @@ impl<'de> Facet<'de> for i16 {
 
     ghost tree_of = { i64_tree };
 
-    ghost always = { λ n. IsWithin 15 n };
+    ghost always = { λ n. FitsBits 15 n };
 
     ghost readable = { λ _. Unit {0} };
 
@@ -110,7 +110,7 @@ impl<'de> Facet<'de> for i16 {
 impl<'de> Facet<'de> for i32 {
     ghost use Rattle.std.specs.Prelude.{ℤ, true};
     ghost use Rattle.facet_json_document.specs.Tree.{i64 as i64_tree};
-    ghost use Rattle.facet_json_document.specs.AsRead.{IsWithin};
+    ghost use Rattle.facet_json_document.specs.AsRead.{FitsBits};
     ghost use Rattle.facet_json_meaning.specs.Readings.{leaf, signed_of};
     ghost use Rattle.facet_json_meaning.proofs.Leaves.LeafLaws.{leaf-same};
     ghost use Rattle.facet_json_meaning.proofs.Leaves.WholeNumbers.{i32-reads_back};
@@ -125,7 +125,7 @@ impl<'de> Facet<'de> for i32 {
 
     ghost tree_of = { i64_tree };
 
-    ghost always = { λ n. IsWithin 31 n };
+    ghost always = { λ n. FitsBits 31 n };
 
     ghost readable = { λ _. Unit {0} };
 
@@ -160,7 +160,7 @@ impl<'de> Facet<'de> for i32 {
 impl<'de> Facet<'de> for i64 {
     ghost use Rattle.std.specs.Prelude.{ℤ, true};
     ghost use Rattle.facet_json_document.specs.Tree.{i64 as i64_tree};
-    ghost use Rattle.facet_json_document.specs.AsRead.{IsWithin};
+    ghost use Rattle.facet_json_document.specs.AsRead.{FitsBits};
     ghost use Rattle.facet_json_meaning.specs.Readings.{leaf, signed_of};
     ghost use Rattle.facet_json_meaning.proofs.Leaves.LeafLaws.{leaf-same};
     ghost use Rattle.facet_json_meaning.proofs.Leaves.WholeNumbers.{i64-reads_back};
@@ -175,7 +175,7 @@ impl<'de> Facet<'de> for i64 {
 
     ghost tree_of = { i64_tree };
 
-    ghost always = { λ n. IsWithin 63 n };
+    ghost always = { λ n. FitsBits 63 n };
 
     ghost readable = { λ _. Unit {0} };
 
@@ -210,7 +210,7 @@ impl<'de> Facet<'de> for i64 {
 impl<'de> Facet<'de> for isize {
     ghost use Rattle.std.specs.Prelude.{ℤ, true};
     ghost use Rattle.facet_json_document.specs.Tree.{i64 as i64_tree};
-    ghost use Rattle.facet_json_document.specs.AsRead.{IsWithin};
+    ghost use Rattle.facet_json_document.specs.AsRead.{FitsBits};
     ghost use Rattle.facet_json_meaning.specs.Readings.{leaf, signed_of};
     ghost use Rattle.facet_json_meaning.proofs.Leaves.LeafLaws.{leaf-same};
     ghost use Rattle.facet_json_meaning.proofs.Leaves.WholeNumbers.{i64-reads_back};
@@ -225,7 +225,7 @@ impl<'de> Facet<'de> for isize {
 
     ghost tree_of = { i64_tree };
 
-    ghost always = { λ n. IsWithin 63 n };
+    ghost always = { λ n. FitsBits 63 n };
 
     ghost readable = { λ _. Unit {0} };
 

@@ -5,7 +5,7 @@ ghost use Rattle.facet_format.specs.Complaint.{no_memory, refusal_at};
 ghost use Rattle.facet_format.specs.Views.{event_of, refusal_of, span_of};
 ghost use Rattle.facet_json_meaning.specs.Refusing.{mismatch_of};
 ghost use Rattle.facet_json_meaning.specs.Borrowed.{lent, made_text, IsNotLent};
-ghost use Rattle.facet_json_meaning.specs.Readings.{taken, text_of};
+ghost use Rattle.facet_json_meaning.specs.Readings.{taken, text_of_tree};
 
 use crate::facet::Facet;
 use facet_format::{DeserializeError, DeserializeErrorKind, FormatSerializer, ParseEvent, ParseEventKind, ScalarValue, Span};
@@ -20,7 +20,7 @@ impl<'de> Facet<'de> for String {
     ghost use Rattle.std.specs.Prelude.{ℕ, List, true, ◌≡◌, string_bytes};
     ghost use Rattle.std.specs.Str.{is_utf8};
     ghost use Rattle.facet_json_document.specs.Tree.{text as text_tree};
-    ghost use Rattle.facet_json_meaning.specs.Readings.{leaf, text_of};
+    ghost use Rattle.facet_json_meaning.specs.Readings.{leaf, text_of_tree};
     ghost use Rattle.facet_json_meaning.proofs.Leaves.LeafLaws.{leaf-same};
     ghost use Rattle.facet_json_meaning.proofs.Leaves.TextLaws.{text-reads_back};
 
@@ -28,9 +28,9 @@ impl<'de> Facet<'de> for String {
 
     ghost view = { string_bytes };
 
-    ghost reading = { leaf text_of };
+    ghost reading = { leaf text_of_tree };
 
-    ghost reading_borrowed = { leaf text_of };
+    ghost reading_borrowed = { leaf text_of_tree };
 
     ghost tree_of = { text_tree };
 
@@ -58,9 +58,9 @@ impl<'de> Facet<'de> for String {
         serializer.scalar(ScalarValue::Str(CowStr::Borrowed(self.as_str())))
     }
 
-    ghost same_reading = { leaf-same text_of };
+    ghost same_reading = { leaf-same text_of_tree };
 
-    ghost same_reading_borrowed = { leaf-same text_of };
+    ghost same_reading_borrowed = { leaf-same text_of_tree };
 
     ghost reads_back = { text-reads_back };
 }
@@ -123,8 +123,8 @@ impl<'de> Facet<'de> for &'de str {
 
 /// The text that an event is.
 fn string_in<'t>(alloc: Global, event: ParseEvent<'_>) -> Result<String, DeserializeError<'t>>
-    ensures taken { IfOk result (λ s. taken text_of (event_of event.entry).kind ≡ Some (string_bytes s)) }
-    ensures refused { IfErr result (λ e. (refusal_of e ≡ no_memory) ⊎ (taken text_of (event_of event.entry).kind ≡ None)) }
+    ensures taken { IfOk result (λ s. taken text_of_tree (event_of event.entry).kind ≡ Some (string_bytes s)) }
+    ensures refused { IfErr result (λ e. (refusal_of e ≡ no_memory) ⊎ (taken text_of_tree (event_of event.entry).kind ≡ None)) }
     ensures span { IfErr result (λ e. IfSome e.span (λ s. s ≡ event.entry.span)) }
     ensures told { IfErr result (λ e. (refusal_of e ≡ no_memory) ⊎ (refusal_of e ≡ mismatch_of (codes "string") (event_of event.entry))) }
 {

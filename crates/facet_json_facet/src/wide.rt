@@ -63,7 +63,7 @@ impl<'de> Facet<'de> for u128 {
 impl<'de> Facet<'de> for i128 {
     ghost use Rattle.std.specs.Prelude.{ℤ, true};
     ghost use Rattle.facet_json_document.specs.Tree.{i128 as i128_tree};
-    ghost use Rattle.facet_json_document.specs.AsRead.{IsWithin};
+    ghost use Rattle.facet_json_document.specs.AsRead.{FitsBits};
     ghost use Rattle.facet_json_meaning.specs.Readings.{leaf, i128_of};
     ghost use Rattle.facet_json_meaning.proofs.Leaves.LeafLaws.{leaf-same};
     ghost use Rattle.facet_json_meaning.proofs.Leaves.WideNumbers.{i128-reads_back};
@@ -78,7 +78,7 @@ impl<'de> Facet<'de> for i128 {
 
     ghost tree_of = { i128_tree };
 
-    ghost always = { λ n. IsWithin 127 n };
+    ghost always = { λ n. FitsBits 127 n };
 
     ghost readable = { λ _. Unit {0} };
 

@@ -18,22 +18,22 @@ struct Person<'de> {
 
 impl<'de> Facet<'de> for Person<'de> {
     ghost use Rattle.std.specs.Prelude.{ℕ, ℤ, List, false};
-    ghost use Rattle.facet_json_facet_tests.specs.Lent.{person};
-    ghost use Rattle.facet_json_facet_tests.specs.LentLaws.{person-laws};
+    ghost use Rattle.facet_json_facet_tests.specs.Lent.{lent_person};
+    ghost use Rattle.facet_json_facet_tests.specs.LentLaws.{lent_person-laws};
 
     ghost View = { List ℕ × (ℕ × Unit {0}) };
 
     ghost view = { λ p. (p.name.now, (p.age, tt)) };
 
-    ghost reading = { person.reading };
+    ghost reading = { lent_person.reading };
 
-    ghost reading_borrowed = { person.reading_borrowed };
+    ghost reading_borrowed = { lent_person.reading_borrowed };
 
-    ghost tree_of = { person.tree_of };
+    ghost tree_of = { lent_person.tree_of };
 
-    ghost always = { person.always };
+    ghost always = { lent_person.always };
 
-    ghost readable = { person.readable };
+    ghost readable = { lent_person.readable };
 
     ghost whole = { false };
 
@@ -58,11 +58,11 @@ impl<'de> Facet<'de> for Person<'de> {
         write_fields(serializer, &["name", "age"], &fields)
     }
 
-    ghost same_reading = { person-laws.same_reading };
+    ghost same_reading = { lent_person-laws.same_reading };
 
-    ghost same_reading_borrowed = { person-laws.same_reading_borrowed };
+    ghost same_reading_borrowed = { lent_person-laws.same_reading_borrowed };
 
-    ghost reads_back = { person-laws.reads_back };
+    ghost reads_back = { lent_person-laws.reads_back };
 }
 
 /// A point, as `{"label":"origin","x":0,"y":0}`.

@@ -9,16 +9,16 @@ use Rattle.facet_json_token.specs.Token as token
 use Rattle.facet_json_document.specs.Node.{Node, scalar, array, object}
 use Rattle.facet_json_document.specs.Meaning.{meaning}
 use Rattle.facet_json_core.specs.Refusing.{mismatch_of}
-use Rattle.facet_json_meaning.specs.Readings.{text_of}
+use Rattle.facet_json_meaning.specs.Readings.{text_of_tree}
 
 -- a string without a backslash
-abbrev pub is_plain : Kind → Bool
-is_plain (token.string start finish has_escapes) = not has_escapes
-is_plain _ = false
+abbrev pub is_plain_string : Kind → Bool
+is_plain_string (token.string start finish has_escapes) = not has_escapes
+is_plain_string _ = false
 
 -- the text of such a string, which stands in the input as it is
 abbrev pub borrowed_text : List ℕ → Node → Option (List ℕ)
-borrowed_text buffer (scalar t) = cond (is_plain t.kind) (option_and_then text_of (meaning buffer t)) None
+borrowed_text buffer (scalar t) = cond (is_plain_string t.kind) (option_and_then text_of_tree (meaning buffer t)) None
 borrowed_text buffer (array first last nodes) = None
 borrowed_text buffer (object first last inside) = None
 

@@ -10,7 +10,7 @@ use Rattle.std.specs.declared.cmp.Ordering.{Ordering}
 use Rattle.std.specs.Ordering.{nat_cmp}
 use Rattle.std.specs.Str.{is_utf8}
 use Rattle.std.specs.declared.string.String.{String}
-use Rattle.facet_json_document.specs.Meaning.{text_of, meaning}
+use Rattle.facet_json_document.specs.Meaning.{text_in_tree, meaning}
 use Rattle.facet_json_document.specs.Node.{Node, scalar, array, object, Members, no_members, member}
 use Rattle.facet_json_document.specs.Tree.{Tree, pairs, Pairs, no_pairs, pair}
 
@@ -36,7 +36,7 @@ with_entry entries key value = insert_entry by_bytes entries key value
 abbrev pub with_members : {V : Type 0} → (List ℕ → Node → Option V) → List ℕ → Members → Entries V → Option (Entries V)
 with_members reading buffer no_members entries = Some entries
 with_members reading buffer (member key mark node members) entries =
-    option_and_then (λ k. option_and_then (λ v. with_members reading buffer members (with_entry entries k v)) (reading buffer node)) (text_of (meaning buffer key))
+    option_and_then (λ k. option_and_then (λ v. with_members reading buffer members (with_entry entries k v)) (reading buffer node)) (text_in_tree (meaning buffer key))
 
 -- An object is read as the entries of its members, of which the last one of a key counts.
 abbrev pub map_of : {V : Type 0} → (List ℕ → Node → Option V) → List ℕ → Node → Option (Entries V)

@@ -10,7 +10,7 @@ use Rattle.facet_json_document.specs.Tree.{Tree}
 use Rattle.facet_json_document.specs.Meaning.{tree_of}
 use Rattle.facet_json_document.specs.Refusal.{needs_meaning}
 use Rattle.facet_json_document.specs.Walk.{walk}
-use Rattle.facet_json_document.specs.InputPlace.{Standing}
+use Rattle.facet_json_document.specs.InputPlace.{Reader}
 use Rattle.facet_json_document.specs.Now.{Now, StandsAt, SameInput, ahead, LeadsTo}
 use Rattle.facet_json_document.specs.SkipLaws.{bytes_between}
 
@@ -38,7 +38,7 @@ pub record StandsAfter (now : Now) (w : Source) (c : Cursor ℕ) (node : Node) :
 -- new one: nothing else is done to the parser.
 pub record KeepsOn (old new : Now) : Type 0 where
   pub input : SameInput old new
-  pub kept : (point : ℕ) (spot : Spot Standing) → found point old.cursor.kept ≡ Some spot → found point new.cursor.kept ≡ Some spot
+  pub kept : (point : ℕ) (spot : Spot Reader) → found point old.cursor.kept ≡ Some spot → found point new.cursor.kept ≡ Some spot
   pub onward : ahead new ≤ ahead old
   pub by_calls : (first : Now) → LeadsTo first old → LeadsTo first new
 

@@ -14,10 +14,10 @@ abbrev pub is_null_token : Kind → Bool
 is_null_token token.null = true
 is_null_token _ = false
 
-abbrev pub is_null : Node → Bool
-is_null (scalar t) = is_null_token t.kind
-is_null (array first last nodes) = false
-is_null (object first last inside) = false
+abbrev pub is_null_node : Node → Bool
+is_null_node (scalar t) = is_null_token t.kind
+is_null_node (array first last nodes) = false
+is_null_node (object first last inside) = false
 
 -- an event that is null
 abbrev pub is_null_event : EventKind → Bool
@@ -26,7 +26,7 @@ is_null_event _ = false
 
 -- Null is no value, and every other node is read as a value.
 abbrev pub optional : {V : Type 0} → (List ℕ → Node → Option V) → List ℕ → Node → Option (Option V)
-optional reading buffer node = cond (is_null node) (Some None) (option_map Some (reading buffer node))
+optional reading buffer node = cond (is_null_node node) (Some None) (option_map Some (reading buffer node))
 
 -- No value is written as null.
 abbrev pub optional_tree : {V : Type 0} → (V → Tree) → Option V → Tree

@@ -9,7 +9,7 @@ use Rattle.facet_format.specs.Event.{EventKind}
 use Rattle.facet_format.specs.Event as event
 use Rattle.facet_json_document.specs.Document.{IsWholeDocument}
 use Rattle.facet_json_document.specs.Node.{Node, scalar, array, object}
-use Rattle.facet_json_document.specs.RunLaws.{last_token}
+use Rattle.facet_json_document.specs.RunLaws.{last_token_of}
 use Rattle.facet_json_document.specs.UnreadLaws.{first_token}
 use Rattle.facet_json_document.specs.Tree.{Tree, bool, i64, u64, text}
 use Rattle.facet_json_document.specs.Meaning.{meaning}
@@ -58,9 +58,9 @@ signed_of bits t = option_and_then (signed_in bits) (whole_of t)
 
 -- ---- texts
 
-abbrev pub text_of : Tree → Option (List ℕ)
-text_of (text t) = Some t
-text_of _ = None
+abbrev pub text_of_tree : Tree → Option (List ℕ)
+text_of_tree (text t) = Some t
+text_of_tree _ = None
 
 -- ---- whole numbers of 128 bits
 
@@ -85,7 +85,7 @@ i128_of t = signed_of 127 t
 
 -- the bytes of a node, from its first token to its last one, where they are UTF-8
 abbrev pub raw_of : List ℕ → Node → Option (List ℕ)
-raw_of buffer node = let bytes = bytes_between buffer (first_token node) (last_token node) in cond (is_utf8 bytes) (Some bytes) None
+raw_of buffer node = let bytes = bytes_between buffer (first_token node) (last_token_of node) in cond (is_utf8 bytes) (Some bytes) None
 
 -- The text is one document, with nothing around it.
 pub record IsBareDocument (content : List ℕ) : Type 0 where
@@ -93,4 +93,4 @@ pub record IsBareDocument (content : List ℕ) : Type 0 where
   pub value : Tree
   pub document : IsWholeDocument content root value
   pub starts : (first_token root).span.offset ≡ 0
-  pub ends : stop (last_token root).span ≡ length content
+  pub ends : stop (last_token_of root).span ≡ length content

@@ -5,7 +5,7 @@ use Rattle.facet_json_token.specs.Token.{Token}
 use Rattle.facet_json_token.specs.Tokens.{Tokens, tokens_from}
 use Rattle.facet_json_document.specs.Document.{IsDocument}
 use Rattle.facet_json_document.specs.Node.{Node, array, object, Nodes, item, Members, member, Spells}
-use Rattle.facet_json_document.specs.RunLaws.{last_token}
+use Rattle.facet_json_document.specs.RunLaws.{last_token_of}
 use Rattle.facet_json_document.specs.Tree.{Tree}
 use Rattle.facet_json_document.specs.UnreadLaws.{first_token}
 use Rattle.facet_json_document.specs.SkipLaws.{bytes_between}
@@ -38,7 +38,7 @@ mutual
 
 -- the bytes of a node, from its first token to its last one
 abbrev pub node_bytes : List ℕ → Node → List ℕ
-node_bytes buffer node = bytes_between buffer (first_token node) (last_token node)
+node_bytes buffer node = bytes_between buffer (first_token node) (last_token_of node)
 
 -- ---- what it means that they hold the same bytes
 

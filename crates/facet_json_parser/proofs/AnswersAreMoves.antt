@@ -10,8 +10,8 @@ use Rattle.facet_format.specs.Event.{Event}
 use Rattle.facet_format.specs.Kept.{found, without, with_point}
 use Rattle.facet_format.specs.Cursor.{Call, Answer, event, saved, restored, spans, next, peek, save, restore, span, World, Spot, Cursor, at_spot, refused_at, greatest, no_memory_at, Step, repeats, saves, saves_at_the_limit, saves_without_memory, restores, restores_nothing, tells}
 use Rattle.facet_format.specs.Cursor as cursor
-use Rattle.facet_json_document.specs.InputPlace.{Standing}
-use Rattle.facet_json_document.specs.Now.{Now, on_input, span_of}
+use Rattle.facet_json_document.specs.InputPlace.{Reader}
+use Rattle.facet_json_document.specs.Now.{Now, on_input, current_span_of}
 use Rattle.facet_json_document.specs.Move.{Moves}
 use Rattle.facet_json_document.specs.Next.{PassesNext, ShowsNext, IsOver}
 use Rattle.facet_json_document.proofs.MoveLaws.{with_cursor}
@@ -22,7 +22,7 @@ use Rattle.facet_json_reader.specs.PlaceViews.{language_of, refused_of}
 use Rattle.facet_json_parser.specs.declared.standing.Standing.{Standing as RustStanding}
 use Rattle.facet_json_parser.specs.declared.points.Point.{Point}
 use Rattle.facet_json_parser.specs.Fill.{spot_of}
-use Rattle.facet_json_parser.specs.Views.{filling_of, now_of}
+use Rattle.facet_json_parser.specs.Views.{lookahead_of, now_of}
 use Rattle.facet_json_parser.specs.Steps.{PassesOne, passes, passes_the_end, passes_without_memory, passes_nothing, ShowsOne, shows, shows_the_end, shows_without_memory, shows_nothing}
 
 -- ---- steps
@@ -56,7 +56,7 @@ no_refusal (Some r) e = cc
 -- ---- moves
 
 -- A step from where a parser stands is a move of it.
-pub step-moves : (made now : Now) (c : Cursor Standing) (call : Call) (answer : Answer) → made ≡ now →
+pub step-moves : (made now : Now) (c : Cursor Reader) (call : Call) (answer : Answer) → made ≡ now →
     Step (on_input made.buffer made.language) made.cursor call answer c → Moves now call answer (with_cursor made c)
 step-moves made now c call answer e step =
     subst (λ x. Moves x call answer (with_cursor made c)) e (record { input = record { buffer = refl; language = refl }; step = step })
@@ -75,7 +75,7 @@ save-repeats now r e = step-moves now now now.cursor save _ refl (repeats r save
 pub none-made : (made now : Now) → made ≡ now → now.cursor.refusal ≡ None → made.cursor.refusal ≡ None
 none-made made now e none = rw e none
 
-pub next-answers : (made now : Now) (o : Option Event) (t : Spot Standing) → made ≡ now → now.cursor.refusal ≡ None →
+pub next-answers : (made now : Now) (o : Option Event) (t : Spot Reader) → made ≡ now → now.cursor.refusal ≡ None →
     PassesOne (on_input made.buffer made.language) made.cursor.spot (Ok o) t →
     Moves now next (event (Ok o)) (with_cursor made (at_spot made.cursor t))
 next-answers made now o t e none one =
@@ -84,29 +84,29 @@ next-answers made now o t e none one =
 -- An event that is passed at once is answered; else nothing changes.
 pub quick-answers : (input : List ℕ) (language read : Language) (s u : RustStanding) (refusal : Option Refused) (points : List Point) (counter : ℕ)
     (now : Now) (o : Option ParseEvent) → now_of input language s refusal points counter ≡ now → is_some refusal ≡ false → language ≡ read →
-    MatchOption o (u ≡ s) (λ e. PassesOne (on_input input (language_of read)) (spot_of (filling_of s)) (Ok (Some (event_of e))) (spot_of (filling_of u))) →
+    MatchOption o (u ≡ s) (λ e. PassesOne (on_input input (language_of read)) (spot_of (lookahead_of s)) (Ok (Some (event_of e))) (spot_of (lookahead_of u))) →
     MatchOption o (now_of input language u refusal points counter ≡ now)
     (λ e. Moves now next (event (Ok (Some (event_of e)))) (now_of input language u refusal points counter))
 quick-answers input language read s u refusal points counter now None view none is same =
     ap (λ (x : RustStanding). now_of input language x refusal points counter) same ∙ view
 quick-answers input language read s u refusal points counter now (Some e) view none is one =
     let made = now_of input language s refusal points counter in
-    next-answers made now (Some (event_of e)) (spot_of (filling_of u)) view (none-made now made (sym view) (no_refusal refusal none))
+    next-answers made now (Some (event_of e)) (spot_of (lookahead_of u)) view (none-made now made (sym view) (no_refusal refusal none))
     (rw is one)
 
-pub next-refused : (made now new : Now) (r q : Refusal) (t : Spot Standing) → made ≡ now → now.cursor.refusal ≡ None →
+pub next-refused : (made now new : Now) (r q : Refusal) (t : Spot Reader) → made ≡ now → now.cursor.refusal ≡ None →
     PassesOne (on_input made.buffer made.language) made.cursor.spot (Err r) t → new ≡ with_cursor made (refused_at made.cursor t r) → q ≡ r →
     Moves now next (event (Err q)) new
 next-refused made now new r q t e none one after same =
     rw (same, after) (step-moves made now _ next _ e (passes-refused (on_input made.buffer made.language) made.cursor r t (none-made made now e none) one))
 
-pub peek-answers : (made now : Now) (o : Option Event) (t : Spot Standing) → made ≡ now → now.cursor.refusal ≡ None →
+pub peek-answers : (made now : Now) (o : Option Event) (t : Spot Reader) → made ≡ now → now.cursor.refusal ≡ None →
     ShowsOne (on_input made.buffer made.language) made.cursor.spot (Ok o) t →
     Moves now peek (event (Ok o)) (with_cursor made (at_spot made.cursor t))
 peek-answers made now o t e none one =
     step-moves made now _ peek _ e (shows-step (on_input made.buffer made.language) made.cursor o t (none-made made now e none) one)
 
-pub peek-refused : (made now new : Now) (r q : Refusal) (t : Spot Standing) → made ≡ now → now.cursor.refusal ≡ None →
+pub peek-refused : (made now new : Now) (r q : Refusal) (t : Spot Reader) → made ≡ now → now.cursor.refusal ≡ None →
     ShowsOne (on_input made.buffer made.language) made.cursor.spot (Err r) t → new ≡ with_cursor made (refused_at made.cursor t r) → q ≡ r →
     Moves now peek (event (Err q)) new
 peek-refused made now new r q t e none one after same =
@@ -115,23 +115,23 @@ peek-refused made now new r q t e none one after same =
 -- ---- points
 
 pub save-stops : (made now : Now) (q : Refusal) → made ≡ now → now.cursor.refusal ≡ None → made.cursor.counter ≡ greatest →
-    q ≡ refusal_at save_limit (span_of made) → Moves now save (saved (Err q)) now
+    q ≡ refusal_at save_limit (current_span_of made) → Moves now save (saved (Err q)) now
 save-stops made now q e none at same =
     let move = step-moves made now _ save _ e (saves_at_the_limit (none-made made now e none) at) in
-    rw same (subst (λ x. Moves now save (saved (Err (refusal_at save_limit (span_of made)))) x) e move)
+    rw same (subst (λ x. Moves now save (saved (Err (refusal_at save_limit (current_span_of made)))) x) e move)
 
 pub save-fails : (made now new : Now) (q : Refusal) → made ≡ now → new ≡ made → now.cursor.refusal ≡ None →
-    made.cursor.counter < greatest → q ≡ no_memory_at (span_of made) → Moves now save (saved (Err q)) new
+    made.cursor.counter < greatest → q ≡ no_memory_at (current_span_of made) → Moves now save (saved (Err q)) new
 save-fails made now new q e after none less same =
     rw (same, after) (step-moves made now _ save _ e (saves_without_memory (none-made made now e none) less))
 
-pub save-keeps : (made now : Now) (kept : List (ℕ × Spot Standing)) (n : ℕ) → made ≡ now → now.cursor.refusal ≡ None →
+pub save-keeps : (made now : Now) (kept : List (ℕ × Spot Reader)) (n : ℕ) → made ≡ now → now.cursor.refusal ≡ None →
     made.cursor.counter < greatest → n ≡ suc made.cursor.counter → kept ≡ with_point n made.cursor.spot made.cursor.kept →
     Moves now save (saved (Ok n)) (with_cursor made (record made.cursor { kept = kept; counter = n }))
 save-keeps made now kept n e none less same list =
     rw (list, same) (step-moves made now _ save _ e (saves (none-made made now e none) less))
 
-pub restore-brings : (made now : Now) (kept : List (ℕ × Spot Standing)) (number : ℕ) (s : Spot Standing) → made ≡ now →
+pub restore-brings : (made now : Now) (kept : List (ℕ × Spot Reader)) (number : ℕ) (s : Spot Reader) → made ≡ now →
     found number made.cursor.kept ≡ Some s → kept ≡ without number made.cursor.kept →
     Moves now (restore number) restored (with_cursor made (record made.cursor { spot = s; refusal = None; kept = kept }))
 restore-brings made now kept number s e here list =
@@ -143,7 +143,7 @@ restore-leaves made now new number e after none =
     rw after (step-moves made now _ (restore number) restored e (restores_nothing number none))
 
 -- The current span is told.
-pub told-moves : (now : Now) (answer : Answer) → answer ≡ spans (Some (span_of now)) → Moves now span answer now
+pub told-moves : (now : Now) (answer : Answer) → answer ≡ spans (Some (current_span_of now)) → Moves now span answer now
 told-moves now answer e = rw e (step-moves now now now.cursor span _ refl tells)
 
 -- ---- what a loop needs

@@ -12,7 +12,7 @@ use Rattle.facet_format.specs.Event.{Event}
 use Rattle.facet_format.specs.Cursor.{World, Spot, unpeeked, Comes, no_event, one_event, spot_after, Cursor, at_spot, refused_at, events, batch, Step, repeats, gives_none, gives, gives_without_memory, gives_up}
 use Rattle.facet_json_parser.specs.Steps.{QueuesOne, queues, queues_the_end, queues_without_memory, queues_nothing, QueuesNext, answers, refuses, QueuesNow}
 use Rattle.facet_json_parser.specs.Steps as steps
-use Rattle.facet_json_document.specs.InputPlace.{Standing}
+use Rattle.facet_json_document.specs.InputPlace.{Reader}
 use Rattle.facet_json_document.specs.Now.{Now, on_input, SameInput}
 use Rattle.facet_json_document.specs.Move.{Moves}
 use Rattle.facet_json_document.specs.Next.{PassesAll}
@@ -113,7 +113,7 @@ abbrev pub GivenSoFar : Now → List Event → Now → Type 0
 GivenSoFar old given cur = SameInput old cur × Batch (on_input old.buffer old.language) old.cursor given cur.cursor
 
 -- A step over the input of one parser is one over that of another with the same input.
-same-world : (old cur : Now) (answer : Result (Option Event) Refusal) (c d : Cursor Standing) → SameInput old cur →
+same-world : (old cur : Now) (answer : Result (Option Event) Refusal) (c d : Cursor Reader) → SameInput old cur →
     QueuesNext (on_input cur.buffer cur.language) c answer d → QueuesNext (on_input old.buffer old.language) c answer d
 same-world old cur answer c d same step = rw (← same.buffer, ← same.language) step
 
@@ -145,7 +145,7 @@ full-of old cur given limit (same, b) e =
     record { input = same; step = batch-full (on_input old.buffer old.language) old.cursor cur.cursor given limit b e }
 
 -- A refusal of the first event that is asked for is one of the call.
-pub queue-refuses : (made now new : Now) (r : Refusal) (t : Spot Standing) → made ≡ now → now.cursor.refusal ≡ None →
+pub queue-refuses : (made now new : Now) (r : Refusal) (t : Spot Reader) → made ≡ now → now.cursor.refusal ≡ None →
     QueuesOne (on_input made.buffer made.language) made.cursor.spot (Err r) t → new ≡ with_cursor made (refused_at made.cursor t r) →
     Moves now (events 1) (batch [] (Err r)) new
 queue-refuses made now new r t e none one after =
@@ -153,14 +153,14 @@ queue-refuses made now new r t e none one after =
     rw after (step-moves made now _ (events 1) (batch [] (Err r)) e (refused-first (on_input made.buffer made.language) made.cursor 0 r t free one))
 
 -- The next event of a parser, once there is room for it.
-pub queue-answers : (made now : Now) (o : Option Event) (t : Spot Standing) → made ≡ now → now.cursor.refusal ≡ None →
+pub queue-answers : (made now : Now) (o : Option Event) (t : Spot Reader) → made ≡ now → now.cursor.refusal ≡ None →
     QueuesOne (on_input made.buffer made.language) made.cursor.spot (Ok o) t → QueuesNow now (Ok o) (with_cursor made (at_spot made.cursor t))
 queue-answers made now o t e none one =
     let free : made.cursor.refusal ≡ None = rw e none in
     subst (λ x. QueuesNow x (Ok o) (with_cursor made (at_spot made.cursor t))) e
     (record { input = record { buffer = refl; language = refl }; step = answers o t free one })
 
-pub queue-refused : (made now new : Now) (r q : Refusal) (t : Spot Standing) → made ≡ now → now.cursor.refusal ≡ None →
+pub queue-refused : (made now new : Now) (r q : Refusal) (t : Spot Reader) → made ≡ now → now.cursor.refusal ≡ None →
     QueuesOne (on_input made.buffer made.language) made.cursor.spot (Err r) t → new ≡ with_cursor made (refused_at made.cursor t r) → q ≡ r →
     QueuesNow now (Err q) new
 queue-refused made now new r q t e none one after same =
@@ -250,7 +250,7 @@ given-pass_refused start now old new limit r (given, items, move) =
 
 -- ---- what holds of every parser
 
-within-by : (old cur : Now) (given : List Event) (d : Cursor Standing) → SameInput old cur → cur.cursor ≡ d →
+within-by : (old cur : Now) (given : List Event) (d : Cursor Reader) → SameInput old cur → cur.cursor ≡ d →
     Batch (on_input old.buffer old.language) old.cursor given d → (0 < length given → NowWithin old) → NowWithin cur → NowWithin old
 within-by old cur _ _ same e (nothing_yet) known here = subst NowWithin (same_cursor-is old cur same e) here
 within-by old cur given _ same e (some_given _ place h none comes) known here = known (omega (arith, h))

@@ -6,7 +6,7 @@ use Rattle.facet_json_token.specs.declared.token.SpannedToken.{SpannedToken}
 use Rattle.facet_json_reader.specs.declared.place.Place.{Place as RustPlace}
 use Rattle.facet_json_reader.specs.declared.place.Turn.{Turn as RustTurn}
 use Rattle.facet_json_reader.specs.declared.place.Turn.TheVariants as turns
-use Rattle.facet_json_reader.specs.declared.reader.Reader.{Reader}
+use Rattle.facet_json_reader.specs.declared.reader.Reader.{Reader as RustReader}
 use Rattle.facet_json_reader.specs.declared.reader.Stage.TheVariants as stages
 use Rattle.facet_json_parser.specs.declared.part.Part.{Part as RustPart}
 use Rattle.facet_format.specs.Complaint.{Refusal}
@@ -17,13 +17,13 @@ use Rattle.facet_format.specs.Views.{span_of}
 use Rattle.facet_json_token.specs.Token.{Token}
 use Rattle.facet_json_token.specs.Tokens.{tokens_from}
 use Rattle.facet_json_document.specs.Future.{within}
-use Rattle.facet_json_document.specs.InputPlace.{Standing}
+use Rattle.facet_json_document.specs.InputPlace.{Reader}
 use Rattle.facet_json_document.specs.Language.{Language, lenient, gaps, rules}
 use Rattle.facet_json_document.specs.Place.{Place, passes, led}
 use Rattle.facet_json_document.specs.Unread.{begins_value, closes_container, IsStuckUnread, PartFrom, separator, none_of_them, PartAt}
 use Rattle.facet_json_reader.specs.PlaceViews.{place_of, turn_of}
-use Rattle.facet_json_reader.specs.Views.{stage_of, standing_of, IsTurn}
-use Rattle.facet_json_parser.specs.PartViews.{first_of, Begins, IsFirst}
+use Rattle.facet_json_reader.specs.Views.{stage_of, reader_of, IsTurn}
+use Rattle.facet_json_parser.specs.PartViews.{first_span_of, Begins, IsFirst}
 
 -- ---- turns
 
@@ -40,13 +40,13 @@ closes-one containers.Array = refl
 -- ---- after separators
 
 -- After separators alone the reader's tokens go on at this place and offset, whatever its containers are.
-pub record Reaches (buffer : List ℕ) (language : Language) (r : Reader) (place : Place) (position : ℕ) : Type 0 where
+pub record Reaches (buffer : List ℕ) (language : Language) (r : RustReader) (place : Place) (position : ℕ) : Type 0 where
   pub first : Place
   pub stage : stage_of r.stage ≡ within first
-  pub leads : (stack : List ContainerKind) (p : Part Standing) → PartFrom buffer (rules language) stack place (tokens_from buffer (gaps language) position) p →
+  pub leads : (stack : List ContainerKind) (p : Part Reader) → PartFrom buffer (rules language) stack place (tokens_from buffer (gaps language) position) p →
       PartFrom buffer (rules language) stack first (tokens_from buffer (gaps language) (stop (span_of r.last))) p
 
-module _ (buffer : List ℕ) (language : Language) (r : Reader) where
+module _ (buffer : List ℕ) (language : Language) (r : RustReader) where
   -- They begin where the reader stands.
   pub reaches-first : (place : RustPlace) (position : ℕ) → r.stage ≡ stages.Within place → position ≡ stop (span_of r.last) →
       Reaches buffer language r (place_of place) position
@@ -73,11 +73,11 @@ module _ (buffer : List ℕ) (language : Language) (r : Reader) where
 
     module _ (stack : List ContainerKind) where
       -- the reader's standing, in these containers
-      abbrev standing : Standing
-      standing = record (standing_of r) { stack = stack }
+      abbrev standing : Reader
+      standing = record (reader_of r) { stack = stack }
 
       -- What stands after the separators stands where the reader does.
-      stands-there : (p : Part Standing) → PartFrom buffer (rules language) stack place (tokens_from buffer (gaps language) position) p → PartAt buffer language standing p
+      stands-there : (p : Part Reader) → PartFrom buffer (rules language) stack place (tokens_from buffer (gaps language) position) p → PartAt buffer language standing p
       stands-there p from =
           let stage = reached.stage in
           rw stage (reached.leads stack p from)
@@ -89,7 +89,7 @@ module _ (buffer : List ℕ) (language : Language) (r : Reader) where
 
       -- A part that begins with the next token stands first.
       pub stands-first : (t : SpannedToken) (w : RustTurn) (is : IsTurn buffer (lenient (gaps language)) place position t w) (part : RustPart) →
-          first_of part ≡ span_of t.span → Begins place part is.kind → IsFirst buffer language standing part
+          first_span_of part ≡ span_of t.span → Begins place part is.kind → IsFirst buffer language standing part
       stands-first t w is part e begins = record {
         place = place;
         kind = is.kind;

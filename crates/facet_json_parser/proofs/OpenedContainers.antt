@@ -7,10 +7,10 @@ use Rattle.facet_json_document.specs.InputPlace.{future_at}
 use Rattle.facet_json_document.specs.Language.{Language}
 use Rattle.facet_json_reader.specs.declared.reader.Held.{Held}
 use Rattle.facet_json_reader.specs.declared.reader.Reader.{Reader}
-use Rattle.facet_json_reader.specs.Views.{passed_of, standing_of, with_opened, coming, GivesHeld}
+use Rattle.facet_json_reader.specs.Views.{passed_of, reader_of, with_opened, coming, GivesHeld}
 use Rattle.facet_json_parser.specs.declared.standing.Standing.{Standing as RustStanding}
-use Rattle.facet_json_parser.specs.Fill.{without_opened, place_of, spot_of, HoldsNext}
-use Rattle.facet_json_parser.specs.Views.{filling_of}
+use Rattle.facet_json_parser.specs.Fill.{without_opened, reader_before, spot_of, HoldsNext}
+use Rattle.facet_json_parser.specs.Views.{lookahead_of}
 use Rattle.facet_json_parser.proofs.UnopenedContainers.{nothing_held}
 
 -- Without the container that was opened the others are open.
@@ -21,12 +21,12 @@ opened-around _ stack = refl
 
 module _ (r opened : Reader) (h : Held) (last : opened.last ≡ r.last) (stage : opened.stage ≡ r.stage)
     (contexts : opened.contexts ≡ with_opened (event_kind_of h.event.kind) r.contexts) where
-  opened-place : place_of (filling_of (record { reader = opened; held = Some h; shown = false })) ≡ standing_of r
+  opened-place : reader_before (lookahead_of (record { reader = opened; held = Some h; shown = false })) ≡ reader_of r
   opened-place = rw (last, stage, contexts, opened-around (event_kind_of h.event.kind) r.contexts) refl
 
   -- It is the event that comes.
   pub opened-holds : (buffer : List ℕ) (language : Language) → GivesHeld (coming buffer language r) h →
-      HoldsNext buffer language (filling_of (record { reader = opened; held = Some h; shown = false })) (passed_of h)
+      HoldsNext buffer language (lookahead_of (record { reader = opened; held = Some h; shown = false })) (passed_of h)
   opened-holds buffer language comes = record {
     rest = comes.0;
     comes = ap (future_at buffer language) opened-place ∙ comes.1;
@@ -35,5 +35,5 @@ module _ (r opened : Reader) (h : Held) (last : opened.last ≡ r.last) (stage :
 
   -- Where nothing was held, the spot is the same.
   pub opened-spot : (s : RustStanding) → s.reader ≡ r → is_some s.held ≡ false →
-      spot_of (filling_of (record { reader = opened; held = Some h; shown = false })) ≡ spot_of (filling_of s)
+      spot_of (lookahead_of (record { reader = opened; held = Some h; shown = false })) ≡ spot_of (lookahead_of s)
   opened-spot s same none = rw (nothing_held s.held none, same, opened-place) refl

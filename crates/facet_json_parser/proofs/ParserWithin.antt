@@ -13,16 +13,16 @@ use Rattle.facet_format.specs.Kept.{found, without}
 use Rattle.facet_format.specs.Cursor.{Call, next, events, save, restore, Spot, Cursor, refused_at, Answer, event, batch, spans, Step, gives_none}
 use Rattle.facet_format.specs.Span.{Span}
 use Rattle.facet_json_document.specs.Language.{Language}
-use Rattle.facet_json_document.specs.InputPlace.{Standing}
-use Rattle.facet_json_document.specs.Now.{Now, on_input, span_of, ahead, GoesOn}
+use Rattle.facet_json_document.specs.InputPlace.{Reader}
+use Rattle.facet_json_document.specs.Now.{Now, on_input, current_span_of, ahead, GoesOn}
 use Rattle.facet_json_document.specs.Move.{Moves}
-use Rattle.facet_json_document.specs.Within.{StandsWithin, RefusalWithin, NowWithin, AnswerWithin, no_events}
+use Rattle.facet_json_document.specs.Within.{ReaderWithin, RefusalWithin, NowWithin, AnswerWithin, no_events}
 use Rattle.facet_json_document.proofs.MoveLaws.{with_cursor, same_cursor-is}
 use Rattle.facet_json_document.proofs.Spans.AnswersWithin.{moves-within, current-within}
 use Rattle.facet_json_document.proofs.Spans.BytesAhead.{moves-onward, moves-goes_on, next-lowers, events-lower}
 use Rattle.facet_json_parser.proofs.KeptSpots.{found-spot}
 use Rattle.facet_json_parser.proofs.PointsByPlace.{above-missing, without-missing}
-use Rattle.facet_json_parser.specs.Fill.{Filling, first_filling, spot_of}
+use Rattle.facet_json_parser.specs.Fill.{Lookahead, first_lookahead, spot_of}
 use Rattle.facet_json_parser.specs.Ready.{IsSound, ArePoints, IsReady}
 use Rattle.facet_json_parser.specs.Steps.{PassesOne, ShowsOne, QueuesOne}
 use Rattle.facet_json_parser.specs.Views.{kept_spot, cursor_of}
@@ -32,26 +32,26 @@ use Rattle.facet_json_parser.proofs.EventsInBatch.{queue-refuses}
 -- ---- what holds of every parser
 
 -- It holds of a new one.
-pub first-ready : (buffer : List ℕ) (language : Language) (f : Filling) (kept : List (ℕ × Filling)) → f ≡ first_filling → kept ≡ [] →
+pub first-ready : (buffer : List ℕ) (language : Language) (f : Lookahead) (kept : List (ℕ × Lookahead)) → f ≡ first_lookahead → kept ≡ [] →
     IsReady buffer language f None kept 0
 first-ready buffer language f kept e g =
     rw (e, g) (record { stands = record { within = omega arith; filled = tt }; refused = tt; keeps = tt; counter_fits = omega arith })
 
 -- It holds with another standing.
-pub stands-ready : (buffer : List ℕ) (language : Language) (f g : Filling) (refusal : Option Refusal) (points : List (ℕ × Filling)) (counter : ℕ) →
+pub stands-ready : (buffer : List ℕ) (language : Language) (f g : Lookahead) (refusal : Option Refusal) (points : List (ℕ × Lookahead)) (counter : ℕ) →
     IsReady buffer language f refusal points counter → IsSound buffer language g → IsReady buffer language g refusal points counter
 stands-ready buffer language f g refusal points counter ready good =
     record { stands = good; refused = ready.refused; keeps = ready.keeps; counter_fits = ready.counter_fits }
 
-points-within : (buffer : List ℕ) (language : Language) (counter : ℕ) (points : List (ℕ × Filling)) → ArePoints buffer language counter points →
-    All (λ point. StandsWithin buffer point.1.place) (map kept_spot points)
-points-within buffer language counter [] are = All-nil (λ p. StandsWithin buffer p.1.place)
+points-within : (buffer : List ℕ) (language : Language) (counter : ℕ) (points : List (ℕ × Lookahead)) → ArePoints buffer language counter points →
+    All (λ point. ReaderWithin buffer point.1.place) (map kept_spot points)
+points-within buffer language counter [] are = All-nil (λ p. ReaderWithin buffer p.1.place)
 points-within buffer language counter (point ∷ points) are =
-    All-cons (λ p. StandsWithin buffer p.1.place) (kept_spot point) (map kept_spot points) are.0.within
+    All-cons (λ p. ReaderWithin buffer p.1.place) (kept_spot point) (map kept_spot points) are.0.within
     (points-within buffer language counter points are.3)
 
 -- What it keeps lies within the input.
-pub ready-within : (buffer : List ℕ) (language : Language) (f : Filling) (refusal : Option Refusal) (points : List (ℕ × Filling)) (counter : ℕ)
+pub ready-within : (buffer : List ℕ) (language : Language) (f : Lookahead) (refusal : Option Refusal) (points : List (ℕ × Lookahead)) (counter : ℕ)
     (made now : Now) → IsReady buffer language f refusal points counter →
     made ≡ record { buffer = buffer; language = language; cursor = cursor_of f refusal points counter } → made ≡ now → NowWithin now
 ready-within buffer language f refusal points counter made now ready is e =
@@ -85,13 +85,13 @@ result-lowers old new (Ok o) good move = event-lowers old new o good move
 result-lowers old new (Err e) good move = tt
 
 -- The current span lies within the input.
-pub told-within : (made now : Now) (s : Span) → made ≡ now → NowWithin now → s ≡ span_of made → AnswerWithin now.buffer (spans (Some s))
+pub told-within : (made now : Now) (s : Span) → made ≡ now → NowWithin now → s ≡ current_span_of made → AnswerWithin now.buffer (spans (Some s))
 told-within made now s e good same = rw (same, e) (current-within now good)
 
 -- ---- a batch
 
 -- Asked for no events, it answers none, and nothing changes.
-zero-steps : (now : Now) (c : Cursor Standing) (answer : Answer) → Step (on_input now.buffer now.language) now.cursor (events 0) answer c →
+zero-steps : (now : Now) (c : Cursor Reader) (answer : Answer) → Step (on_input now.buffer now.language) now.cursor (events 0) answer c →
     (answer ≡ batch [] (Ok 0)) × (c ≡ now.cursor)
 zero-steps now c answer (Step.repeats r call _ e f) = cc
 zero-steps now _ _ gives_none = (refl, refl)
@@ -130,7 +130,7 @@ batch-lowers old new (suc k) n given known move = events-lower old (known (omega
 
 -- ---- a restore
 
-restored-uses : (now : Now) (point : ℕ) (c : Cursor Standing) (answer : Answer) →
+restored-uses : (now : Now) (point : ℕ) (c : Cursor Reader) (answer : Answer) →
     Step (on_input now.buffer now.language) now.cursor (restore point) answer c →
     (c.kept ≡ without point now.cursor.kept) × (c.counter ≡ now.cursor.counter)
 restored-uses now point c answer (Step.repeats r call _ e f) = cc
@@ -144,17 +144,17 @@ restore-uses old point new move = restored-uses old point new.cursor _ move.step
 
 -- ---- what a refusal says
 
-pub next-refusal_within : (made now : Now) (r : Refusal) (t : Spot Standing) → made ≡ now → now.cursor.refusal ≡ None → NowWithin now →
+pub next-refusal_within : (made now : Now) (r : Refusal) (t : Spot Reader) → made ≡ now → now.cursor.refusal ≡ None → NowWithin now →
     PassesOne (on_input made.buffer made.language) made.cursor.spot (Err r) t → RefusalWithin made.buffer r
 next-refusal_within made now r t e none good one =
     answer-within now (with_cursor made (refused_at made.cursor t r)) good (next-refused made now _ r r t e none one refl refl)
 
-pub peek-refusal_within : (made now : Now) (r : Refusal) (t : Spot Standing) → made ≡ now → now.cursor.refusal ≡ None → NowWithin now →
+pub peek-refusal_within : (made now : Now) (r : Refusal) (t : Spot Reader) → made ≡ now → now.cursor.refusal ≡ None → NowWithin now →
     ShowsOne (on_input made.buffer made.language) made.cursor.spot (Err r) t → RefusalWithin made.buffer r
 peek-refusal_within made now r t e none good one =
     answer-within now (with_cursor made (refused_at made.cursor t r)) good (peek-refused made now _ r r t e none one refl refl)
 
-pub queue-refusal_within : (made now : Now) (r : Refusal) (t : Spot Standing) → made ≡ now → now.cursor.refusal ≡ None → NowWithin now →
+pub queue-refusal_within : (made now : Now) (r : Refusal) (t : Spot Reader) → made ≡ now → now.cursor.refusal ≡ None → NowWithin now →
     QueuesOne (on_input made.buffer made.language) made.cursor.spot (Err r) t → RefusalWithin made.buffer r
 queue-refusal_within made now r t e none good one =
     (answer-within now (with_cursor made (refused_at made.cursor t r)) good (queue-refuses made now _ r t e none one refl)).1
@@ -162,7 +162,7 @@ queue-refusal_within made now r t e none good one =
 -- ---- a save
 
 -- No point has the next number.
-pub number-new : (buffer : List ℕ) (language : Language) (f : Filling) (refusal : Option Refusal) (points : List (ℕ × Filling)) (counter n : ℕ)
+pub number-new : (buffer : List ℕ) (language : Language) (f : Lookahead) (refusal : Option Refusal) (points : List (ℕ × Lookahead)) (counter n : ℕ)
     (made now : Now) → IsReady buffer language f refusal points counter →
     made ≡ record { buffer = buffer; language = language; cursor = cursor_of f refusal points counter } → made ≡ now → n ≡ suc counter →
     found n now.cursor.kept ≡ None

@@ -4,7 +4,7 @@ use Rattle.std.specs.Prelude.{Ok, Err}
 use Rattle.facet_format.specs.Complaint.{Refusal}
 use Rattle.facet_format.specs.Cursor.{skipped, raw, skip, capture, World, Spot, Cursor, at_spot, refused_at, Step, repeats}
 use Rattle.facet_format.specs.Cursor as cursor
-use Rattle.facet_json_document.specs.InputPlace.{Standing}
+use Rattle.facet_json_document.specs.InputPlace.{Reader}
 use Rattle.facet_json_document.specs.Now.{Now, on_input}
 use Rattle.facet_json_document.specs.Move.{Moves}
 use Rattle.facet_json_document.specs.Within.{RefusalWithin, NowWithin}
@@ -40,20 +40,20 @@ module _ {P : Type 0} (w : World P) where
 pub skip-repeats : (now : Now) (r : Refusal) → now.cursor.refusal ≡ Some r → Moves now skip (skipped (Err r)) now
 skip-repeats now r e = step-moves now now now.cursor skip _ refl (repeats r skip (skipped (Err r)) e refl)
 
-pub skip-answers : (made now : Now) (t : Spot Standing) → made ≡ now → now.cursor.refusal ≡ None →
+pub skip-answers : (made now : Now) (t : Spot Reader) → made ≡ now → now.cursor.refusal ≡ None →
     SkipsOne (on_input made.buffer made.language) made.cursor.spot (Ok tt) t →
     Moves now skip (skipped (Ok tt)) (with_cursor made (at_spot made.cursor t))
 skip-answers made now t e none one =
     step-moves made now _ skip _ e (skips-step (on_input made.buffer made.language) made.cursor t (none-made made now e none) one)
 
-pub skip-refused : (made now new : Now) (r q : Refusal) (t : Spot Standing) → made ≡ now → now.cursor.refusal ≡ None →
+pub skip-refused : (made now new : Now) (r q : Refusal) (t : Spot Reader) → made ≡ now → now.cursor.refusal ≡ None →
     SkipsOne (on_input made.buffer made.language) made.cursor.spot (Err r) t → new ≡ with_cursor made (refused_at made.cursor t r) → q ≡ r →
     Moves now skip (skipped (Err q)) new
 skip-refused made now new r q t e none one after same =
     rw (same, after) (step-moves made now _ skip _ e (skips-refused (on_input made.buffer made.language) made.cursor r t (none-made made now e none) one))
 
 -- Its refusal lies within the input.
-pub skip-refusal_within : (made now : Now) (r : Refusal) (t : Spot Standing) → made ≡ now → now.cursor.refusal ≡ None → NowWithin now →
+pub skip-refusal_within : (made now : Now) (r : Refusal) (t : Spot Reader) → made ≡ now → now.cursor.refusal ≡ None → NowWithin now →
     SkipsOne (on_input made.buffer made.language) made.cursor.spot (Err r) t → RefusalWithin made.buffer r
 skip-refusal_within made now r t e none good one =
     answer-within now (with_cursor made (refused_at made.cursor t r)) good (skip-refused made now _ r r t e none one refl refl)
@@ -64,14 +64,14 @@ skip-refusal_within made now r t e none good one =
 pub capture-repeats : (now : Now) (r : Refusal) → now.cursor.refusal ≡ Some r → Moves now capture (raw (Err r)) now
 capture-repeats now r e = step-moves now now now.cursor capture _ refl (repeats r capture (raw (Err r)) e refl)
 
-pub capture-answers : (made now : Now) (text : List ℕ) (t : Spot Standing) → made ≡ now → now.cursor.refusal ≡ None →
+pub capture-answers : (made now : Now) (text : List ℕ) (t : Spot Reader) → made ≡ now → now.cursor.refusal ≡ None →
     CapturesOne (on_input made.buffer made.language) made.cursor.spot (Ok text) t →
     Moves now capture (raw (Ok (Some text))) (with_cursor made (at_spot made.cursor t))
 capture-answers made now text t e none one =
     step-moves made now _ capture _ e
     (captures-step (on_input made.buffer made.language) made.cursor text t (none-made made now e none) one)
 
-pub capture-refused : (made now new : Now) (r q : Refusal) (t : Spot Standing) → made ≡ now → now.cursor.refusal ≡ None →
+pub capture-refused : (made now new : Now) (r q : Refusal) (t : Spot Reader) → made ≡ now → now.cursor.refusal ≡ None →
     CapturesOne (on_input made.buffer made.language) made.cursor.spot (Err r) t → new ≡ with_cursor made (refused_at made.cursor t r) →
     q ≡ r → Moves now capture (raw (Err q)) new
 capture-refused made now new r q t e none one after same =
@@ -79,7 +79,7 @@ capture-refused made now new r q t e none one after same =
     (captures-refused (on_input made.buffer made.language) made.cursor r t (none-made made now e none) one))
 
 -- Its refusal lies within the input.
-pub capture-refusal_within : (made now : Now) (r : Refusal) (t : Spot Standing) → made ≡ now → now.cursor.refusal ≡ None → NowWithin now →
+pub capture-refusal_within : (made now : Now) (r : Refusal) (t : Spot Reader) → made ≡ now → now.cursor.refusal ≡ None → NowWithin now →
     CapturesOne (on_input made.buffer made.language) made.cursor.spot (Err r) t → RefusalWithin made.buffer r
 capture-refusal_within made now r t e none good one =
     answer-within now (with_cursor made (refused_at made.cursor t r)) good (capture-refused made now _ r r t e none one refl refl)

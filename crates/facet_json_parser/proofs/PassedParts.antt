@@ -15,7 +15,7 @@ use Rattle.facet_format.specs.Views.{span_of}
 use Rattle.facet_json_token.specs.Token.{Kind, Token}
 use Rattle.facet_json_token.specs.Token as token
 use Rattle.facet_json_token.specs.Tokens.{Tokens, ended, refused, next, tokens_from}
-use Rattle.facet_json_document.specs.InputPlace.{Standing}
+use Rattle.facet_json_document.specs.InputPlace.{Reader}
 use Rattle.facet_json_document.specs.Future.{around}
 use Rattle.facet_json_document.specs.Language.{Language, gaps}
 use Rattle.facet_json_document.specs.Node.{is_scalar}
@@ -24,7 +24,7 @@ use Rattle.facet_json_document.specs.Run.{opening}
 use Rattle.facet_json_document.specs.Unread.{begins_value, past_value, past_key, at_end, at_fault, misplaced, HasColon, colon_stands, colon_missing, a_value, a_broken_value, a_key, a_closing, PartAt}
 use Rattle.facet_json_document.proofs.Runs.OneRun.{runs_or_breaks_off}
 use Rattle.facet_json_reader.specs.PlaceViews.{refused_of}
-use Rattle.facet_json_parser.specs.RunViews.{EndsRun, IsRefused, breaks_off, without_memory, AnswersRun}
+use Rattle.facet_json_parser.specs.RunViews.{EndsRun, IsRunRefused, breaks_off, without_memory, AnswersRun}
 use Rattle.facet_json_parser.specs.PartViews.{IsFirst, Skips, skips, skips_without_memory, skips_nothing, Captures, captures, captures_without_memory, captures_nothing}
 
 -- ---- values
@@ -62,7 +62,7 @@ abbrev first_kind : Tokens → Kind
 first_kind (next t ts) = t.kind
 first_kind _ = token.null
 
-module _ (buffer : List ℕ) (language : Language) (s : Standing) (last : Span) where
+module _ (buffer : List ℕ) (language : Language) (s : Reader) (last : Span) where
   module _ (first : SpannedToken) (i : IsFirst buffer language s (parts.Value first)) where
     abbrev here : Token
     here = record { kind = i.kind; span = span_of first.span }
@@ -78,7 +78,7 @@ module _ (buffer : List ℕ) (language : Language) (s : Standing) (last : Span) 
     -- A value stands there, which breaks off and is refused so; or for whose brackets there is no memory.
     pub data ValueRefused : Refusal → Type 0 where
       it_breaks : (r : Refusal) → PartAt buffer language s (broken r) → ValueRefused r
-      no_memory : (p : Part Standing) → PartAt buffer language s p → has_brackets p ≡ true → ValueRefused (no_memory_at last)
+      no_memory : (p : Part Reader) → PartAt buffer language s p → has_brackets p ≡ true → ValueRefused (no_memory_at last)
 
     -- The run of a value is passed.
     pub value-ends : (final : Span) → EndsRun buffer (gaps language) (next here rest) final → ValueEnds final
@@ -95,12 +95,12 @@ module _ (buffer : List ℕ) (language : Language) (s : Standing) (last : Span) 
       | inr breaks ↦ no_memory _ (i.leads _ (a_broken_value i.place here rest breaks.0 i.begins.1 breaks.1)) refl
     ]
 
-    refused_by : (ts : Tokens) (r : Refusal) → IsRefused buffer last ts r → ts ≡ next here rest → ValueRefused r
+    refused_by : (ts : Tokens) (r : Refusal) → IsRunRefused buffer last ts r → ts ≡ next here rest → ValueRefused r
     refused_by _ _ (breaks_off ts r b) e = it_breaks r (i.leads _ (a_broken_value i.place here rest r i.begins.1 (rw e at b)))
     refused_by _ _ (without_memory kind bracket inner opens) e = unremembered kind (sym (ap first_kind e) ∙ opens)
 
     -- It is refused.
-    pub value-refused : (r : Refusal) → IsRefused buffer last (next here rest) r → ValueRefused r
+    pub value-refused : (r : Refusal) → IsRunRefused buffer last (next here rest) r → ValueRefused r
     value-refused r is = refused_by _ r is refl
 
     skip-refused : (r : Refusal) → ValueRefused r → Skips buffer language s last (parts.Value first) (Err r)
@@ -148,7 +148,7 @@ module _ (buffer : List ℕ) (language : Language) (s : Standing) (last : Span) 
     abbrev after : Tokens
     after = tokens_from buffer (gaps language) (stop (span_of span))
 
-    key-stands : (result : Result Standing Refusal) → HasColon buffer s.stack after result →
+    key-stands : (result : Result Reader Refusal) → HasColon buffer s.stack after result →
         PartAt buffer language s (key span.offset result)
     key-stands result colon = i.leads _ (a_key i.place (record { kind = i.kind; span = span_of span }) after result i.begins colon)
 
@@ -164,12 +164,12 @@ module _ (buffer : List ℕ) (language : Language) (s : Standing) (last : Span) 
     key-skips (Err r) colon = skips_nothing _ (refused_of r) (key-stands _ colon) refl
 
     by_mark : (mark : Token) (ts : Tokens) (b : Bool) → goes_on after_key mark.kind ≡ b →
-        (result : Result Standing Refusal) × HasColon buffer s.stack (next mark ts) result
+        (result : Result Reader Refusal) × HasColon buffer s.stack (next mark ts) result
     by_mark mark ts true e = (Ok (past_key mark.span s.stack), colon_stands mark ts e)
     by_mark mark ts false e = (Err _, colon_missing (next mark ts) _ (misplaced after_key mark ts e))
 
     -- A colon stands after it, or is missing.
-    colon_or_none : (ts : Tokens) → (result : Result Standing Refusal) × HasColon buffer s.stack ts result
+    colon_or_none : (ts : Tokens) → (result : Result Reader Refusal) × HasColon buffer s.stack ts result
     colon_or_none ended = (Err _, colon_missing ended _ (at_end after_key))
     colon_or_none (refused f) = (Err _, colon_missing (refused f) _ (at_fault after_key f))
     colon_or_none (next mark ts) = by_mark mark ts (goes_on after_key mark.kind) refl

@@ -10,11 +10,11 @@ use Rattle.facet_format.specs.Cursor.{greatest}
 use Rattle.facet_format.specs.Kept.{found, without, with_point}
 use Rattle.facet_format.proofs.KeptLaws.{found-other, found-lost}
 use Rattle.facet_json_document.specs.Language.{Language}
-use Rattle.facet_json_parser.specs.Fill.{Filling}
+use Rattle.facet_json_parser.specs.Fill.{Lookahead}
 use Rattle.facet_json_parser.specs.Ready.{IsSound, ArePoints, IsReady}
-use Rattle.facet_json_parser.specs.Views.{filling_of, point_of}
+use Rattle.facet_json_parser.specs.Views.{lookahead_of, point_of}
 
-absent : (o : Option Filling) (f : Filling) → o ≡ None → o ≡ Some f → ⊥
+absent : (o : Option Lookahead) (f : Lookahead) → o ≡ None → o ≡ Some f → ⊥
 absent o f e g = cc
 
 -- ---- the counter
@@ -32,7 +32,7 @@ next-number counter n e = omega (arith, e)
 module _ (buffer : List ℕ) (language : Language) where
   -- ---- one more
 
-  up_to-new : (counter : ℕ) (f : Filling) (points : List (ℕ × Filling)) → IsSound buffer language f →
+  up_to-new : (counter : ℕ) (f : Lookahead) (points : List (ℕ × Lookahead)) → IsSound buffer language f →
       ArePoints buffer language counter points → ArePoints buffer language (suc counter) (with_point (suc counter) f points)
   up_to-new counter f [] s a = (s, omega arith, refl, tt)
   up_to-new counter f (point ∷ points) s a =
@@ -41,7 +41,7 @@ module _ (buffer : List ℕ) (language : Language) where
       (a.0, omega (arith, less), found-other point.0 (suc counter) f points other ∙ a.2, up_to-new counter f points s a.3)
 
   -- A parser that keeps where it stands under the next number is ready.
-  pub new-ready : (f : Filling) (refusal : Option Refusal) (points kept : List (ℕ × Filling)) (counter n : ℕ) →
+  pub new-ready : (f : Lookahead) (refusal : Option Refusal) (points kept : List (ℕ × Lookahead)) (counter n : ℕ) →
       IsReady buffer language f refusal points counter → counter < greatest → n ≡ suc counter → kept ≡ with_point n f points →
       IsReady buffer language f refusal kept n
   new-ready f refusal points kept counter n r less same list =
@@ -55,7 +55,7 @@ module _ (buffer : List ℕ) (language : Language) where
   -- ---- the next number
 
   -- No point has a number above the counter.
-  pub above-missing : (counter number : ℕ) (points : List (ℕ × Filling)) → ArePoints buffer language counter points → counter < number →
+  pub above-missing : (counter number : ℕ) (points : List (ℕ × Lookahead)) → ArePoints buffer language counter points → counter < number →
       found number points ≡ None
   above-missing counter number [] a h = refl
   above-missing counter number (point ∷ points) a h =
@@ -65,34 +65,34 @@ module _ (buffer : List ℕ) (language : Language) where
 
   -- ---- one taken out
 
-  used_by : (same : Bool) (counter number : ℕ) (point : ℕ × Filling) (points : List (ℕ × Filling)) →
+  used_by : (same : Bool) (counter number : ℕ) (point : ℕ × Lookahead) (points : List (ℕ × Lookahead)) →
       ArePoints buffer language counter (point ∷ points) → ArePoints buffer language counter (without number points) →
       ArePoints buffer language counter (cond same (without number points) (point ∷ without number points))
   used_by true counter number point points a more = more
   used_by false counter number point points a more = (a.0, a.1, found-lost point.0 number points a.2, more)
 
   -- Without the points of a number the others stay.
-  points-without : (counter number : ℕ) (points : List (ℕ × Filling)) → ArePoints buffer language counter points →
+  points-without : (counter number : ℕ) (points : List (ℕ × Lookahead)) → ArePoints buffer language counter points →
       ArePoints buffer language counter (without number points)
   points-without counter number [] a = tt
   points-without counter number (point ∷ points) a =
       used_by (point.0 == number) counter number point points a (points-without counter number points a.3)
 
-  sound_by : (same : Bool) (point : ℕ × Filling) (f : Filling) (o : Option Filling) → IsSound buffer language point.1 →
+  sound_by : (same : Bool) (point : ℕ × Lookahead) (f : Lookahead) (o : Option Lookahead) → IsSound buffer language point.1 →
       (o ≡ Some f → IsSound buffer language f) → cond same (Some point.1) o ≡ Some f → IsSound buffer language f
   sound_by true point f o s more e =
       let same : point.1 ≡ f = cc in subst (IsSound buffer language) same s
   sound_by false point f o s more e = more e
 
   -- What is kept is sound.
-  found-sound : (counter number : ℕ) (f : Filling) (points : List (ℕ × Filling)) → ArePoints buffer language counter points →
+  found-sound : (counter number : ℕ) (f : Lookahead) (points : List (ℕ × Lookahead)) → ArePoints buffer language counter points →
       found number points ≡ Some f → IsSound buffer language f
   found-sound counter number f [] a e = cc
   found-sound counter number f (point ∷ points) a e =
       sound_by (point.0 == number) point f (found number points) a.0 (found-sound counter number f points a.3) e
 
   -- A parser that is back at a kept point is ready.
-  pub old-ready : (f : Filling) (refusal : Option Refusal) (points kept : List (ℕ × Filling)) (counter number : ℕ) (g : Filling) →
+  pub old-ready : (f : Lookahead) (refusal : Option Refusal) (points kept : List (ℕ × Lookahead)) (counter number : ℕ) (g : Lookahead) →
       IsReady buffer language f refusal points counter → found number points ≡ Some g → kept ≡ without number points →
       IsReady buffer language g None kept counter
   old-ready f refusal points kept counter number g r here list =
@@ -127,7 +127,7 @@ all-missing number (p ∷ points) a =
 
 -- The point at this place of the list is found, and the others stay without it.
 pub record IsTakenOut (number : ℕ) (points : List Point) (i : ℕ) (p : Point) : Type 0 where
-  pub here : found number (map point_of points) ≡ Some (filling_of p.standing)
+  pub here : found number (map point_of points) ≡ Some (lookahead_of p.standing)
   pub others : map point_of (remove points i) ≡ without number (map point_of points)
 
 pub point-taken : (buffer : List ℕ) (language : Language) (counter number : ℕ) (points : List Point) (i : ℕ) (d : Point) →
@@ -152,5 +152,5 @@ point-taken buffer language counter number (p ∷ points) (suc i) d h same a =
 
 pub taken-out : (number : ℕ) (points left : List Point) (i : ℕ) (p : Point) →
     IsTakenOut number points i (slice_index_or points i p) → p ≡ slice_index_or points i p → left ≡ remove points i →
-    (found number (map point_of points) ≡ Some (filling_of p.standing)) × (map point_of left ≡ without number (map point_of points))
-taken-out number points left i p t e f = (t.here ∙ ap (λ q. Some (filling_of q.standing)) (sym e), ap (map point_of) f ∙ t.others)
+    (found number (map point_of points) ≡ Some (lookahead_of p.standing)) × (map point_of left ≡ without number (map point_of points))
+taken-out number points left i p t e f = (t.here ∙ ap (λ q. Some (lookahead_of q.standing)) (sym e), ap (map point_of) f ∙ t.others)

@@ -12,7 +12,7 @@ use Rattle.facet_json_token.proofs.TokensSteps.{tokens_by_first, tokens_from-tok
 use Rattle.facet_json_document.specs.Inner.PassedRun.{leaves, passing, passed, Outcome}
 use Rattle.facet_json_document.proofs.Runs.RunsPassed.{passed-next, passed-any}
 use Rattle.facet_json_reader.proofs.TokensThere.{tokens-past_gap, there-fits}
-use Rattle.facet_json_parser.specs.Inner.Quiet.{LeadsOn, EndsGap}
+use Rattle.facet_json_parser.specs.Inner.Quiet.{RunLeadsOn, EndsGap}
 use Rattle.facet_json_parser.proofs.MarksAreCut.{mark-is_cut}
 use Rattle.facet_json_parser.proofs.RunSteps.{LeadsTo, goes_on}
 
@@ -21,20 +21,20 @@ abbrev pub IsQuiet : Kind → Type 0
 IsQuiet kind = (innermost : ContainerKind) (around : List ContainerKind) (s : Span) → passing innermost around s kind ≡ leaves (innermost ∷ around)
 
 module _ (buffer : List ℕ) (mode : Mode) where
-  pub leads_on-twice : (from by to : ℕ) → LeadsOn buffer mode from by → LeadsOn buffer mode by to → LeadsOn buffer mode from to
+  pub leads_on-twice : (from by to : ℕ) → RunLeadsOn buffer mode from by → RunLeadsOn buffer mode by to → RunLeadsOn buffer mode from to
   leads_on-twice from by to a b = record {
     past = omega (arith, a.past, b.past);
     ends = b.ends;
     same = λ kind around last. a.same kind around last ∙ b.same kind around last;
   }
 
-  pub leads_on-nowhere : (at : ℕ) → at ≤ length buffer → LeadsOn buffer mode at at
+  pub leads_on-nowhere : (at : ℕ) → at ≤ length buffer → RunLeadsOn buffer mode at at
   leads_on-nowhere at h = record { past = omega arith; ends = h; same = λ kind around last. refl }
 
   tokens-same : (from to : ℕ) → cut buffer to mode ≡ cut buffer from mode → tokens_from buffer mode from ≡ tokens_from buffer mode to
   tokens-same from to e = tokens_by_first buffer mode from (cut buffer from mode) refl ∙ sym (tokens_by_first buffer mode to (cut buffer from mode) e)
 
-  pub gap-leads_on : (from at : ℕ) → from ≤ length buffer → at ≡ past_gap buffer from mode → LeadsOn buffer mode from at
+  pub gap-leads_on : (from at : ℕ) → from ≤ length buffer → at ≡ past_gap buffer from mode → RunLeadsOn buffer mode from at
   gap-leads_on from at h e =
       let tokens = tokens-same from at (ap (λ (p : ℕ). cut buffer p mode) e ∙ cut-past_gap buffer from mode) in
       record {
@@ -49,7 +49,7 @@ module _ (buffer : List ℕ) (mode : Mode) where
 
   -- A token that comes first is passed, if it is quiet.
   first-leads_on : (at to : ℕ) (t : Token) → at ≤ to → to ≤ length buffer → IsQuiet t.kind →
-      tokens_from buffer mode at ≡ next t (tokens_from buffer mode to) → LeadsOn buffer mode at to
+      tokens_from buffer mode at ≡ next t (tokens_from buffer mode to) → RunLeadsOn buffer mode at to
   first-leads_on at to t past ends quiet tokens = record {
     past = past;
     ends = ends;
@@ -61,7 +61,7 @@ module _ (buffer : List ℕ) (mode : Mode) where
 
   -- A quiet token is passed where it stands.
   pub token-leads_on : (at len to : ℕ) (kind : Kind) → EndsGap buffer mode at → at ≤ length buffer → to ≡ at + len → IsQuiet kind →
-      cut_here mode at (drop at buffer) ≡ token_at kind at len → LeadsOn buffer mode at to
+      cut_here mode at (drop at buffer) ≡ token_at kind at len → RunLeadsOn buffer mode at to
   token-leads_on at len to kind g room e quiet is =
       let t : Token = record { kind = kind; span = span_at at len } in
       let fits = there-fits mode buffer at len kind room is in
@@ -72,7 +72,7 @@ module _ (buffer : List ℕ) (mode : Mode) where
 
   -- So is a separator.
   pub separator-leads_on : (at b : ℕ) (kind : Kind) → IsStructural b kind → slice_get buffer at ≡ Some b → at < length buffer → IsQuiet kind →
-      LeadsOn buffer mode at (at + 1)
+      RunLeadsOn buffer mode at (at + 1)
   separator-leads_on at b kind is here room quiet =
       let t : Token = record { kind = kind; span = span_at at 1 } in
       first-leads_on at (at + 1) t (omega arith) (omega (arith, room)) quiet
@@ -80,7 +80,7 @@ module _ (buffer : List ℕ) (mode : Mode) where
 
   -- What a run comes to stays so after quiet tokens.
   pub leads-on : (stack around : List ContainerKind) (innermost : ContainerKind) (s : Span) (at : ℕ) (o : Outcome) →
-      stack ≡ innermost ∷ around → LeadsTo buffer mode stack s o → LeadsOn buffer mode (stop s) at → LeadsTo buffer mode stack (span_at at 0) o
+      stack ≡ innermost ∷ around → LeadsTo buffer mode stack s o → RunLeadsOn buffer mode (stop s) at → LeadsTo buffer mode stack (span_at at 0) o
   leads-on stack around innermost s at o e l on =
       let before : Token = record { kind = l.kind; span = s } in
       let after : Token = record { kind = l.kind; span = span_at at 0 } in

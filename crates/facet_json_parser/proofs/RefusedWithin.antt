@@ -12,9 +12,9 @@ use Rattle.facet_json_token.specs.Tokens.{Tokens}
 use Rattle.facet_json_document.proofs.Runs.BreaksWithin.{break-within}
 use Rattle.facet_json_document.proofs.TokensInOrder.{AreWithin, token_within, in_order-within, tokens-in_order}
 use Rattle.facet_json_reader.specs.PlaceViews.{refused_of}
-use Rattle.facet_json_parser.specs.RunViews.{AnswersRun, IsRefused, breaks_off, without_memory}
+use Rattle.facet_json_parser.specs.RunViews.{AnswersRun, IsRunRefused, breaks_off, without_memory}
 
-refused-within : (buffer : List ℕ) (last : Span) (ts : Tokens) (refusal : Refusal) → IsRefused buffer last ts refusal → AreWithin buffer ts →
+refused-within : (buffer : List ℕ) (last : Span) (ts : Tokens) (refusal : Refusal) → IsRunRefused buffer last ts refusal → AreWithin buffer ts →
     stop last ≤ length buffer → IfSome refusal.span (λ s. stop s ≤ length buffer)
 refused-within buffer last _ _ (breaks_off ts refusal b) w h = break-within buffer ts refusal b w
 refused-within buffer last _ _ (without_memory kind first inner e) w h = h

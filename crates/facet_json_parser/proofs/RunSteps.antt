@@ -19,9 +19,9 @@ use Rattle.facet_json_document.specs.Run.{opening, one_token}
 use Rattle.facet_json_document.specs.Inner.PassedRun.{leaves, crosses, passing, Outcome, closes, stops, passed}
 use Rattle.facet_json_document.proofs.Runs.RunsPassed.{passed-next}
 use Rattle.facet_json_document.proofs.Runs.PassedRuns.{is-outcome}
-use Rattle.facet_json_reader.specs.PlaceViews.{IsNamed}
+use Rattle.facet_json_reader.specs.PlaceViews.{NamesInside}
 use Rattle.facet_json_reader.proofs.CutsAtPlaces.{IsCut, ends, stands, is_cut, Refuses, is_refused}
-use Rattle.facet_json_parser.specs.RunViews.{EndsRun, IsRefused, breaks_off, without_memory, value_expected}
+use Rattle.facet_json_parser.specs.RunViews.{EndsRun, IsRunRefused, breaks_off, without_memory, value_expected}
 
 module _ (buffer : List ℕ) (mode : Mode) where
   -- what follows where these brackets are open, and this was the last token
@@ -74,12 +74,12 @@ module _ (buffer : List ℕ) (mode : Mode) where
   -- ---- refusals
 
   pub unopened : (kind : ContainerKind) (first last : Span) (refusal : Refusal) → refusal ≡ no_memory_at last →
-      IsRefused buffer last (run_tokens kind first) refusal
+      IsRunRefused buffer last (run_tokens kind first) refusal
   unopened kind first last refusal e = rw e (without_memory kind (first_token kind first) (tokens_from buffer mode (stop first)) refl)
 
   -- Where all is stopped, the run breaks off.
   stopped : (kind : ContainerKind) (first last : Span) (refusal : Refusal) → stops refusal ≡ whole kind first →
-      IsRefused buffer last (run_tokens kind first) refusal
+      IsRunRefused buffer last (run_tokens kind first) refusal
   stopped kind first last refusal e =
       breaks_off (run_tokens kind first) refusal (rw (← e) at (is-outcome buffer kind (first_token kind first) (tokens_from buffer mode (stop first)) refl))
 
@@ -94,7 +94,7 @@ module _ (buffer : List ℕ) (mode : Mode) where
 
     -- A fault breaks the run off.
     pub fault-stops : (e : ScanError) (refusal : Refusal) → stop s ≤ length buffer → scanned (Err e) ≡ Some (cut buffer (stop s) mode) →
-        (IsNamed e.kind → refusal ≡ scan_refusal e) → IsRefused buffer last (run_tokens kind first) refusal
+        (NamesInside e.kind → refusal ≡ scan_refusal e) → IsRunRefused buffer last (run_tokens kind first) refusal
     unfolding passed
     fault-stops e refusal within h p =
         let f : Refuses buffer (stop s) (lenient mode) e = is_refused buffer (stop s) (lenient mode) e within h in
@@ -102,7 +102,7 @@ module _ (buffer : List ℕ) (mode : Mode) where
 
     -- So does the end.
     end-stops : (refusal : Refusal) → tokens_from buffer mode (stop s) ≡ ended → refusal ≡ value_expected (span_at (length buffer) 0) →
-        IsRefused buffer last (run_tokens kind first) refusal
+        IsRunRefused buffer last (run_tokens kind first) refusal
     unfolding passed
     end-stops refusal none e = stopped kind first last refusal (ap stops e ∙ by_tokens ended none)
 
@@ -133,7 +133,7 @@ module _ (buffer : List ℕ) (mode : Mode) where
           (t.token ≡ code.Eof → refusal ≡ value_expected (span_at (length buffer) 0)) →
           ((k : Kind) → kind_of t.token ≡ Some k →
           (refusal ≡ no_memory_at last) ⊎ (passing innermost around (span_of t.span) k ≡ crosses refusal)) →
-          IsRefused buffer last (run_tokens kind first) refusal
+          IsRunRefused buffer last (run_tokens kind first) refusal
       stops-there refusal (ends is_end none) at_end e = end-stops refusal none (at_end is_end)
       stops-there refusal (stands c) at_end e = elim (e c.kind c.is_kind) [
         | inl no_memory ↦ unopened kind first last refusal no_memory
@@ -146,6 +146,6 @@ module _ (buffer : List ℕ) (mode : Mode) where
           (t.token ≡ code.Eof → refusal ≡ value_expected (span_of t.span)) →
           ((k : Kind) → kind_of t.token ≡ Some k →
           (refusal ≡ no_memory_at last) ⊎ (passing innermost around (span_of t.span) k ≡ crosses refusal)) →
-          IsRefused buffer last (run_tokens kind first) refusal
+          IsRunRefused buffer last (run_tokens kind first) refusal
       token-stops refusal span at_end e =
           stops-there refusal (is_cut buffer (stop s) (lenient mode) t within answer) (λ is_end. at_end is_end ∙ ap value_expected (span is_end)) e

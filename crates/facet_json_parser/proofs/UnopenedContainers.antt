@@ -11,8 +11,8 @@ use Rattle.facet_json_reader.specs.declared.reader.Held.{Held}
 use Rattle.facet_json_parser.specs.declared.standing.Standing.{Standing as RustStanding}
 use Rattle.facet_json_document.specs.InputPlace.{future_at}
 use Rattle.facet_json_reader.specs.Views.{passed_of, coming, GivesHeld, IsRefusedBefore, without_memory}
-use Rattle.facet_json_parser.specs.Fill.{place_of}
-use Rattle.facet_json_parser.specs.Views.{filling_of}
+use Rattle.facet_json_parser.specs.Fill.{reader_before}
+use Rattle.facet_json_parser.specs.Views.{lookahead_of}
 
 -- What is not there is none.
 pub nothing_held : (held : Option Held) → is_some held ≡ false → held ≡ None
@@ -24,7 +24,7 @@ pub unopened-refused : (buffer : List ℕ) (language : Language) (s : RustStandi
     GivesHeld (coming buffer language s.reader) h → takes_memory (event_kind_of h.event.kind) ≡ true →
     refusal ≡ no_memory_at (span_of s.reader.last) →
     (option_map passed_of s.held ≡ None)
-    × IsRefusedBefore buffer (span_of s.reader.last) (future_at buffer language (place_of (filling_of s))) refusal
+    × IsRefusedBefore buffer (span_of s.reader.last) (future_at buffer language (reader_before (lookahead_of s))) refusal
 unopened-refused buffer language s h refusal none comes takes is =
     let refused = subst (λ f. IsRefusedBefore buffer (span_of s.reader.last) f (no_memory_at (span_of s.reader.last))) (sym comes.1) (without_memory (passed_of h) comes.0 takes) in
     rw (nothing_held s.held none, is) (refl, refused)

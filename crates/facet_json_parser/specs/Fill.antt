@@ -5,28 +5,28 @@ use Rattle.facet_format.specs.Cursor.{Spot}
 use Rattle.facet_format.specs.Event.{ContainerKind, EventKind, struct_start, sequence_start, Event, Passed, holds_made}
 use Rattle.facet_json_document.specs.Language.{Language}
 use Rattle.facet_json_document.specs.Future.{Future, gives, around}
-use Rattle.facet_json_document.specs.InputPlace.{Standing, first_standing, past, future_at}
+use Rattle.facet_json_document.specs.InputPlace.{Reader, first_reader, past, future_at}
 use Rattle.facet_json_reader.specs.Views.{with_opened}
 
-pub record Filling : Type 0 where
+pub record Lookahead : Type 0 where
   -- where the tokens go on; the container that the held event opens is open
-  pub reader : Standing
+  pub reader : Reader
   -- an event that is read, but not passed
   pub held : Option Passed
   -- whether a peek answered it
   pub shown : Bool
 
 -- at a standing, where no event is held
-abbrev pub filling_at : Standing → Filling
-filling_at s = record { reader = s; held = None; shown = false }
+abbrev pub lookahead_at : Reader → Lookahead
+lookahead_at s = record { reader = s; held = None; shown = false }
 
 -- the same with this event held, if one is, which was not shown
-abbrev pub filling_with : Option Passed → Filling → Filling
-filling_with held f = record f { held = held; shown = false }
+abbrev pub lookahead_with : Option Passed → Lookahead → Lookahead
+lookahead_with held f = record f { held = held; shown = false }
 
 -- before the root
-abbrev pub first_filling : Filling
-first_filling = filling_at first_standing
+abbrev pub first_lookahead : Lookahead
+first_lookahead = lookahead_at first_reader
 
 -- ---- what the definitions see
 
@@ -42,8 +42,8 @@ before None stack = stack
 before (Some p) stack = without_opened p.event.kind stack
 
 -- the place before the held event
-abbrev pub place_of : Filling → Standing
-place_of f = record f.reader { stack = before f.held f.reader.stack }
+abbrev pub reader_before : Lookahead → Reader
+reader_before f = record f.reader { stack = before f.held f.reader.stack }
 
 -- whether an event is held that a peek answered
 abbrev pub is_shown : Option Passed → Bool → Bool
@@ -51,41 +51,41 @@ is_shown None shown = false
 is_shown (Some p) shown = shown
 
 -- the place, and whether the event there was peeked at
-abbrev pub spot_of : Filling → Spot Standing
-spot_of f = record { place = place_of f; peeked = is_shown f.held f.shown }
+abbrev pub spot_of : Lookahead → Spot Reader
+spot_of f = record { place = reader_before f; peeked = is_shown f.held f.shown }
 
 -- The event comes at the place before it, and its container, if it opens one, is open already.
-pub record HoldsNext (buffer : List ℕ) (language : Language) (f : Filling) (p : Passed) : Type 0 where
+pub record HoldsNext (buffer : List ℕ) (language : Language) (f : Lookahead) (p : Passed) : Type 0 where
   pub rest : Future
-  pub comes : future_at buffer language (place_of f) ≡ gives p rest
-  pub opened : f.reader.stack ≡ with_opened p.event.kind (place_of f).stack
+  pub comes : future_at buffer language (reader_before f) ≡ gives p rest
+  pub opened : f.reader.stack ≡ with_opened p.event.kind (reader_before f).stack
 
 -- An event that is held is the one that comes.
-abbrev pub IsFilled : List ℕ → Language → Filling → Type 0
-IsFilled buffer language f = IfSome f.held (HoldsNext buffer language f)
+abbrev pub HoldsWhatComes : List ℕ → Language → Lookahead → Type 0
+HoldsWhatComes buffer language f = IfSome f.held (HoldsNext buffer language f)
 
 -- ---- what is done with the event
 
 -- after the event, which stands in these containers
-abbrev pub filling_past : Passed → List ContainerKind → Filling → Filling
-filling_past p stack f = filling_at (past p (record f.reader { stack = stack }))
+abbrev pub filling_past : Passed → List ContainerKind → Lookahead → Lookahead
+filling_past p stack f = lookahead_at (past p (record f.reader { stack = stack }))
 
 -- The event that is held is taken. Its container, if it opens one, was open already.
-pub record Takes (f : Filling) (e : Event) (g : Filling) : Type 0 where
+pub record TakesHeld (f : Lookahead) (e : Event) (g : Lookahead) : Type 0 where
   pub p : Passed
   pub held : f.held ≡ Some p
   pub event : e ≡ p.event
   pub new : (stack : List ContainerKind) → f.reader.stack ≡ with_opened p.event.kind stack → g ≡ filling_past p stack f
 
 -- The event that is held is shown.
-pub record Lends (f : Filling) (e : Event) (g : Filling) : Type 0 where
+pub record Lends (f : Lookahead) (e : Event) (g : Lookahead) : Type 0 where
   pub p : Passed
   pub held : f.held ≡ Some p
   pub event : e ≡ p.event
   pub new : g ≡ record f { shown = true }
 
 -- The event that is held has a text that is made.
-pub record Withholds (f : Filling) (g : Filling) : Type 0 where
+pub record Withholds (f : Lookahead) (g : Lookahead) : Type 0 where
   pub p : Passed
   pub held : f.held ≡ Some p
   pub made : holds_made p.event.kind ≡ true

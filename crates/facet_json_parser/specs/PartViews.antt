@@ -10,7 +10,7 @@ use Rattle.facet_json_token.specs.Token.{Kind, Token}
 use Rattle.facet_json_token.specs.Tokens.{next, tokens_from}
 use Rattle.facet_json_token.specs.Views.{kind_of}
 use Rattle.facet_json_document.specs.Future.{around}
-use Rattle.facet_json_document.specs.InputPlace.{Standing}
+use Rattle.facet_json_document.specs.InputPlace.{Reader}
 use Rattle.facet_json_document.specs.Language.{Language, gaps, rules}
 use Rattle.facet_json_document.specs.Place.{Place, names, place_turn}
 use Rattle.facet_json_document.specs.Unread.{begins_value, closes_container, past_value, past_key, PartFrom, PartAt}
@@ -18,10 +18,10 @@ use Rattle.facet_json_parser.specs.declared.part.Part.{Part as RustPart}
 use Rattle.facet_json_parser.specs.declared.part.Part.TheVariants as parts
 
 -- the bytes of a part's first token
-abbrev pub first_of : RustPart → Span
-first_of (parts.Value t) = span_of t.span
-first_of (parts.Key s) = span_of s
-first_of (parts.Closing s) = span_of s
+abbrev pub first_span_of : RustPart → Span
+first_span_of (parts.Value t) = span_of t.span
+first_span_of (parts.Key s) = span_of s
+first_span_of (parts.Closing s) = span_of s
 
 -- At the place the part begins with a token of this kind.
 abbrev pub Begins : Place → RustPart → Kind → Type 0
@@ -30,39 +30,39 @@ Begins place (parts.Key s) kind = place_turn place kind ≡ names
 Begins place (parts.Closing s) kind = closes_container (place_turn place kind) ≡ true
 
 -- its first token
-abbrev pub first_token : RustPart → Kind → Token
-first_token part kind = record { kind = kind; span = first_of part }
+abbrev pub token_of_part : RustPart → Kind → Token
+token_of_part part kind = record { kind = kind; span = first_span_of part }
 
 -- The part stands first at the standing: what begins with its token, at a place after separators, stands there.
-pub record IsFirst (buffer : List ℕ) (language : Language) (s : Standing) (part : RustPart) : Type 0 where
+pub record IsFirst (buffer : List ℕ) (language : Language) (s : Reader) (part : RustPart) : Type 0 where
   pub place : Place
   pub kind : Kind
   pub begins : Begins place part kind
-  pub leads : (p : Part Standing) →
-      PartFrom buffer (rules language) s.stack place (next (first_token part kind) (tokens_from buffer (gaps language) (stop (first_of part)))) p →
+  pub leads : (p : Part Reader) →
+      PartFrom buffer (rules language) s.stack place (next (token_of_part part kind) (tokens_from buffer (gaps language) (stop (first_span_of part)))) p →
       PartAt buffer language s p
 
 -- after a part whose last token takes these bytes, in these containers
-abbrev pub after_part : RustPart → Span → List ContainerKind → Standing
+abbrev pub after_part : RustPart → Span → List ContainerKind → Reader
 after_part (parts.Value first) last stack = past_value last stack
 after_part (parts.Key s) last stack = past_key last stack
 after_part (parts.Closing s) last stack = past_value last (around stack)
 
 -- What stands there is passed up to a token, or refused, while the last token before it was this one.
-pub data Skips (buffer : List ℕ) (language : Language) (s : Standing) (last : Span) (part : RustPart) : Result Span Refusal → Type 0 where
-  skips : (p : Part Standing) (final : Span) → PartAt buffer language s p → skip_of p ≡ Ok (after_part part final s.stack) →
+pub data Skips (buffer : List ℕ) (language : Language) (s : Reader) (last : Span) (part : RustPart) : Result Span Refusal → Type 0 where
+  skips : (p : Part Reader) (final : Span) → PartAt buffer language s p → skip_of p ≡ Ok (after_part part final s.stack) →
       Skips buffer language s last part (Ok final)
-  skips_without_memory : (p : Part Standing) → PartAt buffer language s p → has_brackets p ≡ true →
+  skips_without_memory : (p : Part Reader) → PartAt buffer language s p → has_brackets p ≡ true →
       Skips buffer language s last part (Err (no_memory_at last))
-  skips_nothing : (p : Part Standing) (r : Refusal) → PartAt buffer language s p → skip_of p ≡ Err r →
+  skips_nothing : (p : Part Reader) (r : Refusal) → PartAt buffer language s p → skip_of p ≡ Err r →
       Skips buffer language s last part (Err r)
 
 -- What stands there is a value with these bytes, which is passed up to a token; or it is refused.
-pub data Captures (buffer : List ℕ) (language : Language) (s : Standing) (last : Span) (part : RustPart) :
+pub data Captures (buffer : List ℕ) (language : Language) (s : Reader) (last : Span) (part : RustPart) :
     Result (List ℕ × Span) Refusal → Type 0 where
-  captures : (p : Part Standing) (text : List ℕ) (final : Span) → PartAt buffer language s p →
+  captures : (p : Part Reader) (text : List ℕ) (final : Span) → PartAt buffer language s p →
       capture_of buffer p ≡ Ok (text, after_part part final s.stack) → Captures buffer language s last part (Ok (text, final))
-  captures_without_memory : (p : Part Standing) → PartAt buffer language s p → has_brackets p ≡ true →
+  captures_without_memory : (p : Part Reader) → PartAt buffer language s p → has_brackets p ≡ true →
       Captures buffer language s last part (Err (no_memory_at last))
-  captures_nothing : (p : Part Standing) (r : Refusal) → PartAt buffer language s p → capture_of buffer p ≡ Err r →
+  captures_nothing : (p : Part Reader) (r : Refusal) → PartAt buffer language s p → capture_of buffer p ≡ Err r →
       Captures buffer language s last part (Err r)

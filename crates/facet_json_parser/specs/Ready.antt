@@ -5,22 +5,22 @@ use Rattle.facet_format.specs.Complaint.{Refusal}
 use Rattle.facet_format.specs.Cursor.{greatest}
 use Rattle.facet_format.specs.Kept.{found}
 use Rattle.facet_json_document.specs.Language.{Language}
-use Rattle.facet_json_document.specs.Within.{StandsWithin, RefusalWithin}
-use Rattle.facet_json_parser.specs.Fill.{Filling, place_of, IsFilled}
+use Rattle.facet_json_document.specs.Within.{ReaderWithin, RefusalWithin}
+use Rattle.facet_json_parser.specs.Fill.{Lookahead, reader_before, HoldsWhatComes}
 
 -- The place lies within the buffer, and an event that is held is the one that comes there.
-pub record IsSound (buffer : List ℕ) (language : Language) (f : Filling) : Type 0 where
-  pub within : StandsWithin buffer (place_of f)
-  pub filled : IsFilled buffer language f
+pub record IsSound (buffer : List ℕ) (language : Language) (f : Lookahead) : Type 0 where
+  pub within : ReaderWithin buffer (reader_before f)
+  pub filled : HoldsWhatComes buffer language f
 
 -- Each point is sound, has a number of its own, and none above the counter.
-abbrev pub ArePoints : List ℕ → Language → ℕ → List (ℕ × Filling) → Type 0
+abbrev pub ArePoints : List ℕ → Language → ℕ → List (ℕ × Lookahead) → Type 0
 ArePoints buffer language counter [] = ⊤
 ArePoints buffer language counter (point ∷ points) =
     IsSound buffer language point.1 × (point.0 ≤ counter) × (found point.0 points ≡ None) × ArePoints buffer language counter points
 
 -- a parser with these fields
-pub record IsReady (buffer : List ℕ) (language : Language) (standing : Filling) (refusal : Option Refusal) (points : List (ℕ × Filling))
+pub record IsReady (buffer : List ℕ) (language : Language) (standing : Lookahead) (refusal : Option Refusal) (points : List (ℕ × Lookahead))
     (counter : ℕ) : Type 0 where
   pub stands : IsSound buffer language standing
   pub refused : IfSome refusal (RefusalWithin buffer)

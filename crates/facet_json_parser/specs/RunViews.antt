@@ -21,16 +21,16 @@ pub record EndsRun (buffer : List ℕ) (mode : Mode) (ts : Tokens) (s : Span) : 
 
 -- The run that these tokens begin with isn't passed, while this was the last token: it breaks off and is refused so; or there is
 -- no memory for the brackets that are open.
-pub data IsRefused (buffer : List ℕ) (last : Span) : Tokens → Refusal → Type 0 where
-  breaks_off : (ts : Tokens) (refusal : Refusal) → BreaksOff buffer ts refusal → IsRefused buffer last ts refusal
+pub data IsRunRefused (buffer : List ℕ) (last : Span) : Tokens → Refusal → Type 0 where
+  breaks_off : (ts : Tokens) (refusal : Refusal) → BreaksOff buffer ts refusal → IsRunRefused buffer last ts refusal
   without_memory : (kind : ContainerKind) (first : Token) (inner : Tokens) → first.kind ≡ opening kind →
-      IsRefused buffer last (next first inner) (no_memory_at last)
+      IsRunRefused buffer last (next first inner) (no_memory_at last)
 
 -- From this token on, which is cut off the buffer, the run is passed, or refused.
 abbrev pub AnswersRun : List ℕ → Mode → Token → Span → Result RustSpan Refused → Type 0
 AnswersRun buffer mode first last (Ok s) = EndsRun buffer mode (next first (tokens_from buffer mode (stop first.span))) (span_of s)
 AnswersRun buffer mode first last (Err r) =
-    IsRefused buffer last (next first (tokens_from buffer mode (stop first.span))) (refused_of r)
+    IsRunRefused buffer last (next first (tokens_from buffer mode (stop first.span))) (refused_of r)
 
 -- how the end is refused inside of a run
 abbrev pub value_expected : Span → Refusal

@@ -7,23 +7,23 @@ use Rattle.facet_json_reader.specs.declared.language.Language.{Language}
 use Rattle.facet_json_reader.specs.declared.refusal.Refused.{Refused}
 use Rattle.facet_format.specs.Complaint.{Refusal}
 use Rattle.facet_format.specs.Cursor.{Spot, Cursor}
-use Rattle.facet_json_document.specs.InputPlace.{Standing}
+use Rattle.facet_json_document.specs.InputPlace.{Reader}
 use Rattle.facet_json_document.specs.Now.{Now}
 use Rattle.facet_json_reader.specs.PlaceViews.{language_of, refused_of}
-use Rattle.facet_json_reader.specs.Views.{passed_of, standing_of}
-use Rattle.facet_json_parser.specs.Fill.{Filling, spot_of}
+use Rattle.facet_json_reader.specs.Views.{passed_of, reader_of}
+use Rattle.facet_json_parser.specs.Fill.{Lookahead, spot_of}
 
-abbrev pub filling_of : RustStanding → Filling
-filling_of s = record { reader = standing_of s.reader; held = option_map passed_of s.held; shown = s.shown }
+abbrev pub lookahead_of : RustStanding → Lookahead
+lookahead_of s = record { reader = reader_of s.reader; held = option_map passed_of s.held; shown = s.shown }
 
-abbrev pub point_of : Point → ℕ × Filling
-point_of p = (p.number, filling_of p.standing)
+abbrev pub point_of : Point → ℕ × Lookahead
+point_of p = (p.number, lookahead_of p.standing)
 
 -- the spot that is kept under the point's number
-abbrev pub kept_spot : ℕ × Filling → ℕ × Spot Standing
+abbrev pub kept_spot : ℕ × Lookahead → ℕ × Spot Reader
 kept_spot point = (point.0, spot_of point.1)
 
-abbrev pub cursor_of : Filling → Option Refusal → List (ℕ × Filling) → ℕ → Cursor Standing
+abbrev pub cursor_of : Lookahead → Option Refusal → List (ℕ × Lookahead) → ℕ → Cursor Reader
 cursor_of f refusal points counter = record {
   spot = spot_of f;
   refusal = refusal;
@@ -36,5 +36,5 @@ abbrev pub now_of : List ℕ → Language → RustStanding → Option Refused �
 now_of input language standing refusal points counter = record {
   buffer = input;
   language = language_of language;
-  cursor = cursor_of (filling_of standing) (option_map refused_of refusal) (map point_of points) counter;
+  cursor = cursor_of (lookahead_of standing) (option_map refused_of refusal) (map point_of points) counter;
 }

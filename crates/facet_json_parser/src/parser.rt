@@ -12,7 +12,7 @@ ghost use Rattle.facet_json_token.specs.Gap.{plain, jsonc};
 ghost use Rattle.facet_json_document.specs.Language.{strict};
 ghost use Rattle.facet_json_document.specs.Future.{finished};
 ghost use Rattle.facet_json_reader.specs.PlaceViews.{language_of, refused_of};
-ghost use Rattle.facet_json_document.specs.Now.{fresh, fresh_in, span_of, ahead, future_of, SameInput, GoesOn, StandsAt};
+ghost use Rattle.facet_json_document.specs.Now.{fresh, fresh_in, current_span_of, ahead, future_of, SameInput, GoesOn, StandsAt};
 ghost use Rattle.facet_json_document.specs.Move.{Moves, with_kept};
 ghost use Rattle.facet_json_document.specs.Next.{PassesNext, ShowsNext, PassesAll, IsOver};
 ghost use Rattle.facet_json_document.specs.Within.{RefusalWithin, NowWithin, AnswerWithin};
@@ -73,13 +73,13 @@ impl<'de> Model for JsonParser<'de> {
     ghost use Rattle.facet_json_reader.specs.declared.quick.Trust.TheVariants.{Utf8};
     ghost use Rattle.facet_json_reader.specs.PlaceViews.{language_of, refused_of};
     ghost use Rattle.facet_json_parser.specs.Ready.{IsReady};
-    ghost use Rattle.facet_json_parser.specs.Views.{filling_of, point_of, now_of};
+    ghost use Rattle.facet_json_parser.specs.Views.{lookahead_of, point_of, now_of};
 
     ghost Value = { Now };
 
     ghost view = { λ p. now_of p.input.now p.language p.standing p.refusal p.points.items p.counter };
 
-    ghost invariant = { λ p. IsReady p.input.now (language_of p.language) (filling_of p.standing) (option_map refused_of p.refusal)
+    ghost invariant = { λ p. IsReady p.input.now (language_of p.language) (lookahead_of p.standing) (option_map refused_of p.refusal)
         (map point_of p.points.items) p.counter × (p.trust ≡ Utf8 → IsUtf8 p.input.now) };
 }
 
@@ -450,7 +450,7 @@ impl<'de> FormatParser<'de> for JsonParser<'de> {
     /// another event its own. Before the first event the span is 0+0. It is always there.
     fn current_span(&self) -> Option<Span>
         ensures steps { IsStep StandsAt self.now span (answer_of_span result) self.now }
-        ensures told { answer_of_span result ≡ spans (Some (span_of self.now)) }
+        ensures told { answer_of_span result ≡ spans (Some (current_span_of self.now)) }
         ensures within { AnswerWithin self.now.buffer (answer_of_span result) }
         ensures given { IsSome result }
     {

@@ -12,8 +12,8 @@ ghost use Rattle.facet_json_token.specs.Views.{kind_of};
 ghost use Rattle.facet_json_document.specs.Place.{Place as SpecPlace, expected_at, goes_on};
 ghost use Rattle.facet_json_document.specs.Unread.{unread_name, IsStuckUnread, PartAt};
 ghost use Rattle.facet_json_reader.specs.PlaceViews.{language_of, place_of, expected_text, name_text, refused_of};
-ghost use Rattle.facet_json_reader.specs.Views.{standing_of};
-ghost use Rattle.facet_json_parser.specs.PartViews.{first_of, IsFirst};
+ghost use Rattle.facet_json_reader.specs.Views.{reader_of};
+ghost use Rattle.facet_json_parser.specs.PartViews.{first_span_of, IsFirst};
 
 use facet_format::Span;
 use facet_json_reader::{Expected, Language, Name, Place, Refused, Turn, Why};
@@ -37,10 +37,10 @@ pub enum Part {
 pub fn find(reader: &Reader, input: &[u8], language: Language) -> Result<Part, Refused>
     requires { stop (span_of reader.now.last) ≤ length input.now }
     ensures found { (stack : List SpecContainer)
-        → IfOk result (IsFirst input.now (language_of language) (record (standing_of reader.now) { stack = stack })) }
+        → IfOk result (IsFirst input.now (language_of language) (record (reader_of reader.now) { stack = stack })) }
     ensures nothing { (stack : List SpecContainer)
-        → IfErr result (λ r. PartAt input.now (language_of language) (record (standing_of reader.now) { stack = stack }) (nothing (refused_of r))) }
-    ensures within { IfOk result (λ part. stop (first_of part) ≤ length input.now) }
+        → IfErr result (λ r. PartAt input.now (language_of language) (record (reader_of reader.now) { stack = stack }) (nothing (refused_of r))) }
+    ensures within { IfOk result (λ part. stop (first_span_of part) ≤ length input.now) }
 {
     let Stage::Within(mut place) = reader.stage else {
         return Err(no_value(reader.last));

@@ -8,12 +8,12 @@ ghost use Rattle.facet_format.specs.Span.{stop, span_at};
 ghost use Rattle.facet_format.specs.Views.{span_of};
 ghost use Rattle.facet_json_token.specs.Tokens.{tokens_from};
 ghost use Rattle.facet_json_token.specs.Views.{mode_of};
-ghost use Rattle.facet_json_document.specs.InputPlace.{Standing};
+ghost use Rattle.facet_json_document.specs.InputPlace.{Reader as SpecReader};
 ghost use Rattle.facet_json_document.specs.Language.{Language as SpecLanguage, gaps};
 ghost use Rattle.facet_json_document.specs.Unread.{past_key, HasColon};
 ghost use Rattle.facet_json_reader.specs.PlaceViews.{no_raw_text, refused_of};
-ghost use Rattle.facet_json_reader.specs.Views.{standing_of};
-ghost use Rattle.facet_json_parser.specs.PartViews.{first_of, after_part, IsFirst, Skips, Captures};
+ghost use Rattle.facet_json_reader.specs.Views.{reader_of};
+ghost use Rattle.facet_json_parser.specs.PartViews.{first_span_of, after_part, IsFirst, Skips, Captures};
 
 use crate::part::{Part, misplaced};
 use facet_format::Span;
@@ -32,8 +32,8 @@ pub fn pass(
     part: &Part,
     last: Span,
 ) -> Result<Span, Refused>
-    requires { stop (first_of part.now) ≤ length input.now }
-    ensures skips { (language : SpecLanguage) (s : Standing) → gaps language ≡ mode_of mode → IsFirst input.now language s part.now
+    requires { stop (first_span_of part.now) ≤ length input.now }
+    ensures skips { (language : SpecLanguage) (s : SpecReader) → gaps language ≡ mode_of mode → IsFirst input.now language s part.now
         → MatchResult result
         (λ final. Skips input.now language s (span_of last) part.now (Ok (span_of final)))
         (λ r. Skips input.now language s (span_of last) part.now (Err (refused_of r))) }
@@ -55,8 +55,8 @@ pub fn capture<'de>(
     part: &Part,
     last: Span,
 ) -> Result<(&'de str, Span), Refused>
-    requires { stop (first_of part.now) ≤ length input.now }
-    ensures captures { (language : SpecLanguage) (s : Standing) → gaps language ≡ mode_of mode → IsFirst input.now language s part.now
+    requires { stop (first_span_of part.now) ≤ length input.now }
+    ensures captures { (language : SpecLanguage) (s : SpecReader) → gaps language ≡ mode_of mode → IsFirst input.now language s part.now
         → MatchResult result
         (λ raw. Captures input.now language s (span_of last) part.now (Ok (raw.0.now, span_of raw.1)))
         (λ r. Captures input.now language s (span_of last) part.now (Err (refused_of r))) }
@@ -75,7 +75,7 @@ pub fn capture<'de>(
 
 /// The reader goes on after the part, whose last token takes these bytes.
 pub fn leave(reader: &mut Reader, part: &Part, last: Span)
-    ensures { standing_of reader.new ≡ after_part part.now (span_of last) reader.old.contexts }
+    ensures { reader_of reader.new ≡ after_part part.now (span_of last) reader.old.contexts }
 {
     match part {
         Part::Value(_) => reader.stage = Stage::after_value(&reader.contexts),

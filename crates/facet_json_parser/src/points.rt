@@ -5,7 +5,7 @@ ghost use Rattle.std.specs.List.{All};
 ghost use Rattle.facet_json_parser.specs.declared.points.Point.{Point as RustPoint};
 ghost use Rattle.facet_format.specs.Kept.{found, without, with_point};
 ghost use Rattle.facet_json_parser.specs.Ready.{ArePoints};
-ghost use Rattle.facet_json_parser.specs.Views.{filling_of, point_of};
+ghost use Rattle.facet_json_parser.specs.Views.{lookahead_of, point_of};
 ghost use Rattle.facet_json_document.specs.Language.{Language};
 
 use crate::standing::Standing;
@@ -28,7 +28,7 @@ pub fn keep<'de>(
     standing: &Standing<'de>,
 ) -> Result<(), AllocError>
     ensures { MatchResult result
-        (λ _. map point_of points.new.items ≡ with_point number (filling_of standing.now) (map point_of points.old.items))
+        (λ _. map point_of points.new.items ≡ with_point number (lookahead_of standing.now) (map point_of points.old.items))
         (λ _. points.new.items ≡ points.old.items) }
 {
     let standing = standing.copy(alloc)?;
@@ -49,7 +49,7 @@ pub fn bring_back<'de>(points: &mut Vec<Point<'de>>, number: u64) -> Option<Stan
     ensures { MatchOption result
         ((found number (map point_of points.old.items) ≡ None) × (points.new.items ≡ points.old.items))
         (λ s. (buffer : List ℕ) (language : Language) (counter : ℕ) → ArePoints buffer language counter (map point_of points.old.items)
-        → (found number (map point_of points.old.items) ≡ Some (filling_of s))
+        → (found number (map point_of points.old.items) ≡ Some (lookahead_of s))
         × (map point_of points.new.items ≡ without number (map point_of points.old.items))) }
 {
     let at = place_of(points, number)?;

@@ -4,7 +4,7 @@ ghost use Rattle.std.specs.Prelude.{◌≡◌, ◌≤◌, ◌<◌, length, Some,
 ghost use Rattle.facet_json_token.specs.Cut.{start_of, opens_number};
 ghost use Rattle.facet_json_token.specs.Gap.{Mode as SpecMode};
 ghost use Rattle.facet_json_token.specs.Views.{mode_of};
-ghost use Rattle.facet_json_parser.specs.Inner.Quiet.{LeadsOn, EndsGap};
+ghost use Rattle.facet_json_parser.specs.Inner.Quiet.{RunLeadsOn, EndsGap};
 
 use facet_format::numeral::parts_at;
 use facet_json_token::Mode;
@@ -14,7 +14,7 @@ use facet_json_token::quick::{gap_end, plain_text_end};
 #[inline(always)]
 pub(crate) fn past_quiet(input: &[u8], position: usize, mode: Mode) -> usize
     requires { position ≤ length input.now }
-    ensures { LeadsOn input.now (mode_of mode) position result }
+    ensures { RunLeadsOn input.now (mode_of mode) position result }
 {
     let mut at = gap_end(input, position, mode);
     while let Some(end) = quiet_end(input, at) {
@@ -26,7 +26,7 @@ pub(crate) fn past_quiet(input: &[u8], position: usize, mode: Mode) -> usize
 /// The offset after the text, the number, the comma or the colon at `at`, and after the comma or colon right after it.
 #[inline(always)]
 fn quiet_end(input: &[u8], at: usize) -> Option<usize>
-    ensures on { (mode : SpecMode) → EndsGap input.now mode at → IfSome result (λ end. LeadsOn input.now mode at end) }
+    ensures on { (mode : SpecMode) → EndsGap input.now mode at → IfSome result (λ end. RunLeadsOn input.now mode at end) }
     ensures past { IfSome result (λ end. (at < end) × (end ≤ length input.now)) }
 {
     let end = token_end(input, at)?;
@@ -36,7 +36,7 @@ fn quiet_end(input: &[u8], at: usize) -> Option<usize>
 /// The offset after the text without an escape, the number, the comma or the colon at `at`.
 #[inline(always)]
 fn token_end(input: &[u8], at: usize) -> Option<usize>
-    ensures on { (mode : SpecMode) → EndsGap input.now mode at → IfSome result (λ end. LeadsOn input.now mode at end) }
+    ensures on { (mode : SpecMode) → EndsGap input.now mode at → IfSome result (λ end. RunLeadsOn input.now mode at end) }
     ensures past { IfSome result (λ end. (at < end) × (end ≤ length input.now)) }
 {
     let first = *input.get(at)?;
@@ -54,7 +54,7 @@ fn token_end(input: &[u8], at: usize) -> Option<usize>
 fn number_end(input: &[u8], at: usize, first: u8) -> Option<usize>
     requires here { slice_get input.now at ≡ Some first }
     requires number { start_of first ≡ opens_number }
-    ensures on { (mode : SpecMode) → EndsGap input.now mode at → IfSome result (λ end. LeadsOn input.now mode at end) }
+    ensures on { (mode : SpecMode) → EndsGap input.now mode at → IfSome result (λ end. RunLeadsOn input.now mode at end) }
     ensures past { IfSome result (λ end. (at < end) × (end ≤ length input.now)) }
 {
     let parts = parts_at(input, at);
@@ -68,7 +68,7 @@ fn number_end(input: &[u8], at: usize, first: u8) -> Option<usize>
 #[inline(always)]
 fn past_separator(input: &[u8], at: usize) -> usize
     requires { at ≤ length input.now }
-    ensures { (mode : SpecMode) → LeadsOn input.now mode at result }
+    ensures { (mode : SpecMode) → RunLeadsOn input.now mode at result }
 {
     match input.get(at) {
         Some(b',') => at + 1,

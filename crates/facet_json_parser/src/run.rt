@@ -12,7 +12,7 @@ ghost use Rattle.facet_json_document.specs.Place.{root, goes_on};
 ghost use Rattle.facet_json_document.specs.Run.{opening};
 ghost use Rattle.facet_json_document.specs.Inner.PassedRun.{leaves, crosses, closing_one, passing};
 ghost use Rattle.facet_json_reader.specs.PlaceViews.{refused_of};
-ghost use Rattle.facet_json_parser.specs.Inner.Quiet.{LeadsOn};
+ghost use Rattle.facet_json_parser.specs.Inner.Quiet.{RunLeadsOn};
 ghost use Rattle.facet_json_parser.specs.RunViews.{AnswersRun, value_expected};
 
 use crate::quiet::past_quiet;
@@ -93,7 +93,7 @@ pub fn pass_container(
 #[inline(always)]
 fn token_beyond(input: &[u8], position: usize, mode: Mode) -> (usize, ScanResult)
     requires { position ≤ length input.now }
-    ensures on { LeadsOn input.now (mode_of mode) position result.0 }
+    ensures on { RunLeadsOn input.now (mode_of mode) position result.0 }
     ensures answer { scanned result.1 ≡ Some (spec_cut.cut input.now result.0 (mode_of mode)) }
     ensures end { IfOk result.1 (λ t. t.token ≡ Token.Eof → span_of t.span ≡ span_at (length input.now) 0) }
 {

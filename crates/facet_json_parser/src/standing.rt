@@ -16,8 +16,8 @@ ghost use Rattle.facet_json_document.specs.Now.{on_input};
 ghost use Rattle.facet_json_reader.specs.PlaceViews.{language_of, refused_of};
 ghost use Rattle.facet_json_reader.specs.Views.{passed_of, IsRefusedBefore};
 ghost use Rattle.facet_json_parser.specs.PartViews.{after_part};
-ghost use Rattle.facet_json_parser.specs.Fill.{filling_at, filling_with, first_filling, place_of, spot_of, IsFilled, Takes, Lends, Withholds};
-ghost use Rattle.facet_json_parser.specs.Views.{filling_of};
+ghost use Rattle.facet_json_parser.specs.Fill.{lookahead_at, lookahead_with, first_lookahead, reader_before, spot_of, HoldsWhatComes, TakesHeld, Lends, Withholds};
+ghost use Rattle.facet_json_parser.specs.Views.{lookahead_of};
 
 use facet_format::{ParseEvent, ParseEventKind, Span};
 use facet_json_reader::{Language, Refused};
@@ -41,7 +41,7 @@ pub struct Standing<'de> {
 impl<'de> Standing<'de> {
     /// Before the document.
     pub fn new(alloc: Global) -> Standing<'de>
-        ensures { filling_of result ≡ first_filling }
+        ensures { lookahead_of result ≡ first_lookahead }
     {
         Standing {
             reader: Reader::new(alloc),
@@ -52,8 +52,8 @@ impl<'de> Standing<'de> {
 
     /// The last token that was read: of the event that a peek answered, else of the one that was passed.
     pub fn span(&self) -> Span
-        ensures { (buffer : List ℕ) (language : SpecLanguage) → IsFilled buffer language (filling_of self.now)
-            → span_of result ≡ current_span (on_input buffer language) (spot_of (filling_of self.now)) }
+        ensures { (buffer : List ℕ) (language : SpecLanguage) → HoldsWhatComes buffer language (lookahead_of self.now)
+            → span_of result ≡ current_span (on_input buffer language) (spot_of (lookahead_of self.now)) }
     {
         match &self.held {
             Some(held) if self.shown => held.last,
@@ -68,13 +68,13 @@ impl<'de> Standing<'de> {
         input: &'de [u8],
         language: Language,
     ) -> Result<Option<ParseEvent<'de>>, Refused>
-        requires sound { IsSound input.now (language_of language) (filling_of self.old) }
-        ensures sound { IsSound input.now (language_of language) (filling_of self.new) }
+        requires sound { IsSound input.now (language_of language) (lookahead_of self.old) }
+        ensures sound { IsSound input.now (language_of language) (lookahead_of self.new) }
         ensures passed { MatchResult result
-            (λ o. PassesOne (on_input input.now (language_of language)) (spot_of (filling_of self.old)) (Ok (option_map event_of o))
-            (spot_of (filling_of self.new)))
-            (λ r. PassesOne (on_input input.now (language_of language)) (spot_of (filling_of self.old)) (Err (refused_of r))
-            (spot_of (filling_of self.new))) }
+            (λ o. PassesOne (on_input input.now (language_of language)) (spot_of (lookahead_of self.old)) (Ok (option_map event_of o))
+            (spot_of (lookahead_of self.new)))
+            (λ r. PassesOne (on_input input.now (language_of language)) (spot_of (lookahead_of self.old)) (Err (refused_of r))
+            (spot_of (lookahead_of self.new))) }
     {
         if self.held.is_some() {
             return Ok(self.take());
@@ -96,11 +96,11 @@ impl<'de> Standing<'de> {
         trust: Trust,
     ) -> Option<ParseEvent<'de>>
         requires utf8 { trust ≡ Trust.Utf8 → IsUtf8 input.now }
-        requires sound { IsSound input.now (language_of language) (filling_of self.old) }
-        ensures sound { IsSound input.now (language_of language) (filling_of self.new) }
+        requires sound { IsSound input.now (language_of language) (lookahead_of self.old) }
+        ensures sound { IsSound input.now (language_of language) (lookahead_of self.new) }
         ensures passed { MatchOption result (self.new ≡ self.old)
-            (λ e. PassesOne (on_input input.now (language_of language)) (spot_of (filling_of self.old)) (Ok (Some (event_of e)))
-            (spot_of (filling_of self.new))) }
+            (λ e. PassesOne (on_input input.now (language_of language)) (spot_of (lookahead_of self.old)) (Ok (Some (event_of e)))
+            (spot_of (lookahead_of self.new))) }
     {
         if self.held.is_some() {
             return None;
@@ -115,13 +115,13 @@ impl<'de> Standing<'de> {
         input: &'de [u8],
         language: Language,
     ) -> Result<Option<ParseEvent<'de>>, Refused>
-        requires sound { IsSound input.now (language_of language) (filling_of self.old) }
-        ensures sound { IsSound input.now (language_of language) (filling_of self.new) }
+        requires sound { IsSound input.now (language_of language) (lookahead_of self.old) }
+        ensures sound { IsSound input.now (language_of language) (lookahead_of self.new) }
         ensures shown { MatchResult result
-            (λ o. ShowsOne (on_input input.now (language_of language)) (spot_of (filling_of self.old)) (Ok (option_map event_of o))
-            (spot_of (filling_of self.new)))
-            (λ r. ShowsOne (on_input input.now (language_of language)) (spot_of (filling_of self.old)) (Err (refused_of r))
-            (spot_of (filling_of self.new))) }
+            (λ o. ShowsOne (on_input input.now (language_of language)) (spot_of (lookahead_of self.old)) (Ok (option_map event_of o))
+            (spot_of (lookahead_of self.new)))
+            (λ r. ShowsOne (on_input input.now (language_of language)) (spot_of (lookahead_of self.old)) (Err (refused_of r))
+            (spot_of (lookahead_of self.new))) }
     {
         self.fill(alloc, input, language)?;
         match self.lend(alloc) {
@@ -138,15 +138,15 @@ impl<'de> Standing<'de> {
         language: Language,
         queue: &mut VecDeque<ParseEvent<'de>>,
     ) -> Result<Option<ParseEvent<'de>>, Refused>
-        requires sound { IsSound input.now (language_of language) (filling_of self.old) }
-        ensures sound { IsSound input.now (language_of language) (filling_of self.new) }
+        requires sound { IsSound input.now (language_of language) (lookahead_of self.old) }
+        ensures sound { IsSound input.now (language_of language) (lookahead_of self.new) }
         ensures items { queue.new.items ≡ queue.old.items }
         ensures room { IfOk result (λ o. OnSome o (deque_len queue.new < deque_capacity queue.new)) }
         ensures passed { MatchResult result
-            (λ o. QueuesOne (on_input input.now (language_of language)) (spot_of (filling_of self.old)) (Ok (option_map event_of o))
-            (spot_of (filling_of self.new)))
-            (λ r. QueuesOne (on_input input.now (language_of language)) (spot_of (filling_of self.old)) (Err (refused_of r))
-            (spot_of (filling_of self.new))) }
+            (λ o. QueuesOne (on_input input.now (language_of language)) (spot_of (lookahead_of self.old)) (Ok (option_map event_of o))
+            (spot_of (lookahead_of self.new)))
+            (λ r. QueuesOne (on_input input.now (language_of language)) (spot_of (lookahead_of self.old)) (Err (refused_of r))
+            (spot_of (lookahead_of self.new))) }
     {
         self.fill(alloc, input, language)?;
         if self.held.is_none() {
@@ -166,13 +166,13 @@ impl<'de> Standing<'de> {
         input: &'de [u8],
         language: Language,
     ) -> Result<(), Refused>
-        requires sound { IsSound input.now (language_of language) (filling_of self.old) }
-        ensures sound { IsSound input.now (language_of language) (filling_of self.new) }
+        requires sound { IsSound input.now (language_of language) (lookahead_of self.old) }
+        ensures sound { IsSound input.now (language_of language) (lookahead_of self.new) }
         ensures passed { MatchResult result
-            (λ _. SkipsOne (on_input input.now (language_of language)) (spot_of (filling_of self.old)) (Ok tt)
-            (spot_of (filling_of self.new)))
-            (λ r. SkipsOne (on_input input.now (language_of language)) (spot_of (filling_of self.old)) (Err (refused_of r))
-            (spot_of (filling_of self.new))) }
+            (λ _. SkipsOne (on_input input.now (language_of language)) (spot_of (lookahead_of self.old)) (Ok tt)
+            (spot_of (lookahead_of self.new)))
+            (λ r. SkipsOne (on_input input.now (language_of language)) (spot_of (lookahead_of self.old)) (Err (refused_of r))
+            (spot_of (lookahead_of self.new))) }
     {
         let mode = language.mode();
         let part = find(&self.reader, input, language)?;
@@ -188,13 +188,13 @@ impl<'de> Standing<'de> {
         input: &'de [u8],
         language: Language,
     ) -> Result<&'de str, Refused>
-        requires sound { IsSound input.now (language_of language) (filling_of self.old) }
-        ensures sound { IsSound input.now (language_of language) (filling_of self.new) }
+        requires sound { IsSound input.now (language_of language) (lookahead_of self.old) }
+        ensures sound { IsSound input.now (language_of language) (lookahead_of self.new) }
         ensures passed { MatchResult result
-            (λ text. CapturesOne (on_input input.now (language_of language)) (spot_of (filling_of self.old)) (Ok text.now)
-            (spot_of (filling_of self.new)))
-            (λ r. CapturesOne (on_input input.now (language_of language)) (spot_of (filling_of self.old)) (Err (refused_of r))
-            (spot_of (filling_of self.new))) }
+            (λ text. CapturesOne (on_input input.now (language_of language)) (spot_of (lookahead_of self.old)) (Ok text.now)
+            (spot_of (lookahead_of self.new)))
+            (λ r. CapturesOne (on_input input.now (language_of language)) (spot_of (lookahead_of self.old)) (Err (refused_of r))
+            (spot_of (lookahead_of self.new))) }
     {
         let mode = language.mode();
         let part = find(&self.reader, input, language)?;
@@ -206,15 +206,15 @@ impl<'de> Standing<'de> {
     /// Reads the next event, where none is held, and opens its container. Where it is refused, nothing changes.
     fn fill(&mut self, alloc: Global, input: &'de [u8], language: Language) -> Result<(), Refused>
         requires within { stop (span_of self.old.reader.last) ≤ length input.now }
-        requires held { IsFilled input.now (language_of language) (filling_of self.old) }
-        ensures held { IsFilled input.now (language_of language) (filling_of self.new) }
-        ensures spot { spot_of (filling_of self.new) ≡ spot_of (filling_of self.old) }
+        requires held { HoldsWhatComes input.now (language_of language) (lookahead_of self.old) }
+        ensures held { HoldsWhatComes input.now (language_of language) (lookahead_of self.new) }
+        ensures spot { spot_of (lookahead_of self.new) ≡ spot_of (lookahead_of self.old) }
         ensures filled { MatchResult result
-            (λ _. (filling_of self.new).held ≡ None
-            → future_at input.now (language_of language) (place_of (filling_of self.new)) ≡ finished)
-            (λ r. ((filling_of self.old).held ≡ None)
-            × IsRefusedBefore input.now (place_of (filling_of self.old)).last
-            (future_at input.now (language_of language) (place_of (filling_of self.old))) (refused_of r)) }
+            (λ _. (lookahead_of self.new).held ≡ None
+            → future_at input.now (language_of language) (reader_before (lookahead_of self.new)) ≡ finished)
+            (λ r. ((lookahead_of self.old).held ≡ None)
+            × IsRefusedBefore input.now (reader_before (lookahead_of self.old)).last
+            (future_at input.now (language_of language) (reader_before (lookahead_of self.old))) (refused_of r)) }
     {
         if self.held.is_some() {
             return Ok(());
@@ -234,13 +234,13 @@ impl<'de> Standing<'de> {
         requires within { stop (span_of self.old.reader.last) ≤ length input.now }
         requires free { self.old.held ≡ None }
         ensures free { OnOk result (self.new.held ≡ None) }
-        ensures held { IfOk result (λ o. IsFilled input.now (language_of language) (filling_with (option_map passed_of o) (filling_of self.new))) }
-        ensures spot { IfOk result (λ o. spot_of (filling_with (option_map passed_of o) (filling_of self.new)) ≡ spot_of (filling_of self.old)) }
+        ensures held { IfOk result (λ o. HoldsWhatComes input.now (language_of language) (lookahead_with (option_map passed_of o) (lookahead_of self.new))) }
+        ensures spot { IfOk result (λ o. spot_of (lookahead_with (option_map passed_of o) (lookahead_of self.new)) ≡ spot_of (lookahead_of self.old)) }
         ensures over { IfOk result (λ o. o ≡ None
-            → future_at input.now (language_of language) (place_of (filling_with None (filling_of self.new))) ≡ finished) }
-        ensures refused { IfErr result (λ r. (filling_of self.new ≡ filling_of self.old)
-            × IsRefusedBefore input.now (place_of (filling_of self.old)).last
-            (future_at input.now (language_of language) (place_of (filling_of self.old))) (refused_of r)) }
+            → future_at input.now (language_of language) (reader_before (lookahead_with None (lookahead_of self.new))) ≡ finished) }
+        ensures refused { IfErr result (λ r. (lookahead_of self.new ≡ lookahead_of self.old)
+            × IsRefusedBefore input.now (reader_before (lookahead_of self.old)).last
+            (future_at input.now (language_of language) (reader_before (lookahead_of self.old))) (refused_of r)) }
     {
         let Some(held) = self.reader.upcoming(alloc, input, language)? else {
             return Ok(None);
@@ -254,8 +254,8 @@ impl<'de> Standing<'de> {
     /// Passes the event that is held.
     fn take(&mut self) -> Option<ParseEvent<'de>>
         ensures { MatchOption result
-            ((filling_of self.new ≡ filling_of self.old) × ((filling_of self.old).held ≡ None))
-            (λ e. Takes (filling_of self.old) (event_of e) (filling_of self.new)) }
+            ((lookahead_of self.new ≡ lookahead_of self.old) × ((lookahead_of self.old).held ≡ None))
+            (λ e. TakesHeld (lookahead_of self.old) (event_of e) (lookahead_of self.new)) }
     {
         let held = self.held.take()?;
         self.shown = false;
@@ -265,7 +265,7 @@ impl<'de> Standing<'de> {
 
     /// Stands after the part, whose last token takes these bytes.
     fn leave(&mut self, part: &Part, last: Span)
-        ensures { filling_of self.new ≡ filling_at (after_part part.now (span_of last) (place_of (filling_of self.old)).stack) }
+        ensures { lookahead_of self.new ≡ lookahead_at (after_part part.now (span_of last) (reader_before (lookahead_of self.old)).stack) }
     {
         self.release();
         leave(&mut self.reader, part, last);
@@ -273,7 +273,7 @@ impl<'de> Standing<'de> {
 
     /// Drops the event that is held, and closes the container that it opens.
     fn release(&mut self)
-        ensures { filling_of self.new ≡ filling_at (place_of (filling_of self.old)) }
+        ensures { lookahead_of self.new ≡ lookahead_at (reader_before (lookahead_of self.old)) }
     {
         if let Some(held) = self.held.take() {
             match &held.event.kind {
@@ -289,9 +289,9 @@ impl<'de> Standing<'de> {
     fn lend(&mut self, alloc: Global) -> Result<Option<ParseEvent<'de>>, AllocError>
         ensures { MatchResult result
             (λ shown. MatchOption shown
-            ((filling_of self.new ≡ filling_of self.old) × ((filling_of self.old).held ≡ None))
-            (λ e. Lends (filling_of self.old) (event_of e) (filling_of self.new)))
-            (λ _. Withholds (filling_of self.old) (filling_of self.new)) }
+            ((lookahead_of self.new ≡ lookahead_of self.old) × ((lookahead_of self.old).held ≡ None))
+            (λ e. Lends (lookahead_of self.old) (event_of e) (lookahead_of self.new)))
+            (λ _. Withholds (lookahead_of self.old) (lookahead_of self.new)) }
     {
         let Some(held) = &self.held else {
             return Ok(None);
@@ -303,7 +303,7 @@ impl<'de> Standing<'de> {
 
     /// The same standing.
     pub fn copy(&self, alloc: Global) -> Result<Standing<'de>, AllocError>
-        ensures { IfOk result (λ s. filling_of s ≡ filling_of self.now) }
+        ensures { IfOk result (λ s. lookahead_of s ≡ lookahead_of self.now) }
     {
         let held = match &self.held {
             Some(held) => Some(held.copy(alloc)?),

@@ -21,7 +21,7 @@ use Rattle.facet_json_token.specs.Views.{kind_of, token_answer, fault_answer, sc
 use Rattle.facet_json_token.proofs.CutBounds.{TokenFits, KindFits, cut-token_fits}
 use Rattle.facet_json_document.proofs.TokensIn.{tokens_in-token, tokens_in-fault, tokens_in-nothing, strict_token-is}
 use Rattle.facet_json_document.specs.Place.{complaint_of_fault}
-use Rattle.facet_json_reader.specs.PlaceViews.{IsNamed}
+use Rattle.facet_json_reader.specs.PlaceViews.{NamesInside}
 use Rattle.facet_json_reader.proofs.InsideTexts.{KindInside, cut_in-inside}
 
 -- What is cut of either language fits there.
@@ -88,7 +88,7 @@ is_cut buffer position language t p e = cut_by buffer position language t _ p re
 record FaultAnswer (e : ScanError) (c : Cut) : Type 0 where
   what : Fault
   is_fault : c ≡ fault what
-  named : KindInside what.kind → IsNamed e.kind
+  named : KindInside what.kind → NamesInside e.kind
   passed_on : scan_refusal e ≡ refusal_at (complaint_of_fault what.kind) what.span
 
 fault_answer-is : (s : RustSpan) (kind : ScanErrorKind) (c : Cut) → fault_answer s kind ≡ Some c →
@@ -110,7 +110,7 @@ fault_answer-is s scan.InvalidUtf8 c e = cc
 -- What is known of a fault that is cut: it ends the tokens, and is passed on so.
 pub record Refuses (buffer : List ℕ) (position : ℕ) (language : Language) (e : ScanError) : Type 0 where
   pub what : Fault
-  pub passed_on : (r : Refusal) → (IsNamed e.kind → r ≡ scan_refusal e) → r ≡ refusal_at (complaint_of_fault what.kind) what.span
+  pub passed_on : (r : Refusal) → (NamesInside e.kind → r ≡ scan_refusal e) → r ≡ refusal_at (complaint_of_fault what.kind) what.span
   pub tokens : tokens_in language buffer position ≡ refused what
 
 pub is_refused : (buffer : List ℕ) (position : ℕ) (language : Language) (e : ScanError) → position ≤ length buffer →

@@ -19,7 +19,7 @@ use Rattle.facet_json_token.specs.Token.{Kind, Token, colon}
 use Rattle.facet_json_token.specs.Token as token
 use Rattle.facet_json_token.specs.Tokens.{Tokens}
 use Rattle.facet_json_document.specs.Future.{Future, gives, within, after_value, stack_after, stage_after, turn, reads_by, reads_colon_by}
-use Rattle.facet_json_document.specs.Meaning.{meaning_of, text_of as text_in}
+use Rattle.facet_json_document.specs.Meaning.{meaning_of, text_in_tree as text_in}
 use Rattle.facet_json_document.specs.Place.{Place, after_key, after_colon, Turn, stops, passes, says, says_scalar, names, place_turn, led}
 use Rattle.facet_json_document.specs.Refusal.{needs_meaning, meaningless}
 use Rattle.facet_json_document.specs.Tree.{Tree}

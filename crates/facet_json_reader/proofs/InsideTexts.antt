@@ -13,12 +13,12 @@ use Rattle.facet_json_token.specs.Strict.{wrong_at, strict_fault_of}
 use Rattle.facet_json_document.specs.Language.{Language, lenient, strict}
 use Rattle.facet_json_document.specs.StrictTokens.{cut_in}
 use Rattle.facet_json_document.proofs.TokensIn.{IsStrictFault, is_cut, of_token, strict_fault-is}
-use Rattle.facet_json_reader.specs.PlaceViews.{IsInside}
+use Rattle.facet_json_reader.specs.PlaceViews.{IsInsideText}
 
 -- A fault's text, if there is one, is such a text.
 abbrev pub KindInside : FaultKind → Type 0
 KindInside (unexpected_char c) = Unit {0}
-KindInside (unexpected_eof text) = IsInside text
+KindInside (unexpected_eof text) = IsInsideText text
 
 abbrev CutInside : Cut → Type 0
 CutInside (fault f) = KindInside f.kind

@@ -22,7 +22,7 @@ use Rattle.facet_json_token.specs.Token.{Kind, Token, colon, string}
 use Rattle.facet_json_token.specs.Token as token
 use Rattle.facet_json_token.specs.Tokens.{Tokens, next}
 use Rattle.facet_json_document.specs.Future.{gives, Stage, within, after_value, stack_after, stage_after, turn, reads_by, reads_colon_by}
-use Rattle.facet_json_document.specs.Meaning.{meaning_of, text_of as text_in}
+use Rattle.facet_json_document.specs.Meaning.{meaning_of, text_in_tree as text_in}
 use Rattle.facet_json_document.specs.Place.{Place, root, before_key, after_colon, before_item, next_key, next_item, Turn, passes, says, says_scalar, names, place_turn, led}
 use Rattle.facet_json_document.specs.Tree.{Tree}
 use Rattle.facet_json_document.specs.Tree as tree
@@ -31,7 +31,7 @@ use Rattle.facet_json_document.proofs.WalkComes.{TakesValue, at_root, of_member,
 use Rattle.facet_json_reader.proofs.TokensThere.{mark-cut, tokens_in-past_gap, word-cut}
 use Rattle.facet_json_reader.proofs.TurnsAtPlaces.{is_mark, mark-plain}
 use Rattle.facet_json_reader.specs.Values.{IsPlainText, IsScalarThere}
-use Rattle.facet_json_reader.specs.Quick.{MayBeKey, MayBeValue, Reaches, IsWord, null_stands, true_stands, false_stands, Leaves, PassesEvent}
+use Rattle.facet_json_reader.specs.Quick.{MayBeKey, MayBeValue, Reaches, IsWord, null_stands, true_stands, false_stands, Leaves, PassesQuickly}
 use Rattle.facet_json_reader.specs.Views.{stage_of, comes_at, coming}
 
 -- The places where a value may stand.
@@ -167,7 +167,7 @@ module _ (buffer : List ℕ) (language : Language) (r : Reader) (place : Place) 
   -- A bracket gives its event.
   pub bracket-passes : (kind : Kind) (way : EventKind) (e : Event) (t : Reader) → Reaches buffer language r place at →
       cut_here (gaps language) at (drop at buffer) ≡ token_at kind at 1 → place_turn place kind ≡ says way →
-      Leaves r way (span_at at 1) (span_at at 1) e t → PassesEvent buffer language r e t
+      Leaves r way (span_at at 1) (span_at at 1) e t → PassesQuickly buffer language r e t
   bracket-passes kind way e t is cuts turns left = record {
     p = record { event = e; last = span_at at 1 };
     rest = reads_by (rules language) buffer (stack_after way r.contexts) (stage_after way r.contexts) (tokens_in language buffer (stop (span_at at 1)));
@@ -181,14 +181,14 @@ module _ (buffer : List ℕ) (language : Language) (r : Reader) (place : Place) 
   pub start-passes : (kind : Kind) (way : EventKind) (o : Option ParseEvent) (t : Reader) → Reaches buffer language r place at →
       cut_here (gaps language) at (drop at buffer) ≡ token_at kind at 1 → place_turn place kind ≡ says way →
       MatchOption o (t ≡ r) (λ e. Leaves r way (span_at at 1) (span_at at 1) (event_of e) t) →
-      MatchOption o (t ≡ r) (λ e. PassesEvent buffer language r (event_of e) t)
+      MatchOption o (t ≡ r) (λ e. PassesQuickly buffer language r (event_of e) t)
   start-passes kind way None t is cuts turns left = left
   start-passes kind way (Some e) t is cuts turns left = bracket-passes kind way (event_of e) t is cuts turns left
 
   -- A scalar gives its event.
   pub scalar-passes : (len : ℕ) (value : Scalar) (e : Event) (t : Reader) → MayBeValue place → Reaches buffer language r place at →
       (there : IsScalarThere buffer at len value) → Allows language buffer (record { kind = there.kind; span = span_at at len }) →
-      Leaves r (event.scalar value) (span_at at len) (span_at at len) e t → PassesEvent buffer language r e t
+      Leaves r (event.scalar value) (span_at at len) (span_at at len) e t → PassesQuickly buffer language r e t
   scalar-passes len value e t here is there allowed left =
       let whole : Token = record { kind = there.kind; span = span_at at len } in
       let rest = tokens_in language buffer (stop (span_at at len)) in
@@ -211,7 +211,7 @@ module _ (buffer : List ℕ) (language : Language) (r : Reader) (place : Place) 
       Allows language buffer (record { kind = string (at + 1) finish false; span = span_at at ((finish + 1) - at) }) → Reaches buffer language r place at →
       (text : IsPlainText buffer at finish name) → at < finish → finish < length buffer → mark ≡ past_gap buffer (finish + 1) (gaps language) →
       slice_get buffer mark ≡ Some mark_byte.colon →
-      Leaves r (event.field_key (borrowed name)) (span_at at ((finish + 1) - at)) (span_at mark 1) e t → PassesEvent buffer language r e t
+      Leaves r (event.field_key (borrowed name)) (span_at at ((finish + 1) - at)) (span_at mark 1) e t → PassesQuickly buffer language r e t
   key-passes finish mark name e t key allowed is text some room gap here left =
       let kind = string (at + 1) finish false in
       let len = (finish + 1) - at in

@@ -5,7 +5,7 @@ use Rattle.std.proofs.lemmas.List.{get_or-take, get_or-drop}
 use Rattle.facet_format.specs.Bytes.{minus}
 use Rattle.facet_format.specs.Number.{Parts, parts, parts_len}
 use Rattle.facet_json_token.proofs.Offsets.{drop-at_byte}
-use Rattle.facet_json_token.specs.RfcNumber.{SomeDigits, IsMinus, IsWhole, IsRfcNumber}
+use Rattle.facet_json_token.specs.RfcNumber.{SomeDigits, IsRfcMinus, IsRfcWhole, IsRfcNumber}
 use Rattle.facet_json_token.specs.RfcNumberTest.{are_rfc_parts}
 use Rattle.facet_json_token.proofs.RfcNumbers.{are_rfc_parts-sound, leads-by_no_zero, whole-rfc, some-length}
 
@@ -30,7 +30,7 @@ digits-before buffer from to some = omega (arith, slice_shorter buffer from to, 
 
 -- Digits that are one or begin with another than 0 are a whole number.
 digits-lead : (buffer : List ℕ) (from to : ℕ) → SomeDigits (slice_range buffer from to) →
-    (to ≤ from + 1) ⊎ (get_or buffer from 0 ≢ 0x30) → IsWhole (slice_range buffer from to)
+    (to ≤ from + 1) ⊎ (get_or buffer from 0 ≢ 0x30) → IsRfcWhole (slice_range buffer from to)
 digits-lead buffer from to some leads =
     let less = digits-before buffer from to some in
     leads-by_no_zero (slice_range buffer from to) some
@@ -39,7 +39,7 @@ digits-lead buffer from to some leads =
 -- Such digits are a number of RFC 8259.
 pub unsigned-strict : (buffer : List ℕ) (at to : ℕ) → SomeDigits (slice_range buffer at to) →
     (to ≤ at + 1) ⊎ (get_or buffer at 0 ≢ 0x30) → IsRfcNumber (slice_range buffer at to)
-unsigned-strict buffer at to some leads = whole-rfc [] (slice_range buffer at to) IsMinus.absent (digits-lead buffer at to some leads)
+unsigned-strict buffer at to some leads = whole-rfc [] (slice_range buffer at to) IsRfcMinus.absent (digits-lead buffer at to some leads)
 
 -- After a minus they are one, too.
 pub signed-strict : (buffer : List ℕ) (at to : ℕ) → slice_get buffer at ≡ Some minus → SomeDigits (slice_range buffer (at + 1) to) →
@@ -49,4 +49,4 @@ signed-strict buffer at to here some leads =
     let long : to - at ≡ suc (to - (at + 1)) = omega arith in
     let whole : slice_range buffer at to ≡ minus ∷ slice_range buffer (at + 1) to =
     ap (λ k. take k (drop at buffer)) long ∙ ap (take (suc (to - (at + 1)))) (drop-at_byte buffer at minus here) in
-    subst IsRfcNumber (sym whole) (whole-rfc (minus ∷ []) (slice_range buffer (at + 1) to) IsMinus.present (digits-lead buffer (at + 1) to some leads))
+    subst IsRfcNumber (sym whole) (whole-rfc (minus ∷ []) (slice_range buffer (at + 1) to) IsRfcMinus.present (digits-lead buffer (at + 1) to some leads))

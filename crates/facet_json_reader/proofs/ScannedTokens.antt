@@ -16,7 +16,7 @@ use Rattle.facet_json_token.specs.Views.{kind_of, scanned, scan_refusal}
 use Rattle.facet_json_token.proofs.CutBounds.{KindFits, StringFits, NumberFits}
 use Rattle.facet_json_document.specs.Place.{Place}
 use Rattle.facet_json_document.specs.Refusal.{at_fault}
-use Rattle.facet_json_reader.specs.PlaceViews.{IsNamed}
+use Rattle.facet_json_reader.specs.PlaceViews.{NamesInside}
 use Rattle.facet_json_reader.proofs.CutsAtPlaces.{IsCut, ends, stands, is_cut, is_refused}
 use Rattle.facet_json_reader.specs.TokenViews.{CanBeRead}
 use Rattle.facet_json_reader.specs.Views.{StopsAt}
@@ -61,7 +61,7 @@ cut-readable buffer position language t p e = can_be buffer position language t 
 
 -- A fault stops the reader wherever it stands.
 pub fault-stops : (buffer : List ℕ) (position : ℕ) (language : Language) (e : ScanError) (place : Place) (r : Refusal) → position ≤ length buffer →
-    scanned (Err e) ≡ Some (cut_in language buffer position) → (IsNamed e.kind → r ≡ scan_refusal e) →
+    scanned (Err e) ≡ Some (cut_in language buffer position) → (NamesInside e.kind → r ≡ scan_refusal e) →
     StopsAt buffer place (tokens_in language buffer position) r
 fault-stops buffer position language e place r room h p =
     let f = is_refused buffer position language e room h in rw (f.passed_on r p, f.tokens) (at_fault place f.what)

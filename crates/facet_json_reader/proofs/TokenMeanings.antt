@@ -18,12 +18,12 @@ use Rattle.facet_json_document.specs.Meaning.{meaning_of}
 use Rattle.facet_json_document.specs.Place.{Place, kind_name, expected_at, goes_on}
 use Rattle.facet_json_document.specs.Refusal.{needs_meaning, misplaced}
 use Rattle.facet_json_reader.specs.PlaceViews.{name_text, expected_text}
-use Rattle.facet_json_reader.specs.TokenViews.{number_at, number_in, holds_made, IsReadAs, IsRead, IsUnmade}
+use Rattle.facet_json_reader.specs.TokenViews.{number_at, number_in, holds_made_text, IsReadAs, IsReadOrUnmade, IsUnmade}
 use Rattle.facet_json_reader.specs.Views.{IsNamed, IsNameOf, StopsAt}
 
 -- A number of the buffer is read as itself.
 pub number_read : (buffer : List ℕ) (k : Kind) (kind : TokenKind) (n : Number) → number_at buffer k ≡ Some n →
-    number_in kind ≡ Some n → holds_made kind ≡ false → IsReadAs buffer k kind
+    number_in kind ≡ Some n → holds_made_text kind ≡ false → IsReadAs buffer k kind
 number_read buffer k (kinds.U64 m) n e i f = e ∙ sym i
 number_read buffer k (kinds.I64 m) n e i f = e ∙ sym i
 number_read buffer k (kinds.U128 m) n e i f = e ∙ sym i
@@ -45,7 +45,7 @@ read_means buffer _ _ r n = cc
 
 -- A token that is read is called so.
 pub read-named : (buffer : List ℕ) (o : Option Kind) (found : Option MaterializedToken) (read : MaterializedToken)
-    (name : Name) → found ≡ Some read → IfSome o (λ k. IsRead buffer k found) →
+    (name : Name) → found ≡ Some read → IfSome o (λ k. IsReadOrUnmade buffer k found) →
     ((b : List ℕ) (k : Kind) → IsReadAs b k read.kind → name_text name ≡ kind_name b k) →
     IfSome o (λ k. IsNamed buffer k name)
 read-named buffer None found read name e r called = tt

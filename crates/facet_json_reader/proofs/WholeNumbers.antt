@@ -6,7 +6,7 @@ use Rattle.std.proofs.lemmas.List.{drop-drop, drop_more, take_rest}
 use Rattle.std.proofs.lemmas.Option.{slice_get_within}
 use Rattle.facet_format.specs.Bytes.{minus, dot, is_exponent_mark}
 use Rattle.facet_format.specs.Event as event
-use Rattle.facet_format.specs.Number.{AreDigits, Hint, Parts, unsigned, signed, is_some_len, hint_of, minus_len, digits_len, sign_len, fraction_len, exponent_len, parts, parts_len, is_bare, is_number, number, digits_value, unsigned_number, negative_number, u64, u128, i64, i128}
+use Rattle.facet_format.specs.Number.{AreDigits, Hint, Parts, unsigned, signed, is_some_len, hint_by, minus_len, digits_len, sign_len, fraction_len, exponent_len, parts, parts_len, is_bare, is_number, number, digits_value, unsigned_number, negative_number, u64, u128, i64, i128}
 use Rattle.facet_format.proofs.NumberSteps.{PartsEnd-parts, PartsEnd-lengths}
 use Rattle.facet_format.proofs.NumberText.{unsigned-digits, number-unsigned, number-signed, signed-digits}
 use Rattle.facet_json_token.specs.Cut.{opens_number, start_of}
@@ -17,14 +17,14 @@ use Rattle.facet_json_token.proofs.SignedNumbers.{signed-sign}
 use Rattle.facet_json_reader.proofs.TokensThere.{there-fits, number-cut}
 use Rattle.facet_json_token.specs.RfcNumber.{SomeDigits}
 use Rattle.facet_json_token.proofs.RfcNumbers.{some-taken}
-use Rattle.facet_json_reader.specs.Inner.Whole.{IsWhole}
+use Rattle.facet_json_reader.specs.Inner.Whole.{IsWholeNumber}
 use Rattle.facet_json_reader.specs.Values.{IsScalarThere}
 use Rattle.facet_json_reader.proofs.DigitSlices.{back-slice}
 use Rattle.facet_json_reader.proofs.ValuesThere.{number-there}
 
 -- Where the byte after digits begins no other part, the digits are whole.
 pub no-more_parts : (buffer : List ℕ) (at n : ℕ) → n ≡ digits_len (drop at buffer) → 0 < n → n < 16 → at + n < length buffer →
-    ((get_or buffer (at + n) 0 == dot) || is_exponent_mark (get_or buffer (at + n) 0)) ≡ false → IsWhole (drop at buffer) n
+    ((get_or buffer (at + n) 0 == dot) || is_exponent_mark (get_or buffer (at + n) 0)) ≡ false → IsWholeNumber (drop at buffer) n
 no-more_parts buffer at n digits some few room others =
     let b = get_or buffer (at + n) 0 in
     let neither = or_parts (b == dot) (is_exponent_mark b) others in
@@ -39,7 +39,7 @@ no-more_parts buffer at n digits some few room others =
     }
 
 -- Digits that are all of a number are some.
-pub digits-some : (buffer : List ℕ) (at n finish : ℕ) → IsWhole (drop at buffer) n → finish ≡ at + n → SomeDigits (slice_range buffer at finish)
+pub digits-some : (buffer : List ℕ) (at n finish : ℕ) → IsWholeNumber (drop at buffer) n → finish ≡ at + n → SomeDigits (slice_range buffer at finish)
 digits-some buffer at n finish w ends =
     let long : digits_len (drop at buffer) ≡ finish - at = omega (arith, w.digits) in
     subst (λ k. SomeDigits (take k (drop at buffer))) long (some-taken (drop at buffer) (omega (arith, w.digits, w.some)))
@@ -49,7 +49,7 @@ abbrev whole_parts : ℕ → ℕ → Parts
 whole_parts s n = record { sign = s; digits = n; fraction = 0; exponent = 0 }
 
 -- They are the parts of what stands there.
-parts-there : (buffer : List ℕ) (at s n start : ℕ) → start ≡ at + s → s ≡ minus_len (drop at buffer) → IsWhole (drop start buffer) n →
+parts-there : (buffer : List ℕ) (at s n start : ℕ) → start ≡ at + s → s ≡ minus_len (drop at buffer) → IsWholeNumber (drop start buffer) n →
     whole_parts s n ≡ parts (drop at buffer)
 parts-there buffer at s n start from sign w =
     let end = start + n in
@@ -64,8 +64,8 @@ parts-there buffer at s n start from sign w =
     rw (one, two, none) at (PartsEnd-lengths (parts (drop at buffer)) at start end end end ends)
 
 module _ (buffer : List ℕ) (at b s n start len : ℕ) (hint : Hint) (here : slice_get buffer at ≡ Some b) (begins : start_of b ≡ opens_number)
-    (from : start ≡ at + s) (long : len ≡ s + n) (sign : s ≡ minus_len (drop at buffer)) (w : IsWhole (drop start buffer) n)
-    (what : hint ≡ hint_of (is_some_len s) false false) where
+    (from : start ≡ at + s) (long : len ≡ s + n) (sign : s ≡ minus_len (drop at buffer)) (w : IsWholeNumber (drop start buffer) n)
+    (what : hint ≡ hint_by (is_some_len s) false false) where
   same : whole_parts s n ≡ parts (drop at buffer)
   same = parts-there buffer at s n start from sign w
 
@@ -84,7 +84,7 @@ module _ (buffer : List ℕ) (at b s n start len : ℕ) (hint : Hint) (here : sl
 -- ---- digits alone
 
 module _ (buffer : List ℕ) (at b n : ℕ) (here : slice_get buffer at ≡ Some b) (begins : start_of b ≡ opens_number) (no_minus : b ≢ minus)
-    (w : IsWhole (drop at buffer) n) where
+    (w : IsWholeNumber (drop at buffer) n) where
   no-sign : 0 ≡ minus_len (drop at buffer)
   no-sign = sym (ap minus_len (drop-at_byte buffer at b here) ∙ ap (λ t. cond t 1 0) (ne_eqb b minus no_minus))
 
@@ -107,7 +107,7 @@ module _ (buffer : List ℕ) (at b n : ℕ) (here : slice_get buffer at ≡ Some
 
 -- ---- after a minus
 
-module _ (buffer : List ℕ) (at n : ℕ) (here : slice_get buffer at ≡ Some minus) (w : IsWhole (drop (at + 1) buffer) n) where
+module _ (buffer : List ℕ) (at n : ℕ) (here : slice_get buffer at ≡ Some minus) (w : IsWholeNumber (drop (at + 1) buffer) n) where
   sign-stands : 1 ≡ minus_len (drop at buffer)
   sign-stands = sym (ap minus_len (drop-at_byte buffer at minus here))
 

@@ -91,13 +91,13 @@ inside_text insides.Escape = codes "in escape sequence"
 inside_text insides.UnicodeEscape = codes "in unicode escape"
 
 -- It is one of these texts.
-abbrev pub IsInside : List ℕ → Type 0
-IsInside text = (inside : Inside) × (inside_text inside ≡ text)
+abbrev pub IsInsideText : List ℕ → Type 0
+IsInsideText text = (inside : Inside) × (inside_text inside ≡ text)
 
 -- Where a scan says inside of what its input ends, it says so by one of these texts.
-abbrev pub IsNamed : ScanErrorKind → Type 0
-IsNamed (scan.UnexpectedEof text) = IsInside text.now
-IsNamed _ = Unit {0}
+abbrev pub NamesInside : ScanErrorKind → Type 0
+NamesInside (scan.UnexpectedEof text) = IsInsideText text.now
+NamesInside _ = Unit {0}
 
 abbrev pub why_of : Why → Complaint
 why_of (why.Char c) = complaint.unexpected_char c (codes "valid JSON token")
@@ -137,20 +137,20 @@ place_of places.NextItem = place.next_item
 place_of places.AfterRoot = place.after_root
 
 -- the event of a bracket that opens a container
-abbrev pub opening : RustContainerKind → EventKind
-opening containers.Object = event.struct_start object
-opening containers.Array = event.sequence_start array
+abbrev pub opening_event : RustContainerKind → EventKind
+opening_event containers.Object = event.struct_start object
+opening_event containers.Array = event.sequence_start array
 
 -- the event of a bracket that closes a container
-abbrev pub closing : RustContainerKind → EventKind
-closing containers.Object = event.struct_end
-closing containers.Array = event.sequence_end
+abbrev pub closing_event : RustContainerKind → EventKind
+closing_event containers.Object = event.struct_end
+closing_event containers.Array = event.sequence_end
 
 abbrev pub turn_of : RustTurn → Turn
 turn_of turns.Stops = stops
 turn_of (turns.Passes p) = passes (place_of p)
-turn_of (turns.Opens kind) = says (opening kind)
-turn_of (turns.Closes kind) = says (closing kind)
+turn_of (turns.Opens kind) = says (opening_event kind)
+turn_of (turns.Closes kind) = says (closing_event kind)
 turn_of turns.Scalar = says_scalar
 turn_of turns.Names = place.names
 
@@ -160,9 +160,9 @@ turn_by p None = stops
 turn_by p (Some kind) = place_turn p kind
 
 -- a string's token
-abbrev pub is_text : RustToken → Bool
-is_text (code.String start finish has_escapes) = true
-is_text _ = false
+abbrev pub is_string_token : RustToken → Bool
+is_string_token (code.String start finish has_escapes) = true
+is_string_token _ = false
 
 -- The innermost container is of this kind.
 abbrev pub innermost_of : Option RustContainerKind → List ContainerKind → Type 0

@@ -10,7 +10,7 @@ use Rattle.facet_json_document.specs.Future.{Future, gives, within}
 use Rattle.facet_json_document.specs.Language.{Language, gaps}
 use Rattle.facet_json_document.specs.InputPlace.{past}
 use Rattle.facet_json_document.specs.Place.{Place, root, after_colon, before_item, before_key, next_item, next_key}
-use Rattle.facet_json_reader.specs.Views.{standing_of, comes_at, coming}
+use Rattle.facet_json_reader.specs.Views.{reader_of, comes_at, coming}
 
 -- The places where a value may stand.
 abbrev pub MayBeValue : Place → Type 0
@@ -42,12 +42,12 @@ pub data IsWord : ℕ → List ℕ → Scalar → Type 0 where
 -- An event of this kind is given, and the reader stands after it.
 pub record Leaves (r : Reader) (kind : EventKind) (s last : Span) (e : Event) (t : Reader) : Type 0 where
   pub event : e ≡ record { kind = kind; span = s }
-  pub new : standing_of t ≡ past (record { event = e; last = last }) (standing_of r)
+  pub new : reader_of t ≡ past (record { event = e; last = last }) (reader_of r)
 
 -- The event came next where the reader stood, and it stands after it.
-pub record PassesEvent (buffer : List ℕ) (language : Language) (r : Reader) (e : Event) (t : Reader) : Type 0 where
+pub record PassesQuickly (buffer : List ℕ) (language : Language) (r : Reader) (e : Event) (t : Reader) : Type 0 where
   pub p : Passed
   pub rest : Future
   pub comes : coming buffer language r ≡ gives p rest
   pub event : e ≡ p.event
-  pub new : standing_of t ≡ past p (standing_of r)
+  pub new : reader_of t ≡ past p (reader_of r)

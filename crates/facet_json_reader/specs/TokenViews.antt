@@ -64,9 +64,9 @@ number_in (kinds.Decimal digits) = Some (numbers.decimal (bytes_of digits))
 number_in _ = None
 
 -- whether the number that is read holds a text that is made
-abbrev pub holds_made : TokenKind → Bool
-holds_made (kinds.Decimal digits) = is_owned digits
-holds_made _ = false
+abbrev pub holds_made_text : TokenKind → Bool
+holds_made_text (kinds.Decimal digits) = is_owned digits
+holds_made_text _ = false
 
 -- A string of this kind has this text, which is borrowed where no backslash stands in it.
 pub record IsTextOf (buffer : List ℕ) (kind : Kind) (t : Text) : Type 0 where
@@ -104,9 +104,9 @@ pub record IsUnmade (buffer : List ℕ) (kind : Kind) : Type 0 where
   pub means : IsSome (meaning_of buffer kind)
 
 -- It is read so; or it has a text for which there was no memory.
-abbrev pub IsRead : List ℕ → Kind → Option MaterializedToken → Type 0
-IsRead buffer kind None = IsUnmade buffer kind
-IsRead buffer kind (Some t) = IsReadAs buffer kind t.kind
+abbrev pub IsReadOrUnmade : List ℕ → Kind → Option MaterializedToken → Type 0
+IsReadOrUnmade buffer kind None = IsUnmade buffer kind
+IsReadOrUnmade buffer kind (Some t) = IsReadAs buffer kind t.kind
 
 -- a token without a meaning, and how it is refused
 pub record IsMeaningless (buffer : List ℕ) (kind : Kind) (s : Span) (refusal : Refusal) : Type 0 where

@@ -11,7 +11,7 @@ use Rattle.facet_json_reader.specs.declared.refusal.Refused.{Refused}
 use Rattle.facet_json_reader.specs.declared.reader.Stage.{Stage as RustStage}
 use Rattle.facet_json_reader.specs.declared.reader.Stage.TheVariants as stages
 use Rattle.facet_json_reader.specs.declared.reader.Held.{Held}
-use Rattle.facet_json_reader.specs.declared.reader.Reader.{Reader}
+use Rattle.facet_json_reader.specs.declared.reader.Reader.{Reader as RustReader}
 use Rattle.facet_format.specs.Complaint.{Refusal}
 use Rattle.facet_format.specs.Cursor.{no_memory_at}
 use Rattle.facet_format.specs.Event.{ContainerKind, object, array, EventKind, Passed, takes_memory, is_made}
@@ -28,7 +28,7 @@ use Rattle.facet_json_document.specs.StrictTokens.{tokens_in}
 use Rattle.facet_json_document.specs.Meaning.{meaning_of}
 use Rattle.facet_json_document.specs.Place.{Place, after_key, place_turn, kind_name}
 use Rattle.facet_json_document.specs.Refusal.{needs_meaning, IsStuck}
-use Rattle.facet_json_document.specs.InputPlace.{Standing}
+use Rattle.facet_json_document.specs.InputPlace.{Reader}
 use Rattle.facet_json_document.specs.Walk.{scalar_of}
 use Rattle.facet_json_reader.specs.PlaceViews.{place_of, turn_of, name_text, refused_of}
 use Rattle.facet_json_reader.specs.TokenViews.{IsTextOf, IsUnmade, IsMeaningless}
@@ -43,8 +43,8 @@ abbrev pub passed_of : Held → Passed
 passed_of h = record { event = event_of h.event; last = span_of h.last }
 
 -- where the reader stands
-abbrev pub standing_of : Reader → Standing
-standing_of r = record { last = span_of r.last; stack = r.contexts; stage = stage_of r.stage }
+abbrev pub reader_of : RustReader → Reader
+reader_of r = record { last = span_of r.last; stack = r.contexts; stage = stage_of r.stage }
 
 -- the open containers, with that of an event that opens one
 abbrev pub with_opened : EventKind → List ContainerKind → List ContainerKind
@@ -57,7 +57,7 @@ abbrev pub comes_at : List ℕ → Language → List ContainerKind → Stage →
 comes_at buffer language stack stage position = reads_by (rules language) buffer stack stage (tokens_in language buffer position)
 
 -- what is given out from where the reader stands on
-abbrev pub coming : List ℕ → Language → Reader → Future
+abbrev pub coming : List ℕ → Language → RustReader → Future
 coming buffer language r = comes_at buffer language r.contexts (stage_of r.stage) (stop (span_of r.last))
 
 -- ---- tokens
@@ -129,7 +129,7 @@ Answers buffer last future (Ok h) = GivesHeld future h
 Answers buffer last future (Err e) = IsRefusedBefore buffer last future (refused_of e)
 
 -- Where the reader stands, the document has ended, or the next event is given, or refused.
-abbrev pub IsUpcoming : List ℕ → Language → Reader → Result (Option Held) Refused → Type 0
+abbrev pub IsUpcoming : List ℕ → Language → RustReader → Result (Option Held) Refused → Type 0
 IsUpcoming buffer language r (Ok None) = coming buffer language r ≡ finished
 IsUpcoming buffer language r (Ok (Some h)) = GivesHeld (coming buffer language r) h
 IsUpcoming buffer language r (Err e) = IsRefusedBefore buffer (span_of r.last) (coming buffer language r) (refused_of e)

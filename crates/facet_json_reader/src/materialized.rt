@@ -11,7 +11,7 @@ ghost use Rattle.facet_json_document.specs.Meaning.{meaning_of};
 ghost use Rattle.facet_json_document.specs.Place.{kind_name};
 ghost use Rattle.facet_json_document.specs.Walk.{scalar_of};
 ghost use Rattle.facet_json_reader.specs.PlaceViews.{refused_of, name_text};
-ghost use Rattle.facet_json_reader.specs.TokenViews.{number_in, holds_made, CanBeRead, IsContent, IsReadAs, IsRead, IsTextOf, IsUnmade, IsMeaningless};
+ghost use Rattle.facet_json_reader.specs.TokenViews.{number_in, holds_made_text, CanBeRead, IsContent, IsReadAs, IsReadOrUnmade, IsTextOf, IsUnmade, IsMeaningless};
 
 use facet_format::{Decimal, ScalarValue, Span};
 use facet_json_token::{DecodeError, check_content, decode_string_owned, plain_text};
@@ -68,7 +68,7 @@ pub struct MaterializedToken<'a> {
 }
 
 impl<'a> From<ParsedNumber<'a>> for TokenKind<'a> {
-    ghost from_gives = { λ number kind. (number_in kind ≡ Some (number_of number)) × (holds_made kind ≡ is_made_number number) };
+    ghost from_gives = { λ number kind. (number_in kind ≡ Some (number_of number)) × (holds_made_text kind ≡ is_made_number number) };
 
     #[inline(always)]
     fn from(number: ParsedNumber<'a>) -> Self {
@@ -145,7 +145,7 @@ pub(crate) fn materialize<'a>(
     token: &SpannedToken,
 ) -> Result<Option<MaterializedToken<'a>>, Refused>
     requires { CanBeRead buffer.now token.now.span token.now.token }
-    ensures read { IfOk result (λ o. IfSome (kind_of token.now.token) (λ k. IsRead buffer.now k o)) }
+    ensures read { IfOk result (λ o. IfSome (kind_of token.now.token) (λ k. IsReadOrUnmade buffer.now k o)) }
     ensures refused { IfErr result (λ r. IfSome (kind_of token.now.token)
         (λ k. IsMeaningless buffer.now k (span_of token.now.span) (refused_of r))) }
 {

@@ -4,7 +4,7 @@ ghost use Rattle.std.specs.Prelude.{◌≡◌, true, Some};
 ghost use Rattle.facet_json_token.specs.Token.{Kind};
 ghost use Rattle.facet_json_token.specs.Views.{kind_of};
 ghost use Rattle.facet_json_document.specs.Place.{root, after_colon, before_key, after_member, before_item, after_item, next_key, next_item, complaint_at_end, expected_at};
-ghost use Rattle.facet_json_reader.specs.PlaceViews.{place_of, turn_of, turn_by, expected_text, why_of, is_text};
+ghost use Rattle.facet_json_reader.specs.PlaceViews.{place_of, turn_of, turn_by, expected_text, why_of, is_string_token};
 
 use crate::refusal::{Expected, Why};
 use facet_format::ContainerKind;
@@ -85,7 +85,7 @@ impl Place {
     /// What follows from a token at this place.
     pub fn turn(self, token: &Token) -> Turn
         ensures turn { turn_of result ≡ turn_by (place_of self) (kind_of token.now) }
-        ensures names { result ≡ Turn.Names → is_text token.now ≡ true }
+        ensures names { result ≡ Turn.Names → is_string_token token.now ≡ true }
     {
         match self {
             Place::Root | Place::AfterColon | Place::NextItem => value_turn(token),
@@ -115,7 +115,7 @@ fn value_turn(token: &Token) -> Turn
     ensures root { turn_of result ≡ turn_by root (kind_of token.now) }
     ensures colon { turn_of result ≡ turn_by after_colon (kind_of token.now) }
     ensures item { turn_of result ≡ turn_by next_item (kind_of token.now) }
-    ensures names { result ≡ Turn.Names → is_text token.now ≡ true }
+    ensures names { result ≡ Turn.Names → is_string_token token.now ≡ true }
 {
     match token {
         Token::ObjectStart => Turn::Opens(ContainerKind::Object),
@@ -132,7 +132,7 @@ fn value_turn(token: &Token) -> Turn
 /// The turn of a token after `{`, or after a comma in an object.
 fn key_turn(token: &Token) -> Turn
     ensures turn { turn_of result ≡ turn_by before_key (kind_of token.now) }
-    ensures names { result ≡ Turn.Names → is_text token.now ≡ true }
+    ensures names { result ≡ Turn.Names → is_string_token token.now ≡ true }
 {
     match token {
         Token::ObjectEnd => Turn::Closes(ContainerKind::Object),
@@ -144,7 +144,7 @@ fn key_turn(token: &Token) -> Turn
 /// The turn of a token after a comma in an object, where none may trail.
 fn next_key_turn(token: &Token) -> Turn
     ensures turn { turn_of result ≡ turn_by next_key (kind_of token.now) }
-    ensures names { result ≡ Turn.Names → is_text token.now ≡ true }
+    ensures names { result ≡ Turn.Names → is_string_token token.now ≡ true }
 {
     match token {
         Token::String { .. } => Turn::Names,
@@ -155,7 +155,7 @@ fn next_key_turn(token: &Token) -> Turn
 /// The turn of a token after a member.
 fn member_turn(token: &Token) -> Turn
     ensures turn { turn_of result ≡ turn_by after_member (kind_of token.now) }
-    ensures names { result ≡ Turn.Names → is_text token.now ≡ true }
+    ensures names { result ≡ Turn.Names → is_string_token token.now ≡ true }
 {
     match token {
         Token::Comma => Turn::Passes(Place::BeforeKey),
@@ -167,7 +167,7 @@ fn member_turn(token: &Token) -> Turn
 /// The turn of a token after `[`, or after a comma in an array.
 fn first_item_turn(token: &Token) -> Turn
     ensures turn { turn_of result ≡ turn_by before_item (kind_of token.now) }
-    ensures names { result ≡ Turn.Names → is_text token.now ≡ true }
+    ensures names { result ≡ Turn.Names → is_string_token token.now ≡ true }
 {
     match token {
         Token::ArrayEnd => Turn::Closes(ContainerKind::Array),
@@ -178,7 +178,7 @@ fn first_item_turn(token: &Token) -> Turn
 /// The turn of a token after an item.
 fn item_turn(token: &Token) -> Turn
     ensures turn { turn_of result ≡ turn_by after_item (kind_of token.now) }
-    ensures names { result ≡ Turn.Names → is_text token.now ≡ true }
+    ensures names { result ≡ Turn.Names → is_string_token token.now ≡ true }
 {
     match token {
         Token::Comma => Turn::Passes(Place::BeforeItem),

@@ -13,9 +13,9 @@ ghost use Rattle.facet_json_document.specs.Place.{Place as SpecPlace, led, passe
 ghost use Rattle.facet_json_document.specs.Language.{Language as SpecLanguage, lenient, strict, rules};
 ghost use Rattle.facet_json_token.specs.Gap.{Mode as SpecMode};
 ghost use Rattle.facet_json_document.specs.StrictTokens.{Allows};
-ghost use Rattle.facet_json_reader.specs.PlaceViews.{language_of, least_of, place_of, opening, closing};
+ghost use Rattle.facet_json_reader.specs.PlaceViews.{language_of, least_of, place_of, opening_event, closing_event};
 ghost use Rattle.facet_json_reader.specs.Values.{AreUnescaped, IsPlainText};
-ghost use Rattle.facet_json_reader.specs.Quick.{MayBeKey, MayBeValue, Reaches, IsWord, Leaves, PassesEvent};
+ghost use Rattle.facet_json_reader.specs.Quick.{MayBeKey, MayBeValue, Reaches, IsWord, Leaves, PassesQuickly};
 ghost use Rattle.facet_json_reader.specs.Views.{stage_of};
 
 use crate::reader::{Reader, Stage, closing, opening};
@@ -50,7 +50,7 @@ impl Reader {
         requires within { stop (span_of self.old.last) ≤ length input.now }
         requires utf8 { trust ≡ Trust.Utf8 → IsUtf8 input.now }
         ensures { MatchOption result (self.new ≡ self.old)
-            (λ e. PassesEvent input.now (language_of language) self.old (event_of e) self.new) }
+            (λ e. PassesQuickly input.now (language_of language) self.old (event_of e) self.new) }
     {
         let Stage::Within(place) = self.stage else {
             return None;
@@ -96,7 +96,7 @@ impl Reader {
         requires here { slice_get input.now at ≡ Some quote }
         requires utf8 { trust ≡ Trust.Utf8 → IsUtf8 input.now }
         ensures { Reaches input.now (language_of language) self.old (place_of place) at → MatchOption result (self.new ≡ self.old)
-            (λ e. PassesEvent input.now (language_of language) self.old (event_of e) self.new) }
+            (λ e. PassesQuickly input.now (language_of language) self.old (event_of e) self.new) }
     {
         let (end, text) = text_at(input, language, trust, at)?;
         match place {
@@ -116,7 +116,7 @@ impl Reader {
     fn pass_object_end<'de>(&mut self, place: Place, at: usize) -> Option<ParseEvent<'de>>
         ensures { (buffer : List ℕ) (language : SpecLanguage) → slice_get buffer at ≡ Some right_brace
             → Reaches buffer language self.old (place_of place) at → MatchOption result (self.new ≡ self.old)
-            (λ e. PassesEvent buffer language self.old (event_of e) self.new) }
+            (λ e. PassesQuickly buffer language self.old (event_of e) self.new) }
     {
         match place {
             Place::BeforeKey | Place::AfterMember => Some(self.pass_end(ContainerKind::Object, at)),
@@ -129,7 +129,7 @@ impl Reader {
     fn pass_array_end<'de>(&mut self, place: Place, at: usize) -> Option<ParseEvent<'de>>
         ensures { (buffer : List ℕ) (language : SpecLanguage) → slice_get buffer at ≡ Some right_bracket
             → Reaches buffer language self.old (place_of place) at → MatchOption result (self.new ≡ self.old)
-            (λ e. PassesEvent buffer language self.old (event_of e) self.new) }
+            (λ e. PassesQuickly buffer language self.old (event_of e) self.new) }
     {
         match place {
             Place::BeforeItem | Place::AfterItem => Some(self.pass_end(ContainerKind::Array, at)),
@@ -149,7 +149,7 @@ impl Reader {
     ) -> Option<ParseEvent<'de>>
         requires here { slice_get input.now at ≡ Some first }
         ensures { Reaches input.now (language_of language) self.old (place_of place) at
-            → MatchOption result (self.new ≡ self.old) (λ e. PassesEvent input.now (language_of language) self.old (event_of e) self.new) }
+            → MatchOption result (self.new ≡ self.old) (λ e. PassesQuickly input.now (language_of language) self.old (event_of e) self.new) }
     {
         if !takes_value(place) {
             return None;
@@ -181,7 +181,7 @@ impl Reader {
         requires text { IsPlainText input.now at end name.now }
         requires within { (at < end) × (end < length input.now) }
         ensures { Reaches input.now (language_of language) self.old (place_of place) at → MatchOption result (self.new ≡ self.old)
-            (λ e. PassesEvent input.now (language_of language) self.old (event_of e) self.new) }
+            (λ e. PassesQuickly input.now (language_of language) self.old (event_of e) self.new) }
     {
         let mode = language.mode();
         let colon = gap_end(input, end + 1, mode);
@@ -203,7 +203,7 @@ impl Reader {
         requires { at ≤ length input.now }
         ensures { (language : SpecLanguage) (place : SpecPlace) (first : ℕ) → IsWord first word.now (scalar_value_of value.entry) → slice_get input.now at ≡ Some first
             → MayBeValue place → Reaches input.now language self.old place at
-            → MatchOption result (self.new ≡ self.old) (λ e. PassesEvent input.now language self.old (event_of e) self.new) }
+            → MatchOption result (self.new ≡ self.old) (λ e. PassesQuickly input.now language self.old (event_of e) self.new) }
     {
         let len = word.len();
         if common_len(input, at, word) == len {
@@ -226,7 +226,7 @@ impl Reader {
         requires here { slice_get input.now at ≡ Some first }
         requires number { start_of first ≡ opens_number }
         ensures { (place : SpecPlace) → MayBeValue place → Reaches input.now (language_of language) self.old place at
-            → MatchOption result (self.new ≡ self.old) (λ e. PassesEvent input.now (language_of language) self.old (event_of e) self.new) }
+            → MatchOption result (self.new ≡ self.old) (λ e. PassesQuickly input.now (language_of language) self.old (event_of e) self.new) }
     {
         match language {
             Language::Lenient(_) => {
@@ -251,7 +251,7 @@ impl Reader {
         requires here { slice_get input.now at ≡ Some first }
         requires number { start_of first ≡ opens_number }
         ensures { (mode : SpecMode) (place : SpecPlace) → MayBeValue place → Reaches input.now (lenient mode) self.old place at
-            → MatchOption result (self.new ≡ self.old) (λ e. PassesEvent input.now (lenient mode) self.old (event_of e) self.new) }
+            → MatchOption result (self.new ≡ self.old) (λ e. PassesQuickly input.now (lenient mode) self.old (event_of e) self.new) }
     {
         let (len, value) = short_number(input, at, first)?;
         Some(self.pass_scalar(value, Span::new(at, len)))
@@ -268,7 +268,7 @@ impl Reader {
         requires here { slice_get input.now at ≡ Some first }
         requires number { start_of first ≡ opens_number }
         ensures { (mode : SpecMode) (place : SpecPlace) → MayBeValue place → Reaches input.now (strict mode) self.old place at
-            → MatchOption result (self.new ≡ self.old) (λ e. PassesEvent input.now (strict mode) self.old (event_of e) self.new) }
+            → MatchOption result (self.new ≡ self.old) (λ e. PassesQuickly input.now (strict mode) self.old (event_of e) self.new) }
     {
         let (len, value) = short_number_strict(input, at, first)?;
         Some(self.pass_scalar(value, Span::new(at, len)))
@@ -278,7 +278,7 @@ impl Reader {
     #[inline(always)]
     fn pass_start<'de>(&mut self, kind: ContainerKind, at: usize) -> Option<ParseEvent<'de>>
         ensures { MatchOption result (self.new ≡ self.old)
-            (λ e. Leaves self.old (opening kind) (span_at at 1) (span_at at 1) (event_of e) self.new) }
+            (λ e. Leaves self.old (opening_event kind) (span_at at 1) (span_at at 1) (event_of e) self.new) }
     {
         match self.contexts.push(kind) {
             Ok(()) => {
@@ -293,7 +293,7 @@ impl Reader {
     /// Passes a bracket that closes a container.
     #[inline(always)]
     fn pass_end<'de>(&mut self, kind: ContainerKind, at: usize) -> ParseEvent<'de>
-        ensures { Leaves self.old (closing kind) (span_at at 1) (span_at at 1) (event_of result) self.new }
+        ensures { Leaves self.old (closing_event kind) (span_at at 1) (span_at at 1) (event_of result) self.new }
     {
         self.close();
         self.last = Span::new(at, 1);

@@ -11,10 +11,10 @@ ghost use Rattle.facet_json_token.specs.Tokens.{Tokens, ended, next};
 ghost use Rattle.facet_json_token.specs.Views.{kind_of, mode_of};
 ghost use Rattle.facet_json_document.specs.Future.{after_value, around, behind_root, finished, stage_after, within};
 ghost use Rattle.facet_json_document.specs.Place.{Place as SpecPlace, expected_at, goes_on};
-ghost use Rattle.facet_json_document.specs.InputPlace.{first_standing, past};
-ghost use Rattle.facet_json_reader.specs.PlaceViews.{language_of, place_of, expected_text, refused_of, opening, closing, is_text};
+ghost use Rattle.facet_json_document.specs.InputPlace.{first_reader, past};
+ghost use Rattle.facet_json_reader.specs.PlaceViews.{language_of, place_of, expected_text, refused_of, opening_event, closing_event, is_string_token};
 ghost use Rattle.facet_json_reader.specs.TokenViews.{CanBeRead, IsMeaningless};
-ghost use Rattle.facet_json_reader.specs.Views.{stage_of, passed_of, standing_of, with_opened, comes_at, StopsAt, IsNamed, IsTurn, IsValueOf, IsNameOf, IsColonAt, IsRefusedBefore, Answers, IsUpcoming};
+ghost use Rattle.facet_json_reader.specs.Views.{stage_of, passed_of, reader_of, with_opened, comes_at, StopsAt, IsNamed, IsTurn, IsValueOf, IsNameOf, IsColonAt, IsRefusedBefore, Answers, IsUpcoming};
 
 use crate::materialized::{materialize, string_text};
 use facet_format::{ContainerKind, FieldKey, FieldLocationHint, ParseEvent, ParseEventKind, ScalarValue, Span};
@@ -39,7 +39,7 @@ impl Stage {
     /// After the bracket that opens a container.
     #[inline(always)]
     pub(crate) fn inside(kind: ContainerKind) -> Stage
-        ensures { stage_of result ≡ stage_after (opening kind) [] }
+        ensures { stage_of result ≡ stage_after (opening_event kind) [] }
     {
         match kind {
             ContainerKind::Object => Stage::Within(Place::BeforeKey),
@@ -95,7 +95,7 @@ pub struct Reader {
 impl Reader {
     /// Before the root.
     pub fn new(alloc: Global) -> Reader
-        ensures { standing_of result ≡ first_standing }
+        ensures { reader_of result ≡ first_reader }
     {
         Reader {
             last: Span::new(0, 0),
@@ -166,7 +166,7 @@ impl Reader {
     /// Passes an event whose container, if it opens one, is open already.
     pub fn pass(&mut self, held: &Held<'_>)
         ensures { (stack : List SpecContainer) → self.old.contexts ≡ with_opened (event_kind_of held.now.event.kind) stack
-            → standing_of self.new ≡ past (passed_of held.now) (record (standing_of self.old) { stack = stack }) }
+            → reader_of self.new ≡ past (passed_of held.now) (record (reader_of self.old) { stack = stack }) }
     {
         match &held.event.kind {
             ParseEventKind::StructStart(_) => self.stage = Stage::inside(ContainerKind::Object),
@@ -194,7 +194,7 @@ impl Reader {
 /// The event of a bracket that opens a container of this kind.
 #[inline(always)]
 pub(crate) fn opening<'de>(kind: ContainerKind) -> ParseEventKind<'de>
-    ensures { event_kind_of result ≡ opening kind }
+    ensures { event_kind_of result ≡ opening_event kind }
 {
     match kind {
         ContainerKind::Object => ParseEventKind::StructStart(kind),
@@ -205,7 +205,7 @@ pub(crate) fn opening<'de>(kind: ContainerKind) -> ParseEventKind<'de>
 /// The event of a bracket that closes a container of this kind.
 #[inline(always)]
 pub(crate) fn closing<'de>(kind: ContainerKind) -> ParseEventKind<'de>
-    ensures { event_kind_of result ≡ closing kind }
+    ensures { event_kind_of result ≡ closing_event kind }
 {
     match kind {
         ContainerKind::Object => ParseEventKind::StructEnd,
@@ -278,7 +278,7 @@ fn key<'de>(
     last: Span,
 ) -> Result<Held<'de>, Refused>
     requires token { CanBeRead input.now token.now.span token.now.token }
-    requires string { is_text token.now.token ≡ true }
+    requires string { is_string_token token.now.token ≡ true }
     requires within { stop (span_of token.now.span) ≤ length input.now }
     ensures { (stack : List SpecContainer) (place : SpecPlace) (position : ℕ)
         → IsTurn input.now (language_of language) place position token.now Turn.Names
@@ -319,7 +319,7 @@ fn name_of_key<'de>(
     input: &'de [u8],
     token: &SpannedToken,
 ) -> Result<Option<CowStr<'de>>, Refused>
-    requires string { is_text token.now.token ≡ true }
+    requires string { is_string_token token.now.token ≡ true }
     requires token { CanBeRead input.now token.now.span token.now.token }
     ensures { (kind : Kind) → kind_of token.now.token ≡ Some kind → IsNameOf input.now kind (span_of token.now.span) result }
 {

@@ -4,7 +4,7 @@ ghost use Rattle.std.specs.Prelude.{◌≡◌};
 ghost use Rattle.facet_format.specs.Complaint.{refusal_at, save_limit};
 ghost use Rattle.facet_format.specs.Cursor.{no_memory_at};
 ghost use Rattle.facet_format.specs.Views.{complaint_of, span_of, parse_refusal};
-ghost use Rattle.facet_json_reader.specs.PlaceViews.{expected_text, name_text, no_raw_text, inside_text, IsInside, IsNamed, why_of, refused_of};
+ghost use Rattle.facet_json_reader.specs.PlaceViews.{expected_text, name_text, no_raw_text, inside_text, IsInsideText, NamesInside, why_of, refused_of};
 ghost use Rattle.facet_json_token.specs.Views.{scan_complaint, scan_refusal};
 
 use facet_format::{DeserializeErrorKind, ParseError, Span};
@@ -185,7 +185,7 @@ impl Inside {
 
     /// What such a text says. A scan says no others.
     fn of_text(text: &str) -> Inside
-        ensures { IsInside text.now → inside_text result ≡ text.now }
+        ensures { IsInsideText text.now → inside_text result ≡ text.now }
     {
         match text {
             "in string" => Inside::String,
@@ -297,7 +297,7 @@ impl From<Refused> for ParseError<'_> {
 }
 
 impl From<ScanErrorKind> for Why {
-    ghost from_gives = { λ scan why. IsNamed scan → why_of why ≡ scan_complaint scan };
+    ghost from_gives = { λ scan why. NamesInside scan → why_of why ≡ scan_complaint scan };
 
     fn from(kind: ScanErrorKind) -> Self {
         match kind {
@@ -309,7 +309,7 @@ impl From<ScanErrorKind> for Why {
 }
 
 impl From<ScanError> for Refused {
-    ghost from_gives = { λ scan refused. IsNamed scan.kind → refused_of refused ≡ scan_refusal scan };
+    ghost from_gives = { λ scan refused. NamesInside scan.kind → refused_of refused ≡ scan_refusal scan };
 
     fn from(error: ScanError) -> Self {
         Refused {

@@ -7,7 +7,7 @@ ghost use Rattle.facet_format.specs.Views.{scalar_value_of};
 ghost use Rattle.facet_format.specs.Inner.Window.{is_no_digit};
 ghost use Rattle.facet_json_token.specs.Cut.{start_of, opens_number};
 ghost use Rattle.facet_json_token.specs.RfcNumber.{SomeDigits};
-ghost use Rattle.facet_json_reader.specs.Inner.Whole.{IsWhole, digits_from};
+ghost use Rattle.facet_json_reader.specs.Inner.Whole.{IsWholeNumber, digits_from};
 ghost use Rattle.facet_json_reader.specs.Values.{IsScalarThere};
 
 use crate::digits::digits_at;
@@ -74,7 +74,7 @@ fn negative_there<'de>(input: &'de [u8], at: usize) -> Option<(usize, ScalarValu
 #[inline(always)]
 fn whole_len(input: &[u8], at: usize) -> Option<usize>
     requires { at + 16 ≤ length input.now }
-    ensures { IfSome result (λ n. IsWhole (drop at input.now) n) }
+    ensures { IfSome result (λ n. IsWholeNumber (drop at input.now) n) }
 {
     let found = no_digits(u8x16::from_slice(&input[at..]));
     let len = found.trailing_zeros() as usize;

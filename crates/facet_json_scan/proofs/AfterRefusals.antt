@@ -7,8 +7,8 @@ use Rattle.facet_json_token.specs.Token.{Fault}
 use Rattle.facet_json_token.specs.Cut.{Cut, nothing_left, token, fault, past_gap, cut}
 use Rattle.facet_json_token.specs.Open.{IsOpen}
 use Rattle.facet_json_token.proofs.Gaps.{past_gap-again, cut-past_gap}
-use Rattle.facet_json_scan.specs.Scanner.{Scanner, idle, Describes, GoesOnFrom, Answer, needs_more, refuses, answer_for, Gives, first_of, first_byte_of, stands_after}
-use Rattle.facet_json_scan.specs.ScannerLaws.{RefusalRepeats, RefusalAtEnd, PendingAgain}
+use Rattle.facet_json_scan.specs.Scanner.{Scanner, idle, Describes, GoesOnFrom, ScanAnswer, needs_more, refuses, answer_for, Gives, first_unread, first_byte_of, stands_after}
+use Rattle.facet_json_scan.specs.ScannerLaws.{ScanRefusalRepeats, RefusalAtEnd, PendingAgain}
 use Rattle.facet_json_scan.proofs.Refusals.{growing_gap-again, shut-past_gap}
 use Rattle.facet_json_scan.proofs.Pending.{something_within, pending_here}
 
@@ -26,12 +26,12 @@ refused_cut last (fault g) f e = let same : f ≡ g = cc in ap fault (sym same)
 
 -- A call that goes on from where the gap before a fault ends: it needs more bytes of it if the buffer is open there, and else
 -- refuses alike.
-from_fault : (buffer : List ℕ) (p : ℕ) (mode : Mode) (f : Fault) (answer : Option Answer) (after : Scanner) →
+from_fault : (buffer : List ℕ) (p : ℕ) (mode : Mode) (f : Fault) (answer : Option ScanAnswer) (after : Scanner) →
     cut buffer p mode ≡ fault f →
     let at = past_gap buffer p mode in
     Gives buffer at mode answer after →
     (IsOpen buffer at mode → (answer ≡ Some (needs_more at (span_at at (length buffer - at))))
-    × (after.position ≡ length buffer) × (first_of after ≡ at))
+    × (after.position ≡ length buffer) × (first_unread after ≡ at))
     × ((IsOpen buffer at mode → ⊥) → (answer ≡ Some (refuses f)) × (after ≡ idle at mode))
 from_fault buffer p mode f answer after e (Gives.still_open state i d is new) =
     let at = past_gap buffer p mode in
@@ -39,7 +39,7 @@ from_fault buffer p mode f answer after e (Gives.still_open state i d is new) =
       λ j. (
         is ∙ ap (λ n. Some (needs_more n (span_at n (length buffer - n)))) same,
         ap (λ s. s.position) new,
-        ap first_of new ∙ same,
+        ap first_unread new ∙ same,
       ),
       λ shut. absurd (shut i),
     )
@@ -60,7 +60,7 @@ idle_goes_on buffer at mode _ (GoesOnFrom.idles is) = refl
 idle_goes_on buffer at mode _ (GoesOnFrom.resumes start state is d) = cc
 
 -- After a refusal the same call refuses alike, and leaves the scanner as it is.
-pub refusal_repeats : RefusalRepeats
+pub refusal_repeats : ScanRefusalRepeats
 refusal_repeats buffer p mode f new (Gives.still_open state i d is to) q answer after from gives = cc
 refusal_repeats buffer p mode f new (Gives.decided shut is to) q answer after from gives =
     let e : cut buffer p mode ≡ fault f = refused_cut (length buffer) (cut buffer p mode) f is in
@@ -83,20 +83,20 @@ all_of buffer n e = take_all n buffer (omega arith)
 pub refusal_at_end : RefusalAtEnd
 refusal_at_end buffer s f answer after end e gives =
     let all = all_of buffer s.position end in
-    let here : cut buffer (first_of s) s.mode ≡ fault f = ap (λ l. cut l (first_of s) s.mode) (sym all) ∙ e in
-    let same : past_gap buffer (first_of s) s.mode ≡ past_gap (take s.position buffer) (first_of s) s.mode =
-    ap (λ l. past_gap l (first_of s) s.mode) (sym all) in
-    rw same at (from_fault buffer (first_of s) s.mode f answer after here (rw (← same) at gives))
+    let here : cut buffer (first_unread s) s.mode ≡ fault f = ap (λ l. cut l (first_unread s) s.mode) (sym all) ∙ e in
+    let same : past_gap buffer (first_unread s) s.mode ≡ past_gap (take s.position buffer) (first_unread s) s.mode =
+    ap (λ l. past_gap l (first_unread s) s.mode) (sym all) in
+    rw same at (from_fault buffer (first_unread s) s.mode f answer after here (rw (← same) at gives))
 
 -- Where what was pending fits, the call after the refusal needs more bytes of it again.
 pub pending_again : PendingAgain
 pending_again buffer s start state f end is d e =
     let all = all_of buffer s.position end in
-    let first : first_of s ≡ start = ap (first_byte_of s.position) is in
-    let same : past_gap (take s.position buffer) (first_of s) s.mode ≡ past_gap buffer start s.mode =
-    ap (λ l. past_gap l (first_of s) s.mode) all ∙ ap (λ n. past_gap buffer n s.mode) first in
+    let first : first_unread s ≡ start = ap (first_byte_of s.position) is in
+    let same : past_gap (take s.position buffer) (first_unread s) s.mode ≡ past_gap buffer start s.mode =
+    ap (λ l. past_gap l (first_unread s) s.mode) all ∙ ap (λ n. past_gap buffer n s.mode) first in
     let cuts : cut buffer start s.mode ≡ fault f =
-    sym (ap (λ l. cut l (first_of s) s.mode) all ∙ ap (λ n. cut buffer n s.mode) first) ∙ e in
+    sym (ap (λ l. cut l (first_unread s) s.mode) all ∙ ap (λ n. cut buffer n s.mode) first) ∙ e in
     let here =
     pending_here buffer start s.mode state (subst (λ l. Describes s.mode state (drop start l)) all d)
     (fault_cut buffer start s.mode f cuts) in

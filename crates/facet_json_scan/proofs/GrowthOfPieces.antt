@@ -10,13 +10,13 @@ use Rattle.facet_json_token.specs.declared.token.SpannedToken.{SpannedToken}
 use Rattle.facet_json_token.specs.declared.token.ScanError.{ScanError}
 use Rattle.facet_json_token.specs.Gap.{Mode}
 use Rattle.facet_json_token.specs.Tokens.{AreCuts}
-use Rattle.facet_json_scan.specs.Scanner.{Scanner, idle, first_of, first_byte_of, Describes, GoesOnFrom}
+use Rattle.facet_json_scan.specs.Scanner.{Scanner, idle, first_unread, first_byte_of, Describes, GoesOnFrom}
 use Rattle.facet_json_scan.specs.ScannerViews.{NamesWithin}
-use Rattle.facet_json_scan.specs.Listed.{list_of, last_of, AreAllOf, StandsWithin}
+use Rattle.facet_json_scan.specs.Listed.{tokens_of_list, rest_after, AreAllOf, StandsWithin}
 use Rattle.facet_json_scan.specs.Inner.Stands.{Stands, IsScanned}
 
 -- A scanner goes on from its first byte.
-pub goes_on-first : (s : Scanner) (buffer : List ℕ) (p : ℕ) → GoesOnFrom s buffer p → first_of s ≡ p
+pub goes_on-first : (s : Scanner) (buffer : List ℕ) (p : ℕ) → GoesOnFrom s buffer p → first_unread s ≡ p
 goes_on-first s buffer _ (GoesOnFrom.idles e) = ap (first_byte_of s.position) e
 goes_on-first s buffer _ (GoesOnFrom.resumes start state e d) = ap (first_byte_of s.position) e
 
@@ -64,7 +64,7 @@ stands-grown buffer more tokens s h = record {
   fit = fit-grown (length buffer) (length (buffer ++ more)) tokens (omega (arith, length-append buffer more)) h.fit;
   so_far = λ rest others are.
       let longer = append_assoc buffer more rest in
-      subst (λ l. AreAllOf l s.mode (list_of tokens (Some others))) (sym longer)
+      subst (λ l. AreAllOf l s.mode (tokens_of_list tokens (Some others))) (sym longer)
       (h.so_far (more ++ rest) others (subst (λ l. AreCuts l s.mode h.start others) longer are));
 }
 
@@ -79,11 +79,11 @@ consumes-prefix (Some input) (Some left) bytes P read all = subst P (sym read) (
 
 pub scanned-refused : (buffer items more : List ℕ) (mode asked : Mode) (tokens : List SpannedToken) (s : Scanner) (refusal : Option ScanError) →
     buffer ≡ items → mode ≡ asked → is_some refusal ≡ true → IsScanned buffer mode tokens s refusal →
-    AreAllOf (items ++ more) asked (list_of tokens (last_of refusal))
+    AreAllOf (items ++ more) asked (tokens_of_list tokens (rest_after refusal))
 scanned-refused buffer items more mode asked tokens s None same is some h = cc
 scanned-refused buffer items more mode asked tokens s (Some e) same is some h =
-    subst (λ m. AreAllOf (items ++ more) m (list_of tokens (last_of (Some e)))) is
-    (subst (λ l. AreAllOf (l ++ more) mode (list_of tokens (last_of (Some e)))) same (h.all more))
+    subst (λ m. AreAllOf (items ++ more) m (tokens_of_list tokens (rest_after (Some e)))) is
+    (subst (λ l. AreAllOf (l ++ more) mode (tokens_of_list tokens (rest_after (Some e)))) same (h.all more))
 
 -- The buffer is scanned to its end.
 pub scanned-stands : (buffer items : List ℕ) (mode asked : Mode) (tokens : List SpannedToken) (s : Scanner) (refusal : Option ScanError) →

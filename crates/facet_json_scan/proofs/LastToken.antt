@@ -13,11 +13,11 @@ use Rattle.facet_json_token.specs.Cut.{Cut, nothing_left, token, fault, cut_here
 use Rattle.facet_json_token.specs.Tokens.{Tokens, ended, refused, next, AreCuts}
 use Rattle.facet_json_token.proofs.CutBounds.{cut-token_fits}
 use Rattle.facet_json_token.proofs.TokensSteps.{cut-end}
-use Rattle.facet_json_scan.specs.Scanner.{Scanner, answer_for, first_of, Describes, GoesOnFrom}
+use Rattle.facet_json_scan.specs.Scanner.{Scanner, answer_for, first_unread, Describes, GoesOnFrom}
 use Rattle.facet_json_scan.specs.ScannerViews.{answered}
 use Rattle.facet_json_scan.proofs.Pieces.Beginnings.{described_begins}
 use Rattle.facet_json_scan.proofs.WholeTokens.{token-shut}
-use Rattle.facet_json_scan.specs.Listed.{list_of, AreAllOf, StandsWithin}
+use Rattle.facet_json_scan.specs.Listed.{tokens_of_list, AreAllOf, StandsWithin}
 use Rattle.facet_json_scan.specs.Inner.Stands.{is_cut, Stands, IsFinished}
 use Rattle.facet_json_scan.proofs.GrowthOfPieces.{goes_on-first}
 use Rattle.facet_json_scan.proofs.Pending.{pending_here}
@@ -48,19 +48,19 @@ pending_to_end buffer s start t (GoesOnFrom.resumes _ state e d) end room here =
 
 module _ (buffer : List ℕ) (tokens : List SpannedToken) (s : Scanner) (h : Stands buffer tokens s) (end : s.position ≡ length buffer) where
   -- what is cut of the buffer alone is what the scanner is asked for at the end
-  pub cut_at_end : cut (take s.position buffer) (first_of s) s.mode ≡ cut buffer h.start s.mode
+  pub cut_at_end : cut (take s.position buffer) (first_unread s) s.mode ≡ cut buffer h.start s.mode
   cut_at_end =
-      ap (λ l. cut l (first_of s) s.mode) (take_all s.position buffer (omega arith))
+      ap (λ l. cut l (first_unread s) s.mode) (take_all s.position buffer (omega arith))
       ∙ ap (λ n. cut buffer n s.mode) (goes_on-first s buffer h.start h.goes_on)
 
   -- the tokens so far are those of the buffer alone, with these after them
-  alone : (others : Tokens) → AreCuts buffer s.mode h.start others → AreAllOf buffer s.mode (list_of tokens (Some others))
+  alone : (others : Tokens) → AreCuts buffer s.mode h.start others → AreAllOf buffer s.mode (tokens_of_list tokens (Some others))
   alone others are =
-      subst (λ l. AreAllOf l s.mode (list_of tokens (Some others))) (append-nil buffer)
+      subst (λ l. AreAllOf l s.mode (tokens_of_list tokens (Some others))) (append-nil buffer)
       (h.so_far [] others (subst (λ l. AreCuts l s.mode h.start others) (sym (append-nil buffer)) are))
 
   pub token-last : (u : SpannedToken) → is_cut (answered (Ok u)) ≡ true → StandsWithin (length buffer) u →
-      answered (Ok u) ≡ Some (answer_for s.position (cut (take s.position buffer) (first_of s) s.mode)) →
+      answered (Ok u) ≡ Some (answer_for s.position (cut (take s.position buffer) (first_unread s) s.mode)) →
       IsFinished buffer s.mode (tokens ++ u ∷ []) None
   token-last u told fits is = by (cut buffer h.start s.mode) refl (is ∙ ap (λ c. Some (answer_for s.position c)) cut_at_end)
     where
@@ -75,13 +75,13 @@ module _ (buffer : List ℕ) (tokens : List SpannedToken) (s : Scanner) (h : Sta
           record {
             fit = All-push (StandsWithin (length buffer)) tokens u h.fit fits;
             refusal_fits = tt;
-            all = subst (λ l. AreAllOf l s.mode (list_of (tokens ++ u ∷ []) (Some ended))) (append-nil buffer)
+            all = subst (λ l. AreAllOf l s.mode (tokens_of_list (tokens ++ u ∷ []) (Some ended))) (append-nil buffer)
                 (token_listed buffer tokens s s h u t [] ended is
-                (subst (λ l. AreAllOf l s.mode (list_of tokens (Some (next t ended)))) (sym (append-nil buffer)) all));
+                (subst (λ l. AreAllOf l s.mode (tokens_of_list tokens (Some (next t ended)))) (sym (append-nil buffer)) all));
           }
 
   pub rest-last : (u : SpannedToken) → is_cut (answered (Ok u)) ≡ false →
-      answered (Ok u) ≡ Some (answer_for s.position (cut (take s.position buffer) (first_of s) s.mode)) →
+      answered (Ok u) ≡ Some (answer_for s.position (cut (take s.position buffer) (first_unread s) s.mode)) →
       IsFinished buffer s.mode tokens None
   rest-last u told is = by (cut buffer h.start s.mode) refl (is ∙ ap (λ c. Some (answer_for s.position c)) cut_at_end)
     where
@@ -93,7 +93,7 @@ module _ (buffer : List ℕ) (tokens : List SpannedToken) (s : Scanner) (h : Sta
       by (fault f) here is = absurd (token-no_refusal (span_of u.span) u.token f is)
 
   pub refusal-last : (e : ScanError) → stop (span_of e.span) ≤ length buffer →
-      answered (Err e) ≡ Some (answer_for s.position (cut (take s.position buffer) (first_of s) s.mode)) →
+      answered (Err e) ≡ Some (answer_for s.position (cut (take s.position buffer) (first_unread s) s.mode)) →
       IsFinished buffer s.mode tokens (Some e)
   refusal-last e fits is = by (cut buffer h.start s.mode) refl (is ∙ ap (λ c. Some (answer_for s.position c)) cut_at_end)
     where

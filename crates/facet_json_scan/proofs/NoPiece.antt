@@ -6,7 +6,7 @@ use Rattle.facet_json_token.specs.Gap.{Mode, plain, jsonc, Input, growing, piece
 use Rattle.facet_json_token.specs.Token.{Kind}
 use Rattle.facet_json_token.specs.Cut.{IsLiteral, start_of, letter, opens_comment}
 use Rattle.facet_json_token.specs.Open.{IsBeginning}
-use Rattle.facet_json_scan.specs.Scanner.{State, Part, EndsIn, in_text, in_word, in_number, in_line, Describes}
+use Rattle.facet_json_scan.specs.Scanner.{State, NumberPart, EndsIn, in_text, in_word, in_number, in_line, Describes}
 use Rattle.facet_format.proofs.NumberLaws.{begins_number-is}
 use Rattle.facet_json_token.proofs.Starts.{number_byte}
 use Rattle.facet_json_scan.proofs.Pieces.Beginnings.{literal_starts}
@@ -63,7 +63,7 @@ opens_line-none _ OpensLine.nothing = refl
 opens_line-none _ (OpensLine.more b bytes shut h) = rw shut (ap one_more (opens_line-none bytes h))
 
 -- A number that goes on is no piece of a gap.
-pub number_no_piece : (mode : Mode) (part : Part) (text rest : List ℕ) → EndsIn part text →
+pub number_no_piece : (mode : Mode) (part : NumberPart) (text rest : List ℕ) → EndsIn part text →
     piece_len mode growing (text ++ rest) ≡ 0
 number_no_piece mode part [] rest i = let begins = begins_number-is [] i.hint i.numeral in cc
 number_no_piece mode part (b ∷ text) rest i =

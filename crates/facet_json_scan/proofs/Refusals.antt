@@ -26,7 +26,7 @@ use Rattle.facet_json_scan.specs.declared.scanner.token.Found.{Found}
 use Rattle.facet_json_scan.specs.declared.scanner.token.Found.TheVariants as found
 use Rattle.facet_json_scan.specs.Scanner.{needs_more, answer_for, idle, stands_after, past_growing_gap, Gives}
 use Rattle.facet_json_scan.specs.ScannerViews.{answered, fault_answered}
-use Rattle.facet_json_scan.specs.Inner.Found.{position_after, FoundFrom, RefusedAt, RefusedThere}
+use Rattle.facet_json_scan.specs.Inner.Found.{position_after, FoundFrom, FoundRefused, RefusedThere}
 use Rattle.facet_json_scan.proofs.AnswersOfCuts.{found-here}
 use Rattle.facet_json_scan.proofs.FoundPastGap.{growing_gap-none, same_gap, found-no_gap}
 use Rattle.facet_json_scan.proofs.Growth.GrowthOfGap.{piece_len-keeps}
@@ -106,7 +106,7 @@ found-refused mode buffer p (found.Open at s) room h = tt
 pub minus-refused : (mode : Mode) (buffer : List ℕ) (start : ℕ) (r : Result SpannedToken ScanError) →
     slice_get buffer start ≡ Some minus → start + 1 < length buffer →
     scanned r ≡ Some (number_at start (drop (start + 1) buffer) (parts (drop start buffer))) →
-    RefusedAt mode buffer start r
+    FoundRefused mode buffer start r
 minus-refused mode buffer start r here room e = by_bare (is_bare p) refl
   where
     rest : List ℕ
@@ -141,7 +141,7 @@ minus-refused mode buffer start r here room e = by_bare (is_bare p) refl
         ))
         (subst (IsBeginning mode) front i)
 
-    by_bare : (t : Bool) → is_bare p ≡ t → RefusedAt mode buffer start r
+    by_bare : (t : Bool) → is_bare p ≡ t → FoundRefused mode buffer start r
     by_bare false is =
         token-no_refusal r _ _ (e ∙ ap (λ t. Some (cut_number start rest (parts_len p) (parts_hint p) t)) is)
     by_bare true is =
@@ -164,7 +164,7 @@ stands-refused buffer p mode s scan.InvalidUtf8 last (token t) e = cc
 
 -- A refusal that is what is cut where the scanner is left is what a call from there gives.
 pub gives-refused : (buffer : List ℕ) (start : ℕ) (mode : Mode) (r : Result SpannedToken ScanError) →
-    RefusedAt mode buffer start r →
+    FoundRefused mode buffer start r →
     IfErr r (λ _. Gives buffer (position_after start r) mode (answered r) (idle (position_after start r) mode))
 gives-refused buffer start mode (Ok t) h = tt
 gives-refused buffer start mode (Err f) h =

@@ -10,9 +10,9 @@ use Rattle.facet_json_token.specs.Token.{Kind, Fault}
 use Rattle.facet_json_token.specs.Token as token
 use Rattle.facet_json_token.specs.Tokens.{Tokens}
 use Rattle.facet_json_token.specs.Views.{kind_of}
-use Rattle.facet_json_scan.specs.Scanner.{Answer, refuses}
+use Rattle.facet_json_scan.specs.Scanner.{ScanAnswer, refuses}
 use Rattle.facet_json_scan.specs.ScannerViews.{cut_answer, token_answered, fault_answered, answered}
-use Rattle.facet_json_scan.specs.Listed.{token_then, list_of}
+use Rattle.facet_json_scan.specs.Listed.{token_then, tokens_of_list}
 
 -- A token of the code is no refusal.
 pub token-no_refusal : (s : Span) (t : RustToken) (f : Fault) → token_answered s t ≡ Some (refuses f) → ⊥
@@ -25,13 +25,13 @@ token-no_refusal s t f e = by (kind_of t) e
     by (Some kind) e = cc
 
 -- A refusal of the code is one.
-pub fault-refuses : (s : Span) (k : ScanErrorKind) (a : Answer) → fault_answered s k ≡ Some a → (f : Fault) × (a ≡ refuses f)
+pub fault-refuses : (s : Span) (k : ScanErrorKind) (a : ScanAnswer) → fault_answered s k ≡ Some a → (f : Fault) × (a ≡ refuses f)
 fault-refuses s (scan.UnexpectedChar c) a e = (record { kind = token.unexpected_char c; span = s }, cc)
 fault-refuses s (scan.UnexpectedEof text) a e = (record { kind = token.unexpected_eof text.now; span = s }, cc)
 fault-refuses s scan.InvalidUtf8 a e = cc
 
 -- One more token stands before what follows.
 pub list_of-more : (tokens : List SpannedToken) (t : SpannedToken) (last : Option Tokens) →
-    list_of (tokens ++ t ∷ []) last ≡ list_of tokens (token_then (answered (Ok t)) last)
+    tokens_of_list (tokens ++ t ∷ []) last ≡ tokens_of_list tokens (token_then (answered (Ok t)) last)
 list_of-more [] t last = refl
 list_of-more (u ∷ tokens) t last = ap (token_then (answered (Ok u))) (list_of-more tokens t last)

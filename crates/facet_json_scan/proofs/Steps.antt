@@ -16,12 +16,12 @@ use Rattle.facet_json_token.specs.Open.{IsOpen}
 use Rattle.facet_json_token.proofs.CutBounds.{cut-token_fits, past_gap-bound}
 use Rattle.facet_json_token.proofs.FirstBytes.{cut_here-something}
 use Rattle.facet_json_token.proofs.Gaps.{gap_len-bound}
-use Rattle.facet_json_scan.specs.Scanner.{Scanner, State, cuts, refuses, answer_for, idle, waiting, first_of, stands_after, Describes, GoesOnFrom, past_growing_gap, Gives}
+use Rattle.facet_json_scan.specs.Scanner.{Scanner, State, cuts, refuses, answer_for, idle, waiting, first_unread, stands_after, Describes, GoesOnFrom, past_growing_gap, Gives}
 use Rattle.facet_json_scan.specs.ScannerViews.{answered}
 use Rattle.facet_json_scan.proofs.FoundPastGap.{same_gap}
 use Rattle.facet_json_scan.proofs.Growth.GrowthOfCut.{cut_stays}
-use Rattle.facet_json_scan.specs.Listed.{token_then, list_of, last_of, refused_by, AreAllOf, StandsWithin}
-use Rattle.facet_json_scan.specs.Inner.Stands.{is_cut, Stands, IsRefused}
+use Rattle.facet_json_scan.specs.Listed.{token_then, tokens_of_list, rest_after, refused_by, AreAllOf, StandsWithin}
+use Rattle.facet_json_scan.specs.Inner.Stands.{is_cut, Stands, IsScanRefused}
 use Rattle.facet_json_scan.proofs.GrowthOfPieces.{goes_on-first}
 use Rattle.facet_json_scan.proofs.PassedGap.{cuts-passed}
 use Rattle.facet_json_scan.proofs.Refused.{token-no_refusal, fault-refuses, list_of-more}
@@ -42,11 +42,11 @@ module _ (buffer : List ℕ) (tokens : List SpannedToken) (s new : Scanner) (h :
 
   -- It follows those before it.
   pub token_listed : (u : SpannedToken) (t : Token) (more : List ℕ) (others : Tokens) → answered (Ok u) ≡ Some (cuts t) →
-      AreAllOf (buffer ++ more) s.mode (list_of tokens (Some (next t others))) →
-      AreAllOf (buffer ++ more) s.mode (list_of (tokens ++ u ∷ []) (Some others))
+      AreAllOf (buffer ++ more) s.mode (tokens_of_list tokens (Some (next t others))) →
+      AreAllOf (buffer ++ more) s.mode (tokens_of_list (tokens ++ u ∷ []) (Some others))
   token_listed u t more others is are =
-      let same : list_of (tokens ++ u ∷ []) (Some others) ≡ list_of tokens (Some (next t others)) =
-      list_of-more tokens u (Some others) ∙ ap (λ a. list_of tokens (token_then a (Some others))) is in
+      let same : tokens_of_list (tokens ++ u ∷ []) (Some others) ≡ tokens_of_list tokens (Some (next t others)) =
+      list_of-more tokens u (Some others) ∙ ap (λ a. tokens_of_list tokens (token_then a (Some others))) is in
       subst (AreAllOf (buffer ++ more) s.mode) (sym same) are
 
   -- The scanner stands after it.
@@ -68,19 +68,19 @@ module _ (buffer : List ℕ) (tokens : List SpannedToken) (s new : Scanner) (h :
   -- A token that is answered is kept, and the scanner stands further on.
   pub token-step : (u : SpannedToken) → is_cut (answered (Ok u)) ≡ true → StandsWithin (length buffer) u →
       Gives buffer h.start s.mode (answered (Ok u)) new →
-      Stands buffer (tokens ++ u ∷ []) new × (first_of s < first_of new) × (first_of new ≤ length buffer)
+      Stands buffer (tokens ++ u ∷ []) new × (first_unread s < first_unread new) × (first_unread new ≤ length buffer)
   token-step u told fits (Gives.still_open state i d is to) = let c = sym (ap is_cut is) ∙ told in cc
   token-step u told fits (Gives.decided shut is to) = by (cut buffer h.start s.mode) refl is to
     where
       by : (c : Cut) → cut buffer h.start s.mode ≡ c → answered (Ok u) ≡ Some (answer_for (length buffer) c) →
           new ≡ idle (stands_after buffer h.start s.mode c) s.mode →
-          Stands buffer (tokens ++ u ∷ []) new × (first_of s < first_of new) × (first_of new ≤ length buffer)
+          Stands buffer (tokens ++ u ∷ []) new × (first_unread s < first_unread new) × (first_unread new ≤ length buffer)
       by nothing_left here is to = let c = sym (ap is_cut is) ∙ told in cc
       by (fault f) here is to = let c = sym (ap is_cut is) ∙ told in cc
       by (token t) here is to =
           let f = cut-token_fits buffer h.start s.mode t h.within here in
           let first = goes_on-first s buffer h.start h.goes_on in
-          let last : first_of new ≡ stop t.span = ap first_of to in (
+          let last : first_unread new ≡ stop t.span = ap first_unread to in (
             subst (Stands buffer (tokens ++ u ∷ [])) (sym to) (after_token u t is here shut fits),
             omega (arith, f.behind, f.some, first, last),
             omega (arith, f.within, last),
@@ -138,18 +138,18 @@ module _ (buffer : List ℕ) (tokens : List SpannedToken) (s new : Scanner) (h :
 
   -- It follows the tokens.
   pub refusal_listed : (e : ScanError) (f : Fault) (input : List ℕ) → answered (Err e) ≡ Some (refuses f) →
-      AreAllOf input s.mode (list_of tokens (Some (refused f))) → AreAllOf input s.mode (list_of tokens (last_of (Some e)))
+      AreAllOf input s.mode (tokens_of_list tokens (Some (refused f))) → AreAllOf input s.mode (tokens_of_list tokens (rest_after (Some e)))
   refusal_listed e f input is are =
-      let last : Some (refused f) ≡ last_of (Some e) = sym (ap refused_by is) in
-      subst (λ o. AreAllOf input s.mode (list_of tokens o)) last are
+      let last : Some (refused f) ≡ rest_after (Some e) = sym (ap refused_by is) in
+      subst (λ o. AreAllOf input s.mode (tokens_of_list tokens o)) last are
 
   pub refusal-step : (e : ScanError) → stop (span_of e.span) ≤ length buffer → Gives buffer h.start s.mode (answered (Err e)) new →
-      IsRefused buffer s.mode tokens e
+      IsScanRefused buffer s.mode tokens e
   refusal-step e fits (Gives.still_open state i d is to) = let r = fault-refuses (span_of e.span) e.kind _ is in let c = r.1 in cc
   refusal-step e fits (Gives.decided shut is to) = by (cut buffer h.start s.mode) refl is
     where
       by : (c : Cut) → cut buffer h.start s.mode ≡ c → answered (Err e) ≡ Some (answer_for (length buffer) c) →
-          IsRefused buffer s.mode tokens e
+          IsScanRefused buffer s.mode tokens e
       by nothing_left here is = let r = fault-refuses (span_of e.span) e.kind _ is in let c = r.1 in cc
       by (token t) here is = let r = fault-refuses (span_of e.span) e.kind _ is in let c = r.1 in cc
       by (fault f) here is = record {

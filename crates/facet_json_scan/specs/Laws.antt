@@ -6,7 +6,7 @@ use Rattle.facet_json_token.specs.Gap.{Mode, whole, IsGap}
 use Rattle.facet_json_scan.specs.Scanner.{Scanner, GoesOnFrom, needs_more, Gives}
 pub use Rattle.facet_json_token.specs.Laws.{GapIsLongest, ShapeIsCut, ShapeIsUnique, FaultIsCut, FaultIsUnique, TokensAreCuts, CutStays}
 pub use Rattle.facet_json_token.specs.Inner.OpenTest.{OpenIsTested}
-pub use Rattle.facet_json_scan.specs.ScannerLaws.{RefusalRepeats, RefusalAtEnd, PendingAgain}
+pub use Rattle.facet_json_scan.specs.ScannerLaws.{ScanRefusalRepeats, RefusalAtEnd, PendingAgain}
 pub use Rattle.facet_json_token.specs.DecodeLaws.{DecodedIsDecodes, HasTextOrFault, TextOrFault}
 pub use Rattle.facet_json_token.specs.Inner.FirstFault.{FirstFaultIsFound}
 

@@ -8,7 +8,7 @@ use Rattle.facet_json_token.specs.declared.token.SpannedToken.{SpannedToken}
 use Rattle.facet_json_token.specs.declared.token.ScanError.{ScanError}
 use Rattle.facet_json_token.specs.Gap.{Mode, plain, jsonc}
 use Rattle.facet_json_token.specs.Tokens.{Tokens, ended, refused, next, AreCuts}
-use Rattle.facet_json_scan.specs.Scanner.{Answer, cuts, refuses}
+use Rattle.facet_json_scan.specs.Scanner.{ScanAnswer, cuts, refuses}
 use Rattle.facet_json_scan.specs.ScannerViews.{answered, NamesWithin}
 use Rattle.facet_json_scan.specs.declared.answer.Scanned.{Scanned}
 use Rattle.facet_json_scan.specs.declared.answer.ScanReadError.{ScanReadError}
@@ -22,28 +22,28 @@ mode_with false = plain
 -- ---- what is listed
 
 -- the token that is answered, and these after it
-abbrev pub token_then : Option Answer → Option Tokens → Option Tokens
+abbrev pub token_then : Option ScanAnswer → Option Tokens → Option Tokens
 token_then (Some (cuts t)) others = option_map (next t) others
 token_then _ others = None
 
 -- the tokens of the list, and these after them
-abbrev pub list_of : List SpannedToken → Option Tokens → Option Tokens
-list_of [] last = last
-list_of (t ∷ tokens) last = token_then (answered (Ok t)) (list_of tokens last)
+abbrev pub tokens_of_list : List SpannedToken → Option Tokens → Option Tokens
+tokens_of_list [] last = last
+tokens_of_list (t ∷ tokens) last = token_then (answered (Ok t)) (tokens_of_list tokens last)
 
 -- the refusal that is answered
-abbrev pub refused_by : Option Answer → Option Tokens
+abbrev pub refused_by : Option ScanAnswer → Option Tokens
 refused_by (Some (refuses f)) = Some (refused f)
 refused_by _ = None
 
 -- what stands after the last token: the end, or the refusal
-abbrev pub last_of : Option ScanError → Option Tokens
-last_of None = Some ended
-last_of (Some e) = refused_by (answered (Err e))
+abbrev pub rest_after : Option ScanError → Option Tokens
+rest_after None = Some ended
+rest_after (Some e) = refused_by (answered (Err e))
 
 -- the tokens of a scan, with the end or the refusal after the last
 abbrev pub tokens_of : Scanned → Option Tokens
-tokens_of s = list_of s.tokens.items (last_of s.refusal)
+tokens_of s = tokens_of_list s.tokens.items (rest_after s.refusal)
 
 -- ---- what is said of them
 
@@ -61,12 +61,12 @@ abbrev pub StandsWithin : ℕ → SpannedToken → Type 0
 StandsWithin last t = (stop (span_of t.span) ≤ last) × NamesWithin last t.token
 
 -- So does a refusal.
-abbrev pub RefusalWithin : ℕ → Option ScanError → Type 0
-RefusalWithin last refusal = IfSome refusal (λ e. stop (span_of e.span) ≤ last)
+abbrev pub ScanRefusalWithin : ℕ → Option ScanError → Type 0
+ScanRefusalWithin last refusal = IfSome refusal (λ e. stop (span_of e.span) ≤ last)
 
 -- All tokens of a scan and its refusal stand within its bytes.
 abbrev pub StandWithin : Scanned → Type 0
-StandWithin s = All (StandsWithin (length s.buf.items)) s.tokens.items × RefusalWithin (length s.buf.items) s.refusal
+StandWithin s = All (StandsWithin (length s.buf.items)) s.tokens.items × ScanRefusalWithin (length s.buf.items) s.refusal
 
 -- whether it is told that a read failed
 abbrev pub is_io : {T : Type 0} → Result T ScanReadError → Bool

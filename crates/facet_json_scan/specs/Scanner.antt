@@ -2,7 +2,7 @@
 use Rattle.std.specs.Prelude.{◌≡◌, ◌≢◌, ℕ, ◌+◌, ◌-◌, Bool, true, false, List, [], ◌∷◌, ◌++◌, length, take, drop, Option, Some, ◌==◌}
 use Rattle.facet_format.specs.Bytes.{quote, backslash, slash, star}
 use Rattle.facet_json_token.specs.Gap.{Mode, jsonc, growing, gap_len, OpensBlock, OpensLine}
-use Rattle.facet_format.specs.Number.{Hint, float, hint_of, IsNumeral, parts}
+use Rattle.facet_format.specs.Number.{Hint, float, hint_by, IsNumeral, parts}
 use Rattle.facet_format.specs.Span.{Span, stop, span_at}
 use Rattle.facet_json_token.specs.Token.{Kind, Token, Fault}
 use Rattle.facet_json_token.specs.Cut.{ArePieces, IsLiteral, Cut, nothing_left, token, fault, past_gap, cut}
@@ -11,15 +11,15 @@ use Rattle.facet_json_token.specs.Open.{IsOpen}
 -- ---- what is kept
 
 -- a part of a number
-pub data Part : Type 0 where
+pub data NumberPart : Type 0 where
   -- the minus and the digits
-  in_digits : Part
+  in_digits : NumberPart
   -- the dot and its digits
-  in_fraction : Part
+  in_fraction : NumberPart
   -- the exponent mark
-  at_mark : Part
+  at_mark : NumberPart
   -- the exponent's sign and its digits
-  in_exponent : Part
+  in_exponent : NumberPart
 
 -- how the open token or comment goes on
 pub data State : Type 0 where
@@ -27,7 +27,7 @@ pub data State : Type 0 where
   in_text : (escaped has_escapes : Bool) → State
   in_word : State
   -- the part in which the last byte stands
-  in_number : Part → State
+  in_number : NumberPart → State
   after_slash : State
   in_line : State
   -- whether the last byte of the body is a star
@@ -65,31 +65,31 @@ ends_in_star (b ∷ []) = b == star
 ends_in_star (b ∷ c ∷ bytes) = ends_in_star (c ∷ bytes)
 
 -- the last part of a number with this fraction and this exponent, each of which may be missing
-abbrev pub last_part : (fraction exponent : List ℕ) → Part
+abbrev pub last_part : (fraction exponent : List ℕ) → NumberPart
 last_part [] [] = in_digits
 last_part (b ∷ fraction) [] = in_fraction
 last_part fraction (mark ∷ []) = at_mark
 last_part fraction (mark ∷ b ∷ power) = in_exponent
 
 -- The text is a number, or a minus alone, and its last byte stands in this part.
-pub record EndsIn (part : Part) (text : List ℕ) : Type 0 where
+pub record EndsIn (part : NumberPart) (text : List ℕ) : Type 0 where
   pub hint : Hint
   pub numeral : IsNumeral text hint
   pub last : part ≡ last_part numeral.fraction numeral.exponent
 
 -- what stands in a number that ends in this part, after a minus or not
-abbrev pub part_hint : Part → Bool → Hint
-part_hint in_digits has_minus = hint_of has_minus false false
+abbrev pub part_hint : NumberPart → Bool → Hint
+part_hint in_digits has_minus = hint_by has_minus false false
 part_hint in_fraction has_minus = float
 part_hint at_mark has_minus = float
 part_hint in_exponent has_minus = float
 
 -- After each number that ends in the part this byte goes on with it, and stands in the next part.
-abbrev pub GoesOnWith : Part → ℕ → Part → Type 0
-GoesOnWith part b next = (text : List ℕ) → EndsIn part text → EndsIn next (text ++ b ∷ [])
+abbrev pub ExtendsWith : NumberPart → ℕ → NumberPart → Type 0
+ExtendsWith part b next = (text : List ℕ) → EndsIn part text → EndsIn next (text ++ b ∷ [])
 
 -- Each number that ends in the part is the longest where this byte follows, whatever stands after.
-abbrev pub EndsBefore : Part → ℕ → Type 0
+abbrev pub EndsBefore : NumberPart → ℕ → Type 0
 EndsBefore part b = (text rest : List ℕ) → EndsIn part text → parts (text ++ b ∷ rest) ≡ parts text
 
 -- The bytes are an open token or comment, and the state says how it goes on.
@@ -100,7 +100,7 @@ pub data Describes : Mode → State → List ℕ → Type 0 where
       Describes mode (in_text true true) (quote ∷ content ++ backslash ∷ [])
   literal : (mode : Mode) (prefix others : List ℕ) (kind : Kind) → IsLiteral (prefix ++ others) kind → prefix ≢ [] →
       others ≢ [] → Describes mode in_word prefix
-  number : (mode : Mode) (part : Part) (text : List ℕ) → EndsIn part text → Describes mode (in_number part) text
+  number : (mode : Mode) (part : NumberPart) (text : List ℕ) → EndsIn part text → Describes mode (in_number part) text
   slash_alone : Describes jsonc after_slash (slash ∷ [])
   line : (body : List ℕ) → OpensLine body → Describes jsonc in_line (slash ∷ slash ∷ body)
   block : (body : List ℕ) (after_star : Bool) → OpensBlock body → ends_in_star body ≡ after_star →
@@ -115,15 +115,15 @@ pub data GoesOnFrom (s : Scanner) (buffer : List ℕ) : ℕ → Type 0 where
 
 -- ---- what is answered
 
-pub data Answer : Type 0 where
+pub data ScanAnswer : Type 0 where
   -- more bytes may change what stands there: the first byte of it, and its bytes so far
-  needs_more : (consumed : ℕ) → Span → Answer
-  ended : Span → Answer
-  cuts : Token → Answer
-  refuses : Fault → Answer
+  needs_more : (consumed : ℕ) → Span → ScanAnswer
+  ended : Span → ScanAnswer
+  cuts : Token → ScanAnswer
+  refuses : Fault → ScanAnswer
 
 -- the answer of what is cut, where the input ends at `last`
-abbrev pub answer_for : ℕ → Cut → Answer
+abbrev pub answer_for : ℕ → Cut → ScanAnswer
 answer_for last nothing_left = ended (span_at last 0)
 answer_for last (token t) = cuts t
 answer_for last (fault f) = refuses f
@@ -139,7 +139,7 @@ abbrev pub past_growing_gap : List ℕ → ℕ → Mode → ℕ
 past_growing_gap buffer position mode = position + gap_len mode growing (drop position buffer)
 
 -- The answer of a call that goes on from p, and the scanner that it leaves: more is needed exactly where the buffer is open.
-pub data Gives (buffer : List ℕ) (p : ℕ) (mode : Mode) (answer : Option Answer) (new : Scanner) : Type 0 where
+pub data Gives (buffer : List ℕ) (p : ℕ) (mode : Mode) (answer : Option ScanAnswer) (new : Scanner) : Type 0 where
   still_open : (state : State) → IsOpen buffer p mode →
       Describes mode state (drop (past_growing_gap buffer p mode) buffer) →
       answer ≡ Some (needs_more (past_growing_gap buffer p mode)
@@ -153,11 +153,11 @@ abbrev pub first_byte_of : ℕ → Pending → ℕ
 first_byte_of position nothing_pending = position
 first_byte_of position (pending_at start state) = start
 
-abbrev pub first_of : Scanner → ℕ
-first_of s = first_byte_of s.position s.pending
+abbrev pub first_unread : Scanner → ℕ
+first_unread s = first_byte_of s.position s.pending
 
 -- where the scanner stands where no more bytes follow these: where it stood, or at the first byte of what is refused
 abbrev pub stands_at_end : Scanner → List ℕ → Cut → ℕ
 stands_at_end s bytes nothing_left = s.position
 stands_at_end s bytes (token t) = s.position
-stands_at_end s bytes (fault f) = past_gap bytes (first_of s) s.mode
+stands_at_end s bytes (fault f) = past_gap bytes (first_unread s) s.mode

@@ -11,26 +11,26 @@ use Rattle.facet_format.specs.Views.{span_of}
 use Rattle.facet_json_token.specs.Token.{Kind}
 use Rattle.facet_json_token.specs.Token as token
 use Rattle.facet_json_token.specs.declared.token.ScanErrorKind.TheVariants.{InvalidUtf8}
-use Rattle.facet_json_scan.specs.Scanner.{Answer, needs_more, ended, cuts, refuses}
+use Rattle.facet_json_scan.specs.Scanner.{ScanAnswer, needs_more, ended, cuts, refuses}
 use Rattle.facet_json_token.specs.Views.{kind_of}
 
 -- a token of this kind, or no answer
-abbrev pub cut_answer : Span → Option Kind → Option Answer
+abbrev pub cut_answer : Span → Option Kind → Option ScanAnswer
 cut_answer s None = None
 cut_answer s (Some kind) = Some (cuts (record { kind = kind; span = s }))
 
-abbrev pub token_answered : Span → RustToken → Option Answer
+abbrev pub token_answered : Span → RustToken → Option ScanAnswer
 token_answered s code.Eof = Some (ended s)
 token_answered s (code.NeedMore consumed) = Some (needs_more consumed s)
 token_answered s t = cut_answer s (kind_of t)
 
-abbrev pub fault_answered : Span → ScanErrorKind → Option Answer
+abbrev pub fault_answered : Span → ScanErrorKind → Option ScanAnswer
 fault_answered s (scan.UnexpectedChar c) = Some (refuses (record { kind = token.unexpected_char c; span = s }))
 fault_answered s (scan.UnexpectedEof text) = Some (refuses (record { kind = token.unexpected_eof text.now; span = s }))
 fault_answered s scan.InvalidUtf8 = None
 
 -- what a scan answers; a text that isn't UTF-8 is no answer of the definitions
-abbrev pub answered : Result SpannedToken ScanError → Option Answer
+abbrev pub answered : Result SpannedToken ScanError → Option ScanAnswer
 answered (Ok t) = token_answered (span_of t.span) t.token
 answered (Err e) = fault_answered (span_of e.span) e.kind
 

@@ -6,7 +6,7 @@ ghost use Rattle.facet_json_token.specs.Gap.{plain, jsonc};
 ghost use Rattle.facet_format.specs.Span.{stop, span_at};
 ghost use Rattle.facet_json_token.specs.Cut.{past_gap};
 ghost use Rattle.facet_json_token.specs.Cut as spec_cut;
-ghost use Rattle.facet_json_scan.specs.Scanner.{answer_for, idle, nothing_pending, scanner_at, first_of, first_byte_of, stands_at_end, Describes, GoesOnFrom, Gives};
+ghost use Rattle.facet_json_scan.specs.Scanner.{answer_for, idle, nothing_pending, scanner_at, first_unread, first_byte_of, stands_at_end, Describes, GoesOnFrom, Gives};
 ghost use Rattle.facet_json_scan.specs.Scanner as spec_scanner;
 ghost use Rattle.facet_json_token.specs.Views.{mode_of};
 ghost use Rattle.facet_json_scan.specs.ScannerViews.{answered, span_answered, IndicesWithin, stands_last};
@@ -156,9 +156,9 @@ impl Scanner {
     pub fn finalize_at_eof(&mut self, buf: &[u8]) -> ScanResult
         requires { self.old.position ≤ length buf.now }
         ensures token { answered result ≡ Some (answer_for self.old.position
-            (spec_cut.cut (take self.old.position buf.now) (first_of self.old) self.old.mode)) }
+            (spec_cut.cut (take self.old.position buf.now) (first_unread self.old) self.old.mode)) }
         ensures scanner { self.new ≡ idle (stands_at_end self.old (take self.old.position buf.now)
-            (spec_cut.cut (take self.old.position buf.now) (first_of self.old) self.old.mode)) self.old.mode }
+            (spec_cut.cut (take self.old.position buf.now) (first_unread self.old) self.old.mode)) self.old.mode }
         ensures span { stop (span_answered result) ≤ self.old.position }
         ensures indices { IndicesWithin self.old.position result }
     {

@@ -5,13 +5,13 @@ use Rattle.facet_format.specs.Bytes.{right_bracket, right_brace, comma}
 use Rattle.facet_format.specs.Event as event
 use Rattle.facet_json_document.specs.Text.{Options, text, new_line, separator, line_at_end, colon_text}
 use Rattle.facet_json_document.specs.Quoted.{quoted}
-use Rattle.facet_format.specs.SerializerCall.{Call}
-use Rattle.facet_json_serializer.specs.Serializer.{Opened, in_struct, in_list, Writing, Addition, addition, appended, before_value, after_value, key_added, struct_ended, list_ended, scalar_text, key_outside_struct, no_struct_to_end, no_list_to_end}
-use Rattle.facet_json_serializer.specs.Inner.Open.{struct_mark, list_mark, around, with_first_passed}
+use Rattle.facet_format.specs.SerializerCall.{SerializerCall}
+use Rattle.facet_json_serializer.specs.Serializer.{Opened, in_struct, in_list, Writing, Addition, addition, appended, before_value, after_written, key_added, struct_ended, list_ended, scalar_text, key_outside_struct, no_struct_to_end, no_list_to_end}
+use Rattle.facet_json_serializer.specs.Inner.Open.{struct_mark, list_mark, around_innermost, with_first_passed}
 use Rattle.facet_json_serializer.specs.Inner.Writes.{Writes, writes, value_begun, with_text}
 
 -- all that a call appends is there
-pub wrote : (w n : Writing) (call : Call) (a : Addition) → addition w.options w.stack call ≡ Ok a → n ≡ appended w a
+pub wrote : (w n : Writing) (call : SerializerCall) (a : Addition) → addition w.options w.stack call ≡ Ok a → n ≡ appended w a
     → Writes w call (Ok tt) n
 wrote w n call a can is = subst (λ m. Writes w call (Ok tt) m) (sym is) (writes w call a can)
 
@@ -19,16 +19,16 @@ wrote w n call a can is = subst (λ m. Writes w call (Ok tt) m) (sym is) (writes
 pub value_written : (w mid : Writing) (spelled : Options → List ℕ) (out : List ℕ) → mid ≡ value_begun w
     → out ≡ mid.written ++ spelled mid.options
     → record { options = mid.options; stack = mid.stack; written = out }
-    ≡ appended w (record { added = before_value w.options w.stack ++ spelled w.options; stack = after_value w.stack })
+    ≡ appended w (record { added = before_value w.options w.stack ++ spelled w.options; stack = after_written w.stack })
 value_written w mid spelled out begun is =
     rw (is, begun)
-    (ap (λ t. record { options = w.options; stack = after_value w.stack; written = t })
+    (ap (λ t. record { options = w.options; stack = after_written w.stack; written = t })
     (append_assoc w.written (before_value w.options w.stack) (spelled w.options)))
 
 -- the same where what stands before it is a comma, and both were written at once
 pub comma_written : (w : Writing) (spelled out : List ℕ) → value_begun w ≡ with_text w (comma ∷ []) → out ≡ w.written ++ comma ∷ spelled
     → record { options = w.options; stack = w.stack; written = out }
-    ≡ appended w (record { added = before_value w.options w.stack ++ spelled; stack = after_value w.stack })
+    ≡ appended w (record { added = before_value w.options w.stack ++ spelled; stack = after_written w.stack })
 comma_written w spelled out begun is =
     let bytes : w.written ++ comma ∷ spelled ≡ w.written ++ (before_value w.options w.stack ++ spelled) =
     sym (append_assoc w.written (comma ∷ []) spelled) ∙ ap (λ m. m.written ++ spelled) (sym begun)
@@ -43,7 +43,7 @@ comma_written w spelled out begun is =
 pub after_comma_written : (w mid : Writing) (after : Bool) (spelled out : List ℕ) → value_begun w ≡ with_text mid (cond after (comma ∷ []) [])
     → out ≡ mid.written ++ (cond after (comma ∷ []) [] ++ (spelled ++ []))
     → record { options = mid.options; stack = mid.stack; written = out }
-    ≡ appended w (record { added = before_value w.options w.stack ++ spelled; stack = after_value w.stack })
+    ≡ appended w (record { added = before_value w.options w.stack ++ spelled; stack = after_written w.stack })
 after_comma_written w mid after spelled out begun is =
     let before = cond after (comma ∷ []) [] in
     let with_spelled = λ (m : Writing). with_text m spelled in
@@ -51,7 +51,7 @@ after_comma_written w mid after spelled out begun is =
     is ∙ ap (λ s. mid.written ++ (before ++ s)) (append-nil spelled) ∙ sym (append_assoc mid.written before spelled) in
     ap (λ t. record { options = mid.options; stack = mid.stack; written = t }) bytes
     ∙ ap with_spelled (sym begun)
-    ∙ ap (λ t. record { options = w.options; stack = after_value w.stack; written = t }) (append_assoc w.written (before_value w.options w.stack) spelled)
+    ∙ ap (λ t. record { options = w.options; stack = after_written w.stack; written = t }) (append_assoc w.written (before_value w.options w.stack) spelled)
 
 -- a whole number's text is its digits
 pub unsigned-text : (o : Options) (n : ℕ) → scalar_text o (event.u64 n) ≡ decimal n
@@ -71,10 +71,10 @@ quoted-text o t = refl
 pub container_begun : (w mid : Writing) (c : Opened) (stack : List Opened) (bytes out : List ℕ) → mid ≡ value_begun w → stack ≡ c ∷ mid.stack
     → out ≡ mid.written ++ bytes
     → record { options = mid.options; stack = stack; written = out }
-    ≡ appended w (record { added = before_value w.options w.stack ++ bytes; stack = c ∷ after_value w.stack })
+    ≡ appended w (record { added = before_value w.options w.stack ++ bytes; stack = c ∷ after_written w.stack })
 container_begun w mid c stack bytes out begun opened is =
     rw (is, opened, begun)
-    (ap (λ t. record { options = w.options; stack = c ∷ after_value w.stack; written = t })
+    (ap (λ t. record { options = w.options; stack = c ∷ after_written w.stack; written = t })
     (append_assoc w.written (before_value w.options w.stack) bytes))
 
 -- a mark is there
@@ -91,7 +91,7 @@ IsNowhere (Some mark) = ⊥
 pub key_fits : (o : Options) (name : List ℕ) (stack : List Opened) (first : Bool) → struct_mark stack ≡ Some first
     → key_added o name stack
     ≡ Ok (record {
-      added = separator first ++ new_line o (suc (length (around stack))) ++ quoted name ++ colon_text o;
+      added = separator first ++ new_line o (suc (length (around_innermost stack))) ++ quoted name ++ colon_text o;
       stack = with_first_passed stack;
     })
 key_fits o name [] first h = absurd (subst IsThere (sym h) tt)
@@ -111,7 +111,7 @@ no_key_fits o name (in_struct mark ∷ others) h = absurd (subst IsNowhere (sym 
 
 -- the innermost struct can be ended
 pub struct_fits : (o : Options) (stack : List Opened) (first : Bool) → struct_mark stack ≡ Some first
-    → struct_ended o stack ≡ Ok (record { added = line_at_end o (length (around stack)) first ++ right_brace ∷ []; stack = around stack })
+    → struct_ended o stack ≡ Ok (record { added = line_at_end o (length (around_innermost stack)) first ++ right_brace ∷ []; stack = around_innermost stack })
 struct_fits o [] first h = absurd (subst IsThere (sym h) tt)
 struct_fits o (in_list mark ∷ others) first h = absurd (subst IsThere (sym h) tt)
 struct_fits o (in_struct mark ∷ others) first h =
@@ -125,7 +125,7 @@ no_struct_fits o (in_struct mark ∷ others) h = absurd (subst IsNowhere (sym h)
 
 -- the innermost list can be ended
 pub list_fits : (o : Options) (stack : List Opened) (first : Bool) → list_mark stack ≡ Some first
-    → list_ended o stack ≡ Ok (record { added = line_at_end o (length (around stack)) first ++ right_bracket ∷ []; stack = around stack })
+    → list_ended o stack ≡ Ok (record { added = line_at_end o (length (around_innermost stack)) first ++ right_bracket ∷ []; stack = around_innermost stack })
 list_fits o [] first h = absurd (subst IsThere (sym h) tt)
 list_fits o (in_struct mark ∷ others) first h = absurd (subst IsThere (sym h) tt)
 list_fits o (in_list mark ∷ others) first h =
@@ -139,22 +139,22 @@ no_list_fits o (in_list mark ∷ others) h = absurd (subst IsNowhere (sym h) tt)
 
 -- a key's piece
 pub key_written : (w : Writing) (first : Bool) (name : List ℕ) (stack : List Opened) (depth : ℕ) (out : List ℕ)
-    → depth ≡ length (around w.stack)
+    → depth ≡ length (around_innermost w.stack)
     → out ≡ w.written ++ (separator first ++ new_line w.options (depth + 1) ++ quoted name ++ colon_text w.options)
     → stack ≡ with_first_passed w.stack
     → record { options = w.options; stack = stack; written = out }
     ≡ appended w (record {
-      added = separator first ++ new_line w.options (suc (length (around w.stack))) ++ quoted name ++ colon_text w.options;
+      added = separator first ++ new_line w.options (suc (length (around_innermost w.stack))) ++ quoted name ++ colon_text w.options;
       stack = with_first_passed w.stack;
     })
 key_written w first name stack depth out deep is passed = rw (passed, is, deep, add-one) refl
 
 -- the pieces of a container's end
 pub end_written : (w : Writing) (first : Bool) (bracket : List ℕ) (stack : List Opened) (depth : ℕ) (o1 o2 : List ℕ)
-    → depth ≡ length (around w.stack) → o1 ≡ w.written ++ line_at_end w.options depth first → o2 ≡ o1 ++ bracket → stack ≡ around w.stack
+    → depth ≡ length (around_innermost w.stack) → o1 ≡ w.written ++ line_at_end w.options depth first → o2 ≡ o1 ++ bracket → stack ≡ around_innermost w.stack
     → record { options = w.options; stack = stack; written = o2 }
-    ≡ appended w (record { added = line_at_end w.options (length (around w.stack)) first ++ bracket; stack = around w.stack })
+    ≡ appended w (record { added = line_at_end w.options (length (around_innermost w.stack)) first ++ bracket; stack = around_innermost w.stack })
 end_written w first bracket stack depth o1 o2 deep e1 e2 closed =
     rw (closed, e2, e1, deep)
-    (ap (λ t. record { options = w.options; stack = around w.stack; written = t })
-    (append_assoc w.written (line_at_end w.options (length (around w.stack)) first) bracket))
+    (ap (λ t. record { options = w.options; stack = around_innermost w.stack; written = t })
+    (append_assoc w.written (line_at_end w.options (length (around_innermost w.stack)) first) bracket))

@@ -1,12 +1,12 @@
 -- What a serializer has written whose calls are known to be taken, and no more.
 use Rattle.std.proofs.Common.{◌≡◌, [], ◌∷◌, Option, Some, None, Ok, Err, Result, refl, sym, ap, ◌∙◌, subst}
-use Rattle.facet_format.specs.SerializerCall.{Call, TakesAll}
+use Rattle.facet_format.specs.SerializerCall.{SerializerCall, TakesAll}
 use Rattle.facet_json_serializer.specs.Serializer.{Writing, Addition, Misfit, Takes, Appends, appends, addition, appended}
 use Rattle.facet_json_serializer.specs.TreeCalls.{and_then, after_calls, tree_calls, TakenInOrder, TreeTaken}
 use Rattle.facet_json_serializer.proofs.TreesByCalls.{tree_by_calls}
 
 -- a call that is taken fits
-taken-fits : (w : Writing) (call : Call) (now : Option Writing) → Appends (Some w) call (Ok tt) now
+taken-fits : (w : Writing) (call : SerializerCall) (now : Option Writing) → Appends (Some w) call (Ok tt) now
     → (a : Addition) × (addition w.options w.stack call ≡ Ok a) × (now ≡ Some (appended w a))
 taken-fits w call now (appends _ _ a can) = (a, can, refl)
 

@@ -1,33 +1,33 @@
 -- A serializer's answer, by that of the text that it holds.
 use Rattle.std.proofs.Common.{◌≡◌, ℕ, Bool, true, false, true≢false, cond, List, Option, Some, None, Result, Ok, Err, IfOk, refl, sym, subst, inl, inr}
-use Rattle.facet_format.specs.SerializerCall.{Call, byte_sequence, byte_array, IsServed, IsServedOrLeft}
+use Rattle.facet_format.specs.SerializerCall.{SerializerCall, byte_sequence, byte_array, IsServed, IsServedOrLeft}
 use Rattle.facet_json_serializer.specs.declared.error.JsonSerializeError.{JsonSerializeError}
-use Rattle.facet_json_serializer.specs.Views.{refusal_of, answer_of, bytes_answer_of}
-use Rattle.facet_json_serializer.specs.Serializer.{Writing, Refusal, out_of_memory, Appends, appends, refuses, runs_out, stays_out, Takes, IsSpent}
+use Rattle.facet_json_serializer.specs.Views.{write_refusal_of, call_answer_of, bytes_answer_of}
+use Rattle.facet_json_serializer.specs.Serializer.{Writing, WriteRefusal, out_of_memory, Appends, appends, refuses, runs_out, stays_out, Takes, IsSpent}
 use Rattle.facet_json_serializer.specs.Inner.Writes.{Writes, settled}
 use Rattle.facet_json_serializer.specs.Inner.Writes as held
 
 -- what a call appends to the text that is held, it appends
-settles : (w n : Writing) (call : Call) (answer : Result (Unit {0}) Refusal) → Writes w call answer n
+settles : (w n : Writing) (call : SerializerCall) (answer : Result (Unit {0}) WriteRefusal) → Writes w call answer n
     → Appends (Some w) call answer (settled (Some n) answer)
 settles w n call answer (held.writes _ _ a can) = appends w call a can
 settles w n call answer (held.refuses _ _ why cannot) = refuses w call why cannot
 settles w n call answer (held.runs_out _ _ a left can) = runs_out w call a can
 
 -- the same by the fields of a serializer that has not failed
-pub settles-unfailed : (failed : Bool) (w n : Writing) (old new : Option Writing) (call : Call) (answer : Result (Unit {0}) Refusal)
+pub settles-unfailed : (failed : Bool) (w n : Writing) (old new : Option Writing) (call : SerializerCall) (answer : Result (Unit {0}) WriteRefusal)
     → failed ≡ false → cond failed None (Some w) ≡ old → Writes w call answer n → new ≡ settled (cond failed None (Some n)) answer
     → Appends old call answer new
 settles-unfailed failed w n old new call answer well was h is =
     rw (is, sym was, well) (settles w n call answer h)
 
 -- once a growth was refused, each call is
-pub stays_failed : (failed : Bool) (w : Writing) (old : Option Writing) (call : Call) → failed ≡ true → cond failed None (Some w) ≡ old
+pub stays_failed : (failed : Bool) (w : Writing) (old : Option Writing) (call : SerializerCall) → failed ≡ true → cond failed None (Some w) ≡ old
     → Appends old call (Err out_of_memory) old
 stays_failed failed w old call ill was = rw (sym was, ill) (stays_out call)
 
 -- bytes of a fixed number are written as others are
-pub bytes-of_fixed_number : (old new : Option Writing) (bytes : List ℕ) (answer : Result (Unit {0}) Refusal)
+pub bytes-of_fixed_number : (old new : Option Writing) (bytes : List ℕ) (answer : Result (Unit {0}) WriteRefusal)
     → Appends old (byte_sequence bytes) answer new → Appends old (byte_array bytes) answer new
 bytes-of_fixed_number old new bytes answer (appends w _ a can) = appends w (byte_array bytes) a can
 bytes-of_fixed_number old new bytes answer (refuses w _ why cannot) = refuses w (byte_array bytes) why cannot
@@ -40,7 +40,7 @@ IsThere None = ⊥
 IsThere (Some w) = Unit {0}
 
 -- whoever knows only what a serializer is knows this of an answer
-serves-answer : (old new : Option Writing) (call : Call) (answer : Result (Unit {0}) Refusal) → Appends old call answer new
+serves-answer : (old new : Option Writing) (call : SerializerCall) (answer : Result (Unit {0}) WriteRefusal) → Appends old call answer new
     → IsServed Takes IsSpent old call answer new
 serves-answer old new call answer (appends w _ a can) = (appends w call a can, λ gone. absurd (subst IsThere gone tt))
 serves-answer old new call answer (refuses w _ why cannot) = (inl refl, λ gone. refl)
@@ -48,14 +48,14 @@ serves-answer old new call answer (runs_out w _ a can) = (inr refl, λ gone. ref
 serves-answer old new call answer (stays_out _) = (inr refl, λ gone. refl)
 
 -- so of what a call returns
-pub serves : (old new : Option Writing) (call : Call) (result : Result (Unit {0}) JsonSerializeError) → Appends old call (answer_of result) new
+pub serves : (old new : Option Writing) (call : SerializerCall) (result : Result (Unit {0}) JsonSerializeError) → Appends old call (call_answer_of result) new
     → IsServed Takes IsSpent old call result new
 serves old new call (Ok done) h = serves-answer old new call (Ok tt) h
-serves old new call (Err e) h = serves-answer old new call (Err (refusal_of e)) h
+serves old new call (Err e) h = serves-answer old new call (Err (write_refusal_of e)) h
 
 -- and of bytes, which are never left to the caller
-pub serves-bytes : (old new : Option Writing) (call : Call) (result : Result Bool JsonSerializeError) → Appends old call (bytes_answer_of result) new
+pub serves-bytes : (old new : Option Writing) (call : SerializerCall) (result : Result Bool JsonSerializeError) → Appends old call (bytes_answer_of result) new
     → IfOk result (λ done. done ≡ true) → IsServedOrLeft Takes IsSpent old call result new
 serves-bytes old new call (Ok true) h written = serves-answer old new call (Ok tt) h
 serves-bytes old new call (Ok false) h written = absurd (true≢false (sym written))
-serves-bytes old new call (Err e) h written = serves-answer old new call (Err (refusal_of e)) h
+serves-bytes old new call (Err e) h written = serves-answer old new call (Err (write_refusal_of e)) h

@@ -5,12 +5,12 @@ use Rattle.facet_json_document.specs.Quoted.{quoted}
 use Rattle.facet_json_document.specs.Text.{Options, text, items_text, members_text, new_line, separator, colon_text}
 use Rattle.facet_json_document.specs.Tree.{Tree, null, unit, bool, char, i64, u64, i128, u128, decimal, bytes, raw, list, pairs, Trees, no_trees, tree, Pairs, no_pairs, pair}
 use Rattle.facet_json_document.specs.Tree as trees
-use Rattle.facet_format.specs.SerializerCall.{Call, end_seq, end_struct}
-use Rattle.facet_json_serializer.specs.Serializer.{Opened, in_struct, in_list, Writing, before_value, after_value}
+use Rattle.facet_format.specs.SerializerCall.{SerializerCall, end_seq, end_struct}
+use Rattle.facet_json_serializer.specs.Serializer.{Opened, in_struct, in_list, Writing, before_value, after_written}
 use Rattle.facet_json_serializer.specs.TreeCalls.{after_calls, tree_calls, item_calls, member_calls, TreeByCalls}
 
 -- so many are open before a value as after it
-length-after_value : (stack : List Opened) → length (after_value stack) ≡ length stack
+length-after_value : (stack : List Opened) → length (after_written stack) ≡ length stack
 length-after_value [] = refl
 length-after_value (in_struct first ∷ around) = refl
 length-after_value (in_list first ∷ around) = refl
@@ -22,9 +22,9 @@ at o stack written = record { options = o; stack = stack; written = written }
 mutual
   unfolding at after_calls tree_calls item_calls member_calls text items_text members_text
 
-  tree_then : (o : Options) (stack : List Opened) (written : List ℕ) (t : Tree) (rest : List Call)
+  tree_then : (o : Options) (stack : List Opened) (written : List ℕ) (t : Tree) (rest : List SerializerCall)
       → after_calls (at o stack written) (tree_calls t ++ rest)
-      ≡ after_calls (at o (after_value stack) (written ++ (before_value o stack ++ text o (length stack) t))) rest
+      ≡ after_calls (at o (after_written stack) (written ++ (before_value o stack ++ text o (length stack) t))) rest
   tree_then o stack written null rest = refl
   tree_then o stack written unit rest = refl
   tree_then o stack written (bool b) rest = refl
@@ -40,23 +40,23 @@ mutual
   tree_then o stack written (list items) rest =
       let before = before_value o stack in
       let begun = written ++ (before ++ left_bracket ∷ []) in
-      ap (λ calls. after_calls (at o (in_list true ∷ after_value stack) begun) calls) (append_assoc (item_calls items) (end_seq ∷ []) rest)
-      ∙ items_then o (after_value stack) true begun items rest
-      ∙ ap (λ n. after_calls (at o (after_value stack) (begun ++ items_text o n true items)) rest) (length-after_value stack)
-      ∙ ap (λ s. after_calls (at o (after_value stack) s) rest)
+      ap (λ calls. after_calls (at o (in_list true ∷ after_written stack) begun) calls) (append_assoc (item_calls items) (end_seq ∷ []) rest)
+      ∙ items_then o (after_written stack) true begun items rest
+      ∙ ap (λ n. after_calls (at o (after_written stack) (begun ++ items_text o n true items)) rest) (length-after_value stack)
+      ∙ ap (λ s. after_calls (at o (after_written stack) s) rest)
       (append_assoc written (before ++ left_bracket ∷ []) (items_text o (length stack) true items)
       ∙ ap (λ s. written ++ s) (append_assoc before (left_bracket ∷ []) (items_text o (length stack) true items)))
   tree_then o stack written (pairs members) rest =
       let before = before_value o stack in
       let begun = written ++ (before ++ left_brace ∷ []) in
-      ap (λ calls. after_calls (at o (in_struct true ∷ after_value stack) begun) calls) (append_assoc (member_calls members) (end_struct ∷ []) rest)
-      ∙ members_then o (after_value stack) true begun members rest
-      ∙ ap (λ n. after_calls (at o (after_value stack) (begun ++ members_text o n true members)) rest) (length-after_value stack)
-      ∙ ap (λ s. after_calls (at o (after_value stack) s) rest)
+      ap (λ calls. after_calls (at o (in_struct true ∷ after_written stack) begun) calls) (append_assoc (member_calls members) (end_struct ∷ []) rest)
+      ∙ members_then o (after_written stack) true begun members rest
+      ∙ ap (λ n. after_calls (at o (after_written stack) (begun ++ members_text o n true members)) rest) (length-after_value stack)
+      ∙ ap (λ s. after_calls (at o (after_written stack) s) rest)
       (append_assoc written (before ++ left_brace ∷ []) (members_text o (length stack) true members)
       ∙ ap (λ s. written ++ s) (append_assoc before (left_brace ∷ []) (members_text o (length stack) true members)))
 
-  items_then : (o : Options) (around : List Opened) (first : Bool) (written : List ℕ) (items : Trees) (rest : List Call)
+  items_then : (o : Options) (around : List Opened) (first : Bool) (written : List ℕ) (items : Trees) (rest : List SerializerCall)
       → after_calls (at o (in_list first ∷ around) written) (item_calls items ++ end_seq ∷ rest)
       ≡ after_calls (at o around (written ++ items_text o (length around) first items)) rest
   items_then o around first written no_trees rest = refl
@@ -69,7 +69,7 @@ mutual
       ∙ items_then o around false (written ++ (before ++ item)) others rest
       ∙ ap (λ s. after_calls (at o around s) rest) (append_assoc written (before ++ item) (items_text o depth false others))
 
-  members_then : (o : Options) (around : List Opened) (first : Bool) (written : List ℕ) (members : Pairs) (rest : List Call)
+  members_then : (o : Options) (around : List Opened) (first : Bool) (written : List ℕ) (members : Pairs) (rest : List SerializerCall)
       → after_calls (at o (in_struct first ∷ around) written) (member_calls members ++ end_struct ∷ rest)
       ≡ after_calls (at o around (written ++ members_text o (length around) first members)) rest
   members_then o around first written no_pairs rest = refl

@@ -3,7 +3,7 @@ use Rattle.std.specs.Prelude.{◌≡◌, ℕ, suc, Bool, true, false, List, [], 
 use Rattle.facet_format.specs.Bytes.{left_bracket, right_bracket, left_brace, right_brace}
 use Rattle.facet_format.specs.Event.{Scalar, bytes_of}
 use Rattle.facet_format.specs.Event as event
-use Rattle.facet_format.specs.SerializerCall.{Call, begin_struct, field_key, end_struct, begin_seq, end_seq, scalar, raw_scalar, byte_sequence, byte_array}
+use Rattle.facet_format.specs.SerializerCall.{SerializerCall, begin_struct, field_key, end_struct, begin_seq, end_seq, scalar, raw_scalar, byte_sequence, byte_array}
 use Rattle.facet_json_document.specs.Quoted.{quoted}
 use Rattle.facet_json_document.specs.Text.{Options, text, bytes_text, new_line, separator, line_at_end, colon_text}
 use Rattle.facet_json_document.specs.Tree.{Tree}
@@ -26,11 +26,11 @@ pub data Misfit : Type 0 where
   no_struct_to_end : Misfit
   no_list_to_end : Misfit
 
-pub data Refusal : Type 0 where
-  misfits : Misfit → Refusal
-  out_of_memory : Refusal
+pub data WriteRefusal : Type 0 where
+  misfits : Misfit → WriteRefusal
+  out_of_memory : WriteRefusal
 
-abbrev pub code : Refusal → ℕ
+abbrev pub code : WriteRefusal → ℕ
 code (misfits key_outside_struct) = 1
 code (misfits no_struct_to_end) = 2
 code (misfits no_list_to_end) = 3
@@ -60,10 +60,10 @@ before_value o (in_struct first ∷ around) = []
 before_value o (in_list first ∷ around) = separator first ++ new_line o (suc (length around))
 
 -- the open containers once a value is written or begun: of an innermost list it was the first, or a later one
-abbrev pub after_value : List Opened → List Opened
-after_value [] = []
-after_value (in_struct first ∷ around) = in_struct first ∷ around
-after_value (in_list first ∷ around) = in_list false ∷ around
+abbrev pub after_written : List Opened → List Opened
+after_written [] = []
+after_written (in_struct first ∷ around) = in_struct first ∷ around
+after_written (in_list first ∷ around) = in_list false ∷ around
 
 -- what a call appends, and the containers that are open after it, or why it is refused
 pub record Addition : Type 0 where
@@ -72,7 +72,7 @@ pub record Addition : Type 0 where
 
 -- a value that is written whole
 abbrev pub value_added : Options → List Opened → List ℕ → Result Addition Misfit
-value_added o stack bytes = Ok (record { added = before_value o stack ++ bytes; stack = after_value stack })
+value_added o stack bytes = Ok (record { added = before_value o stack ++ bytes; stack = after_written stack })
 
 abbrev pub key_added : Options → List ℕ → List Opened → Result Addition Misfit
 key_added o name [] = Err key_outside_struct
@@ -92,11 +92,11 @@ list_ended o [] = Err no_list_to_end
 list_ended o (in_struct first ∷ around) = Err no_list_to_end
 list_ended o (in_list first ∷ around) = Ok (record { added = line_at_end o (length around) first ++ right_bracket ∷ []; stack = around })
 
-abbrev pub addition : Options → List Opened → Call → Result Addition Misfit
-addition o stack begin_struct = Ok (record { added = before_value o stack ++ left_brace ∷ []; stack = in_struct true ∷ after_value stack })
+abbrev pub addition : Options → List Opened → SerializerCall → Result Addition Misfit
+addition o stack begin_struct = Ok (record { added = before_value o stack ++ left_brace ∷ []; stack = in_struct true ∷ after_written stack })
 addition o stack (field_key name) = key_added o name stack
 addition o stack end_struct = struct_ended o stack
-addition o stack begin_seq = Ok (record { added = before_value o stack ++ left_bracket ∷ []; stack = in_list true ∷ after_value stack })
+addition o stack begin_seq = Ok (record { added = before_value o stack ++ left_bracket ∷ []; stack = in_list true ∷ after_written stack })
 addition o stack end_seq = list_ended o stack
 addition o stack (scalar value) = value_added o stack (scalar_text o value)
 addition o stack (raw_scalar json) = value_added o stack json
@@ -108,19 +108,19 @@ abbrev pub appended : Writing → Addition → Writing
 appended w a = record { options = w.options; stack = a.stack; written = w.written ++ a.added }
 
 -- What a call of a serializer answers and leaves. It is none once a growth was refused.
-pub data Appends : Option Writing → Call → Result (Unit {0}) Refusal → Option Writing → Type 0 where
-  appends : (w : Writing) (call : Call) (a : Addition) → addition w.options w.stack call ≡ Ok a
+pub data Appends : Option Writing → SerializerCall → Result (Unit {0}) WriteRefusal → Option Writing → Type 0 where
+  appends : (w : Writing) (call : SerializerCall) (a : Addition) → addition w.options w.stack call ≡ Ok a
       → Appends (Some w) call (Ok tt) (Some (appended w a))
   -- the call doesn't fit what is open, and nothing changes
-  refuses : (w : Writing) (call : Call) (why : Misfit) → addition w.options w.stack call ≡ Err why
+  refuses : (w : Writing) (call : SerializerCall) (why : Misfit) → addition w.options w.stack call ≡ Err why
       → Appends (Some w) call (Err (misfits why)) (Some w)
   -- a growth was refused: from now on every call is
-  runs_out : (w : Writing) (call : Call) (a : Addition) → addition w.options w.stack call ≡ Ok a
+  runs_out : (w : Writing) (call : SerializerCall) (a : Addition) → addition w.options w.stack call ≡ Ok a
       → Appends (Some w) call (Err out_of_memory) None
-  stays_out : (call : Call) → Appends None call (Err out_of_memory) None
+  stays_out : (call : SerializerCall) → Appends None call (Err out_of_memory) None
 
 -- it takes a call: what the call appends is there
-abbrev pub Takes : Option Writing → Call → Option Writing → Type 0
+abbrev pub Takes : Option Writing → SerializerCall → Option Writing → Type 0
 Takes old call new = Appends old call (Ok tt) new
 
 -- memory ran out

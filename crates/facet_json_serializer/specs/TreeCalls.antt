@@ -5,8 +5,8 @@ use Rattle.facet_format.specs.Event as event
 use Rattle.facet_json_document.specs.Text.{text}
 use Rattle.facet_json_document.specs.Tree.{Tree, null, unit, bool, char, i64, u64, i128, u128, decimal, bytes, raw, list, pairs, Trees, no_trees, tree, Pairs, no_pairs, pair}
 use Rattle.facet_json_document.specs.Tree as trees
-use Rattle.facet_format.specs.SerializerCall.{Call, begin_struct, field_key, end_struct, begin_seq, end_seq, scalar, raw_scalar, TakesAll}
-use Rattle.facet_json_serializer.specs.Serializer.{Writing, Addition, Misfit, addition, appended, before_value, after_value, Takes}
+use Rattle.facet_format.specs.SerializerCall.{SerializerCall, begin_struct, field_key, end_struct, begin_seq, end_seq, scalar, raw_scalar, TakesAll}
+use Rattle.facet_json_serializer.specs.Serializer.{Writing, Addition, Misfit, addition, appended, before_value, after_written, Takes}
 
 -- what follows an addition, if there is one
 abbrev pub and_then : Result Addition Misfit → (Addition → Result Writing Misfit) → Result Writing Misfit
@@ -14,12 +14,12 @@ and_then (Ok a) next = next a
 and_then (Err why) next = Err why
 
 -- what is left after calls, with ample memory, or how the first that is refused doesn't fit
-unfoldable pub after_calls : Writing → List Call → Result Writing Misfit
+unfoldable pub after_calls : Writing → List SerializerCall → Result Writing Misfit
 after_calls w [] = Ok w
 after_calls w (call ∷ others) = and_then (addition w.options w.stack call) (λ a. after_calls (appended w a) others)
 
 unfoldable mutual
-  pub tree_calls : Tree → List Call
+  pub tree_calls : Tree → List SerializerCall
   tree_calls null = scalar event.null ∷ []
   tree_calls unit = scalar event.unit ∷ []
   tree_calls (bool b) = scalar (event.bool b) ∷ []
@@ -35,11 +35,11 @@ unfoldable mutual
   tree_calls (list items) = begin_seq ∷ (item_calls items ++ end_seq ∷ [])
   tree_calls (pairs members) = begin_struct ∷ (member_calls members ++ end_struct ∷ [])
 
-  pub item_calls : Trees → List Call
+  pub item_calls : Trees → List SerializerCall
   item_calls no_trees = []
   item_calls (tree t others) = tree_calls t ++ item_calls others
 
-  pub member_calls : Pairs → List Call
+  pub member_calls : Pairs → List SerializerCall
   member_calls no_pairs = []
   member_calls (pair key value others) = field_key key ∷ (tree_calls value ++ member_calls others)
 
@@ -47,7 +47,7 @@ unfoldable mutual
 abbrev pub with_tree : Writing → Tree → Writing
 with_tree w t = record {
   options = w.options;
-  stack = after_value w.stack;
+  stack = after_written w.stack;
   written = w.written ++ (before_value w.options w.stack ++ text w.options (length w.stack) t);
 }
 
@@ -57,7 +57,7 @@ TreeByCalls = (w : Writing) (t : Tree) → after_calls w (tree_calls t) ≡ Ok (
 
 -- Calls that are taken one after the other leave what they append.
 abbrev pub TakenInOrder : Type 0
-TakenInOrder = (w : Writing) (calls : List Call) (end : Option Writing) → TakesAll Takes (Some w) calls end
+TakenInOrder = (w : Writing) (calls : List SerializerCall) (end : Option Writing) → TakesAll Takes (Some w) calls end
     → (left : Writing) × (after_calls w calls ≡ Ok left) × (end ≡ Some left)
 
 -- Where a tree's calls are taken, its text is appended.

@@ -4,24 +4,24 @@ use Rattle.facet_json_serializer.specs.declared.error.JsonSerializeError.{JsonSe
 use Rattle.facet_json_serializer.specs.declared.error.JsonSerializeError.TheVariants as error
 use Rattle.facet_json_serializer.specs.declared.writing.Writing.{Writing as RustWriting}
 use Rattle.facet_json_serializer.specs.OptionsViews.{options_of}
-use Rattle.facet_json_serializer.specs.Serializer.{Writing, Refusal, misfits, key_outside_struct, no_struct_to_end, no_list_to_end, out_of_memory}
+use Rattle.facet_json_serializer.specs.Serializer.{Writing, WriteRefusal, misfits, key_outside_struct, no_struct_to_end, no_list_to_end, out_of_memory}
 
-abbrev pub refusal_of : JsonSerializeError → Refusal
-refusal_of error.KeyOutsideStruct = misfits key_outside_struct
-refusal_of error.NoStructToEnd = misfits no_struct_to_end
-refusal_of error.NoListToEnd = misfits no_list_to_end
-refusal_of error.OutOfMemory = out_of_memory
+abbrev pub write_refusal_of : JsonSerializeError → WriteRefusal
+write_refusal_of error.KeyOutsideStruct = misfits key_outside_struct
+write_refusal_of error.NoStructToEnd = misfits no_struct_to_end
+write_refusal_of error.NoListToEnd = misfits no_list_to_end
+write_refusal_of error.OutOfMemory = out_of_memory
 
 -- a serializer that has not run out of memory
 abbrev pub writing_of : RustWriting → Writing
 writing_of w = record { options = options_of w.options; stack = w.stack; written = w.out.items }
 
 -- what a call answers
-abbrev pub answer_of : Result (Unit {0}) JsonSerializeError → Result (Unit {0}) Refusal
-answer_of (Ok nothing) = Ok tt
-answer_of (Err e) = Err (refusal_of e)
+abbrev pub call_answer_of : Result (Unit {0}) JsonSerializeError → Result (Unit {0}) WriteRefusal
+call_answer_of (Ok nothing) = Ok tt
+call_answer_of (Err e) = Err (write_refusal_of e)
 
 -- what a call on bytes answers, whether or not it says that they were written
-abbrev pub bytes_answer_of : Result Bool JsonSerializeError → Result (Unit {0}) Refusal
+abbrev pub bytes_answer_of : Result Bool JsonSerializeError → Result (Unit {0}) WriteRefusal
 bytes_answer_of (Ok done) = Ok tt
-bytes_answer_of (Err e) = Err (refusal_of e)
+bytes_answer_of (Err e) = Err (write_refusal_of e)

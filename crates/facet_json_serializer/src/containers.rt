@@ -1,7 +1,7 @@
 //! The open containers of a text that is written, the innermost first.
 
 ghost use Rattle.std.specs.Prelude.{◌≡◌, ◌<◌, ◌^◌, [], ◌∷◌, length, OnOk};
-ghost use Rattle.facet_json_serializer.specs.Inner.Open.{opened_of, struct_mark, list_mark, around, with_first_passed};
+ghost use Rattle.facet_json_serializer.specs.Inner.Open.{opened_of, struct_mark, list_mark, around_innermost, with_first_passed};
 
 use std::alloc::{AllocError, Global};
 use std::marker::Model;
@@ -77,7 +77,7 @@ impl Containers {
     /// How many stand around the innermost one.
     #[inline(always)]
     pub(crate) fn around(&self) -> usize
-        ensures value { result ≡ length (around self.now) }
+        ensures value { result ≡ length (around_innermost self.now) }
         ensures small { result < 2 ^ 63 }
     {
         self.others.len()
@@ -98,7 +98,7 @@ impl Containers {
     /// Closes the innermost one.
     #[inline(always)]
     pub(crate) fn pop(&mut self)
-        ensures { self.new ≡ around self.old }
+        ensures { self.new ≡ around_innermost self.old }
     {
         self.innermost = self.others.pop();
     }

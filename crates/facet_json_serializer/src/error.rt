@@ -3,7 +3,7 @@
 ghost use Rattle.std.specs.Prelude.{◌≡◌};
 ghost use Rattle.facet_json_serializer.specs.Serializer as refusal;
 ghost use Rattle.facet_json_serializer.specs.declared.error.JsonSerializeError.TheVariants.{OutOfMemory};
-ghost use Rattle.facet_json_serializer.specs.Views.{refusal_of};
+ghost use Rattle.facet_json_serializer.specs.Views.{write_refusal_of};
 
 use std::alloc::{AllocError, AllocFailed};
 use thiserror::Error;
@@ -28,7 +28,7 @@ pub enum JsonSerializeError {
 impl JsonSerializeError {
     /// The number of the kind, which does not change from release to release.
     pub fn code(&self) -> u8
-        ensures { result ≡ refusal.code (refusal_of self.now) }
+        ensures { result ≡ refusal.code (write_refusal_of self.now) }
     {
         match self {
             JsonSerializeError::KeyOutsideStruct => 1,

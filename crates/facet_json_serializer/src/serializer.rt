@@ -6,7 +6,7 @@ ghost use Rattle.facet_json_document.specs.Text.{default_options};
 ghost use Rattle.facet_format.specs.SerializerCall.{begin_struct, field_key, end_struct, begin_seq, end_seq, scalar, raw_scalar, byte_sequence, byte_array, IsServed, IsServedOrLeft};
 ghost use Rattle.facet_json_serializer.specs.Serializer.{Writing as SpecWriting, out_of_memory, Appends, Takes, IsSpent};
 ghost use Rattle.facet_json_serializer.specs.OptionsViews.{options_of};
-ghost use Rattle.facet_json_serializer.specs.Views.{answer_of, bytes_answer_of, refusal_of};
+ghost use Rattle.facet_json_serializer.specs.Views.{call_answer_of, bytes_answer_of, write_refusal_of};
 ghost use Rattle.facet_json_serializer.specs.Inner.Writes.{settled};
 
 use crate::error::JsonSerializeError;
@@ -79,7 +79,7 @@ impl<'i> JsonSerializer<'i> {
     pub fn finish(self) -> Result<Vec<u8>, JsonSerializeError>
         ensures { MatchResult result
             (λ v. (w : SpecWriting) × (self.entry ≡ Some w) × (v.items ≡ w.written))
-            (λ e. (self.entry ≡ None) × (refusal_of e ≡ out_of_memory)) }
+            (λ e. (self.entry ≡ None) × (write_refusal_of e ≡ out_of_memory)) }
     {
         if self.failed {
             return Err(JsonSerializeError::OutOfMemory);
@@ -89,7 +89,7 @@ impl<'i> JsonSerializer<'i> {
 
     /// Writes bytes in the format of the options.
     fn bytes(&mut self, bytes: &[u8]) -> Result<(), JsonSerializeError>
-        ensures { Appends self.old (byte_sequence bytes.now) (answer_of result) self.new }
+        ensures { Appends self.old (byte_sequence bytes.now) (call_answer_of result) self.new }
     {
         if self.failed {
             return Err(JsonSerializeError::OutOfMemory);
@@ -102,7 +102,7 @@ impl<'i> JsonSerializer<'i> {
     #[inline(always)]
     fn settle(&mut self, answer: Result<(), JsonSerializeError>) -> Result<(), JsonSerializeError>
         ensures answer { result ≡ answer }
-        ensures now { self.new ≡ settled self.old (answer_of answer) }
+        ensures now { self.new ≡ settled self.old (call_answer_of answer) }
     {
         if let Err(JsonSerializeError::OutOfMemory) = &answer {
             self.failed = true;
@@ -125,7 +125,7 @@ impl<'i> FormatSerializer for JsonSerializer<'i> {
     /// `OutOfMemory`.
     fn begin_struct(&mut self) -> Result<(), JsonSerializeError>
         ensures serves { IsServed Takes IsSpent self.old begin_struct result self.new }
-        ensures appends { Appends self.old begin_struct (answer_of result) self.new }
+        ensures appends { Appends self.old begin_struct (call_answer_of result) self.new }
     {
         if self.failed {
             return Err(JsonSerializeError::OutOfMemory);
@@ -141,7 +141,7 @@ impl<'i> FormatSerializer for JsonSerializer<'i> {
     /// `KeyOutsideStruct`, where the innermost open container is a list, or none is open. `OutOfMemory`.
     fn field_key(&mut self, key: &str) -> Result<(), JsonSerializeError>
         ensures serves { IsServed Takes IsSpent self.old (field_key key.now) result self.new }
-        ensures appends { Appends self.old (field_key key.now) (answer_of result) self.new }
+        ensures appends { Appends self.old (field_key key.now) (call_answer_of result) self.new }
     {
         if self.failed {
             return Err(JsonSerializeError::OutOfMemory);
@@ -157,7 +157,7 @@ impl<'i> FormatSerializer for JsonSerializer<'i> {
     /// `NoStructToEnd`, where the innermost open container is a list, or none is open. `OutOfMemory`.
     fn end_struct(&mut self) -> Result<(), JsonSerializeError>
         ensures serves { IsServed Takes IsSpent self.old end_struct result self.new }
-        ensures appends { Appends self.old end_struct (answer_of result) self.new }
+        ensures appends { Appends self.old end_struct (call_answer_of result) self.new }
     {
         if self.failed {
             return Err(JsonSerializeError::OutOfMemory);
@@ -173,7 +173,7 @@ impl<'i> FormatSerializer for JsonSerializer<'i> {
     /// `OutOfMemory`.
     fn begin_seq(&mut self) -> Result<(), JsonSerializeError>
         ensures serves { IsServed Takes IsSpent self.old begin_seq result self.new }
-        ensures appends { Appends self.old begin_seq (answer_of result) self.new }
+        ensures appends { Appends self.old begin_seq (call_answer_of result) self.new }
     {
         if self.failed {
             return Err(JsonSerializeError::OutOfMemory);
@@ -189,7 +189,7 @@ impl<'i> FormatSerializer for JsonSerializer<'i> {
     /// `NoListToEnd`, where the innermost open container is a struct, or none is open. `OutOfMemory`.
     fn end_seq(&mut self) -> Result<(), JsonSerializeError>
         ensures serves { IsServed Takes IsSpent self.old end_seq result self.new }
-        ensures appends { Appends self.old end_seq (answer_of result) self.new }
+        ensures appends { Appends self.old end_seq (call_answer_of result) self.new }
     {
         if self.failed {
             return Err(JsonSerializeError::OutOfMemory);
@@ -206,7 +206,7 @@ impl<'i> FormatSerializer for JsonSerializer<'i> {
     #[inline(always)]
     fn scalar(&mut self, value: ScalarValue<'_>) -> Result<(), JsonSerializeError>
         ensures serves { IsServed Takes IsSpent self.old (scalar (scalar_value_of value.entry)) result self.new }
-        ensures appends { Appends self.old (scalar (scalar_value_of value.entry)) (answer_of result) self.new }
+        ensures appends { Appends self.old (scalar (scalar_value_of value.entry)) (call_answer_of result) self.new }
     {
         if self.failed {
             return Err(JsonSerializeError::OutOfMemory);
@@ -223,7 +223,7 @@ impl<'i> FormatSerializer for JsonSerializer<'i> {
     #[inline(always)]
     fn raw_scalar(&mut self, json: &str) -> Result<(), JsonSerializeError>
         ensures serves { IsServed Takes IsSpent self.old (raw_scalar json.now) result self.new }
-        ensures appends { Appends self.old (raw_scalar json.now) (answer_of result) self.new }
+        ensures appends { Appends self.old (raw_scalar json.now) (call_answer_of result) self.new }
     {
         if self.failed {
             return Err(JsonSerializeError::OutOfMemory);

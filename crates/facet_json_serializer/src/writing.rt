@@ -7,7 +7,7 @@ ghost use Rattle.facet_format.specs.HeldText.{text_of};
 ghost use Rattle.facet_format.specs.Views.{scalar_value_of};
 ghost use Rattle.facet_format.specs.SerializerCall as calls;
 ghost use Rattle.facet_json_serializer.specs.OptionsViews.{options_of};
-ghost use Rattle.facet_json_serializer.specs.Views.{writing_of, answer_of};
+ghost use Rattle.facet_json_serializer.specs.Views.{writing_of, call_answer_of};
 ghost use Rattle.facet_json_serializer.specs.Inner.Writes.{Writes, value_begun, with_text};
 
 use crate::append::push_bytes;
@@ -97,7 +97,7 @@ impl<'i> Writing<'i> {
 
     /// Begins a struct.
     pub(crate) fn begin_struct(&mut self) -> Result<(), JsonSerializeError>
-        ensures { Writes (writing_of self.old) calls.begin_struct (answer_of result) (writing_of self.new) }
+        ensures { Writes (writing_of self.old) calls.begin_struct (call_answer_of result) (writing_of self.new) }
     {
         self.begin_value()?;
         self.stack.push(Container::Struct { first: true })?;
@@ -107,7 +107,7 @@ impl<'i> Writing<'i> {
 
     /// Begins a list.
     pub(crate) fn begin_seq(&mut self) -> Result<(), JsonSerializeError>
-        ensures { Writes (writing_of self.old) calls.begin_seq (answer_of result) (writing_of self.new) }
+        ensures { Writes (writing_of self.old) calls.begin_seq (call_answer_of result) (writing_of self.new) }
     {
         self.begin_value()?;
         self.stack.push(Container::List { first: true })?;
@@ -117,7 +117,7 @@ impl<'i> Writing<'i> {
 
     /// Writes a key of the innermost struct.
     pub(crate) fn field_key(&mut self, key: &str) -> Result<(), JsonSerializeError>
-        ensures { Writes (writing_of self.old) (calls.field_key key.now) (answer_of result) (writing_of self.new) }
+        ensures { Writes (writing_of self.old) (calls.field_key key.now) (call_answer_of result) (writing_of self.new) }
     {
         let Some(first) = self.stack.struct_mark() else {
             return Err(JsonSerializeError::KeyOutsideStruct);
@@ -130,7 +130,7 @@ impl<'i> Writing<'i> {
 
     /// Ends the innermost struct.
     pub(crate) fn end_struct(&mut self) -> Result<(), JsonSerializeError>
-        ensures { Writes (writing_of self.old) calls.end_struct (answer_of result) (writing_of self.new) }
+        ensures { Writes (writing_of self.old) calls.end_struct (call_answer_of result) (writing_of self.new) }
     {
         let Some(first) = self.stack.struct_mark() else {
             return Err(JsonSerializeError::NoStructToEnd);
@@ -144,7 +144,7 @@ impl<'i> Writing<'i> {
 
     /// Ends the innermost list.
     pub(crate) fn end_seq(&mut self) -> Result<(), JsonSerializeError>
-        ensures { Writes (writing_of self.old) calls.end_seq (answer_of result) (writing_of self.new) }
+        ensures { Writes (writing_of self.old) calls.end_seq (call_answer_of result) (writing_of self.new) }
     {
         let Some(first) = self.stack.list_mark() else {
             return Err(JsonSerializeError::NoListToEnd);
@@ -159,7 +159,7 @@ impl<'i> Writing<'i> {
     /// Writes a value that holds no others.
     #[inline(always)]
     pub(crate) fn scalar(&mut self, value: &ScalarValue<'_>) -> Result<(), JsonSerializeError>
-        ensures { Writes (writing_of self.old) (calls.scalar (scalar_value_of value.now)) (answer_of result) (writing_of self.new) }
+        ensures { Writes (writing_of self.old) (calls.scalar (scalar_value_of value.now)) (call_answer_of result) (writing_of self.new) }
     {
         match value {
             ScalarValue::U64(n) => self.unsigned(*n),
@@ -172,7 +172,7 @@ impl<'i> Writing<'i> {
     /// Writes a text between quotes.
     #[inline(always)]
     fn text(&mut self, text: &CowStr<'_>) -> Result<(), JsonSerializeError>
-        ensures { Writes (writing_of self.old) (calls.scalar (event.text (text_of text.now))) (answer_of result) (writing_of self.new) }
+        ensures { Writes (writing_of self.old) (calls.scalar (event.text (text_of text.now))) (call_answer_of result) (writing_of self.new) }
     {
         let after_comma = self.begin_before_comma()?;
         push_framed(&mut self.out, after_comma, text.as_str(), false)?;
@@ -182,7 +182,7 @@ impl<'i> Writing<'i> {
     /// Writes a whole number without a sign.
     #[inline(always)]
     fn unsigned(&mut self, n: u64) -> Result<(), JsonSerializeError>
-        ensures { Writes (writing_of self.old) (calls.scalar (event.u64 n)) (answer_of result) (writing_of self.new) }
+        ensures { Writes (writing_of self.old) (calls.scalar (event.u64 n)) (call_answer_of result) (writing_of self.new) }
     {
         if self.follows_a_comma() {
             push_comma_unsigned(&mut self.out, n)?;
@@ -194,7 +194,7 @@ impl<'i> Writing<'i> {
     /// The same, out of line: where no comma alone stands before it.
     #[inline(never)]
     fn unsigned_apart(&mut self, n: u64) -> Result<(), JsonSerializeError>
-        ensures { Writes (writing_of self.old) (calls.scalar (event.u64 n)) (answer_of result) (writing_of self.new) }
+        ensures { Writes (writing_of self.old) (calls.scalar (event.u64 n)) (call_answer_of result) (writing_of self.new) }
     {
         self.begin_value()?;
         push_unsigned(&mut self.out, n)?;
@@ -204,7 +204,7 @@ impl<'i> Writing<'i> {
     /// Writes a whole number that may have a sign.
     #[inline(always)]
     fn signed(&mut self, n: i64) -> Result<(), JsonSerializeError>
-        ensures { Writes (writing_of self.old) (calls.scalar (event.i64 n)) (answer_of result) (writing_of self.new) }
+        ensures { Writes (writing_of self.old) (calls.scalar (event.i64 n)) (call_answer_of result) (writing_of self.new) }
     {
         if self.follows_a_comma() {
             push_comma_signed(&mut self.out, n)?;
@@ -216,7 +216,7 @@ impl<'i> Writing<'i> {
     /// The same, out of line: where no comma alone stands before it.
     #[inline(never)]
     fn signed_apart(&mut self, n: i64) -> Result<(), JsonSerializeError>
-        ensures { Writes (writing_of self.old) (calls.scalar (event.i64 n)) (answer_of result) (writing_of self.new) }
+        ensures { Writes (writing_of self.old) (calls.scalar (event.i64 n)) (call_answer_of result) (writing_of self.new) }
     {
         self.begin_value()?;
         push_signed(&mut self.out, n)?;
@@ -226,7 +226,7 @@ impl<'i> Writing<'i> {
     /// Writes a value of any kind that holds no others.
     #[inline(never)]
     fn scalar_apart(&mut self, value: &ScalarValue<'_>) -> Result<(), JsonSerializeError>
-        ensures { Writes (writing_of self.old) (calls.scalar (scalar_value_of value.now)) (answer_of result) (writing_of self.new) }
+        ensures { Writes (writing_of self.old) (calls.scalar (scalar_value_of value.now)) (call_answer_of result) (writing_of self.new) }
     {
         self.begin_value()?;
         push_scalar(&mut self.out, &self.options, value)?;
@@ -236,7 +236,7 @@ impl<'i> Writing<'i> {
     /// Writes a value whose JSON text is given.
     #[inline(always)]
     pub(crate) fn raw_scalar(&mut self, json: &str) -> Result<(), JsonSerializeError>
-        ensures { Writes (writing_of self.old) (calls.raw_scalar json.now) (answer_of result) (writing_of self.new) }
+        ensures { Writes (writing_of self.old) (calls.raw_scalar json.now) (call_answer_of result) (writing_of self.new) }
     {
         self.begin_value()?;
         push_bytes(&mut self.out, json.as_bytes())?;
@@ -245,7 +245,7 @@ impl<'i> Writing<'i> {
 
     /// Writes bytes by their format.
     pub(crate) fn bytes(&mut self, bytes: &[u8]) -> Result<(), JsonSerializeError>
-        ensures { Writes (writing_of self.old) (calls.byte_sequence bytes.now) (answer_of result) (writing_of self.new) }
+        ensures { Writes (writing_of self.old) (calls.byte_sequence bytes.now) (call_answer_of result) (writing_of self.new) }
     {
         self.begin_value()?;
         push_bytes_text(&mut self.out, self.options.bytes_format, bytes)?;

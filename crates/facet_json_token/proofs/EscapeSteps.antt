@@ -9,7 +9,7 @@ use Rattle.facet_format.specs.Complaint.{Complaint, refusal_at}
 use Rattle.facet_format.specs.Span.{span_at}
 use Rattle.facet_format.specs.Views.{span_of}
 use Rattle.facet_json_token.specs.Decode.{short_escape, code_unit, is_high_surrogate, is_low_surrogate, low_at, unit_of, unit_at, short_of, escape_at, piece_at}
-use Rattle.facet_json_token.specs.Fault.{fault_at, ends_in_escape, ends_in_digits, no_character}
+use Rattle.facet_json_token.specs.Fault.{decode_fault_at, ends_in_escape, ends_in_digits, no_character}
 use Rattle.facet_json_token.specs.Inner.FirstFault.{fault_of, digits_fault, unit_fault}
 use Rattle.facet_json_token.proofs.DecodeLaws.{escape_at-short_of, escape_at-unit_of}
 
@@ -89,7 +89,7 @@ pub told-over : (what : Complaint) (s : RustSpan) (offset len : ℕ) → s.offse
 told-over what s offset len place size = rw (place, size) refl
 
 -- The fault of a backslash that is the last byte.
-pub fault_of-lone : (l : List ℕ) → slice_get l 0 ≡ Some backslash → length l ≤ 1 → fault_of l ≡ fault_at ends_in_escape 0 1
+pub fault_of-lone : (l : List ℕ) → slice_get l 0 ≡ Some backslash → length l ≤ 1 → fault_of l ≡ decode_fault_at ends_in_escape 0 1
 unfolding fault_of
 fault_of-lone [] h e = cc
 fault_of-lone (s ∷ []) h e = let is : s ≡ backslash = cc in rw is refl
@@ -97,18 +97,18 @@ fault_of-lone (s ∷ t ∷ l) h e = absurd (omega arith)
 
 -- The fault of a backslash and a byte other than `u`.
 pub fault_of-short : (l : List ℕ) (b : ℕ) → slice_get l 0 ≡ Some backslash → slice_get l 1 ≡ Some b → b ≢ lower_u →
-    fault_of l ≡ fault_at no_character 1 1
+    fault_of l ≡ decode_fault_at no_character 1 1
 unfolding fault_of
 fault_of-short [] b h e ne = cc
 fault_of-short (s ∷ []) b h e ne = cc
 fault_of-short (s ∷ t ∷ l) b h e ne =
     let is : s ≡ backslash = cc in
     let same : t ≡ b = cc in
-    rw (is, same) (ap (λ x. cond x (unit_fault l) (fault_at no_character 1 1)) (ne_eqb b lower_u ne))
+    rw (is, same) (ap (λ x. cond x (unit_fault l) (decode_fault_at no_character 1 1)) (ne_eqb b lower_u ne))
 
 -- The fault of a backslash and `u` with fewer than four bytes after them.
 pub fault_of-cut : (l : List ℕ) → slice_get l 0 ≡ Some backslash → slice_get l 1 ≡ Some lower_u → length l < 6 →
-    fault_of l ≡ fault_at ends_in_digits 0 (length l)
+    fault_of l ≡ decode_fault_at ends_in_digits 0 (length l)
 unfolding fault_of
 fault_of-cut [] h e short = cc
 fault_of-cut (s ∷ []) h e short = cc

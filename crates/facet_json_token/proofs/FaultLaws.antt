@@ -1,4 +1,4 @@
--- The fault that `first_fault` computes is the one that `FirstFault` gives (specs/Fault.antt), and a content has a text or a fault.
+-- The fault that `first_fault` computes is the one that `FirstFault` gives (specs/DecodeFault.antt), and a content has a text or a fault.
 use Rattle.std.proofs.Common.{◌≡◌, ℕ, zero, suc, ◌+◌, ◌-◌, ◌<◌, ◌≤◌, ◌⊎◌, inl, inr, Bool, true, false, cond, ◌&&◌, List, [], ◌∷◌, ◌++◌, length, take, drop, Option, Some, None, refl, sym, ap, ◌∙◌, arith, length-append, length-drop, length-take}
 use Rattle.std.specs.Prelude.{◌==◌, nat_lt, slice_range}
 use Rattle.std.specs.Char.{encode_utf8}
@@ -8,7 +8,7 @@ use Rattle.std.proofs.lemmas.Bool.Decides.{nat_tests}
 use Rattle.std.proofs.lemmas.List.{take-append-drop}
 use Rattle.facet_format.specs.Bytes.{backslash, lower_u}
 use Rattle.facet_json_token.specs.Decode.{short_escape, code_unit, is_high_surrogate, is_low_surrogate, surrogate_pair, Piece, Decodes, empty, piece, utf8_at, pair_of, low_at, unit_of, unit_at, short_of, escape_at, piece_at, decoded}
-use Rattle.facet_json_token.specs.Fault.{Fault, fault_at, fault_after, no_character, not_digits, ends_in_digits, ends_in_escape, goes_on_unit, FaultHere, lone_backslash, few_digits, other_digits, high_alone, second_digits, second_other, low_first, escaped_other, not_utf8, FirstFault, here, after}
+use Rattle.facet_json_token.specs.Fault.{DecodeFault, decode_fault_at, fault_after, no_character, not_digits, ends_in_digits, ends_in_escape, goes_on_unit, FaultHere, lone_backslash, few_digits, other_digits, high_alone, second_digits, second_other, low_first, escaped_other, not_utf8, FirstFault, here, after}
 use Rattle.facet_json_token.specs.Inner.FirstFault.{second_fault, pair_fault, digits_fault, unit_fault, escape_fault, fault_of, fault_past, first_fault}
 use Rattle.facet_json_token.specs.DecodeLaws.{TextOrFault}
 use Rattle.facet_json_token.specs.Inner.FirstFault.{FirstFaultIsFound}
@@ -35,7 +35,7 @@ pair-faulty a b c d high (s ∷ t ∷ e ∷ f ∷ g ∷ h ∷ bytes) is is_high 
 
     by : (x : Bool) → ((s == backslash) && (t == lower_u)) ≡ x → cond x (pair_of high (code_unit e f g h)) None ≡ None →
         FaultHere (backslash ∷ lower_u ∷ a ∷ b ∷ c ∷ d ∷ s ∷ t ∷ e ∷ f ∷ g ∷ h ∷ bytes)
-        (cond ((s == backslash) && (t == lower_u)) (second_fault (code_unit e f g h)) (fault_at no_character 0 6))
+        (cond ((s == backslash) && (t == lower_u)) (second_fault (code_unit e f g h)) (decode_fault_at no_character 0 6))
     by true tests k =
         let both = and_parts (s == backslash) (t == lower_u) tests in
         rw (eqb-true s backslash both.0, eqb-true t lower_u both.1) (low (code_unit e f g h) refl k)
@@ -55,7 +55,7 @@ digits-faulty a b c d bytes (Some u) is lost = by (is_high_surrogate u) (is_low_
   where
     by : (x y : Bool) → is_high_surrogate u ≡ x → is_low_surrogate u ≡ y →
         cond x (low_at u bytes) (cond y None (Some (u, 6))) ≡ None →
-        FaultHere (backslash ∷ lower_u ∷ a ∷ b ∷ c ∷ d ∷ bytes) (cond x (pair_fault bytes) (fault_at no_character 2 4))
+        FaultHere (backslash ∷ lower_u ∷ a ∷ b ∷ c ∷ d ∷ bytes) (cond x (pair_fault bytes) (decode_fault_at no_character 2 4))
     by true y p q k = pair-faulty a b c d u bytes is p k
     by false true p q k = low_first a b c d u bytes is q
     by false false p q k = cc
@@ -71,12 +71,12 @@ unit-faulty (a ∷ b ∷ c ∷ []) lost = few_digits (a ∷ b ∷ c ∷ []) (ome
 
 -- a backslash and any other byte
 short-faulty : (b : ℕ) (bytes : List ℕ) (o : Option ℕ) → short_of b o ≡ None →
-    FaultHere (backslash ∷ b ∷ bytes) (fault_at no_character 1 1)
+    FaultHere (backslash ∷ b ∷ bytes) (decode_fault_at no_character 1 1)
 short-faulty b bytes (Some c) lost = cc
 short-faulty b bytes None lost = by (nat_lt b 0x80) refl lost
   where
     by : (x : Bool) → nat_lt b 0x80 ≡ x → cond x (found b 2) None ≡ None →
-        FaultHere (backslash ∷ b ∷ bytes) (fault_at no_character 1 1)
+        FaultHere (backslash ∷ b ∷ bytes) (decode_fault_at no_character 1 1)
     by true test k = cc
     by false test k = escaped_other b bytes test
 
@@ -87,7 +87,7 @@ escape-faulty [] lost = lone_backslash
 escape-faulty (b ∷ bytes) lost = by (b == lower_u) refl lost
   where
     by : (x : Bool) → (b == lower_u) ≡ x → cond x (unit_at bytes) (short_of b (short_escape b)) ≡ None →
-        FaultHere (backslash ∷ b ∷ bytes) (cond x (unit_fault bytes) (fault_at no_character 1 1))
+        FaultHere (backslash ∷ b ∷ bytes) (cond x (unit_fault bytes) (decode_fault_at no_character 1 1))
     by true is k = rw (eqb-true b lower_u is) (unit-faulty bytes k)
     by false is k = short-faulty b bytes (short_escape b) k
 
@@ -104,19 +104,19 @@ faulty [] some lost = absurd (omega arith)
 faulty (b ∷ bytes) some lost = by (b == backslash) refl lost
   where
     by : (x : Bool) → (b == backslash) ≡ x → cond x (escape_at bytes) (utf8_at (b ∷ bytes)) ≡ None →
-        FaultHere (b ∷ bytes) (cond x (escape_fault bytes) (fault_at no_character 0 1))
+        FaultHere (b ∷ bytes) (cond x (escape_fault bytes) (decode_fault_at no_character 0 1))
     by true is k = rw (eqb-true b backslash is) (escape-faulty bytes k)
     by false is k = not_utf8 b bytes is (utf8_at-none (b ∷ bytes) k)
 
 -- ---- where a fault stands, no piece is found
 
 -- No piece is found at the start of the bytes, and this is their fault.
-pub record Lost (l : List ℕ) (f : Fault) : Type 0 where
+pub record Lost (l : List ℕ) (f : DecodeFault) : Type 0 where
   pub none : piece_at l ≡ None
   pub computed : fault_of l ≡ f
 
 lost-few : (digits : List ℕ) → length digits < 4 →
-    Lost (backslash ∷ lower_u ∷ digits) (fault_at ends_in_digits 0 (2 + length digits))
+    Lost (backslash ∷ lower_u ∷ digits) (decode_fault_at ends_in_digits 0 (2 + length digits))
 unfolding piece_at escape_at unit_at fault_of
 lost-few [] few = record { none = refl; computed = refl }
 lost-few (a ∷ []) few = record { none = refl; computed = refl }
@@ -125,26 +125,26 @@ lost-few (a ∷ b ∷ c ∷ []) few = record { none = refl; computed = refl }
 lost-few (a ∷ b ∷ c ∷ d ∷ bytes) few = absurd (omega arith)
 
 -- an escape with four bytes
-lost-digits : (a b c d : ℕ) (bytes : List ℕ) (o : Option ℕ) (f : Fault) → code_unit a b c d ≡ o → unit_of bytes o ≡ None →
+lost-digits : (a b c d : ℕ) (bytes : List ℕ) (o : Option ℕ) (f : DecodeFault) → code_unit a b c d ≡ o → unit_of bytes o ≡ None →
     digits_fault bytes o ≡ f → Lost (backslash ∷ lower_u ∷ a ∷ b ∷ c ∷ d ∷ bytes) f
 unfolding fault_of
 lost-digits a b c d bytes o f is lost fault =
     record { none = escape_at-unit_of a b c d bytes o is ∙ lost; computed = ap (digits_fault bytes) is ∙ fault }
 
 -- the same, where the digits are a high surrogate
-lost-high : (a b c d high : ℕ) (bytes : List ℕ) (f : Fault) → code_unit a b c d ≡ Some high → is_high_surrogate high ≡ true →
+lost-high : (a b c d high : ℕ) (bytes : List ℕ) (f : DecodeFault) → code_unit a b c d ≡ Some high → is_high_surrogate high ≡ true →
     low_at high bytes ≡ None → pair_fault bytes ≡ f → Lost (backslash ∷ lower_u ∷ a ∷ b ∷ c ∷ d ∷ bytes) f
 lost-high a b c d high bytes f is is_high lost fault =
     lost-digits a b c d bytes (Some high) f is
     (ap (λ t. cond t (low_at high bytes) (cond (is_low_surrogate high) None (Some (high, 6)))) is_high ∙ lost)
-    (ap (λ t. cond t (pair_fault bytes) (fault_at no_character 2 4)) is_high ∙ fault)
+    (ap (λ t. cond t (pair_fault bytes) (decode_fault_at no_character 2 4)) is_high ∙ fault)
 
 -- what is found after a high surrogate's escape where no second escape stands
 low_at-alone : (high : ℕ) (bytes : List ℕ) → goes_on_unit bytes ≡ false →
-    (low_at high bytes ≡ None) × (pair_fault bytes ≡ fault_at no_character 0 6)
+    (low_at high bytes ≡ None) × (pair_fault bytes ≡ decode_fault_at no_character 0 6)
 low_at-alone high (s ∷ t ∷ e ∷ f ∷ g ∷ h ∷ bytes) alone = (
   ap (λ x. cond x (pair_of high (code_unit e f g h)) None) alone,
-  ap (λ x. cond x (second_fault (code_unit e f g h)) (fault_at no_character 0 6)) alone,
+  ap (λ x. cond x (second_fault (code_unit e f g h)) (decode_fault_at no_character 0 6)) alone,
 )
 low_at-alone high [] alone = (refl, refl)
 low_at-alone high (s ∷ []) alone = (refl, refl)
@@ -167,53 +167,53 @@ no_char-lost l (Some p) is no_char =
     absurd (no_char p.0 (drop p.1 l) leads.is_scalar whole)
 
 lost-byte : (b : ℕ) (bytes : List ℕ) → (b == backslash) ≡ false → StartsWithNoChar (b ∷ bytes) →
-    Lost (b ∷ bytes) (fault_at no_character 0 1)
+    Lost (b ∷ bytes) (decode_fault_at no_character 0 1)
 unfolding piece_at fault_of
 lost-byte b bytes ne no_char = record {
   none = ap (λ t. cond t (escape_at bytes) (utf8_at (b ∷ bytes))) ne
       ∙ no_char-lost (b ∷ bytes) (utf8_at (b ∷ bytes)) refl no_char;
-  computed = ap (λ t. cond t (escape_fault bytes) (fault_at no_character 0 1)) ne;
+  computed = ap (λ t. cond t (escape_fault bytes) (decode_fault_at no_character 0 1)) ne;
 }
 
-lost-escaped : (b : ℕ) (bytes : List ℕ) → nat_lt b 0x80 ≡ false → Lost (backslash ∷ b ∷ bytes) (fault_at no_character 1 1)
+lost-escaped : (b : ℕ) (bytes : List ℕ) → nat_lt b 0x80 ≡ false → Lost (backslash ∷ b ∷ bytes) (decode_fault_at no_character 1 1)
 unfolding fault_of
 lost-escaped b bytes high =
     let large : 0x80 ≤ b = ltb-false b 0x80 high in
     let other : (b == lower_u) ≡ false = grind (arith, nat_tests) in
     record {
       none = escape_at-short_of b bytes (short_escape b) refl other ∙ short_of-none b large;
-      computed = ap (λ t. cond t (unit_fault bytes) (fault_at no_character 1 1)) other;
+      computed = ap (λ t. cond t (unit_fault bytes) (decode_fault_at no_character 1 1)) other;
     }
 
-lost-lone : Lost (backslash ∷ []) (fault_at ends_in_escape 0 1)
+lost-lone : Lost (backslash ∷ []) (decode_fault_at ends_in_escape 0 1)
 unfolding piece_at escape_at fault_of
 lost-lone = record { none = refl; computed = refl }
 
 -- Where a fault stands no piece is found, and the fault is the computed one.
-pub lost : (l : List ℕ) (f : Fault) → FaultHere l f → Lost l f
+pub lost : (l : List ℕ) (f : DecodeFault) → FaultHere l f → Lost l f
 lost _ _ lone_backslash = lost-lone
 lost _ _ (few_digits digits few) = lost-few digits few
-lost _ _ (other_digits a b c d bytes is) = lost-digits a b c d bytes None (fault_at not_digits 2 4) is refl refl
+lost _ _ (other_digits a b c d bytes is) = lost-digits a b c d bytes None (decode_fault_at not_digits 2 4) is refl refl
 lost _ _ (high_alone a b c d high bytes is is_high alone) =
     let both = low_at-alone high bytes alone in
-    lost-high a b c d high bytes (fault_at no_character 0 6) is is_high both.0 both.1
+    lost-high a b c d high bytes (decode_fault_at no_character 0 6) is is_high both.0 both.1
 lost _ _ (second_digits a b c d high e f g h bytes is is_high same) =
-    lost-high a b c d high (backslash ∷ lower_u ∷ e ∷ f ∷ g ∷ h ∷ bytes) (fault_at not_digits 8 4) is is_high
+    lost-high a b c d high (backslash ∷ lower_u ∷ e ∷ f ∷ g ∷ h ∷ bytes) (decode_fault_at not_digits 8 4) is is_high
     (ap (pair_of high) same) (ap second_fault same)
 lost _ _ (second_other a b c d high e f g h u bytes is is_high same low) =
-    lost-high a b c d high (backslash ∷ lower_u ∷ e ∷ f ∷ g ∷ h ∷ bytes) (fault_at no_character 8 4) is is_high
+    lost-high a b c d high (backslash ∷ lower_u ∷ e ∷ f ∷ g ∷ h ∷ bytes) (decode_fault_at no_character 8 4) is is_high
     (ap (pair_of high) same ∙ ap (λ t. cond t (Some (surrogate_pair high u, 12)) None) low) (ap second_fault same)
 lost _ _ (low_first a b c d low bytes is is_low) =
     let high = low-other low is_low in
-    lost-digits a b c d bytes (Some low) (fault_at no_character 2 4) is
+    lost-digits a b c d bytes (Some low) (decode_fault_at no_character 2 4) is
     (ap (λ t. cond t (low_at low bytes) (cond (is_low_surrogate low) None (Some (low, 6)))) high
     ∙ ap (λ t. cond t None (Some (low, 6))) is_low)
-    (ap (λ t. cond t (pair_fault bytes) (fault_at no_character 2 4)) high)
+    (ap (λ t. cond t (pair_fault bytes) (decode_fault_at no_character 2 4)) high)
 lost _ _ (escaped_other b bytes high) = lost-escaped b bytes high
 lost _ _ (not_utf8 b bytes ne no_char) = lost-byte b bytes ne no_char
 
 -- No fault stands where nothing does.
-fault-some : (l : List ℕ) (f : Fault) → FaultHere l f → 0 < length l
+fault-some : (l : List ℕ) (f : DecodeFault) → FaultHere l f → 0 < length l
 fault-some _ _ lone_backslash = omega arith
 fault-some _ _ (few_digits digits few) = omega arith
 fault-some _ _ (other_digits a b c d bytes is) = omega arith
@@ -227,7 +227,7 @@ fault-some _ _ (not_utf8 b bytes ne no_char) = omega arith
 -- ---- the first fault
 
 -- the first fault of some bytes whose first is followed by these, where the piece at the start is known
-abbrev fault_by : ℕ → ℕ → List ℕ → Option (ℕ × ℕ) → Option Fault
+abbrev fault_by : ℕ → ℕ → List ℕ → Option (ℕ × ℕ) → Option DecodeFault
 fault_by passed b bytes o =
     elim o [ None ↦ Some (fault_after passed (fault_of (b ∷ bytes))) | Some p ↦ fault_past (suc passed) (p.1 - 1) bytes ]
 
@@ -254,7 +254,7 @@ fault_past-piece (b ∷ first) others c passed is =
     ∙ ap (λ n. fault_past n 0 others) same
 
 -- The fault at the start is the first one.
-fault_past-here : (l : List ℕ) (f : Fault) (passed : ℕ) → FaultHere l f → fault_past passed 0 l ≡ Some (fault_after passed f)
+fault_past-here : (l : List ℕ) (f : DecodeFault) (passed : ℕ) → FaultHere l f → fault_past passed 0 l ≡ Some (fault_after passed f)
 unfolding fault_past
 fault_past-here [] f passed is = absurd (omega (arith, fault-some [] f is))
 fault_past-here (b ∷ bytes) f passed is =
@@ -262,18 +262,18 @@ fault_past-here (b ∷ bytes) f passed is =
     ap (fault_by passed b bytes) own.none ∙ ap (λ g. Some (fault_after passed g)) own.computed
 
 -- so many bytes, and then so many
-pub fault_after-after : (m n : ℕ) (f : Fault) → fault_after (m + n) f ≡ fault_after m (fault_after n f)
+pub fault_after-after : (m n : ℕ) (f : DecodeFault) → fault_after (m + n) f ≡ fault_after m (fault_after n f)
 fault_after-after m n f =
     let same : (m + n) + f.bytes.offset ≡ m + (n + f.bytes.offset) = omega arith in
-    ap (λ k. fault_at f.kind k f.bytes.len) same
+    ap (λ k. decode_fault_at f.kind k f.bytes.len) same
 
-pub fault_after-none : (f : Fault) → fault_after 0 f ≡ f
+pub fault_after-none : (f : DecodeFault) → fault_after 0 f ≡ f
 fault_after-none f =
     let same : 0 + f.bytes.offset ≡ f.bytes.offset = omega arith in
-    ap (λ k. fault_at f.kind k f.bytes.len) same
+    ap (λ k. decode_fault_at f.kind k f.bytes.len) same
 
 -- A first fault is computed.
-fault_past-first : (content : List ℕ) (f : Fault) (passed : ℕ) → FirstFault content f →
+fault_past-first : (content : List ℕ) (f : DecodeFault) (passed : ℕ) → FirstFault content f →
     fault_past passed 0 content ≡ Some (fault_after passed f)
 fault_past-first _ _ passed (here content f is) = fault_past-here content f passed is
 fault_past-first _ _ passed (after first others content c later f is behind e g) =
@@ -281,7 +281,7 @@ fault_past-first _ _ passed (after first others content c later f is behind e g)
     ∙ fault_past-first others later (passed + length first) behind
     ∙ ap Some (fault_after-after passed (length first) later ∙ ap (fault_after passed) (sym g))
 
-pub first_fault-found : (content : List ℕ) (f : Fault) → FirstFault content f → first_fault content ≡ Some f
+pub first_fault-found : (content : List ℕ) (f : DecodeFault) → FirstFault content f → first_fault content ≡ Some f
 first_fault-found content f is = fault_past-first content f 0 is ∙ ap Some (fault_after-none f)
 
 -- A content with a text has none.
@@ -293,14 +293,14 @@ fault_past-text _ _ passed (piece first others content c rest text is behind e f
     ∙ fault_past-text others rest (passed + length first) behind
 
 -- No content has both.
-pub not_both : (content text : List ℕ) (f : Fault) → Decodes content text → FirstFault content f → ⊥
+pub not_both : (content text : List ℕ) (f : DecodeFault) → Decodes content text → FirstFault content f → ⊥
 not_both content text f decodes is =
     let found = first_fault-found content f is in
     let none : first_fault content ≡ None = fault_past-text content text 0 decodes in
     cc
 
 -- One first fault at most.
-pub one_fault : (content : List ℕ) (f g : Fault) → FirstFault content f → FirstFault content g → f ≡ g
+pub one_fault : (content : List ℕ) (f g : DecodeFault) → FirstFault content f → FirstFault content g → f ≡ g
 one_fault content f g is other =
     let first = first_fault-found content f is in
     let second = first_fault-found content g other in
@@ -309,7 +309,7 @@ one_fault content f g is other =
 -- ---- one of them is there
 
 abbrev TextOr : List ℕ → Type 0
-TextOr content = ((text : List ℕ) × Decodes content text) ⊎ ((f : Fault) × FirstFault content f)
+TextOr content = ((text : List ℕ) × Decodes content text) ⊎ ((f : DecodeFault) × FirstFault content f)
 
 -- A piece before them.
 text_or-piece : (first others content : List ℕ) (c : ℕ) → Piece first c → content ≡ first ++ others → TextOr others →
@@ -338,7 +338,7 @@ text_or-past (b ∷ bytes) (suc inside) h = text_or-past bytes inside (omega ari
 text_or-past (b ∷ bytes) zero h = text_or-by b bytes (piece_at (b ∷ bytes)) refl (text_or-past bytes)
 
 -- What is computed is the first fault.
-first_fault-is : (content : List ℕ) (f : Fault) → first_fault content ≡ Some f → TextOr content → FirstFault content f
+first_fault-is : (content : List ℕ) (f : DecodeFault) → first_fault content ≡ Some f → TextOr content → FirstFault content f
 first_fault-is content f found (inl t) = let none : first_fault content ≡ None = fault_past-text content t.0 0 t.1 in absurd (cc)
 first_fault-is content f found (inr g) =
     let own = first_fault-found content g.0 g.1 in
@@ -352,7 +352,7 @@ first_fault_is_found content f =
 -- ---- what a first fault says of its content
 
 -- Its content has no text.
-pub fault-no_text : (content : List ℕ) (f : Fault) → FirstFault content f → decoded content ≡ None
+pub fault-no_text : (content : List ℕ) (f : DecodeFault) → FirstFault content f → decoded content ≡ None
 fault-no_text content f is = by (decoded content) refl
   where
     by : (o : Option (List ℕ)) → decoded content ≡ o → o ≡ None
@@ -360,7 +360,7 @@ fault-no_text content f is = by (decoded content) refl
     by (Some text) e = absurd (not_both content text f (decodes-decoded content text e) is)
 
 -- The bytes of a fault are there.
-here-within : (l : List ℕ) (f : Fault) → FaultHere l f → f.bytes.offset + f.bytes.len ≤ length l
+here-within : (l : List ℕ) (f : DecodeFault) → FaultHere l f → f.bytes.offset + f.bytes.len ≤ length l
 here-within _ _ lone_backslash = omega arith
 here-within _ _ (few_digits digits few) = omega arith
 here-within _ _ (other_digits a b c d bytes is) = omega arith
@@ -372,7 +372,7 @@ here-within _ _ (escaped_other b bytes high) = omega arith
 here-within _ _ (not_utf8 b bytes ne no_char) = omega arith
 
 -- They are some of the content's.
-pub fault-within : (content : List ℕ) (f : Fault) → FirstFault content f → f.bytes.offset + f.bytes.len ≤ length content
+pub fault-within : (content : List ℕ) (f : DecodeFault) → FirstFault content f → f.bytes.offset + f.bytes.len ≤ length content
 fault-within _ _ (here content f is) = here-within content f is
 fault-within _ _ (after first others content c later f is behind e g) =
     let own = fault-within others later behind in
@@ -380,13 +380,13 @@ fault-within _ _ (after first others content c later f is behind e g) =
     omega (arith, own, size, ap (λ x. x.bytes.offset) g, ap (λ x. x.bytes.len) g)
 
 -- A content with a fault has bytes.
-first-some : (content : List ℕ) (f : Fault) → FirstFault content f → 0 < length content
+first-some : (content : List ℕ) (f : DecodeFault) → FirstFault content f → 0 < length content
 first-some _ _ (here content f is) = fault-some content f is
 first-some _ _ (after first others content c later f is behind e g) =
     let own = first-some others later behind in omega (arith, own, ap length e, length-append first others)
 
 -- The bytes of a fault are the buffer's, wherever its content stands.
-pub fault-in_buffer : (buffer : List ℕ) (start finish : ℕ) (f : Fault) → FirstFault (slice_range buffer start finish) f →
+pub fault-in_buffer : (buffer : List ℕ) (start finish : ℕ) (f : DecodeFault) → FirstFault (slice_range buffer start finish) f →
     (start + f.bytes.offset) + f.bytes.len ≤ length buffer
 fault-in_buffer buffer start finish f is =
     let own = fault-within (slice_range buffer start finish) f is in

@@ -1,4 +1,4 @@
--- How a reader that decodes run by run is refused: with the first fault of the content (specs/Fault.antt).
+-- How a reader that decodes run by run is refused: with the first fault of the content (specs/DecodeFault.antt).
 use Rattle.std.proofs.Common.{◌≡◌, ℕ, ◌+◌, ◌<◌, ◌≤◌, Bool, true, false, List, [], ◌∷◌, ◌++◌, length, take, drop, get_or, None, refl, sym, ap, subst, ◌∙◌, append_assoc, length-append, arith}
 use Rattle.std.specs.Prelude.{◌==◌, IsUtf8, slice_range}
 use Rattle.std.specs.Char.{encode_utf8}
@@ -14,7 +14,7 @@ use Rattle.facet_format.specs.Span.{span_at}
 use Rattle.facet_json_token.specs.declared.token.ScanError.{ScanError}
 use Rattle.facet_json_token.specs.Views.{scan_refusal}
 use Rattle.facet_json_token.specs.Decode.{Decodes, empty, piece, piece_at, decoded}
-use Rattle.facet_json_token.specs.Fault.{Fault, fault_at, fault_after, no_character, not_utf8, FirstFault, here, after, fault_complaint, fault_refusal}
+use Rattle.facet_json_token.specs.Fault.{DecodeFault, decode_fault_at, fault_after, no_character, not_utf8, FirstFault, here, after, fault_complaint, fault_refusal}
 use Rattle.facet_json_token.specs.Inner.FirstFault.{fault_of}
 use Rattle.facet_json_token.specs.Inner.Run.{StopsBeingText}
 use Rattle.facet_json_token.specs.DecodeViews.{TellsFirstFault}
@@ -24,7 +24,7 @@ use Rattle.facet_json_token.proofs.FaultLaws.{faulty, fault_after-none, fault_af
 use Rattle.facet_json_token.proofs.PlainText.{IsPlain, plain-parts, decoded-plain, Cuts, first_in_second, second_in_first, cuts, not-plain, EndsRun}
 
 -- A first fault comes after what stands for a text.
-fault-after_decoded : (a b s : List ℕ) (f g : Fault) → Decodes a s → FirstFault b f → g ≡ fault_after (length a) f →
+fault-after_decoded : (a b s : List ℕ) (f g : DecodeFault) → Decodes a s → FirstFault b f → g ≡ fault_after (length a) f →
     FirstFault (a ++ b) g
 fault-after_decoded _ b _ f g empty is e = let same : f ≡ g = sym (fault_after-none f) ∙ sym e in rw same at is
 fault-after_decoded _ b _ f g (piece first others content c rest text front behind e _) is same =
@@ -74,10 +74,10 @@ no_char-plain b front run rest text plain ends longest c left is e =
 
 -- A run of plain bytes has its first fault where it stops being text, whatever stands after it.
 broken-run : (run rest : List ℕ) (n : ℕ) → IsPlain run → EndsRun rest → IsValidUpTo run n →
-    FirstFault (run ++ rest) (fault_at no_character n 1)
+    FirstFault (run ++ rest) (decode_fault_at no_character n 1)
 broken-run run rest n plain ends valid = by (drop n run) refl
   where
-    by : (t : List ℕ) → drop n run ≡ t → FirstFault (run ++ rest) (fault_at no_character n 1)
+    by : (t : List ℕ) → drop n run ≡ t → FirstFault (run ++ rest) (decode_fault_at no_character n 1)
     by [] e = absurd (omega (arith, valid.short, length-drop n run, ap length e))
     by (b ∷ t) e =
         let front = take n run in
@@ -88,19 +88,19 @@ broken-run run rest n plain ends valid = by (drop n run) refl
         let longest = λ (m : ℕ) (more : length front < m) (u : IsUtf8 (take m (front ++ b ∷ t))).
         valid.longest m (omega arith) (subst (λ l. IsUtf8 (take m l)) whole u) in
         let none = no_char-plain b front t rest valid.front parts.1 ends longest in
-        let own = here ((b ∷ t) ++ rest) (fault_at no_character 0 1) (not_utf8 b (t ++ rest) (first-other b t parts.1) none) in
+        let own = here ((b ∷ t) ++ rest) (decode_fault_at no_character 0 1) (not_utf8 b (t ++ rest) (first-other b t parts.1) none) in
         let place : n ≡ length front + 0 = omega arith in
         let read = decodes-decoded front front (decoded-plain front parts.0 valid.front) in
         let first =
-        fault-after_decoded front ((b ∷ t) ++ rest) front (fault_at no_character 0 1) (fault_at no_character n 1) read own
-        (ap (λ k. fault_at no_character k 1) place) in
+        fault-after_decoded front ((b ∷ t) ++ rest) front (decode_fault_at no_character 0 1) (decode_fault_at no_character n 1) read own
+        (ap (λ k. decode_fault_at no_character k 1) place) in
         let cut = sym (append_assoc front (b ∷ t) rest) ∙ ap (λ l. l ++ rest) whole in
-        subst (λ l. FirstFault l (fault_at no_character n 1)) cut first
+        subst (λ l. FirstFault l (decode_fault_at no_character n 1)) cut first
 
 -- ---- steps
 
 -- What is told of the bytes from a place on is told of the whole content.
-told-after_decoded : (buf out : List ℕ) (start at end : ℕ) (f : Fault) (e : ScanError) → start ≤ at → at ≤ end → end ≤ length buf →
+told-after_decoded : (buf out : List ℕ) (start at end : ℕ) (f : DecodeFault) (e : ScanError) → start ≤ at → at ≤ end → end ≤ length buf →
     Decodes (slice_range buf start at) out → FirstFault (slice_range buf at end) f → scan_refusal e ≡ fault_refusal at f →
     TellsFirstFault (slice_range buf start end) start e
 told-after_decoded buf out start at end f e a b h so_far is told =
@@ -124,7 +124,7 @@ step-broken buf out start at stop end e a b d h plain ends so_far s =
     let own =
     broken-run (slice_range buf at stop) (slice_range buf stop end) s.text_len plain (range-ends buf stop end h ends) s.stops in
     let first = rw (← range-append buf at stop end b d) at own in
-    told-after_decoded buf out start at end (fault_at no_character s.text_len 1) e a (omega arith) h so_far first s.told
+    told-after_decoded buf out start at end (decode_fault_at no_character s.text_len 1) e a (omega arith) h so_far first s.told
 
 -- Where no piece is found, the content is refused.
 pub step-lost : (buf out : List ℕ) (start stop end : ℕ) (e : ScanError) → start ≤ stop → stop < end → end ≤ length buf →

@@ -4,109 +4,109 @@ use Rattle.std.proofs.lemmas.Bool.{and_parts, and_from, eqb-true, ne_eqb}
 use Rattle.std.proofs.lemmas.Bool.Decides.{nat_tests}
 use Rattle.std.proofs.lemmas.List.{take_all, append-nil, drop_at}
 use Rattle.facet_format.specs.Bytes.{is_sign, dot}
-use Rattle.facet_format.specs.Number.{IsNumeral, digits_len, minus_len, fraction_len, sign_len, exponent_len, parts, parts_len, hint_of}
+use Rattle.facet_format.specs.Number.{IsNumeral, digits_len, minus_len, fraction_len, sign_len, exponent_len, parts, parts_len, hint_by}
 use Rattle.facet_format.specs.Number as numbers
 use Rattle.std.proofs.Common.{lt-ltb}
 use Rattle.facet_format.proofs.NumberLaws.{minus-taken, digits-taken, sign-taken, parts-is}
-use Rattle.facet_json_token.specs.RfcNumber.{is_digit, is_first_digit, is_exponent_mark, AreDigits, none, digit, SomeDigits, IsMinus, IsWhole, nought, IsFraction, IsExponentSign, IsExponent, IsRfcNumber}
+use Rattle.facet_json_token.specs.RfcNumber.{is_rfc_digit, is_first_digit, is_rfc_exponent_mark, AreRfcDigits, none, digit, SomeDigits, IsRfcMinus, IsRfcWhole, nought, IsRfcFraction, IsRfcExponentSign, IsRfcExponent, IsRfcNumber}
 use Rattle.facet_json_token.specs.RfcNumberTest.{is_whole_of, is_fraction_of, is_exponent_of, are_rfc_parts, is_rfc_number}
 
 -- ---- what the reader takes for digits and signs, and what RFC 8259 does
 
-pub are_digits : {ds : List ℕ} → numbers.AreDigits ds → AreDigits ds
+pub are_digits : {ds : List ℕ} → numbers.AreDigits ds → AreRfcDigits ds
 are_digits numbers.none = none
 are_digits (numbers.digit c others is d) = digit c others is (are_digits d)
 
-pub digits_of_reader : {ds : List ℕ} → AreDigits ds → numbers.AreDigits ds
+pub digits_of_reader : {ds : List ℕ} → AreRfcDigits ds → numbers.AreDigits ds
 digits_of_reader none = numbers.none
 digits_of_reader (digit c others is d) = numbers.digit c others is (digits_of_reader d)
 
-minus_is : {sign : List ℕ} {there : Bool} → numbers.IsMinus sign there → IsMinus sign
-minus_is numbers.IsMinus.absent = IsMinus.absent
-minus_is numbers.IsMinus.present = IsMinus.present
+minus_is : {sign : List ℕ} {there : Bool} → numbers.IsMinus sign there → IsRfcMinus sign
+minus_is numbers.IsMinus.absent = IsRfcMinus.absent
+minus_is numbers.IsMinus.present = IsRfcMinus.present
 
-minus_of_reader : {sign : List ℕ} → IsMinus sign → (there : Bool) × numbers.IsMinus sign there
-minus_of_reader IsMinus.absent = (false, numbers.IsMinus.absent)
-minus_of_reader IsMinus.present = (true, numbers.IsMinus.present)
+minus_of_reader : {sign : List ℕ} → IsRfcMinus sign → (there : Bool) × numbers.IsMinus sign there
+minus_of_reader IsRfcMinus.absent = (false, numbers.IsMinus.absent)
+minus_of_reader IsRfcMinus.present = (true, numbers.IsMinus.present)
 
 one-sign : (b : ℕ) → is_sign b ≡ true → (b ≡ 0x2d) ⊎ (b ≡ 0x2b)
 one-sign b e = grind (arith, nat_tests)
 
-sign_is : {sign : List ℕ} → numbers.IsExponentSign sign → IsExponentSign sign
-sign_is numbers.IsExponentSign.absent = IsExponentSign.absent
-sign_is (numbers.IsExponentSign.present b e) = elim (one-sign b e) [ inl m ↦ rw m IsExponentSign.minus | inr p ↦ rw p IsExponentSign.plus ]
+sign_is : {sign : List ℕ} → numbers.IsExponentSign sign → IsRfcExponentSign sign
+sign_is numbers.IsExponentSign.absent = IsRfcExponentSign.absent
+sign_is (numbers.IsExponentSign.present b e) = elim (one-sign b e) [ inl m ↦ rw m IsRfcExponentSign.minus | inr p ↦ rw p IsRfcExponentSign.plus ]
 
-sign_of_reader : {sign : List ℕ} → IsExponentSign sign → numbers.IsExponentSign sign
-sign_of_reader IsExponentSign.absent = numbers.IsExponentSign.absent
-sign_of_reader IsExponentSign.minus = numbers.IsExponentSign.present 0x2d refl
-sign_of_reader IsExponentSign.plus = numbers.IsExponentSign.present 0x2b refl
+sign_of_reader : {sign : List ℕ} → IsRfcExponentSign sign → numbers.IsExponentSign sign
+sign_of_reader IsRfcExponentSign.absent = numbers.IsExponentSign.absent
+sign_of_reader IsRfcExponentSign.minus = numbers.IsExponentSign.present 0x2d refl
+sign_of_reader IsRfcExponentSign.plus = numbers.IsExponentSign.present 0x2b refl
 
 -- ---- what is accepted is one
 
-first_digit : (b : ℕ) → is_digit b ≡ true → (b == 0x30) ≡ false → is_first_digit b ≡ true
+first_digit : (b : ℕ) → is_rfc_digit b ≡ true → (b == 0x30) ≡ false → is_first_digit b ≡ true
 first_digit b d n = grind (arith, nat_tests)
 
 -- Digits of which there are some.
 pub some-taken : (bytes : List ℕ) → 0 < digits_len bytes → SomeDigits (take (digits_len bytes) bytes)
 some-taken [] h = absurd (omega arith)
-some-taken (b ∷ bytes) h = by (is_digit b) refl h
+some-taken (b ∷ bytes) h = by (is_rfc_digit b) refl h
   where
-    by : (is : Bool) → is_digit b ≡ is → 0 < cond is (suc (digits_len bytes)) 0 → SomeDigits (take (cond is (suc (digits_len bytes)) 0) (b ∷ bytes))
+    by : (is : Bool) → is_rfc_digit b ≡ is → 0 < cond is (suc (digits_len bytes)) 0 → SomeDigits (take (cond is (suc (digits_len bytes)) 0) (b ∷ bytes))
     by true e k = SomeDigits.digits b (take (digits_len bytes) bytes) e (are_digits (digits-taken bytes))
     by false e k = absurd (omega arith)
 
-whole-of : (b : ℕ) (bytes : List ℕ) (n : ℕ) → is_digit b ≡ true → AreDigits (take n bytes) → is_whole_of (suc n) (b ∷ bytes) ≡ true →
-    IsWhole (take (suc n) (b ∷ bytes))
+whole-of : (b : ℕ) (bytes : List ℕ) (n : ℕ) → is_rfc_digit b ≡ true → AreRfcDigits (take n bytes) → is_whole_of (suc n) (b ∷ bytes) ≡ true →
+    IsRfcWhole (take (suc n) (b ∷ bytes))
 whole-of b bytes zero d more e = by (b == 0x30) refl
   where
-    by : (is : Bool) → (b == 0x30) ≡ is → IsWhole (b ∷ [])
+    by : (is : Bool) → (b == 0x30) ≡ is → IsRfcWhole (b ∷ [])
     by true z = let same : b ≡ 0x30 = eqb-true b 0x30 z in rw same nought
-    by false z = IsWhole.digits b [] (first_digit b d z) none
+    by false z = IsRfcWhole.digits b [] (first_digit b d z) none
 whole-of b bytes (suc n) d more e =
     let no : (b == 0x30) ≡ false = grind arith in
-    IsWhole.digits b (take (suc n) bytes) (first_digit b d no) more
+    IsRfcWhole.digits b (take (suc n) bytes) (first_digit b d no) more
 
-whole-taken : (bytes : List ℕ) → is_whole_of (digits_len bytes) bytes ≡ true → IsWhole (take (digits_len bytes) bytes)
+whole-taken : (bytes : List ℕ) → is_whole_of (digits_len bytes) bytes ≡ true → IsRfcWhole (take (digits_len bytes) bytes)
 whole-taken [] e = cc
-whole-taken (b ∷ bytes) e = by (is_digit b) refl e
+whole-taken (b ∷ bytes) e = by (is_rfc_digit b) refl e
   where
-    by : (is : Bool) → is_digit b ≡ is → is_whole_of (cond is (suc (digits_len bytes)) 0) (b ∷ bytes) ≡ true →
-        IsWhole (take (cond is (suc (digits_len bytes)) 0) (b ∷ bytes))
+    by : (is : Bool) → is_rfc_digit b ≡ is → is_whole_of (cond is (suc (digits_len bytes)) 0) (b ∷ bytes) ≡ true →
+        IsRfcWhole (take (cond is (suc (digits_len bytes)) 0) (b ∷ bytes))
     by true d k = whole-of b bytes (digits_len bytes) d (are_digits (digits-taken bytes)) k
     by false d k = cc
 
-fraction-of : (b : ℕ) (bytes : List ℕ) → b ≡ dot → is_fraction_of (suc (digits_len bytes)) ≡ true → IsFraction (take (suc (digits_len bytes)) (b ∷ bytes))
+fraction-of : (b : ℕ) (bytes : List ℕ) → b ≡ dot → is_fraction_of (suc (digits_len bytes)) ≡ true → IsRfcFraction (take (suc (digits_len bytes)) (b ∷ bytes))
 fraction-of b bytes is e =
     let some : 0 < digits_len bytes = grind (arith, nat_tests) in
-    rw is (IsFraction.present (take (digits_len bytes) bytes) (some-taken bytes some))
+    rw is (IsRfcFraction.present (take (digits_len bytes) bytes) (some-taken bytes some))
 
-fraction_taken : (bytes : List ℕ) → is_fraction_of (fraction_len bytes) ≡ true → IsFraction (take (fraction_len bytes) bytes)
-fraction_taken [] e = IsFraction.absent
+fraction_taken : (bytes : List ℕ) → is_fraction_of (fraction_len bytes) ≡ true → IsRfcFraction (take (fraction_len bytes) bytes)
+fraction_taken [] e = IsRfcFraction.absent
 fraction_taken (b ∷ bytes) e = by (b == dot) refl e
   where
     by : (is : Bool) → (b == dot) ≡ is → is_fraction_of (cond is (suc (digits_len bytes)) 0) ≡ true →
-        IsFraction (take (cond is (suc (digits_len bytes)) 0) (b ∷ bytes))
+        IsRfcFraction (take (cond is (suc (digits_len bytes)) 0) (b ∷ bytes))
     by true d k = fraction-of b bytes (eqb-true b dot d) k
-    by false d k = IsFraction.absent
+    by false d k = IsRfcFraction.absent
 
-exponent-of : (b : ℕ) (bytes : List ℕ) → is_exponent_mark b ≡ true →
+exponent-of : (b : ℕ) (bytes : List ℕ) → is_rfc_exponent_mark b ≡ true →
     is_exponent_of (suc (sign_len bytes + digits_len (drop (sign_len bytes) bytes))) (b ∷ bytes) ≡ true →
-    IsExponent (take (suc (sign_len bytes + digits_len (drop (sign_len bytes) bytes))) (b ∷ bytes))
+    IsRfcExponent (take (suc (sign_len bytes + digits_len (drop (sign_len bytes) bytes))) (b ∷ bytes))
 exponent-of b bytes m e =
     let s = sign_len bytes in
     let d = digits_len (drop s bytes) in
     let less = ltb-true s (s + d) e in
     let some : 0 < digits_len (drop s bytes) = omega arith in
-    IsExponent.present b (take s bytes) (take d (drop s bytes)) (take (s + d) bytes) m (sign_is (sign-taken bytes)) (some-taken (drop s bytes) some) (take-add s d bytes)
+    IsRfcExponent.present b (take s bytes) (take d (drop s bytes)) (take (s + d) bytes) m (sign_is (sign-taken bytes)) (some-taken (drop s bytes) some) (take-add s d bytes)
 
-exponent_taken : (bytes : List ℕ) → is_exponent_of (exponent_len bytes) bytes ≡ true → IsExponent (take (exponent_len bytes) bytes)
-exponent_taken [] e = IsExponent.absent
-exponent_taken (b ∷ bytes) e = by (is_exponent_mark b) refl e
+exponent_taken : (bytes : List ℕ) → is_exponent_of (exponent_len bytes) bytes ≡ true → IsRfcExponent (take (exponent_len bytes) bytes)
+exponent_taken [] e = IsRfcExponent.absent
+exponent_taken (b ∷ bytes) e = by (is_rfc_exponent_mark b) refl e
   where
-    by : (is : Bool) → is_exponent_mark b ≡ is → is_exponent_of (cond is (suc (sign_len bytes + digits_len (drop (sign_len bytes) bytes))) 0) (b ∷ bytes) ≡ true →
-        IsExponent (take (cond is (suc (sign_len bytes + digits_len (drop (sign_len bytes) bytes))) 0) (b ∷ bytes))
+    by : (is : Bool) → is_rfc_exponent_mark b ≡ is → is_exponent_of (cond is (suc (sign_len bytes + digits_len (drop (sign_len bytes) bytes))) 0) (b ∷ bytes) ≡ true →
+        IsRfcExponent (take (cond is (suc (sign_len bytes + digits_len (drop (sign_len bytes) bytes))) 0) (b ∷ bytes))
     by true m k = exponent-of b bytes m k
-    by false m k = IsExponent.absent
+    by false m k = IsRfcExponent.absent
 
 -- Where the parts of what stands at the start pass the tests, that is a number of RFC 8259, whatever follows.
 pub are_rfc_parts-sound : (text : List ℕ) → are_rfc_parts (parts text) text ≡ true → IsRfcNumber (take (parts_len (parts text)) text)
@@ -142,13 +142,13 @@ is_rfc-sound text e =
     subst IsRfcNumber (take_all (parts_len (parts text)) text (omega (arith, long))) (are_rfc_parts-sound text tests.1)
 
 -- Digits of which the first is no 0, or which are one, are a whole number.
-pub leads-by_no_zero : (digits : List ℕ) → SomeDigits digits → (length digits ≤ 1) ⊎ (get_or digits 0 0 ≢ 0x30) → IsWhole digits
+pub leads-by_no_zero : (digits : List ℕ) → SomeDigits digits → (length digits ≤ 1) ⊎ (get_or digits 0 0 ≢ 0x30) → IsRfcWhole digits
 leads-by_no_zero _ (SomeDigits.digits c [] is d) either = whole-of c [] 0 is none refl
 leads-by_no_zero _ (SomeDigits.digits c (b ∷ others) is d) (inl one) = absurd (omega arith)
-leads-by_no_zero _ (SomeDigits.digits c (b ∷ others) is d) (inr other) = IsWhole.digits c (b ∷ others) (first_digit c is (ne_eqb c 0x30 other)) d
+leads-by_no_zero _ (SomeDigits.digits c (b ∷ others) is d) (inr other) = IsRfcWhole.digits c (b ∷ others) (first_digit c is (ne_eqb c 0x30 other)) d
 
 -- A whole number, perhaps after a minus, is a number of RFC 8259.
-pub whole-rfc : (sign whole : List ℕ) → IsMinus sign → IsWhole whole → IsRfcNumber (sign ++ whole)
+pub whole-rfc : (sign whole : List ℕ) → IsRfcMinus sign → IsRfcWhole whole → IsRfcNumber (sign ++ whole)
 whole-rfc sign whole m w = record {
   sign = sign;
   whole = whole;
@@ -156,16 +156,16 @@ whole-rfc sign whole m w = record {
   exponent = [];
   is_minus = m;
   is_whole = w;
-  is_fraction = IsFraction.absent;
-  is_exponent = IsExponent.absent;
+  is_fraction = IsRfcFraction.absent;
+  is_exponent = IsRfcExponent.absent;
   parts = sym (append-nil (sign ++ whole ++ []) ∙ append-nil (sign ++ whole));
 }
 
 -- ---- each is accepted
 
-whole-digits : (w : List ℕ) → IsWhole w → numbers.AreDigits w
+whole-digits : (w : List ℕ) → IsRfcWhole w → numbers.AreDigits w
 whole-digits _ nought = numbers.digit 0x30 [] refl numbers.none
-whole-digits _ (IsWhole.digits c others f d) = numbers.digit c others (grind (arith, nat_tests)) (digits_of_reader d)
+whole-digits _ (IsRfcWhole.digits c others f d) = numbers.digit c others (grind (arith, nat_tests)) (digits_of_reader d)
 
 some-digits : (ds : List ℕ) → SomeDigits ds → numbers.AreDigits ds
 some-digits _ (SomeDigits.digits c others is d) = numbers.digit c others is (digits_of_reader d)
@@ -174,22 +174,22 @@ some-digits _ (SomeDigits.digits c others is d) = numbers.digit c others is (dig
 pub some-length : (ds : List ℕ) → SomeDigits ds → 0 < length ds
 some-length _ (SomeDigits.digits c others is d) = omega arith
 
-fraction-is : {f : List ℕ} → (is : IsFraction f) → (b : Bool) × numbers.IsFraction f b
-fraction-is IsFraction.absent = (false, numbers.IsFraction.absent)
-fraction-is (IsFraction.present digits d) = (true, numbers.IsFraction.present digits (some-digits digits d))
+fraction-is : {f : List ℕ} → (is : IsRfcFraction f) → (b : Bool) × numbers.IsFraction f b
+fraction-is IsRfcFraction.absent = (false, numbers.IsFraction.absent)
+fraction-is (IsRfcFraction.present digits d) = (true, numbers.IsFraction.present digits (some-digits digits d))
 
-exponent-is : {x : List ℕ} → (is : IsExponent x) → (b : Bool) × numbers.IsExponent x b
-exponent-is IsExponent.absent = (false, numbers.IsExponent.absent)
-exponent-is (IsExponent.present mark sign digits others m s d e) =
+exponent-is : {x : List ℕ} → (is : IsRfcExponent x) → (b : Bool) × numbers.IsExponent x b
+exponent-is IsRfcExponent.absent = (false, numbers.IsExponent.absent)
+exponent-is (IsRfcExponent.present mark sign digits others m s d e) =
     (true, rw e (numbers.IsExponent.present mark sign digits m (sign_of_reader s) (some-digits digits d)))
 
-starts-some : (sign whole : List ℕ) → IsWhole whole → sign ++ whole ≡ [] → ⊥
+starts-some : (sign whole : List ℕ) → IsRfcWhole whole → sign ++ whole ≡ [] → ⊥
 starts-some [] _ nought e = cc
-starts-some [] _ (IsWhole.digits c others f d) e = cc
+starts-some [] _ (IsRfcWhole.digits c others f d) e = cc
 starts-some (b ∷ sign) whole w e = cc
 
 numeral : (text : List ℕ) (n : IsRfcNumber text) → let m = minus_of_reader n.is_minus in let f = fraction-is n.is_fraction in let x = exponent-is n.is_exponent in
-    IsNumeral text (hint_of m.0 f.0 x.0)
+    IsNumeral text (hint_by m.0 f.0 x.0)
 numeral text n =
     let m = minus_of_reader n.is_minus in
     let f = fraction-is n.is_fraction in
@@ -211,24 +211,24 @@ numeral text n =
       kind = refl;
     }
 
-whole-tests : (whole rest : List ℕ) → IsWhole whole → is_whole_of (length whole) (whole ++ rest) ≡ true
+whole-tests : (whole rest : List ℕ) → IsRfcWhole whole → is_whole_of (length whole) (whole ++ rest) ≡ true
 whole-tests _ rest nought = refl
-whole-tests _ rest (IsWhole.digits c [] f d) = refl
-whole-tests _ rest (IsWhole.digits c (b ∷ others) f d) = let no : (c == 0x30) ≡ false = grind (arith, nat_tests) in rw no refl
+whole-tests _ rest (IsRfcWhole.digits c [] f d) = refl
+whole-tests _ rest (IsRfcWhole.digits c (b ∷ others) f d) = let no : (c == 0x30) ≡ false = grind (arith, nat_tests) in rw no refl
 
-fraction-tests : (f : List ℕ) → IsFraction f → is_fraction_of (length f) ≡ true
-fraction-tests _ IsFraction.absent = refl
-fraction-tests _ (IsFraction.present digits d) =
+fraction-tests : (f : List ℕ) → IsRfcFraction f → is_fraction_of (length f) ≡ true
+fraction-tests _ IsRfcFraction.absent = refl
+fraction-tests _ (IsRfcFraction.present digits d) =
     let some = some-length digits d in grind (arith, nat_tests)
 
-sign-measured : (sign digits : List ℕ) → IsExponentSign sign → SomeDigits digits → sign_len (sign ++ digits) ≡ length sign
-sign-measured _ _ IsExponentSign.absent (SomeDigits.digits c others is d) = let no : is_sign c ≡ false = grind (arith, nat_tests) in rw no refl
-sign-measured _ digits IsExponentSign.minus d = refl
-sign-measured _ digits IsExponentSign.plus d = refl
+sign-measured : (sign digits : List ℕ) → IsRfcExponentSign sign → SomeDigits digits → sign_len (sign ++ digits) ≡ length sign
+sign-measured _ _ IsRfcExponentSign.absent (SomeDigits.digits c others is d) = let no : is_sign c ≡ false = grind (arith, nat_tests) in rw no refl
+sign-measured _ digits IsRfcExponentSign.minus d = refl
+sign-measured _ digits IsRfcExponentSign.plus d = refl
 
-exponent-tests : (x : List ℕ) → IsExponent x → is_exponent_of (length x) x ≡ true
-exponent-tests _ IsExponent.absent = refl
-exponent-tests _ (IsExponent.present mark sign digits others m s d e) =
+exponent-tests : (x : List ℕ) → IsRfcExponent x → is_exponent_of (length x) x ≡ true
+exponent-tests _ IsRfcExponent.absent = refl
+exponent-tests _ (IsRfcExponent.present mark sign digits others m s d e) =
     let some = some-length digits d in
     let measured = ap sign_len e ∙ sign-measured sign digits s d in
     lt-ltb (sign_len others) (length others) (omega (arith, measured, ap length e, length-append sign digits, some))

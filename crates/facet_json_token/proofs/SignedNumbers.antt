@@ -1,11 +1,11 @@
 -- Numbers that are digits after a minus.
 use Rattle.std.proofs.Common.{◌≡◌, ℕ, zero, suc, ◌<◌, Bool, true, false, List, refl, arith}
-use Rattle.facet_format.specs.Number.{signed, is_some_len, hint_of, parts, is_number}
+use Rattle.facet_format.specs.Number.{signed, is_some_len, hint_by, parts, is_number}
 use Rattle.facet_format.proofs.NumberLaws.{is_number-sound, parts_hint-is}
 use Rattle.facet_json_token.proofs.NumberCuts.{sign-bound}
 
 -- A minus stands in a signed number.
-with_minus : (m f x : Bool) → hint_of m f x ≡ signed → m ≡ true
+with_minus : (m f x : Bool) → hint_by m f x ≡ signed → m ≡ true
 with_minus true f x e = refl
 with_minus false true x e = cc
 with_minus false false true e = cc

@@ -9,7 +9,7 @@ use Rattle.std.specs.Option.{option_map}
 use Rattle.std.proofs.lemmas.Bool.Decides.{nat_tests}
 use Rattle.facet_format.specs.Bytes.{backslash}
 use Rattle.facet_json_token.specs.Gap.{one_more}
-use Rattle.facet_json_token.specs.Inner.RfcWindow.{is_plain}
+use Rattle.facet_json_token.specs.Inner.RfcWindow.{is_rfc_plain}
 use Rattle.facet_json_token.specs.Strict.{may_stand, wrong_at, content_fault}
 
 -- so many bytes later
@@ -29,20 +29,20 @@ later-later j k None = refl
 later-later j k (Some n) = ap Some (omega arith)
 
 -- A byte that a run goes on through may stand there, and is no backslash.
-plain_stands : (b : ℕ) → is_plain b ≡ true → (nat_le 0x20 b ≡ true) × ((b == backslash) ≡ false)
+plain_stands : (b : ℕ) → is_rfc_plain b ≡ true → (nat_le 0x20 b ≡ true) × ((b == backslash) ≡ false)
 plain_stands b e = (grind (arith, nat_tests), grind (arith, nat_tests))
 
 -- ---- a run
 
 -- After bytes that escape nothing the first wrong byte is the one of what follows them.
-pub wrong-run : (k m : ℕ) (xs : List ℕ) → k ≤ prefix_len is_plain xs → wrong_at false (take (k + m) xs) ≡ later k (wrong_at false (take m (drop k xs)))
+pub wrong-run : (k m : ℕ) (xs : List ℕ) → k ≤ prefix_len is_rfc_plain xs → wrong_at false (take (k + m) xs) ≡ later k (wrong_at false (take m (drop k xs)))
 wrong-run zero m xs h = let none : 0 + m ≡ m = omega arith in rw none (later-zero (wrong_at false (take m xs)))
 wrong-run (suc k) m [] h = absurd (omega arith)
 wrong-run (suc k) m (b ∷ xs) h =
-    run-step k m b xs (is_plain b) refl h (λ less. wrong-run k m xs less)
+    run-step k m b xs (is_rfc_plain b) refl h (λ less. wrong-run k m xs less)
   where
-    run-step : (k m b : ℕ) (xs : List ℕ) (is : Bool) → is_plain b ≡ is → suc k ≤ cond is (1 + prefix_len is_plain xs) 0 →
-        (k ≤ prefix_len is_plain xs → wrong_at false (take (k + m) xs) ≡ later k (wrong_at false (take m (drop k xs)))) →
+    run-step : (k m b : ℕ) (xs : List ℕ) (is : Bool) → is_rfc_plain b ≡ is → suc k ≤ cond is (1 + prefix_len is_rfc_plain xs) 0 →
+        (k ≤ prefix_len is_rfc_plain xs → wrong_at false (take (k + m) xs) ≡ later k (wrong_at false (take m (drop k xs)))) →
         wrong_at false (take (suc k + m) (b ∷ xs)) ≡ later (suc k) (wrong_at false (take m (drop (suc k) (b ∷ xs))))
     run-step k m b xs false e h more = absurd (omega arith)
     run-step k m b xs true e h more =
@@ -80,7 +80,7 @@ module _ (buf : List ℕ) (end : ℕ) (fits : end ≤ length buf) where
   wrong_from at = later at (wrong_at false (slice_range buf at end))
 
   -- It is the same after a run.
-  pub from-run : (at stop : ℕ) → at ≤ stop → stop ≤ end → stop ≤ at + prefix_len is_plain (drop at buf) → wrong_from at ≡ wrong_from stop
+  pub from-run : (at stop : ℕ) → at ≤ stop → stop ≤ end → stop ≤ at + prefix_len is_rfc_plain (drop at buf) → wrong_from at ≡ wrong_from stop
   from-run at stop le in_slice run =
       let k = stop - at in
       let m = end - stop in
@@ -158,12 +158,12 @@ module _ (buf : List ℕ) (end : ℕ) (fits : end ≤ length buf) where
 -- ---- where a run ends
 
 -- Where a run ends before the content does, its next byte escapes something, or may not stand there.
-pub stop-there : (buf : List ℕ) (at stop : ℕ) → stop < length buf → at ≤ stop → stop ≡ at + prefix_len is_plain (drop at buf) →
-    is_plain (get_or buf stop 0) ≡ false
+pub stop-there : (buf : List ℕ) (at stop : ℕ) → stop < length buf → at ≤ stop → stop ≡ at + prefix_len is_rfc_plain (drop at buf) →
+    is_rfc_plain (get_or buf stop 0) ≡ false
 stop-there buf at stop less le e =
-    let n = prefix_len is_plain (drop at buf) in
+    let n = prefix_len is_rfc_plain (drop at buf) in
     let short : n < length (drop at buf) = omega (arith, length-drop at buf) in
-    ap is_plain (ap (λ k. get_or buf k 0) e ∙ sym (get_or-drop at buf n 0)) ∙ prefix_len_stops is_plain (drop at buf) 0 short
+    ap is_rfc_plain (ap (λ k. get_or buf k 0) e ∙ sym (get_or-drop at buf n 0)) ∙ prefix_len_stops is_rfc_plain (drop at buf) 0 short
 
-pub control-there : (b : ℕ) → is_plain b ≡ false → (b == backslash) ≡ false → nat_le 0x20 b ≡ false
+pub control-there : (b : ℕ) → is_rfc_plain b ≡ false → (b == backslash) ≡ false → nat_le 0x20 b ≡ false
 control-there b e n = grind (arith, nat_tests)

@@ -7,7 +7,7 @@ use Rattle.facet_format.specs.Complaint as complaint
 use Rattle.facet_json_token.specs.declared.token.ScanError.{ScanError}
 use Rattle.facet_json_token.specs.declared.token.ScanErrorKind.TheVariants.{InvalidUtf8}
 use Rattle.facet_json_token.specs.declared.decode.DecodeError.TheVariants.{Scan, OutOfMemory}
-use Rattle.facet_json_token.specs.Fault.{Fault, FirstFault, fault_refusal}
+use Rattle.facet_json_token.specs.Fault.{DecodeFault, FirstFault, fault_refusal}
 pub use Rattle.facet_json_token.specs.Cut.{has_backslash}
 use Rattle.facet_json_token.specs.Views.{scan_refusal}
 
@@ -22,7 +22,7 @@ IsItsText content = (has_backslash content ≡ false) × IsUtf8 content
 
 -- A content that starts there in the buffer is refused with its first fault.
 pub record TellsFirstFault (content : List ℕ) (start : ℕ) (e : ScanError) : Type 0 where
-  pub fault : Fault
+  pub fault : DecodeFault
   pub is_first : FirstFault content fault
   pub told : scan_refusal e ≡ fault_refusal start fault
 

@@ -3,14 +3,14 @@
 ghost use Rattle.std.specs.Prelude.{◌≡◌, ◌+◌, ◌≤◌, ◌<◌, length, drop, map};
 ghost use Rattle.std.specs.List.{prefix_len};
 ghost use Rattle.std.specs.Simd.Lanes.{mask_l};
-ghost use Rattle.facet_json_token.specs.Inner.RfcWindow.{is_stop, is_plain};
+ghost use Rattle.facet_json_token.specs.Inner.RfcWindow.{is_rfc_stop, is_rfc_plain};
 
 use std::simd::prelude::*;
 
 /// A bit for each of sixteen bytes that is below 0x20 or a backslash.
 #[inline(always)]
 fn stops(window: u8x16) -> u64
-    ensures { result ≡ mask_l (map is_stop window) }
+    ensures { result ≡ mask_l (map is_rfc_stop window) }
 {
     (window.simd_lt(u8x16::splat(b' ')) | window.simd_eq(u8x16::splat(b'\\'))).to_bitmask()
 }
@@ -18,7 +18,7 @@ fn stops(window: u8x16) -> u64
 /// How many of sixteen bytes stand before the first such: sixteen where there is none.
 #[inline(always)]
 fn plain_lanes(window: u8x16) -> usize
-    ensures value { result ≡ prefix_len is_plain window }
+    ensures value { result ≡ prefix_len is_rfc_plain window }
     ensures within { result ≤ 16 }
 {
     let found = stops(window);
@@ -37,8 +37,8 @@ pub(crate) fn plain_end(buf: &[u8], at: usize, end: usize) -> usize
     requires in_range { end ≤ length buf.now }
     ensures ahead { at ≤ result }
     ensures within { result ≤ end }
-    ensures run { result ≤ at + prefix_len is_plain (drop at buf.now) }
-    ensures stops { result < end → result ≡ at + prefix_len is_plain (drop at buf.now) }
+    ensures run { result ≤ at + prefix_len is_rfc_plain (drop at buf.now) }
+    ensures stops { result < end → result ≡ at + prefix_len is_rfc_plain (drop at buf.now) }
 {
     let mut stop = at;
     while stop < end {
@@ -61,8 +61,8 @@ fn plain_end_bytewise(buf: &[u8], at: usize, end: usize) -> usize
     requires in_range { end ≤ length buf.now }
     ensures ahead { at ≤ result }
     ensures within { result ≤ end }
-    ensures run { result ≤ at + prefix_len is_plain (drop at buf.now) }
-    ensures stops { result < end → result ≡ at + prefix_len is_plain (drop at buf.now) }
+    ensures run { result ≤ at + prefix_len is_rfc_plain (drop at buf.now) }
+    ensures stops { result < end → result ≡ at + prefix_len is_rfc_plain (drop at buf.now) }
 {
     let mut stop = at;
     while stop < end && buf[stop] >= b' ' && buf[stop] != b'\\' {

@@ -4,7 +4,7 @@ ghost use Rattle.std.specs.Prelude.{◌≡◌, ◌+◌, ◌≤◌, ◌<◌, ◌=
 ghost use Rattle.std.specs.List.{prefix_len};
 ghost use Rattle.std.specs.Simd.Lanes.{mask_l};
 ghost use Rattle.facet_format.specs.Bytes.{backslash};
-ghost use Rattle.facet_json_token.specs.Inner.Run.{is_plain};
+ghost use Rattle.facet_json_token.specs.Inner.Run.{is_no_backslash};
 
 use std::simd::prelude::*;
 
@@ -19,7 +19,7 @@ fn backslashes(window: u8x16) -> u64
 /// How many of sixteen bytes stand before the first backslash: sixteen where there is none.
 #[inline(always)]
 fn plain_lanes(window: u8x16) -> usize
-    ensures value { result ≡ prefix_len is_plain window }
+    ensures value { result ≡ prefix_len is_no_backslash window }
     ensures within { result ≤ 16 }
 {
     let found = backslashes(window);
@@ -38,8 +38,8 @@ pub(crate) fn plain_end(buf: &[u8], at: usize, end: usize) -> usize
     requires in_range { end ≤ length buf.now }
     ensures ahead { at ≤ result }
     ensures within { result ≤ end }
-    ensures run { result ≤ at + prefix_len is_plain (drop at buf.now) }
-    ensures stops { result < end → result ≡ at + prefix_len is_plain (drop at buf.now) }
+    ensures run { result ≤ at + prefix_len is_no_backslash (drop at buf.now) }
+    ensures stops { result < end → result ≡ at + prefix_len is_no_backslash (drop at buf.now) }
 {
     let mut stop = at;
     while stop < end {
@@ -62,8 +62,8 @@ fn plain_end_bytewise(buf: &[u8], at: usize, end: usize) -> usize
     requires in_range { end ≤ length buf.now }
     ensures ahead { at ≤ result }
     ensures within { result ≤ end }
-    ensures run { result ≤ at + prefix_len is_plain (drop at buf.now) }
-    ensures stops { result < end → result ≡ at + prefix_len is_plain (drop at buf.now) }
+    ensures run { result ≤ at + prefix_len is_no_backslash (drop at buf.now) }
+    ensures stops { result < end → result ≡ at + prefix_len is_no_backslash (drop at buf.now) }
 {
     let mut stop = at;
     while stop < end && buf[stop] != b'\\' {

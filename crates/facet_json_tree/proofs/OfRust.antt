@@ -8,7 +8,7 @@ use Rattle.std.specs.Str.{is_utf8}
 use Rattle.std.proofs.lemmas.Bool.{and_from, lt-ltb}
 use mir.Val.{hbits}
 use Rattle.facet_json_document.specs.Tree.{Tree, list, pairs, Trees, no_trees, tree, Pairs, no_pairs, pair}
-use Rattle.facet_json_document.specs.AsRead.{IsWithin, WellFormed, ItemsWellFormed, MembersWellFormed, RawParts, RawItems, RawMembers}
+use Rattle.facet_json_document.specs.AsRead.{FitsBits, WellFormed, ItemsWellFormed, MembersWellFormed, RawParts, RawItems, RawMembers}
 use Rattle.facet_json_tree.specs.Write.{IsOfRust}
 
 -- an item before others
@@ -33,7 +33,7 @@ unfolding WellFormed MembersWellFormed RawParts RawMembers
 no_member-of_rust = (tt, tt)
 
 -- a signed number within its bits
-pub fits-within : (w : Width) (n : ℤ) → SFits w n → IsWithin (hbits w) n
+pub fits-within : (w : Width) (n : ℤ) → SFits w n → FitsBits (hbits w) n
 fits-within w (pos n) h = h.sfits
 fits-within w (negsuc n) h = h.sfits
 

@@ -9,7 +9,7 @@ use Rattle.facet_json_document.specs.Refusal.{IsStuck}
 use Rattle.facet_json_document.specs.Future.{Future, gives, stuck}
 use Rattle.facet_json_document.specs.Now.{Now, ahead, future_of}
 use Rattle.facet_json_core.specs.Told.{tree_of_scalar, opens}
-use Rattle.facet_json_core.specs.Reading.{LacksMemory, LacksOrStops, GivesNone, lacks_memory, at_the_end, is_stuck, IsRead, IsUnread, IsValueRead, IsValueUnread}
+use Rattle.facet_json_core.specs.Reading.{LacksMemory, LacksOrStops, GivesNone, lacks_memory, at_the_end, is_stuck, IsReadBy, IsUnreadBy, IsValueRead, IsValueUnread}
 use Rattle.facet_json_tree.specs.Inner.Reading.{WentOn, AreItemsUnread, AreMembersUnread}
 use Rattle.facet_json_tree.proofs.FirstEventTells.{broken-opens, scalar-told, list-told, object-told, list-broken, object-broken, HasFirst, has_first, HasFirstOr, first, none, told-has, items-has, members-has, broken-has, items_broken-has, members_broken-has}
 
@@ -17,17 +17,17 @@ use Rattle.facet_json_tree.proofs.FirstEventTells.{broken-opens, scalar-told, li
 
 -- It is the same input.
 pub unread-same : {V : Type 0} {tells : Future → V → Future → Type 0} {breaks : Place → Tokens → Future → Type 0}
-    {a b : List ℕ} {f : Future} {r : Refusal} → a ≡ b → IsUnread V tells breaks a f r → IsUnread V tells breaks b f r
-unread-same {V = V} {tells = tells} {breaks = breaks} {f = f} {r = r} e h = subst (λ x. IsUnread V tells breaks x f r) e h
+    {a b : List ℕ} {f : Future} {r : Refusal} → a ≡ b → IsUnreadBy V tells breaks a f r → IsUnreadBy V tells breaks b f r
+unread-same {V = V} {tells = tells} {breaks = breaks} {f = f} {r = r} e h = subst (λ x. IsUnreadBy V tells breaks x f r) e h
 
 -- It is read from what comes.
 pub unread-at : {V : Type 0} {tells : Future → V → Future → Type 0} {breaks : Place → Tokens → Future → Type 0}
-    {buffer : List ℕ} {f g : Future} {r : Refusal} → f ≡ g → IsUnread V tells breaks buffer g r → IsUnread V tells breaks buffer f r
-unread-at {V = V} {tells = tells} {breaks = breaks} {buffer = buffer} {r = r} e h = subst (λ x. IsUnread V tells breaks buffer x r) (sym e) h
+    {buffer : List ℕ} {f g : Future} {r : Refusal} → f ≡ g → IsUnreadBy V tells breaks buffer g r → IsUnreadBy V tells breaks buffer f r
+unread-at {V = V} {tells = tells} {breaks = breaks} {buffer = buffer} {r = r} e h = subst (λ x. IsUnreadBy V tells breaks buffer x r) (sym e) h
 
 pub read-at : {V : Type 0} {tells : Future → V → Future → Type 0} {breaks : Place → Tokens → Future → Type 0}
-    {f g rest : Future} {value : V} → f ≡ g → IsRead V tells breaks g value rest → IsRead V tells breaks f value rest
-read-at {V = V} {tells = tells} {breaks = breaks} {rest = rest} {value = value} e h = subst (λ x. IsRead V tells breaks x value rest) (sym e) h
+    {f g rest : Future} {value : V} → f ≡ g → IsReadBy V tells breaks g value rest → IsReadBy V tells breaks f value rest
+read-at {V = V} {tells = tells} {breaks = breaks} {rest = rest} {value = value} e h = subst (λ x. IsReadBy V tells breaks x value rest) (sym e) h
 
 -- A parser that isn't refused has gone on by nothing.
 pub went-none : (now : Now) → now.cursor.refusal ≡ None → WentOn now now

@@ -9,7 +9,7 @@ use Rattle.facet_json_document.specs.Future.{Future, gives}
 use Rattle.facet_json_document.specs.Now.{Now, future_of}
 use Rattle.facet_json_document.specs.Next.{PassesNext}
 use Rattle.facet_json_core.specs.Told.{opens, is_member, BreaksItems, BreaksMembers}
-use Rattle.facet_json_core.specs.Reading.{LacksMemory, GivesNone, lacks_memory, at_the_end, is_stuck, IsUnread}
+use Rattle.facet_json_core.specs.Reading.{LacksMemory, GivesNone, lacks_memory, at_the_end, is_stuck, IsUnreadBy}
 use Rattle.facet_json_tree.specs.Depth.{outer}
 use Rattle.facet_json_tree.specs.Inner.Beyond.{inner, beyond, SameBeyond, IsUnreadWithin, as_ever, too_deep, IsValueUnreadWithin}
 use Rattle.facet_json_tree.specs.Inner.Reading.{AreItemsUnreadWithin, AreMembersUnreadWithin, whole, a_list, an_object, IsRefused, begins_none, a_scalar, a_bracket, IsLevel, IsUnfilled}
@@ -39,7 +39,7 @@ module _ {limit : Option ℕ} {V : Type 0} {tells : Future → V → Future → 
 
 -- Without a limit nothing is too deep.
 pub unlimited-unread : {V : Type 0} {tells : Future → V → Future → Type 0} {breaks : Place → Tokens → Future → Type 0}
-    {buffer : List ℕ} {f : Future} {r : Refusal} → IsUnreadWithin None V tells breaks buffer f r → IsUnread V tells breaks buffer f r
+    {buffer : List ℕ} {f : Future} {r : Refusal} → IsUnreadWithin None V tells breaks buffer f r → IsUnreadBy V tells breaks buffer f r
 unlimited-unread (as_ever unread shallow) = unread
 unlimited-unread {f = f} (too_deep span comes is) = let none = unlimited-none f in cc
 
@@ -47,8 +47,8 @@ unlimited-unread {f = f} (too_deep span comes is) = let none = unlimited-none f 
 pub lift-unread : {low high : Option ℕ} {V W : Type 0} {tells : Future → V → Future → Type 0} {breaks : Place → Tokens → Future → Type 0}
     {says : Future → W → Future → Type 0} {stops : Place → Tokens → Future → Type 0} {buffer : List ℕ} {f g : Future} {r : Refusal} →
     beyond g high ≡ beyond f low →
-    (IsUnread V tells breaks buffer f r → IsUnread W says stops buffer g r) →
-    ((place : Place) (rest : Tokens) → stops place rest g → IsUnread V tells breaks buffer f r → LacksMemory r ⊎ breaks place rest f) →
+    (IsUnreadBy V tells breaks buffer f r → IsUnreadBy W says stops buffer g r) →
+    ((place : Place) (rest : Tokens) → stops place rest g → IsUnreadBy V tells breaks buffer f r → LacksMemory r ⊎ breaks place rest f) →
     IsUnreadWithin low V tells breaks buffer f r → IsUnreadWithin high W says stops buffer g r
 lift-unread level unread broken (as_ever u shallow) =
     as_ever (unread u) (λ place rest b.

@@ -6,25 +6,25 @@ use Rattle.facet_format.specs.Event as event
 use Rattle.facet_json_document.specs.Text.{Options, text}
 use Rattle.facet_json_document.specs.Tree.{Tree}
 use Rattle.facet_json_serializer.specs.declared.error.JsonSerializeError.{JsonSerializeError}
-use Rattle.facet_format.specs.SerializerCall.{Call, scalar, raw_scalar}
-use Rattle.facet_json_serializer.specs.Serializer.{Opened, Writing, Refusal, out_of_memory, addition, appended, before_value, after_value, scalar_tree, scalar_text, Appends, appends, refuses, runs_out, stays_out}
-use Rattle.facet_json_serializer.specs.Views.{answer_of}
+use Rattle.facet_format.specs.SerializerCall.{SerializerCall, scalar, raw_scalar}
+use Rattle.facet_json_serializer.specs.Serializer.{Opened, Writing, WriteRefusal, out_of_memory, addition, appended, before_value, after_written, scalar_tree, scalar_text, Appends, appends, refuses, runs_out, stays_out}
+use Rattle.facet_json_serializer.specs.Views.{call_answer_of}
 use Rattle.facet_json_tree.specs.Write.{HasWritten}
 
 -- The call fits whatever is open, and appends these bytes as a value.
-abbrev pub IsValueCall : Call → (Options → ℕ → List ℕ) → Type 0
+abbrev pub IsValueCall : SerializerCall → (Options → ℕ → List ℕ) → Type 0
 IsValueCall call bytes = (o : Options) (stack : List Opened) → addition o stack call
-    ≡ Ok (record { added = before_value o stack ++ bytes o (length stack); stack = after_value stack })
+    ≡ Ok (record { added = before_value o stack ++ bytes o (length stack); stack = after_written stack })
 
 -- A call whose bytes are the tree's text writes the tree, or memory runs out.
-pub data Wrote (old : Option Writing) (t : Tree) (new : Option Writing) : Result (Unit {0}) Refusal → Type 0 where
+pub data Wrote (old : Option Writing) (t : Tree) (new : Option Writing) : Result (Unit {0}) WriteRefusal → Type 0 where
   wrote : HasWritten old t new → Wrote old t new (Ok tt)
   lacked : Wrote old t new (Err out_of_memory)
 
-value-called : (old new : Option Writing) (call : Call) (t : Tree) (answer : Result (Unit {0}) Refusal)
+value-called : (old new : Option Writing) (call : SerializerCall) (t : Tree) (answer : Result (Unit {0}) WriteRefusal)
     → IsValueCall call (λ o depth. text o depth t) → Appends old call answer new → Wrote old t new answer
 value-called old new call t answer fits (appends w _ a can) =
-    let same : a ≡ record { added = before_value w.options w.stack ++ text w.options (length w.stack) t; stack = after_value w.stack } =
+    let same : a ≡ record { added = before_value w.options w.stack ++ text w.options (length w.stack) t; stack = after_written w.stack } =
     let f = fits w.options w.stack in cc in
     wrote (w, refl, ap (λ b. Some (appended w b)) same)
 value-called old new call t answer fits (refuses w _ why cannot) = let f = fits w.options w.stack in absurd (cc)
@@ -47,26 +47,26 @@ scalar-depth o depth (event.text t) = refl
 scalar-depth o depth (event.bytes b) = refl
 
 -- the same for the code's answers
-of_answer : (old new : Option Writing) (t : Tree) (r : Result (Unit {0}) JsonSerializeError) → Wrote old t new (answer_of r)
+of_answer : (old new : Option Writing) (t : Tree) (r : Result (Unit {0}) JsonSerializeError) → Wrote old t new (call_answer_of r)
     → OnOk r (HasWritten old t new)
 of_answer old new t (Ok nothing) (wrote h) = h
 of_answer old new t (Err e) h = tt
 
 -- A scalar's call writes its tree.
 pub scalar-called : (old new : Option Writing) (value : Scalar) (t : Tree) (r : Result (Unit {0}) JsonSerializeError)
-    → t ≡ scalar_tree value → Appends old (scalar value) (answer_of r) new → OnOk r (HasWritten old t new)
+    → t ≡ scalar_tree value → Appends old (scalar value) (call_answer_of r) new → OnOk r (HasWritten old t new)
 scalar-called old new value t r is step =
     rw is
     (of_answer old new (scalar_tree value) r
-    (value-called old new (scalar value) (scalar_tree value) (answer_of r)
-    (λ o stack. ap (λ bytes. Ok (record { added = before_value o stack ++ bytes; stack = after_value stack })) (scalar-depth o (length stack) value))
+    (value-called old new (scalar value) (scalar_tree value) (call_answer_of r)
+    (λ o stack. ap (λ bytes. Ok (record { added = before_value o stack ++ bytes; stack = after_written stack })) (scalar-depth o (length stack) value))
     step))
 
 -- The call of a text that stands as it is writes a tree of this text.
 pub raw-called : (old new : Option Writing) (json : List ℕ) (t : Tree) (r : Result (Unit {0}) JsonSerializeError)
-    → ((o : Options) (depth : ℕ) → json ≡ text o depth t) → Appends old (raw_scalar json) (answer_of r) new → OnOk r (HasWritten old t new)
+    → ((o : Options) (depth : ℕ) → json ≡ text o depth t) → Appends old (raw_scalar json) (call_answer_of r) new → OnOk r (HasWritten old t new)
 raw-called old new json t r is step =
     of_answer old new t r
-    (value-called old new (raw_scalar json) t (answer_of r)
-    (λ o stack. ap (λ bytes. Ok (record { added = before_value o stack ++ bytes; stack = after_value stack })) (is o (length stack)))
+    (value-called old new (raw_scalar json) t (call_answer_of r)
+    (λ o stack. ap (λ bytes. Ok (record { added = before_value o stack ++ bytes; stack = after_written stack })) (is o (length stack)))
     step)

@@ -13,7 +13,7 @@ use Rattle.facet_json_document.specs.Now.{Now}
 use Rattle.facet_json_document.specs.Move.{Moves}
 use Rattle.facet_json_document.specs.Next.{PassesNext}
 use Rattle.facet_json_core.specs.Told.{tree_of_scalar, opens, begins}
-use Rattle.facet_json_core.specs.Reading.{LacksMemory, IsUnread, IsValueUnread}
+use Rattle.facet_json_core.specs.Reading.{LacksMemory, IsUnreadBy, IsValueUnread}
 use Rattle.facet_json_meaning.proofs.OneValue.EventsPassed.{next-passes_by_kind}
 use Rattle.facet_json_tree.specs.Inner.Reading.{AreItemsRead, AreMembersRead, HasBegun, whole, a_list, an_object, BeganValue, IsFilled}
 use Rattle.facet_json_tree.proofs.FirstEventTells.{told-begins, broken-opens, list-told, object-told, list-broken, object-broken}
@@ -43,7 +43,7 @@ begins_none-unread p f buffer r none = record {
 
 -- What lacked memory is unread.
 pub lacks-unread : {V : Type 0} {tells : Future → V → Future → Type 0} {breaks : Place → Tokens → Future → Type 0}
-    {buffer : List ℕ} {f : Future} {r : Refusal} → LacksMemory r → IsUnread V tells breaks buffer f r
+    {buffer : List ℕ} {f : Future} {r : Refusal} → LacksMemory r → IsUnreadBy V tells breaks buffer f r
 lacks-unread h = record { told = λ v rest s. h; broken = λ place rest b. inl h }
 
 -- The event that the parser gave is the first of the value.

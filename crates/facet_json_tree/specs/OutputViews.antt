@@ -1,12 +1,12 @@
--- What a refusal tells. The one file of the definitions that names types of the code.
+-- What a refusal tells. The one file of the definitions that names types of the write_error_code.
 use Rattle.std.specs.Prelude.{ℕ, List, Option, Some, None, codes}
 use Rattle.facet_json_tree.specs.declared.error.WriteError.{WriteError}
 use Rattle.facet_json_tree.specs.declared.error.WriteError.TheVariants.{Memory, Io}
 
 -- the number of its kind
-abbrev pub code : WriteError → ℕ
-code Memory = 1
-code (Io error) = 2
+abbrev pub write_error_code : WriteError → ℕ
+write_error_code Memory = 1
+write_error_code (Io error) = 2
 
 -- how it is displayed, where that does not hang on what the writer's error says
 abbrev pub message : WriteError → Option (List ℕ)

@@ -1,7 +1,7 @@
 //! How writing to a writer is refused.
 
 ghost use Rattle.std.specs.Prelude.{◌≡◌};
-ghost use Rattle.facet_json_tree.specs.OutputViews.{code, message};
+ghost use Rattle.facet_json_tree.specs.OutputViews.{write_error_code, message};
 ghost use Rattle.facet_json_tree.specs.declared.error.WriteError.TheVariants.{Memory, Io};
 
 use std::alloc::{AllocError, AllocFailed};
@@ -25,7 +25,7 @@ impl WriteError {
     /// WriteError::Io(io::Error::from(ErrorKind::BrokenPipe)).code()   2
     /// ```
     pub fn code(&self) -> u8
-        ensures { result ≡ code self.now }
+        ensures { result ≡ write_error_code self.now }
     {
         match self {
             WriteError::Memory => 1,

@@ -6,7 +6,7 @@ ghost use Rattle.std.specs.String.{string_bytes};
 ghost use Rattle.facet_json_document.specs.Text.{default_options, text};
 ghost use Rattle.facet_json_serializer.specs.Serializer.{out_of_memory};
 ghost use Rattle.facet_json_serializer.specs.OptionsViews.{options_of};
-ghost use Rattle.facet_json_serializer.specs.Views.{refusal_of};
+ghost use Rattle.facet_json_serializer.specs.Views.{write_refusal_of};
 ghost use Rattle.facet_json_tree.specs.Views.{tree_view};
 ghost use Rattle.facet_json_tree.specs.Write.{pretty_options, IsReadable};
 
@@ -28,7 +28,7 @@ use std::alloc::Global;
 /// `OutOfMemory` alone, where a growth is refused.
 pub fn to_vec(alloc: Global, tree: &Tree) -> Result<Vec<u8>, JsonSerializeError>
     ensures text { IfOk result (λ v. v.items ≡ text default_options 0 (tree_view tree.now)) }
-    ensures refused { IfErr result (λ e. refusal_of e ≡ out_of_memory) }
+    ensures refused { IfErr result (λ e. write_refusal_of e ≡ out_of_memory) }
     ensures read_back { IfOk result (λ v. IsReadable default_options (tree_view tree.now) v.items) }
 {
     to_vec_with_options(alloc, tree, &SerializeOptions::new())
@@ -45,7 +45,7 @@ pub fn to_vec(alloc: Global, tree: &Tree) -> Result<Vec<u8>, JsonSerializeError>
 /// `OutOfMemory` alone, where a growth is refused.
 pub fn to_vec_pretty(alloc: Global, tree: &Tree) -> Result<Vec<u8>, JsonSerializeError>
     ensures text { IfOk result (λ v. v.items ≡ text pretty_options 0 (tree_view tree.now)) }
-    ensures refused { IfErr result (λ e. refusal_of e ≡ out_of_memory) }
+    ensures refused { IfErr result (λ e. write_refusal_of e ≡ out_of_memory) }
     ensures read_back { IfOk result (λ v. IsReadable pretty_options (tree_view tree.now) v.items) }
 {
     to_vec_with_options(alloc, tree, &SerializeOptions::new().pretty())
@@ -67,7 +67,7 @@ pub fn to_vec_with_options(
     options: &SerializeOptions<'_>,
 ) -> Result<Vec<u8>, JsonSerializeError>
     ensures text { IfOk result (λ v. v.items ≡ text (options_of options.now) 0 (tree_view tree.now)) }
-    ensures refused { IfErr result (λ e. refusal_of e ≡ out_of_memory) }
+    ensures refused { IfErr result (λ e. write_refusal_of e ≡ out_of_memory) }
     ensures read_back { IfOk result (λ v. IsReadable (options_of options.now) (tree_view tree.now) v.items) }
     ensures utf8 { IfOk result (λ v. is_utf8 v.items ≡ true) }
 {
@@ -87,7 +87,7 @@ pub fn to_vec_with_options(
 /// `OutOfMemory` alone, where a growth is refused.
 pub fn to_string(alloc: Global, tree: &Tree) -> Result<String, JsonSerializeError>
     ensures text { IfOk result (λ s. string_bytes s ≡ text default_options 0 (tree_view tree.now)) }
-    ensures refused { IfErr result (λ e. refusal_of e ≡ out_of_memory) }
+    ensures refused { IfErr result (λ e. write_refusal_of e ≡ out_of_memory) }
     ensures read_back { IfOk result (λ s. IsReadable default_options (tree_view tree.now) (string_bytes s)) }
 {
     to_string_with_options(alloc, tree, &SerializeOptions::new())
@@ -104,7 +104,7 @@ pub fn to_string(alloc: Global, tree: &Tree) -> Result<String, JsonSerializeErro
 /// `OutOfMemory` alone, where a growth is refused.
 pub fn to_string_pretty(alloc: Global, tree: &Tree) -> Result<String, JsonSerializeError>
     ensures text { IfOk result (λ s. string_bytes s ≡ text pretty_options 0 (tree_view tree.now)) }
-    ensures refused { IfErr result (λ e. refusal_of e ≡ out_of_memory) }
+    ensures refused { IfErr result (λ e. write_refusal_of e ≡ out_of_memory) }
     ensures read_back { IfOk result (λ s. IsReadable pretty_options (tree_view tree.now) (string_bytes s)) }
 {
     to_string_with_options(alloc, tree, &SerializeOptions::new().pretty())
@@ -126,7 +126,7 @@ pub fn to_string_with_options(
     options: &SerializeOptions<'_>,
 ) -> Result<String, JsonSerializeError>
     ensures text { IfOk result (λ s. string_bytes s ≡ text (options_of options.now) 0 (tree_view tree.now)) }
-    ensures refused { IfErr result (λ e. refusal_of e ≡ out_of_memory) }
+    ensures refused { IfErr result (λ e. write_refusal_of e ≡ out_of_memory) }
     ensures read_back { IfOk result (λ s. IsReadable (options_of options.now) (tree_view tree.now) (string_bytes s)) }
 {
     let bytes = to_vec_with_options(alloc, tree, options)?;

@@ -7,7 +7,7 @@ ghost use Rattle.facet_format.specs.Event as event;
 ghost use Rattle.facet_format.specs.SerializerCall.{scalar, raw_scalar};
 ghost use Rattle.facet_json_document.specs.Text.{bool_text};
 ghost use Rattle.facet_json_serializer.specs.Serializer.{out_of_memory, Appends};
-ghost use Rattle.facet_json_serializer.specs.Views.{answer_of, refusal_of};
+ghost use Rattle.facet_json_serializer.specs.Views.{call_answer_of, write_refusal_of};
 ghost use Rattle.facet_json_tree.specs.Views.{tree_view, trees_view, pairs_view};
 ghost use Rattle.facet_json_tree.specs.Write.{HasWritten, IsOfRust};
 
@@ -35,7 +35,7 @@ pub fn write_tree(
     tree: &Tree,
 ) -> Result<(), JsonSerializeError>
     ensures written { OnOk result (HasWritten serializer.old (tree_view tree.now) serializer.new) }
-    ensures refused { IfErr result (λ e. refusal_of e ≡ out_of_memory) }
+    ensures refused { IfErr result (λ e. write_refusal_of e ≡ out_of_memory) }
     ensures spent { OnErr result (serializer.new ≡ None) }
     ensures of_rust { OnOk result (IsOfRust (tree_view tree.now)) }
 {
@@ -62,7 +62,7 @@ pub fn write_tree(
 #[inline(never)]
 fn write_list(serializer: &mut JsonSerializer<'_>, items: &[Tree]) -> Result<(), JsonSerializeError>
     ensures written { OnOk result (HasWritten serializer.old (list (trees_view items.now)) serializer.new) }
-    ensures refused { IfErr result (λ e. refusal_of e ≡ out_of_memory) }
+    ensures refused { IfErr result (λ e. write_refusal_of e ≡ out_of_memory) }
     ensures spent { OnErr result (serializer.new ≡ None) }
     ensures of_rust { OnOk result (IsOfRust (list (trees_view items.now))) }
 {
@@ -81,7 +81,7 @@ fn write_pairs(
     members: &[(String, Tree)],
 ) -> Result<(), JsonSerializeError>
     ensures written { OnOk result (HasWritten serializer.old (pairs (pairs_view members.now)) serializer.new) }
-    ensures refused { IfErr result (λ e. refusal_of e ≡ out_of_memory) }
+    ensures refused { IfErr result (λ e. write_refusal_of e ≡ out_of_memory) }
     ensures spent { OnErr result (serializer.new ≡ None) }
     ensures of_rust { OnOk result (IsOfRust (pairs (pairs_view members.now))) }
 {
@@ -99,7 +99,7 @@ fn write_pairs(
 /// Writes a text that is JSON, as it stands.
 #[inline(never)]
 fn write_raw(serializer: &mut JsonSerializer<'_>, json: &str) -> Result<(), JsonSerializeError>
-    ensures { Appends serializer.old (raw_scalar json.now) (answer_of result) serializer.new }
+    ensures { Appends serializer.old (raw_scalar json.now) (call_answer_of result) serializer.new }
 {
     serializer.raw_scalar(json)
 }
@@ -107,7 +107,7 @@ fn write_raw(serializer: &mut JsonSerializer<'_>, json: &str) -> Result<(), Json
 /// Writes `true` or `false`.
 #[inline(never)]
 fn write_bool(serializer: &mut JsonSerializer<'_>, b: bool) -> Result<(), JsonSerializeError>
-    ensures { Appends serializer.old (raw_scalar (bool_text b)) (answer_of result) serializer.new }
+    ensures { Appends serializer.old (raw_scalar (bool_text b)) (call_answer_of result) serializer.new }
 {
     if b {
         serializer.raw_scalar("true")
@@ -119,7 +119,7 @@ fn write_bool(serializer: &mut JsonSerializer<'_>, b: bool) -> Result<(), JsonSe
 /// Writes a whole number of 64 bits without a sign.
 #[inline(never)]
 fn write_unsigned(serializer: &mut JsonSerializer<'_>, n: u64) -> Result<(), JsonSerializeError>
-    ensures { Appends serializer.old (scalar (event.u64 n)) (answer_of result) serializer.new }
+    ensures { Appends serializer.old (scalar (event.u64 n)) (call_answer_of result) serializer.new }
 {
     serializer.scalar(ScalarValue::U64(n))
 }
@@ -127,7 +127,7 @@ fn write_unsigned(serializer: &mut JsonSerializer<'_>, n: u64) -> Result<(), Jso
 /// Writes a whole number of 64 bits that may have a sign.
 #[inline(never)]
 fn write_signed(serializer: &mut JsonSerializer<'_>, n: i64) -> Result<(), JsonSerializeError>
-    ensures { Appends serializer.old (scalar (event.i64 n)) (answer_of result) serializer.new }
+    ensures { Appends serializer.old (scalar (event.i64 n)) (call_answer_of result) serializer.new }
 {
     serializer.scalar(ScalarValue::I64(n))
 }
@@ -138,7 +138,7 @@ fn write_number<N: itoa::Integer>(
     serializer: &mut JsonSerializer<'_>,
     n: N,
 ) -> Result<(), JsonSerializeError>
-    ensures { Appends serializer.old (raw_scalar (N.text n)) (answer_of result) serializer.new }
+    ensures { Appends serializer.old (raw_scalar (N.text n)) (call_answer_of result) serializer.new }
 {
     let mut buffer = itoa::Buffer::new();
     serializer.raw_scalar(buffer.format(n))
@@ -147,7 +147,7 @@ fn write_number<N: itoa::Integer>(
 /// Writes a character, as a text that holds it alone.
 #[inline(never)]
 fn write_char(serializer: &mut JsonSerializer<'_>, c: char) -> Result<(), JsonSerializeError>
-    ensures { Appends serializer.old (scalar (event.char c)) (answer_of result) serializer.new }
+    ensures { Appends serializer.old (scalar (event.char c)) (call_answer_of result) serializer.new }
 {
     serializer.scalar(ScalarValue::Char(c))
 }
@@ -155,7 +155,7 @@ fn write_char(serializer: &mut JsonSerializer<'_>, c: char) -> Result<(), JsonSe
 /// Writes a text, between quotes.
 #[inline(never)]
 fn write_text(serializer: &mut JsonSerializer<'_>, text: &str) -> Result<(), JsonSerializeError>
-    ensures { Appends serializer.old (scalar (event.text (event.borrowed text.now))) (answer_of result) serializer.new }
+    ensures { Appends serializer.old (scalar (event.text (event.borrowed text.now))) (call_answer_of result) serializer.new }
 {
     serializer.scalar(ScalarValue::Str(CowStr::Borrowed(text)))
 }
@@ -164,7 +164,7 @@ fn write_text(serializer: &mut JsonSerializer<'_>, text: &str) -> Result<(), Jso
 #[inline(never)]
 fn write_bytes(serializer: &mut JsonSerializer<'_>, bytes: &[u8]) -> Result<(), JsonSerializeError>
     ensures written { OnOk result (HasWritten serializer.old (tree.bytes bytes.now) serializer.new) }
-    ensures refused { IfErr result (λ e. refusal_of e ≡ out_of_memory) }
+    ensures refused { IfErr result (λ e. write_refusal_of e ≡ out_of_memory) }
     ensures spent { OnErr result (serializer.new ≡ None) }
     ensures of_rust { OnOk result (IsOfRust (tree.bytes bytes.now)) }
 {

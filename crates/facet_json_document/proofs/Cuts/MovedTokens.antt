@@ -4,7 +4,7 @@ use Rattle.std.specs.Option.{option_map}
 use Rattle.facet_format.specs.Span.{stop, span_at}
 use Rattle.facet_json_token.specs.Token.{Kind, Token, string, number}
 use Rattle.facet_json_token.specs.Tokens.{Tokens, ended, refused, next}
-use Rattle.facet_json_document.specs.Meaning.{tree_of, trees_of, pairs_of, meaning, text_of, put_item, put_pair}
+use Rattle.facet_json_document.specs.Meaning.{tree_of, trees_of, pairs_of, meaning, text_in_tree, put_item, put_pair}
 use Rattle.facet_json_document.specs.Node.{Node, scalar, array, object, Nodes, no_nodes, item, Members, no_members, member, is_scalar, is_string, Spells, one_token, brackets, braces, SpellsItems, closed, item_and_comma, last_item, SpellsMembers, ended_members, member_and_comma, last_member}
 use Rattle.facet_json_document.specs.Tree.{list, pairs}
 
@@ -134,13 +134,13 @@ mutual
   pairs-moved buffer text n _ _ _ _ (member_and_comma ts more rest key mark node members separator last i c s k l) m =
       let first = tree-moved buffer text n ts node _ s m.1.1 in
       let later = pairs-moved buffer text n more members last rest l first.1.1 in (
-        ap₂ (λ t o. put_pair (text_of (meaning buffer (moved n key))) t o) first.0 later.0
-            ∙ ap (λ o. put_pair (text_of o) (tree_of text node) (pairs_of text members)) m.0,
+        ap₂ (λ t o. put_pair (text_in_tree (meaning buffer (moved n key))) t o) first.0 later.0
+            ∙ ap (λ o. put_pair (text_in_tree o) (tree_of text node) (pairs_of text members)) m.0,
         later.1,
       )
   pairs-moved buffer text n _ _ _ _ (last_member ts rest key mark node last i c s k) m =
       let first = tree-moved buffer text n ts node _ s m.1.1 in (
-        ap (λ t. put_pair (text_of (meaning buffer (moved n key))) t (pairs_of text no_members)) first.0
-            ∙ ap (λ o. put_pair (text_of o) (tree_of text node) (pairs_of text no_members)) m.0,
+        ap (λ t. put_pair (text_in_tree (meaning buffer (moved n key))) t (pairs_of text no_members)) first.0
+            ∙ ap (λ o. put_pair (text_in_tree o) (tree_of text node) (pairs_of text no_members)) m.0,
         first.1.1,
       )

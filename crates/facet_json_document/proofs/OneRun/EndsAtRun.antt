@@ -7,7 +7,7 @@ use Rattle.facet_json_token.specs.Gap.{Mode}
 use Rattle.facet_json_token.specs.Token.{Token, Fault}
 use Rattle.facet_json_token.specs.Tokens.{Tokens, ended, refused, next, tokens, tokens_from}
 use Rattle.facet_json_document.specs.Future.{finished, Stage, within, over, turn, reads_by, reads_colon_by}
-use Rattle.facet_json_document.specs.InputPlace.{Standing, future_at}
+use Rattle.facet_json_document.specs.InputPlace.{Reader, future_at}
 use Rattle.facet_json_document.specs.Language.{strict, Rules, strict_rules}
 use Rattle.facet_json_document.specs.Place.{Place, after_key, Turn, stops, passes, says, says_scalar, names, goes_on, led}
 use Rattle.facet_json_document.specs.Run.{Run}
@@ -78,7 +78,7 @@ module _ (buffer : List ℕ) (mode : Mode) where
   stage-ends stack (within place) from opened e = absurd (within-goes_on strict_rules buffer _ stack place e)
 
   -- Where the open brackets are those that the tokens leave open, and nothing comes, the input is one run.
-  pub standing-ends : (s : Standing) → StandsOpen buffer (strict mode) s → future_at buffer (strict mode) s ≡ finished → IsOneRun buffer mode
+  pub standing-ends : (s : Reader) → StandsOpen buffer (strict mode) s → future_at buffer (strict mode) s ≡ finished → IsOneRun buffer mode
   standing-ends s opened e = stage-ends s.stack s.stage (stop s.last) opened e
 
 -- The same of a parser.

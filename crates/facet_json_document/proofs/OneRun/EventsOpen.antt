@@ -6,7 +6,7 @@ use Rattle.facet_json_token.specs.Token.{Token}
 use Rattle.facet_json_token.specs.Tokens.{Tokens, ended, refused, next, tokens, tokens_from}
 use Rattle.facet_json_token.proofs.TokensSteps.{tokens_from-others}
 use Rattle.facet_json_document.specs.Future.{Future, gives, Stage, within, over, stack_after, stage_after, is_meaningless, turn, reads_by, reads_colon_by}
-use Rattle.facet_json_document.specs.InputPlace.{Standing, past, future_at}
+use Rattle.facet_json_document.specs.InputPlace.{Reader, past, future_at}
 use Rattle.facet_json_document.specs.Language.{Language, lenient, strict, gaps, rules}
 use Rattle.facet_json_document.specs.Place.{Place, after_key, Turn, stops, passes, says, says_scalar, names, goes_on, led}
 use Rattle.facet_json_document.specs.StrictTokens.{tokens_in}
@@ -100,6 +100,6 @@ module _ (language : Language) (buffer : List ℕ) where
       (sym (reads-turn (rules language) buffer stack place t ts _ refl) ∙ e)
 
 -- After an event that comes they are open that the tokens before the place leave open.
-pub past-open : (buffer : List ℕ) (language : Language) (s : Standing) (p : Passed) (rest : Future) → StandsOpen buffer language s →
+pub past-open : (buffer : List ℕ) (language : Language) (s : Reader) (p : Passed) (rest : Future) → StandsOpen buffer language s →
     future_at buffer language s ≡ gives p rest → StandsOpen buffer language (past p s)
 past-open buffer language s p rest opened e = tokens-open language buffer _ s.stack s.stage (stop s.last) p rest refl opened e

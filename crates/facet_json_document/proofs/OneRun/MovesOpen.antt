@@ -4,7 +4,7 @@ use Rattle.std.specs.List.{All}
 use Rattle.std.proofs.lemmas.List.Elements.{All-nil}
 use Rattle.facet_format.specs.Event.{Event}
 use Rattle.facet_format.specs.Cursor.{Call, Answer, Cursor, Comes, no_event, one_event, Run, no_calls, one_call, passes, gives, gives_up, gives_without_memory, skips, captures, saves, restores, spot_after}
-use Rattle.facet_json_document.specs.InputPlace.{Standing}
+use Rattle.facet_json_document.specs.InputPlace.{Reader}
 use Rattle.facet_json_document.specs.Language.{Language}
 use Rattle.facet_json_document.specs.Now.{Now, fresh_in, on_input}
 use Rattle.facet_json_document.specs.Move.{Moves, MovesAll}
@@ -28,7 +28,7 @@ fresh-open buffer language = record {
 }
 
 -- So it is after events that come.
-events-open : (buffer : List ℕ) (language : Language) {s after : Standing} {given : List Event} → Comes (on_input buffer language) s given after →
+events-open : (buffer : List ℕ) (language : Language) {s after : Reader} {given : List Event} → Comes (on_input buffer language) s given after →
     StandsOpen buffer language s → StandsOpen buffer language after
 events-open buffer language (no_event place) opened = opened
 events-open buffer language (one_event place after p others e more) opened =
@@ -36,14 +36,14 @@ events-open buffer language (one_event place after p others e more) opened =
 
 module _ (now : Now) (good : NowOpen now) where
   -- at the spot after events that come,
-  batch-open : (given : List Event) (after : Standing) → Comes (on_input now.buffer now.language) now.cursor.spot.place given after →
+  batch-open : (given : List Event) (after : Reader) → Comes (on_input now.buffer now.language) now.cursor.spot.place given after →
       StandsOpen now.buffer now.language (spot_after given after now.cursor.spot).place
   batch-open given after all =
       subst (StandsOpen now.buffer now.language) (sym (spot_after-place now.buffer now.language now.cursor.spot all))
       (events-open now.buffer now.language all good.standing)
 
   -- and after each step
-  step-open : {call : Call} {answer : Answer} (d : Cursor Standing) → StepOf now call answer d → NowOpen (with_cursor now d)
+  step-open : {call : Call} {answer : Answer} (d : Cursor Reader) → StepOf now call answer d → NowOpen (with_cursor now d)
   step-open d (passes p none comes) = record {
     standing = past-open now.buffer now.language now.cursor.spot.place p _ good.standing
         (event-comes now.buffer now.language now.cursor.spot.place p comes);
@@ -76,10 +76,10 @@ module _ (now : Now) (good : NowOpen now) where
   moves-open new move = by_step NowOpen now new move step-open
 
 module _ (buffer : List ℕ) (language : Language) where
-  abbrev now_at : Cursor Standing → Now
+  abbrev now_at : Cursor Reader → Now
   now_at c = record { buffer = buffer; language = language; cursor = c }
 
-  run-open : {c d : Cursor Standing} {calls : List Call} {answers : List Answer} → NowOpen (now_at c) →
+  run-open : {c d : Cursor Reader} {calls : List Call} {answers : List Answer} → NowOpen (now_at c) →
       Run (on_input buffer language) c calls answers d → NowOpen (now_at d)
   run-open good (no_calls c) = good
   run-open good (one_call c between d call answer calls answers step more) = run-open (step-open (now_at c) good between step) more

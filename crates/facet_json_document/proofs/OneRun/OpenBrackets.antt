@@ -6,7 +6,7 @@ use Rattle.facet_format.specs.Span.{stop}
 use Rattle.facet_json_token.specs.Token.{Token}
 use Rattle.facet_json_token.specs.Tokens.{Tokens, next, tokens, tokens_from}
 use Rattle.facet_json_document.specs.Future.{Stage, within, over, after_value, around}
-use Rattle.facet_json_document.specs.InputPlace.{Standing}
+use Rattle.facet_json_document.specs.InputPlace.{Reader}
 use Rattle.facet_json_document.specs.Language.{Language, gaps}
 use Rattle.facet_json_document.specs.Place.{Place, before_key, after_key, after_colon, after_member, before_item, after_item, next_key, next_item}
 use Rattle.facet_json_document.specs.Run.{opening, closing, is_separator, Run, brackets, RunsInside, nothing, separator, a_run}
@@ -44,7 +44,7 @@ StageOpen all stack over left = (last : Token) × Run all last left
 StageOpen all stack (within place) left = Opens all stack left × (container_of place ≡ innermost stack)
 
 -- The brackets that are open at a place of the input are those that the tokens before it leave open, whatever their texts are.
-abbrev pub StandsOpen : List ℕ → Language → Standing → Type 0
+abbrev pub StandsOpen : List ℕ → Language → Reader → Type 0
 StandsOpen buffer language s = StageOpen (tokens buffer (gaps language)) s.stack s.stage (tokens_from buffer (gaps language) (stop s.last))
 
 -- ---- further tokens

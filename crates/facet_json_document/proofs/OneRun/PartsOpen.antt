@@ -8,7 +8,7 @@ use Rattle.facet_json_token.specs.Gap.{Mode}
 use Rattle.facet_json_token.specs.Tokens.{Tokens, next, tokens, tokens_from}
 use Rattle.facet_json_token.proofs.TokensSteps.{tokens_from-others}
 use Rattle.facet_json_document.specs.Future.{Stage, within, over}
-use Rattle.facet_json_document.specs.InputPlace.{Standing}
+use Rattle.facet_json_document.specs.InputPlace.{Reader}
 use Rattle.facet_json_document.specs.Language.{Language, gaps, Rules, rules}
 use Rattle.facet_json_document.specs.Place.{Place, led}
 use Rattle.facet_json_document.specs.Unread.{HasColon, colon_stands, colon_missing, PartFrom, separator, a_value, a_broken_value, a_key, a_closing, none_of_them, PartIn, PartAt}
@@ -26,11 +26,11 @@ module _ (buffer : List ℕ) (mode : Mode) where
   abbrev left : ℕ → Tokens
   left position = tokens_from buffer mode position
 
-  abbrev PlaceOpen : Standing → Type 0
+  abbrev PlaceOpen : Reader → Type 0
   PlaceOpen s = StageOpen all s.stack s.stage (left (stop s.last))
 
   -- The place after the part, if there is one, has the brackets open that it remembers.
-  abbrev LeadsOpen : Part Standing → Type 0
+  abbrev LeadsOpen : Part Reader → Type 0
   LeadsOpen (value has start finish place) = PlaceOpen place
   LeadsOpen (broken r) = Unit {0}
   LeadsOpen (key start (Ok place)) = PlaceOpen place
@@ -39,7 +39,7 @@ module _ (buffer : List ℕ) (mode : Mode) where
   LeadsOpen (nothing r) = Unit {0}
 
   -- A key and its colon leave the brackets open.
-  colon-leads : (stack : List ContainerKind) (start from : ℕ) (ts : Tokens) (result : Result Standing Refusal) → Some object ≡ innermost stack →
+  colon-leads : (stack : List ContainerKind) (start from : ℕ) (ts : Tokens) (result : Result Reader Refusal) → Some object ≡ innermost stack →
       HasColon buffer stack ts result → left from ≡ ts → Opens all stack ts → LeadsOpen (key start result)
   colon-leads stack start from _ _ inside (colon_stands mark rest c) at opened =
       let after = tokens_from-others buffer mode from mark rest at in
@@ -47,7 +47,7 @@ module _ (buffer : List ℕ) (mode : Mode) where
   colon-leads stack start from _ _ inside (colon_missing _ r none) at opened = tt
 
   -- So does each part, up to the closing bracket that it is.
-  part-leads : (by : Rules) (stack : List ContainerKind) (place : Place) (from : ℕ) (ts : Tokens) (part : Part Standing) →
+  part-leads : (by : Rules) (stack : List ContainerKind) (place : Place) (from : ℕ) (ts : Tokens) (part : Part Reader) →
       PartFrom buffer by stack place ts part → left from ≡ ts → Opens all stack ts → container_of place ≡ innermost stack → LeadsOpen part
   part-leads by stack place from _ part (separator _ other t rest _ e more) at opened inside =
       let w = subst (TurnsTo place t.kind) e (turns place t.kind) in
@@ -69,13 +69,13 @@ module _ (buffer : List ℕ) (mode : Mode) where
 -- ---- from a place of an input
 
 module _ (buffer : List ℕ) (language : Language) where
-  stage-leads : (s : Standing) (stage : Stage) (part : Part Standing) → PartIn buffer language s stage part →
+  stage-leads : (s : Reader) (stage : Stage) (part : Part Reader) → PartIn buffer language s stage part →
       StageOpen (all buffer (gaps language)) s.stack stage (left buffer (gaps language) (stop s.last)) → LeadsOpen buffer (gaps language) part
   stage-leads s over part is opened = rw is tt
   stage-leads s (within place) part is opened =
       part-leads buffer (gaps language) (rules language) s.stack place (stop s.last) _ part is refl opened.0 opened.1
 
-  skip-leads : (part : Part Standing) (place : Standing) → LeadsOpen buffer (gaps language) part → skip_of part ≡ Ok place →
+  skip-leads : (part : Part Reader) (place : Reader) → LeadsOpen buffer (gaps language) part → skip_of part ≡ Ok place →
       StandsOpen buffer language place
   skip-leads (value has start finish there) place leads e = let same : there ≡ place = cc in subst (StandsOpen buffer language) same leads
   skip-leads (broken r) place leads e = cc
@@ -84,7 +84,7 @@ module _ (buffer : List ℕ) (language : Language) where
   skip-leads (closing start there) place leads e = let same : there ≡ place = cc in subst (StandsOpen buffer language) same leads
   skip-leads (nothing r) place leads e = cc
 
-  capture-leads : (part : Part Standing) (text : List ℕ) (place : Standing) → LeadsOpen buffer (gaps language) part →
+  capture-leads : (part : Part Reader) (text : List ℕ) (place : Reader) → LeadsOpen buffer (gaps language) part →
       capture_of buffer part ≡ Ok (text, place) → StandsOpen buffer language place
   capture-leads (value has start finish there) text place leads e =
       subst (StandsOpen buffer language) (captured-place buffer start finish there place _ text _ e) leads
@@ -94,11 +94,11 @@ module _ (buffer : List ℕ) (language : Language) where
   capture-leads (nothing r) text place leads e = cc
 
   -- The place after a skip has the brackets open that it remembers.
-  pub skip-open : (s : Standing) (part : Part Standing) (place : Standing) → StandsOpen buffer language s → PartAt buffer language s part →
+  pub skip-open : (s : Reader) (part : Part Reader) (place : Reader) → StandsOpen buffer language s → PartAt buffer language s part →
       skip_of part ≡ Ok place → StandsOpen buffer language place
   skip-open s part place opened stands is = skip-leads part place (stage-leads s s.stage part stands opened) is
 
   -- So has the place after a capture.
-  pub capture-open : (s : Standing) (part : Part Standing) (text : List ℕ) (place : Standing) → StandsOpen buffer language s →
+  pub capture-open : (s : Reader) (part : Part Reader) (text : List ℕ) (place : Reader) → StandsOpen buffer language s →
       PartAt buffer language s part → capture_of buffer part ≡ Ok (text, place) → StandsOpen buffer language place
   capture-open s part text place opened stands is = capture-leads part text place (stage-leads s s.stage part stands opened) is

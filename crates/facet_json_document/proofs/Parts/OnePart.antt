@@ -8,7 +8,7 @@ use Rattle.facet_format.specs.Span.{stop}
 use Rattle.facet_json_token.specs.Token.{Token}
 use Rattle.facet_json_token.specs.Tokens.{Tokens, next}
 use Rattle.facet_json_document.specs.Future.{Stage, within, over, around}
-use Rattle.facet_json_document.specs.InputPlace.{Standing}
+use Rattle.facet_json_document.specs.InputPlace.{Reader}
 use Rattle.facet_json_document.specs.Language.{Language, Rules, rules}
 use Rattle.facet_json_document.specs.Node.{is_scalar}
 use Rattle.facet_json_document.specs.Place.{Place, after_key, Turn, stops, passes, says, says_scalar, names, place_turn, leads_on, led}
@@ -75,31 +75,31 @@ module _ (buffer : List ℕ) where
 
   module _ (by : Rules) (stack : List ContainerKind) where
     -- A colon stands there or is missing, and is missing in one way.
-    colon-once : (ts : Tokens) (a b : Result Standing Refusal) → HasColon buffer stack ts a → HasColon buffer stack ts b → a ≡ b
+    colon-once : (ts : Tokens) (a b : Result Reader Refusal) → HasColon buffer stack ts a → HasColon buffer stack ts b → a ≡ b
     colon-once _ _ _ (colon_stands mark rest e) (colon_stands _ _ f) = refl
     colon-once _ _ _ (colon_stands mark rest e) (colon_missing _ r (misplaced _ _ _ f)) = cc
     colon-once _ _ _ (colon_missing _ r (misplaced _ _ _ f)) (colon_stands mark rest e) = cc
     colon-once ts _ _ (colon_missing _ r p) (colon_missing _ s q) = ap Err (stuck_unread-once after_key ts r s p q)
 
     -- What the part is where the first token has this role.
-    data PartBy (place : Place) (t : Token) (rest : Tokens) : Role → Part Standing → Type 0 where
-      by_separator : (other : Place) (part : Part Standing) → PartFrom buffer by stack (led by other) rest part →
+    data PartBy (place : Place) (t : Token) (rest : Tokens) : Role → Part Reader → Type 0 where
+      by_separator : (other : Place) (part : Part Reader) → PartFrom buffer by stack (led by other) rest part →
           PartBy place t rest (separates other) part
       by_value : (last : Token) (others : Tokens) → Run (next t rest) last others →
           PartBy place t rest begins (value (not (is_scalar t.kind)) t.span.offset (stop last.span) (past_value last.span stack))
       by_broken : (r : Refusal) → BreaksOff buffer (next t rest) r → PartBy place t rest begins (broken r)
-      by_key : (result : Result Standing Refusal) → HasColon buffer stack rest result →
+      by_key : (result : Result Reader Refusal) → HasColon buffer stack rest result →
           PartBy place t rest names_member (key t.span.offset result)
       by_closing : PartBy place t rest closes (closing t.span.offset (past_value t.span (around stack)))
       by_nothing : (r : Refusal) → IsStuckUnread buffer place (next t rest) r → PartBy place t rest is_misplaced (nothing r)
 
     -- It is the same where the role is named otherwise.
-    by-same : (place : Place) (t : Token) (rest : Tokens) {r s : Role} {part : Part Standing} → r ≡ s → PartBy place t rest r part →
+    by-same : (place : Place) (t : Token) (rest : Tokens) {r s : Role} {part : Part Reader} → r ≡ s → PartBy place t rest r part →
         PartBy place t rest s part
     by-same place t rest {r} {s} {part} e p = subst (λ x. PartBy place t rest x part) e p
 
     -- A part is so by the first token's role.
-    part-by : (place : Place) (t : Token) (rest : Tokens) (part : Part Standing) (r : Role) → role (place_turn place t.kind) ≡ r →
+    part-by : (place : Place) (t : Token) (rest : Tokens) (part : Part Reader) (r : Role) → role (place_turn place t.kind) ≡ r →
         PartFrom buffer by stack place (next t rest) part → PartBy place t rest r part
     part-by place t rest part r f (separator _ other _ _ _ e more) =
         by-same place t rest (sym (ap role e) ∙ f) (by_separator other part more)
@@ -115,12 +115,12 @@ module _ (buffer : List ℕ) where
     -- ---- one part
 
     -- After a separator the part stands at the next place.
-    part-separated : (place other : Place) (t : Token) (rest : Tokens) (part : Part Standing) → PartBy place t rest (separates other) part →
+    part-separated : (place other : Place) (t : Token) (rest : Tokens) (part : Part Reader) → PartBy place t rest (separates other) part →
         PartFrom buffer by stack (led by other) rest part
     part-separated place other t rest part (by_separator _ _ more) = more
 
     -- A run is one value only.
-    value-once : (place : Place) (t last : Token) (rest others : Tokens) (b : Part Standing) → Run (next t rest) last others →
+    value-once : (place : Place) (t last : Token) (rest others : Tokens) (b : Part Reader) → Run (next t rest) last others →
         PartBy place t rest begins b →
         value (not (is_scalar t.kind)) t.span.offset (stop last.span) (past_value last.span stack) ≡ b
     value-once place t last rest others _ run (by_value end after other_run) =
@@ -129,29 +129,29 @@ module _ (buffer : List ℕ) where
     value-once place t last rest others _ run (by_broken r b) = absurd (no_run_breaks_off buffer (next t rest) others last r run b)
 
     -- What breaks off is one broken value only.
-    broken-once : (place : Place) (t : Token) (rest : Tokens) (r : Refusal) (b : Part Standing) → BreaksOff buffer (next t rest) r →
+    broken-once : (place : Place) (t : Token) (rest : Tokens) (r : Refusal) (b : Part Reader) → BreaksOff buffer (next t rest) r →
         PartBy place t rest begins b → broken r ≡ b
     broken-once place t rest r _ breaks (by_value end after run) = absurd (no_run_breaks_off buffer (next t rest) after end r run breaks)
     broken-once place t rest r _ breaks (by_broken s b) = ap broken (one_break buffer (next t rest) r s breaks b)
 
     -- A key is one only.
-    key-once : (place : Place) (t : Token) (rest : Tokens) (result : Result Standing Refusal) (b : Part Standing) →
+    key-once : (place : Place) (t : Token) (rest : Tokens) (result : Result Reader Refusal) (b : Part Reader) →
         HasColon buffer stack rest result → PartBy place t rest names_member b → key t.span.offset result ≡ b
     key-once place t rest result _ colon (by_key other other_colon) =
         ap (key t.span.offset) (colon-once rest result other colon other_colon)
 
     -- So is a closing bracket.
-    closing-once : (place : Place) (t : Token) (rest : Tokens) (b : Part Standing) → PartBy place t rest closes b →
+    closing-once : (place : Place) (t : Token) (rest : Tokens) (b : Part Reader) → PartBy place t rest closes b →
         closing t.span.offset (past_value t.span (around stack)) ≡ b
     closing-once place t rest _ by_closing = refl
 
     -- So is a token that is misplaced.
-    nothing-once : (place : Place) (t : Token) (rest : Tokens) (r : Refusal) (b : Part Standing) →
+    nothing-once : (place : Place) (t : Token) (rest : Tokens) (r : Refusal) (b : Part Reader) →
         IsStuckUnread buffer place (next t rest) r → PartBy place t rest is_misplaced b → nothing r ≡ b
     nothing-once place t rest r _ stuck (by_nothing s other) = ap nothing (stuck_unread-once place (next t rest) r s stuck other)
 
     -- Tokens begin with one part at most.
-    one-from : (place : Place) (ts : Tokens) (a b : Part Standing) → PartFrom buffer by stack place ts a → PartFrom buffer by stack place ts b →
+    one-from : (place : Place) (ts : Tokens) (a b : Part Reader) → PartFrom buffer by stack place ts a → PartFrom buffer by stack place ts b →
         a ≡ b
     one-from place _ a b (separator _ other t rest _ e more) q =
         one-from (led by other) rest a b more (part-separated place other t rest b (part-by place t rest b _ (ap role e) q))
@@ -170,7 +170,7 @@ module _ (buffer : List ℕ) where
         nothing-once place t rest r b (misplaced place t rest e) (part-by place t rest b _ (role-misplaced _ e) q)
 
 -- At a stage one part stands at most.
-one-in : (buffer : List ℕ) (language : Language) (s : Standing) (stage : Stage) (a b : Part Standing) → PartIn buffer language s stage a →
+one-in : (buffer : List ℕ) (language : Language) (s : Reader) (stage : Stage) (a b : Part Reader) → PartIn buffer language s stage a →
     PartIn buffer language s stage b → a ≡ b
 one-in buffer language s over a b p q = p ∙ sym q
 one-in buffer language s (within place) a b p q = one-from buffer (rules language) s.stack place _ a b p q

@@ -11,12 +11,12 @@ use Rattle.facet_format.specs.Span.{stop}
 use Rattle.facet_json_token.specs.Token.{Kind, Token}
 use Rattle.facet_json_token.specs.Tokens.{Tokens, ended, refused, next, tokens_from}
 use Rattle.facet_json_document.specs.Future.{Stage, finished, events_before, within, over, after_value, around, behind_root, reads_by}
-use Rattle.facet_json_document.specs.InputPlace.{Standing, past, future_at}
+use Rattle.facet_json_document.specs.InputPlace.{Reader, past, future_at}
 use Rattle.facet_json_document.specs.Language.{Language, lenient, strict, gaps, rules, Rules, lenient_rules, strict_rules}
 use Rattle.facet_json_document.specs.Node.{is_scalar}
 use Rattle.facet_json_document.specs.Place.{Place, after_root, Turn, says, names, place_turn, led}
 use Rattle.facet_json_document.specs.Run.{Run, one_token, brackets, opening, BreaksOff}
-use Rattle.facet_json_document.specs.StandsOn.{StandsOn}
+use Rattle.facet_json_document.specs.StandsOn.{IsOnWalk}
 use Rattle.facet_json_document.specs.StrictTokens.{tokens_in}
 use Rattle.facet_json_document.specs.Unread.{begins_value, closes_container, past_value, past_key, PartFrom, separator, a_value, a_broken_value, a_key, a_closing, none_of_them, HasColon, colon_stands, colon_missing, PartIn}
 use Rattle.facet_json_document.specs.UnreadLaws.{PartsOnWalk}
@@ -31,10 +31,10 @@ use Rattle.facet_json_document.proofs.StrictComes.{finished-strict, strict-same}
 use Rattle.facet_json_document.proofs.TokensIn.{tokens_in-others}
 use Rattle.facet_json_document.proofs.WalkComes.{scalar_here, colon-stands}
 
-module _ (buffer : List ℕ) (language : Language) (w : Source) (s : Standing) (place : ℕ) (on : StandsOn buffer language w s place) where
+module _ (buffer : List ℕ) (language : Language) (w : Source) (s : Reader) (place : ℕ) (on : IsOnWalk buffer language w s place) where
   -- This stands at the place of the walk.
-  abbrev Same : Part Standing → Type 0
-  Same part = PartsAlike (StandsOn buffer language w) part (part_at w place)
+  abbrev Same : Part Reader → Type 0
+  Same part = PartsAlike (IsOnWalk buffer language w) part (part_at w place)
 
   -- The events that come at the place are these.
   abbrev Events : List ContainerKind → Place → Tokens → Type 0
@@ -49,7 +49,7 @@ module _ (buffer : List ℕ) (language : Language) (w : Source) (s : Standing) (
   same-part p there = rw there refl
 
   -- A value is the same, where it leads to a place that is alike.
-  value-same : (b : Bool) (start : ℕ) (to : Standing) (after : ℕ) → StandsOn buffer language w to after →
+  value-same : (b : Bool) (start : ℕ) (to : Reader) (after : ℕ) → IsOnWalk buffer language w to after →
       part_at w place ≡ value b start (stop (last_of w.events after)) after → Same (value b start (stop to.last) to)
   value-same b start to after there is =
       let stops = ap stop there.last in
@@ -65,7 +65,7 @@ module _ (buffer : List ℕ) (language : Language) (w : Source) (s : Standing) (
   -- Brackets lead out to this place.
   stands-out : (last : Token) (rest : Tokens) (count : ℕ) → suc place ≤ length w.events →
       LeadsOut (rules language) buffer s.stack count (drop (suc place) w.events) last rest → tokens_in language buffer (stop last.span) ≡ rest →
-      StandsOn buffer language w (past_value last.span s.stack) (suc place + count)
+      IsOnWalk buffer language w (past_value last.span s.stack) (suc place + count)
   stands-out last rest count inside out from = record {
     bytes = on.bytes;
     place_within = omega (arith, out.place_within, length-drop (suc place) w.events);
@@ -126,7 +126,7 @@ module _ (buffer : List ℕ) (language : Language) (w : Source) (s : Standing) (
       subst (λ outcome. LeadsTo (rules language) buffer s.stack 1 o.others outcome) no o.leads
 
   -- A key is the same.
-  key-same : (at : Place) (t : Token) (rest : Tokens) (result : Result Standing Refusal) → place_turn at t.kind ≡ names →
+  key-same : (at : Place) (t : Token) (rest : Tokens) (result : Result Reader Refusal) → place_turn at t.kind ≡ names →
       HasColon buffer s.stack rest result → Events s.stack at (next t rest) → Same (key t.span.offset result)
   key-same at t _ _ n (colon_stands mark rest g) e =
       let taken = takes_turn (rules language) buffer s.stack at t (next mark rest) _ _ n e in
@@ -143,7 +143,7 @@ module _ (buffer : List ℕ) (language : Language) (w : Source) (s : Standing) (
       Same (closing t.span.offset (past_value t.span (around s.stack)))
   closing-there t p others same to is =
       let next = next-place p others same in
-      let there : StandsOn buffer language w (past_value t.span (around s.stack)) (suc place) = rw to at next.after in
+      let there : IsOnWalk buffer language w (past_value t.span (around s.stack)) (suc place) = rw to at next.after in
       let part = same-part p next.there ∙ is in
       rw part (same_closing t.span.offset (past_value t.span (around s.stack)) (suc place) there)
 
@@ -160,7 +160,7 @@ module _ (buffer : List ℕ) (language : Language) (w : Source) (s : Standing) (
   closing-same at t rest _ is c e = cc
 
   -- What stands at a place within the document is the same.
-  part-same : (at : Place) (ts : Tokens) (part : Part Standing) (from : ℕ) → PartFrom buffer (rules language) s.stack at ts part → Events s.stack at ts →
+  part-same : (at : Place) (ts : Tokens) (part : Part Reader) (from : ℕ) → PartFrom buffer (rules language) s.stack at ts part → Events s.stack at ts →
       tokens_in language buffer from ≡ ts → Same part
   part-same at _ _ from (separator _ other t rest part is more) e f =
       part-same (led (rules language) other) rest part (stop t.span) more (takes_turn (rules language) buffer s.stack at t rest _ _ is e)
@@ -192,7 +192,7 @@ module _ (buffer : List ℕ) (language : Language) (w : Source) (s : Standing) (
       by_language (strict mode) e = sym (strict-same buffer _ (finished-strict buffer _ s.stack s.stage _ e))
 
   -- After the root nothing stands, and the walk is at its end.
-  end-same : (part : Part Standing) → s.stage ≡ over → PartIn buffer language s over part → Same part
+  end-same : (part : Part Reader) → s.stage ≡ over → PartIn buffer language s over part → Same part
   unfolding reads_by
   end-same part over_it is =
       let none = nothing-over (rules language) _ (drop place w.events) (stage-comes over over_it) in
@@ -201,7 +201,7 @@ module _ (buffer : List ℕ) (language : Language) (w : Source) (s : Standing) (
       rw (is, there, last) (both_nothing _)
 
   -- At whatever stage, what stands is the same.
-  stage-same : (stage : Stage) (part : Part Standing) → s.stage ≡ stage → PartIn buffer language s stage part → Same part
+  stage-same : (stage : Stage) (part : Part Reader) → s.stage ≡ stage → PartIn buffer language s stage part → Same part
   stage-same over part is here = end-same part is here
   stage-same (within at) part is here =
       part-same at _ part (stop s.last) here (ap (reads_by (rules language) buffer s.stack (within at)) all-allowed ∙ stage-comes (within at) is) (sym all-allowed)

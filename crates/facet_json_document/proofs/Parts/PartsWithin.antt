@@ -7,7 +7,7 @@ use Rattle.facet_format.specs.Span.{span_at, stop}
 use Rattle.facet_json_token.specs.Token.{Token}
 use Rattle.facet_json_token.specs.Tokens.{Tokens, next}
 use Rattle.facet_json_document.specs.Future.{Stage, within, over}
-use Rattle.facet_json_document.specs.InputPlace.{Standing}
+use Rattle.facet_json_document.specs.InputPlace.{Reader}
 use Rattle.facet_json_document.specs.Language.{Language, gaps, Rules, rules}
 use Rattle.facet_json_document.specs.Place.{Place, led}
 use Rattle.facet_json_document.specs.Run.{Run, one_token, brackets, RunsInside, nothing as no_runs, separator as mark, a_run}
@@ -57,15 +57,15 @@ module _ (buffer : List ℕ) where
   -- ---- parts
 
   -- A part whose offsets lie within the buffer, whose place lies ahead and whose refusal lies within it.
-  data LiesWithin (from : ℕ) : Part Standing → Type 0 where
-    value_within : (has : Bool) (start finish : ℕ) (place : Standing) → start ≤ length buffer → finish ≤ length buffer →
+  data LiesWithin (from : ℕ) : Part Reader → Type 0 where
+    value_within : (has : Bool) (start finish : ℕ) (place : Reader) → start ≤ length buffer → finish ≤ length buffer →
         LiesAhead buffer from place → LiesWithin from (value has start finish place)
     broken_within : (r : Refusal) → RefusalWithin buffer r → LiesWithin from (broken r)
-    key_within : (start : ℕ) (place : Standing) → start ≤ length buffer → LiesAhead buffer from place →
+    key_within : (start : ℕ) (place : Reader) → start ≤ length buffer → LiesAhead buffer from place →
         LiesWithin from (key start (Ok place))
     key_alone_within : (start : ℕ) (r : Refusal) → start ≤ length buffer → RefusalWithin buffer r →
         LiesWithin from (key start (Err r))
-    closing_within : (start : ℕ) (place : Standing) → start ≤ length buffer → LiesAhead buffer from place →
+    closing_within : (start : ℕ) (place : Reader) → start ≤ length buffer → LiesAhead buffer from place →
         LiesWithin from (closing start place)
     nothing_within : (r : Refusal) → RefusalWithin buffer r → LiesWithin from (nothing r)
 
@@ -83,13 +83,13 @@ module _ (buffer : List ℕ) where
       omega arith
 
   -- A key lies within the buffer, with its colon or without.
-  colon-within : (from start : ℕ) (stack : List ContainerKind) (ts : Tokens) (result : Result Standing Refusal) → start ≤ length buffer →
+  colon-within : (from start : ℕ) (stack : List ContainerKind) (ts : Tokens) (result : Result Reader Refusal) → start ≤ length buffer →
       HasColon buffer stack ts result → InOrder buffer from ts → LiesWithin from (key start result)
   colon-within from start stack _ _ h (colon_stands t rest e) (at_a_token _ _ _ b w more) = key_within start _ h (b, w)
   colon-within from start stack ts _ h (colon_missing _ r stuck) o = key_alone_within start r h (stuck-within from _ ts r stuck o)
 
   -- A part that tokens in order begin with lies within the buffer.
-  from-within : (by : Rules) (from : ℕ) (stack : List ContainerKind) (place : Place) (ts : Tokens) (part : Part Standing) →
+  from-within : (by : Rules) (from : ℕ) (stack : List ContainerKind) (place : Place) (ts : Tokens) (part : Part Reader) →
       PartFrom buffer by stack place ts part → InOrder buffer from ts → LiesWithin from part
   from-within by from stack place _ part (separator _ other t rest _ e more) o =
       from-within by from stack (led by other) rest part more (after-first from t rest o)
@@ -112,7 +112,7 @@ module _ (buffer : List ℕ) where
   end-within from at h = nothing_within (refusal_at (unexpected_eof (codes "value")) (span_at at 0)) (omega arith)
 
   -- A part at a stage lies within the buffer, where the last token before does.
-  in-within : (language : Language) (s : Standing) (stage : Stage) (part : Part Standing) → stop s.last ≤ length buffer →
+  in-within : (language : Language) (s : Reader) (stage : Stage) (part : Part Reader) → stop s.last ≤ length buffer →
       PartIn buffer language s stage part → LiesWithin (stop s.last) part
   in-within language s over part h p = rw p (end-within (stop s.last) (stop s.last) h)
   in-within language s (within place) part h p =
@@ -126,7 +126,7 @@ module _ (buffer : List ℕ) where
   same-refused P a b e h = let same : a ≡ b = cc in subst (RefusalWithin buffer) same h
 
   -- A skip leads ahead.
-  skip-ahead : (from : ℕ) (part : Part Standing) (place : Standing) → LiesWithin from part → skip_of part ≡ Ok place →
+  skip-ahead : (from : ℕ) (part : Part Reader) (place : Reader) → LiesWithin from part → skip_of part ≡ Ok place →
       LiesAhead buffer from place
   skip-ahead from _ place (value_within has start finish there h k ahead) e =
       let same : there ≡ place = cc in subst (LiesAhead buffer from) same ahead
@@ -139,31 +139,31 @@ module _ (buffer : List ℕ) where
   skip-ahead from _ place (nothing_within r h) e = cc
 
   -- It is refused within the buffer.
-  no_skip-within : (from : ℕ) (part : Part Standing) (r : Refusal) → LiesWithin from part → skip_of part ≡ Err r → RefusalWithin buffer r
+  no_skip-within : (from : ℕ) (part : Part Reader) (r : Refusal) → LiesWithin from part → skip_of part ≡ Err r → RefusalWithin buffer r
   no_skip-within from _ r (value_within has start finish there h k ahead) e = cc
-  no_skip-within from _ r (broken_within s h) e = same-refused Standing s r e h
+  no_skip-within from _ r (broken_within s h) e = same-refused Reader s r e h
   no_skip-within from _ r (key_within start there h ahead) e = cc
-  no_skip-within from _ r (key_alone_within start s h k) e = same-refused Standing s r e k
+  no_skip-within from _ r (key_alone_within start s h k) e = same-refused Reader s r e k
   no_skip-within from _ r (closing_within start there h ahead) e = cc
-  no_skip-within from _ r (nothing_within s h) e = same-refused Standing s r e h
+  no_skip-within from _ r (nothing_within s h) e = same-refused Reader s r e h
 
   -- ---- captures
 
   -- What is captured leads to the place.
-  pub captured-place : (start finish : ℕ) (there place : Standing) (content text : List ℕ) (valid : Bool) →
+  pub captured-place : (start finish : ℕ) (there place : Reader) (content text : List ℕ) (valid : Bool) →
       captured start finish there content valid ≡ Ok (text, place) → there ≡ place
   captured-place start finish there place content text true e =
-      let same : ◌≡◌ {A = List ℕ × Standing} (content, there) (text, place) = cc in ap (λ (x : List ℕ × Standing). x.1) same
+      let same : ◌≡◌ {A = List ℕ × Reader} (content, there) (text, place) = cc in ap (λ (x : List ℕ × Reader). x.1) same
   captured-place start finish there place content text false e = cc
 
   -- A text that is not UTF-8 is refused within the buffer.
-  captured-refused : (start finish : ℕ) (there : Standing) (content : List ℕ) (valid : Bool) (r : Refusal) → start ≤ length buffer →
+  captured-refused : (start finish : ℕ) (there : Reader) (content : List ℕ) (valid : Bool) (r : Refusal) → start ≤ length buffer →
       finish ≤ length buffer → captured start finish there content valid ≡ Err r → RefusalWithin buffer r
   captured-refused start finish there content true r h k e = cc
-  captured-refused start finish there content false r h k e = same-refused (List ℕ × Standing) _ r e (omega arith)
+  captured-refused start finish there content false r h k e = same-refused (List ℕ × Reader) _ r e (omega arith)
 
   -- A capture leads ahead.
-  capture-ahead : (from : ℕ) (part : Part Standing) (text : List ℕ) (place : Standing) → LiesWithin from part →
+  capture-ahead : (from : ℕ) (part : Part Reader) (text : List ℕ) (place : Reader) → LiesWithin from part →
       capture_of buffer part ≡ Ok (text, place) → LiesAhead buffer from place
   capture-ahead from _ text place (value_within has start finish there h k ahead) e =
       subst (LiesAhead buffer from) (captured-place start finish there place _ text _ e) ahead
@@ -174,23 +174,23 @@ module _ (buffer : List ℕ) where
   capture-ahead from _ text place (nothing_within r h) e = cc
 
   -- It is refused within the buffer.
-  no_capture-within : (from : ℕ) (part : Part Standing) (r : Refusal) → LiesWithin from part → capture_of buffer part ≡ Err r →
+  no_capture-within : (from : ℕ) (part : Part Reader) (r : Refusal) → LiesWithin from part → capture_of buffer part ≡ Err r →
       RefusalWithin buffer r
   no_capture-within from _ r (value_within has start finish there h k ahead) e = captured-refused start finish there _ _ r h k e
-  no_capture-within from _ r (broken_within s h) e = same-refused (List ℕ × Standing) s r e h
-  no_capture-within from _ r (key_within start there h ahead) e = same-refused (List ℕ × Standing) _ r e (omega arith)
-  no_capture-within from _ r (key_alone_within start s h k) e = same-refused (List ℕ × Standing) _ r e (omega arith)
-  no_capture-within from _ r (closing_within start there h ahead) e = same-refused (List ℕ × Standing) _ r e (omega arith)
-  no_capture-within from _ r (nothing_within s h) e = same-refused (List ℕ × Standing) s r e h
+  no_capture-within from _ r (broken_within s h) e = same-refused (List ℕ × Reader) s r e h
+  no_capture-within from _ r (key_within start there h ahead) e = same-refused (List ℕ × Reader) _ r e (omega arith)
+  no_capture-within from _ r (key_alone_within start s h k) e = same-refused (List ℕ × Reader) _ r e (omega arith)
+  no_capture-within from _ r (closing_within start there h ahead) e = same-refused (List ℕ × Reader) _ r e (omega arith)
+  no_capture-within from _ r (nothing_within s h) e = same-refused (List ℕ × Reader) s r e h
 
-module _ (buffer : List ℕ) (language : Language) (s : Standing) (part : Part Standing) (h : stop s.last ≤ length buffer)
+module _ (buffer : List ℕ) (language : Language) (s : Reader) (part : Part Reader) (h : stop s.last ≤ length buffer)
     (here : PartAt buffer language s part) where
   -- The part that stands at a place lies within the buffer.
   part-within : LiesWithin buffer (stop s.last) part
   part-within = in-within buffer language s s.stage part h here
 
   -- A skip leads to a place whose last token lies within the buffer and after the last one.
-  pub skip-within : (place : Standing) → skip_of part ≡ Ok place → LiesAhead buffer (stop s.last) place
+  pub skip-within : (place : Reader) → skip_of part ≡ Ok place → LiesAhead buffer (stop s.last) place
   skip-within place e = skip-ahead buffer (stop s.last) part place part-within e
 
   -- A skip is refused within the buffer.
@@ -198,7 +198,7 @@ module _ (buffer : List ℕ) (language : Language) (s : Standing) (part : Part S
   skip-refused-within r e = no_skip-within buffer (stop s.last) part r part-within e
 
   -- A capture leads to a place whose last token lies within the buffer and after the last one.
-  pub capture-within : (text : List ℕ) (place : Standing) → capture_of buffer part ≡ Ok (text, place) → LiesAhead buffer (stop s.last) place
+  pub capture-within : (text : List ℕ) (place : Reader) → capture_of buffer part ≡ Ok (text, place) → LiesAhead buffer (stop s.last) place
   capture-within text place e = capture-ahead buffer (stop s.last) part text place part-within e
 
   -- A capture is refused within the buffer.

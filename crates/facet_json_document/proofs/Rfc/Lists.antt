@@ -1,7 +1,7 @@
 -- Lists of values or of members, from their first to the closing character.
 use Rattle.std.proofs.Common.{◌≡◌, ℕ, List, [], ◌++◌, refl, append_assoc, append-nil}
 use Rattle.facet_format.specs.Bytes.{comma}
-use Rattle.facet_json_document.specs.RfcText.{AreSpaces, Spaced, IsStructural, IsEnclosed}
+use Rattle.facet_json_document.specs.RfcText.{AreSpaces, Spaced, IsRfcStructural, IsEnclosed}
 use Rattle.facet_json_document.proofs.Scalars.Spaces.{spaces-append}
 
 -- Such characters, with no white space around them.
@@ -42,13 +42,13 @@ spaced_after cs spaces s blank = record {
 
 -- One such, or more, separated by commas: lists M of single ones P, between these two characters.
 module _ (P M : List ℕ → Type 0) (open_character close_character : ℕ) (one : (cs : List ℕ) → P cs → M cs)
-    (more : (first separator others cs : List ℕ) → P first → IsStructural comma separator → M others → cs ≡ first ++ separator ++ others → M cs) where
+    (more : (first separator others cs : List ℕ) → P first → IsRfcStructural comma separator → M others → cs ≡ first ++ separator ++ others → M cs) where
   -- a list of them and the closing character
   pub record IsClosed (characters : List ℕ) : Type 0 where
     pub inside : List ℕ
     pub finish : List ℕ
     pub such : M inside
-    pub closes : IsStructural close_character finish
+    pub closes : IsRfcStructural close_character finish
     pub whole : characters ≡ inside ++ finish
 
   -- After one of them and white space these characters are the rest of the list.
@@ -56,7 +56,7 @@ module _ (P M : List ℕ → Type 0) (open_character close_character : ℕ) (one
   GoesOn rest = (first spaces : List ℕ) → P first → AreSpaces spaces → IsClosed (first ++ (spaces ++ rest))
 
   -- The closing character ends the list.
-  pub ends : (finish : List ℕ) → IsStructural close_character finish → GoesOn finish
+  pub ends : (finish : List ℕ) → IsRfcStructural close_character finish → GoesOn finish
   ends finish closes first spaces p blank = record {
     inside = first;
     finish = spaces ++ finish;
@@ -66,7 +66,7 @@ module _ (P M : List ℕ → Type 0) (open_character close_character : ℕ) (one
   }
 
   -- A comma and another of them go on with it.
-  pub goes_on : (separator cs rest : List ℕ) → IsStructural comma separator → Spaced P cs → GoesOn rest → GoesOn (separator ++ cs ++ rest)
+  pub goes_on : (separator cs rest : List ℕ) → IsRfcStructural comma separator → Spaced P cs → GoesOn rest → GoesOn (separator ++ cs ++ rest)
   goes_on separator cs rest separates s others first spaces p blank =
       let next = others s.inside s.after s.such s.spaces_after in
       let comma_between = spaces ++ (separator ++ s.before) in
@@ -80,7 +80,7 @@ module _ (P M : List ℕ → Type 0) (open_character close_character : ℕ) (one
       }
 
   -- The opening character and the first of them begin it.
-  pub begins : (start cs rest : List ℕ) → IsStructural open_character start → Spaced P cs → GoesOn rest →
+  pub begins : (start cs rest : List ℕ) → IsRfcStructural open_character start → Spaced P cs → GoesOn rest →
       (inside : List ℕ) × M inside × IsEnclosed open_character close_character inside (start ++ cs ++ rest)
   begins start cs rest opens s others =
       let next = others s.inside s.after s.such s.spaces_after in (

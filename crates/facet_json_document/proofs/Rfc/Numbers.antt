@@ -7,23 +7,23 @@ use Rattle.std.proofs.lemmas.Bool.Decides.{nat_tests}
 use Rattle.std.proofs.lemmas.List.Folds.{list_all-append}
 use Rattle.std.proofs.lemmas.Fmt.{decimal_digit, decimal_by_steps_wide}
 use Rattle.facet_format.specs.Bytes.{minus}
-use Rattle.facet_json_token.specs.RfcNumber.{is_digit, AreDigits, none, digit, SomeDigits, IsMinus, IsExponentSign}
+use Rattle.facet_json_token.specs.RfcNumber.{is_rfc_digit, AreRfcDigits, none, digit, SomeDigits, IsRfcMinus, IsRfcExponentSign}
 use Rattle.facet_json_token.proofs.RfcNumbers.{are_digits}
-use Rattle.facet_json_document.specs.AsRead.{IsWithin}
+use Rattle.facet_json_document.specs.AsRead.{FitsBits}
 use Rattle.facet_json_document.specs.RfcText.{InUtf8, is_first_digit, IsWhole, nought, IsFraction, IsExponent, IsRfcNumber}
 use Rattle.facet_json_document.proofs.Scalars.DecimalDigits.{decimal-digits}
 use Rattle.facet_json_document.proofs.Rfc.Encoded.{is_ascii, ascii, ascii-itself}
 
 -- ---- digits
 
-digit_of : (n : ℕ) → n < 10 → is_digit (48 + n) ≡ true
+digit_of : (n : ℕ) → n < 10 → is_rfc_digit (48 + n) ≡ true
 digit_of n small = and_from (nat_le 0x30 (48 + n)) _ (le-leb 0x30 (48 + n) (omega arith)) (le-leb (48 + n) 0x39 (omega arith))
 
-digits-append : (a b : List ℕ) → AreDigits a → AreDigits b → AreDigits (a ++ b)
+digits-append : (a b : List ℕ) → AreRfcDigits a → AreRfcDigits b → AreRfcDigits (a ++ b)
 digits-append _ b none q = q
 digits-append _ b (digit c others is d) q = digit c (others ++ b) is (digits-append others b d q)
 
-pub digits-ascii : (ds : List ℕ) → AreDigits ds → list_all is_ascii ds ≡ true
+pub digits-ascii : (ds : List ℕ) → AreRfcDigits ds → list_all is_ascii ds ≡ true
 digits-ascii _ none = refl
 digits-ascii _ (digit c others is d) =
     let low = leb-true c 0x39 (and_parts (nat_le 0x30 c) (nat_le c 0x39) is).1 in
@@ -37,23 +37,23 @@ ascii-append a b p q = list_all-append is_ascii a b ∙ and_from (list_all is_as
 some-ascii : (ds : List ℕ) → SomeDigits ds → list_all is_ascii ds ≡ true
 some-ascii _ (SomeDigits.digits c others is d) = digits-ascii (c ∷ others) (digit c others is d)
 
-minus-ascii : (sign : List ℕ) → IsMinus sign → list_all is_ascii sign ≡ true
-minus-ascii _ IsMinus.absent = refl
-minus-ascii _ IsMinus.present = refl
+minus-ascii : (sign : List ℕ) → IsRfcMinus sign → list_all is_ascii sign ≡ true
+minus-ascii _ IsRfcMinus.absent = refl
+minus-ascii _ IsRfcMinus.present = refl
 
 whole-ascii : (ds : List ℕ) → IsWhole ds → list_all is_ascii ds ≡ true
 whole-ascii _ nought = refl
 whole-ascii _ (IsWhole.digits c others first d) =
-    let is : is_digit c ≡ true = grind (arith, nat_tests) in digits-ascii (c ∷ others) (digit c others is d)
+    let is : is_rfc_digit c ≡ true = grind (arith, nat_tests) in digits-ascii (c ∷ others) (digit c others is d)
 
 fraction-ascii : (fraction : List ℕ) → IsFraction fraction → list_all is_ascii fraction ≡ true
 fraction-ascii _ IsFraction.absent = refl
 fraction-ascii _ (IsFraction.present digits d) = some-ascii digits d
 
-sign-ascii : (sign : List ℕ) → IsExponentSign sign → list_all is_ascii sign ≡ true
-sign-ascii _ IsExponentSign.absent = refl
-sign-ascii _ IsExponentSign.minus = refl
-sign-ascii _ IsExponentSign.plus = refl
+sign-ascii : (sign : List ℕ) → IsRfcExponentSign sign → list_all is_ascii sign ≡ true
+sign-ascii _ IsRfcExponentSign.absent = refl
+sign-ascii _ IsRfcExponentSign.minus = refl
+sign-ascii _ IsRfcExponentSign.plus = refl
 
 exponent-ascii : (exponent : List ℕ) → IsExponent exponent → list_all is_ascii exponent ≡ true
 exponent-ascii _ IsExponent.absent = refl
@@ -77,7 +77,7 @@ number-itself bytes n = subst IsRfcNumber (sym (ascii-itself n.characters (numbe
 
 -- digits of which the first is not 0
 abbrev Leads : List ℕ → Type 0
-Leads ds = (c : ℕ) × (others : List ℕ) × (is_first_digit c ≡ true) × AreDigits others × (ds ≡ c ∷ others)
+Leads ds = (c : ℕ) × (others : List ℕ) × (is_first_digit c ≡ true) × AreRfcDigits others × (ds ≡ c ∷ others)
 
 leads-decimal : (n : ℕ) → 0 < n → n < 10 ^ 64 → Leads (decimal n)
 leads-decimal n some small = decimal_by_steps_wide (λ m ds. 0 < m → Leads ds) one more n small some
@@ -100,7 +100,7 @@ whole-decimal (suc n) small =
 
 -- ---- whole numbers
 
-whole_number : (sign whole : List ℕ) → IsMinus sign → IsWhole whole → IsRfcNumber (sign ++ whole)
+whole_number : (sign whole : List ℕ) → IsRfcMinus sign → IsWhole whole → IsRfcNumber (sign ++ whole)
 whole_number sign whole is_minus is_whole = record {
   sign = sign;
   whole = whole;
@@ -116,15 +116,15 @@ whole_number sign whole is_minus is_whole = record {
 -- What is written of a whole number is a number of RFC 8259.
 pub number-decimal : (n : ℕ) → n < 10 ^ 64 → InUtf8 IsRfcNumber (decimal n)
 number-decimal n small =
-    ascii (decimal n) (digits-ascii _ (are_digits (decimal-digits n))) (whole_number [] (decimal n) IsMinus.absent (whole-decimal n small))
+    ascii (decimal n) (digits-ascii _ (are_digits (decimal-digits n))) (whole_number [] (decimal n) IsRfcMinus.absent (whole-decimal n small))
 
 -- So is what is written of a negative one.
 pub number-negative : (n : ℕ) → n < 10 ^ 64 → InUtf8 IsRfcNumber (minus ∷ decimal n)
 number-negative n small =
     ascii (minus ∷ decimal n) (digits-ascii _ (are_digits (decimal-digits n)))
-    (whole_number (minus ∷ []) (decimal n) IsMinus.present (whole-decimal n small))
+    (whole_number (minus ∷ []) (decimal n) IsRfcMinus.present (whole-decimal n small))
 
 -- So is what is written of a number with a sign.
-pub number-signed : (bits : ℕ) (n : ℤ) → 2 ^ bits < 10 ^ 64 → IsWithin bits n → InUtf8 IsRfcNumber (signed_decimal n)
+pub number-signed : (bits : ℕ) (n : ℤ) → 2 ^ bits < 10 ^ 64 → FitsBits bits n → InUtf8 IsRfcNumber (signed_decimal n)
 number-signed bits (pos n) few within = number-decimal n (omega arith)
 number-signed bits (negsuc n) few within = number-negative (suc n) (omega arith)

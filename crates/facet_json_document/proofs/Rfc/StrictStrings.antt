@@ -15,7 +15,7 @@ use Rattle.facet_json_token.specs.Decode.{is_hex, code_unit, Piece, itself, shor
 use Rattle.facet_json_token.specs.Decode as decode
 use Rattle.facet_json_token.proofs.CharAt.{Shape, one, two, three, four, shape}
 use Rattle.facet_json_token.specs.Strict.{may_stand, wrong_at}
-use Rattle.facet_json_document.specs.RfcText.{InUtf8, is_unescaped, is_escapable, is_hex_digit, IsContent}
+use Rattle.facet_json_document.specs.RfcText.{InUtf8, is_rfc_unescaped, is_escapable, is_hex_digit, IsRfcContent}
 use Rattle.facet_json_document.proofs.Rfc.Encoded.{is_ascii, ascii, joined}
 use Rattle.facet_json_document.proofs.Rfc.Leaves.{hex-is_digit, escape-is_escapable, lenient-unnamed, escapable-is_named}
 
@@ -59,21 +59,21 @@ past-escape b xs s = past-escape_by b xs s.pieces s.right
 
 -- These characters may stand before any content.
 abbrev Begins : List ℕ → Type 0
-Begins cs = (others : List ℕ) → IsContent others → IsContent (cs ++ others)
+Begins cs = (others : List ℕ) → IsRfcContent others → IsRfcContent (cs ++ others)
 
 -- A piece that stands so begins a content of RFC 8259, and what follows it stands so.
 abbrev BeginsWith : List ℕ → List ℕ → Type 0
 BeginsWith first others = InUtf8 Begins first × Stands others
 
-unescaped_from : (c : ℕ) → 0x20 ≤ c → (c == quote) ≡ false → (c == backslash) ≡ false → is_unescaped c ≡ true
+unescaped_from : (c : ℕ) → 0x20 ≤ c → (c == quote) ≡ false → (c == backslash) ≡ false → is_rfc_unescaped c ≡ true
 unescaped_from c h q n = rw (le-leb 0x20 c h, q, n) refl
 
-a_character : (c : ℕ) → IsScalar c → is_unescaped c ≡ true → InUtf8 Begins (encode_utf8 c)
+a_character : (c : ℕ) → IsScalar c → is_rfc_unescaped c ≡ true → InUtf8 Begins (encode_utf8 c)
 a_character c is may = record {
   characters = c ∷ [];
   are_scalars = and_from (scalar c) _ is refl;
   encoded = append-nil (encode_utf8 c);
-  such = λ others content. IsContent.unescaped c others may content;
+  such = λ others content. IsRfcContent.unescaped c others may content;
 }
 
 -- A byte of a longer character.
@@ -84,7 +84,7 @@ itself-begins : (c : ℕ) (others : List ℕ) → IsScalar c → (c == backslash
     BeginsWith (encode_utf8 c) others
 itself-begins c others is ne s = by (shape c)
   where
-    high : 0x80 ≤ c → is_unescaped c ≡ true
+    high : 0x80 ≤ c → is_rfc_unescaped c ≡ true
     high h = grind (arith, nat_tests)
 
     by : Shape c → BeginsWith (encode_utf8 c) others
@@ -139,15 +139,15 @@ unit-ascii a b c d u rest e more =
     and_from (is_ascii a) _ (hex-low a h.0).0 (and_from (is_ascii b) _ (hex-low b h.1).0
     (and_from (is_ascii c) _ (hex-low c h.2).0 (and_from (is_ascii d) _ (hex-low d h.3).0 more)))
 
-unit-content : (a b c d u : ℕ) (others : List ℕ) → code_unit a b c d ≡ Some u → IsContent others →
-    IsContent (backslash ∷ lower_u ∷ a ∷ b ∷ c ∷ d ∷ others)
+unit-content : (a b c d u : ℕ) (others : List ℕ) → code_unit a b c d ≡ Some u → IsRfcContent others →
+    IsRfcContent (backslash ∷ lower_u ∷ a ∷ b ∷ c ∷ d ∷ others)
 unit-content a b c d u others e content =
-    let h = hexes a b c d u e in IsContent.unit a b c d others h.0 h.1 h.2 h.3 content
+    let h = hexes a b c d u e in IsRfcContent.unit a b c d others h.0 h.1 h.2 h.3 content
 
 piece-begins : (first : List ℕ) (c : ℕ) (others : List ℕ) → Piece first c → Stands (first ++ others) → BeginsWith first others
 piece-begins _ c others (itself _ is ne) s = itself-begins c others is ne s
 piece-begins _ c others (short b _ e) s = (
-  ascii {P = Begins} (backslash ∷ b ∷ []) (and_from (is_ascii b) _ (short-ascii b (escape-is_escapable b c e)) refl) (λ rest content. IsContent.short b rest (escape-is_escapable b c e) content),
+  ascii {P = Begins} (backslash ∷ b ∷ []) (and_from (is_ascii b) _ (short-ascii b (escape-is_escapable b c e)) refl) (λ rest content. IsRfcContent.short b rest (escape-is_escapable b c e) content),
   (past-escape b others s).1,
 )
 piece-begins _ c others (other _ low none ne) s =
@@ -163,8 +163,8 @@ piece-begins _ _ others (pair a b c d high e f g h low is high_is also low_is) s
     )
 
 -- A content that has a text, is a token's and passes the check is one of RFC 8259.
-pub content-rfc : {content text : List ℕ} → Decodes content text → Stands content → InUtf8 IsContent content
-content-rfc decode.empty s = ascii [] refl IsContent.empty
+pub content-rfc : {content text : List ℕ} → Decodes content text → Stands content → InUtf8 IsRfcContent content
+content-rfc decode.empty s = ascii [] refl IsRfcContent.empty
 content-rfc (decode.piece first others content c rest text p d e t) s =
     let there = piece-begins first c others p (subst Stands e s) in
     rw e (joined {P = Begins} (λ a b begins content. begins b content) there.0 (content-rfc d there.1))
@@ -191,7 +191,7 @@ before-escape b xs may s = record {
 before-hex : (a : ℕ) (xs : List ℕ) → is_hex_digit a ≡ true → Stands xs → Stands (a ∷ xs)
 before-hex a xs h s = before-byte a xs (grind (arith, nat_tests)) (grind (arith, nat_tests)) (hex-low a h).1 s
 
-before-character : (c : ℕ) (xs : List ℕ) → is_unescaped c ≡ true → Stands xs → Stands (encode_utf8 c ++ xs)
+before-character : (c : ℕ) (xs : List ℕ) → is_rfc_unescaped c ≡ true → Stands xs → Stands (encode_utf8 c ++ xs)
 before-character c xs may s = by (shape c)
   where
     by : Shape c → Stands (encode_utf8 c ++ xs)
@@ -207,13 +207,13 @@ own c cs low = ap (λ l. l ++ encode_utf8_all cs) (encode_ascii c (ltb-true c 0x
 short-may : (b : ℕ) → is_escapable b ≡ true → may_stand true b ≡ true
 short-may b e = rw (escapable-is_named b e) (grind arith)
 
-pub rfc-content : (cs : List ℕ) → IsContent cs → Stands (encode_utf8_all cs)
-rfc-content _ IsContent.empty = record { mark = false; pieces = cut.ArePieces.none; right = refl }
-rfc-content _ (IsContent.unescaped c others may more) = before-character c (encode_utf8_all others) may (rfc-content others more)
-rfc-content _ (IsContent.short b others e more) =
+pub rfc-content : (cs : List ℕ) → IsRfcContent cs → Stands (encode_utf8_all cs)
+rfc-content _ IsRfcContent.empty = record { mark = false; pieces = cut.ArePieces.none; right = refl }
+rfc-content _ (IsRfcContent.unescaped c others may more) = before-character c (encode_utf8_all others) may (rfc-content others more)
+rfc-content _ (IsRfcContent.short b others e more) =
     let there = before-escape b (encode_utf8_all others) (short-may b e) (rfc-content others more) in
     rw (own backslash (b ∷ others) refl, own b others (short-ascii b e)) there
-rfc-content _ (IsContent.unit a b c d others ha hb hc hd more) =
+rfc-content _ (IsRfcContent.unit a b c d others ha hb hc hd more) =
     let there = before-escape lower_u (a ∷ b ∷ c ∷ d ∷ encode_utf8_all others) refl
     (before-hex a _ ha (before-hex b _ hb (before-hex c _ hc (before-hex d (encode_utf8_all others) hd (rfc-content others more))))) in
     rw (

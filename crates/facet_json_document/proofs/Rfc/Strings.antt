@@ -10,7 +10,7 @@ use Rattle.facet_format.specs.Bytes.{quote, space}
 use Rattle.facet_json_document.specs.Quoted.{hex_digit, escaped, quoted}
 use Rattle.facet_json_document.specs.TextLaws.{escaped_character}
 use Rattle.facet_json_document.proofs.Writing.QuotedByCharacters.{quoted_by_characters}
-use Rattle.facet_json_document.specs.RfcText.{InUtf8, is_unescaped, is_hex_digit, IsContent, empty, unescaped, short, unit, IsRfcString}
+use Rattle.facet_json_document.specs.RfcText.{InUtf8, is_rfc_unescaped, is_hex_digit, IsRfcContent, empty, unescaped, short, unit, IsRfcString}
 use Rattle.facet_json_document.proofs.Scalars.EscapedBytes.{Form, by_number, itself, form}
 use Rattle.std.proofs.lemmas.Bool.Decides.{nat_tests}
 use Rattle.facet_json_document.specs.RfcLaws.{QuotedIsRfc}
@@ -21,7 +21,7 @@ use Rattle.facet_json_document.proofs.Rfc.Encoded.{is_ascii, ascii, joined, join
 
 -- These characters may stand before any content.
 abbrev Begins : List ℕ → Type 0
-Begins cs = (others : List ℕ) → IsContent others → IsContent (cs ++ others)
+Begins cs = (others : List ℕ) → IsRfcContent others → IsRfcContent (cs ++ others)
 
 hex_digit-is_digit : (n : ℕ) → n < 16 → is_hex_digit (hex_digit n) ≡ true
 hex_digit-is_digit n small = agree_below_at (λ k. is_hex_digit (hex_digit k)) (λ k. true) 16 n refl small
@@ -43,7 +43,7 @@ escaped-ascii c low = agree_below_at (λ k. list_all is_ascii (escaped k)) (λ k
 character-begins : (c : ℕ) → IsScalar c → InUtf8 Begins (escaped_character c)
 character-begins c is = by (cases_lt c 0x80)
   where
-    is_other : 0x80 ≤ c → is_unescaped c ≡ true
+    is_other : 0x80 ≤ c → is_rfc_unescaped c ≡ true
     is_other high = grind (arith, nat_tests)
 
     by : (c < 0x80) ⊎ (0x80 ≤ c) → InUtf8 Begins (escaped_character c)
@@ -56,17 +56,17 @@ character-begins c is = by (cases_lt c 0x80)
     }
 
 -- Characters as they are written are a content.
-pub content-characters : (cs : List ℕ) → all_scalars cs ≡ true → InUtf8 IsContent (flat_map escaped_character cs)
+pub content-characters : (cs : List ℕ) → all_scalars cs ≡ true → InUtf8 IsRfcContent (flat_map escaped_character cs)
 content-characters [] e = ascii [] refl empty
 content-characters (c ∷ cs) e =
     let parts = and_parts (scalar c) (all_scalars cs) e in
     joined {P = Begins} (λ a b p q. p b q) (character-begins c parts.0) (content-characters cs parts.1)
 
-string_of : (a content c : List ℕ) → a ≡ quote ∷ [] → IsContent content → c ≡ quote ∷ [] → IsRfcString (a ++ content ++ c)
+string_of : (a content c : List ℕ) → a ≡ quote ∷ [] → IsRfcContent content → c ≡ quote ∷ [] → IsRfcString (a ++ content ++ c)
 string_of a content c first is last = record { content = content; is_content = is; quoted = rw (first, last) }
 
 -- A content between quotes is a string.
-between_quotes : (bytes : List ℕ) → InUtf8 IsContent bytes → InUtf8 IsRfcString (quote ∷ bytes ++ quote ∷ [])
+between_quotes : (bytes : List ℕ) → InUtf8 IsRfcContent bytes → InUtf8 IsRfcString (quote ∷ bytes ++ quote ∷ [])
 between_quotes bytes content =
     let mark : InUtf8 (λ cs. cs ≡ quote ∷ []) (quote ∷ []) = ascii (quote ∷ []) refl refl in
     joined3 string_of mark content mark

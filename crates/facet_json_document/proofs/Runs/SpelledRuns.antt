@@ -6,7 +6,7 @@ use Rattle.facet_json_token.specs.Tokens.{Tokens, next}
 use Rattle.facet_json_document.specs.Node.{Node, Nodes, Members, is_scalar, is_string, Spells, SpellsItems, closed, item_and_comma, last_item, SpellsMembers, ended_members, member_and_comma, last_member}
 use Rattle.facet_json_document.specs.Node as node
 use Rattle.facet_json_document.specs.Run.{is_separator, Run, one_token, brackets, RunsInside, nothing, separator, a_run}
-use Rattle.facet_json_document.specs.RunLaws.{last_token, SpelledIsRun}
+use Rattle.facet_json_document.specs.RunLaws.{last_token_of, SpelledIsRun}
 
 -- A string is a scalar.
 pub string-is_scalar : (k : Kind) → is_string k ≡ true → is_scalar k ≡ true
@@ -30,7 +30,7 @@ record IsClosed (kind : Kind) (ts : Tokens) (last : Token) (rest : Tokens) : Typ
   closes : last.kind ≡ kind
 
 mutual
-  spelled : (ts rest : Tokens) (value : Node) → Spells ts value rest → Run ts (last_token value) rest
+  spelled : (ts rest : Tokens) (value : Node) → Spells ts value rest → Run ts (last_token_of value) rest
   spelled _ _ _ (node.one_token t rest e) = one_token t rest e
   spelled _ _ _ (node.brackets first last inner rest nodes e items) =
       let closed_list = items_closed inner rest nodes last items in

@@ -14,7 +14,7 @@ use Rattle.facet_format.proofs.NumberLaws.{is_number-complete}
 use Rattle.facet_format.proofs.NumberText.{number-unsigned, number-signed}
 use Rattle.facet_json_document.specs.Meaning.{tree_of_number}
 use Rattle.facet_json_document.specs.Tree as trees
-use Rattle.facet_json_document.specs.AsRead.{whole_number, IsWithin}
+use Rattle.facet_json_document.specs.AsRead.{whole_number, FitsBits}
 use Rattle.facet_json_document.specs.Language.{Rules}
 use Rattle.facet_json_document.proofs.Rfc.Numbers.{number-decimal, number-negative}
 use Rattle.facet_json_document.proofs.Scalars.DecimalDigits.{decimal-digits}
@@ -154,7 +154,7 @@ decimal-one_scalar by n h =
     rw (← v.2) (number-one_scalar by (decimal n) unsigned v.0 (number-by by (decimal n) (number-decimal n small)) is)
 
 -- So is what is written of a signed one.
-pub signed-one_scalar : (by : Rules) (z : ℤ) → IsWithin 127 z → IsOneScalar by (signed_decimal z) (whole_number z)
+pub signed-one_scalar : (by : Rules) (z : ℤ) → FitsBits 127 z → IsOneScalar by (signed_decimal z) (whole_number z)
 signed-one_scalar by (pos n) h = decimal-one_scalar by n (omega arith)
 signed-one_scalar by (negsuc n) h =
     let small : suc n < 10 ^ 64 = omega arith in
@@ -166,7 +166,7 @@ signed-one_scalar by (negsuc n) h =
     rw (← v.2) (number-one_scalar by (minus ∷ decimal (suc n)) signed v.0 stands is)
 
 -- What is within 63 bits and a sign is within 127.
-pub within-wider : (z : ℤ) → IsWithin 63 z → IsWithin 127 z
+pub within-wider : (z : ℤ) → FitsBits 63 z → FitsBits 127 z
 within-wider (pos n) h = omega arith
 within-wider (negsuc n) h = omega arith
 

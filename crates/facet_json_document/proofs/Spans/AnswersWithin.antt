@@ -10,13 +10,13 @@ use Rattle.facet_format.specs.Part.{Part, skip_of, capture_of}
 use Rattle.facet_format.specs.Cursor.{Call, next, peek, events, skip, capture, save, restore, span, Answer, event, batch, skipped, raw, saved, Spot, Cursor, Comes, repeats, passes, passes_without_memory, passes_the_end, passes_nothing, peeks, peeks_without_memory, peeks_at_the_end, peeks_at_nothing, gives_none, gives, gives_up, gives_without_memory, skips, skips_without_memory, skips_nothing, captures, captures_without_memory, captures_nothing, saves, saves_at_the_limit, saves_without_memory, restores, restores_nothing, tells, repeated, an_event, at_spot, refused_at, kept_here, back_at, current_span, spot_after, unpeeked}
 use Rattle.facet_json_token.specs.Gap.{Mode}
 use Rattle.facet_json_document.specs.Language.{Language, lenient}
-use Rattle.facet_json_document.specs.InputPlace.{Standing, future_at}
+use Rattle.facet_json_document.specs.InputPlace.{Reader, future_at}
 use Rattle.facet_json_document.specs.Unread.{PartAt}
 use Rattle.facet_json_document.proofs.PastEvents.{comes-within}
 use Rattle.facet_json_document.proofs.Parts.PartsWithin.{parts_within}
 use Rattle.facet_json_document.specs.Now.{Now, fresh, fresh_in, on_input, first_of, RefusedAt}
 use Rattle.facet_json_document.specs.Move.{Moves}
-use Rattle.facet_json_document.specs.Within.{StandsWithin, RefusalWithin, NowWithin, no_events, AnswerWithin}
+use Rattle.facet_json_document.specs.Within.{ReaderWithin, RefusalWithin, NowWithin, no_events, AnswerWithin}
 use Rattle.facet_json_document.proofs.PointsHold.{found-holds, without-holds, with_point-holds}
 use Rattle.facet_json_document.proofs.MoveLaws.{with_cursor, StepOf, by_step}
 use Rattle.facet_json_document.proofs.MovesNext.{event-comes}
@@ -26,7 +26,7 @@ use Rattle.facet_json_document.proofs.Spans.EventsWithin.{refused-within, span-w
 pub fresh-within-in : (buffer : List ℕ) (language : Language) → NowWithin (fresh_in buffer language)
 fresh-within-in buffer language = record {
   standing = omega arith;
-  kept = All-nil (λ point. StandsWithin buffer point.1.place);
+  kept = All-nil (λ point. ReaderWithin buffer point.1.place);
   refusal = tt;
 }
 
@@ -42,12 +42,12 @@ module _ (now : Now) (good : NowWithin now) where
   -- ---- the parser afterwards
 
   -- at another spot
-  pub settled-within : (spot : Spot Standing) → StandsWithin now.buffer spot.place →
+  pub settled-within : (spot : Spot Reader) → ReaderWithin now.buffer spot.place →
       NowWithin (with_cursor now (at_spot now.cursor spot))
   settled-within spot w = record { standing = w; kept = good.kept; refusal = good.refusal }
 
   -- at another spot, and refused
-  pub refused_at-within : (spot : Spot Standing) (r : Refusal) → StandsWithin now.buffer spot.place → RefusalWithin now.buffer r →
+  pub refused_at-within : (spot : Spot Reader) (r : Refusal) → ReaderWithin now.buffer spot.place → RefusalWithin now.buffer r →
       NowWithin (with_cursor now (refused_at now.cursor spot r))
   refused_at-within spot r w said = record { standing = w; kept = good.kept; refusal = said }
 
@@ -55,17 +55,17 @@ module _ (now : Now) (good : NowWithin now) where
   pub kept-within : NowWithin (with_cursor now (kept_here now.cursor))
   kept-within = record {
     standing = good.standing;
-    kept = with_point-holds (λ spot. StandsWithin now.buffer spot.place) (suc now.cursor.counter) now.cursor.spot now.cursor.kept
+    kept = with_point-holds (λ spot. ReaderWithin now.buffer spot.place) (suc now.cursor.counter) now.cursor.spot now.cursor.kept
         good.kept good.standing;
     refusal = good.refusal;
   }
 
   -- back at the spot of a point
-  pub back-within : (point : ℕ) (spot : Spot Standing) → found point now.cursor.kept ≡ Some spot →
+  pub back-within : (point : ℕ) (spot : Spot Reader) → found point now.cursor.kept ≡ Some spot →
       NowWithin (with_cursor now (back_at now.cursor point spot))
   back-within point spot e = record {
-    standing = found-holds (λ spot. StandsWithin now.buffer spot.place) point spot now.cursor.kept good.kept e;
-    kept = without-holds (λ spot. StandsWithin now.buffer spot.place) point now.cursor.kept good.kept;
+    standing = found-holds (λ spot. ReaderWithin now.buffer spot.place) point spot now.cursor.kept good.kept e;
+    kept = without-holds (λ spot. ReaderWithin now.buffer spot.place) point now.cursor.kept good.kept;
     refusal = tt;
   }
 
@@ -97,17 +97,17 @@ module _ (now : Now) (good : NowWithin now) where
 
   -- ---- parts
 
-  abbrev here : Standing
+  abbrev here : Reader
   here = now.cursor.spot.place
 
   -- The place after a skip lies further on, and within the input.
-  pub skip-behind : (part : Part Standing) (place : Standing) → PartAt now.buffer now.language here part → skip_of part ≡ Ok place →
-      (stop here.last < stop place.last) × StandsWithin now.buffer place
+  pub skip-behind : (part : Part Reader) (place : Reader) → PartAt now.buffer now.language here part → skip_of part ≡ Ok place →
+      (stop here.last < stop place.last) × ReaderWithin now.buffer place
   skip-behind part place stands is = (parts_within now.buffer now.language here part good.standing stands).skip place is
 
   -- So does the place after a capture.
-  pub capture-behind : (part : Part Standing) (text : List ℕ) (place : Standing) → PartAt now.buffer now.language here part →
-      capture_of now.buffer part ≡ Ok (text, place) → (stop here.last < stop place.last) × StandsWithin now.buffer place
+  pub capture-behind : (part : Part Reader) (text : List ℕ) (place : Reader) → PartAt now.buffer now.language here part →
+      capture_of now.buffer part ≡ Ok (text, place) → (stop here.last < stop place.last) × ReaderWithin now.buffer place
   capture-behind part text place stands is = (parts_within now.buffer now.language here part good.standing stands).capture text place is
 
   -- ---- steps
@@ -119,7 +119,7 @@ module _ (now : Now) (good : NowWithin now) where
       MovedWithin (with_cursor now (refused_at now.cursor now.cursor.spot r)) answer
   refused_here r answer w inside = record { parser = refused_at-within now.cursor.spot r good.standing w; within = inside }
 
-  passed_here : (place : Standing) (answer : Answer) → StandsWithin now.buffer place → AnswerWithin now.buffer answer →
+  passed_here : (place : Reader) (answer : Answer) → ReaderWithin now.buffer place → AnswerWithin now.buffer answer →
       MovedWithin (with_cursor now (at_spot now.cursor (unpeeked place))) answer
   passed_here place answer w inside = record { parser = settled-within (unpeeked place) w; within = inside }
 
@@ -131,7 +131,7 @@ module _ (now : Now) (good : NowWithin now) where
       (event-comes now.buffer now.language now.cursor.spot.place p e) in
       (omega (arith, inside, ends), ends)
 
-  batch_refused : (given : List Event) (spot : Spot Standing) (r : Refusal) (after : Standing) →
+  batch_refused : (given : List Event) (spot : Spot Reader) (r : Refusal) (after : Reader) →
       Comes (on_input now.buffer now.language) now.cursor.spot.place given after → spot ≡ spot_after given after now.cursor.spot →
       RefusalWithin now.buffer r → MovedWithin (with_cursor now (refused_at now.cursor spot r)) (batch given (Err r))
   batch_refused given spot r after all there w =
@@ -141,7 +141,7 @@ module _ (now : Now) (good : NowWithin now) where
         within = ((given-within now.buffer now.language all good.standing).events, w);
       }
 
-  step_within : {call : Call} {answer : Answer} (d : Cursor Standing) → StepOf now call answer d →
+  step_within : {call : Call} {answer : Answer} (d : Cursor Reader) → StepOf now call answer d →
       MovedWithin (with_cursor now d) answer
   step_within d (repeats r call answer e a) = unchanged answer (repeated_within r call answer a (refusal_within r e))
   step_within d (passes p none comes) =

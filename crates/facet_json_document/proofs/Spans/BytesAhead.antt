@@ -4,7 +4,7 @@ use Rattle.std.specs.Prelude.{Ok}
 use Rattle.facet_format.specs.Span.{stop}
 use Rattle.facet_format.specs.Event.{Event, Passed}
 use Rattle.facet_format.specs.Cursor.{Call, next, events, skip, capture, restore, Answer, event, batch, skipped, raw, Cursor, Comes, repeats, passes, gives_none, gives, gives_up, gives_without_memory, skips, captures, restores, an_event, spot_after}
-use Rattle.facet_json_document.specs.InputPlace.{Standing, future_at}
+use Rattle.facet_json_document.specs.InputPlace.{Reader, future_at}
 use Rattle.facet_json_document.proofs.PastEvents.{comes-within}
 use Rattle.facet_json_document.specs.Now.{Now, on_input, first_of, ahead, GoesOn}
 use Rattle.facet_json_document.proofs.CallsLead.{one-leads}
@@ -25,14 +25,14 @@ module _ (now : Now) (good : NowWithin now) where
       (behind, ends)
 
   -- So many events are so many bytes further on.
-  batch_behind : (given : List Event) (after : Standing) → Comes (on_input now.buffer now.language) now.cursor.spot.place given after →
+  batch_behind : (given : List Event) (after : Reader) → Comes (on_input now.buffer now.language) now.cursor.spot.place given after →
       (length given + stop now.cursor.spot.place.last ≤ stop (spot_after given after now.cursor.spot).place.last)
       × (stop (spot_after given after now.cursor.spot).place.last ≤ length now.buffer)
   batch_behind given after all =
       let there = given-within now.buffer now.language all good.standing in
       rw (spot_after-place now.buffer now.language now.cursor.spot all) (there.further, there.stands)
 
-  step_onward : {call : Call} {answer : Answer} (d : Cursor Standing) → StepOf now call answer d →
+  step_onward : {call : Call} {answer : Answer} (d : Cursor Reader) → StepOf now call answer d →
       ((point : ℕ) → call ≡ restore point → ⊥) → stop now.cursor.spot.place.last ≤ stop d.spot.place.last
   step_onward d (passes p none comes) other = omega (arith, (event_behind p comes).0)
   step_onward d (gives k n given after none all count le over) other = omega (arith, (batch_behind given after all).0)
@@ -64,7 +64,7 @@ module _ (now : Now) (good : NowWithin now) where
     by_calls = one-leads now new move;
   }
 
-  next_lowers : (d : Cursor Standing) (e : Event) (answer : Answer) → answer ≡ event (Ok (Some e)) →
+  next_lowers : (d : Cursor Reader) (e : Event) (answer : Answer) → answer ≡ event (Ok (Some e)) →
       StepOf now next answer d → ahead (with_cursor now d) < ahead now
   next_lowers d e answer a (passes p none comes) = omega (arith, (event_behind p comes).0, (event_behind p comes).1)
   next_lowers d e answer a (repeats r call _ f g) = cc
@@ -74,7 +74,7 @@ module _ (now : Now) (good : NowWithin now) where
   pub next-lowers : (new : Now) (e : Event) → Moves now next (event (Ok (Some e))) new → ahead new < ahead now
   next-lowers new e move = by_step (λ x. ahead x < ahead now) now new move (λ d step. next_lowers d e _ refl step)
 
-  events_lower : (d : Cursor Standing) (limit n : ℕ) (given : List Event) (answer : Answer) → answer ≡ batch given (Ok n) →
+  events_lower : (d : Cursor Reader) (limit n : ℕ) (given : List Event) (answer : Answer) → answer ≡ batch given (Ok n) →
       StepOf now (events limit) answer d → ahead (with_cursor now d) + n ≤ ahead now
   events_lower d zero n given answer a (repeats r call _ f g) = cc
   events_lower d (suc k) n given answer a (repeats r call _ f g) = cc
@@ -92,7 +92,7 @@ module _ (now : Now) (good : NowWithin now) where
   events-lower new limit n given move =
       by_step (λ x. ahead x + n ≤ ahead now) now new move (λ d step. events_lower d limit n given _ refl step)
 
-  skip_lowers : (d : Cursor Standing) (answer : Answer) → answer ≡ skipped (Ok tt) → StepOf now skip answer d →
+  skip_lowers : (d : Cursor Reader) (answer : Answer) → answer ≡ skipped (Ok tt) → StepOf now skip answer d →
       ahead (with_cursor now d) < ahead now
   skip_lowers d answer a (skips part place none stands is) =
       let (further, ends) = skip-behind now good part place stands is in omega (arith, further, ends)
@@ -103,7 +103,7 @@ module _ (now : Now) (good : NowWithin now) where
   pub skip-lowers : (new : Now) → Moves now skip (skipped (Ok tt)) new → ahead new < ahead now
   skip-lowers new move = by_step (λ x. ahead x < ahead now) now new move (λ d step. skip_lowers d _ refl step)
 
-  capture_lowers : (d : Cursor Standing) (text : List ℕ) (answer : Answer) → answer ≡ raw (Ok (Some text)) →
+  capture_lowers : (d : Cursor Reader) (text : List ℕ) (answer : Answer) → answer ≡ raw (Ok (Some text)) →
       StepOf now capture answer d → ahead (with_cursor now d) < ahead now
   capture_lowers d text answer a (captures part other place none stands is) =
       let (further, ends) = capture-behind now good part other place stands is in omega (arith, further, ends)

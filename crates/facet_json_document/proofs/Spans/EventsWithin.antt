@@ -12,10 +12,10 @@ use Rattle.facet_json_document.specs.Place.{Place}
 use Rattle.facet_json_document.specs.Refusal.{IsStuck, at_end, at_fault, meaningless, misplaced, Complains, of_number, of_plain_string, of_escaped_string}
 use Rattle.facet_json_document.proofs.InOrder.{InOrder, at_a_fault, at_a_token}
 use Rattle.facet_json_document.specs.Future.{Future, gives, finished, stuck}
-use Rattle.facet_json_document.specs.InputPlace.{Standing, future_at}
+use Rattle.facet_json_document.specs.InputPlace.{Reader, future_at}
 use Rattle.facet_json_document.proofs.PastEvents.{comes-within, stuck-in_order}
 use Rattle.facet_json_document.specs.Now.{first_of, RefusedAt, on_input}
-use Rattle.facet_json_document.specs.Within.{StandsWithin, RefusalWithin, EventsWithin}
+use Rattle.facet_json_document.specs.Within.{ReaderWithin, RefusalWithin, EventsWithin}
 use Rattle.facet_json_document.specs.Within as within
 use Rattle.facet_json_document.proofs.MovesNext.{event-comes, spot_after-place}
 
@@ -36,7 +36,7 @@ stuck-within buffer place _ r from (meaningless _ t rest _ k n q) (at_a_token _ 
 stuck-within buffer place _ r from (misplaced _ t rest k n) (at_a_token _ _ _ b w more) = w
 
 module _ (buffer : List ℕ) (language : Language) where
-  refused_by : (s : Standing) (f : Future) (r : Refusal) → future_at buffer language s ≡ f → StandsWithin buffer s →
+  refused_by : (s : Reader) (f : Future) (r : Refusal) → future_at buffer language s ≡ f → ReaderWithin buffer s →
       RefusedAt buffer f r → RefusalWithin buffer r
   refused_by s (stuck place rest) r e w so =
       stuck-within buffer place rest r (stop s.last) so (stuck-in_order buffer language s place rest w e)
@@ -44,13 +44,13 @@ module _ (buffer : List ℕ) (language : Language) where
   refused_by s finished r e w so = absurd so
 
   -- A refusal at a place within the buffer lies within it.
-  pub refused-within : (s : Standing) (r : Refusal) → StandsWithin buffer s → RefusedAt buffer (future_at buffer language s) r →
+  pub refused-within : (s : Reader) (r : Refusal) → ReaderWithin buffer s → RefusedAt buffer (future_at buffer language s) r →
       RefusalWithin buffer r
   refused-within s r w so = refused_by s (future_at buffer language s) r refl w so
 
   -- ---- the current span
 
-  seen_by : (peeked : Bool) (s : Standing) (f : Future) → future_at buffer language s ≡ f → StandsWithin buffer s →
+  seen_by : (peeked : Bool) (s : Reader) (f : Future) → future_at buffer language s ≡ f → ReaderWithin buffer s →
       stop (last_seen peeked (first_of f) s.last) ≤ length buffer
   seen_by true s (gives p rest) e w = (comes-within buffer language s p rest w e).2
   seen_by true s finished e w = w
@@ -58,21 +58,21 @@ module _ (buffer : List ℕ) (language : Language) where
   seen_by false s f e w = w
 
   -- The current span lies within the buffer.
-  pub span-within : (spot : Spot Standing) → StandsWithin buffer spot.place →
+  pub span-within : (spot : Spot Reader) → ReaderWithin buffer spot.place →
       stop (current_span (on_input buffer language) spot) ≤ length buffer
   span-within spot w = seen_by spot.peeked spot.place (future_at buffer language spot.place) refl w
 
   -- ---- events
 
   -- These events lie within the buffer, and the place after them is as many bytes further on at least.
-  pub record GivenWithin (s : Standing) (given : List Event) (after : Standing) : Type 0 where
+  pub record GivenWithin (s : Reader) (given : List Event) (after : Reader) : Type 0 where
     pub events : EventsWithin buffer given
-    pub stands : StandsWithin buffer after
+    pub stands : ReaderWithin buffer after
     pub further : length given + stop s.last ≤ stop after.last
 
   -- So do events that come.
-  pub given-within : {s after : Standing} {given : List Event} → Comes (on_input buffer language) s given after →
-      StandsWithin buffer s → GivenWithin s given after
+  pub given-within : {s after : Reader} {given : List Event} → Comes (on_input buffer language) s given after →
+      ReaderWithin buffer s → GivenWithin s given after
   given-within (no_event place) w = record { events = within.no_events; stands = w; further = omega arith }
   given-within (one_event place after p others e more) w =
       let (behind, inside, ends) = comes-within buffer language place p _ w (event-comes buffer language place p e) in
@@ -84,8 +84,8 @@ module _ (buffer : List ℕ) (language : Language) where
       }
 
   -- The spot after them is within the buffer.
-  pub spot_after-within : (spot : Spot Standing) {after : Standing} {given : List Event} →
-      Comes (on_input buffer language) spot.place given after → StandsWithin buffer spot.place →
-      StandsWithin buffer (spot_after given after spot).place
+  pub spot_after-within : (spot : Spot Reader) {after : Reader} {given : List Event} →
+      Comes (on_input buffer language) spot.place given after → ReaderWithin buffer spot.place →
+      ReaderWithin buffer (spot_after given after spot).place
   spot_after-within spot all w =
-      subst (StandsWithin buffer) (sym (spot_after-place buffer language spot all)) (given-within all w).stands
+      subst (ReaderWithin buffer) (sym (spot_after-place buffer language spot all)) (given-within all w).stands

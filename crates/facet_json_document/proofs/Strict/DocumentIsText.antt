@@ -4,13 +4,13 @@ use Rattle.std.specs.List.{list_all}
 use Rattle.facet_json_token.specs.Token.{Kind, Token}
 use Rattle.facet_json_token.specs.Token as token
 use Rattle.facet_json_token.specs.Tokens.{Tokens, next}
-use Rattle.facet_json_document.specs.Meaning.{tree_of, trees_of, pairs_of, text_of, meaning}
+use Rattle.facet_json_document.specs.Meaning.{tree_of, trees_of, pairs_of, text_in_tree, meaning}
 use Rattle.facet_json_document.specs.Node.{Node, Nodes, no_nodes, Members, no_members, Spells, SpellsItems, SpellsMembers, is_string, is_scalar, one_token, brackets, braces, closed, item_and_comma, last_item, ended_members, member_and_comma, last_member}
 use Rattle.facet_json_document.specs.StrictDocument.{is_closing, begins_closing, IsStrictDocument}
 use Rattle.facet_json_document.specs.Tree.{Tree, Trees, Pairs}
 use Rattle.facet_json_document.proofs.TreesOfParts.{list_meant, object_meant, item_meant, member_meant}
 use Rattle.facet_json_document.specs.RfcReadable.{IsReadableNumber, IsReadableString, IsReadableValue, IsReadableText}
-use Rattle.facet_json_document.specs.RfcText.{InUtf8, AreSpaces, Spaced, IsStructural, begin_array, end_array, begin_object, end_object, name_separator, value_separator, IsMemberOf}
+use Rattle.facet_json_document.specs.RfcText.{InUtf8, AreSpaces, Spaced, IsRfcStructural, begin_array, end_array, begin_object, end_object, name_separator, value_separator, IsMemberOf}
 use Rattle.facet_json_document.proofs.Rfc.Encoded.{is_ascii, ascii, joined}
 use Rattle.facet_json_document.proofs.Rfc.Lists.{spaced_before, spaced_after}
 use Rattle.facet_json_document.proofs.Rfc.Structural.{blank_text}
@@ -46,38 +46,38 @@ SomeMembers = IsListed IsReadableMember MembersGoOn
 listed : {P Rest : List ℕ → Type 0} (first others : List ℕ) → Spaced P first → Rest others → IsListed P Rest (first ++ others)
 listed first others one more = record { first = first; others = others; one = one; more = more; whole = refl }
 
-last_item-listed : (first finish : List ℕ) → IsReadableText first → IsStructural end_array finish → SomeItems (first ++ finish)
+last_item-listed : (first finish : List ℕ) → IsReadableText first → IsRfcStructural end_array finish → SomeItems (first ++ finish)
 last_item-listed first finish one closes = listed first finish one (items_end finish closes)
 
-separated-items : (separator cs : List ℕ) → IsStructural value_separator separator → SomeItems cs → ItemsGoOn (separator ++ cs)
+separated-items : (separator cs : List ℕ) → IsRfcStructural value_separator separator → SomeItems cs → ItemsGoOn (separator ++ cs)
 separated-items separator cs separates more =
     let there = items_go_on separator more.first more.others separates more.one more.more in
     rw more.whole (subst ItemsGoOn (append_assoc separator more.first more.others) there)
 
-array-listed : (start cs : List ℕ) → IsStructural begin_array start → SomeItems cs → IsReadableText (start ++ cs)
+array-listed : (start cs : List ℕ) → IsRfcStructural begin_array start → SomeItems cs → IsReadableText (start ++ cs)
 array-listed start cs opens items =
     let there = array_of start items.first items.others opens items.one items.more in
     value_text (start ++ cs) (rw items.whole (subst IsReadableValue (append_assoc start items.first items.others) there))
 
-empty-array : (start finish : List ℕ) → IsStructural begin_array start → IsStructural end_array finish → IsReadableText (start ++ finish)
+empty-array : (start finish : List ℕ) → IsRfcStructural begin_array start → IsRfcStructural end_array finish → IsReadableText (start ++ finish)
 empty-array start finish opens closes = value_text (start ++ finish) (array_of_none start finish opens closes)
 
-last_member-listed : (first finish : List ℕ) → Spaced IsReadableMember first → IsStructural end_object finish →
+last_member-listed : (first finish : List ℕ) → Spaced IsReadableMember first → IsRfcStructural end_object finish →
     SomeMembers (first ++ finish)
 last_member-listed first finish one closes = listed first finish one (members_end finish closes)
 
-separated-members : (separator cs : List ℕ) → IsStructural value_separator separator → SomeMembers cs →
+separated-members : (separator cs : List ℕ) → IsRfcStructural value_separator separator → SomeMembers cs →
     MembersGoOn (separator ++ cs)
 separated-members separator cs separates more =
     let there = members_go_on separator more.first more.others separates more.one more.more in
     rw more.whole (subst MembersGoOn (append_assoc separator more.first more.others) there)
 
-object-listed : (start cs : List ℕ) → IsStructural begin_object start → SomeMembers cs → IsReadableText (start ++ cs)
+object-listed : (start cs : List ℕ) → IsRfcStructural begin_object start → SomeMembers cs → IsReadableText (start ++ cs)
 object-listed start cs opens members =
     let there = object_of start members.first members.others opens members.one members.more in
     value_text (start ++ cs) (rw members.whole (subst IsReadableValue (append_assoc start members.first members.others) there))
 
-empty-object : (start finish : List ℕ) → IsStructural begin_object start → IsStructural end_object finish → IsReadableText (start ++ finish)
+empty-object : (start finish : List ℕ) → IsRfcStructural begin_object start → IsRfcStructural end_object finish → IsReadableText (start ++ finish)
 empty-object start finish opens closes = value_text (start ++ finish) (object_of_none start finish opens closes)
 
 -- A key with white space around it, and a colon.
@@ -85,10 +85,10 @@ record IsNamed (characters : List ℕ) : Type 0 where
   key : List ℕ
   mark : List ℕ
   names : Spaced IsReadableString key
-  separates : IsStructural name_separator mark
+  separates : IsRfcStructural name_separator mark
   whole : characters ≡ key ++ mark
 
-named : (key mark : List ℕ) → Spaced IsReadableString key → IsStructural name_separator mark → IsNamed (key ++ mark)
+named : (key mark : List ℕ) → Spaced IsReadableString key → IsRfcStructural name_separator mark → IsNamed (key ++ mark)
 named key mark names separates = record { key = key; mark = mark; names = names; separates = separates; whole = refl }
 
 named-member : (name cs : List ℕ) → IsNamed name → IsReadableText cs → Spaced IsReadableMember (name ++ cs)
@@ -120,26 +120,26 @@ module _ (buffer : List ℕ) where
       first-stands buffer first (scalar-readable buffer first.shape first.here t is first.right value e)
 
   key-stands : (from : ℕ) (t : Token) (rest : Tokens) → is_string t.kind ≡ true → Come buffer from (next t rest) →
-      (name : List ℕ) → text_of (meaning buffer t) ≡ Some name → Stand (Spaced IsReadableString) from rest
+      (name : List ℕ) → text_in_tree (meaning buffer t) ≡ Some name → Stand (Spaced IsReadableString) from rest
   key-stands from t rest is come name e =
       let first = first-token buffer from t rest come in
       first-stands buffer first (key-readable buffer first.shape first.here t is first.right name e)
 
   -- A bracket, a colon or a comma of this kind.
   mark-stands : (c : ℕ) (kind : Kind) → spelling kind ≡ Some (c ∷ []) → is_ascii c ≡ true → {from : ℕ} (t : Token) (rest : Tokens) →
-      t.kind ≡ kind → Come buffer from (next t rest) → Stand (IsStructural c) from rest
+      t.kind ≡ kind → Come buffer from (next t rest) → Stand (IsRfcStructural c) from rest
   mark-stands c kind same small {from} t rest is come =
       word-stands (rw small refl) (first-token buffer from t rest come) (ap spelling is ∙ same)
 
   name-stands : (from : ℕ) (key mark : Token) (rest : Tokens) → is_string key.kind ≡ true → mark.kind ≡ token.colon →
-      Come buffer from (next key (next mark rest)) → (name : List ℕ) → text_of (meaning buffer key) ≡ Some name → Stand IsNamed from rest
+      Come buffer from (next key (next mark rest)) → (name : List ℕ) → text_in_tree (meaning buffer key) ≡ Some name → Stand IsNamed from rest
   name-stands from key mark rest is_key is_mark come name e =
       let there = key-stands from key (next mark rest) is_key come name e in
       stand-joined buffer named there (mark-stands name_separator token.colon refl refl mark rest is_mark there.others)
 
   -- What stands after an opening bracket or a comma: the closing bracket, or one or more.
   abbrev Opened : ℕ → (List ℕ → Type 0) → ℕ → Tokens → Tokens → Type 0
-  Opened close_character Listed from ts rest = ((begins_closing ts ≡ true) × Stand (IsStructural close_character) from rest) ⊎ Stand Listed from rest
+  Opened close_character Listed from ts rest = ((begins_closing ts ≡ true) × Stand (IsRfcStructural close_character) from rest) ⊎ Stand Listed from rest
 
   closing-stands : {Listed : List ℕ → Type 0} (c : ℕ) (kind : Kind) → spelling kind ≡ Some (c ∷ []) → is_ascii c ≡ true → is_closing kind ≡ true →
       {from : ℕ} (last : Token) (rest : Tokens) → last.kind ≡ kind → Come buffer from (next last rest) → Opened c Listed from (next last rest) rest
@@ -151,12 +151,12 @@ module _ (buffer : List ℕ) where
   not_closed ts e (inl there) = let closes = there.0 in cc
   not_closed ts e (inr more) = more
 
-  array-stands : {from : ℕ} {inner rest : Tokens} (start : Stand (IsStructural begin_array) from inner) →
+  array-stands : {from : ℕ} {inner rest : Tokens} (start : Stand (IsRfcStructural begin_array) from inner) →
       Opened end_array SomeItems start.to inner rest → Stand IsReadableText from rest
   array-stands start (inl there) = stand-joined buffer empty-array start there.1
   array-stands start (inr more) = stand-joined buffer array-listed start more
 
-  object-stands : {from : ℕ} {inner rest : Tokens} (start : Stand (IsStructural begin_object) from inner) →
+  object-stands : {from : ℕ} {inner rest : Tokens} (start : Stand (IsRfcStructural begin_object) from inner) →
       Opened end_object SomeMembers start.to inner rest → Stand IsReadableText from rest
   object-stands start (inl there) = stand-joined buffer empty-object start there.1
   object-stands start (inr more) = stand-joined buffer object-listed start more

@@ -16,13 +16,13 @@ use Rattle.facet_json_token.proofs.DecodeLaws.{decodes-decoded}
 use Rattle.facet_json_token.specs.RfcNumberTest.{is_rfc_number}
 use Rattle.facet_json_token.specs.Strict.{wrong_at, strict_fault_of}
 use Rattle.facet_json_token.proofs.RfcNumbers.{is_rfc-sound}
-use Rattle.facet_json_document.specs.Meaning.{meaning_of, text_of}
+use Rattle.facet_json_document.specs.Meaning.{meaning_of, text_in_tree}
 use Rattle.facet_json_document.specs.Node.{is_string, is_scalar}
 use Rattle.facet_json_document.specs.Tree.{Tree}
 use Rattle.facet_json_document.specs.Tree as trees
 use Rattle.facet_json_document.specs.RfcReadable.{IsReadableNumber, IsReadableString, IsReadableValue}
 use Rattle.facet_json_document.specs.RfcText as rfc
-use Rattle.facet_json_document.specs.RfcText.{InUtf8, IsContent, literal_false, literal_null, literal_true}
+use Rattle.facet_json_document.specs.RfcText.{InUtf8, IsRfcContent, literal_false, literal_null, literal_true}
 use Rattle.facet_json_document.proofs.Rfc.Encoded.{ascii, mapped, joined3}
 use Rattle.facet_json_document.proofs.Rfc.Numbers.{number-ascii}
 use Rattle.facet_json_document.proofs.Rfc.StrictStrings.{content-rfc}
@@ -70,7 +70,7 @@ shape-spelling (IsShape.numeral text rest hint is longest) e = cc
 
 -- characters of a content that has this text
 abbrev HasText : List ℕ → List ℕ → Type 0
-HasText text cs = IsContent cs × Decodes (encode_utf8_all cs) text
+HasText text cs = IsRfcContent cs × Decodes (encode_utf8_all cs) text
 
 string_of : (text a content c : List ℕ) → a ≡ quote ∷ [] → HasText text content → c ≡ quote ∷ [] → IsReadableString (a ++ content ++ c)
 string_of text a content c first inside last = record {
@@ -108,7 +108,7 @@ mapped-some : {A B : Type 0} (f : A → B) (o : Option A) (value : B) → option
 mapped-some f None value e = cc
 mapped-some f (Some x) value e = (x, refl)
 
-text-some : (o : Option (List ℕ)) (name : List ℕ) → text_of (option_map trees.text o) ≡ Some name → o ≡ Some name
+text-some : (o : Option (List ℕ)) (name : List ℕ) → text_in_tree (option_map trees.text o) ≡ Some name → o ≡ Some name
 text-some None name e = cc
 text-some (Some text) name e = cc
 
@@ -185,7 +185,7 @@ module _ (buffer : List ℕ) where
 
   -- Those of a key's token are a string.
   pub key-readable : {at : ℕ} {these rest : List ℕ} {kind : Kind} → IsShape at these rest kind → drop at buffer ≡ these ++ rest → (t : Token) →
-      is_string kind ≡ true → strict_fault_of buffer t kind ≡ None → (name : List ℕ) → text_of (meaning_of buffer kind) ≡ Some name →
+      is_string kind ≡ true → strict_fault_of buffer t kind ≡ None → (name : List ℕ) → text_in_tree (meaning_of buffer kind) ≡ Some name →
       InUtf8 IsReadableString these
   key-readable (IsShape.structural b kind rest is) here t key right name e = structural_no_key b kind is key
   key-readable (IsShape.literal word kind rest is) here t key right name e = literal_no_key word kind is key

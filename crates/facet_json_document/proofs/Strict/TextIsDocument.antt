@@ -10,7 +10,7 @@ use Rattle.facet_json_document.specs.Language.{strict_rules}
 use Rattle.facet_json_document.specs.Tree.{Tree, Trees, no_trees, Pairs, no_pairs}
 use Rattle.facet_json_document.specs.Tree as trees
 use Rattle.facet_json_document.specs.RfcReadable.{IsReadableNumber, IsReadableString, IsReadableText}
-use Rattle.facet_json_document.specs.RfcText.{InUtf8, AreSpaces, Spaced, IsStructural, IsEnclosed, IsValueOf, literal_false, literal_null, literal_true, number, string, empty_array, array, empty_object, object, AreItemsOf, one_item, more_items, AreMembersOf, one_member, more_members, IsMemberOf, member}
+use Rattle.facet_json_document.specs.RfcText.{InUtf8, AreSpaces, Spaced, IsRfcStructural, IsEnclosed, IsValueOf, literal_false, literal_null, literal_true, number, string, empty_array, array, empty_object, object, AreItemsOf, one_item, more_items, AreMembersOf, one_member, more_members, IsMemberOf, member}
 use Rattle.facet_json_document.specs.StrictTexts.{IsStrict}
 use Rattle.facet_json_document.proofs.Rfc.Encoded.{is_ascii, ascii, ascii-itself}
 use Rattle.facet_json_document.proofs.Rfc.Numbers.{number-ascii}
@@ -38,7 +38,7 @@ three-encoded a b c cs e =
     ∙ append_assoc (encode_utf8_all a) (encode_utf8_all b) (encode_utf8_all c)
 
 -- A structural character of ASCII, with its white space.
-structural-encoded : (c : ℕ) (cs : List ℕ) → is_ascii c ≡ true → (s : IsStructural c cs) → encode_utf8_all cs ≡ s.before ++ (c ∷ s.after)
+structural-encoded : (c : ℕ) (cs : List ℕ) → is_ascii c ≡ true → (s : IsRfcStructural c cs) → encode_utf8_all cs ≡ s.before ++ (c ∷ s.after)
 structural-encoded c cs low s =
     let itself : encode_utf8_all s.inside ≡ c ∷ [] = ap encode_utf8_all s.such ∙ ascii-itself (c ∷ []) (and_from (is_ascii c) true low refl) in
     three-encoded s.before s.inside s.after cs s.whole
@@ -131,7 +131,7 @@ last_item-read cs r = record {
   are = λ blank e. items-last strict_rules (encode_utf8_all cs) blank r.value r.one e;
 }
 
-more_items-read : (value separator others cs : List ℕ) → IsRead value → IsStructural bytes.comma separator → AreItemsRead others →
+more_items-read : (value separator others cs : List ℕ) → IsRead value → IsRfcStructural bytes.comma separator → AreItemsRead others →
     cs ≡ value ++ separator ++ others → AreItemsRead cs
 more_items-read value separator others cs r s more e = record {
   values = trees.tree r.value more.values;
@@ -163,7 +163,7 @@ empty_array-read cs e =
 -- ---- objects
 
 -- A key, a colon and a value are a member.
-member-read : (key separator value cs : List ℕ) → IsReadableString key → IsStructural bytes.colon separator → IsRead value →
+member-read : (key separator value cs : List ℕ) → IsReadableString key → IsRfcStructural bytes.colon separator → IsRead value →
     cs ≡ key ++ separator ++ value → IsMemberRead cs
 member-read key separator value cs k s r e =
     let key_text = encode_utf8_all key in
@@ -192,7 +192,7 @@ member-read key separator value cs k s r e =
 last_member-read : (cs : List ℕ) → IsMemberRead cs → AreMembersRead cs
 last_member-read cs m = record { values = trees.pair m.name m.value no_pairs; are = m.last }
 
-more_members-read : (first separator others cs : List ℕ) → IsMemberRead first → IsStructural bytes.comma separator → AreMembersRead others →
+more_members-read : (first separator others cs : List ℕ) → IsMemberRead first → IsRfcStructural bytes.comma separator → AreMembersRead others →
     cs ≡ first ++ separator ++ others → AreMembersRead cs
 more_members-read first separator others cs m s more e = record {
   values = trees.pair m.name m.value more.values;

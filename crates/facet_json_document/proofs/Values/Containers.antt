@@ -8,7 +8,7 @@ use Rattle.facet_json_token.specs.Token.{Kind, Token, array_start, array_end, ob
 use Rattle.facet_json_token.specs.Tokens.{next, tokens_from}
 use Rattle.facet_json_token.specs.Strict.{strict_fault}
 use Rattle.facet_json_document.specs.Language.{Rules}
-use Rattle.facet_json_document.specs.Meaning.{tree_of, trees_of, pairs_of, meaning, text_of, put_item, put_pair}
+use Rattle.facet_json_document.specs.Meaning.{tree_of, trees_of, pairs_of, meaning, text_in_tree, put_item, put_pair}
 use Rattle.facet_json_document.specs.Node.{array, object, Nodes, no_nodes, item, Members, no_members, member, is_string, Spells, brackets, braces, SpellsItems, closed, item_and_comma, last_item, SpellsMembers, ended_members, member_and_comma, last_member}
 use Rattle.facet_json_document.specs.Tree.{Tree, list, pairs, Trees, no_trees, tree, Pairs, no_pairs, pair}
 use Rattle.facet_json_document.specs.StrictDocument.{begins_closing}
@@ -189,7 +189,7 @@ pub record KeyStands (buffer : List ℕ) (from to : ℕ) (name : List ℕ) : Typ
   pub tokens : tokens_from buffer plain from ≡ next key (next mark (tokens_from buffer plain to))
   pub is_key : is_string key.kind ≡ true
   pub is_mark : mark.kind ≡ colon
-  pub names : text_of (meaning buffer key) ≡ Some name
+  pub names : text_in_tree (meaning buffer key) ≡ Some name
   pub right : strict_fault buffer key ≡ None
 
 -- A key's text, white space and a colon are its tokens.
@@ -208,7 +208,7 @@ key_stands-blank buffer from key_text name blank rest h e left =
       tokens = cut_as-from s.1 same c.1 ∙ ap (next c.0) marked;
       is_key = c.2;
       is_mark = refl;
-      names = ap (λ l. text_of (meaning l c.0)) (sym same) ∙ ap text_of c.3;
+      names = ap (λ l. text_in_tree (meaning l c.0)) (sym same) ∙ ap text_in_tree c.3;
       right = ap (λ l. strict_fault l c.0) (sym same) ∙ c.4;
     }
 

@@ -1,8 +1,8 @@
 -- Small texts that the grammar of RFC 8259 has, and some that it has not.
 use Rattle.std.proofs.Common.{◌≡◌, ℕ, false, List, [], ◌∷◌, ◌++◌, refl, sym, ap, ◌∙◌, codes, get_or, eq-eqb, true≢false, ◌==◌}
 use Rattle.facet_format.specs.Bytes.{backslash, colon, comma, left_bracket, right_bracket, left_brace, right_brace}
-use Rattle.facet_json_token.specs.RfcNumber.{none, digit, IsMinus, IsExponentSign}
-use Rattle.facet_json_document.specs.RfcText.{IsStructural, SomeDigits, IsWhole, nought, IsFraction, IsExponent, IsRfcNumber, IsContent, empty, unescaped, short, unit, IsRfcString, IsRfcText, IsEnclosed, AreItems, literal_true, array, object, one_item, more_items, one_member, member}
+use Rattle.facet_json_token.specs.RfcNumber.{none, digit, IsRfcMinus, IsRfcExponentSign}
+use Rattle.facet_json_document.specs.RfcText.{IsRfcStructural, SomeDigits, IsWhole, nought, IsFraction, IsExponent, IsRfcNumber, IsRfcContent, empty, unescaped, short, unit, IsRfcString, IsRfcText, IsEnclosed, AreItems, literal_true, array, object, one_item, more_items, one_member, member}
 use Rattle.facet_json_document.specs.RfcText as rfc
 use Rattle.facet_json_document.proofs.Rfc.Lists.{unspaced}
 
@@ -15,10 +15,10 @@ all_parts_row = record {
   whole = codes "0";
   fraction = codes ".5";
   exponent = codes "e+1";
-  is_minus = IsMinus.present;
+  is_minus = IsRfcMinus.present;
   is_whole = nought;
   is_fraction = IsFraction.present (codes "5") (SomeDigits.digits 0x35 [] refl none);
-  is_exponent = IsExponent.present 0x65 (codes "+") (codes "1") _ refl IsExponentSign.plus (SomeDigits.digits 0x31 [] refl none) refl;
+  is_exponent = IsExponent.present 0x65 (codes "+") (codes "1") _ refl IsRfcExponentSign.plus (SomeDigits.digits 0x31 [] refl none) refl;
   parts = refl;
 }
 
@@ -29,7 +29,7 @@ ten = record {
   whole = codes "10";
   fraction = [];
   exponent = [];
-  is_minus = IsMinus.absent;
+  is_minus = IsRfcMinus.absent;
   is_whole = IsWhole.digits 0x31 (codes "0") refl (digit 0x30 [] refl none);
   is_fraction = IsFraction.absent;
   is_exponent = IsExponent.absent;
@@ -46,7 +46,7 @@ apart {x = x} {y = y} i e other = true≢false (sym (eq-eqb (get_or x i 0) (get_
 
 -- No number has the parts of these characters.
 abbrev HasNoParts : List ℕ → Type 0
-HasNoParts characters = (sign whole fraction exponent : List ℕ) → IsMinus sign → IsWhole whole →
+HasNoParts characters = (sign whole fraction exponent : List ℕ) → IsRfcMinus sign → IsWhole whole →
     IsFraction fraction → IsExponent exponent → characters ≡ sign ++ whole ++ fraction ++ exponent → ⊥
 
 no_number : (characters : List ℕ) → HasNoParts characters → IsRfcNumber characters → ⊥
@@ -57,11 +57,11 @@ leading_zero_row : IsRfcNumber (codes "01") → ⊥
 leading_zero_row = no_number (codes "01") no_parts
   where
     no_parts : HasNoParts (codes "01")
-    no_parts _ _ _ _ IsMinus.present _ _ _ e = apart 0 e refl
-    no_parts _ _ _ _ IsMinus.absent (IsWhole.digits c others is _) _ _ e = let k : 0x30 ≡ c = at 0 e in true≢false (rw (← k) at (sym is))
-    no_parts _ _ _ _ IsMinus.absent nought (IsFraction.present _ _) _ e = apart 1 e refl
-    no_parts _ _ _ _ IsMinus.absent nought IsFraction.absent IsExponent.absent e = apart 1 e refl
-    no_parts _ _ _ _ IsMinus.absent nought IsFraction.absent (IsExponent.present mark _ _ others is _ _ _) e =
+    no_parts _ _ _ _ IsRfcMinus.present _ _ _ e = apart 0 e refl
+    no_parts _ _ _ _ IsRfcMinus.absent (IsWhole.digits c others is _) _ _ e = let k : 0x30 ≡ c = at 0 e in true≢false (rw (← k) at (sym is))
+    no_parts _ _ _ _ IsRfcMinus.absent nought (IsFraction.present _ _) _ e = apart 1 e refl
+    no_parts _ _ _ _ IsRfcMinus.absent nought IsFraction.absent IsExponent.absent e = apart 1 e refl
+    no_parts _ _ _ _ IsRfcMinus.absent nought IsFraction.absent (IsExponent.present mark _ _ others is _ _ _) e =
         let k : 0x31 ≡ mark = at 1 e in true≢false (rw (← k) at (sym is))
 
 -- A number does not start with a dot.
@@ -69,29 +69,29 @@ no_whole_row : IsRfcNumber (codes ".5") → ⊥
 no_whole_row = no_number (codes ".5") no_parts
   where
     no_parts : HasNoParts (codes ".5")
-    no_parts _ _ _ _ IsMinus.present _ _ _ e = apart 0 e refl
-    no_parts _ _ _ _ IsMinus.absent nought _ _ e = apart 0 e refl
-    no_parts _ _ _ _ IsMinus.absent (IsWhole.digits c others is _) _ _ e = let k : 0x2e ≡ c = at 0 e in true≢false (rw (← k) at (sym is))
+    no_parts _ _ _ _ IsRfcMinus.present _ _ _ e = apart 0 e refl
+    no_parts _ _ _ _ IsRfcMinus.absent nought _ _ e = apart 0 e refl
+    no_parts _ _ _ _ IsRfcMinus.absent (IsWhole.digits c others is _) _ _ e = let k : 0x2e ≡ c = at 0 e in true≢false (rw (← k) at (sym is))
 
 -- Nor with a plus.
 plus_row : IsRfcNumber (codes "+1") → ⊥
 plus_row = no_number (codes "+1") no_parts
   where
     no_parts : HasNoParts (codes "+1")
-    no_parts _ _ _ _ IsMinus.present _ _ _ e = apart 0 e refl
-    no_parts _ _ _ _ IsMinus.absent nought _ _ e = apart 0 e refl
-    no_parts _ _ _ _ IsMinus.absent (IsWhole.digits c others is _) _ _ e = let k : 0x2b ≡ c = at 0 e in true≢false (rw (← k) at (sym is))
+    no_parts _ _ _ _ IsRfcMinus.present _ _ _ e = apart 0 e refl
+    no_parts _ _ _ _ IsRfcMinus.absent nought _ _ e = apart 0 e refl
+    no_parts _ _ _ _ IsRfcMinus.absent (IsWhole.digits c others is _) _ _ e = let k : 0x2b ≡ c = at 0 e in true≢false (rw (← k) at (sym is))
 
 -- A dot is followed by digits.
 no_fraction_row : IsRfcNumber (codes "0.") → ⊥
 no_fraction_row = no_number (codes "0.") no_parts
   where
     no_parts : HasNoParts (codes "0.")
-    no_parts _ _ _ _ IsMinus.present _ _ _ e = apart 0 e refl
-    no_parts _ _ _ _ IsMinus.absent (IsWhole.digits c others is _) _ _ e = let k : 0x30 ≡ c = at 0 e in true≢false (rw (← k) at (sym is))
-    no_parts _ _ _ _ IsMinus.absent nought (IsFraction.present _ (SomeDigits.digits c _ is _)) _ e = let k : 0 ≡ c = at 2 e in true≢false (rw (← k) at (sym is))
-    no_parts _ _ _ _ IsMinus.absent nought IsFraction.absent IsExponent.absent e = apart 1 e refl
-    no_parts _ _ _ _ IsMinus.absent nought IsFraction.absent (IsExponent.present mark _ _ others is _ _ _) e =
+    no_parts _ _ _ _ IsRfcMinus.present _ _ _ e = apart 0 e refl
+    no_parts _ _ _ _ IsRfcMinus.absent (IsWhole.digits c others is _) _ _ e = let k : 0x30 ≡ c = at 0 e in true≢false (rw (← k) at (sym is))
+    no_parts _ _ _ _ IsRfcMinus.absent nought (IsFraction.present _ (SomeDigits.digits c _ is _)) _ e = let k : 0 ≡ c = at 2 e in true≢false (rw (← k) at (sym is))
+    no_parts _ _ _ _ IsRfcMinus.absent nought IsFraction.absent IsExponent.absent e = apart 1 e refl
+    no_parts _ _ _ _ IsRfcMinus.absent nought IsFraction.absent (IsExponent.present mark _ _ others is _ _ _) e =
         let k : 0x2e ≡ mark = at 1 e in true≢false (rw (← k) at (sym is))
 
 -- ---- strings
@@ -105,20 +105,20 @@ escapes_row = record {
 }
 
 -- A backslash is followed by one of the eight letters or by u.
-unknown_escape_row : IsContent (codes "\\q") → ⊥
+unknown_escape_row : IsRfcContent (codes "\\q") → ⊥
 unknown_escape_row h = no_parts (codes "\\q") h refl
   where
-    no_parts : (cs : List ℕ) → IsContent cs → cs ≡ codes "\\q" → ⊥
+    no_parts : (cs : List ℕ) → IsRfcContent cs → cs ≡ codes "\\q" → ⊥
     no_parts _ empty e = apart 0 e refl
     no_parts _ (unescaped c _ is _) e = let k : c ≡ backslash = at 0 e in true≢false (rw k at (sym is))
     no_parts _ (short c _ is _) e = let k : c ≡ 0x71 = at 1 e in true≢false (rw k at (sym is))
     no_parts _ (unit _ _ _ _ _ _ _ _ _ _) e = apart 1 e refl
 
 -- A control character does not stand for itself.
-control_row : IsContent (0x09 ∷ []) → ⊥
+control_row : IsRfcContent (0x09 ∷ []) → ⊥
 control_row h = no_parts (0x09 ∷ []) h refl
   where
-    no_parts : (cs : List ℕ) → IsContent cs → cs ≡ 0x09 ∷ [] → ⊥
+    no_parts : (cs : List ℕ) → IsRfcContent cs → cs ≡ 0x09 ∷ [] → ⊥
     no_parts _ empty e = apart 0 e refl
     no_parts _ (unescaped c _ is _) e = let k : c ≡ 0x09 = at 0 e in true≢false (rw k at (sym is))
     no_parts _ (short _ _ _ _) e = apart 0 e refl
@@ -127,7 +127,7 @@ control_row h = no_parts (0x09 ∷ []) h refl
 -- ---- texts
 
 -- a structural character with a space at either side
-spaced : (c : ℕ) → IsStructural c (0x20 ∷ c ∷ 0x20 ∷ [])
+spaced : (c : ℕ) → IsRfcStructural c (0x20 ∷ c ∷ 0x20 ∷ [])
 spaced c = record {
   before = codes " ";
   inside = c ∷ [];

@@ -6,9 +6,9 @@ use Rattle.facet_format.specs.Bytes.{quote, backslash, space, delete}
 abbrev pub needs_escape : ℕ → Bool
 needs_escape b = nat_lt b space || (b == quote) || (b == backslash) || (b == delete)
 
-abbrev pub is_plain : ℕ → Bool
-is_plain b = not (needs_escape b)
+abbrev pub needs_no_escape : ℕ → Bool
+needs_no_escape b = not (needs_escape b)
 
 -- no byte from i up to j needs an escape
 abbrev pub PlainBetween : List ℕ → ℕ → ℕ → Type 0
-PlainBetween text i j = (k : ℕ) → i ≤ k → k < j → is_plain (get_or text k 0) ≡ true
+PlainBetween text i j = (k : ℕ) → i ≤ k → k < j → needs_no_escape (get_or text k 0) ≡ true

@@ -16,21 +16,21 @@ use Rattle.facet_json_document.specs.Walk.{walk, text_by, scalar_of}
 use Rattle.facet_json_document.specs.Now.{Now}
 use Rattle.facet_json_document.specs.Next.{PassesNext}
 use Rattle.facet_json_meaning.specs.Nodes.{SameToken, same_mark, same_string, same_number, same_scalars, same_arrays, same_objects}
-use Rattle.facet_json_meaning.specs.Borrowed.{is_plain, borrowed_text, lent, unread_text}
+use Rattle.facet_json_meaning.specs.Borrowed.{is_plain_string, borrowed_text, lent, unread_text}
 use Rattle.facet_json_meaning.specs.Laws.{SameReading, ReadsBack}
 use Rattle.facet_json_meaning.specs.Passing.{WalksPast}
 use Rattle.facet_json_meaning.specs.Reading.{IsRead, IsUnread, HasDocument, EndsStrictly}
-use Rattle.facet_json_meaning.specs.Readings.{text_of, taken}
+use Rattle.facet_json_meaning.specs.Readings.{text_of_tree, taken}
 use Rattle.facet_json_meaning.proofs.Walks.FirstEvents.{first_event, first-read, first-unread}
 use Rattle.facet_json_meaning.proofs.Leaves.LeafLaws.{same-means}
 use Rattle.facet_json_meaning.proofs.Leaves.LeafReadings.{leaf-document, leaf-strict}
 
 -- ---- the laws
 
-same-plain : (these those : List ℕ) (t u : Token) → SameToken these those t u → is_plain t.kind ≡ is_plain u.kind
-same-plain these those t u (same_mark _ _ e k) = ap is_plain k
-same-plain these those t u (same_string _ _ start finish begin end has_escapes k l e) = ap is_plain k ∙ sym (ap is_plain l)
-same-plain these those t u (same_number _ _ start finish begin end hint k l e) = ap is_plain k ∙ sym (ap is_plain l)
+same-plain : (these those : List ℕ) (t u : Token) → SameToken these those t u → is_plain_string t.kind ≡ is_plain_string u.kind
+same-plain these those t u (same_mark _ _ e k) = ap is_plain_string k
+same-plain these those t u (same_string _ _ start finish begin end has_escapes k l e) = ap is_plain_string k ∙ sym (ap is_plain_string l)
+same-plain these those t u (same_number _ _ start finish begin end hint k l e) = ap is_plain_string k ∙ sym (ap is_plain_string l)
 
 pub borrowed-same : SameReading borrowed_text
 borrowed-same these those _ _ (same_scalars t u same bytes) =
@@ -51,14 +51,14 @@ none-both : (b : Bool) → ◌≡◌ {A = Option (List ℕ)} None (cond b None N
 none-both true = refl
 none-both false = refl
 
-lent-text : (kind : Kind) (bytes : List ℕ) → lent (event.scalar (event.text (text_by kind bytes))) ≡ cond (is_plain kind) (Some bytes) None
+lent-text : (kind : Kind) (bytes : List ℕ) → lent (event.scalar (event.text (text_by kind bytes))) ≡ cond (is_plain_string kind) (Some bytes) None
 lent-text (token.string start finish false) bytes = refl
 lent-text _ bytes = refl
 
 lent-scalar : (kind : Kind) (value : Option Tree) →
-    lent (event.scalar (scalar_of kind value)) ≡ cond (is_plain kind) (option_and_then text_of value) None
+    lent (event.scalar (scalar_of kind value)) ≡ cond (is_plain_string kind) (option_and_then text_of_tree value) None
 lent-scalar kind (Some (trees.text bytes)) = lent-text kind bytes
-lent-scalar kind _ = none-both (is_plain kind)
+lent-scalar kind _ = none-both (is_plain_string kind)
 
 lent-first : (buffer : List ℕ) (n : Node) → lent (first_event buffer n).event.kind ≡ borrowed_text buffer n
 lent-first buffer (scalar t) = lent-scalar t.kind (meaning buffer t)
@@ -77,12 +77,12 @@ borrowed-read = first-read lent borrowed_text lent-first borrowed-one
 pub borrowed-unread : (old new : Now) (e : Event) (r : Refusal) → WalksPast old e new → lent e.kind ≡ None → IsUnread borrowed_text old r
 borrowed-unread = first-unread lent borrowed_text lent-first borrowed-one
 
-lent-taken : (kind : EventKind) (v : List ℕ) → lent kind ≡ Some v → taken text_of kind ≡ Some v
+lent-taken : (kind : EventKind) (v : List ℕ) → lent kind ≡ Some v → taken text_of_tree kind ≡ Some v
 lent-taken (event.scalar (event.text (event.borrowed t))) v e = e
 lent-taken _ v e = cc
 
 pub borrowed-document : (old new : Now) (e : Event) (v : List ℕ) → PassesNext old e new → lent e.kind ≡ Some v → HasDocument old
-borrowed-document old new e v next is = leaf-document text_of old new e v next (lent-taken e.kind v is)
+borrowed-document old new e v next is = leaf-document text_of_tree old new e v next (lent-taken e.kind v is)
 
 pub borrowed-strict : (old new : Now) (e : Event) (v : List ℕ) → PassesNext old e new → lent e.kind ≡ Some v → EndsStrictly old new
-borrowed-strict old new e v next is = leaf-strict text_of old new e v next (lent-taken e.kind v is)
+borrowed-strict old new e v next is = leaf-strict text_of_tree old new e v next (lent-taken e.kind v is)

@@ -2,7 +2,7 @@
 use Rattle.std.proofs.Common.{◌≡◌, ℕ, ◌-◌, true, cond, List, length, Option, Some, None, ap, ◌∙◌, arith}
 use Rattle.std.specs.Str.{is_utf8}
 use Rattle.std.proofs.lemmas.List.{take_all}
-use Rattle.facet_json_document.specs.RunLaws.{last_token}
+use Rattle.facet_json_document.specs.RunLaws.{last_token_of}
 use Rattle.facet_json_document.specs.Text.{text}
 use Rattle.facet_json_document.specs.Tree.{raw}
 use Rattle.facet_json_document.specs.UnreadLaws.{first_token}
@@ -23,7 +23,7 @@ raw-same these those _ _ (same_objects first last begin end inside others bytes 
 
 -- From its first token to its last one, a document with nothing around it is its text.
 bare-between : (content : List ℕ) (bare : IsBareDocument content) →
-    bytes_between content (first_token bare.root) (last_token bare.root) ≡ content
+    bytes_between content (first_token bare.root) (last_token_of bare.root) ≡ content
 bare-between content bare =
     rw (bare.starts, bare.ends) (take_all (length content - 0) content (omega arith))
 

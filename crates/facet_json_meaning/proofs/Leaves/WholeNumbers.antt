@@ -13,7 +13,7 @@ use Rattle.facet_json_document.specs.Text.{as_array}
 use Rattle.facet_json_document.specs.Tree.{Tree, u64, i64}
 use Rattle.facet_json_document.specs.Meaning.{meaning}
 use Rattle.facet_json_document.specs.Now.{Now}
-use Rattle.facet_json_document.specs.AsRead.{ReadsAs, u64_is_whole, i64_is_whole, IsWithin, RawParts, WellFormed}
+use Rattle.facet_json_document.specs.AsRead.{ReadsAs, u64_is_whole, i64_is_whole, FitsBits, RawParts, WellFormed}
 use Rattle.facet_json_meaning.specs.Laws.{ReadsBack}
 use Rattle.facet_json_meaning.specs.Reading.{IsRead, IsUnread}
 use Rattle.facet_json_meaning.specs.Readings.{leaf, unsigned_in, signed_in, unsigned_of, signed_of}
@@ -87,7 +87,7 @@ as_read-unsigned : (most n : ℕ) (read : Tree) → n < 2 ^ most → n < 2 ^ 64 
 as_read-unsigned most n _ h wide (u64_is_whole _) =
     ap (unsigned_of most) (tree-below n (2 ^ 64) (u64 n) _ wide) ∙ some-below n (2 ^ most) n h
 
-as_read-signed : (most : ℕ) (z : ℤ) (read : Tree) → IsWithin most z → IsWithin 63 z → ReadsAs as_array (i64 z) read → signed_of most read ≡ Some z
+as_read-signed : (most : ℕ) (z : ℤ) (read : Tree) → FitsBits most z → FitsBits 63 z → ReadsAs as_array (i64 z) read → signed_of most read ≡ Some z
 as_read-signed most (pos n) _ h wide (i64_is_whole _) =
     ap (signed_of most) (tree-below n (2 ^ 64) (u64 n) _ (omega (arith, wide))) ∙ some-below n (2 ^ most) (pos n) h
 as_read-signed most (negsuc n) _ h wide (i64_is_whole _) =
@@ -99,11 +99,11 @@ unsigned-reads_back most small n h readable =
     let wide : n < 2 ^ 64 = omega (arith, h, small) in
     leaf-back (unsigned_of most) (λ ts. refl) (λ ps. refl) n (u64 n) wide tt (λ read how. as_read-unsigned most n read h wide how)
 
-within-more : (most : ℕ) (z : ℤ) → 2 ^ most ≤ 2 ^ 63 → IsWithin most z → IsWithin 63 z
+within-more : (most : ℕ) (z : ℤ) → 2 ^ most ≤ 2 ^ 63 → FitsBits most z → FitsBits 63 z
 within-more most (pos n) small h = omega (arith, h, small)
 within-more most (negsuc n) small h = omega (arith, h, small)
 
-pub signed-reads_back : (most : ℕ) → 2 ^ most ≤ 2 ^ 63 → ReadsBack (leaf (signed_of most)) i64 (λ (z : ℤ). IsWithin most z) (λ (z : ℤ). Unit {0})
+pub signed-reads_back : (most : ℕ) → 2 ^ most ≤ 2 ^ 63 → ReadsBack (leaf (signed_of most)) i64 (λ (z : ℤ). FitsBits most z) (λ (z : ℤ). Unit {0})
 unfolding WellFormed RawParts
 signed-reads_back most small z h readable =
     let wide = within-more most z small h in
@@ -121,14 +121,14 @@ u32-reads_back = unsigned-reads_back 32 (omega arith)
 pub u64-reads_back : ReadsBack (leaf (unsigned_of 64)) u64 (λ (n : ℕ). n < 2 ^ 64) (λ (n : ℕ). Unit {0})
 u64-reads_back = unsigned-reads_back 64 (omega arith)
 
-pub i8-reads_back : ReadsBack (leaf (signed_of 7)) i64 (λ (z : ℤ). IsWithin 7 z) (λ (z : ℤ). Unit {0})
+pub i8-reads_back : ReadsBack (leaf (signed_of 7)) i64 (λ (z : ℤ). FitsBits 7 z) (λ (z : ℤ). Unit {0})
 i8-reads_back = signed-reads_back 7 (omega arith)
 
-pub i16-reads_back : ReadsBack (leaf (signed_of 15)) i64 (λ (z : ℤ). IsWithin 15 z) (λ (z : ℤ). Unit {0})
+pub i16-reads_back : ReadsBack (leaf (signed_of 15)) i64 (λ (z : ℤ). FitsBits 15 z) (λ (z : ℤ). Unit {0})
 i16-reads_back = signed-reads_back 15 (omega arith)
 
-pub i32-reads_back : ReadsBack (leaf (signed_of 31)) i64 (λ (z : ℤ). IsWithin 31 z) (λ (z : ℤ). Unit {0})
+pub i32-reads_back : ReadsBack (leaf (signed_of 31)) i64 (λ (z : ℤ). FitsBits 31 z) (λ (z : ℤ). Unit {0})
 i32-reads_back = signed-reads_back 31 (omega arith)
 
-pub i64-reads_back : ReadsBack (leaf (signed_of 63)) i64 (λ (z : ℤ). IsWithin 63 z) (λ (z : ℤ). Unit {0})
+pub i64-reads_back : ReadsBack (leaf (signed_of 63)) i64 (λ (z : ℤ). FitsBits 63 z) (λ (z : ℤ). Unit {0})
 i64-reads_back = signed-reads_back 63 (omega arith)

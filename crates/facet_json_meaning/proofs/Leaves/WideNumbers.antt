@@ -12,7 +12,7 @@ use Rattle.std.proofs.lemmas.Str.Parse.{numerals_by_value, tells_digits, not_in_
 use Rattle.std.proofs.lemmas.Bool.{ltb-true, lt-ltb, ne_eqb}
 use Rattle.facet_json_document.specs.Text.{as_array}
 use Rattle.facet_json_document.specs.Tree.{Tree, u64, i64, u128, i128, text}
-use Rattle.facet_json_document.specs.AsRead.{ReadsAs, u128_is_whole, i128_is_whole, IsWithin, RawParts, WellFormed}
+use Rattle.facet_json_document.specs.AsRead.{ReadsAs, u128_is_whole, i128_is_whole, FitsBits, RawParts, WellFormed}
 use Rattle.facet_json_meaning.specs.Laws.{ReadsBack}
 use Rattle.facet_json_meaning.specs.Readings.{leaf, unsigned_in, signed_in, unsigned_text, signed_text, u128_of, i128_of}
 use Rattle.facet_json_meaning.proofs.Leaves.LeafLaws.{leaf-back}
@@ -74,7 +74,7 @@ unsigned_text-unparsed t r e parses is = unsigned_text-none t never
 -- ---- texts with a sign
 
 -- What `parse` answers at what is written of a number.
-parse-signed_wide : {E : Type 0} (z : ℤ) (t : List ℕ) (r : Result ℤ E) → IsWithin 127 z → t ≡ signed_decimal z → ParsesSigned w128 10 t r → r ≡ Ok z
+parse-signed_wide : {E : Type 0} (z : ℤ) (t : List ℕ) (r : Result ℤ E) → FitsBits 127 z → t ≡ signed_decimal z → ParsesSigned w128 10 t r → r ≡ Ok z
 parse-signed_wide (pos n) t r fits is parses =
     let k = decimal_is_IsNumeral_wide n (omega (arith, fits)) in
     let read = parse_signed_digits (numerals_by_value _ tells_digits) w128 (decimal n) r (subst (λ l. ParsesSigned w128 10 l r) is parses) k.0.1 in
@@ -85,16 +85,16 @@ parse-signed_wide (negsuc n) t r fits is parses =
     Ok-from_Ok_iff r _ _ read (k.0.1, k.0.0, omega (arith, k.1, fits)) ∙ ap (λ m. Ok (neg_ℤ (pos m))) k.1
 
 -- A number of so many bits is within them.
-pub wide-within : (z : ℤ) → FitsSigned w128 z → IsWithin 127 z
+pub wide-within : (z : ℤ) → FitsSigned w128 z → FitsBits 127 z
 wide-within (pos n) fits = fits.sfits
 wide-within (negsuc n) fits = fits.sfits
 
-signed-some : (z : ℤ) → IsWithin 127 z → signed_in 127 z ≡ Some z
+signed-some : (z : ℤ) → FitsBits 127 z → signed_in 127 z ≡ Some z
 signed-some (pos n) h = ap (λ b. cond b (Some (pos n)) None) (lt-ltb n (2 ^ 127) h)
 signed-some (negsuc n) h = ap (λ b. cond b (Some (negsuc n)) None) (lt-ltb n (2 ^ 127) h)
 
 -- What is written of a number spells it.
-signed-value : (z : ℤ) → IsWithin 127 z → signed_digits_value 10 (signed_decimal z) ≡ z
+signed-value : (z : ℤ) → FitsBits 127 z → signed_digits_value 10 (signed_decimal z) ≡ z
 signed-value (pos n) h =
     let k = decimal_is_IsNumeral_wide n (omega (arith, h)) in
     let no : (c : ℕ) → c < 48 → get_or (decimal n) 0 0 ≢ c =
@@ -105,18 +105,18 @@ signed-value (pos n) h =
 signed-value (negsuc n) h = ap (λ m. neg_ℤ (pos m)) (decimal_is_IsNumeral_wide (suc n) (omega (arith, h))).1
 
 -- What is written of a number is its text.
-pub signed_text-some : (z : ℤ) → IsWithin 127 z → signed_text (signed_decimal z) ≡ Some z
+pub signed_text-some : (z : ℤ) → FitsBits 127 z → signed_text (signed_decimal z) ≡ Some z
 signed_text-some z h =
     let is : bytes_eq (signed_decimal z) (signed_decimal z) ≡ true = (bytes_eq-Decides (signed_decimal z) (signed_decimal z)).1 refl in
     rw (signed-value z h) (rw is (signed-some z h))
 
 -- A number of more bits is none.
-signed-by : (z : ℤ) → (IsWithin 127 z → ⊥) → signed_in 127 z ≡ None
+signed-by : (z : ℤ) → (FitsBits 127 z → ⊥) → signed_in 127 z ≡ None
 signed-by (pos n) never = none-above n (2 ^ 127) (pos n) never
 signed-by (negsuc n) never = none-above n (2 ^ 127) (negsuc n) never
 
 -- A text that is written of no number of so many bits is none.
-pub signed_text-none : (t : List ℕ) → ((z : ℤ) → IsWithin 127 z → t ≡ signed_decimal z → ⊥) → signed_text t ≡ None
+pub signed_text-none : (t : List ℕ) → ((z : ℤ) → FitsBits 127 z → t ≡ signed_decimal z → ⊥) → signed_text t ≡ None
 signed_text-none t never = by (bytes_eq t (signed_decimal z)) refl
   where
     z : ℤ
@@ -139,7 +139,7 @@ pub signed_text-other : {E : Type 0} (t : List ℕ) (r : Result ℤ E) (z : ℤ)
     ¬ (signed_decimal z ≡ t) → signed_text t ≡ None
 signed_text-other t r z parses is other = signed_text-none t never
   where
-    never : (y : ℤ) → IsWithin 127 y → t ≡ signed_decimal y → ⊥
+    never : (y : ℤ) → FitsBits 127 y → t ≡ signed_decimal y → ⊥
     never y h e =
         let both : Ok z ≡ Ok y = sym is ∙ parse-signed_wide y t r h e parses in
         let same : z ≡ y = cc in
@@ -149,7 +149,7 @@ signed_text-other t r z parses is other = signed_text-none t never
 pub signed_text-unparsed : {E : Type 0} (t : List ℕ) (r : Result ℤ E) (e : E) → ParsesSigned w128 10 t r → r ≡ Err e → signed_text t ≡ None
 signed_text-unparsed t r e parses is = signed_text-none t never
   where
-    never : (y : ℤ) → IsWithin 127 y → t ≡ signed_decimal y → ⊥
+    never : (y : ℤ) → FitsBits 127 y → t ≡ signed_decimal y → ⊥
     never y h same =
         let both : Err e ≡ Ok y = sym is ∙ parse-signed_wide y t r h same parses in cc
 
@@ -166,7 +166,7 @@ pub u128-reads_back : ReadsBack (leaf u128_of) u128 (λ (n : ℕ). n < 2 ^ 128) 
 unfolding WellFormed RawParts
 u128-reads_back n h readable = leaf-back u128_of (λ ts. refl) (λ ps. refl) n (u128 n) h tt (λ read how. as_read-u128 n read h how)
 
-as_read-i128 : (z : ℤ) (read : Tree) → IsWithin 127 z → ReadsAs as_array (i128 z) read → i128_of read ≡ Some z
+as_read-i128 : (z : ℤ) (read : Tree) → FitsBits 127 z → ReadsAs as_array (i128 z) read → i128_of read ≡ Some z
 as_read-i128 (pos n) _ h (i128_is_whole _) = by (nat_lt n (2 ^ 64))
   where
     by : (small : Bool) → i128_of (cond small (u64 n) (text (decimal n))) ≡ Some (pos n)
@@ -178,6 +178,6 @@ as_read-i128 (negsuc n) _ h (i128_is_whole _) = by (nat_lt n (2 ^ 63))
     by true = signed-some (negsuc n) h
     by false = signed_text-some (negsuc n) h
 
-pub i128-reads_back : ReadsBack (leaf i128_of) i128 (λ (z : ℤ). IsWithin 127 z) (λ (z : ℤ). Unit {0})
+pub i128-reads_back : ReadsBack (leaf i128_of) i128 (λ (z : ℤ). FitsBits 127 z) (λ (z : ℤ). Unit {0})
 unfolding WellFormed RawParts
 i128-reads_back z h readable = leaf-back i128_of (λ ts. refl) (λ ps. refl) z (i128 z) h tt (λ read how. as_read-i128 z read h how)

@@ -4,7 +4,7 @@ use Rattle.facet_format.specs.Span.{stop}
 use Rattle.facet_json_token.specs.Token.{Token}
 use Rattle.facet_json_token.specs.Tokens.{Tokens, next}
 use Rattle.facet_json_document.specs.Node.{Node, Nodes, Members, Spells, one_token, brackets, braces, SpellsItems, closed, item_and_comma, last_item, SpellsMembers, ended_members, member_and_comma, last_member}
-use Rattle.facet_json_document.specs.RunLaws.{last_token}
+use Rattle.facet_json_document.specs.RunLaws.{last_token_of}
 use Rattle.facet_json_document.proofs.InOrder.{InOrder, at_a_token}
 
 -- This token ends after the offset, within the buffer, and the others stand after it.
@@ -24,7 +24,7 @@ ends-earlier buffer from later last rest h e = record { behind = omega (arith, h
 -- A value ends after the offset after which its tokens stand, and what follows it stands after its end.
 mutual
   pub node-order : (buffer : List ℕ) (from : ℕ) (ts rest : Tokens) (node : Node) → Spells ts node rest → InOrder buffer from ts →
-      EndsAfter buffer from (last_token node) rest
+      EndsAfter buffer from (last_token_of node) rest
   node-order buffer from _ _ _ (one_token t rest i) o = in_order-next buffer from t rest o
   node-order buffer from _ _ _ (brackets first last inner rest nodes i s) o =
       let p = in_order-next buffer from first inner o in
@@ -44,7 +44,7 @@ mutual
       (items-order buffer (stop separator.span) others rest nodes last more p.after)
   items-order buffer from _ _ _ _ (last_item ts rest node last s i) o =
       let first = node-order buffer from ts (next last rest) node s o in
-      ends-earlier buffer from (stop (last_token node).span) last rest (omega (arith, first.behind)) (in_order-next buffer _ last rest first.after)
+      ends-earlier buffer from (stop (last_token_of node).span) last rest (omega (arith, first.behind)) (in_order-next buffer _ last rest first.after)
 
   pub members-order : (buffer : List ℕ) (from : ℕ) (ts rest : Tokens) (members : Members) (last : Token) → SpellsMembers ts members last rest →
       InOrder buffer from ts → EndsAfter buffer from last rest
@@ -60,5 +60,5 @@ mutual
       let a = in_order-next buffer from key (next mark ts) o in
       let b = in_order-next buffer _ mark ts a.after in
       let first = node-order buffer (stop mark.span) ts (next last rest) node s b.after in
-      ends-earlier buffer from (stop (last_token node).span) last rest (omega (arith, a.behind, b.behind, first.behind))
+      ends-earlier buffer from (stop (last_token_of node).span) last rest (omega (arith, a.behind, b.behind, first.behind))
       (in_order-next buffer _ last rest first.after)

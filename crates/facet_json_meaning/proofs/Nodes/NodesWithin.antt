@@ -10,7 +10,7 @@ use Rattle.facet_json_token.proofs.CutBounds.{TokenFits, cut-token_fits}
 use Rattle.facet_json_token.proofs.TokensSteps.{cut-token_within, by_first, tokens_by_first, tokens_from-others}
 use Rattle.facet_json_document.specs.Node.{Node, scalar, array, object, Nodes, no_nodes, item, Members, no_members, member, is_scalar, is_string, Spells, one_token, brackets, braces, SpellsItems, closed, item_and_comma, last_item, SpellsMembers, ended_members, member_and_comma, last_member}
 use Rattle.facet_json_document.specs.Refusal.{needs_meaning}
-use Rattle.facet_json_document.specs.RunLaws.{last_token}
+use Rattle.facet_json_document.specs.RunLaws.{last_token_of}
 use Rattle.facet_json_document.specs.UnreadLaws.{first_token}
 use Rattle.facet_json_document.proofs.InOrder.{InOrder}
 use Rattle.facet_json_document.proofs.Spelling.OneSpelling.{one_spelling}
@@ -144,7 +144,7 @@ module _ (buffer : List ℕ) (mode : Mode) (n k : ℕ) (inside : n + k ≤ lengt
 
   mutual
     node-within : (ts rest : Tokens) (node : Node) → Spells ts node rest → (at : ℕ) → at ≤ k → tokens_from buffer mode (n + at) ≡ ts →
-        stop (last_token node).span ≤ n + k → NodeWithin at node rest
+        stop (last_token_of node).span ≤ n + k → NodeWithin at node rest
     node-within _ _ _ (one_token t rest i) at h e end =
         let w = token-within at t rest h e end in
         let is : is_scalar w.here.kind ≡ true = sym (moved-is_scalar n w.here.kind) ∙ ap (λ x. is_scalar x.kind) (sym w.same) ∙ i in
@@ -344,7 +344,7 @@ alone : (buffer : List ℕ) (mode : Mode) (from : ℕ) (node : Node) (rest : Tok
 alone buffer mode from node rest s =
     let t = first_token node in
     let start = t.span.offset in
-    let end = stop (last_token node).span in
+    let end = stop (last_token_of node).span in
     let first = spells-first (tokens_from buffer mode from) rest node s in
     let is = is-cut buffer mode from t first.0 first.1 in
     let again = cut-again buffer mode from t is in

@@ -19,7 +19,7 @@ use Rattle.facet_json_document.specs.AsRead as written
 use Rattle.facet_json_document.proofs.Values.TreeTexts.{written_is_read}
 use Rattle.facet_json_meaning.specs.Nodes.{SameToken, same_mark, same_string, same_number, SameText, same_scalars, same_arrays, same_objects}
 use Rattle.facet_json_meaning.specs.Laws.{SameReading, ReadsAs, ReadsBack}
-use Rattle.facet_json_meaning.specs.Optional.{is_null_token, is_null, optional, optional_tree, IsNullText, OptionalReadable}
+use Rattle.facet_json_meaning.specs.Optional.{is_null_token, is_null_node, optional, optional_tree, IsNullText, OptionalReadable}
 
 -- ---- nodes of the same text
 
@@ -28,7 +28,7 @@ same-null_token these those t u (same_mark _ _ e k) = ap is_null_token k
 same-null_token these those t u (same_string _ _ start finish begin end has_escapes k l e) = ap is_null_token k ∙ sym (ap is_null_token l)
 same-null_token these those t u (same_number _ _ start finish begin end hint k l e) = ap is_null_token k ∙ sym (ap is_null_token l)
 
-same-null : (these those : List ℕ) (n m : Node) → SameText these those n m → is_null n ≡ is_null m
+same-null : (these those : List ℕ) (n m : Node) → SameText these those n m → is_null_node n ≡ is_null_node m
 same-null these those _ _ (same_scalars t u same bytes) = same-null_token these those t u same
 same-null these those _ _ (same_arrays first last begin end nodes others bytes same) = refl
 same-null these those _ _ (same_objects first last begin end inside others bytes same) = refl
@@ -36,7 +36,7 @@ same-null these those _ _ (same_objects first last begin end inside others bytes
 pub optional-same : {V : Type 0} (reading : List ℕ → Node → Option V) → SameReading reading → SameReading (optional reading)
 optional-same reading alike these those n m same =
     ap (λ b. cond b (Some None) (option_map Some (reading these n))) (same-null these those n m same)
-    ∙ ap (λ o. cond (is_null m) (Some None) (option_map Some o)) (alike these those n m same)
+    ∙ ap (λ o. cond (is_null_node m) (Some None) (option_map Some o)) (alike these those n m same)
 
 -- ---- back from the text
 
@@ -71,7 +71,7 @@ null-meant buffer token.colon e = cc
 null-meant buffer token.comma e = cc
 
 -- A node whose tree is null is null.
-tree-is_null : (buffer : List ℕ) (n : Node) → tree_of buffer n ≡ Some trees.null → is_null n ≡ true
+tree-is_null : (buffer : List ℕ) (n : Node) → tree_of buffer n ≡ Some trees.null → is_null_node n ≡ true
 unfolding tree_of
 tree-is_null buffer (scalar t) e = null-meant buffer t.kind e
 tree-is_null buffer (node.array first last nodes) e = no-null trees.list (trees_of buffer nodes) false (λ (ts : Trees) k. cc) e
@@ -82,14 +82,14 @@ null-token_means buffer token.null e = refl
 null-token_means buffer _ e = cc
 
 -- The tree of a node that is null is null.
-null-has_tree : (buffer : List ℕ) (n : Node) → is_null n ≡ true → tree_of buffer n ≡ Some trees.null
+null-has_tree : (buffer : List ℕ) (n : Node) → is_null_node n ≡ true → tree_of buffer n ≡ Some trees.null
 unfolding tree_of
 null-has_tree buffer (scalar t) e = null-token_means buffer t.kind e
 null-has_tree buffer (node.array first last nodes) e = cc
 null-has_tree buffer (node.object first last inside) e = cc
 
 -- A whole document of another text is not null.
-not-null : (bytes : List ℕ) (root : Node) (t : Tree) → IsWholeDocument bytes root t → ¬ (IsNullText bytes) → (b : Bool) → is_null root ≡ b → b ≡ false
+not-null : (bytes : List ℕ) (root : Node) (t : Tree) → IsWholeDocument bytes root t → ¬ (IsNullText bytes) → (b : Bool) → is_null_node root ≡ b → b ≡ false
 not-null bytes root t document never true is =
     let both : Some trees.null ≡ Some t = sym (null-has_tree bytes root is) ∙ document.reads.has_tree in
     let same : t ≡ trees.null = cc in
@@ -117,7 +117,7 @@ optional-reads_back reading tree_of always readable back None has comes = none-b
 optional-reads_back reading tree_of always readable back (Some v) has comes =
     let b = back v has comes.0 in
     let written = text default_options 0 (tree_of v) in
-    let other = not-null written b.1.root b.1.tree b.1.document comes.1 (is_null b.1.root) refl in (
+    let other = not-null written b.1.root b.1.tree b.1.document comes.1 (is_null_node b.1.root) refl in (
       b.0,
       record {
         root = b.1.root;

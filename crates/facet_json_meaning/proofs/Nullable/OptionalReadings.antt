@@ -8,7 +8,7 @@ use Rattle.facet_format.specs.Cursor.{Cursor, Source, at_spot, peeked_at}
 use Rattle.facet_json_document.specs.Node.{Node}
 use Rattle.facet_json_document.specs.Now.{Now}
 use Rattle.facet_json_meaning.specs.Nodes.{StandsBefore, StandsAfter}
-use Rattle.facet_json_meaning.specs.Optional.{is_null, optional}
+use Rattle.facet_json_meaning.specs.Optional.{is_null_node, optional}
 use Rattle.facet_json_meaning.specs.Passing.{WalksPast, LacksNull}
 use Rattle.facet_json_meaning.specs.Peeking.{FindsNull}
 use Rattle.facet_json_meaning.specs.Reading.{IsRead, IsUnread}
@@ -16,7 +16,7 @@ use Rattle.facet_json_meaning.proofs.Walks.FirstEvents.{first_event, first-stand
 
 -- A node is found to be null where it is.
 found-null : (old between : Now) (found : _) (w : Source) (c : Cursor ℕ) (n : Node) → FindsNull old found between → StandsBefore old w c n →
-    is_null n ≡ found
+    is_null_node n ≡ found
 found-null old between found w c n finds before =
     sym (null-first w.bytes n before.value before.meant)
     ∙ (finds w c (first_event w.bytes n) before.stands before.free (first-stands old w c n before)).shown

@@ -1,7 +1,7 @@
 -- Maps: nodes of the same text are read alike.
 use Rattle.std.proofs.Common.{◌≡◌, ℕ, List, [], Option, None, Some, refl, ap, ◌∙◌}
 use Rattle.std.specs.Option.{option_and_then}
-use Rattle.facet_json_document.specs.Meaning.{text_of, meaning}
+use Rattle.facet_json_document.specs.Meaning.{text_in_tree, meaning}
 use Rattle.facet_json_document.specs.Node.{Node, Members}
 use Rattle.facet_json_meaning.specs.Laws.{SameReading}
 use Rattle.facet_json_meaning.specs.Maps.{Entries, with_entry, with_members, map_of}
@@ -20,7 +20,7 @@ module _ {V : Type 0} (reading : List ℕ → Node → Option V) (same : SameRea
   members-same these those _ _ (same_member key mark name colon n m members others t h more) entries =
       and_then-same _ _
       (λ k. and_then-same _ _ (λ v. members-same these those members others more (with_entry entries k v)) (reading these n) (reading those m) (same these those n m h))
-      (text_of (meaning these key)) (text_of (meaning those name)) (ap text_of (same-means these those key name t))
+      (text_in_tree (meaning these key)) (text_in_tree (meaning those name)) (ap text_in_tree (same-means these those key name t))
 
   pub map-same : SameReading (map_of reading)
   map-same these those _ _ (same_scalars t u token bytes) = refl

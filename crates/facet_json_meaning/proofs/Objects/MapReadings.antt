@@ -7,7 +7,7 @@ use Rattle.facet_format.specs.Cursor.{Cursor, Source}
 use Rattle.facet_json_token.specs.Token.{Token}
 use Rattle.facet_json_document.specs.Node.{Node, scalar, Members, no_members, member}
 use Rattle.facet_json_document.specs.Node as node
-use Rattle.facet_json_document.specs.Meaning.{text_of, meaning}
+use Rattle.facet_json_document.specs.Meaning.{text_in_tree, meaning}
 use Rattle.facet_json_document.specs.Now.{Now}
 use Rattle.facet_json_core.specs.Reading.{LacksMemory}
 use Rattle.facet_json_meaning.specs.Nodes.{StandsBefore}
@@ -61,7 +61,7 @@ module _ {V : Type 0} (reading : List ℕ → Node → Option V) where
 
   -- With the first member's entry the others' are put in.
   pub first-is : (buffer : List ℕ) (key mark : Token) (value : Node) (rest : Members) (entries : Entries V) (name : List ℕ) (o : Option V) →
-      text_of (meaning buffer key) ≡ Some name → reading buffer value ≡ o →
+      text_in_tree (meaning buffer key) ≡ Some name → reading buffer value ≡ o →
       with_members reading buffer (member key mark value rest) entries ≡ option_and_then (λ v. with_members reading buffer rest (with_entry entries name v)) o
   first-is buffer key mark value rest entries name o named is =
       ap (λ k. option_and_then (λ k. option_and_then (λ v. with_members reading buffer rest (with_entry entries k v)) (reading buffer value)) k) named

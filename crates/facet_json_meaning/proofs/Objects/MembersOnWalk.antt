@@ -10,7 +10,7 @@ use Rattle.facet_json_token.specs.Token.{Token}
 use Rattle.facet_json_document.specs.Node.{Node, scalar, Members, no_members, member}
 use Rattle.facet_json_document.specs.Node as node
 use Rattle.facet_json_document.specs.Tree.{Pairs}
-use Rattle.facet_json_document.specs.Meaning.{tree_of, pairs_of, text_of, meaning}
+use Rattle.facet_json_document.specs.Meaning.{tree_of, pairs_of, text_in_tree, meaning}
 use Rattle.facet_json_document.specs.Walk.{walk, walk_members, event_at, key_event, scalar_event, name_of}
 use Rattle.facet_json_document.proofs.TreesOfParts.{object_meant, member_meant}
 use Rattle.facet_json_document.specs.Now.{Now, StandsAt}
@@ -120,7 +120,7 @@ pub record IsMember (mid : Now) (w : Source) (c : Cursor ℕ) (n : Node) (member
   pub value : Node
   pub rest : Members
   pub are : members ≡ member key mark value rest
-  pub named : text_of (meaning w.bytes key) ≡ Some name
+  pub named : text_in_tree (meaning w.bytes key) ≡ Some name
   pub cursor : Cursor ℕ
   pub before : StandsBefore mid w cursor value
   pub past : (new : Now) → StandsAfter new w cursor value → AtMembers new w c n rest
@@ -163,7 +163,7 @@ at-member now mid given name w c n key mark value rest walks is at =
     let tail : List Passed = event_at struct_end at.last ∷ at.others in
     let p = passes-first now mid given w at.cursor here (all ++ tail) walks at.stands at.free at.comes in
     let has = member_meant w.bytes key mark value rest at.values at.meant in
-    let same = same-name has.0 name (name_of key.kind (text_of (meaning w.bytes key))) (key-named w.bytes key has.0 has.3) (ap (λ (e : Event). key_or_end e.kind) p.same ∙ is) in
+    let same = same-name has.0 name (name_of key.kind (text_in_tree (meaning w.bytes key))) (key-named w.bytes key has.0 has.3) (ap (λ (e : Event). key_or_end e.kind) p.same ∙ is) in
     let comes = p.comes ∙ append_assoc (walk w.bytes value) (walk_members w.bytes rest) tail in
     let next = at_spot at.cursor (unpeeked (suc at.cursor.spot.place)) in
     record {

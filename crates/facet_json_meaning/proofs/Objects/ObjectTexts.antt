@@ -9,7 +9,7 @@ use Rattle.facet_json_token.specs.Cut.{object_starts, object_ends, comma_stands}
 use Rattle.facet_json_token.specs.Gap.{plain}
 use Rattle.facet_json_token.specs.Token.{Token, object_start, object_end, comma}
 use Rattle.facet_json_token.specs.Tokens.{next, tokens_from}
-use Rattle.facet_json_document.specs.Meaning.{tree_of, pairs_of, put_pair, text_of, meaning}
+use Rattle.facet_json_document.specs.Meaning.{tree_of, pairs_of, put_pair, text_in_tree, meaning}
 use Rattle.facet_json_document.specs.Node.{Node, object, Members, no_members, member, Spells, braces, SpellsMembers, ended_members, member_and_comma, last_member}
 use Rattle.facet_json_document.specs.Quoted.{quoted}
 use Rattle.facet_json_document.specs.Text.{text, members_text, default_options}
@@ -36,7 +36,7 @@ pub record MembersAnywhere (bytes : List ℕ) (Known : List ℕ → Members → 
 
 -- A member of this name that reads as the value, before members of which one thing is known, makes the other known.
 abbrev pub Joins : {V : Type 0} → (List ℕ → Node → Option V) → List ℕ → V → (List ℕ → Members → Type 0) → (List ℕ → Members → Type 0) → Type 0
-Joins reading name v Known Joined = (buffer : List ℕ) (key mark : Token) (value : Node) (rest : Members) → text_of (meaning buffer key) ≡ Some name →
+Joins reading name v Known Joined = (buffer : List ℕ) (key mark : Token) (value : Node) (rest : Members) → text_in_tree (meaning buffer key) ≡ Some name →
     reading buffer value ≡ Some v → Known buffer rest → Joined buffer (member key mark value rest)
 
 -- A member's pieces, with the rest after them.

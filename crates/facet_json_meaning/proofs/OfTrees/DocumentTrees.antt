@@ -11,7 +11,7 @@ use Rattle.facet_format.specs.Number as numbers
 use Rattle.facet_json_token.specs.Token.{Kind}
 use Rattle.facet_json_token.specs.Token as token
 use Rattle.facet_json_document.specs.Document.{IsWholeDocument}
-use Rattle.facet_json_document.specs.Meaning.{meaning_of, tree_of_number, text_of, put_item, put_pair, tree_of, trees_of, pairs_of}
+use Rattle.facet_json_document.specs.Meaning.{meaning_of, tree_of_number, text_in_tree, put_item, put_pair, tree_of, trees_of, pairs_of}
 use Rattle.facet_json_document.specs.Node.{Node, scalar, array, object, Nodes, no_nodes, item, Members, no_members, member}
 use Rattle.facet_json_document.specs.Text.{BytesFormat, text}
 use Rattle.facet_json_document.specs.Tree.{Tree, null, bool, i64, u64, list, pairs, Trees, no_trees, tree, Pairs, no_pairs, pair}
@@ -157,13 +157,13 @@ meaning-again buffer token.array_end t e = absurd (cc)
 meaning-again buffer token.colon t e = absurd (cc)
 meaning-again buffer token.comma t e = absurd (cc)
 
-named-again : (t : Tree) (name : List ℕ) → IsReadAgain t → text_of (Some t) ≡ Some name → is_utf8 name ≡ true
+named-again : (t : Tree) (name : List ℕ) → IsReadAgain t → text_in_tree (Some t) ≡ Some name → is_utf8 name ≡ true
 unfolding WellFormed
 named-again (trees.text u) name again e = let same : u ≡ name = cc in subst (λ u. is_utf8 u ≡ true) same again.of_rust
 named-again _ name again e = absurd (cc)
 
 -- What a key's token means is UTF-8.
-name-utf8 : (buffer : List ℕ) (kind : Kind) (o : Option Tree) (name : List ℕ) → meaning_of buffer kind ≡ o → text_of o ≡ Some name → is_utf8 name ≡ true
+name-utf8 : (buffer : List ℕ) (kind : Kind) (o : Option Tree) (name : List ℕ) → meaning_of buffer kind ≡ o → text_in_tree o ≡ Some name → is_utf8 name ≡ true
 name-utf8 buffer kind None name is e = absurd (cc)
 name-utf8 buffer kind (Some t) name is e = named-again t name (meaning-again buffer kind t is) e
 

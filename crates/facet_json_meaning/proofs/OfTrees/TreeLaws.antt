@@ -2,7 +2,7 @@
 use Rattle.std.specs.Prelude.{ℕ, List}
 use Rattle.std.specs.Option.{option_map}
 use Rattle.std.proofs.Common.{◌≡◌, ℕ, List, Some, refl, ap, ap₂, ◌∙◌}
-use Rattle.facet_json_document.specs.Meaning.{tree_of, trees_of, pairs_of, text_of, put_item, put_pair, meaning}
+use Rattle.facet_json_document.specs.Meaning.{tree_of, trees_of, pairs_of, text_in_tree, put_item, put_pair, meaning}
 use Rattle.facet_json_document.specs.Node.{Nodes, Members}
 use Rattle.facet_json_document.specs.Text.{as_array, default_options}
 use Rattle.facet_json_document.specs.Tree.{Tree, list, pairs, Trees, Pairs}
@@ -36,8 +36,8 @@ mutual
       pairs_of these members ≡ pairs_of those others
   members-same these those _ _ same_no_members = refl
   members-same these those _ _ (same_member key mark name colon n m members others named h more) =
-      ap (λ o. put_pair (text_of o) (tree_of these n) (pairs_of these members)) (same-means these those key name named)
-      ∙ ap₂ (put_pair (text_of (meaning those name))) (tree-same these those n m h) (members-same these those members others more)
+      ap (λ o. put_pair (text_in_tree o) (tree_of these n) (pairs_of these members)) (same-means these those key name named)
+      ∙ ap₂ (put_pair (text_in_tree (meaning those name))) (tree-same these those n m h) (members-same these those members others more)
 
 -- ---- back from the text
 

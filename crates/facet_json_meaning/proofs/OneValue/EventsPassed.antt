@@ -11,7 +11,7 @@ use Rattle.facet_json_token.specs.Tokens as tokens
 use Rattle.facet_json_token.proofs.TokensSteps.{tokens_from-others}
 use Rattle.facet_json_document.specs.Future.{gives, Stage, within, over, stack_after, stage_after, reads_by}
 use Rattle.facet_json_document.specs.StrictTokens.{tokens_in}
-use Rattle.facet_json_document.specs.InputPlace.{Standing, past}
+use Rattle.facet_json_document.specs.InputPlace.{Reader, past}
 use Rattle.facet_json_document.specs.Language.{Rules, rules}
 use Rattle.facet_json_document.specs.Place.{Place, says, says_scalar, names, place_turn, led}
 use Rattle.facet_json_document.specs.Place as turn
@@ -214,7 +214,7 @@ module _ (now : Now) (p : Passed) where
 pub next-passes_by_kind : (old new : Now) (e : Event) → Moves old next (event (Ok (Some e))) new → PassesByKind e.kind old new
 next-passes_by_kind old new e move = by_step (PassesByKind e.kind old) old new move (λ d step. step-by_kind d _ refl step)
   where
-    step-by_kind : (d : Cursor Standing) (answer : Answer) → answer ≡ event (Ok (Some e)) → StepOf old next answer d →
+    step-by_kind : (d : Cursor Reader) (answer : Answer) → answer ≡ event (Ok (Some e)) → StepOf old next answer d →
         PassesByKind e.kind old (with_cursor old d)
     step-by_kind d answer is (repeats r call _ f a) = cc
     step-by_kind d answer is (passes p free goes) =

@@ -8,7 +8,7 @@ use Rattle.facet_json_token.specs.Token.{Kind, Token}
 use Rattle.facet_json_token.specs.Token as token
 use Rattle.facet_json_token.specs.Tokens.{Tokens, next}
 use Rattle.facet_json_document.specs.Future.{Stage, within, over}
-use Rattle.facet_json_document.specs.InputPlace.{Standing}
+use Rattle.facet_json_document.specs.InputPlace.{Reader}
 use Rattle.facet_json_document.specs.Language.{Rules, rules}
 use Rattle.facet_json_document.specs.Place.{Place, after_colon, passes, names, place_turn, led}
 use Rattle.facet_json_document.specs.Run.{Run}
@@ -23,7 +23,7 @@ use Rattle.facet_json_meaning.specs.OneValue.{PassesValue, tokens_left, IsAfterK
 -- ---- a value that is passed unread
 
 -- The tokens at a place go on with a value, which ends with the place before that one.
-record EndsAt (by : Rules) (stack : List ContainerKind) (place : Place) (ts : Tokens) (there : Standing) : Type 0 where
+record EndsAt (by : Rules) (stack : List ContainerKind) (place : Place) (ts : Tokens) (there : Reader) : Type 0 where
   pub first : Token
   pub others : Tokens
   pub last : Token
@@ -32,8 +32,8 @@ record EndsAt (by : Rules) (stack : List ContainerKind) (place : Place) (ts : To
   pub run : Run (next first others) last rest
   pub same : there ≡ past_value last.span stack
 
-value-part : (buffer : List ℕ) (by : Rules) (stack : List ContainerKind) (place : Place) (ts : Tokens) (has : Bool) (start finish : ℕ) (there : Standing)
-    (part : Part Standing) → PartFrom buffer by stack place ts part → part ≡ value has start finish there → EndsAt by stack place ts there
+value-part : (buffer : List ℕ) (by : Rules) (stack : List ContainerKind) (place : Place) (ts : Tokens) (has : Bool) (start finish : ℕ) (there : Reader)
+    (part : Part Reader) → PartFrom buffer by stack place ts part → part ≡ value has start finish there → EndsAt by stack place ts there
 value-part buffer by stack place _ has start finish there part (separator _ other t ts _ e more) is =
     let later = value-part buffer by stack (led by other) ts has start finish there part more is in
     record {
@@ -53,7 +53,7 @@ value-part buffer by stack place _ has start finish there _ (a_closing _ t ts b)
 value-part buffer by stack place ts has start finish there _ (none_of_them _ _ r stuck) is = cc
 
 -- The parser stood at this place.
-module _ (now : Now) (d : Cursor Standing) (there : Standing) (spot : d.spot ≡ unpeeked there) where
+module _ (now : Now) (d : Cursor Reader) (there : Reader) (spot : d.spot ≡ unpeeked there) where
   ends-passed : (place : Place) → now.cursor.spot.place.stage ≡ within place →
       EndsAt (rules now.language) now.cursor.spot.place.stack place (tokens_left now) there → PassesValue now (with_cursor now d)
   ends-passed place at e = record {
@@ -64,14 +64,14 @@ module _ (now : Now) (d : Cursor Standing) (there : Standing) (spot : d.spot ≡
   }
 
   -- What is a value there is passed.
-  value-passed : (stage : Stage) (has : Bool) (start finish : ℕ) (part : Part Standing) → now.cursor.spot.place.stage ≡ stage →
+  value-passed : (stage : Stage) (has : Bool) (start finish : ℕ) (part : Part Reader) → now.cursor.spot.place.stage ≡ stage →
       PartIn now.buffer now.language now.cursor.spot.place stage part → part ≡ value has start finish there → PassesValue now (with_cursor now d)
   value-passed over has start finish part at stands is = cc
   value-passed (within place) has start finish part at stands is =
       ends-passed place at (value-part now.buffer (rules now.language) now.cursor.spot.place.stack place _ has start finish there part stands is)
 
   -- A part that is captured is a value.
-  capture-passed : (text : List ℕ) (part : Part Standing) → PartAt now.buffer now.language now.cursor.spot.place part →
+  capture-passed : (text : List ℕ) (part : Part Reader) → PartAt now.buffer now.language now.cursor.spot.place part →
       capture_of now.buffer part ≡ Ok (text, there) → PassesValue now (with_cursor now d)
   capture-passed text (value has start finish place) stands is =
       let same = captured-place now.buffer start finish place there _ text _ is in
@@ -85,7 +85,7 @@ module _ (now : Now) (d : Cursor Standing) (there : Standing) (spot : d.spot ≡
 pub captured-value : (old new : Now) (text : Option (List ℕ)) → Moves old capture (raw (Ok text)) new → PassesValue old new
 captured-value old new text move = by_step (PassesValue old) old new move (λ d step. by d _ refl step)
   where
-    by : (d : Cursor Standing) (answer : Answer) → answer ≡ raw (Ok text) → StepOf old capture answer d → PassesValue old (with_cursor old d)
+    by : (d : Cursor Reader) (answer : Answer) → answer ≡ raw (Ok text) → StepOf old capture answer d → PassesValue old (with_cursor old d)
     by d answer a (repeats r call _ e f) = cc
     by d answer a (captures part given there free stands is) = capture-passed old d there refl given part stands is
     by d answer a _ = cc
@@ -106,7 +106,7 @@ no-closing token.object_start e = cc
 no-closing _ e = cc
 
 -- So what a skip passes there is a value.
-skip-value : (buffer : List ℕ) (by : Rules) (stack : List ContainerKind) (ts : Tokens) (part : Part Standing) (there : Standing) →
+skip-value : (buffer : List ℕ) (by : Rules) (stack : List ContainerKind) (ts : Tokens) (part : Part Reader) (there : Reader) →
     PartFrom buffer by stack after_colon ts part → skip_of part ≡ Ok there → EndsAt by stack after_colon ts there
 skip-value buffer by stack _ part there (separator _ other t ts _ e more) is = absurd (no-separator t.kind other e)
 skip-value buffer by stack _ _ there (a_value _ t last ts others b r) is =
@@ -119,7 +119,7 @@ skip-value buffer by stack ts _ there (none_of_them _ _ r stuck) is = cc
 pub skipped-value : (old new : Now) → IsAfterKey old → Moves old skip (skipped (Ok tt)) new → PassesValue old new
 skipped-value old new at move = by_step (PassesValue old) old new move (λ d step. by d _ refl step)
   where
-    by : (d : Cursor Standing) (answer : Answer) → answer ≡ skipped (Ok tt) → StepOf old skip answer d → PassesValue old (with_cursor old d)
+    by : (d : Cursor Reader) (answer : Answer) → answer ≡ skipped (Ok tt) → StepOf old skip answer d → PassesValue old (with_cursor old d)
     by d answer a (repeats r call _ e f) = cc
     by d answer a (skips part there free stands is) =
         let s = old.cursor.spot.place in

@@ -7,7 +7,7 @@ use Rattle.facet_format.specs.Event.{ContainerKind, object, Event, EventKind, Pa
 use Rattle.facet_format.specs.Span.{stop}
 use Rattle.facet_json_token.specs.Tokens.{next}
 use Rattle.facet_json_document.specs.Future.{Future, gives}
-use Rattle.facet_json_document.specs.InputPlace.{Standing}
+use Rattle.facet_json_document.specs.InputPlace.{Reader}
 use Rattle.facet_json_document.specs.Language.{rules, gaps}
 use Rattle.facet_json_document.specs.Run.{a_run, nothing}
 use Rattle.facet_json_document.proofs.Parts.TokensAfterRuns.{tokens_from-run}
@@ -87,7 +87,7 @@ pub peek-looks : (is : EventKind → Bool) (old new : Now) (e : Event) (found : 
     LooksAhead is old found new
 peek-looks is old new e found same move = by_step (LooksAhead is old found) old new move (λ d step. by d _ refl step)
   where
-    by : (d : Cursor Standing) (answer : Answer) → answer ≡ event (Ok (Some e)) → StepOf old peek answer d → LooksAhead is old found (with_cursor old d)
+    by : (d : Cursor Reader) (answer : Answer) → answer ≡ event (Ok (Some e)) → StepOf old peek answer d → LooksAhead is old found (with_cursor old d)
     by d answer a (repeats r call _ f g) = cc
     by d answer a (peeks p free goes) =
         let shown : p.event ≡ e = cc in
@@ -106,7 +106,7 @@ peek-looks is old new e found same move = by_step (LooksAhead is old found) old 
 pub peek-looks_past : (is : EventKind → Bool) (old new : Now) → Moves old peek (event (Ok None)) new → LooksAhead is old false new
 peek-looks_past is old new move = by_step (LooksAhead is old false) old new move (λ d step. by d _ refl step)
   where
-    by : (d : Cursor Standing) (answer : Answer) → answer ≡ event (Ok None) → StepOf old peek answer d → LooksAhead is old false (with_cursor old d)
+    by : (d : Cursor Reader) (answer : Answer) → answer ≡ event (Ok None) → StepOf old peek answer d → LooksAhead is old false (with_cursor old d)
     by d answer a (repeats r call _ f g) = cc
     by d answer a (peeks_at_the_end free over) = record { there = refl; comes = λ yes. cc }
     by d answer a _ = cc

@@ -21,7 +21,7 @@ use Rattle.facet_json_document.specs.Now.{Now}
 use Rattle.facet_json_meaning.specs.Nodes.{StandsBefore, StandsAfter}
 use Rattle.facet_json_meaning.specs.Passing.{WalksPast}
 use Rattle.facet_json_meaning.specs.Reading.{IsRead, IsUnread}
-use Rattle.facet_json_meaning.specs.Optional.{is_null, is_null_token, is_null_event}
+use Rattle.facet_json_meaning.specs.Optional.{is_null_node, is_null_token, is_null_event}
 use Rattle.facet_json_meaning.proofs.WalkPlaces.{drop-get}
 
 abbrev pub first_event : List ℕ → Node → Passed
@@ -115,14 +115,14 @@ null-token buffer token.comma t e = cc
 
 -- Where all tokens have a meaning, null comes first exactly where the node is null.
 pub null-first : (buffer : List ℕ) (n : Node) (t : Tree) → tree_of buffer n ≡ Some t →
-    is_null_event (first_event buffer n).event.kind ≡ is_null n
+    is_null_event (first_event buffer n).event.kind ≡ is_null_node n
 unfolding tree_of
 null-first buffer (scalar u) t e = null-token buffer u.kind t e
 null-first buffer (node.array first last nodes) t e = refl
 null-first buffer (node.object first last inside) t e = refl
 
 -- Null is one event.
-pub null-one : (buffer : List ℕ) (n : Node) → is_null n ≡ true → length (walk buffer n) ≡ 1
+pub null-one : (buffer : List ℕ) (n : Node) → is_null_node n ≡ true → length (walk buffer n) ≡ 1
 unfolding walk
 null-one buffer (scalar u) e = refl
 null-one buffer (node.array first last nodes) e = cc

@@ -6,7 +6,7 @@ use Rattle.facet_format.specs.Cursor.{Cursor, Source}
 use Rattle.facet_format.specs.Part.{Part, value, part_at}
 use Rattle.facet_format.specs.Span.{stop}
 use Rattle.facet_json_document.specs.Node.{Node}
-use Rattle.facet_json_document.specs.RunLaws.{last_token}
+use Rattle.facet_json_document.specs.RunLaws.{last_token_of}
 use Rattle.facet_json_document.specs.UnreadLaws.{first_token, is_container}
 use Rattle.facet_json_document.specs.Walk.{walk}
 use Rattle.facet_json_document.proofs.Parts.WalksAreValues.{walk_is_one_value}
@@ -25,7 +25,7 @@ place-length (p ∷ events) (suc place) first others e = ap suc (place-length ev
 -- the node's value, as a part of the walk
 abbrev pub part_of_node : List ℕ → Node → ℕ → Part ℕ
 part_of_node buffer node place =
-    value (is_container node) (first_token node).span.offset (stop (last_token node).span) (place + length (walk buffer node))
+    value (is_container node) (first_token node).span.offset (stop (last_token_of node).span) (place + length (walk buffer node))
 
 -- Before a node, the node's value stands there.
 pub node-there : (w : Source) (place : ℕ) (node : Node) (others : List Passed) → drop place w.events ≡ walk w.bytes node ++ others →

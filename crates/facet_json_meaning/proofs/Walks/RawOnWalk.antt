@@ -6,7 +6,7 @@ use Rattle.facet_format.specs.Cursor.{Cursor, Source, on_walk, unpeeked, current
 use Rattle.facet_format.specs.Part.{capture_of, captured}
 use Rattle.facet_format.specs.Standing.{IsStep}
 use Rattle.facet_json_document.specs.Node.{Node}
-use Rattle.facet_json_document.specs.RunLaws.{last_token}
+use Rattle.facet_json_document.specs.RunLaws.{last_token_of}
 use Rattle.facet_json_document.specs.UnreadLaws.{first_token}
 use Rattle.facet_json_document.specs.Now.{Now, StandsAt}
 use Rattle.facet_json_document.specs.SkipLaws.{bytes_between}
@@ -32,7 +32,7 @@ captured-none start finish after bytes r false e = refl
 module _ (w : Source) (c : Cursor ℕ) (node : Node) (old : Now) (before : StandsBefore old w c node) where
   -- the node's bytes
   abbrev bytes : List ℕ
-  bytes = bytes_between w.bytes (first_token node) (last_token node)
+  bytes = bytes_between w.bytes (first_token node) (last_token_of node)
 
   step-captures : (d : Cursor ℕ) (given : List ℕ) (new : Now) (answer : Answer) → answer ≡ raw (Ok (Some given)) →
       Step (on_walk w) c capture answer d → StandsAt new w d → (raw_of w.bytes node ≡ Some given) × StandsAfter new w c node

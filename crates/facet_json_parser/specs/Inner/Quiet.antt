@@ -8,7 +8,7 @@ use Rattle.facet_json_token.specs.Tokens.{tokens_from}
 use Rattle.facet_json_document.specs.Inner.PassedRun.{passed}
 
 -- Where brackets are open, a run goes on from the one offset as from the other: the tokens between open and close nothing.
-pub record LeadsOn (buffer : List ℕ) (mode : Mode) (from to : ℕ) : Type 0 where
+pub record RunLeadsOn (buffer : List ℕ) (mode : Mode) (from to : ℕ) : Type 0 where
   pub past : from ≤ to
   pub ends : to ≤ length buffer
   pub same : (kind : ContainerKind) (around : List ContainerKind) (last : Token) →

@@ -3,8 +3,8 @@ use Rattle.std.proofs.Common.{◌≡◌, ◌≢◌, ℕ, suc, Bool, true, false,
 use Rattle.std.proofs.lemmas.Bool.{eqb-true}
 use Rattle.std.proofs.lemmas.List.{append-nil}
 use Rattle.facet_format.specs.Bytes.{is_digit, is_exponent_mark, is_sign, dot}
-use Rattle.facet_format.specs.Number.{Hint, AreDigits, IsFraction, IsExponentSign, IsExponent, hint_of, IsNumeral, digits_len, fraction_len, exponent_len, parts}
-use Rattle.facet_json_scan.specs.Scanner.{Part, in_digits, in_fraction, at_mark, in_exponent, last_part, EndsIn, GoesOnWith, EndsBefore}
+use Rattle.facet_format.specs.Number.{Hint, AreDigits, IsFraction, IsExponentSign, IsExponent, hint_by, IsNumeral, digits_len, fraction_len, exponent_len, parts}
+use Rattle.facet_json_scan.specs.Scanner.{NumberPart, in_digits, in_fraction, at_mark, in_exponent, last_part, EndsIn, ExtendsWith, EndsBefore}
 use Rattle.facet_format.proofs.NumberPrefixes.{power_len}
 use Rattle.facet_format.proofs.NumberLaws.{parts-is, parts-by, mark_no_digit, mark_no_dot, digits_len-append, digit_no_sign}
 
@@ -114,7 +114,7 @@ digits-grow text b i e =
     ∙ append-nil (n.sign ++ n.digits) in
     let more : text ++ b ∷ [] ≡ n.sign ++ (n.digits ++ b ∷ []) =
     ap (λ l. l ++ b ∷ []) alone ∙ append_assoc n.sign n.digits (b ∷ []) in
-    let numeral : IsNumeral (text ++ b ∷ []) (hint_of n.has_minus false false) =
+    let numeral : IsNumeral (text ++ b ∷ []) (hint_by n.has_minus false false) =
     record {
       sign = n.sign;
       digits = n.digits ++ b ∷ [];
@@ -133,7 +133,7 @@ digits-grow text b i e =
       starts = λ z. omega (arith, ap length (more ∙ z), length-append text (b ∷ []));
       kind = refl;
     } in
-    record { hint = hint_of n.has_minus false false; numeral = numeral; last = refl }
+    record { hint = hint_by n.has_minus false false; numeral = numeral; last = refl }
 
 -- The fraction begins or goes on.
 fraction-grows : (text : List ℕ) (b : ℕ) (hint : Hint) (n : IsNumeral text hint) → n.exponent ≡ [] →
@@ -144,7 +144,7 @@ fraction-grows text b hint n none grown =
     n.whole ∙ ap (λ l. front ++ n.fraction ++ l) none ∙ append-nil (front ++ n.fraction) in
     let more : text ++ b ∷ [] ≡ front ++ (n.fraction ++ b ∷ []) =
     ap (λ l. l ++ b ∷ []) alone ∙ append_assoc front n.fraction (b ∷ []) in
-    let numeral : IsNumeral (text ++ b ∷ []) (hint_of n.has_minus true false) =
+    let numeral : IsNumeral (text ++ b ∷ []) (hint_by n.has_minus true false) =
     record {
       sign = n.sign;
       digits = n.digits;
@@ -162,18 +162,18 @@ fraction-grows text b hint n none grown =
       kind = refl;
     } in
     record {
-      hint = hint_of n.has_minus true false;
+      hint = hint_by n.has_minus true false;
       numeral = numeral;
       last = fraction-last n.fraction b;
     }
 
 -- The exponent begins or goes on.
-exponent-grows : (text : List ℕ) (b : ℕ) (hint : Hint) (n : IsNumeral text hint) (part : Part) →
+exponent-grows : (text : List ℕ) (b : ℕ) (hint : Hint) (n : IsNumeral text hint) (part : NumberPart) →
     IsExponent (n.exponent ++ b ∷ []) true → part ≡ last_part n.fraction (n.exponent ++ b ∷ []) →
     EndsIn part (text ++ b ∷ [])
 exponent-grows text b hint n part grown last =
     let front = n.sign ++ n.digits ++ n.fraction in
-    let numeral : IsNumeral (text ++ b ∷ []) (hint_of n.has_minus n.has_fraction true) =
+    let numeral : IsNumeral (text ++ b ∷ []) (hint_by n.has_minus n.has_fraction true) =
     record {
       sign = n.sign;
       digits = n.digits;
@@ -190,14 +190,14 @@ exponent-grows text b hint n part grown last =
       starts = n.starts;
       kind = refl;
     } in
-    record { hint = hint_of n.has_minus n.has_fraction true; numeral = numeral; last = last }
+    record { hint = hint_by n.has_minus n.has_fraction true; numeral = numeral; last = last }
 
 -- ---- a byte that goes on with a number
 
-pub digit-after_digits : (b : ℕ) → is_digit b ≡ true → GoesOnWith in_digits b in_digits
+pub digit-after_digits : (b : ℕ) → is_digit b ≡ true → ExtendsWith in_digits b in_digits
 digit-after_digits b e = λ text i. digits-grow text b i e
 
-pub dot-after_digits : (b : ℕ) → (b == dot) ≡ true → GoesOnWith in_digits b in_fraction
+pub dot-after_digits : (b : ℕ) → (b == dot) ≡ true → ExtendsWith in_digits b in_fraction
 dot-after_digits b e = λ text i.
     let n = i.numeral in
     let none = last-digits n.fraction n.exponent i.last in
@@ -212,30 +212,30 @@ mark-grows text b hint n none e =
     (subst (λ l. IsExponent (l ++ b ∷ []) true) (sym none) (exponent-mark b e))
     (mark-last n.fraction b ∙ ap (λ l. last_part n.fraction (l ++ b ∷ [])) (sym none))
 
-pub mark-after_digits : (b : ℕ) → is_exponent_mark b ≡ true → GoesOnWith in_digits b at_mark
+pub mark-after_digits : (b : ℕ) → is_exponent_mark b ≡ true → ExtendsWith in_digits b at_mark
 mark-after_digits b e = λ text i.
     let none = last-digits i.numeral.fraction i.numeral.exponent i.last in
     mark-grows text b i.hint i.numeral none.1 e
 
-pub digit-after_fraction : (b : ℕ) → is_digit b ≡ true → GoesOnWith in_fraction b in_fraction
+pub digit-after_fraction : (b : ℕ) → is_digit b ≡ true → ExtendsWith in_fraction b in_fraction
 digit-after_fraction b e = λ text i.
     let n = i.numeral in
     let is = last-fraction n.fraction n.exponent i.last in
     fraction-grows text b i.hint n is.1 (fraction-digit n.fraction n.has_fraction b n.is_fraction is.0 e)
 
-pub mark-after_fraction : (b : ℕ) → is_exponent_mark b ≡ true → GoesOnWith in_fraction b at_mark
+pub mark-after_fraction : (b : ℕ) → is_exponent_mark b ≡ true → ExtendsWith in_fraction b at_mark
 mark-after_fraction b e = λ text i.
     let is = last-fraction i.numeral.fraction i.numeral.exponent i.last in
     mark-grows text b i.hint i.numeral is.1 e
 
-pub sign-after_mark : (b : ℕ) → is_sign b ≡ true → GoesOnWith at_mark b in_exponent
+pub sign-after_mark : (b : ℕ) → is_sign b ≡ true → ExtendsWith at_mark b in_exponent
 sign-after_mark b e = λ text i.
     let n = i.numeral in
     let one = last-mark n.fraction n.exponent i.last in
     exponent-grows text b i.hint n in_exponent (exponent-sign n.exponent n.has_exponent b n.is_exponent one e)
     (exponent-last n.fraction n.exponent b (λ z. omega (arith, one, ap length z)))
 
-pub digit-after_mark : (b : ℕ) → is_digit b ≡ true → GoesOnWith at_mark b in_exponent
+pub digit-after_mark : (b : ℕ) → is_digit b ≡ true → ExtendsWith at_mark b in_exponent
 digit-after_mark b e = λ text i.
     let n = i.numeral in
     let one = last-mark n.fraction n.exponent i.last in
@@ -243,7 +243,7 @@ digit-after_mark b e = λ text i.
     exponent-grows text b i.hint n in_exponent (exponent-digit n.exponent n.has_exponent b n.is_exponent some e)
     (exponent-last n.fraction n.exponent b some)
 
-pub digit-after_exponent : (b : ℕ) → is_digit b ≡ true → GoesOnWith in_exponent b in_exponent
+pub digit-after_exponent : (b : ℕ) → is_digit b ≡ true → ExtendsWith in_exponent b in_exponent
 digit-after_exponent b e = λ text i.
     let n = i.numeral in
     let two = last-exponent n.fraction n.exponent i.last in

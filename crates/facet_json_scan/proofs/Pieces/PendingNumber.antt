@@ -3,11 +3,11 @@ use Rattle.std.proofs.Common.{◌≡◌, ℕ, ◌+◌, ◌-◌, ◌<◌, ◌≤�
 use Rattle.std.proofs.lemmas.Bool.{eqb-true}
 use Rattle.facet_format.specs.Bytes.{minus, dot}
 use Rattle.facet_json_token.specs.Gap.{Mode}
-use Rattle.facet_format.specs.Number.{Hint, float, AreDigits, IsMinus, IsFraction, IsExponent, hint_of, IsNumeral, is_some_len, parts, parts_len, parts_hint, is_bare, starts_number, begins_number}
+use Rattle.facet_format.specs.Number.{Hint, float, AreDigits, IsMinus, IsFraction, IsExponent, hint_by, IsNumeral, is_some_len, parts, parts_len, parts_hint, is_bare, starts_number, begins_number}
 use Rattle.facet_json_token.specs.Token.{number}
 use Rattle.facet_json_token.specs.Cut.{opens_number, start_of, cut_number, cut_here, token_at}
 use Rattle.facet_json_token.specs.Open.{IsBeginning}
-use Rattle.facet_json_scan.specs.Scanner.{Part, in_digits, in_fraction, at_mark, in_exponent, last_part, part_hint, EndsIn, in_number, Describes}
+use Rattle.facet_json_scan.specs.Scanner.{NumberPart, in_digits, in_fraction, at_mark, in_exponent, last_part, part_hint, EndsIn, in_number, Describes}
 use Rattle.facet_json_token.proofs.Offsets.{drop-at_byte}
 use Rattle.facet_json_scan.proofs.Segments.{between, between-length, between-starts}
 use Rattle.facet_json_scan.proofs.Pieces.NumberParts.{last-digits}
@@ -18,7 +18,7 @@ use Rattle.facet_json_token.proofs.FirstBytes.{cut_here-number}
 use Rattle.facet_json_token.proofs.Starts.{start_of-number}
 
 -- What a pending number's state says of it.
-pub number-ends : (mode : Mode) (part : Part) (text : List ℕ) → Describes mode (in_number part) text → EndsIn part text
+pub number-ends : (mode : Mode) (part : NumberPart) (text : List ℕ) → Describes mode (in_number part) text → EndsIn part text
 number-ends mode part text (Describes.number _ _ _ i) = i
 
 -- A minus or a digit is a number's first byte.
@@ -27,7 +27,7 @@ first-ends b e = by_minus b (b == minus) refl e
   where
     by_minus : (b : ℕ) (t : Bool) → (b == minus) ≡ t → starts_number b ≡ true → EndsIn in_digits (b ∷ [])
     by_minus b true is e =
-        let numeral : IsNumeral (b ∷ []) (hint_of true false false) =
+        let numeral : IsNumeral (b ∷ []) (hint_by true false false) =
         record {
           sign = minus ∷ [];
           digits = [];
@@ -44,9 +44,9 @@ first-ends b e = by_minus b (b == minus) refl e
           starts = λ z. cc;
           kind = refl;
         } in
-        record { hint = hint_of true false false; numeral = numeral; last = refl }
+        record { hint = hint_by true false false; numeral = numeral; last = refl }
     by_minus b false is e =
-        let numeral : IsNumeral (b ∷ []) (hint_of false false false) =
+        let numeral : IsNumeral (b ∷ []) (hint_by false false false) =
         record {
           sign = [];
           digits = b ∷ [];
@@ -63,7 +63,7 @@ first-ends b e = by_minus b (b == minus) refl e
           starts = λ z. cc;
           kind = refl;
         } in
-        record { hint = hint_of false false false; numeral = numeral; last = refl }
+        record { hint = hint_by false false false; numeral = numeral; last = refl }
 
 -- ---- where it ends before the buffer does
 
@@ -73,7 +73,7 @@ pub number-shut : (mode : Mode) (b : ℕ) (bytes : List ℕ) → start_of b ≡ 
 number-shut mode b bytes begins ends i = ends (subst (λ s. BeginsBy s b bytes) begins (begins_by mode b bytes i))
 
 -- The number between two offsets of the buffer that is the longest at the first is cut there, and nothing longer begins.
-pub number-found : (mode : Mode) (buffer : List ℕ) (start end b : ℕ) (part : Part) → start < end → end < length buffer →
+pub number-found : (mode : Mode) (buffer : List ℕ) (start end b : ℕ) (part : NumberPart) → start < end → end < length buffer →
     slice_get buffer start ≡ Some b → EndsIn part (between buffer start end) →
     parts (drop start buffer) ≡ parts (between buffer start end) →
     (number_at start (drop (start + 1) buffer) (parts (between buffer start end))
@@ -118,7 +118,7 @@ has_minus-first b bytes hint n =
 
 -- Digits alone have neither fraction nor exponent.
 hint-digits : (fraction exponent : List ℕ) (m f e : Bool) → IsFraction fraction f → IsExponent exponent e →
-    in_digits ≡ last_part fraction exponent → hint_of m f e ≡ hint_of m false false
+    in_digits ≡ last_part fraction exponent → hint_by m f e ≡ hint_by m false false
 hint-digits _ _ m _ _ IsFraction.absent IsExponent.absent last = refl
 hint-digits _ exponent m _ _ (IsFraction.present digits d) x last =
     let none : dot ∷ digits ≡ [] = (last-digits (dot ∷ digits) exponent last).0 in cc
@@ -127,24 +127,24 @@ hint-digits _ _ m _ _ IsFraction.absent (IsExponent.present mark sign digits h s
 
 -- With one of them a number is a float.
 hint-float : (fraction exponent : List ℕ) (m f e : Bool) → IsFraction fraction f → IsExponent exponent e →
-    (in_digits ≡ last_part fraction exponent → ⊥) → hint_of m f e ≡ float
+    (in_digits ≡ last_part fraction exponent → ⊥) → hint_by m f e ≡ float
 hint-float _ _ m _ _ (IsFraction.present digits d) x last = refl
 hint-float _ _ true _ _ IsFraction.absent (IsExponent.present mark sign digits h s d) last = refl
 hint-float _ _ false _ _ IsFraction.absent (IsExponent.present mark sign digits h s d) last = refl
 hint-float _ _ m _ _ IsFraction.absent IsExponent.absent last = absurd (last refl)
 
 -- The part in which a number ends and its first byte say its hint.
-number-hint : (part : Part) (b : ℕ) (bytes : List ℕ) → EndsIn part (b ∷ bytes) →
+number-hint : (part : NumberPart) (b : ℕ) (bytes : List ℕ) → EndsIn part (b ∷ bytes) →
     part_hint part (b == minus) ≡ parts_hint (parts (b ∷ bytes))
 number-hint part b bytes i = by_part part i.last ∙ sym (parts_hint-is (b ∷ bytes) i.hint n ∙ n.kind)
   where
     n : IsNumeral (b ∷ bytes) i.hint
     n = i.numeral
 
-    by_part : (p : Part) → p ≡ last_part n.fraction n.exponent →
-        part_hint p (b == minus) ≡ hint_of n.has_minus n.has_fraction n.has_exponent
+    by_part : (p : NumberPart) → p ≡ last_part n.fraction n.exponent →
+        part_hint p (b == minus) ≡ hint_by n.has_minus n.has_fraction n.has_exponent
     by_part in_digits e =
-        ap (λ m. hint_of m false false) (sym (has_minus-first b bytes i.hint n))
+        ap (λ m. hint_by m false false) (sym (has_minus-first b bytes i.hint n))
         ∙ sym (hint-digits n.fraction n.exponent n.has_minus n.has_fraction n.has_exponent n.is_fraction n.is_exponent e)
     by_part in_fraction e =
         sym (hint-float n.fraction n.exponent n.has_minus n.has_fraction n.has_exponent n.is_fraction n.is_exponent
@@ -159,7 +159,7 @@ number-hint part b bytes i = by_part part i.last ∙ sym (parts_hint-is (b ∷ b
 -- ---- what is cut of it
 
 -- The token of a number that is more than a minus.
-pub number-token : (buffer rest : List ℕ) (start end b : ℕ) (part : Part) → start < end → end ≤ length buffer →
+pub number-token : (buffer rest : List ℕ) (start end b : ℕ) (part : NumberPart) → start < end → end ≤ length buffer →
     slice_get buffer start ≡ Some b → (b ≡ minus → end ≡ start + 1 → ⊥) → EndsIn part (between buffer start end) →
     token_at (number start end (part_hint part (b == minus))) start (end - start)
     ≡ number_at start rest (parts (between buffer start end))

@@ -16,19 +16,19 @@ use Rattle.facet_json_scan.specs.declared.scanner.token.Found.TheVariants as fou
 use Rattle.facet_json_scan.specs.declared.scanner.gap.Piece.{Piece}
 use Rattle.facet_json_scan.specs.declared.scanner.gap.Piece.TheVariants as piece
 use Rattle.facet_json_token.specs.Open.{IsBeginning, IsOpen}
-use Rattle.facet_json_scan.specs.Scanner.{Part, in_digits, in_fraction, at_mark, in_exponent, State, in_text, in_word, in_number, after_slash, in_line, in_block, Pending, nothing_pending, pending_at, answer_for, Describes, past_growing_gap}
+use Rattle.facet_json_scan.specs.Scanner.{NumberPart, in_digits, in_fraction, at_mark, in_exponent, State, in_text, in_word, in_number, after_slash, in_line, in_block, Pending, nothing_pending, pending_at, answer_for, Describes, past_growing_gap}
 use Rattle.facet_json_scan.specs.ScannerViews.{answered, span_answered, IndicesWithin}
 
-abbrev pub part_of : RustPart → Part
-part_of part.Digits = in_digits
-part_of part.Fraction = in_fraction
-part_of part.Mark = at_mark
-part_of part.Exponent = in_exponent
+abbrev pub number_part_of : RustPart → NumberPart
+number_part_of part.Digits = in_digits
+number_part_of part.Fraction = in_fraction
+number_part_of part.Mark = at_mark
+number_part_of part.Exponent = in_exponent
 
 abbrev pub state_of : RustState → State
 state_of (state.Text escaped has_escapes) = in_text escaped has_escapes
 state_of state.Word = in_word
-state_of (state.Number p) = in_number (part_of p)
+state_of (state.Number p) = in_number (number_part_of p)
 state_of state.Slash = after_slash
 state_of state.Line = in_line
 state_of (state.Block after_star) = in_block after_star
@@ -71,12 +71,12 @@ FoundFrom mode buffer p (found.Open at s) = (at ≡ past_growing_gap buffer p mo
     × Describes mode (state_of s) (drop (past_growing_gap buffer p mode) buffer)
 
 -- A refusal is what is cut at `at`, where no gap is before it and the buffer isn't open.
-abbrev pub RefusedAt : Mode → List ℕ → ℕ → Result SpannedToken ScanError → Type 0
-RefusedAt mode buffer at result = IfErr result (λ _. FoundFrom mode buffer at (found.Answer at result))
+abbrev pub FoundRefused : Mode → List ℕ → ℕ → Result SpannedToken ScanError → Type 0
+FoundRefused mode buffer at result = IfErr result (λ _. FoundFrom mode buffer at (found.Answer at result))
 
 -- So is one that is found.
 abbrev pub RefusedThere : Mode → List ℕ → Found → Type 0
-RefusedThere mode buffer (found.Answer at result) = RefusedAt mode buffer at result
+RefusedThere mode buffer (found.Answer at result) = FoundRefused mode buffer at result
 RefusedThere mode buffer (found.Open at s) = Unit {0}
 
 -- What is found stands within the first `last` bytes.
@@ -85,5 +85,5 @@ FoundWithin last (found.Answer at result) = (at ≤ last) × (stop (span_answere
 FoundWithin last (found.Open at s) = at < last
 
 -- At `at`, where no gap is before it, this token is found, and further bytes don't change it.
-abbrev pub IsWhole : Mode → List ℕ → ℕ → SpannedToken → Type 0
-IsWhole mode buffer at t = FoundFrom mode buffer at (found.Answer at (Ok t)) × FoundWithin (length buffer) (found.Answer at (Ok t))
+abbrev pub IsWholeToken : Mode → List ℕ → ℕ → SpannedToken → Type 0
+IsWholeToken mode buffer at t = FoundFrom mode buffer at (found.Answer at (Ok t)) × FoundWithin (length buffer) (found.Answer at (Ok t))

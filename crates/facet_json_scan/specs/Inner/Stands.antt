@@ -5,11 +5,11 @@ use Rattle.facet_json_token.specs.declared.token.SpannedToken.{SpannedToken}
 use Rattle.facet_json_token.specs.declared.token.ScanError.{ScanError}
 use Rattle.facet_json_token.specs.Gap.{Mode}
 use Rattle.facet_json_token.specs.Tokens.{Tokens, AreCuts}
-use Rattle.facet_json_scan.specs.Scanner.{Scanner, Answer, cuts, GoesOnFrom}
-use Rattle.facet_json_scan.specs.Listed.{list_of, last_of, AreAllOf, StandsWithin, RefusalWithin}
+use Rattle.facet_json_scan.specs.Scanner.{Scanner, ScanAnswer, cuts, GoesOnFrom}
+use Rattle.facet_json_scan.specs.Listed.{tokens_of_list, rest_after, AreAllOf, StandsWithin, ScanRefusalWithin}
 
 -- whether a token is answered
-abbrev pub is_cut : Option Answer → Bool
+abbrev pub is_cut : Option ScanAnswer → Bool
 is_cut (Some (cuts t)) = true
 is_cut _ = false
 
@@ -22,21 +22,21 @@ pub record Stands (buffer : List ℕ) (tokens : List SpannedToken) (s : Scanner)
   pub position_within : s.position ≤ length buffer
   pub fit : All (StandsWithin (length buffer)) tokens
   pub so_far : (more : List ℕ) (others : Tokens) → AreCuts (buffer ++ more) s.mode start others →
-      AreAllOf (buffer ++ more) s.mode (list_of tokens (Some others))
+      AreAllOf (buffer ++ more) s.mode (tokens_of_list tokens (Some others))
 
 -- Whatever bytes follow the buffer, the tokens of all bytes are these, and then this refusal.
-pub record IsRefused (buffer : List ℕ) (mode : Mode) (tokens : List SpannedToken) (e : ScanError) : Type 0 where
+pub record IsScanRefused (buffer : List ℕ) (mode : Mode) (tokens : List SpannedToken) (e : ScanError) : Type 0 where
   pub fit : All (StandsWithin (length buffer)) tokens
-  pub refusal_fits : RefusalWithin (length buffer) (Some e)
-  pub all : (more : List ℕ) → AreAllOf (buffer ++ more) mode (list_of tokens (last_of (Some e)))
+  pub refusal_fits : ScanRefusalWithin (length buffer) (Some e)
+  pub all : (more : List ℕ) → AreAllOf (buffer ++ more) mode (tokens_of_list tokens (rest_after (Some e)))
 
 -- The buffer is scanned to its end, or to a refusal.
 abbrev pub IsScanned : List ℕ → Mode → List SpannedToken → Scanner → Option ScanError → Type 0
 IsScanned buffer mode tokens s None = Stands buffer tokens s × (s.position ≡ length buffer) × (s.mode ≡ mode)
-IsScanned buffer mode tokens s (Some e) = IsRefused buffer mode tokens e
+IsScanned buffer mode tokens s (Some e) = IsScanRefused buffer mode tokens e
 
 -- The tokens of the buffer alone are these, and then the end or this refusal.
 pub record IsFinished (buffer : List ℕ) (mode : Mode) (tokens : List SpannedToken) (refusal : Option ScanError) : Type 0 where
   pub fit : All (StandsWithin (length buffer)) tokens
-  pub refusal_fits : RefusalWithin (length buffer) refusal
-  pub all : AreAllOf buffer mode (list_of tokens (last_of refusal))
+  pub refusal_fits : ScanRefusalWithin (length buffer) refusal
+  pub all : AreAllOf buffer mode (tokens_of_list tokens (rest_after refusal))

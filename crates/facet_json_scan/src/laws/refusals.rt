@@ -1,10 +1,10 @@
 //! What a scanner over a buffer that grows answers after a refusal.
 
-ghost use Rattle.facet_json_scan.specs.ScannerLaws.{RefusalRepeats, RefusalAtEnd, PendingAgain};
+ghost use Rattle.facet_json_scan.specs.ScannerLaws.{ScanRefusalRepeats, RefusalAtEnd, PendingAgain};
 
 /// After a refusal of `next_token` the same call on the same buffer refuses alike, and leaves the scanner as it is.
 pub fn refusal_repeats()
-    ensures { RefusalRepeats }
+    ensures { ScanRefusalRepeats }
 {}
 
 /// After a refusal of `finalize_at_eof` at the buffer's end, `next_token` on the same buffer answers `NeedMore` from the

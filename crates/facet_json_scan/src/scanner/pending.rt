@@ -2,8 +2,8 @@
 
 ghost use Rattle.std.specs.Prelude.{◌≡◌, MatchOption};
 ghost use Rattle.facet_format.specs.Bytes as bytes;
-ghost use Rattle.facet_json_scan.specs.Scanner.{part_hint, GoesOnWith, EndsBefore};
-ghost use Rattle.facet_json_scan.specs.Inner.Found.{part_of};
+ghost use Rattle.facet_json_scan.specs.Scanner.{part_hint, ExtendsWith, EndsBefore};
+ghost use Rattle.facet_json_scan.specs.Inner.Found.{number_part_of};
 ghost use Rattle.facet_format.specs.Views.{hint_of};
 
 use facet_format::numeral::NumberHint;
@@ -58,8 +58,8 @@ pub struct Pending {
 impl Part {
     /// The part in which this byte stands, if it goes on with the number.
     pub fn after(self, byte: u8) -> Option<Part>
-        ensures { MatchOption result (EndsBefore (part_of self) byte)
-            (λ next. GoesOnWith (part_of self) byte (part_of next)) }
+        ensures { MatchOption result (EndsBefore (number_part_of self) byte)
+            (λ next. ExtendsWith (number_part_of self) byte (number_part_of next)) }
     {
         let is_digit = is_digit(byte);
         match self {
@@ -96,7 +96,7 @@ impl Part {
 
     /// What stands in a number whose last byte stands in this part.
     pub fn hint(self, is_negative: bool) -> NumberHint
-        ensures { hint_of result ≡ part_hint (part_of self) is_negative }
+        ensures { hint_of result ≡ part_hint (number_part_of self) is_negative }
     {
         match self {
             Part::Digits => {

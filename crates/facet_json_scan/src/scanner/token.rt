@@ -12,7 +12,7 @@ ghost use Rattle.facet_json_scan.specs.Scanner.{in_text, ended, EndsIn, Describe
 ghost use Rattle.facet_format.specs.Number.{parts, parts_len, parts_hint, is_bare};
 ghost use Rattle.facet_json_token.specs.Views.{mode_of, kind_of, scanned};
 ghost use Rattle.facet_json_scan.specs.ScannerViews.{answered, span_answered, IndicesWithin};
-ghost use Rattle.facet_json_scan.specs.Inner.Found.{part_of, FoundHere, FoundFrom, FoundWithin, RefusedAt, RefusedThere};
+ghost use Rattle.facet_json_scan.specs.Inner.Found.{number_part_of, FoundHere, FoundFrom, FoundWithin, FoundRefused, RefusedThere};
 
 use crate::scanner::gap::{Piece, piece_from};
 use crate::scanner::pending::{Part, State};
@@ -179,7 +179,7 @@ fn word_from(buffer: &[u8], at: usize, word: &[u8], token: Token) -> Found
 pub fn number_from(buffer: &[u8], start: usize, at: usize, part: Part) -> Found
     requires order { start < at }
     requires room { at ≤ length buffer.now }
-    ensures here { EndsIn (part_of part) (drop start (take at buffer.now))
+    ensures here { EndsIn (number_part_of part) (drop start (take at buffer.now))
         → (mode : spec_gap.Mode) → FoundHere mode buffer.now start result }
     ensures within { FoundWithin (length buffer.now) result }
     ensures refusal { (mode : spec_gap.Mode) → RefusedThere mode buffer.now result }
@@ -206,11 +206,11 @@ pub fn number_from(buffer: &[u8], start: usize, at: usize, part: Part) -> Found
 fn number_token(buffer: &[u8], start: usize, end: usize, part: Part) -> ScanResult
     requires order { start < end }
     requires room { end < length buffer.now }
-    ensures token { let text = drop start (take end buffer.now) in EndsIn (part_of part) text
+    ensures token { let text = drop start (take end buffer.now) in EndsIn (number_part_of part) text
         → parts (drop start buffer.now) ≡ parts text
         → scanned result ≡ Some (spec_cut.cut_number start (drop (start + 1) buffer.now)
         (parts_len (parts text)) (parts_hint (parts text)) (is_bare (parts text))) }
-    ensures refusal { (mode : spec_gap.Mode) → RefusedAt mode buffer.now start result }
+    ensures refusal { (mode : spec_gap.Mode) → FoundRefused mode buffer.now start result }
     ensures span { stop (span_answered result) ≤ length buffer.now }
     ensures indices { IndicesWithin (length buffer.now) result }
 {

@@ -2,7 +2,7 @@
 
 ghost use Rattle.std.specs.Prelude.{◌≤◌, length, IfSome};
 ghost use Rattle.facet_json_token.specs.Views.{mode_of};
-ghost use Rattle.facet_json_scan.specs.Inner.Found.{FoundFrom, FoundWithin, RefusedThere, IsWhole};
+ghost use Rattle.facet_json_scan.specs.Inner.Found.{FoundFrom, FoundWithin, RefusedThere, IsWholeToken};
 
 use crate::scanner::token::{Found, scan_from};
 use facet_json_token::quick::gap_end;
@@ -42,7 +42,7 @@ fn scan_apart(buffer: &[u8], position: usize, mode: Mode) -> Found
 #[inline(always)]
 fn whole_token(buffer: &[u8], at: usize, mode: Mode) -> Option<SpannedToken>
     requires { at ≤ length buffer.now }
-    ensures { IfSome result (λ t. IsWhole (mode_of mode) buffer.now at t) }
+    ensures { IfSome result (λ t. IsWholeToken (mode_of mode) buffer.now at t) }
 {
     let first = *buffer.get(at)?;
     if first <= b' ' || first == b'/' {

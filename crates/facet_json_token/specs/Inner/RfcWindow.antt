@@ -2,8 +2,8 @@
 use Rattle.std.specs.Prelude.{ℕ, Bool, not, ◌||◌, ◌==◌, nat_lt}
 use Rattle.facet_format.specs.Bytes.{backslash}
 
-abbrev pub is_stop : ℕ → Bool
-is_stop b = nat_lt b 0x20 || (b == backslash)
+abbrev pub is_rfc_stop : ℕ → Bool
+is_rfc_stop b = nat_lt b 0x20 || (b == backslash)
 
-abbrev pub is_plain : ℕ → Bool
-is_plain b = not (is_stop b)
+abbrev pub is_rfc_plain : ℕ → Bool
+is_rfc_plain b = not (is_rfc_stop b)

@@ -4,14 +4,14 @@ use Rattle.facet_format.specs.Bytes.{backslash}
 use Rattle.std.specs.Str.{IsValidUpTo}
 use Rattle.facet_json_token.specs.declared.token.ScanError.{ScanError}
 use Rattle.facet_json_token.specs.Views.{scan_refusal}
-use Rattle.facet_json_token.specs.Fault.{fault_at, no_character, fault_refusal}
+use Rattle.facet_json_token.specs.Fault.{decode_fault_at, no_character, fault_refusal}
 
 -- a byte other than a backslash
-abbrev pub is_plain : ℕ → Bool
-is_plain b = not (b == backslash)
+abbrev pub is_no_backslash : ℕ → Bool
+is_no_backslash b = not (b == backslash)
 
 -- Bytes that start there in the buffer are refused for the first one at which they stop being text.
 pub record StopsBeingText (run : List ℕ) (start : ℕ) (e : ScanError) : Type 0 where
   pub text_len : ℕ
   pub stops : IsValidUpTo run text_len
-  pub told : scan_refusal e ≡ fault_refusal start (fault_at no_character text_len 1)
+  pub told : scan_refusal e ≡ fault_refusal start (decode_fault_at no_character text_len 1)

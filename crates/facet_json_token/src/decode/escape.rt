@@ -6,7 +6,7 @@ ghost use Rattle.facet_format.specs.Bytes.{backslash, lower_u};
 ghost use Rattle.facet_format.specs.Complaint.{invalid_utf8, refusal_at};
 ghost use Rattle.facet_format.specs.Span.{span_at};
 ghost use Rattle.facet_json_token.specs.Decode.{piece_at, short_of, short_escape as short_escape_of, code_unit as code_unit_of, is_high_surrogate as is_high_surrogate_of, is_low_surrogate as is_low_surrogate_of, low_at};
-ghost use Rattle.facet_json_token.specs.Fault.{fault_at, fault_refusal, no_character, not_digits};
+ghost use Rattle.facet_json_token.specs.Fault.{decode_fault_at, fault_refusal, no_character, not_digits};
 ghost use Rattle.facet_json_token.specs.Inner.FirstFault.{fault_of, pair_fault};
 ghost use Rattle.facet_json_token.specs.Views.{scan_refusal};
 
@@ -49,7 +49,7 @@ fn short_at(byte: u8, at: usize) -> Result<Escape, ScanError>
     ensures found { IfOk result (λ e. short_of byte (short_escape_of byte) ≡ Some (e.character, e.len)) }
     ensures len { IfOk result (λ e. e.len ≡ 2) }
     ensures none { IfErr result (λ _. short_of byte (short_escape_of byte) ≡ None) }
-    ensures refused { IfErr result (λ e. scan_refusal e ≡ fault_refusal at (fault_at no_character 1 1)) }
+    ensures refused { IfErr result (λ e. scan_refusal e ≡ fault_refusal at (decode_fault_at no_character 1 1)) }
 {
     if byte >= 0x80 {
         return Err(not_utf8(at + 1, 1));
@@ -138,7 +138,7 @@ fn code_unit_at(rest: &[u8], from: usize, at: usize) -> Result<u32, ScanError>
     ensures range { IfOk result (λ u. u < 0x10000) }
     ensures none { IfErr result (λ _. code_unit_of (slice_index rest.now from) (slice_index rest.now (from + 1))
         (slice_index rest.now (from + 2)) (slice_index rest.now (from + 3)) ≡ None) }
-    ensures refused { IfErr result (λ e. scan_refusal e ≡ fault_refusal at (fault_at not_digits from 4)) }
+    ensures refused { IfErr result (λ e. scan_refusal e ≡ fault_refusal at (decode_fault_at not_digits from 4)) }
 {
     match code_unit(rest[from], rest[from + 1], rest[from + 2], rest[from + 3]) {
         Some(unit) => Ok(unit),

@@ -7,7 +7,7 @@ use Rattle.facet_json_document.specs.Place.{Place}
 use Rattle.facet_json_document.specs.Tree.{Tree}
 use Rattle.facet_json_document.specs.Future.{Future, gives, finished, stuck}
 use Rattle.facet_json_core.specs.Told.{Tells, Breaks}
-use Rattle.facet_json_core.specs.Reading.{LacksMemory, IsUnread, IsValueRead}
+use Rattle.facet_json_core.specs.Reading.{LacksMemory, IsUnreadBy, IsValueRead}
 use Rattle.facet_json_tree.specs.Depth.{beyond_event, too_deep_at}
 
 -- how many more containers may be opened within another one
@@ -34,7 +34,7 @@ pub record SameBeyond (start : Future) (limit : Option ℕ) (here : Future) (lef
 -- break off; or for the first bracket beyond.
 pub data IsUnreadWithin (limit : Option ℕ) (V : Type 0) (tells : Future → V → Future → Type 0)
     (breaks : Place → Tokens → Future → Type 0) (buffer : List ℕ) (start : Future) (refusal : Refusal) : Type 0 where
-  as_ever : IsUnread V tells breaks buffer start refusal →
+  as_ever : IsUnreadBy V tells breaks buffer start refusal →
       ((place : Place) (rest : Tokens) → breaks place rest start → LacksMemory refusal ⊎ (beyond start limit ≡ None)) →
       IsUnreadWithin limit V tells breaks buffer start refusal
   too_deep : (span : Span) → beyond start limit ≡ Some span → refusal ≡ too_deep_at span →

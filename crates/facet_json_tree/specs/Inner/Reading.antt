@@ -6,7 +6,7 @@ use Rattle.facet_json_document.specs.Tree.{Tree, Trees, no_trees, Pairs, no_pair
 use Rattle.facet_json_document.specs.Future.{Future, gives}
 use Rattle.facet_json_document.specs.Now.{Now, ahead, future_of, SameInput}
 use Rattle.facet_json_core.specs.Told.{tree_of_scalar, opens, begins, TellsItems, TellsMembers, BreaksItems, BreaksMembers}
-use Rattle.facet_json_core.specs.Reading.{LacksMemory, IsRead, IsUnread, IsValueRead}
+use Rattle.facet_json_core.specs.Reading.{LacksMemory, IsReadBy, IsUnreadBy, IsValueRead}
 use Rattle.facet_json_meaning.specs.OneValue.{PassesEndOf, PassesKeyInside, PassesByKind}
 use Rattle.facet_json_meaning.specs.Passing.{MovesOn}
 use Rattle.facet_json_tree.specs.Depth.{too_deep_at}
@@ -24,16 +24,16 @@ abbrev pub LeadsOn : Now → Now → Type 0
 LeadsOn old new = (before : Now) → MovesOn before old → MovesOn before new
 
 abbrev pub AreItemsRead : Future → Trees → Future → Type 0
-AreItemsRead = IsRead Trees TellsItems BreaksItems
+AreItemsRead = IsReadBy Trees TellsItems BreaksItems
 
 abbrev pub AreMembersRead : Future → Pairs → Future → Type 0
-AreMembersRead = IsRead Pairs TellsMembers BreaksMembers
+AreMembersRead = IsReadBy Pairs TellsMembers BreaksMembers
 
 abbrev pub AreItemsUnread : List ℕ → Future → Refusal → Type 0
-AreItemsUnread = IsUnread Trees TellsItems BreaksItems
+AreItemsUnread = IsUnreadBy Trees TellsItems BreaksItems
 
 abbrev pub AreMembersUnread : List ℕ → Future → Refusal → Type 0
-AreMembersUnread = IsUnread Pairs TellsMembers BreaksMembers
+AreMembersUnread = IsUnreadBy Pairs TellsMembers BreaksMembers
 
 abbrev pub AreItemsUnreadWithin : Option ℕ → List ℕ → Future → Refusal → Type 0
 AreItemsUnreadWithin limit = IsUnreadWithin limit Trees TellsItems BreaksItems

@@ -1,7 +1,7 @@
 use Rattle.std.proofs.Common.{length, refl, inl, subst}
 use Rattle.std.proofs.lemmas.Result.{IfOk-weaker, IfErr-weaker}
 use Rattle.facet_json_document.specs.Now.{Now}
-use Rattle.facet_json_core.specs.TranscodeViews.{IsWithin}
+use Rattle.facet_json_core.specs.TranscodeViews.{ErrorWithin}
 use Rattle.facet_json_command.proofs.Reformatting.{refusal_is}
 use Rattle.facet_json_command.proofs.run.reformatted.Goals as goal
 
@@ -37,4 +37,4 @@ returns-clause-only c has =
 pub returns-clause-within : goal.returns-clause-within
 returns-clause-within c =
     c.refused.ensures.within _
-    (subst (λ (p : Now). IsWithin (length p.buffer) c.in-Err.error) c.parser_of-parser.ensures c.in-Err.ensures.within)
+    (subst (λ (p : Now). ErrorWithin (length p.buffer) c.in-Err.error) c.parser_of-parser.ensures c.in-Err.ensures.within)

@@ -5,7 +5,7 @@ use Rattle.std.specs.Io.KnownBytes.{Appends}
 use Rattle.facet_format.specs.Span.{span_at}
 use Rattle.facet_format.specs.Views.{span_of}
 use Rattle.facet_json_token.specs.Tokens.{ended}
-use Rattle.facet_json_scan.specs.Listed.{list_of, last_of, AreAllOf}
+use Rattle.facet_json_scan.specs.Listed.{tokens_of_list, rest_after, AreAllOf}
 use Rattle.facet_json_command.specs.declared.outcome.Outcome.TheVariants.{Refused}
 use Rattle.facet_json_command.specs.Lines.{place_line}
 use Rattle.facet_json_command.specs.TokenViews.{text_of_token}
@@ -19,8 +19,8 @@ returns-in-Some-clause-listed g c mode input all whole =
     let e = c.in-Some.refusal in
     let a = g.W.Write.contents c.args.writer.now in
     let b = g.W.Write.contents c.write_tokens.new.writer in
-    let are : AreAllOf input mode (list_of s.tokens.items (last_of (Some e))) =
-    subst (λ r. AreAllOf input mode (list_of s.tokens.items (last_of r))) c.in-Some.is all in
+    let are : AreAllOf input mode (tokens_of_list s.tokens.items (rest_after (Some e))) =
+    subst (λ r. AreAllOf input mode (tokens_of_list s.tokens.items (rest_after r))) c.in-Some.is all in
     let printed : Appends a b (flat_map text_of_token s.tokens.items) =
     subst (λ l. Appends a b (flat_map text_of_token l)) c.as_slice.ensures.value c.in-Ok.ensures.printed in
     subst (λ n. ListsTokens mode input a b (Refused n (Some e.span))) (sym c.code.ensures)
@@ -32,8 +32,8 @@ returns-in-None-clause-listed g c mode input all whole =
     let a = g.W.Write.contents c.args.writer.now in
     let b = g.W.Write.contents c.write_tokens.new.writer in
     let d = g.W.Write.contents c.write_place.new.writer in
-    let are : AreAllOf input mode (list_of s.tokens.items (Some ended)) =
-    subst (λ r. AreAllOf input mode (list_of s.tokens.items (last_of r))) c.in-None.is all in
+    let are : AreAllOf input mode (tokens_of_list s.tokens.items (Some ended)) =
+    subst (λ r. AreAllOf input mode (tokens_of_list s.tokens.items (rest_after r))) c.in-None.is all in
     let same : s.buf.items ≡ input = subst (λ r. IfNone r (s.buf.items ≡ input)) c.in-None.is whole in
     let printed : Appends a b (flat_map text_of_token s.tokens.items) =
     subst (λ l. Appends a b (flat_map text_of_token l)) c.as_slice.ensures.value c.in-Ok.ensures.printed in

@@ -4,10 +4,10 @@ use Rattle.std.proofs.lemmas.Simd.{leading_from_mask_l, trailing_mask_l}
 use Rattle.std.proofs.lemmas.List.Sums.{prefix_len-le-length}
 use Rattle.std.specs.List.{prefix_len}
 use lib.Count.{count_trailing_zeros}
-use Rattle.facet_json_escape.specs.Inner.Window.{needs_escape, is_plain}
+use Rattle.facet_json_escape.specs.Inner.Window.{needs_escape, needs_no_escape}
 use Rattle.facet_json_escape.proofs.window.plain_lanes.Goals as goal
 
-first_bit : (c : goal.Else-found-eq0) → count_trailing_zeros 64 c.escapes-found.result ≡ prefix_len is_plain c.args.window
+first_bit : (c : goal.Else-found-eq0) → count_trailing_zeros 64 c.escapes-found.result ≡ prefix_len needs_no_escape c.args.window
 first_bit c =
     let v = c.args.window in
     let found = c.escapes-found.ensures in
@@ -23,4 +23,4 @@ pub returns-else-found-eq0-clause-value : goal.returns-else-found-eq0-clause-val
 returns-else-found-eq0-clause-value c = first_bit c
 
 pub returns-else-found-eq0-clause-within : goal.returns-else-found-eq0-clause-within
-returns-else-found-eq0-clause-within c = omega (arith, first_bit c, prefix_len-le-length is_plain c.args.window, c.fits-window.0)
+returns-else-found-eq0-clause-within c = omega (arith, first_bit c, prefix_len-le-length needs_no_escape c.args.window, c.fits-window.0)

@@ -1,7 +1,7 @@
 -- Each token is kept, and the scanner stands after it.
 use Rattle.std.proofs.Common.{◌<◌, ◌≤◌, length, sym, ◌∙◌, subst, arith}
-use Rattle.facet_json_scan.specs.Scanner.{first_of}
-use Rattle.facet_json_scan.specs.Inner.Stands.{Stands, IsRefused}
+use Rattle.facet_json_scan.specs.Scanner.{first_unread}
+use Rattle.facet_json_scan.specs.Inner.Stands.{Stands, IsScanRefused}
 use Rattle.facet_json_scan.proofs.Steps.{token-step, rest-step, refusal-step}
 use Rattle.facet_json_scan.proofs.reader.scan_ahead.Goals as goal
 
@@ -20,8 +20,8 @@ loop-token-smaller c =
     token-step c.args.buf.now c.loop-token.tokens.items c.loop-token.scanner c.next_token.new.self h c.in-Ok.token
     (sym c.is_token.ensures ∙ c.if-not-is_token.false) (c.in-Ok.ensures.span, c.in-Ok.ensures.indices)
     (c.in-Ok.ensures.token h.start h.goes_on) in
-    let further : first_of c.loop-token.scanner < first_of c.next_token.new.self = step.1 in
-    let room : first_of c.next_token.new.self ≤ length c.args.buf.now = step.2 in
+    let further : first_unread c.loop-token.scanner < first_unread c.next_token.new.self = step.1 in
+    let room : first_unread c.next_token.new.self ≤ length c.args.buf.now = step.2 in
     omega (arith, further, room)
 
 pub loop-token-preserved : goal.loop-token-preserved
@@ -39,6 +39,6 @@ loop-token-preserved c =
 pub returns-in-Err-clause-scanned : goal.returns-in-Err-clause-scanned
 returns-in-Err-clause-scanned c =
     let h = c.loop-token.invariant.stands in
-    subst (λ m. IsRefused c.args.buf.now m c.loop-token.tokens.items c.in-Err.refusal) c.loop-token.invariant.mode
+    subst (λ m. IsScanRefused c.args.buf.now m c.loop-token.tokens.items c.in-Err.refusal) c.loop-token.invariant.mode
     (refusal-step c.args.buf.now c.loop-token.tokens.items c.loop-token.scanner c.next_token.new.self h c.in-Err.refusal
     c.in-Err.ensures.span (c.in-Err.ensures.token h.start h.goes_on))

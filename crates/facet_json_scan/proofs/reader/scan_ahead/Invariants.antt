@@ -1,5 +1,5 @@
 use Rattle.std.proofs.Common.{◌≡◌, ◌-◌, length}
-use Rattle.facet_json_scan.specs.Scanner.{first_of}
+use Rattle.facet_json_scan.specs.Scanner.{first_unread}
 use Rattle.facet_json_scan.specs.Inner.Stands.{Stands}
 use Rattle.facet_json_scan.proofs.reader.scan_ahead.Given as goal
 
@@ -10,4 +10,4 @@ invariant-loop-token l = record {
 }
 
 abbrev pub decreases-loop-token : goal.decreases-loop-token
-decreases-loop-token l = length l.buf - first_of l.scanner
+decreases-loop-token l = length l.buf - first_unread l.scanner

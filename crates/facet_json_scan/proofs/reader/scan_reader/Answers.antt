@@ -4,7 +4,7 @@ use Rattle.std.proofs.lemmas.Bool.{ne_eqb}
 use Rattle.std.proofs.lemmas.List.{append-nil}
 use Rattle.std.specs.Io.KnownBytes.{Consumes}
 use Rattle.std.proofs.KnownBytes.{Consumes-nil, Consumes-trans}
-use Rattle.facet_json_scan.specs.Listed.{mode_with, list_of, last_of, AreAllOf}
+use Rattle.facet_json_scan.specs.Listed.{mode_with, tokens_of_list, rest_after, AreAllOf}
 use Rattle.facet_json_scan.specs.Inner.Stands.{Stands}
 use Rattle.facet_json_scan.proofs.GrowthOfPieces.{stands-first, stands-grown, consumes-prefix, scanned-refused, scanned-stands}
 use Rattle.facet_json_scan.proofs.reader.scan_reader.Goals as goal
@@ -25,7 +25,7 @@ returns-then-is_some-clause-tokens g c =
     let tokens = c.scan_ahead.new.tokens.items in
     let refusal = c.in_ok-refusal.refusal in
     let mode = mode_with c.args.comments in
-    consumes-prefix _ _ items (λ input. AreAllOf input mode (list_of tokens (last_of refusal))) c.loop-tokens.invariant.read
+    consumes-prefix _ _ items (λ input. AreAllOf input mode (tokens_of_list tokens (rest_after refusal))) c.loop-tokens.invariant.read
     (λ more.
     scanned-refused _ items more _ mode tokens _ refusal c.as_slice.ensures.value c.loop-tokens.invariant.mode
     (sym c.is_some.ensures ∙ c.if-is_some.true) c.in_ok-refusal.ensures.scanned)
@@ -36,7 +36,7 @@ returns-then-is_some-clause-so_far g c =
     let tokens = c.scan_ahead.new.tokens.items in
     let refusal = c.in_ok-refusal.refusal in
     let mode = mode_with c.args.comments in
-    subst (λ l. AreAllOf l mode (list_of tokens (last_of refusal))) (append-nil items)
+    subst (λ l. AreAllOf l mode (tokens_of_list tokens (rest_after refusal))) (append-nil items)
     (scanned-refused _ items [] _ mode tokens _ refusal c.as_slice.ensures.value c.loop-tokens.invariant.mode
     (sym c.is_some.ensures ∙ c.if-is_some.true) c.in_ok-refusal.ensures.scanned)
 

@@ -3,7 +3,7 @@ use Rattle.std.proofs.Common.{rules, drop, ap, ◌∙◌, subst, arith}
 use Rattle.facet_json_token.specs.Gap.{growing, piece_len}
 use Rattle.facet_json_scan.specs.Scanner.{Describes}
 use Rattle.facet_json_token.specs.Views.{mode_of}
-use Rattle.facet_json_scan.specs.Inner.Found.{state_of, part_of}
+use Rattle.facet_json_scan.specs.Inner.Found.{state_of, number_part_of}
 use Rattle.facet_json_scan.proofs.Segments.{between, between-rest}
 use Rattle.facet_json_scan.proofs.FoundPastGap.{found-no_gap}
 use Rattle.facet_json_scan.proofs.NoPiece.{text_no_piece, number_no_piece}
@@ -29,7 +29,7 @@ returns-in-Number-clause-here c = λ h.
     let at = c.args.at in
     let mode = mode_of c.args.mode in
     let text = between buffer start at in
-    let part = part_of c.in-Number.part in
+    let part = number_part_of c.in-Number.part in
     let ends = number-ends mode part text (subst (λ s. Describes mode (state_of s) text) c.in-Number.is h) in
     let none =
     ap (piece_len mode growing) (between-rest buffer start at (omega arith) c.requires.room)

@@ -13,7 +13,7 @@ use Rattle.facet_json_document.specs.Tree.{list, pairs}
 use Rattle.facet_json_document.specs.Tree as tree
 use Rattle.facet_format.specs.SerializerCall.{begin_struct, field_key, end_struct, begin_seq, end_seq, scalar}
 use Rattle.facet_json_serializer.specs.Serializer.{Appends}
-use Rattle.facet_json_serializer.specs.Views.{answer_of}
+use Rattle.facet_json_serializer.specs.Views.{call_answer_of}
 use Rattle.facet_json_serializer.specs.TreeCalls.{tree_calls, item_calls, member_calls}
 use Rattle.facet_json_tree.specs.Views.{tree_view, trees_view, pairs_view}
 use Rattle.facet_json_tree.proofs.TreeViews.{tree_view-Null, tree_view-Unit, tree_view-Bool, tree_view-Char, tree_view-I64, tree_view-U64, tree_view-I128, tree_view-U128, tree_view-Decimal, tree_view-Text, tree_view-Bytes, tree_view-Raw, tree_view-Pairs, trees_view-drop, pairs_view-drop}
@@ -74,7 +74,7 @@ write_tree-returns-in-Text-clause-of_rust t c =
 pub write_tree-returns-in-I64-clause-written : goal.write_tree-returns-in-I64-clause-written
 write_tree-returns-in-I64-clause-written t c =
     let fits : SFits w64 c.in-I64.n = search rules in
-    let called = subst (λ n. Appends c.args.serializer.now (scalar (event.i64 n)) (answer_of c.write_signed.result) c.write_signed.new.serializer)
+    let called = subst (λ n. Appends c.args.serializer.now (scalar (event.i64 n)) (call_answer_of c.write_signed.result) c.write_signed.new.serializer)
     (to_z-of_z w64 c.in-I64.n fits) c.write_signed.ensures in
     scalar-called _ _ (event.i64 c.in-I64.n) _ _ (ap tree_view c.in-I64.is ∙ tree_view-I64 _) called
 

@@ -3,7 +3,7 @@ use Rattle.facet_format.specs.Event as event
 use mir.Val.{to_z, of_z}
 use Rattle.std.proofs.lemmas.Int.{to_z-of_z}
 use Rattle.facet_json_document.specs.Tree.{i64}
-use Rattle.facet_json_document.specs.AsRead.{IsWithin}
+use Rattle.facet_json_document.specs.AsRead.{FitsBits}
 use Rattle.facet_json_tree.proofs.ScalarCalls.{scalar-called}
 use Rattle.facet_json_tree.proofs.OfRust.{fits-within}
 use Rattle.facet_json_facet.proofs.ScalarsOfRust.{on-ok, i64-of_rust}
@@ -28,4 +28,4 @@ returns-clause-spent c = search rules
 pub returns-clause-always : goal.returns-clause-always
 returns-clause-always c =
     let fits : SFits w64 c.args.self.now = search rules in
-    on-ok (IsWithin 63 c.args.self.now) c.scalar.result (fits-within w64 c.args.self.now fits)
+    on-ok (FitsBits 63 c.args.self.now) c.scalar.result (fits-within w64 c.args.self.now fits)

@@ -4,7 +4,7 @@ use Rattle.facet_format.specs.Event as event
 use mir.Val.{to_z, of_z}
 use Rattle.std.proofs.lemmas.Int.{to_z-of_z}
 use Rattle.facet_json_document.specs.Tree.{i128}
-use Rattle.facet_json_document.specs.AsRead.{IsWithin}
+use Rattle.facet_json_document.specs.AsRead.{FitsBits}
 use Rattle.facet_json_tree.proofs.ScalarCalls.{scalar-called}
 use Rattle.facet_json_meaning.proofs.Leaves.WideNumbers.{wide-within}
 use Rattle.facet_json_facet.proofs.ScalarsOfRust.{on-ok, i128-of_rust}
@@ -29,4 +29,4 @@ returns-clause-spent c = search rules
 pub returns-clause-always : goal.returns-clause-always
 returns-clause-always c =
     let fits : SFits w128 c.args.self.now = search rules in
-    on-ok (IsWithin 127 c.args.self.now) c.scalar.result (wide-within c.args.self.now fits)
+    on-ok (FitsBits 127 c.args.self.now) c.scalar.result (wide-within c.args.self.now fits)

@@ -4,7 +4,7 @@ use Rattle.std.proofs.lemmas.Result.{err_from_is_err_and}
 use Rattle.facet_format.specs.Views.{event_of}
 use Rattle.facet_json_reader.specs.PlaceViews.{refused_of}
 use Rattle.facet_json_parser.specs.Fill.{spot_of}
-use Rattle.facet_json_parser.specs.Views.{filling_of}
+use Rattle.facet_json_parser.specs.Views.{lookahead_of}
 use Rattle.facet_json_parser.proofs.AnswersAreMoves.{next-repeats, next-answers, next-refused}
 use Rattle.facet_json_parser.proofs.ParserWithin.{ready-within, next-refusal_within}
 use Rattle.facet_json_parser.proofs.parser.JsonParser.next_by_tokens.Goals as goal
@@ -18,16 +18,16 @@ pub refuse-requires : goal.refuse-requires
 refuse-requires c =
     let known = ready-within _ _ _ _ _ _ _ c.args.self.now c.self.invariant.0 refl c.self.view_is in
     record {
-      within = next-refusal_within _ c.args.self.now (refused_of c.in-Err.refused) (spot_of (filling_of c.next.new.self)) c.self.view_is
+      within = next-refusal_within _ c.args.self.now (refused_of c.in-Err.refused) (spot_of (lookahead_of c.next.new.self)) c.self.view_is
           c.in_ok-unrefused.ensures known c.in-Err.ensures.passed;
     }
 
 pub returns-in-Ok : goal.returns-in-Ok
 returns-in-Ok c =
-    next-answers _ c.args.self.now (option_map event_of c.in-Ok.passed) (spot_of (filling_of c.next.new.self)) c.self.view_is
+    next-answers _ c.args.self.now (option_map event_of c.in-Ok.passed) (spot_of (lookahead_of c.next.new.self)) c.self.view_is
     c.in_ok-unrefused.ensures c.in-Ok.ensures.passed
 
 pub returns-in-Err : goal.returns-in-Err
 returns-in-Err c =
-    next-refused _ c.args.self.now _ (refused_of c.in-Err.refused) _ (spot_of (filling_of c.next.new.self)) c.self.view_is
+    next-refused _ c.args.self.now _ (refused_of c.in-Err.refused) _ (spot_of (lookahead_of c.next.new.self)) c.self.view_is
     c.in_ok-unrefused.ensures c.in-Err.ensures.passed c.refuse.ensures.kept c.refuse.ensures.error

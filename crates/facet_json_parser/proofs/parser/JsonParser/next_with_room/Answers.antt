@@ -4,7 +4,7 @@ use Rattle.std.proofs.lemmas.Result.{err_from_is_err_and}
 use Rattle.facet_format.specs.Views.{event_of}
 use Rattle.facet_json_reader.specs.PlaceViews.{refused_of}
 use Rattle.facet_json_parser.specs.Fill.{spot_of}
-use Rattle.facet_json_parser.specs.Views.{filling_of}
+use Rattle.facet_json_parser.specs.Views.{lookahead_of}
 use Rattle.facet_json_parser.proofs.EventsInBatch.{queue-answers, queue-refused, queue-repeats}
 use Rattle.facet_json_parser.proofs.ParserWithin.{ready-within, queue-refusal_within}
 use Rattle.facet_json_parser.proofs.parser.JsonParser.next_with_room.Goals as goal
@@ -21,13 +21,13 @@ pub refuse-requires : goal.refuse-requires
 refuse-requires c =
     let known = ready-within _ _ _ _ _ _ _ c.args.self.now c.self.invariant.0 refl c.self.view_is in
     record {
-      within = queue-refusal_within _ c.args.self.now (refused_of c.in-Err.refused) (spot_of (filling_of c.next_with_room.new.self)) c.self.view_is
+      within = queue-refusal_within _ c.args.self.now (refused_of c.in-Err.refused) (spot_of (lookahead_of c.next_with_room.new.self)) c.self.view_is
           c.in_ok-unrefused.ensures known c.in-Err.ensures.passed;
     }
 
 pub returns-in-Ok-clause-event : goal.returns-in-Ok-clause-event
 returns-in-Ok-clause-event c =
-    queue-answers _ c.args.self.now (option_map event_of c.in-Ok.event) (spot_of (filling_of c.next_with_room.new.self)) c.self.view_is c.in_ok-unrefused.ensures
+    queue-answers _ c.args.self.now (option_map event_of c.in-Ok.event) (spot_of (lookahead_of c.next_with_room.new.self)) c.self.view_is c.in_ok-unrefused.ensures
     c.in-Ok.ensures.passed
 
 pub returns-in-Ok-clause-within : goal.returns-in-Ok-clause-within
@@ -35,7 +35,7 @@ returns-in-Ok-clause-within c = ready-within _ _ _ _ _ _ _ _ c.self.invariant.0 
 
 pub returns-in-Err-clause-event : goal.returns-in-Err-clause-event
 returns-in-Err-clause-event c =
-    queue-refused _ c.args.self.now _ (refused_of c.in-Err.refused) _ (spot_of (filling_of c.next_with_room.new.self)) c.self.view_is c.in_ok-unrefused.ensures
+    queue-refused _ c.args.self.now _ (refused_of c.in-Err.refused) _ (spot_of (lookahead_of c.next_with_room.new.self)) c.self.view_is c.in_ok-unrefused.ensures
     c.in-Err.ensures.passed c.refuse.ensures.kept c.refuse.ensures.error
 
 pub returns-in-Err-clause-within : goal.returns-in-Err-clause-within

@@ -1,13 +1,13 @@
 use Rattle.std.proofs.Common.{◌≡◌, Some, refl, rules}
 use Rattle.facet_format.specs.Span.{Span}
 use Rattle.facet_format.specs.Cursor.{spans}
-use Rattle.facet_json_document.specs.Now.{Now, span_of}
+use Rattle.facet_json_document.specs.Now.{Now, current_span_of}
 use Rattle.facet_json_document.proofs.MoveIsStep.{move-steps}
 use Rattle.facet_json_parser.proofs.AnswersAreMoves.{told-moves}
 use Rattle.facet_json_parser.proofs.ParserWithin.{ready-within, told-within}
 use Rattle.facet_json_parser.proofs.parser.JsonParserFormatParser.current_span.Goals as goal
 
-told-is : (made now : Now) (s : Span) → made ≡ now → s ≡ span_of made → spans (Some s) ≡ spans (Some (span_of now))
+told-is : (made now : Now) (s : Span) → made ≡ now → s ≡ current_span_of made → spans (Some s) ≡ spans (Some (current_span_of now))
 told-is made now s e same = rw (same, e) refl
 
 pub returns-clause-steps : goal.returns-clause-steps

@@ -2,7 +2,7 @@ use Rattle.std.proofs.Common.{◌∙◌, refl, ap, map}
 use Rattle.std.proofs.lemmas.Result.{err_from_is_err_and}
 use Rattle.facet_format.specs.Cursor.{no_memory_at}
 use Rattle.facet_format.specs.Complaint.{refusal_at, save_limit}
-use Rattle.facet_json_parser.specs.Views.{filling_of, point_of, kept_spot, now_of}
+use Rattle.facet_json_parser.specs.Views.{lookahead_of, point_of, kept_spot, now_of}
 use Rattle.facet_json_parser.proofs.KeptSpots.{with_point-spots}
 use Rattle.facet_json_parser.proofs.PointsByPlace.{at-greatest, below-greatest, next-number, new-ready}
 use Rattle.facet_json_document.proofs.MoveIsStep.{move-steps}
@@ -42,7 +42,7 @@ returns-in-Ok c =
     let i = c.self.inside in
     let e = c.in-Some.ensures in
     let known = ready-within _ _ _ _ _ _ _ c.args.self.now c.self.invariant.0 refl c.self.view_is in
-    let kept = ap (map kept_spot) c.in-Ok.ensures ∙ with_point-spots c.in-Some.number (filling_of i.standing) (map point_of i.points.items) in
+    let kept = ap (map kept_spot) c.in-Ok.ensures ∙ with_point-spots c.in-Some.number (lookahead_of i.standing) (map point_of i.points.items) in
     let move = save-keeps _ c.args.self.now (map kept_spot (map point_of c.keep.new.points.items)) c.in-Some.number c.self.view_is c.in_ok-unrefused.ensures
     (below-greatest i.counter e.0) (next-number i.counter c.in-Some.number e.1) kept in
     let is = moves-saved _ _ _ move in

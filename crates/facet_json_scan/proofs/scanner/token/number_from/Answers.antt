@@ -4,7 +4,7 @@ use Rattle.std.proofs.lemmas.Option.{slice_get-get_or}
 use Rattle.facet_format.specs.Number.{parts}
 use Rattle.facet_json_token.specs.Cut.{nothing_left}
 use Rattle.facet_json_scan.specs.Scanner.{EndsIn, Describes}
-use Rattle.facet_json_scan.specs.Inner.Found.{part_of}
+use Rattle.facet_json_scan.specs.Inner.Found.{number_part_of}
 use Rattle.facet_json_scan.proofs.AnswersOfCuts.{found-here}
 use Rattle.facet_json_token.proofs.FirstBytes.{cut_here-something}
 use Rattle.facet_json_token.proofs.Offsets.{slice_get-from_read, drop-at_byte}
@@ -18,7 +18,7 @@ returns-in_default-after-clause-here c = λ i mode.
     let buffer = c.args.buffer.now in
     let start = c.args.start in
     let end = c.loop-byte.end in
-    let part = part_of c.loop-byte.part in
+    let part = number_part_of c.loop-byte.part in
     let text = between buffer start end in
     let first = get_or buffer start 0 in
     let b = c.in-Some.byte.now in
@@ -52,7 +52,7 @@ loop-byte-preserved c =
       ahead = omega arith;
       within = omega (arith, c.in-Some.ensures.lookup.3.0);
       ends = λ i.
-          subst (EndsIn (part_of c.in-Some-after.next)) (sym (between-more buffer start end b (omega arith) here))
+          subst (EndsIn (number_part_of c.in-Some-after.next)) (sym (between-more buffer start end b (omega arith) here))
           (c.in-Some-after.ensures (between buffer start end) (c.loop-byte.invariant.ends i));
     }
 
@@ -61,7 +61,7 @@ returns-clause-here c = λ i mode.
     let buffer = c.args.buffer.now in
     let start = c.args.start in
     let end = c.loop-byte.end in
-    let part = part_of c.loop-byte.part in
+    let part = number_part_of c.loop-byte.part in
     let all = between-all buffer start end c.in_default.ensures.lookup.3 in
     (refl, Describes.number mode part (drop start buffer) (subst (EndsIn part) all (c.loop-byte.invariant.ends i)))
 

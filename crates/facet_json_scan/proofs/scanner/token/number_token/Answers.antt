@@ -7,7 +7,7 @@ use Rattle.facet_json_token.specs.Gap.{plain}
 use Rattle.facet_json_token.specs.Token.{number}
 use Rattle.facet_format.specs.Views.{hint_of}
 use Rattle.facet_json_token.specs.Cut.{token_at}
-use Rattle.facet_json_scan.specs.Inner.Found.{part_of}
+use Rattle.facet_json_scan.specs.Inner.Found.{number_part_of}
 use Rattle.facet_json_scan.proofs.AnswersOfCuts.{answered-ends, number-answered}
 use Rattle.facet_json_token.proofs.NumberCuts.{number_at}
 use Rattle.facet_json_scan.proofs.Pieces.PendingNumber.{number-token}
@@ -59,7 +59,7 @@ returns-clause-token c = λ i same.
     ] in
     c.token_at.ensures (number start end (hint_of c.hint.result)) refl
     ∙ ap (λ h. Some (token_at (number start end h) start (end - start))) c.hint.ensures
-    ∙ ap Some (number-token buffer (drop (start + 1) buffer) start end b (part_of c.args.part) c.requires.order
+    ∙ ap Some (number-token buffer (drop (start + 1) buffer) start end b (number_part_of c.args.part) c.requires.order
     (omega arith) here more i)
 
 pub returns-clause-refusal : goal.returns-clause-refusal

@@ -3,7 +3,7 @@ use Rattle.std.proofs.Common.{◌≡◌, ◌+◌, drop, Some, None, true, false,
 use Rattle.std.proofs.lemmas.Result.{err_from_is_err_and}
 use Rattle.facet_format.specs.Complaint.{unexpected_eof}
 use Rattle.facet_json_token.specs.Decode.{piece_at, is_high_surrogate, low_at}
-use Rattle.facet_json_token.specs.Fault.{fault_at, no_character}
+use Rattle.facet_json_token.specs.Fault.{decode_fault_at, no_character}
 use Rattle.facet_json_token.specs.Inner.FirstFault.{fault_of, pair_fault}
 use Rattle.facet_json_token.proofs.EscapeSteps.{piece_at-cut, piece_at-unit, unit_of-scalar, unit_of-low, unit_of-high, told-over, fault_of-cut, fault_of-unit}
 use Rattle.facet_json_token.proofs.decode.escape.unit_at.Goals as goal
@@ -83,7 +83,7 @@ returns-then-is_high_surrogate-clause-refused c =
     let rest = c.args.rest.now in
     let fault = fault_of-unit rest (Some u) r.backslash r.letter c.if-rest-lt6.false c.in_ok-unit.ensures.unit in
     let same : fault_of rest ≡ pair_fault (drop 6 rest) =
-    fault ∙ ap (λ x. cond x (pair_fault (drop 6 rest)) (fault_at no_character 2 4)) is in
+    fault ∙ ap (λ x. cond x (pair_fault (drop 6 rest)) (decode_fault_at no_character 2 4)) is in
     rw same c.pair_at.ensures.refused
 
 pub returns-in-None-clause-refused : goal.returns-in-None-clause-refused
@@ -93,8 +93,8 @@ returns-in-None-clause-refused c =
     let r = c.requires in
     let rest = c.args.rest.now in
     let fault = fault_of-unit rest (Some u) r.backslash r.letter c.if-rest-lt6.false c.in_ok-unit.ensures.unit in
-    let same : fault_of rest ≡ fault_at no_character 2 4 =
-    fault ∙ ap (λ x. cond x (pair_fault (drop 6 rest)) (fault_at no_character 2 4)) is in
+    let same : fault_of rest ≡ decode_fault_at no_character 2 4 =
+    fault ∙ ap (λ x. cond x (pair_fault (drop 6 rest)) (decode_fault_at no_character 2 4)) is in
     rw same c.not_utf8.ensures
 
 pub returns-in-None-clause-found : goal.returns-in-None-clause-found
