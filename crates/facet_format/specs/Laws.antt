@@ -1,6 +1,7 @@
 -- What the definitions of numbers, refusals and cursors mean, in the subject's own words. Each law is the contract of a function of the module `laws`.
 use Rattle.std.specs.Prelude.{◌≡◌, ℕ, ◌≤◌, ◌↔◌, true, false, List, [], ◌∷◌, length, take, Some, Ok}
-use Rattle.facet_format.specs.Cursor.{Source, Cursor, Call, on_walk, Step, Run, Answer, event, next, peek, skip, capture}
+use Rattle.facet_format.specs.Part.{Source}
+use Rattle.facet_format.specs.Cursor.{Cursor, Call, on_walk, Step, Run, Answer, event, next, peek, skip, capture}
 use Rattle.facet_format.specs.Event.{Event}
 use Rattle.facet_format.specs.Agree.{Agree, AgreeToLack}
 use Rattle.facet_format.specs.Complaint.{out_of_memory}

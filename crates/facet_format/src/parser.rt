@@ -17,7 +17,8 @@ use std::collections::VecDeque;
 /// step of that cursor.
 pub trait FormatParser<'de> {
     ghost use Rattle.std.specs.Prelude.{ℕ};
-    ghost use Rattle.facet_format.specs.Cursor.{Source, Cursor};
+    ghost use Rattle.facet_format.specs.Part.{Source};
+    ghost use Rattle.facet_format.specs.Cursor.{Cursor};
 
     /// It stands at this cursor on this walk in an input.
     ghost at: { Self → Source → Cursor ℕ → Type 0 };

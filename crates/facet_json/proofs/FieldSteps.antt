@@ -3,7 +3,8 @@ use Rattle.std.specs.Prelude.{ℕ, List}
 use Rattle.std.specs.Option.{option_and_then}
 use Rattle.std.proofs.Common.{◌≡◌, ◌<◌, ◌≤◌, inl, inr, Option, None, Some, refl, ap, ◌∙◌, arith}
 use Rattle.facet_format.specs.Complaint.{Refusal}
-use Rattle.facet_format.specs.Cursor.{Cursor, Source}
+use Rattle.facet_format.specs.Cursor.{Cursor}
+use Rattle.facet_format.specs.Part.{Source}
 use Rattle.facet_format.specs.Span.{Span}
 use Rattle.facet_format.specs.Event.{object}
 use Rattle.facet_json_token.specs.Token.{Token}
@@ -17,7 +18,7 @@ use Rattle.facet_json_meaning.specs.OneValue.{IsInside}
 use Rattle.facet_json_meaning.specs.Reading.{IsRead, IsUnread}
 use Rattle.facet_json_meaning.proofs.Keeping.{keeps-then}
 use Rattle.facet_json_meaning.proofs.Walks.NextOnWalk.{goes-keeps}
-use Rattle.facet_json_meaning.specs.Refusing.{IsAbout}
+use Rattle.facet_json_core.specs.Refusing.{IsAbout}
 use Rattle.facet_json.specs.Fields.{LacksField, Reading, Table, after_members, fields_of}
 use Rattle.facet_json_meaning.proofs.Objects.MembersOnWalk.{AtMembers, object-begins, at-key, key-comes, at-end}
 

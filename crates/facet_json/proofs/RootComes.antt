@@ -9,7 +9,7 @@ use Rattle.facet_json_document.specs.Node.{Node}
 use Rattle.facet_json_document.specs.Tree.{Tree}
 use Rattle.facet_json_document.specs.Walk.{walk, source_of}
 use Rattle.facet_json_document.specs.Now.{Now, fresh, fresh_in}
-use Rattle.facet_json_document.specs.Within.{RefusalWithin}
+use Rattle.facet_json_document.specs.UnreadLaws.{RefusalWithin}
 use Rattle.facet_json_document.proofs.StandsOnWalk.{fresh-stands}
 use Rattle.facet_json_core.specs.Refusing.{ComesTo, TellsRefusal}
 use Rattle.facet_json_meaning.specs.Nodes.{KeepsOn, StandsBefore}

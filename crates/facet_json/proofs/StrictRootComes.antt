@@ -12,7 +12,7 @@ use Rattle.facet_json_document.specs.Tree.{Tree}
 use Rattle.facet_json_document.specs.Walk.{walk, source_of}
 use Rattle.facet_json_document.specs.Now.{Now, fresh_in, future_of}
 use Rattle.facet_json_document.specs.OneRun.{IsOneRun}
-use Rattle.facet_json_document.specs.Within.{RefusalWithin}
+use Rattle.facet_json_document.specs.UnreadLaws.{RefusalWithin}
 use Rattle.facet_json_document.proofs.CallsLead.{none-lead, led-moves}
 use Rattle.facet_json_document.proofs.OneRun.EndsAtRun.{ends_at_run}
 use Rattle.facet_json_document.proofs.StrictAnswered.{strict-stands}

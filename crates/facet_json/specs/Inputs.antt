@@ -12,7 +12,7 @@ use Rattle.facet_json_document.specs.Tree.{Tree}
 use Rattle.facet_json_document.specs.StrictDocument.{IsStrictDocument}
 use Rattle.facet_json_document.specs.Now.{Now, fresh_in}
 use Rattle.facet_json_core.specs.Refusing.{ComesTo, TellsRefusal}
-use Rattle.facet_json_meaning.specs.ValueReading.{LacksMemory}
+use Rattle.facet_json_core.specs.Reading.{LacksMemory}
 
 -- The input has a document.
 abbrev pub BeginsWithDocument : List ℕ → Mode → Type 0

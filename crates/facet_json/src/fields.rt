@@ -5,11 +5,11 @@ ghost use Rattle.facet_format.specs.Complaint.{missing_field, refusal_at};
 ghost use Rattle.facet_format.specs.Span.{stop};
 ghost use Rattle.facet_format.specs.Views.{refusal_of, span_of};
 ghost use Rattle.facet_json_document.specs.Now.{ahead, current_span_of as last_read};
-ghost use Rattle.facet_json_document.specs.Within.{RefusalWithin};
+ghost use Rattle.facet_json_document.specs.UnreadLaws.{RefusalWithin};
 ghost use Rattle.facet_json_meaning.specs.Nodes.{KeepsOn};
 ghost use Rattle.facet_json_meaning.specs.OneValue.{PassesValue, IsAfterKey};
 ghost use Rattle.facet_json_meaning.specs.Reading.{IsRead, IsUnread};
-ghost use Rattle.facet_json_meaning.specs.Refusing.{TellsRefusal};
+ghost use Rattle.facet_json_core.specs.Refusing.{TellsRefusal};
 ghost use Rattle.facet_json.specs.Fields.{keys, table, fields_of, begins_with, first_name, other_names, joined, LacksField};
 
 use facet_format::{DeserializeError, DeserializeErrorKind, FormatParser, Span};

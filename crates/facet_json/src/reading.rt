@@ -4,7 +4,7 @@ ghost use Rattle.std.specs.Prelude.{◌≡◌, true, IfOk, IfErr, OnOk};
 ghost use Rattle.facet_format.specs.Views.{refusal_of};
 ghost use Rattle.facet_json_token.specs.Gap.{plain, jsonc};
 ghost use Rattle.facet_json_document.specs.Language.{lenient};
-ghost use Rattle.facet_json_document.specs.Within.{RefusalWithin};
+ghost use Rattle.facet_json_document.specs.UnreadLaws.{RefusalWithin};
 ghost use Rattle.facet_json.specs.Inputs.{IsReadFrom, IsUnreadFrom, BeginsWithDocument, IsToldOf, BeginsWithRun};
 
 use facet_format::DeserializeError;

@@ -7,7 +7,7 @@ ghost use Rattle.facet_json_document.specs.Language.{strict};
 ghost use Rattle.facet_json_document.specs.StrictDocument.{IsStrict};
 ghost use Rattle.facet_json_document.specs.Now.{fresh_in};
 ghost use Rattle.facet_json_document.specs.OneRun.{IsOneRun};
-ghost use Rattle.facet_json_document.specs.Within.{RefusalWithin};
+ghost use Rattle.facet_json_document.specs.UnreadLaws.{RefusalWithin};
 ghost use Rattle.facet_json.specs.Inputs.{IsReadStrictly, IsToldOf, IsUnreadStrictly};
 
 use facet_format::DeserializeError;

@@ -4,7 +4,8 @@ use Rattle.std.specs.Io.KnownBytes.{Keeps}
 use Rattle.facet_json_document.specs.Language.{Language}
 use Rattle.facet_json_command.specs.declared.outcome.Outcome.{Outcome}
 use Rattle.facet_json_command.specs.declared.outcome.Outcome.TheVariants.{Done, Refused, Io, Usage}
-use Rattle.facet_json_command.specs.Run.{IsFailure, IsFault, OutcomeWithin, Grows, Lists}
+use Rattle.facet_json_command.specs.Outcome.{IsFailure, IsFaultOfRun}
+use Rattle.facet_json_command.specs.Run.{OutcomeWithin, Grows, Lists}
 use Rattle.facet_json_command.proofs.Printing.{appends_nothing}
 use Rattle.facet_json_command.proofs.Listing.{grows_keeps, lists_keeps, lists_grow}
 
@@ -14,14 +15,14 @@ Ends before after printed final = (final ≡ Io) ⊎ ((final ≡ printed) × Kee
 
 -- ---- where nothing could be read
 
-pub fault_within : (outcome : Outcome) (len : ℕ) → IsFault outcome → OutcomeWithin len outcome
+pub fault_within : (outcome : Outcome) (len : ℕ) → IsFaultOfRun outcome → OutcomeWithin len outcome
 fault_within outcome len (inl memory) = rw memory tt
 fault_within outcome len (inr io) = rw io tt
 
 pub no_growth : (held : Option (List ℕ)) → Grows held held
 no_growth held = ([], appends_nothing held)
 
-pub unread_lists : (language : Language) (remaining held : Option (List ℕ)) (outcome : Outcome) → IsFault outcome →
+pub unread_lists : (language : Language) (remaining held : Option (List ℕ)) (outcome : Outcome) → IsFaultOfRun outcome →
     IfSome remaining (λ input. Lists language input held held outcome)
 unread_lists language None held outcome failed = tt
 unread_lists language (Some input) held outcome (inl memory) = rw memory (inl (refl, refl, no_growth held))

@@ -13,7 +13,7 @@ use Rattle.facet_json_document.specs.Now.{Now, fresh, fresh_in}
 use Rattle.facet_json_serializer.specs.Serializer.{Writing}
 use Rattle.facet_json_serializer.specs.TreeCalls.{with_tree}
 use Rattle.facet_json_command.specs.declared.outcome.Outcome.{Outcome}
-use Rattle.facet_json_command.specs.Views.{read_as}
+use Rattle.facet_json_command.specs.OutcomeViews.{read_as}
 use Rattle.facet_json_command.specs.Run.{IsDocumentIn, HasDocumentIn, IsRefusal}
 
 -- Behind the end of a value the document is passed.

@@ -23,7 +23,8 @@ use Rattle.facet_json_command.specs.declared.outcome.Outcome.TheVariants.{Done, 
 use Rattle.facet_json_command.specs.Lines.{place_line}
 use Rattle.facet_json_command.specs.TokenLines.{token_line, token_lines, fault_code, EndAs}
 use Rattle.facet_json_command.specs.TokenViews.{line_answered, text_of_token, code_of_kind}
-use Rattle.facet_json_command.specs.Run.{IsFault, Grows, Stops, Prints, AreTokensListed, ListsTokens}
+use Rattle.facet_json_command.specs.Outcome.{IsFaultOfRun}
+use Rattle.facet_json_command.specs.Run.{Grows, Stops, Prints, AreTokensListed, ListsTokens}
 use Rattle.facet_json_command.specs.Session.{outcome_of}
 use Rattle.facet_json_command.proofs.Printing.{appends_both, appends_keeps, stops_behind, stops_keeps}
 use Rattle.facet_json_command.proofs.Listing.{grows_keeps}
@@ -178,7 +179,7 @@ tokens_grow mode input a b Usage lists other = absurd lists
 
 -- ---- `tokens`
 
-pub unread_tokens : (mode : Mode) (remaining held : Option (List ℕ)) (outcome : Outcome) → IsFault outcome →
+pub unread_tokens : (mode : Mode) (remaining held : Option (List ℕ)) (outcome : Outcome) → IsFaultOfRun outcome →
     IfSome remaining (λ input. ListsTokens mode input held held outcome)
 unread_tokens mode None held outcome failed = tt
 unread_tokens mode (Some input) held outcome (inl memory) = rw memory (inl (refl, refl, no_growth held))

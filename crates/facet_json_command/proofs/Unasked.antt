@@ -4,7 +4,8 @@ use Rattle.facet_json_command.specs.Arguments.{Command, fmt, events, tokens, dri
 use Rattle.facet_json_command.specs.declared.outcome.Outcome.{Outcome}
 use Rattle.facet_json_command.specs.declared.outcome.Outcome.TheVariants.{Done, Refused}
 use Rattle.facet_json_document.specs.Language.{Language}
-use Rattle.facet_json_command.specs.Run.{AnswersInput, HasDocumentIn, IsFailure}
+use Rattle.facet_json_command.specs.Run.{AnswersInput, HasDocumentIn}
+use Rattle.facet_json_command.specs.Outcome.{IsFailure}
 use Rattle.facet_json_command.proofs.Printing.{appends_nothing}
 
 pub no_memory_answers : (command : Command) (remaining held : Option (List ℕ)) (outcome : Outcome) → outcome ≡ Refused 9 None →

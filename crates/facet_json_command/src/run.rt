@@ -21,9 +21,10 @@ ghost use Rattle.facet_json_serializer.specs.TreeCalls.{with_tree};
 ghost use Rattle.facet_json_core.specs.TranscodeViews.{IsTranscodeRefused, TranscodeLacksMemory, ErrorWithin as RefusesWithin};
 ghost use Rattle.facet_json_command.specs.declared.outcome.Outcome.TheVariants as outcome;
 ghost use Rattle.facet_json_command.specs.Arguments.{Command as SpecCommand, AskFor, AskForNothing, fmt, drive as drives};
-ghost use Rattle.facet_json_command.specs.Views.{words_of, read_as, command_view};
+ghost use Rattle.facet_json_command.specs.OutcomeViews.{words_of, read_as, command_view};
 ghost use Rattle.facet_json_command.specs.Lines.{answer_lines};
-ghost use Rattle.facet_json_command.specs.Run.{IsDocumentIn, HasDocumentIn, layout, IsReformatted, IsFailure, IsFault, IsRefusal, OutcomeWithin, Formats, Grows, Prints, Lists, ListsTokens, Drives, AnswersInput, ForFmt, ForDrive};
+ghost use Rattle.facet_json_command.specs.Run.{IsDocumentIn, HasDocumentIn, layout, IsReformatted, IsRefusal, OutcomeWithin, Formats, Grows, Prints, Lists, ListsTokens, Drives, AnswersInput, ForFmt, ForDrive};
+ghost use Rattle.facet_json_command.specs.Outcome.{IsFailure, IsFaultOfRun};
 ghost use Rattle.facet_json_command.specs.Session.{Marks, outcome_of};
 
 use crate::input::Input;
@@ -60,7 +61,7 @@ pub fn run<R: Read, W: Write>(
     ensures only { (language : SpecLanguage) (pretty : Bool) → AskFor (fmt language pretty) (words_of args.now)
         → IfSome (R.remaining reader.old) (λ input. HasDocumentIn language input → (result ≡ outcome.Done) ⊎ IsFailure result) }
     ensures driven { (language : SpecLanguage) (calls : List SpecCall) → AskFor (drives language calls) (words_of args.now)
-        → (result ≡ outcome.Done) ⊎ IsFault result }
+        → (result ≡ outcome.Done) ⊎ IsFaultOfRun result }
     ensures within { IfSome (R.remaining reader.old) (λ input. OutcomeWithin (length input) result) }
     ensures grows { result ≢ outcome.Io → Grows (W.contents writer.old) (W.contents writer.new) }
 {
@@ -85,7 +86,7 @@ fn obey<R: Read, W: Write>(
         → result ≡ outcome.Refused code span → writer.new ≡ writer.old) }
     ensures only { ForFmt (command_view command) (λ language. IfSome (R.remaining reader.old) (λ input.
         HasDocumentIn language input → (result ≡ outcome.Done) ⊎ IsFailure result)) }
-    ensures driven { ForDrive (command_view command) ((result ≡ outcome.Done) ⊎ IsFault result) }
+    ensures driven { ForDrive (command_view command) ((result ≡ outcome.Done) ⊎ IsFaultOfRun result) }
     ensures grows { result ≢ outcome.Io → Grows (W.contents writer.old) (W.contents writer.new) }
     ensures within { IfSome (R.remaining reader.old) (λ input. OutcomeWithin (length input) result) }
     ensures marks { Marks session.old.failed session.new.failed result }
@@ -146,7 +147,7 @@ fn formatted<R: Read>(
 /// All that the reader has.
 fn read_all<R: Read>(session: &mut Session, reader: &mut R) -> Result<Vec<u8>, Outcome>
     ensures bytes { IfSome (R.remaining reader.old) (λ input. IfOk result (λ v. v.items ≡ input)) }
-    ensures fault { IfErr result IsFault }
+    ensures fault { IfErr result IsFaultOfRun }
     ensures marks { Marks session.old.failed session.new.failed (outcome_of result) }
 {
     let mut input = Vec::new(session.alloc);
@@ -333,7 +334,7 @@ fn print_answers<R: Read, W: Write>(
     reader: &mut R,
     writer: &mut W,
 ) -> Outcome
-    ensures ends { (result ≡ outcome.Done) ⊎ IsFault result }
+    ensures ends { (result ≡ outcome.Done) ⊎ IsFaultOfRun result }
     ensures answers { IfSome (R.remaining reader.old) (λ input. IfSome (W.contents writer.old) (λ before.
         Drives (read_as language) (map call_of calls.now) input before (W.contents writer.new) result)) }
     ensures grows { result ≢ outcome.Io → Grows (W.contents writer.old) (W.contents writer.new) }

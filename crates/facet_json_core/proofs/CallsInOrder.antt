@@ -6,7 +6,8 @@ use Rattle.std.proofs.lemmas.List.Elements.{All-nil, All-push, All-same}
 use Rattle.facet_json_core.specs.declared.script.Call.{Call}
 use Rattle.facet_json_core.specs.declared.script.Answer.{Answer}
 use Rattle.facet_format.specs.Cursor as cursor
-use Rattle.facet_format.specs.Cursor.{Source, on_walk, Cursor, Run}
+use Rattle.facet_format.specs.Part.{Source}
+use Rattle.facet_format.specs.Cursor.{on_walk, Cursor, Run}
 use Rattle.facet_json_document.specs.Now.{Now, StandsAt}
 use Rattle.facet_json_document.specs.Move.{Moves, MovesAll}
 use Rattle.facet_json_document.specs.Within.{AnswerWithin}

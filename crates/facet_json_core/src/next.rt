@@ -9,7 +9,7 @@ ghost use Rattle.facet_json_document.specs.Future.{finished};
 ghost use Rattle.facet_json_document.specs.Now.{ahead, future_of, current_span_of as last_read, GoesOn, StandsAt};
 ghost use Rattle.facet_json_document.specs.Move.{Moves};
 ghost use Rattle.facet_json_document.specs.Next.{IsOver, PassesNext};
-ghost use Rattle.facet_json_document.specs.Within.{RefusalWithin};
+ghost use Rattle.facet_json_document.specs.UnreadLaws.{RefusalWithin};
 ghost use Rattle.facet_json_core.specs.Reading.{GivesNone};
 ghost use Rattle.facet_json_core.specs.Refusing.{mismatch_of, name_of_event, name_of_scalar, no_value_after, TellsRefusal};
 

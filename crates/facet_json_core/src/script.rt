@@ -2,7 +2,8 @@
 
 ghost use Rattle.std.specs.Prelude.{◌≡◌, ◌+◌, ◌≤◌, ℕ, List, length, map, IfOk, IfErr};
 ghost use Rattle.std.specs.List.{All};
-ghost use Rattle.facet_format.specs.Cursor.{Source, on_walk, Cursor, Run};
+ghost use Rattle.facet_format.specs.Part.{Source};
+ghost use Rattle.facet_format.specs.Cursor.{on_walk, Cursor, Run};
 ghost use Rattle.facet_json_document.specs.Now.{StandsAt, SameInput};
 ghost use Rattle.facet_json_document.specs.Move.{Moves, MovesAll};
 ghost use Rattle.facet_json_document.specs.Within.{AnswerWithin};

@@ -2,21 +2,23 @@
 use Rattle.std.specs.Prelude.{ℕ, List}
 use Rattle.std.proofs.Common.{ℕ, List}
 use Rattle.facet_json_token.specs.Gap.{Mode}
-use Rattle.facet_format.specs.Cursor.{Call, Answer, Source, Cursor, on_walk, start, Run}
+use Rattle.facet_format.specs.Cursor.{Call, Answer, Cursor, on_walk, start, Run}
+use Rattle.facet_format.specs.Part.{Source}
 use Rattle.facet_format.specs.Standing.{IsStep}
 use Rattle.facet_format.specs.Alike.{CursorsAlike}
 use Rattle.facet_json_document.specs.Node.{Node}
 use Rattle.facet_json_document.specs.Tree.{Tree}
 use Rattle.facet_json_document.specs.Document.{IsDocument}
 use Rattle.facet_json_document.specs.Walk.{source_of}
-use Rattle.facet_json_document.specs.Now.{Now, fresh, SameInput, StandsOn, StandsAt}
+use Rattle.facet_json_document.specs.Now.{Now, fresh, SameInput, StandsAt}
+use Rattle.facet_json_document.specs.StandsOn.{IsOnWalk}
 use Rattle.facet_json_document.specs.Move.{Moves, MovesAll}
 use Rattle.facet_json_document.proofs.StandsOnWalk.{fresh-stands, input-on_walk}
 use Rattle.facet_format.proofs.StepsAlike.{step-alike, run-alike}
 
 -- Where the input is the same, a parser stands where its places say.
 stands-still : (old new : Now) (w : Source) (d : Cursor ℕ) → SameInput old new →
-    CursorsAlike (StandsOn old.buffer old.language w) new.cursor d → StandsAt new w d
+    CursorsAlike (IsOnWalk old.buffer old.language w) new.cursor d → StandsAt new w d
 stands-still old new w d same on = rw (same.buffer, same.language) on
 
 -- Where a call is a move, it is a step of the cursor.

@@ -5,7 +5,8 @@ use Rattle.facet_json_token.specs.Gap.{Mode}
 use Rattle.facet_json_document.specs.Language.{Language}
 use Rattle.facet_format.specs.Event.{Passed}
 use Rattle.facet_format.specs.Alike.{none_kept}
-use Rattle.facet_format.specs.Cursor.{an_event, a_refusal, event_or_end, Source, on_walk, start}
+use Rattle.facet_format.specs.Cursor.{an_event, a_refusal, event_or_end, on_walk, start}
+use Rattle.facet_format.specs.Part.{Source}
 use Rattle.facet_json_document.specs.Node.{Node}
 use Rattle.facet_json_document.specs.Tree.{Tree}
 use Rattle.facet_json_document.specs.Document.{IsDocument}
@@ -13,7 +14,8 @@ use Rattle.facet_json_document.specs.Walk.{source_of}
 use Rattle.facet_json_document.specs.Future.{finished, events_before}
 use Rattle.facet_json_document.specs.InputPlace.{Reader, past, future_at}
 use Rattle.facet_json_document.proofs.WalkComes.{document-comes}
-use Rattle.facet_json_document.specs.Now.{fresh, first_of, on_input, StandsOn, StandsAt}
+use Rattle.facet_json_document.specs.Now.{fresh, first_of, on_input, StandsAt}
+use Rattle.facet_json_document.specs.StandsOn.{IsOnWalk}
 use Rattle.facet_format.proofs.StepsAlike.{WorldsAlike}
 use Rattle.facet_json_document.proofs.Parts.PartsOnWalk.{parts-on_walk}
 use Rattle.facet_json_document.proofs.Parts.PlacesOnWalk.{is-next}
@@ -50,7 +52,7 @@ never-refused (Some p) e = cc
 
 -- Where an input's place is one on a walk, they are alike from there on.
 pub input-on_walk : (buffer : List ℕ) (language : Language) (w : Source) →
-    WorldsAlike (on_input buffer language) (on_walk w) (StandsOn buffer language w)
+    WorldsAlike (on_input buffer language) (on_walk w) (IsOnWalk buffer language w)
 input-on_walk buffer language w = record {
   comes = λ s place on. ap first_of on.comes ∙ first-there w.events place;
   refuses = λ s place r on comes may.
@@ -61,8 +63,8 @@ input-on_walk buffer language w = record {
   stands = λ s place part on stands. parts-on_walk buffer language w s place part on stands;
 }
   where
-    passed : (s : Reader) (place : ℕ) (p : Passed) → StandsOn buffer language w s place →
-        first_of (future_at buffer language s) ≡ an_event p → StandsOn buffer language w (past p s) (suc place)
+    passed : (s : Reader) (place : ℕ) (p : Passed) → IsOnWalk buffer language w s place →
+        first_of (future_at buffer language s) ≡ an_event p → IsOnWalk buffer language w (past p s) (suc place)
     passed s place p on comes =
         let first = first-gives (future_at buffer language s) p comes in
         (is-next buffer language w s place on p first.0 first.1).after

@@ -2,7 +2,8 @@
 use Rattle.std.specs.Prelude.{◌≡◌, ◌≤◌, ℕ, ◌-◌, List, length}
 use Rattle.facet_format.specs.Span.{Span, stop}
 use Rattle.facet_format.specs.Complaint.{Refusal}
-use Rattle.facet_format.specs.Cursor.{Upcoming, an_event, the_end, a_refusal, Source, World, Cursor, start_at, current_span, Call, Answer, Run}
+use Rattle.facet_format.specs.Cursor.{Upcoming, an_event, the_end, a_refusal, World, Cursor, start_at, current_span, Call, Answer, Run}
+use Rattle.facet_format.specs.Part.{Source}
 use Rattle.facet_format.specs.Alike.{CursorsAlike}
 use Rattle.facet_json_token.specs.Gap.{Mode}
 use Rattle.facet_json_document.specs.Language.{Language, lenient}

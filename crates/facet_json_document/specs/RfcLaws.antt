@@ -6,7 +6,8 @@ use Rattle.facet_json_document.specs.Text.{Options, text}
 use Rattle.facet_json_document.specs.Tree.{Tree, null, unit, bool, char, i64, u64, i128, u128, bytes, raw, list, pairs, Trees, no_trees, tree, Pairs, no_pairs, pair}
 use Rattle.facet_json_document.specs.Tree as trees
 use Rattle.facet_json_document.specs.AsRead.{WellFormed, RawParts, IsBlankIndent}
-use Rattle.facet_json_document.specs.RfcText.{InUtf8, IsRfcNumber, IsRfcString, IsRfcText}
+use Rattle.facet_json_document.specs.RfcText.{InUtf8, IsRfcString, IsRfcText}
+use Rattle.facet_json_token.specs.RfcNumber.{IsRfcNumber}
 
 unfoldable mutual
   -- All decimals in the tree are such.

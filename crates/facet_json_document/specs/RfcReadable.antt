@@ -4,7 +4,8 @@ use Rattle.std.specs.Prelude.{◌≡◌, ℕ, List, [], ◌∷◌, ◌++◌, Som
 use Rattle.std.specs.Str.{encode_utf8_all}
 use Rattle.facet_format.specs.Number.{Hint, Number, number}
 use Rattle.facet_json_token.specs.Decode.{Decodes}
-use Rattle.facet_json_document.specs.RfcText.{quotation_mark, IsRfcNumber, IsRfcContent, IsValueOf, Spaced}
+use Rattle.facet_json_document.specs.RfcText.{quotation_mark, IsRfcContent, IsValueOf, Spaced}
+use Rattle.facet_json_token.specs.RfcNumber.{IsRfcNumber}
 
 -- a number of RFC 8259 that has a value
 pub record IsReadableNumber (characters : List ℕ) : Type 0 where

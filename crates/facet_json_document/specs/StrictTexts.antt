@@ -6,7 +6,8 @@ use Rattle.facet_json_document.specs.Text.{Options, text}
 use Rattle.facet_json_document.specs.AsRead.{WellFormed, RawParts, IsBlankIndent}
 use Rattle.facet_json_document.specs.RfcLaws.{DecimalParts}
 use Rattle.facet_json_document.specs.RfcReadable.{IsReadableText}
-use Rattle.facet_json_document.specs.RfcText.{InUtf8, IsRfcNumber, IsRfcText}
+use Rattle.facet_json_document.specs.RfcText.{InUtf8, IsRfcText}
+use Rattle.facet_json_token.specs.RfcNumber.{IsRfcNumber}
 
 -- The strict documents are the texts of RFC 8259, in UTF-8, whose strings have a text and whose whole numbers lie within 128 bits.
 abbrev pub StrictIsRfc : Type 0

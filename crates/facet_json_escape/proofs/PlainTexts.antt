@@ -7,7 +7,7 @@ use Rattle.std.specs.Bool.{OnTrue}
 use Rattle.std.specs.List.{flat_map, prefix_len}
 use lib.Lanes.{chunk, mask_l, zip2, top}
 use Rattle.facet_json_document.specs.Quoted.{escaped}
-use Rattle.facet_json_token.proofs.Lanes.{equal, below, either, masked}
+use Rattle.facet_format.proofs.Lanes.{equal, below, either, masked}
 use Rattle.facet_json_escape.specs.Inner.Window.{needs_escape, needs_no_escape, PlainBetween}
 use Rattle.facet_json_escape.proofs.Escapes.{plain_escape}
 

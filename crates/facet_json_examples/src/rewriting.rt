@@ -2,8 +2,8 @@
 
 ghost use Rattle.std.specs.Prelude.{◌≡◌, codes, IfOk, MatchResult};
 ghost use Rattle.facet_json.specs.Document.{IsDocument, IsWholeDocument};
-ghost use Rattle.facet_json.specs.ErrorKind.{code};
-ghost use Rattle.facet_json.specs.ErrorViews.{kind_of};
+ghost use Rattle.facet_json.specs.ErrorKind.{kind_code};
+ghost use Rattle.facet_json.specs.ErrorViews.{error_kind_of};
 ghost use Rattle.facet_json.specs.Gap.{plain};
 ghost use Rattle.facet_json.specs.Node.{Node};
 ghost use Rattle.facet_json.specs.Text.{default_options, text};
@@ -23,7 +23,7 @@ pub fn rewritten(alloc: Global, input: &[u8]) -> Result<Vec<u8>, JsonError>
         × ((node : Node) × IsWholeDocument v.items node (without_plus value))) }
     ensures only { (root : Node) (value : Tree) → IsDocument input.now plain root value
         → MatchResult result (λ v. v.items ≡ text default_options 0 value)
-        (λ e. code (kind_of e.kind) ≡ codes "json::out_of_memory") }
+        (λ e. kind_code (error_kind_of e.kind) ≡ codes "json::out_of_memory") }
 {
     document_comes_back();
     let tree = tree_from_slice(alloc, input)?;
@@ -37,7 +37,7 @@ pub fn indented(alloc: Global, input: &[u8]) -> Result<Vec<u8>, JsonError>
         × ((node : Node) × IsWholeDocument v.items node (without_plus value))) }
     ensures only { (root : Node) (value : Tree) → IsDocument input.now plain root value
         → MatchResult result (λ v. v.items ≡ text pretty_options 0 value)
-        (λ e. code (kind_of e.kind) ≡ codes "json::out_of_memory") }
+        (λ e. kind_code (error_kind_of e.kind) ≡ codes "json::out_of_memory") }
 {
     document_comes_back();
     let tree = tree_from_slice(alloc, input)?;

@@ -4,8 +4,8 @@ ghost use Rattle.std.specs.Prelude.{◌≡◌, ◌<◌, false, cond, map, None, 
 ghost use Rattle.std.specs.List.{All};
 ghost use Rattle.facet_format.specs.Views.{refusal_of};
 ghost use Rattle.facet_json_document.specs.Now.{ahead};
-ghost use Rattle.facet_json_document.specs.Within.{RefusalWithin};
-ghost use Rattle.facet_json_meaning.specs.Refusing.{TellsRefusal};
+ghost use Rattle.facet_json_document.specs.UnreadLaws.{RefusalWithin};
+ghost use Rattle.facet_json_core.specs.Refusing.{TellsRefusal};
 ghost use Rattle.facet_json_meaning.specs.Lists.{list_of};
 ghost use Rattle.facet_json_meaning.specs.Nodes.{KeepsOn};
 ghost use Rattle.facet_json_meaning.specs.OneValue.{PassesValue};

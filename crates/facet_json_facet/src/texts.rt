@@ -3,7 +3,7 @@
 ghost use Rattle.std.specs.Prelude.{◌≡◌, ◌⊎◌, IfOk, IfErr, IfSome, None, Some, codes, string_bytes};
 ghost use Rattle.facet_format.specs.Complaint.{no_memory, refusal_at};
 ghost use Rattle.facet_format.specs.Views.{event_of, refusal_of, span_of};
-ghost use Rattle.facet_json_meaning.specs.Refusing.{mismatch_of};
+ghost use Rattle.facet_json_core.specs.Refusing.{mismatch_of};
 ghost use Rattle.facet_json_meaning.specs.Borrowed.{lent, made_text, IsNotLent};
 ghost use Rattle.facet_json_meaning.specs.Readings.{taken, text_of_tree};
 

@@ -2,7 +2,7 @@
 
 ghost use Rattle.std.specs.Prelude.{◌≡◌, codes, IfOk, IfErr, None, Some};
 ghost use Rattle.facet_format.specs.Views.{event_of, refusal_of};
-ghost use Rattle.facet_json_meaning.specs.Refusing.{mismatch_of};
+ghost use Rattle.facet_json_core.specs.Refusing.{mismatch_of};
 ghost use Rattle.facet_json_meaning.specs.Readings.{bool_of, taken};
 
 use crate::facet::Facet;

@@ -3,7 +3,7 @@
 ghost use Rattle.std.specs.Prelude.{◌≡◌, ◌⊎◌, codes, IfOk, IfErr, None, Some};
 ghost use Rattle.facet_format.specs.Complaint.{number_out_of_range, refusal_at};
 ghost use Rattle.facet_format.specs.Views.{event_of, refusal_of};
-ghost use Rattle.facet_json_meaning.specs.Refusing.{mismatch_of};
+ghost use Rattle.facet_json_core.specs.Refusing.{mismatch_of};
 ghost use Rattle.facet_json_meaning.specs.Readings.{taken, u128_of, i128_of, unsigned_text, signed_text};
 
 use crate::facet::Facet;

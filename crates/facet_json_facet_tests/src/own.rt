@@ -4,7 +4,7 @@ ghost use Rattle.std.specs.Prelude.{◌≡◌, ◌≤◌, Some, length};
 ghost use Rattle.facet_format.specs.Span.{stop};
 ghost use Rattle.facet_format.specs.Views.{refusal_of, span_of};
 ghost use Rattle.facet_json_document.specs.Now.{current_span_of as last_read};
-ghost use Rattle.facet_json_meaning.specs.Refusing.{IsAbout};
+ghost use Rattle.facet_json_core.specs.Refusing.{IsAbout};
 
 use crate::typed::{is_itself, out_of_range, refuses};
 use facet_format::{DeserializeError, DeserializeErrorKind, FormatParser, Span};

@@ -2,7 +2,8 @@
 use Rattle.std.specs.Prelude.{◌≡◌, ℕ, Bool, true, false, List, [], ◌∷◌, slice_get, Option, Some, None}
 use Rattle.std.specs.Option.{option_map, option_and_then}
 use Rattle.facet_format.specs.Complaint.{Refusal}
-use Rattle.facet_format.specs.Cursor.{Cursor, Source, at_spot, peeked_at}
+use Rattle.facet_format.specs.Cursor.{Cursor, at_spot, peeked_at}
+use Rattle.facet_format.specs.Part.{Source}
 use Rattle.facet_format.specs.Event.{Event, EventKind, sequence_start, sequence_end, Passed}
 use Rattle.facet_json_document.specs.Node.{Node, scalar, array, object, Nodes, no_nodes, item}
 use Rattle.facet_json_document.specs.Tree.{Tree, list, Trees, no_trees, tree}

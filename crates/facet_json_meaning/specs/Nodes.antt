@@ -2,7 +2,8 @@
 use Rattle.std.specs.Prelude.{◌≡◌, ◌+◌, ◌≤◌, ℕ, false, Bool, List, ◌++◌, drop, length, slice_range, Some, None}
 use Rattle.facet_format.specs.Event.{Passed}
 use Rattle.facet_format.specs.Kept.{found}
-use Rattle.facet_format.specs.Cursor.{Cursor, Spot, Source, unpeeked}
+use Rattle.facet_format.specs.Cursor.{Cursor, Spot, unpeeked}
+use Rattle.facet_format.specs.Part.{Source}
 use Rattle.facet_format.specs.Number.{Hint}
 use Rattle.facet_json_token.specs.Token.{Token, string, number}
 use Rattle.facet_json_document.specs.Node.{Node, scalar, array, object, Nodes, no_nodes, item, Members, no_members, member}

@@ -1,7 +1,8 @@
 -- What passing the events of an object does on a walk.
 use Rattle.std.specs.Prelude.{◌≡◌, ℕ, Bool, true, false, slice_get, List, Option, Some, None, IsSome}
 use Rattle.facet_format.specs.Complaint.{Refusal}
-use Rattle.facet_format.specs.Cursor.{Cursor, Source}
+use Rattle.facet_format.specs.Cursor.{Cursor}
+use Rattle.facet_format.specs.Part.{Source}
 use Rattle.facet_format.specs.Event.{Event, EventKind, struct_start, struct_end, field_key, bytes_of, Passed}
 use Rattle.facet_json_document.specs.Node.{Node, scalar, array, object, Members}
 use Rattle.facet_json_document.specs.Now.{Now, StandsAt}

@@ -2,7 +2,8 @@
 use Rattle.std.specs.Prelude.{◌≡◌, ℕ, true, List, suc, slice_get, Option, Some, None}
 use Rattle.facet_format.specs.Complaint.{Refusal}
 use Rattle.facet_format.specs.Event.{Event, Passed}
-use Rattle.facet_format.specs.Cursor.{Cursor, Source, at_spot, unpeeked}
+use Rattle.facet_format.specs.Cursor.{Cursor, at_spot, unpeeked}
+use Rattle.facet_format.specs.Part.{Source}
 use Rattle.facet_json_document.specs.Node.{Node}
 use Rattle.facet_json_document.specs.Now.{Now, StandsAt}
 use Rattle.facet_json_document.specs.Next.{PassesNext}

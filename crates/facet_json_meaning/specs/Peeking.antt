@@ -1,7 +1,8 @@
 -- What a peek does on a walk.
 use Rattle.std.specs.Prelude.{◌≡◌, ℕ, Bool, slice_get, Some, None}
 use Rattle.facet_format.specs.Event.{Passed}
-use Rattle.facet_format.specs.Cursor.{Cursor, Source, at_spot, peeked_at}
+use Rattle.facet_format.specs.Cursor.{Cursor, at_spot, peeked_at}
+use Rattle.facet_format.specs.Part.{Source}
 use Rattle.facet_json_document.specs.Now.{Now, StandsAt}
 use Rattle.facet_json_meaning.specs.Optional.{is_null_event}
 

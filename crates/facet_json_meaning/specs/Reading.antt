@@ -1,7 +1,8 @@
 -- What it means that a type is read from a node.
 use Rattle.std.specs.Prelude.{◌≡◌, ◌⊎◌, ℕ, List, Option, Some, None}
 use Rattle.facet_format.specs.Complaint.{Refusal}
-use Rattle.facet_format.specs.Cursor.{Cursor, Source}
+use Rattle.facet_format.specs.Cursor.{Cursor}
+use Rattle.facet_format.specs.Part.{Source}
 use Rattle.facet_json_token.specs.Gap.{Mode, plain}
 use Rattle.facet_json_document.specs.Node.{Node}
 use Rattle.facet_json_document.specs.Tree.{Tree}

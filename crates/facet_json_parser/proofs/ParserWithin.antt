@@ -16,7 +16,8 @@ use Rattle.facet_json_document.specs.Language.{Language}
 use Rattle.facet_json_document.specs.InputPlace.{Reader}
 use Rattle.facet_json_document.specs.Now.{Now, on_input, current_span_of, ahead, GoesOn}
 use Rattle.facet_json_document.specs.Move.{Moves}
-use Rattle.facet_json_document.specs.Within.{ReaderWithin, RefusalWithin, NowWithin, AnswerWithin, no_events}
+use Rattle.facet_json_document.specs.Within.{ReaderWithin, NowWithin, AnswerWithin, no_events}
+use Rattle.facet_json_document.specs.UnreadLaws.{RefusalWithin}
 use Rattle.facet_json_document.proofs.MoveLaws.{with_cursor, same_cursor-is}
 use Rattle.facet_json_document.proofs.Spans.AnswersWithin.{moves-within, current-within}
 use Rattle.facet_json_document.proofs.Spans.BytesAhead.{moves-onward, moves-goes_on, next-lowers, events-lower}

@@ -7,7 +7,8 @@ use Rattle.facet_format.specs.Cursor as cursor
 use Rattle.facet_json_document.specs.InputPlace.{Reader}
 use Rattle.facet_json_document.specs.Now.{Now, on_input}
 use Rattle.facet_json_document.specs.Move.{Moves}
-use Rattle.facet_json_document.specs.Within.{RefusalWithin, NowWithin}
+use Rattle.facet_json_document.specs.UnreadLaws.{RefusalWithin}
+use Rattle.facet_json_document.specs.Within.{NowWithin}
 use Rattle.facet_json_document.proofs.MoveLaws.{with_cursor}
 use Rattle.facet_json_parser.specs.Steps.{SkipsOne, skips, skips_without_memory, skips_nothing, CapturesOne, captures, captures_without_memory, captures_nothing}
 use Rattle.facet_json_parser.proofs.AnswersAreMoves.{step-moves, none-made}

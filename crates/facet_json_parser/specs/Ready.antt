@@ -5,7 +5,8 @@ use Rattle.facet_format.specs.Complaint.{Refusal}
 use Rattle.facet_format.specs.Cursor.{greatest}
 use Rattle.facet_format.specs.Kept.{found}
 use Rattle.facet_json_document.specs.Language.{Language}
-use Rattle.facet_json_document.specs.Within.{ReaderWithin, RefusalWithin}
+use Rattle.facet_json_document.specs.Within.{ReaderWithin}
+use Rattle.facet_json_document.specs.UnreadLaws.{RefusalWithin}
 use Rattle.facet_json_parser.specs.Fill.{Lookahead, reader_before, HoldsWhatComes}
 
 -- The place lies within the buffer, and an event that is held is the one that comes there.

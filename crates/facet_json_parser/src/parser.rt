@@ -15,7 +15,8 @@ ghost use Rattle.facet_json_reader.specs.PlaceViews.{language_of, refused_of};
 ghost use Rattle.facet_json_document.specs.Now.{fresh, fresh_in, current_span_of, ahead, future_of, SameInput, GoesOn, StandsAt};
 ghost use Rattle.facet_json_document.specs.Move.{Moves, with_kept};
 ghost use Rattle.facet_json_document.specs.Next.{PassesNext, ShowsNext, PassesAll, IsOver};
-ghost use Rattle.facet_json_document.specs.Within.{RefusalWithin, NowWithin, AnswerWithin};
+ghost use Rattle.facet_json_document.specs.UnreadLaws.{RefusalWithin};
+ghost use Rattle.facet_json_document.specs.Within.{NowWithin, AnswerWithin};
 ghost use Rattle.facet_json_parser.specs.Steps.{QueuesNow};
 
 use facet_format::{FormatParser, ParseError, ParseEvent, SavePoint, Span};

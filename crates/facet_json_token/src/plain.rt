@@ -3,7 +3,8 @@
 ghost use Rattle.std.specs.Prelude.{◌≡◌, ◌≤◌, Some, false, length, slice_range, IfSome, IsUtf8, MatchOption};
 ghost use Rattle.facet_json_token.specs.Decode.{decoded};
 ghost use Rattle.facet_json_token.specs.Quoted.{IsQuoted};
-ghost use Rattle.facet_json_token.specs.DecodeViews.{has_backslash, IsItsText};
+ghost use Rattle.facet_json_token.specs.Cut.{has_backslash};
+ghost use Rattle.facet_json_token.specs.DecodeViews.{IsItsText};
 
 use crate::ascii::ascii_text;
 use std::str;

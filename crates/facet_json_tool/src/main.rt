@@ -4,7 +4,7 @@
 
 ghost use Rattle.std.specs.Prelude.{◌≡◌, ◌⊎◌, IfErr};
 ghost use Rattle.facet_json_command.specs.declared.outcome.Outcome.TheVariants as outcome;
-ghost use Rattle.facet_json_command.specs.Run.{IsFault};
+ghost use Rattle.facet_json_command.specs.Outcome.{IsFaultOfRun};
 
 use facet_json_command::outcome::{OUT_OF_MEMORY, Outcome, failure, without_arguments};
 use facet_json_command::report::{status, write_line};
@@ -15,7 +15,7 @@ use std::process::ExitCode;
 
 /// The arguments after the program's name.
 fn given_words(rt: &HostRuntime) -> Result<Vec<String>, Outcome>
-    ensures { IfErr result (λ o. (o ≡ outcome.Usage) ⊎ IsFault o) }
+    ensures { IfErr result (λ o. (o ≡ outcome.Usage) ⊎ IsFaultOfRun o) }
 {
     match env::args(rt) {
         Ok(args) => args.skip(1).collect(rt.alloc()).map_err(|_| OUT_OF_MEMORY),

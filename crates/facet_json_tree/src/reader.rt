@@ -12,7 +12,7 @@ ghost use Rattle.facet_json_document.specs.Future.{Future};
 ghost use Rattle.facet_json_document.specs.Meaning.{tree_of};
 ghost use Rattle.facet_json_document.specs.PrefixRefusal.{Refuses};
 ghost use Rattle.facet_json_document.specs.Now.{ahead, future_of};
-ghost use Rattle.facet_json_document.specs.Within.{RefusalWithin};
+ghost use Rattle.facet_json_document.specs.UnreadLaws.{RefusalWithin};
 ghost use Rattle.facet_json_core.specs.Told.{tree_of_scalar, is_member};
 ghost use Rattle.facet_json_core.specs.Reading.{LacksMemory, IsValueRead, IsValueUnread};
 ghost use Rattle.facet_json_core.specs.Refusing.{LacksOrIsAbout, TellsRefusal};

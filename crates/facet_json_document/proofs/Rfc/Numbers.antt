@@ -10,7 +10,8 @@ use Rattle.facet_format.specs.Bytes.{minus}
 use Rattle.facet_json_token.specs.RfcNumber.{is_rfc_digit, AreRfcDigits, none, digit, SomeDigits, IsRfcMinus, IsRfcExponentSign}
 use Rattle.facet_json_token.proofs.RfcNumbers.{are_digits}
 use Rattle.facet_json_document.specs.AsRead.{FitsBits}
-use Rattle.facet_json_document.specs.RfcText.{InUtf8, is_first_digit, IsWhole, nought, IsFraction, IsExponent, IsRfcNumber}
+use Rattle.facet_json_document.specs.RfcText.{InUtf8}
+use Rattle.facet_json_token.specs.RfcNumber.{is_first_digit, IsRfcWhole, nought, IsRfcFraction, IsRfcExponent, IsRfcNumber}
 use Rattle.facet_json_document.proofs.Scalars.DecimalDigits.{decimal-digits}
 use Rattle.facet_json_document.proofs.Rfc.Encoded.{is_ascii, ascii, ascii-itself}
 
@@ -41,23 +42,23 @@ minus-ascii : (sign : List ℕ) → IsRfcMinus sign → list_all is_ascii sign �
 minus-ascii _ IsRfcMinus.absent = refl
 minus-ascii _ IsRfcMinus.present = refl
 
-whole-ascii : (ds : List ℕ) → IsWhole ds → list_all is_ascii ds ≡ true
+whole-ascii : (ds : List ℕ) → IsRfcWhole ds → list_all is_ascii ds ≡ true
 whole-ascii _ nought = refl
-whole-ascii _ (IsWhole.digits c others first d) =
+whole-ascii _ (IsRfcWhole.digits c others first d) =
     let is : is_rfc_digit c ≡ true = grind (arith, nat_tests) in digits-ascii (c ∷ others) (digit c others is d)
 
-fraction-ascii : (fraction : List ℕ) → IsFraction fraction → list_all is_ascii fraction ≡ true
-fraction-ascii _ IsFraction.absent = refl
-fraction-ascii _ (IsFraction.present digits d) = some-ascii digits d
+fraction-ascii : (fraction : List ℕ) → IsRfcFraction fraction → list_all is_ascii fraction ≡ true
+fraction-ascii _ IsRfcFraction.absent = refl
+fraction-ascii _ (IsRfcFraction.present digits d) = some-ascii digits d
 
 sign-ascii : (sign : List ℕ) → IsRfcExponentSign sign → list_all is_ascii sign ≡ true
 sign-ascii _ IsRfcExponentSign.absent = refl
 sign-ascii _ IsRfcExponentSign.minus = refl
 sign-ascii _ IsRfcExponentSign.plus = refl
 
-exponent-ascii : (exponent : List ℕ) → IsExponent exponent → list_all is_ascii exponent ≡ true
-exponent-ascii _ IsExponent.absent = refl
-exponent-ascii _ (IsExponent.present mark sign digits others is s d e) =
+exponent-ascii : (exponent : List ℕ) → IsRfcExponent exponent → list_all is_ascii exponent ≡ true
+exponent-ascii _ IsRfcExponent.absent = refl
+exponent-ascii _ (IsRfcExponent.present mark sign digits others is s d e) =
     let first : is_ascii mark ≡ true = grind (arith, nat_tests) in
     and_from (is_ascii mark) _ first (ap (list_all is_ascii) e ∙ ascii-append sign digits (sign-ascii sign s) (some-ascii digits d))
 
@@ -93,14 +94,14 @@ leads-decimal n some small = decimal_by_steps_wide (λ m ds. 0 < m → Leads ds)
         let last = digit (48 + m % 10) [] (digit_of (m % 10) (omega arith)) none in
         (first.0, first.1 ++ ((48 + m % 10) ∷ []), first.2, digits-append first.1 _ first.3 last, ap (λ l. l ++ ((48 + m % 10) ∷ [])) first.4)
 
-whole-decimal : (n : ℕ) → n < 10 ^ 64 → IsWhole (decimal n)
+whole-decimal : (n : ℕ) → n < 10 ^ 64 → IsRfcWhole (decimal n)
 whole-decimal zero small = rw (decimal_digit 0 (omega arith)) nought
 whole-decimal (suc n) small =
-    let l = leads-decimal (suc n) (omega arith) small in rw l.4 (IsWhole.digits l.0 l.1 l.2 l.3)
+    let l = leads-decimal (suc n) (omega arith) small in rw l.4 (IsRfcWhole.digits l.0 l.1 l.2 l.3)
 
 -- ---- whole numbers
 
-whole_number : (sign whole : List ℕ) → IsRfcMinus sign → IsWhole whole → IsRfcNumber (sign ++ whole)
+whole_number : (sign whole : List ℕ) → IsRfcMinus sign → IsRfcWhole whole → IsRfcNumber (sign ++ whole)
 whole_number sign whole is_minus is_whole = record {
   sign = sign;
   whole = whole;
@@ -108,8 +109,8 @@ whole_number sign whole is_minus is_whole = record {
   exponent = [];
   is_minus = is_minus;
   is_whole = is_whole;
-  is_fraction = IsFraction.absent;
-  is_exponent = IsExponent.absent;
+  is_fraction = IsRfcFraction.absent;
+  is_exponent = IsRfcExponent.absent;
   parts = simp append-nil;
 }
 

@@ -6,7 +6,8 @@ use Rattle.facet_json_document.specs.Text.{Options, text, items_text, members_te
 use Rattle.facet_json_document.specs.Tree.{Tree, null, unit, bool, char, i64, u64, i128, u128, bytes, raw, list, pairs, Trees, no_trees, tree, Pairs, no_pairs, pair}
 use Rattle.facet_json_document.specs.Tree as trees
 use Rattle.facet_json_document.specs.AsRead.{WellFormed, ItemsWellFormed, MembersWellFormed, RawParts, RawItems, RawMembers, IsBlankIndent}
-use Rattle.facet_json_document.specs.RfcText.{InUtf8, IsRfcNumber, IsRfcValue, IsRfcText, number, string, literal_false, literal_null, literal_true}
+use Rattle.facet_json_document.specs.RfcText.{InUtf8, IsRfcValue, IsRfcText, number, string, literal_false, literal_null, literal_true}
+use Rattle.facet_json_token.specs.RfcNumber.{IsRfcNumber}
 use Rattle.facet_json_document.specs.RfcLaws.{DecimalParts, DecimalItems, DecimalMembers, WrittenIsRfc}
 use Rattle.facet_json_document.proofs.Rfc.Structural.{with_spaces_before, with_spaces_after, colon-structural}
 use Rattle.facet_json_document.proofs.Rfc.Encoded.{ascii, mapped, joined3}

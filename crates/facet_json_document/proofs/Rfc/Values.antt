@@ -1,7 +1,8 @@
 -- Arrays and objects, from their parts, whatever their numbers N and their strings S are.
 use Rattle.std.proofs.Common.{ℕ, List, [], ◌∷◌, ◌++◌, refl, append_assoc, append-nil}
 use Rattle.facet_format.specs.Bytes.{left_bracket, right_bracket, left_brace, right_brace, colon, comma}
-use Rattle.facet_json_document.specs.RfcText.{Spaced, IsRfcStructural, IsEnclosed, IsRfcNumber, IsRfcString, IsValueOf, AreItemsOf, AreMembersOf, IsMemberOf, empty_array, array, empty_object, object, one_item, more_items, one_member, more_members, member}
+use Rattle.facet_json_document.specs.RfcText.{Spaced, IsRfcStructural, IsEnclosed, IsRfcString, IsValueOf, AreItemsOf, AreMembersOf, IsMemberOf, empty_array, array, empty_object, object, one_item, more_items, one_member, more_members, member}
+use Rattle.facet_json_token.specs.RfcNumber.{IsRfcNumber}
 use Rattle.facet_json_document.proofs.Rfc.Lists.{GoesOn, ends, goes_on, begins, unspaced, spaced_after}
 
 -- Two structural characters, between which nothing else stands.

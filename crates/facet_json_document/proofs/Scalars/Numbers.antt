@@ -16,7 +16,8 @@ use Rattle.facet_json_token.specs.Token.{Token}
 use Rattle.facet_json_token.proofs.RfcNumbers.{is_rfc-complete}
 use Rattle.facet_json_document.specs.Language.{Rules, lenient_rules, strict_rules}
 use Rattle.facet_json_document.specs.Meaning.{tree_of_number}
-use Rattle.facet_json_document.specs.RfcText.{InUtf8, IsRfcNumber}
+use Rattle.facet_json_document.specs.RfcText.{InUtf8}
+use Rattle.facet_json_token.specs.RfcNumber.{IsRfcNumber}
 use Rattle.facet_json_document.proofs.Rfc.Numbers.{number-itself}
 use Rattle.facet_json_document.proofs.Scalars.OneToken.{in_numbers, ends_number, IsTokenBy, IsOneScalar}
 use Rattle.facet_json_document.proofs.Cuts.ShapesBetween.{range-between, shape-is_cut}

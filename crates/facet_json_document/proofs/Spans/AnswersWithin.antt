@@ -16,7 +16,8 @@ use Rattle.facet_json_document.proofs.PastEvents.{comes-within}
 use Rattle.facet_json_document.proofs.Parts.PartsWithin.{parts_within}
 use Rattle.facet_json_document.specs.Now.{Now, fresh, fresh_in, on_input, first_of, RefusedAt}
 use Rattle.facet_json_document.specs.Move.{Moves}
-use Rattle.facet_json_document.specs.Within.{ReaderWithin, RefusalWithin, NowWithin, no_events, AnswerWithin}
+use Rattle.facet_json_document.specs.Within.{ReaderWithin, NowWithin, no_events, AnswerWithin}
+use Rattle.facet_json_document.specs.UnreadLaws.{RefusalWithin}
 use Rattle.facet_json_document.proofs.PointsHold.{found-holds, without-holds, with_point-holds}
 use Rattle.facet_json_document.proofs.MoveLaws.{with_cursor, StepOf, by_step}
 use Rattle.facet_json_document.proofs.MovesNext.{event-comes}

@@ -15,7 +15,8 @@ use Rattle.facet_json_document.specs.Future.{Future, gives, finished, stuck}
 use Rattle.facet_json_document.specs.InputPlace.{Reader, future_at}
 use Rattle.facet_json_document.proofs.PastEvents.{comes-within, stuck-in_order}
 use Rattle.facet_json_document.specs.Now.{first_of, RefusedAt, on_input}
-use Rattle.facet_json_document.specs.Within.{ReaderWithin, RefusalWithin, EventsWithin}
+use Rattle.facet_json_document.specs.Within.{ReaderWithin, EventsWithin}
+use Rattle.facet_json_document.specs.UnreadLaws.{RefusalWithin}
 use Rattle.facet_json_document.specs.Within as within
 use Rattle.facet_json_document.proofs.MovesNext.{event-comes, spot_after-place}
 

@@ -11,7 +11,7 @@ use Rattle.facet_json_document.specs.Tree.{Tree, Trees, no_trees, Pairs, no_pair
 use Rattle.facet_json_document.specs.Tree as trees
 use Rattle.facet_json_document.specs.RfcReadable.{IsReadableNumber, IsReadableString, IsReadableText}
 use Rattle.facet_json_document.specs.RfcText.{InUtf8, AreSpaces, Spaced, IsRfcStructural, IsEnclosed, IsValueOf, literal_false, literal_null, literal_true, number, string, empty_array, array, empty_object, object, AreItemsOf, one_item, more_items, AreMembersOf, one_member, more_members, IsMemberOf, member}
-use Rattle.facet_json_document.specs.StrictTexts.{IsStrict}
+use Rattle.facet_json_document.specs.StrictDocument.{IsStrict}
 use Rattle.facet_json_document.proofs.Rfc.Encoded.{is_ascii, ascii, ascii-itself}
 use Rattle.facet_json_document.proofs.Rfc.Numbers.{number-ascii}
 use Rattle.facet_json_document.proofs.Rfc.StrictStrings.{rfc-content}

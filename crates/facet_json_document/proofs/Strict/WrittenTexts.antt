@@ -3,7 +3,8 @@ use Rattle.std.specs.Prelude.{ℕ, List}
 use Rattle.facet_json_document.specs.Language.{strict_rules}
 use Rattle.facet_json_document.specs.Text.{text}
 use Rattle.facet_json_document.specs.Tree.{Tree}
-use Rattle.facet_json_document.specs.StrictTexts.{IsStrict, WrittenIsStrict}
+use Rattle.facet_json_document.specs.StrictDocument.{IsStrict}
+use Rattle.facet_json_document.specs.StrictTexts.{WrittenIsStrict}
 use Rattle.facet_json_document.proofs.Values.OneValue.{IsOneValue, one_value-document}
 use Rattle.facet_json_document.proofs.Values.TreeTexts.{tree-text}
 

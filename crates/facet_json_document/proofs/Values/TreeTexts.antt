@@ -15,7 +15,7 @@ use Rattle.facet_json_document.specs.Tree as trees
 use Rattle.facet_json_document.specs.AsRead.{whole_number, numbers_of, bytes_as_read, ReadsAs, null_is_null, unit_is_null, bool_is_itself, char_is_text, i64_is_whole, u64_is_whole, i128_is_whole, u128_is_whole, decimal_is_itself, text_is_itself, bytes_are_read, raw_is_read, list_is_list, pairs_are_pairs, ItemsReadAs, no_items, one_item, MembersReadAs, no_members, one_member, WellFormed, ItemsWellFormed, MembersWellFormed, RawParts, RawItems, RawMembers, IsDocumentText, IsBlankIndent}
 use Rattle.facet_json_document.specs.ReadBack.{WrittenIsRead, IndentIsNotRead}
 use Rattle.facet_json_document.specs.RfcLaws.{DecimalParts, DecimalItems, DecimalMembers}
-use Rattle.facet_json_document.specs.StrictTexts.{IsStrict}
+use Rattle.facet_json_document.specs.StrictDocument.{IsStrict}
 use Rattle.facet_json_document.proofs.Values.Containers.{AreItems, items-last, items-more, list-one_value, empty_list-one_value, empty_object-one_value, AreMembers, blank-members, members-last, members-more, object-one_value}
 use Rattle.facet_json_document.proofs.Scalars.Literals.{null-one_scalar, bool-one_scalar}
 use Rattle.facet_json_document.proofs.Scalars.Numbers.{IsNumberBy}

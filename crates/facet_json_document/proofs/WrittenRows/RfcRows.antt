@@ -2,7 +2,8 @@
 use Rattle.std.proofs.Common.{◌≡◌, ℕ, false, List, [], ◌∷◌, ◌++◌, refl, sym, ap, ◌∙◌, codes, get_or, eq-eqb, true≢false, ◌==◌}
 use Rattle.facet_format.specs.Bytes.{backslash, colon, comma, left_bracket, right_bracket, left_brace, right_brace}
 use Rattle.facet_json_token.specs.RfcNumber.{none, digit, IsRfcMinus, IsRfcExponentSign}
-use Rattle.facet_json_document.specs.RfcText.{IsRfcStructural, SomeDigits, IsWhole, nought, IsFraction, IsExponent, IsRfcNumber, IsRfcContent, empty, unescaped, short, unit, IsRfcString, IsRfcText, IsEnclosed, AreItems, literal_true, array, object, one_item, more_items, one_member, member}
+use Rattle.facet_json_document.specs.RfcText.{IsRfcStructural, IsRfcContent, empty, unescaped, short, unit, IsRfcString, IsRfcText, IsEnclosed, AreItems, literal_true, array, object, one_item, more_items, one_member, member}
+use Rattle.facet_json_token.specs.RfcNumber.{SomeDigits, IsRfcWhole, nought, IsRfcFraction, IsRfcExponent, IsRfcNumber}
 use Rattle.facet_json_document.specs.RfcText as rfc
 use Rattle.facet_json_document.proofs.Rfc.Lists.{unspaced}
 
@@ -17,8 +18,8 @@ all_parts_row = record {
   exponent = codes "e+1";
   is_minus = IsRfcMinus.present;
   is_whole = nought;
-  is_fraction = IsFraction.present (codes "5") (SomeDigits.digits 0x35 [] refl none);
-  is_exponent = IsExponent.present 0x65 (codes "+") (codes "1") _ refl IsRfcExponentSign.plus (SomeDigits.digits 0x31 [] refl none) refl;
+  is_fraction = IsRfcFraction.present (codes "5") (SomeDigits.digits 0x35 [] refl none);
+  is_exponent = IsRfcExponent.present 0x65 (codes "+") (codes "1") _ refl IsRfcExponentSign.plus (SomeDigits.digits 0x31 [] refl none) refl;
   parts = refl;
 }
 
@@ -30,9 +31,9 @@ ten = record {
   fraction = [];
   exponent = [];
   is_minus = IsRfcMinus.absent;
-  is_whole = IsWhole.digits 0x31 (codes "0") refl (digit 0x30 [] refl none);
-  is_fraction = IsFraction.absent;
-  is_exponent = IsExponent.absent;
+  is_whole = IsRfcWhole.digits 0x31 (codes "0") refl (digit 0x30 [] refl none);
+  is_fraction = IsRfcFraction.absent;
+  is_exponent = IsRfcExponent.absent;
   parts = refl;
 }
 
@@ -46,8 +47,8 @@ apart {x = x} {y = y} i e other = true≢false (sym (eq-eqb (get_or x i 0) (get_
 
 -- No number has the parts of these characters.
 abbrev HasNoParts : List ℕ → Type 0
-HasNoParts characters = (sign whole fraction exponent : List ℕ) → IsRfcMinus sign → IsWhole whole →
-    IsFraction fraction → IsExponent exponent → characters ≡ sign ++ whole ++ fraction ++ exponent → ⊥
+HasNoParts characters = (sign whole fraction exponent : List ℕ) → IsRfcMinus sign → IsRfcWhole whole →
+    IsRfcFraction fraction → IsRfcExponent exponent → characters ≡ sign ++ whole ++ fraction ++ exponent → ⊥
 
 no_number : (characters : List ℕ) → HasNoParts characters → IsRfcNumber characters → ⊥
 no_number characters without n = without n.sign n.whole n.fraction n.exponent n.is_minus n.is_whole n.is_fraction n.is_exponent n.parts
@@ -58,10 +59,10 @@ leading_zero_row = no_number (codes "01") no_parts
   where
     no_parts : HasNoParts (codes "01")
     no_parts _ _ _ _ IsRfcMinus.present _ _ _ e = apart 0 e refl
-    no_parts _ _ _ _ IsRfcMinus.absent (IsWhole.digits c others is _) _ _ e = let k : 0x30 ≡ c = at 0 e in true≢false (rw (← k) at (sym is))
-    no_parts _ _ _ _ IsRfcMinus.absent nought (IsFraction.present _ _) _ e = apart 1 e refl
-    no_parts _ _ _ _ IsRfcMinus.absent nought IsFraction.absent IsExponent.absent e = apart 1 e refl
-    no_parts _ _ _ _ IsRfcMinus.absent nought IsFraction.absent (IsExponent.present mark _ _ others is _ _ _) e =
+    no_parts _ _ _ _ IsRfcMinus.absent (IsRfcWhole.digits c others is _) _ _ e = let k : 0x30 ≡ c = at 0 e in true≢false (rw (← k) at (sym is))
+    no_parts _ _ _ _ IsRfcMinus.absent nought (IsRfcFraction.present _ _) _ e = apart 1 e refl
+    no_parts _ _ _ _ IsRfcMinus.absent nought IsRfcFraction.absent IsRfcExponent.absent e = apart 1 e refl
+    no_parts _ _ _ _ IsRfcMinus.absent nought IsRfcFraction.absent (IsRfcExponent.present mark _ _ others is _ _ _) e =
         let k : 0x31 ≡ mark = at 1 e in true≢false (rw (← k) at (sym is))
 
 -- A number does not start with a dot.
@@ -71,7 +72,7 @@ no_whole_row = no_number (codes ".5") no_parts
     no_parts : HasNoParts (codes ".5")
     no_parts _ _ _ _ IsRfcMinus.present _ _ _ e = apart 0 e refl
     no_parts _ _ _ _ IsRfcMinus.absent nought _ _ e = apart 0 e refl
-    no_parts _ _ _ _ IsRfcMinus.absent (IsWhole.digits c others is _) _ _ e = let k : 0x2e ≡ c = at 0 e in true≢false (rw (← k) at (sym is))
+    no_parts _ _ _ _ IsRfcMinus.absent (IsRfcWhole.digits c others is _) _ _ e = let k : 0x2e ≡ c = at 0 e in true≢false (rw (← k) at (sym is))
 
 -- Nor with a plus.
 plus_row : IsRfcNumber (codes "+1") → ⊥
@@ -80,7 +81,7 @@ plus_row = no_number (codes "+1") no_parts
     no_parts : HasNoParts (codes "+1")
     no_parts _ _ _ _ IsRfcMinus.present _ _ _ e = apart 0 e refl
     no_parts _ _ _ _ IsRfcMinus.absent nought _ _ e = apart 0 e refl
-    no_parts _ _ _ _ IsRfcMinus.absent (IsWhole.digits c others is _) _ _ e = let k : 0x2b ≡ c = at 0 e in true≢false (rw (← k) at (sym is))
+    no_parts _ _ _ _ IsRfcMinus.absent (IsRfcWhole.digits c others is _) _ _ e = let k : 0x2b ≡ c = at 0 e in true≢false (rw (← k) at (sym is))
 
 -- A dot is followed by digits.
 no_fraction_row : IsRfcNumber (codes "0.") → ⊥
@@ -88,10 +89,10 @@ no_fraction_row = no_number (codes "0.") no_parts
   where
     no_parts : HasNoParts (codes "0.")
     no_parts _ _ _ _ IsRfcMinus.present _ _ _ e = apart 0 e refl
-    no_parts _ _ _ _ IsRfcMinus.absent (IsWhole.digits c others is _) _ _ e = let k : 0x30 ≡ c = at 0 e in true≢false (rw (← k) at (sym is))
-    no_parts _ _ _ _ IsRfcMinus.absent nought (IsFraction.present _ (SomeDigits.digits c _ is _)) _ e = let k : 0 ≡ c = at 2 e in true≢false (rw (← k) at (sym is))
-    no_parts _ _ _ _ IsRfcMinus.absent nought IsFraction.absent IsExponent.absent e = apart 1 e refl
-    no_parts _ _ _ _ IsRfcMinus.absent nought IsFraction.absent (IsExponent.present mark _ _ others is _ _ _) e =
+    no_parts _ _ _ _ IsRfcMinus.absent (IsRfcWhole.digits c others is _) _ _ e = let k : 0x30 ≡ c = at 0 e in true≢false (rw (← k) at (sym is))
+    no_parts _ _ _ _ IsRfcMinus.absent nought (IsRfcFraction.present _ (SomeDigits.digits c _ is _)) _ e = let k : 0 ≡ c = at 2 e in true≢false (rw (← k) at (sym is))
+    no_parts _ _ _ _ IsRfcMinus.absent nought IsRfcFraction.absent IsRfcExponent.absent e = apart 1 e refl
+    no_parts _ _ _ _ IsRfcMinus.absent nought IsRfcFraction.absent (IsRfcExponent.present mark _ _ others is _ _ _) e =
         let k : 0x2e ≡ mark = at 1 e in true≢false (rw (← k) at (sym is))
 
 -- ---- strings

@@ -5,7 +5,7 @@ ghost use Rattle.facet_format.specs.Span.{stop};
 ghost use Rattle.facet_format.specs.Views.{event_of, refusal_of};
 ghost use Rattle.facet_json_document.specs.Now.{ahead, GoesOn};
 ghost use Rattle.facet_json_document.specs.Next.{PassesNext};
-ghost use Rattle.facet_json_document.specs.Within.{RefusalWithin};
+ghost use Rattle.facet_json_document.specs.UnreadLaws.{RefusalWithin};
 ghost use Rattle.facet_json_core.specs.Refusing.{TellsRefusal, mismatch_of};
 ghost use Rattle.facet_json_meaning.specs.Passing.{WalksPast, LacksAlone, PassesNull, LacksNull};
 ghost use Rattle.facet_json_meaning.specs.OneValue.{PassesValue, PassesByKind, LooksAhead};

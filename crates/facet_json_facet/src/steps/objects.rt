@@ -6,7 +6,7 @@ ghost use Rattle.facet_format.specs.Event.{bytes_of, object};
 ghost use Rattle.facet_format.specs.HeldText.{text_of};
 ghost use Rattle.facet_format.specs.Views.{event_of, refusal_of};
 ghost use Rattle.facet_json_document.specs.Now.{ahead, GoesOn};
-ghost use Rattle.facet_json_document.specs.Within.{RefusalWithin};
+ghost use Rattle.facet_json_document.specs.UnreadLaws.{RefusalWithin};
 ghost use Rattle.facet_json_core.specs.Refusing.{mismatch_of, TellsRefusal};
 ghost use Rattle.facet_json_meaning.specs.Objects.{begins_object, key_or_end, BeginsObject, IsNoObject, PassesKey, LacksKey};
 ghost use Rattle.facet_json_meaning.specs.OneValue.{IsInside, PassesMemberOrEnd};

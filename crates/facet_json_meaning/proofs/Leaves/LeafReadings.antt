@@ -5,7 +5,8 @@ use Rattle.std.proofs.Common.{◌≡◌, ◌⊎◌, inl, inr, ℕ, suc, List, �
 use Rattle.facet_format.specs.Complaint.{Refusal, no_memory}
 use Rattle.facet_format.specs.Event.{Event, EventKind, Scalar, Passed, array, object, sequence_start, sequence_end, struct_start, struct_end, field_key}
 use Rattle.facet_format.specs.Event as event
-use Rattle.facet_format.specs.Cursor.{Cursor, Source, at_spot, unpeeked}
+use Rattle.facet_format.specs.Cursor.{Cursor, at_spot, unpeeked}
+use Rattle.facet_format.specs.Part.{Source}
 use Rattle.facet_json_token.specs.Tokens.{Tokens}
 use Rattle.facet_json_document.specs.Node.{Node, scalar}
 use Rattle.facet_json_document.specs.Node as node

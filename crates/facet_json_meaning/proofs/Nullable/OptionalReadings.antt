@@ -4,7 +4,8 @@ use Rattle.std.specs.Option.{option_map}
 use Rattle.std.proofs.Common.{◌≡◌, inl, inr, true, false, Option, None, Some, sym, ap, ◌∙◌}
 use Rattle.facet_format.specs.Complaint.{Refusal}
 use Rattle.facet_format.specs.Event.{Event}
-use Rattle.facet_format.specs.Cursor.{Cursor, Source, at_spot, peeked_at}
+use Rattle.facet_format.specs.Cursor.{Cursor, at_spot, peeked_at}
+use Rattle.facet_format.specs.Part.{Source}
 use Rattle.facet_json_document.specs.Node.{Node}
 use Rattle.facet_json_document.specs.Now.{Now}
 use Rattle.facet_json_meaning.specs.Nodes.{StandsBefore, StandsAfter}

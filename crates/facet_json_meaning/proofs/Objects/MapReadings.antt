@@ -3,7 +3,8 @@ use Rattle.std.specs.Prelude.{ℕ, List}
 use Rattle.std.specs.Option.{option_and_then}
 use Rattle.std.proofs.Common.{◌≡◌, inl, inr, ℕ, List, [], Option, None, Some, refl, ap, ◌∙◌}
 use Rattle.facet_format.specs.Complaint.{Refusal}
-use Rattle.facet_format.specs.Cursor.{Cursor, Source}
+use Rattle.facet_format.specs.Cursor.{Cursor}
+use Rattle.facet_format.specs.Part.{Source}
 use Rattle.facet_json_token.specs.Token.{Token}
 use Rattle.facet_json_document.specs.Node.{Node, scalar, Members, no_members, member}
 use Rattle.facet_json_document.specs.Node as node

@@ -4,7 +4,8 @@ use Rattle.std.proofs.Common.{◌≡◌, ◌+◌, ◌⊎◌, inl, inr, ℕ, suc,
 use Rattle.facet_format.specs.Complaint.{Refusal, no_memory}
 use Rattle.facet_format.specs.Event.{Event, EventKind, Passed, object, sequence_start, sequence_end, struct_start, struct_end, field_key, Text, bytes_of}
 use Rattle.facet_format.specs.Event as event
-use Rattle.facet_format.specs.Cursor.{Cursor, Source, Spot, at_spot, unpeeked}
+use Rattle.facet_format.specs.Cursor.{Cursor, Spot, at_spot, unpeeked}
+use Rattle.facet_format.specs.Part.{Source}
 use Rattle.facet_format.specs.Kept.{found}
 use Rattle.facet_json_token.specs.Token.{Token}
 use Rattle.facet_json_document.specs.Node.{Node, scalar, Members, no_members, member}

@@ -5,7 +5,8 @@ use Rattle.std.proofs.Common.{◌≡◌, ◌+◌, ◌⊎◌, inl, inr, ℕ, suc,
 use Rattle.facet_format.specs.Complaint.{Refusal}
 use Rattle.facet_format.specs.Event.{Event, Passed, array, sequence_start, sequence_end, struct_start}
 use Rattle.facet_format.specs.Event as events
-use Rattle.facet_format.specs.Cursor.{Cursor, Source, Spot, event, on_walk, event_or_end, an_event, at_spot, unpeeked, peek, Answer, Step, repeats, peeks, peeks_without_memory, peeks_at_the_end, peeks_at_nothing}
+use Rattle.facet_format.specs.Cursor.{Cursor, Spot, event, on_walk, event_or_end, an_event, at_spot, unpeeked, peek, Answer, Step, repeats, peeks, peeks_without_memory, peeks_at_the_end, peeks_at_nothing}
+use Rattle.facet_format.specs.Part.{Source}
 use Rattle.facet_format.specs.Kept.{found}
 use Rattle.facet_format.specs.Standing.{IsStep}
 use Rattle.facet_json_token.specs.Token.{Token}

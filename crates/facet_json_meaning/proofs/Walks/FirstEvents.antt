@@ -5,7 +5,8 @@ use Rattle.std.proofs.Common.{◌≡◌, inr, ℕ, suc, true, false, List, ◌�
 use Rattle.facet_format.specs.Complaint.{Refusal}
 use Rattle.facet_format.specs.Event.{Event, EventKind, Passed, array, object, sequence_start, struct_start}
 use Rattle.facet_format.specs.Event as event
-use Rattle.facet_format.specs.Cursor.{Cursor, Source, at_spot, unpeeked}
+use Rattle.facet_format.specs.Cursor.{Cursor, at_spot, unpeeked}
+use Rattle.facet_format.specs.Part.{Source}
 use Rattle.facet_format.specs.Number.{Number, number}
 use Rattle.facet_format.specs.Number as numbers
 use Rattle.facet_json_token.specs.Decode.{decoded}

@@ -10,7 +10,8 @@ use Rattle.facet_json_meaning.proofs.OneValue.WithinValues.{inside-member}
 use Rattle.facet_json_meaning.proofs.Walks.NextOnWalk.{goes-keeps}
 use Rattle.facet_json.specs.Fields.{keys, table}
 use Rattle.facet_json.proofs.FieldSteps.{missing-about, way-begin, way-goes_on, fields-not_begun, fields-no_key, fields-no_value, fields-end, fields-missing}
-use Rattle.facet_json_meaning.proofs.Refusals.{comes-then, end-tells, goes-there, keeps-there, tells-later}
+use Rattle.facet_json_core.proofs.Refusing.{comes-then, end-tells, goes-there, tells-later}
+use Rattle.facet_json_meaning.proofs.Refusals.{keeps-there}
 use Rattle.facet_json.proofs.fields.read_fields.Goals as goal
 
 pub returns-in_err-begin_object-clause-unread : goal.returns-in_err-begin_object-clause-unread

@@ -1,6 +1,6 @@
 use Rattle.std.proofs.Common.{inl, inr, rules}
 use Rattle.facet_json_command.specs.Arguments.{fmt, drive}
-use Rattle.facet_json_command.specs.Views.{words_of, command_view}
+use Rattle.facet_json_command.specs.OutcomeViews.{words_of, command_view}
 use Rattle.facet_json_command.proofs.OneCommand.{one_command}
 use Rattle.facet_json_command.proofs.Unasked.{no_memory_answers, no_memory_only}
 use Rattle.facet_json_command.proofs.run.run.Goals as goal

@@ -2,7 +2,7 @@
 use Rattle.std.proofs.Common.{arith}
 use Rattle.std.proofs.lemmas.Simd.{zip2_splat}
 use Rattle.facet_json_escape.specs.Inner.Window.{needs_escape}
-use Rattle.facet_json_token.proofs.Lanes.{equal, below, either, masked}
+use Rattle.facet_format.proofs.Lanes.{equal, below, either, masked}
 use Rattle.facet_json_escape.proofs.window.escapes.Goals as goal
 
 pub returns : goal.returns

@@ -1,7 +1,7 @@
 -- A window whose bytes are all plain is passed, and in another the run ends, as in the last one.
 use Rattle.std.proofs.Common.{◌-◌, length, arith}
 use Rattle.facet_json_escape.specs.Inner.Window.{needs_no_escape}
-use Rattle.facet_json_token.proofs.Windows.{run_through, run_stops, run_last, run_within}
+use Rattle.facet_format.proofs.Windows.{run_through, run_stops, run_last, run_within}
 use Rattle.facet_json_escape.proofs.window.plain_end.Goals as goal
 
 pub returns-then-plain-lt16-clause-value : goal.returns-then-plain-lt16-clause-value

@@ -2,7 +2,7 @@ use Rattle.std.proofs.Common.{refl, sym, ap, ◌∙◌, subst}
 use Rattle.std.proofs.lemmas.Result.{err_from_is_err_and}
 use Rattle.facet_json.specs.Complaint.{Complaint}
 use Rattle.facet_json.specs.Document.{IsWholeDocument}
-use Rattle.facet_json.specs.ErrorKind.{code, read}
+use Rattle.facet_json.specs.ErrorKind.{kind_code, read}
 use Rattle.facet_json.specs.Gap.{plain}
 use Rattle.facet_json.specs.Text.{text}
 use Rattle.facet_json.specs.TypedTrees.{without_plus}
@@ -25,4 +25,4 @@ returns-clause-only c root value document =
 pub returns-in_err-tree-clause-only : goal.returns-in_err-tree-clause-only
 returns-in_err-tree-clause-only c root value document =
     let p = err_from_is_err_and c.from_residual.result c.from_residual.ensures.1 in
-    rw (p.1, p.2) (ap (λ (complaint : Complaint). code (read complaint)) (c.in_err-tree.ensures.only root value document))
+    rw (p.1, p.2) (ap (λ (complaint : Complaint). kind_code (read complaint)) (c.in_err-tree.ensures.only root value document))

@@ -10,8 +10,9 @@ use Rattle.facet_json_meaning.proofs.OneValue.KindsPassed.{list-ended}
 use Rattle.facet_json_meaning.proofs.OneValue.WithinValues.{inside-value, inside-stays, next-is}
 use Rattle.facet_json_meaning.proofs.Sequences.ListSteps.{ReadSoFar, list-begins, list-none, list-goes_on, list-stops, list-more, list-unread, list-ends, list-unseen, list-open}
 use Rattle.facet_json_meaning.proofs.Walks.NextOnWalk.{goes-keeps}
-use Rattle.facet_json_meaning.specs.Refusing.{without_memory}
-use Rattle.facet_json_meaning.proofs.Refusals.{comes-then, goes-there, keeps-there, tells-later}
+use Rattle.facet_json_core.specs.Refusing.{without_memory}
+use Rattle.facet_json_core.proofs.Refusing.{comes-then, goes-there, tells-later}
+use Rattle.facet_json_meaning.proofs.Refusals.{keeps-there}
 use Rattle.facet_json_facet.proofs.lists.list_in.Goals as goal
 
 pub returns-in_err-begin_list-clause-unread : goal.returns-in_err-begin_list-clause-unread

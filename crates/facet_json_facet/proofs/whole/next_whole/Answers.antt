@@ -6,7 +6,7 @@ use Rattle.facet_format.specs.Views.{refusal_of}
 use Rattle.facet_json_meaning.specs.Reading.{IsRead}
 use Rattle.facet_json_meaning.specs.Readings.{whole_of, leaf}
 use Rattle.facet_json_meaning.proofs.Leaves.LeafReadings.{leaf-read, leaf-unread, leaf-document, leaf-strict, none-unread}
-use Rattle.facet_json_meaning.proofs.Refusals.{event-passed, event-tells, mismatch-about}
+use Rattle.facet_json_core.proofs.Refusing.{event-passed, event-tells, mismatch-about}
 use Rattle.facet_json_meaning.proofs.OneValue.KindsPassed.{taken-passed}
 use Rattle.facet_json_facet.proofs.whole.next_whole.Goals as goal
 

@@ -3,7 +3,7 @@ use Rattle.std.proofs.Common.{drop, ap, sym, ◌∙◌, arith}
 use lib.Count.{count_trailing_zeros}
 use Rattle.facet_format.specs.Inner.Window.{is_no_digit}
 use Rattle.facet_format.proofs.NumberSteps.{digits-run}
-use Rattle.facet_json_token.proofs.Windows.{mask_stops, mask_within}
+use Rattle.facet_format.proofs.Windows.{mask_stops, mask_within}
 use Rattle.facet_json_reader.proofs.WholeNumbers.{no-more_parts}
 use Rattle.facet_json_reader.proofs.whole.whole_len.Goals as goal
 

@@ -1,7 +1,7 @@
 -- A window of ordinary bytes alone is passed, and in another the run ends.
 use Rattle.std.proofs.Common.{◌<◌, ap, arith, rules}
 use lib.Count.{count_trailing_zeros}
-use Rattle.facet_json_token.proofs.Windows.{mask_through, mask_stops, mask_within}
+use Rattle.facet_format.proofs.Windows.{mask_through, mask_stops, mask_within}
 use Rattle.facet_json_reader.specs.Inner.Window.{is_mark}
 use Rattle.facet_json_reader.proofs.window.ordinary_end.Goals as goal
 

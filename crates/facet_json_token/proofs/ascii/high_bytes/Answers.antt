@@ -1,6 +1,6 @@
 -- A comparison with one byte, lane by lane.
 use Rattle.std.proofs.Common.{arith, cond, leb}
-use Rattle.facet_json_token.proofs.Lanes.{masked}
+use Rattle.facet_format.proofs.Lanes.{masked}
 use Rattle.facet_json_token.specs.Inner.Ascii.{is_high}
 use Rattle.facet_json_token.proofs.AsciiRuns.{splat_left}
 use Rattle.facet_json_token.proofs.ascii.high_bytes.Goals as goal

@@ -1,6 +1,6 @@
 -- A window of ASCII alone is passed, and in another the run ends.
 use Rattle.std.proofs.Common.{arith, rules}
-use Rattle.facet_json_token.proofs.Windows.{run_through}
+use Rattle.facet_format.proofs.Windows.{run_through}
 use Rattle.facet_json_token.specs.Inner.Ascii.{is_low}
 use Rattle.facet_json_token.proofs.ascii.is_ascii.Goals as goal
 

@@ -1,6 +1,6 @@
 -- A window without a backslash is passed, and in another the run ends.
 use Rattle.std.proofs.Common.{arith}
-use Rattle.facet_json_token.proofs.Windows.{run_through, run_stops}
+use Rattle.facet_format.proofs.Windows.{run_through, run_stops}
 use Rattle.facet_json_token.specs.Inner.RfcWindow.{is_rfc_plain}
 use Rattle.facet_json_token.proofs.rfc_window.plain_end.Goals as goal
 

@@ -2,7 +2,7 @@
 use Rattle.std.proofs.Common.{arith}
 use Rattle.std.proofs.lemmas.Simd.{zip2_splat}
 use Rattle.facet_json_token.specs.Inner.RfcWindow.{is_rfc_stop}
-use Rattle.facet_json_token.proofs.Lanes.{equal, below, either, masked}
+use Rattle.facet_format.proofs.Lanes.{equal, below, either, masked}
 use Rattle.facet_json_token.proofs.rfc_window.stops.Goals as goal
 
 pub returns : goal.returns

@@ -3,7 +3,7 @@ use Rattle.std.proofs.Common.{arith}
 use Rattle.std.specs.Prelude.{◌==◌}
 use Rattle.std.proofs.lemmas.Simd.{zip2_splat}
 use Rattle.facet_format.specs.Bytes.{backslash}
-use Rattle.facet_json_token.proofs.Lanes.{equal, masked}
+use Rattle.facet_format.proofs.Lanes.{equal, masked}
 use Rattle.facet_json_token.proofs.runs.backslashes.Goals as goal
 
 pub returns : goal.returns

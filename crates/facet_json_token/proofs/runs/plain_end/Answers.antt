@@ -1,6 +1,6 @@
 -- A window without a backslash is passed, and in another the run ends.
 use Rattle.std.proofs.Common.{arith}
-use Rattle.facet_json_token.proofs.Windows.{run_through}
+use Rattle.facet_format.proofs.Windows.{run_through}
 use Rattle.facet_json_token.specs.Inner.Run.{is_no_backslash}
 use Rattle.facet_json_token.proofs.runs.plain_end.Goals as goal
 

@@ -2,7 +2,7 @@
 use Rattle.std.proofs.Common.{map, ap, ◌∙◌, arith}
 use Rattle.std.proofs.lemmas.Simd.{zip2_splat, map-map}
 use Rattle.facet_json_token.specs.Inner.Window.{is_no_space}
-use Rattle.facet_json_token.proofs.Lanes.{equal, either, masked}
+use Rattle.facet_format.proofs.Lanes.{equal, either, masked}
 use Rattle.facet_json_token.proofs.window.others.Goals as goal
 
 pub returns : goal.returns

@@ -2,7 +2,7 @@
 use Rattle.std.proofs.Common.{◌<◌, ap, arith, rules}
 use lib.Count.{count_trailing_zeros}
 use Rattle.facet_json_token.specs.Inner.Window.{is_stop}
-use Rattle.facet_json_token.proofs.Windows.{mask_through, mask_stops, mask_within}
+use Rattle.facet_format.proofs.Windows.{mask_through, mask_stops, mask_within}
 use Rattle.facet_json_token.proofs.window.plain_end.Goals as goal
 
 first_bit : (c : goal.Then-found-ne0) → count_trailing_zeros 64 c.stops-found.result < 16

@@ -2,7 +2,7 @@
 use Rattle.std.proofs.Common.{arith}
 use Rattle.std.proofs.lemmas.Simd.{zip2_splat}
 use Rattle.facet_json_token.specs.Inner.Window.{is_stop}
-use Rattle.facet_json_token.proofs.Lanes.{equal, either, masked}
+use Rattle.facet_format.proofs.Lanes.{equal, either, masked}
 use Rattle.facet_json_token.proofs.window.stops.Goals as goal
 
 pub returns : goal.returns

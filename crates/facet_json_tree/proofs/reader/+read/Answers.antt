@@ -13,7 +13,8 @@ use Rattle.facet_json_tree.proofs.ReadingWithin.{within-same, within-at, item-wi
 use Rattle.facet_json_tree.proofs.BeyondEvents.{item-leveled, member-leveled, items-leveled, members-leveled}
 use Rattle.facet_json_tree.proofs.ValuesBegin.{begun-no_end, list-filled, object-filled}
 use Rattle.facet_json_core.specs.Refusing.{without_memory}
-use Rattle.facet_json_meaning.proofs.Refusals.{keeps-there, tells-later}
+use Rattle.facet_json_meaning.proofs.Refusals.{keeps-there}
+use Rattle.facet_json_core.proofs.Refusing.{tells-later}
 use Rattle.facet_json_tree.proofs.ValuesPassed.{item-inside, member-inside}
 use Rattle.facet_json_tree.proofs.reader.+read.Goals as goal
 

@@ -8,7 +8,7 @@ use Rattle.facet_json_tree.proofs.ItemsRead.{not_list_end, items-none}
 use Rattle.facet_json_tree.proofs.MovingOn.{moves-next}
 use Rattle.facet_json_tree.proofs.ReadingWithin.{none-items-within, item-within, refused-within}
 use Rattle.facet_json_tree.proofs.ValuesBegin.{began, span-within}
-use Rattle.facet_json_meaning.proofs.Refusals.{lacks-tells}
+use Rattle.facet_json_core.proofs.Refusing.{lacks-tells}
 use Rattle.facet_json_tree.proofs.ValuesPassed.{end-passed}
 use Rattle.facet_json_tree.proofs.reader.begin_item.Goals as goal
 

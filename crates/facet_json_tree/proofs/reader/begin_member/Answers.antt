@@ -9,7 +9,7 @@ use Rattle.facet_json_meaning.proofs.Keeping.{keeps-then}
 use Rattle.facet_json_meaning.proofs.OfTrees.TreeOnWalk.{moves_trans}
 use Rattle.facet_json_meaning.proofs.Walks.NextOnWalk.{goes-keeps}
 use Rattle.facet_json_tree.proofs.MovingOn.{moves-next}
-use Rattle.facet_json_meaning.proofs.Refusals.{goes-there, lacks-tells, tells-later}
+use Rattle.facet_json_core.proofs.Refusing.{goes-there, lacks-tells, tells-later}
 use Rattle.facet_json_tree.proofs.ValuesPassed.{end-passed, member-began}
 use Rattle.facet_json_tree.proofs.reader.begin_member.Goals as goal
 

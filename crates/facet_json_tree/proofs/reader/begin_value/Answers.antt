@@ -2,7 +2,7 @@ use Rattle.std.proofs.lemmas.Result.{err_from_is_err_and, IfOk-weaker, IfErr-wea
 use Rattle.facet_json_tree.proofs.MovingOn.{moves-next}
 use Rattle.facet_json_tree.proofs.ReadingWithin.{none-value-within, began-within}
 use Rattle.facet_json_tree.proofs.ValuesBegin.{began}
-use Rattle.facet_json_meaning.proofs.Refusals.{lacks-tells}
+use Rattle.facet_json_core.proofs.Refusing.{lacks-tells}
 use Rattle.facet_json_tree.proofs.reader.begin_value.Goals as goal
 
 pub returns-in_err-next_of_value-clause-refused : goal.returns-in_err-next_of_value-clause-refused

@@ -4,8 +4,9 @@ use Rattle.std.proofs.lemmas.Result.{err_from_is_err_and}
 use Rattle.facet_format.specs.Views.{refusal_of}
 use Rattle.facet_json_meaning.proofs.Objects.MapEntries.{entries-begin, entry-read}
 use Rattle.facet_json_meaning.proofs.Objects.MapReadings.{map-not_begun, map-no_value, map-no_key, map-ends}
-use Rattle.facet_json_meaning.specs.Refusing.{without_memory}
-use Rattle.facet_json_meaning.proofs.Refusals.{comes-then, goes-there, keeps-there, tells-later}
+use Rattle.facet_json_core.specs.Refusing.{without_memory}
+use Rattle.facet_json_core.proofs.Refusing.{comes-then, goes-there, tells-later}
+use Rattle.facet_json_meaning.proofs.Refusals.{keeps-there}
 use Rattle.facet_json_facet.proofs.maps.BTreeMapStringFacet.read.Goals as goal
 
 pub returns-in_err-begin_object-clause-unread : goal.returns-in_err-begin_object-clause-unread

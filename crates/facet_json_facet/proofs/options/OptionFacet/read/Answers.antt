@@ -4,7 +4,7 @@ use Rattle.facet_format.specs.Views.{refusal_of}
 use Rattle.facet_json_meaning.specs.Optional.{optional}
 use Rattle.facet_json_meaning.proofs.Leaves.LeafReadings.{none-unread}
 use Rattle.facet_json_meaning.proofs.Nullable.OptionalReadings.{null-read, null-unread, value-read, value-unread}
-use Rattle.facet_json_meaning.proofs.Refusals.{goes-there, tells-later}
+use Rattle.facet_json_core.proofs.Refusing.{goes-there, tells-later}
 use Rattle.facet_json_meaning.proofs.OneValue.WithinValues.{value-stays}
 use Rattle.facet_json_facet.proofs.options.OptionFacet.read.Goals as goal
 

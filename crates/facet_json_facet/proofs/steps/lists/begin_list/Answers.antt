@@ -3,7 +3,7 @@ use Rattle.facet_format.specs.Views.{refusal_of}
 use Rattle.facet_json_meaning.specs.Lists.{nodes_of}
 use Rattle.facet_json_meaning.proofs.Leaves.LeafReadings.{none-unread}
 use Rattle.facet_json_meaning.proofs.Sequences.ListSteps.{no_list-begins}
-use Rattle.facet_json_meaning.proofs.Refusals.{event-tells, mismatch-about}
+use Rattle.facet_json_core.proofs.Refusing.{event-tells, mismatch-about}
 use Rattle.facet_json_meaning.proofs.OneValue.KindsPassed.{list-opened}
 use Rattle.facet_json_facet.proofs.steps.lists.begin_list.Goals as goal
 

@@ -3,7 +3,7 @@ use Rattle.facet_format.specs.Views.{refusal_of}
 use Rattle.facet_json_meaning.specs.Objects.{members_of}
 use Rattle.facet_json_meaning.proofs.Leaves.LeafReadings.{none-unread}
 use Rattle.facet_json_meaning.proofs.Objects.MembersOnWalk.{object-unread}
-use Rattle.facet_json_meaning.proofs.Refusals.{event-tells, mismatch-about}
+use Rattle.facet_json_core.proofs.Refusing.{event-tells, mismatch-about}
 use Rattle.facet_json_meaning.proofs.OneValue.KindsPassed.{object-opened}
 use Rattle.facet_json_facet.proofs.steps.objects.begin_object.Goals as goal
 

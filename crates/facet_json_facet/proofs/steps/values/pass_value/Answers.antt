@@ -2,7 +2,8 @@ use Rattle.std.proofs.Common.{refl, rules}
 use Rattle.std.proofs.lemmas.Result.{err_from_is_err_and}
 use Rattle.facet_json_meaning.proofs.Walks.SkipOnWalk.{answer-skips, answer-unskipped}
 use Rattle.facet_format.specs.Cursor.{skip}
-use Rattle.facet_json_meaning.proofs.Refusals.{call-tells, skip-frees}
+use Rattle.facet_json_core.proofs.Refusing.{call-tells}
+use Rattle.facet_json_meaning.proofs.Refusals.{skip-frees}
 use Rattle.facet_json_meaning.proofs.OneValue.PartsPassed.{skipped-value}
 use Rattle.facet_json_facet.proofs.steps.values.pass_value.Goals as goal
 

@@ -4,7 +4,7 @@ use Rattle.facet_format.specs.Views.{refusal_of}
 use Rattle.facet_json_meaning.specs.Borrowed.{borrowed_text}
 use Rattle.facet_json_meaning.proofs.Leaves.BorrowedLaws.{borrowed-read, borrowed-unread, borrowed-document, borrowed-strict}
 use Rattle.facet_json_meaning.proofs.Leaves.LeafReadings.{none-unread}
-use Rattle.facet_json_meaning.proofs.Refusals.{either-about, event-tells}
+use Rattle.facet_json_core.proofs.Refusing.{either-about, event-tells}
 use Rattle.facet_json_meaning.proofs.OneValue.KindsPassed.{lent-passed}
 use Rattle.facet_json_facet.proofs.texts.RefStrFacet.read.Goals as goal
 

@@ -1,5 +1,5 @@
 use Rattle.std.proofs.Common.{refl, rules}
-use Rattle.facet_json_meaning.proofs.Refusals.{either-about, event-tells}
+use Rattle.facet_json_core.proofs.Refusing.{either-about, event-tells}
 use Rattle.facet_json_facet.proofs.texts.RefStrFacet.read_owned.Goals as goal
 
 pub returns-in_err-next_of_value-clause-read : goal.returns-in_err-next_of_value-clause-read

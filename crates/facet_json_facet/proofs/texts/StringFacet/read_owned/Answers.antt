@@ -3,7 +3,7 @@ use Rattle.std.proofs.lemmas.Result.{err_from_is_err_and, IfOk-weaker, IfErr-wea
 use Rattle.facet_format.specs.Views.{refusal_of}
 use Rattle.facet_json_meaning.specs.Readings.{text_of_tree, leaf}
 use Rattle.facet_json_meaning.proofs.Leaves.LeafReadings.{leaf-read, leaf-refused, leaf-document, leaf-strict, none-unread}
-use Rattle.facet_json_meaning.proofs.Refusals.{lacks-about, lacks-tells}
+use Rattle.facet_json_core.proofs.Refusing.{lacks-about, lacks-tells}
 use Rattle.facet_json_meaning.proofs.OneValue.KindsPassed.{taken-passed}
 use Rattle.facet_json_facet.proofs.texts.StringFacet.read_owned.Goals as goal
 

@@ -6,8 +6,8 @@ use Rattle.std.proofs.lemmas.Result.{err_from_is_err_and}
 use Rattle.facet_format.specs.Views.{refusal_of}
 use Rattle.facet_json_meaning.specs.Readings.{whole_of, unsigned_in}
 use Rattle.facet_json_meaning.proofs.Leaves.WholeNumbers.{read-and_then, read-none, unread-and_then, unsigned-holds, unsigned-lacks}
-use Rattle.facet_json_meaning.specs.Refusing.{of_a_type}
-use Rattle.facet_json_meaning.proofs.Refusals.{range-about}
+use Rattle.facet_json_core.specs.Refusing.{of_a_type}
+use Rattle.facet_json_core.proofs.Refusing.{range-about}
 use Rattle.facet_json_facet.proofs.unsigned.U8Facet.read_owned.Goals as goal
 
 pub returns-in_err-number-clause-unread : goal.returns-in_err-number-clause-unread
