@@ -12,5 +12,5 @@ pub mod Number
 pub mod Part
 pub mod Span
 pub mod SerializerCall
-pub mod Standing
+pub mod Steps
 pub mod Views

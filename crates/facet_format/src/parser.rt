@@ -3,7 +3,7 @@
 ghost use Rattle.std.specs.Prelude.{◌≡◌, ◌+◌, ◌<◌, ◌≤◌, List, ◌++◌, IfOk, OnSome, IsSome};
 ghost use Rattle.facet_format.specs.declared.event.ParseEvent.{ParseEvent};
 ghost use Rattle.facet_format.specs.Cursor.{next, peek, events, skip, capture, save, restore, restored, span};
-ghost use Rattle.facet_format.specs.Standing.{IsStep};
+ghost use Rattle.facet_format.specs.Steps.{IsStep};
 ghost use Rattle.facet_format.specs.Views.{answer_of_event, answer_of_events, answer_of_skip, answer_of_capture, answer_of_save, answer_of_span};
 
 use crate::event::{ParseEvent, SavePoint};

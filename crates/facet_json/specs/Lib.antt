@@ -8,7 +8,7 @@ pub use Rattle.facet_format.specs.HeldText
 pub use Rattle.facet_format.specs.Cursor
 pub use Rattle.facet_format.specs.Part
 pub use Rattle.facet_format.specs.Kept
-pub use Rattle.facet_format.specs.Standing
+pub use Rattle.facet_format.specs.Steps
 pub use Rattle.facet_format.specs.Alike
 pub use Rattle.facet_format.specs.Agree
 pub use Rattle.facet_json_token.specs.Gap
@@ -22,7 +22,7 @@ pub use Rattle.facet_json_token.specs.Fault
 pub use Rattle.facet_json_token.specs.RfcNumber
 pub use Rattle.facet_json_token.specs.RfcNumberTest
 pub use Rattle.facet_json_token.specs.Strict
-pub use Rattle.facet_json_token.specs.StrictViews as StrictViews
+pub use Rattle.facet_json_token.specs.StrictViews
 pub use Rattle.facet_json_scan.specs.Scanner
 pub use Rattle.facet_json_scan.specs.Source as Sources
 pub use Rattle.facet_json_scan.specs.Listed
@@ -39,8 +39,8 @@ pub use Rattle.facet_json_document.specs.RunLaws
 pub use Rattle.facet_json_document.specs.Walk
 pub use Rattle.facet_json_document.specs.Place
 pub use Rattle.facet_json_document.specs.Future
-pub use Rattle.facet_json_document.specs.InputPlace
-pub use Rattle.facet_json_document.specs.StandsOn
+pub use Rattle.facet_json_document.specs.Reader
+pub use Rattle.facet_json_document.specs.OnWalk
 pub use Rattle.facet_json_document.specs.Unread
 pub use Rattle.facet_json_document.specs.UnreadLaws
 pub use Rattle.facet_json_document.specs.Quoted
@@ -51,7 +51,7 @@ pub use Rattle.facet_json_tree.specs.Lookup
 pub use Rattle.facet_json_tree.specs.Same
 pub use Rattle.facet_json_tree.specs.Views
 pub use Rattle.facet_format.specs.SerializerCall
-pub use Rattle.facet_json_serializer.specs.OptionsViews as OptionsViews
+pub use Rattle.facet_json_serializer.specs.OptionsViews
 pub use Rattle.facet_json_serializer.specs.Serializer
 pub use Rattle.facet_json_serializer.specs.TreeCalls
 pub use Rattle.facet_json_serializer.specs.Views as SerializerViews
@@ -79,14 +79,14 @@ pub use Rattle.facet_json_document.specs.StrictHeadline
 pub use Rattle.facet_json_document.specs.OneRun
 pub use Rattle.facet_json_core.specs.ScriptViews
 pub use Rattle.facet_json_core.specs.ErrorKind
-pub use Rattle.facet_json_core.specs.ErrorViews as ErrorViews
+pub use Rattle.facet_json_core.specs.ErrorViews
 pub use Rattle.facet_json_core.specs.Line
 pub use Rattle.facet_json_core.specs.Report
 pub use Rattle.facet_json_core.specs.Told
 pub use Rattle.facet_json_core.specs.Reading
 pub use Rattle.facet_json_core.specs.Refusing
 pub use Rattle.facet_json_core.specs.Transcode
-pub use Rattle.facet_json_core.specs.TranscodeViews as TranscodeViews
+pub use Rattle.facet_json_core.specs.TranscodeViews
 pub use Rattle.facet_json_meaning.specs.Nodes
 pub use Rattle.facet_json_meaning.specs.Passing
 pub use Rattle.facet_json_meaning.specs.Peeking

@@ -4,7 +4,7 @@ use Rattle.std.specs.Prelude.{Err}
 use Rattle.facet_format.specs.Complaint.{Refusal}
 use Rattle.facet_format.specs.Cursor.{Cursor, current_span, no_memory_at, next, Answer, event, Step, repeats, passes, passes_without_memory, passes_the_end, passes_nothing}
 use Rattle.facet_json_document.specs.Future.{Future, gives, finished, stuck}
-use Rattle.facet_json_document.specs.InputPlace.{Reader}
+use Rattle.facet_json_document.specs.Reader.{Reader}
 use Rattle.facet_json_document.specs.Now.{Now, RefusedAt, on_input, future_of}
 use Rattle.facet_json_document.specs.Move.{Moves}
 use Rattle.facet_json_core.specs.Reading.{GivesNone, lacks_memory, is_stuck}

@@ -10,8 +10,8 @@ pub use Rattle.facet_json_document.specs.RunLaws
 pub use Rattle.facet_json_document.specs.Walk
 pub use Rattle.facet_json_document.specs.Place
 pub use Rattle.facet_json_document.specs.Future
-pub use Rattle.facet_json_document.specs.InputPlace
-pub use Rattle.facet_json_document.specs.StandsOn
+pub use Rattle.facet_json_document.specs.Reader
+pub use Rattle.facet_json_document.specs.OnWalk
 pub use Rattle.facet_json_document.specs.Unread
 pub use Rattle.facet_json_document.specs.UnreadLaws
 pub use Rattle.facet_json_document.specs.Begun

@@ -3,7 +3,7 @@
 ghost use Rattle.std.specs.Prelude.{◌≡◌, ◌≢◌, ◌≤◌, ◌<◌, ◌+◌, None, Some, Ok, length, IfOk, IfErr, IfSome, OnOk, OnErr};
 ghost use Rattle.facet_format.specs.Cursor.{next, event};
 ghost use Rattle.facet_format.specs.Span.{stop};
-ghost use Rattle.facet_format.specs.Standing.{IsStep};
+ghost use Rattle.facet_format.specs.Steps.{IsStep};
 ghost use Rattle.facet_format.specs.Views.{event_kind_of, event_of, refusal_of, scalar_value_of};
 ghost use Rattle.facet_json_document.specs.Future.{finished};
 ghost use Rattle.facet_json_document.specs.Now.{ahead, future_of, current_span_of as last_read, GoesOn, StandsAt};

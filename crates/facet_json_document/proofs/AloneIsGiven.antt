@@ -11,7 +11,7 @@ use Rattle.facet_json_document.specs.Refusal.{IsStuck}
 use Rattle.facet_format.specs.Event.{Passed, takes_memory}
 use Rattle.facet_format.specs.Cursor.{Upcoming, Cursor, World, last_seen, current_span, at_spot, unpeeked, Call, next, Answer, event, no_memory_at, Step, repeats, passes, passes_without_memory, passes_the_end, passes_nothing, Run, no_calls, one_call}
 use Rattle.facet_json_document.specs.Future.{gives, stuck, events_before}
-use Rattle.facet_json_document.specs.InputPlace.{Reader, past, future_at}
+use Rattle.facet_json_document.specs.Reader.{Reader, past, future_at}
 use Rattle.facet_json_document.specs.Now.{Now, fresh, first_of, on_input, RefusedAt}
 use Rattle.facet_json_document.specs.Move.{MovesAll}
 use Rattle.facet_json_document.specs.Begun.{RefusesAfter}

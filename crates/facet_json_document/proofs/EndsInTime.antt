@@ -5,7 +5,7 @@ use Rattle.facet_json_token.specs.Gap.{Mode}
 use Rattle.facet_format.specs.Complaint.{Refusal}
 use Rattle.facet_format.specs.Event.{Event}
 use Rattle.facet_format.specs.Cursor.{Call, next, Answer, event, World, Cursor, Step, repeats, passes, passes_without_memory, passes_the_end, passes_nothing, Run, one_call}
-use Rattle.facet_json_document.specs.InputPlace.{Reader}
+use Rattle.facet_json_document.specs.Reader.{Reader}
 use Rattle.facet_json_document.specs.Now.{Now, fresh, fresh_in, on_input, ahead}
 use Rattle.facet_json_document.specs.StrictHeadline.{EndsInTimeIn}
 use Rattle.facet_json_document.specs.Move.{Moves, MovesAll}

@@ -4,14 +4,14 @@ use Rattle.std.proofs.Common.{ℕ, List}
 use Rattle.facet_json_token.specs.Gap.{Mode}
 use Rattle.facet_format.specs.Cursor.{Call, Answer, Cursor, on_walk, start, Run}
 use Rattle.facet_format.specs.Part.{Source}
-use Rattle.facet_format.specs.Standing.{IsStep}
+use Rattle.facet_format.specs.Steps.{IsStep}
 use Rattle.facet_format.specs.Alike.{CursorsAlike}
 use Rattle.facet_json_document.specs.Node.{Node}
 use Rattle.facet_json_document.specs.Tree.{Tree}
 use Rattle.facet_json_document.specs.Document.{IsDocument}
 use Rattle.facet_json_document.specs.Walk.{source_of}
 use Rattle.facet_json_document.specs.Now.{Now, fresh, SameInput, StandsAt}
-use Rattle.facet_json_document.specs.StandsOn.{IsOnWalk}
+use Rattle.facet_json_document.specs.OnWalk.{IsOnWalk}
 use Rattle.facet_json_document.specs.Move.{Moves, MovesAll}
 use Rattle.facet_json_document.proofs.StandsOnWalk.{fresh-stands, input-on_walk}
 use Rattle.facet_format.proofs.StepsAlike.{step-alike, run-alike}

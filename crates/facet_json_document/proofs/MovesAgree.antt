@@ -2,7 +2,7 @@
 use Rattle.std.proofs.Common.{◌≡◌, ℕ, List}
 use Rattle.facet_format.specs.Complaint.{Refusal}
 use Rattle.facet_json_document.specs.Future.{Future, gives, finished, stuck}
-use Rattle.facet_json_document.specs.InputPlace.{future_at}
+use Rattle.facet_json_document.specs.Reader.{future_at}
 use Rattle.facet_json_document.proofs.StuckOnce.{stuck-once}
 use Rattle.facet_json_document.proofs.Parts.OnePart.{one-part}
 use Rattle.facet_format.proofs.CursorAgrees.{runs-agree}

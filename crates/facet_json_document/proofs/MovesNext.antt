@@ -6,7 +6,7 @@ use Rattle.facet_format.specs.Event.{Event, Passed}
 use Rattle.facet_format.specs.Cursor.{next, peek, events, Answer, event, batch, an_event, the_end, Cursor, Comes, no_event, one_event, repeats, passes, passes_the_end, peeks, peeks_at_the_end, gives_none, gives, gives_up, gives_without_memory, spot_after, Spot}
 use Rattle.facet_json_document.specs.Language.{Language}
 use Rattle.facet_json_document.specs.Future.{Future, gives as gives_first, finished, stuck, events_before}
-use Rattle.facet_json_document.specs.InputPlace.{Reader, past, future_at}
+use Rattle.facet_json_document.specs.Reader.{Reader, past, future_at}
 use Rattle.facet_json_document.proofs.PastEvents.{past-comes}
 use Rattle.facet_json_document.specs.Now.{Now, future_of, first_of, on_input}
 use Rattle.facet_json_document.specs.Move.{Moves}

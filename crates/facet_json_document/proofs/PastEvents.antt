@@ -11,7 +11,7 @@ use Rattle.facet_json_document.specs.Place.{Place, after_key, after_colon, Turn,
 use Rattle.facet_json_document.proofs.InOrder.{InOrder}
 use Rattle.facet_json_document.specs.Walk.{event_at, scalar_event, key_event}
 use Rattle.facet_json_document.specs.Future.{Future, gives, stuck, Stage, within, over, stack_after, stage_after, turn, behind_root, reads_by, reads_colon_by}
-use Rattle.facet_json_document.specs.InputPlace.{Reader, past, future_at}
+use Rattle.facet_json_document.specs.Reader.{Reader, past, future_at}
 use Rattle.facet_json_document.proofs.TokensIn.{tokens_in-others}
 use Rattle.facet_json_document.proofs.WalkComes.{follows, reads-turn}
 use Rattle.facet_json_document.proofs.EventsInOrder.{IsSound, sound_event, sound_stuck, comes-sound}

@@ -6,7 +6,7 @@ use Rattle.facet_json_document.specs.Language.{lenient}
 use Rattle.facet_format.specs.Complaint.{Refusal, refusal_at, save_limit}
 use Rattle.facet_format.specs.Kept.{found, with_point}
 use Rattle.facet_format.specs.Cursor.{Call, save, restore, Answer, saved, World, Spot, Cursor, Step, repeats, saves, saves_at_the_limit, saves_without_memory, restores, Run, no_calls, one_call, no_memory_at, back_at}
-use Rattle.facet_json_document.specs.InputPlace.{Reader}
+use Rattle.facet_json_document.specs.Reader.{Reader}
 use Rattle.facet_json_document.specs.Now.{Now, fresh, on_input, current_span_of, SameInput}
 use Rattle.facet_json_document.specs.Move.{Moves, MovesAll, with_kept}
 use Rattle.facet_json_document.specs.CallLaws.{NoPoint, no_number, no_memory, NeverRestored, no_call, another, IsBack}

@@ -12,10 +12,10 @@ use Rattle.facet_json_document.specs.Tree.{Tree}
 use Rattle.facet_json_document.specs.Document.{IsDocument}
 use Rattle.facet_json_document.specs.Walk.{source_of}
 use Rattle.facet_json_document.specs.Future.{finished, events_before}
-use Rattle.facet_json_document.specs.InputPlace.{Reader, past, future_at}
+use Rattle.facet_json_document.specs.Reader.{Reader, past, future_at}
 use Rattle.facet_json_document.proofs.WalkComes.{document-comes}
 use Rattle.facet_json_document.specs.Now.{fresh, first_of, on_input, StandsAt}
-use Rattle.facet_json_document.specs.StandsOn.{IsOnWalk}
+use Rattle.facet_json_document.specs.OnWalk.{IsOnWalk}
 use Rattle.facet_format.proofs.StepsAlike.{WorldsAlike}
 use Rattle.facet_json_document.proofs.Parts.PartsOnWalk.{parts-on_walk}
 use Rattle.facet_json_document.proofs.Parts.PlacesOnWalk.{is-next}

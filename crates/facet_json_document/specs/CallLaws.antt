@@ -5,8 +5,8 @@ use Rattle.facet_format.specs.Complaint.{Refusal, refusal_at, save_limit}
 use Rattle.facet_format.specs.Event.{Event}
 use Rattle.facet_format.specs.Kept.{found}
 use Rattle.facet_format.specs.Cursor.{Call, next, peek, save, restore, Spot, Answer, event, batch, skipped, raw, saved, greatest, no_memory_at, repeated}
-use Rattle.facet_format.specs.Standing.{IsStep}
-use Rattle.facet_json_document.specs.InputPlace.{Reader}
+use Rattle.facet_format.specs.Steps.{IsStep}
+use Rattle.facet_json_document.specs.Reader.{Reader}
 use Rattle.facet_json_document.specs.Now.{Now, fresh, current_span_of, SameInput, StandsAt}
 use Rattle.facet_json_document.specs.Move.{Moves, MovesAll, with_kept}
 use Rattle.facet_json_document.specs.Alone.{AllNext}

@@ -7,7 +7,7 @@ pub mod EventLaws
 pub mod Future
 pub mod Headline
 pub mod Inner
-pub mod InputPlace
+pub mod Reader
 pub mod Language
 pub mod Laws
 pub mod Meaning
@@ -29,7 +29,7 @@ pub mod RfcText
 pub mod Run
 pub mod RunLaws
 pub mod SkipLaws
-pub mod StandsOn
+pub mod OnWalk
 pub mod StrictDocument
 pub mod StrictHeadline
 pub mod StrictLaws

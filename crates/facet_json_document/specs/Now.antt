@@ -9,9 +9,9 @@ use Rattle.facet_json_token.specs.Gap.{Mode}
 use Rattle.facet_json_document.specs.Language.{Language, lenient}
 use Rattle.facet_json_document.specs.Refusal.{IsStuck}
 use Rattle.facet_json_document.specs.Future.{Future, gives, finished, stuck}
-use Rattle.facet_json_document.specs.InputPlace.{Reader, first_reader, past, future_at}
+use Rattle.facet_json_document.specs.Reader.{Reader, first_reader, past, future_at}
 use Rattle.facet_json_document.specs.Unread.{PartAt}
-pub use Rattle.facet_json_document.specs.StandsOn.{IsOnWalk}
+pub use Rattle.facet_json_document.specs.OnWalk.{IsOnWalk}
 
 pub record Now : Type 0 where
   pub buffer : List ℕ

@@ -11,7 +11,7 @@ use Rattle.facet_json_document.specs.Node.{is_scalar}
 use Rattle.facet_json_document.specs.Place.{Place, after_key, after_colon, Turn, passes, says, says_scalar, names, place_turn, goes_on, led, kind_name, expected_at, complaint_at_end, complaint_of_fault}
 use Rattle.facet_json_document.specs.Run.{Run, BreaksOff}
 use Rattle.facet_json_document.specs.Future.{Stage, within, over, after_value, around}
-use Rattle.facet_json_document.specs.InputPlace.{Reader}
+use Rattle.facet_json_document.specs.Reader.{Reader}
 
 -- ---- refusals
 

@@ -6,11 +6,11 @@ use Rattle.facet_format.specs.Event.{Passed}
 use Rattle.facet_format.specs.Part.{Part, value, skip_of, capture_of, Source, part_at}
 use Rattle.facet_format.specs.Span.{stop}
 use Rattle.facet_json_token.specs.Token.{Token}
-use Rattle.facet_json_document.specs.InputPlace.{Reader}
+use Rattle.facet_json_document.specs.Reader.{Reader}
 use Rattle.facet_json_document.specs.Language.{Language}
 use Rattle.facet_json_document.specs.Node.{Node, scalar, array, object}
 use Rattle.facet_json_document.specs.RunLaws.{last_token_of}
-use Rattle.facet_json_document.specs.StandsOn.{IsOnWalk}
+use Rattle.facet_json_document.specs.OnWalk.{IsOnWalk}
 use Rattle.facet_json_document.specs.Unread.{PartAt}
 use Rattle.facet_json_document.specs.Walk.{walk}
 

@@ -5,7 +5,7 @@ use Rattle.facet_format.specs.Span.{stop}
 use Rattle.facet_format.specs.Complaint.{Refusal}
 use Rattle.facet_format.specs.Event.{Event}
 use Rattle.facet_format.specs.Cursor.{Answer, event, batch, skipped, raw, saved, restored, spans}
-use Rattle.facet_json_document.specs.InputPlace.{Reader}
+use Rattle.facet_json_document.specs.Reader.{Reader}
 pub use Rattle.facet_json_document.specs.UnreadLaws.{RefusalWithin}
 use Rattle.facet_json_document.specs.Now.{Now}
 
@@ -15,7 +15,7 @@ ReaderWithin buffer s = stop s.last ≤ length buffer
 
 -- All that a parser keeps lies within its input.
 pub record NowWithin (now : Now) : Type 0 where
-  pub standing : ReaderWithin now.buffer now.cursor.spot.place
+  pub reader : ReaderWithin now.buffer now.cursor.spot.place
   pub kept : All (λ point. ReaderWithin now.buffer point.1.place) now.cursor.kept
   pub refusal : IfSome now.cursor.refusal (RefusalWithin now.buffer)
 

@@ -11,7 +11,7 @@ use Rattle.facet_json_document.specs.Tree.{Tree}
 use Rattle.facet_json_document.specs.Meaning.{tree_of}
 use Rattle.facet_json_document.specs.Refusal.{needs_meaning}
 use Rattle.facet_json_document.specs.Walk.{walk}
-use Rattle.facet_json_document.specs.InputPlace.{Reader}
+use Rattle.facet_json_document.specs.Reader.{Reader}
 use Rattle.facet_json_document.specs.Now.{Now, StandsAt, SameInput, ahead, LeadsTo}
 use Rattle.facet_json_document.specs.SkipLaws.{bytes_between}
 

@@ -10,7 +10,7 @@ use Rattle.facet_format.specs.Event.{Event}
 use Rattle.facet_format.specs.Kept.{found, without, with_point}
 use Rattle.facet_format.specs.Cursor.{Call, Answer, event, saved, restored, spans, next, peek, save, restore, span, World, Spot, Cursor, at_spot, refused_at, greatest, no_memory_at, Step, repeats, saves, saves_at_the_limit, saves_without_memory, restores, restores_nothing, tells}
 use Rattle.facet_format.specs.Cursor as cursor
-use Rattle.facet_json_document.specs.InputPlace.{Reader}
+use Rattle.facet_json_document.specs.Reader.{Reader}
 use Rattle.facet_json_document.specs.Now.{Now, on_input, current_span_of}
 use Rattle.facet_json_document.specs.Move.{Moves}
 use Rattle.facet_json_document.specs.Next.{PassesNext, ShowsNext, IsOver}
@@ -19,9 +19,9 @@ use Rattle.facet_json_document.proofs.MovesNext.{next-passes, next-over, peek-sh
 use Rattle.facet_json_reader.specs.declared.language.Language.{Language}
 use Rattle.facet_json_reader.specs.declared.refusal.Refused.{Refused}
 use Rattle.facet_json_reader.specs.PlaceViews.{language_of, refused_of}
-use Rattle.facet_json_parser.specs.declared.standing.Standing.{Standing as RustStanding}
+use Rattle.facet_json_parser.specs.declared.lookahead.Lookahead.{Lookahead as RustLookahead}
 use Rattle.facet_json_parser.specs.declared.points.Point.{Point}
-use Rattle.facet_json_parser.specs.Fill.{spot_of}
+use Rattle.facet_json_parser.specs.Lookahead.{spot_of}
 use Rattle.facet_json_parser.specs.Views.{lookahead_of, now_of}
 use Rattle.facet_json_parser.specs.Steps.{PassesOne, passes, passes_the_end, passes_without_memory, passes_nothing, ShowsOne, shows, shows_the_end, shows_without_memory, shows_nothing}
 
@@ -82,13 +82,13 @@ next-answers made now o t e none one =
     step-moves made now _ next _ e (passes-step (on_input made.buffer made.language) made.cursor o t (none-made made now e none) one)
 
 -- An event that is passed at once is answered; else nothing changes.
-pub quick-answers : (input : List ℕ) (language read : Language) (s u : RustStanding) (refusal : Option Refused) (points : List Point) (counter : ℕ)
+pub quick-answers : (input : List ℕ) (language read : Language) (s u : RustLookahead) (refusal : Option Refused) (points : List Point) (counter : ℕ)
     (now : Now) (o : Option ParseEvent) → now_of input language s refusal points counter ≡ now → is_some refusal ≡ false → language ≡ read →
     MatchOption o (u ≡ s) (λ e. PassesOne (on_input input (language_of read)) (spot_of (lookahead_of s)) (Ok (Some (event_of e))) (spot_of (lookahead_of u))) →
     MatchOption o (now_of input language u refusal points counter ≡ now)
     (λ e. Moves now next (event (Ok (Some (event_of e)))) (now_of input language u refusal points counter))
 quick-answers input language read s u refusal points counter now None view none is same =
-    ap (λ (x : RustStanding). now_of input language x refusal points counter) same ∙ view
+    ap (λ (x : RustLookahead). now_of input language x refusal points counter) same ∙ view
 quick-answers input language read s u refusal points counter now (Some e) view none is one =
     let made = now_of input language s refusal points counter in
     next-answers made now (Some (event_of e)) (spot_of (lookahead_of u)) view (none-made now made (sym view) (no_refusal refusal none))

@@ -17,7 +17,7 @@ use Rattle.facet_format.specs.Views.{span_of}
 use Rattle.facet_json_token.specs.Token.{Token}
 use Rattle.facet_json_token.specs.Tokens.{tokens_from}
 use Rattle.facet_json_document.specs.Future.{within}
-use Rattle.facet_json_document.specs.InputPlace.{Reader}
+use Rattle.facet_json_document.specs.Reader.{Reader}
 use Rattle.facet_json_document.specs.Language.{Language, lenient, gaps, rules}
 use Rattle.facet_json_document.specs.Place.{Place, passes, led}
 use Rattle.facet_json_document.specs.Unread.{begins_value, closes_container, IsStuckUnread, PartFrom, separator, none_of_them, PartAt}
@@ -72,24 +72,24 @@ module _ (buffer : List ℕ) (language : Language) (r : RustReader) where
       }
 
     module _ (stack : List ContainerKind) where
-      -- the reader's standing, in these containers
-      abbrev standing : Reader
-      standing = record (reader_of r) { stack = stack }
+      -- the reader, in these containers
+      abbrev reader_there : Reader
+      reader_there = record (reader_of r) { stack = stack }
 
       -- What stands after the separators stands where the reader does.
-      stands-there : (p : Part Reader) → PartFrom buffer (rules language) stack place (tokens_from buffer (gaps language) position) p → PartAt buffer language standing p
+      stands-there : (p : Part Reader) → PartFrom buffer (rules language) stack place (tokens_from buffer (gaps language) position) p → PartAt buffer language reader_there p
       stands-there p from =
           let stage = reached.stage in
           rw stage (reached.leads stack p from)
 
       -- Where the tokens stop, nothing stands.
       pub nothing-stands : (refusal : Refusal) → IsStuckUnread buffer place (tokens_from buffer (gaps language) position) refusal →
-          PartAt buffer language standing (nothing refusal)
+          PartAt buffer language reader_there (nothing refusal)
       nothing-stands refusal halts = stands-there (nothing refusal) (none_of_them place _ refusal halts)
 
       -- A part that begins with the next token stands first.
       pub stands-first : (t : SpannedToken) (w : RustTurn) (is : IsTurn buffer (lenient (gaps language)) place position t w) (part : RustPart) →
-          first_span_of part ≡ span_of t.span → Begins place part is.kind → IsFirst buffer language standing part
+          first_span_of part ≡ span_of t.span → Begins place part is.kind → IsFirst buffer language reader_there part
       stands-first t w is part e begins = record {
         place = place;
         kind = is.kind;

@@ -3,8 +3,8 @@ use Rattle.std.proofs.Common.{◌≡◌, ℕ, Bool, true, false, cond, ◌==◌,
 use Rattle.std.specs.Option.{option_map}
 use Rattle.facet_format.specs.Cursor.{Spot}
 use Rattle.facet_format.specs.Kept.{found, without, with_point}
-use Rattle.facet_json_document.specs.InputPlace.{Reader}
-use Rattle.facet_json_parser.specs.Fill.{Lookahead, spot_of}
+use Rattle.facet_json_document.specs.Reader.{Reader}
+use Rattle.facet_json_parser.specs.Lookahead.{Lookahead, spot_of}
 use Rattle.facet_json_parser.specs.Views.{kept_spot}
 
 found_by : (same : Bool) (f : Lookahead) (o : Option Lookahead) (spots : Option (Spot Reader)) → spots ≡ option_map spot_of o →

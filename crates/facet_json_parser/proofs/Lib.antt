@@ -12,6 +12,6 @@ pub mod QuietTokens
 pub mod RefusedWithin
 pub mod RunSteps
 pub mod SkippedParts
-pub mod StandingSteps
+pub mod LookaheadSteps
 pub mod UnopenedContainers
 pub mod UnreadTokens

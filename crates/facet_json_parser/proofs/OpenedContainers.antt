@@ -3,13 +3,13 @@ use Rattle.std.proofs.Common.{◌≡◌, ℕ, false, List, Some, refl, sym, ap, 
 use Rattle.std.specs.Prelude.{is_some}
 use Rattle.facet_format.specs.Event.{ContainerKind, EventKind, struct_start, sequence_start}
 use Rattle.facet_format.specs.Views.{event_kind_of}
-use Rattle.facet_json_document.specs.InputPlace.{future_at}
+use Rattle.facet_json_document.specs.Reader.{future_at}
 use Rattle.facet_json_document.specs.Language.{Language}
 use Rattle.facet_json_reader.specs.declared.reader.Held.{Held}
 use Rattle.facet_json_reader.specs.declared.reader.Reader.{Reader}
 use Rattle.facet_json_reader.specs.Views.{passed_of, reader_of, with_opened, coming, GivesHeld}
-use Rattle.facet_json_parser.specs.declared.standing.Standing.{Standing as RustStanding}
-use Rattle.facet_json_parser.specs.Fill.{without_opened, reader_before, spot_of, HoldsNext}
+use Rattle.facet_json_parser.specs.declared.lookahead.Lookahead.{Lookahead as RustLookahead}
+use Rattle.facet_json_parser.specs.Lookahead.{without_opened, reader_before, spot_of, HoldsNext}
 use Rattle.facet_json_parser.specs.Views.{lookahead_of}
 use Rattle.facet_json_parser.proofs.UnopenedContainers.{nothing_held}
 
@@ -34,6 +34,6 @@ module _ (r opened : Reader) (h : Held) (last : opened.last ≡ r.last) (stage :
   }
 
   -- Where nothing was held, the spot is the same.
-  pub opened-spot : (s : RustStanding) → s.reader ≡ r → is_some s.held ≡ false →
+  pub opened-spot : (s : RustLookahead) → s.reader ≡ r → is_some s.held ≡ false →
       spot_of (lookahead_of (record { reader = opened; held = Some h; shown = false })) ≡ spot_of (lookahead_of s)
   opened-spot s same none = rw (nothing_held s.held none, same, opened-place) refl

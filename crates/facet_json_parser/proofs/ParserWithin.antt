@@ -13,7 +13,7 @@ use Rattle.facet_format.specs.Kept.{found, without}
 use Rattle.facet_format.specs.Cursor.{Call, next, events, save, restore, Spot, Cursor, refused_at, Answer, event, batch, spans, Step, gives_none}
 use Rattle.facet_format.specs.Span.{Span}
 use Rattle.facet_json_document.specs.Language.{Language}
-use Rattle.facet_json_document.specs.InputPlace.{Reader}
+use Rattle.facet_json_document.specs.Reader.{Reader}
 use Rattle.facet_json_document.specs.Now.{Now, on_input, current_span_of, ahead, GoesOn}
 use Rattle.facet_json_document.specs.Move.{Moves}
 use Rattle.facet_json_document.specs.Within.{ReaderWithin, NowWithin, AnswerWithin, no_events}
@@ -23,7 +23,7 @@ use Rattle.facet_json_document.proofs.Spans.AnswersWithin.{moves-within, current
 use Rattle.facet_json_document.proofs.Spans.BytesAhead.{moves-onward, moves-goes_on, next-lowers, events-lower}
 use Rattle.facet_json_parser.proofs.KeptSpots.{found-spot}
 use Rattle.facet_json_parser.proofs.PointsByPlace.{above-missing, without-missing}
-use Rattle.facet_json_parser.specs.Fill.{Lookahead, first_lookahead, spot_of}
+use Rattle.facet_json_parser.specs.Lookahead.{Lookahead, first_lookahead, spot_of}
 use Rattle.facet_json_parser.specs.Ready.{IsSound, ArePoints, IsReady}
 use Rattle.facet_json_parser.specs.Steps.{PassesOne, ShowsOne, QueuesOne}
 use Rattle.facet_json_parser.specs.Views.{kept_spot, cursor_of}
@@ -38,7 +38,7 @@ pub first-ready : (buffer : List ℕ) (language : Language) (f : Lookahead) (kep
 first-ready buffer language f kept e g =
     rw (e, g) (record { stands = record { within = omega arith; filled = tt }; refused = tt; keeps = tt; counter_fits = omega arith })
 
--- It holds with another standing.
+-- It holds with another lookahead.
 pub stands-ready : (buffer : List ℕ) (language : Language) (f g : Lookahead) (refusal : Option Refusal) (points : List (ℕ × Lookahead)) (counter : ℕ) →
     IsReady buffer language f refusal points counter → IsSound buffer language g → IsReady buffer language g refusal points counter
 stands-ready buffer language f g refusal points counter ready good =
@@ -57,7 +57,7 @@ pub ready-within : (buffer : List ℕ) (language : Language) (f : Lookahead) (re
     made ≡ record { buffer = buffer; language = language; cursor = cursor_of f refusal points counter } → made ≡ now → NowWithin now
 ready-within buffer language f refusal points counter made now ready is e =
     subst NowWithin e (rw is (record {
-      standing = ready.stands.within;
+      reader = ready.stands.within;
       kept = points-within buffer language counter points ready.keeps;
       refusal = ready.refused;
     }))

@@ -4,7 +4,7 @@ use Rattle.std.specs.Prelude.{Ok, Err}
 use Rattle.facet_format.specs.Complaint.{Refusal}
 use Rattle.facet_format.specs.Cursor.{skipped, raw, skip, capture, World, Spot, Cursor, at_spot, refused_at, Step, repeats}
 use Rattle.facet_format.specs.Cursor as cursor
-use Rattle.facet_json_document.specs.InputPlace.{Reader}
+use Rattle.facet_json_document.specs.Reader.{Reader}
 use Rattle.facet_json_document.specs.Now.{Now, on_input}
 use Rattle.facet_json_document.specs.Move.{Moves}
 use Rattle.facet_json_document.specs.UnreadLaws.{RefusalWithin}

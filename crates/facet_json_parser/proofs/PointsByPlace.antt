@@ -10,7 +10,7 @@ use Rattle.facet_format.specs.Cursor.{greatest}
 use Rattle.facet_format.specs.Kept.{found, without, with_point}
 use Rattle.facet_format.proofs.KeptLaws.{found-other, found-lost}
 use Rattle.facet_json_document.specs.Language.{Language}
-use Rattle.facet_json_parser.specs.Fill.{Lookahead}
+use Rattle.facet_json_parser.specs.Lookahead.{Lookahead}
 use Rattle.facet_json_parser.specs.Ready.{IsSound, ArePoints, IsReady}
 use Rattle.facet_json_parser.specs.Views.{lookahead_of, point_of}
 
@@ -127,7 +127,7 @@ all-missing number (p ∷ points) a =
 
 -- The point at this place of the list is found, and the others stay without it.
 pub record IsTakenOut (number : ℕ) (points : List Point) (i : ℕ) (p : Point) : Type 0 where
-  pub here : found number (map point_of points) ≡ Some (lookahead_of p.standing)
+  pub here : found number (map point_of points) ≡ Some (lookahead_of p.lookahead)
   pub others : map point_of (remove points i) ≡ without number (map point_of points)
 
 pub point-taken : (buffer : List ℕ) (language : Language) (counter number : ℕ) (points : List Point) (i : ℕ) (d : Point) →
@@ -152,5 +152,5 @@ point-taken buffer language counter number (p ∷ points) (suc i) d h same a =
 
 pub taken-out : (number : ℕ) (points left : List Point) (i : ℕ) (p : Point) →
     IsTakenOut number points i (slice_index_or points i p) → p ≡ slice_index_or points i p → left ≡ remove points i →
-    (found number (map point_of points) ≡ Some (lookahead_of p.standing)) × (map point_of left ≡ without number (map point_of points))
-taken-out number points left i p t e f = (t.here ∙ ap (λ q. Some (lookahead_of q.standing)) (sym e), ap (map point_of) f ∙ t.others)
+    (found number (map point_of points) ≡ Some (lookahead_of p.lookahead)) × (map point_of left ≡ without number (map point_of points))
+taken-out number points left i p t e f = (t.here ∙ ap (λ q. Some (lookahead_of q.lookahead)) (sym e), ap (map point_of) f ∙ t.others)

@@ -4,14 +4,14 @@ use Rattle.facet_format.specs.Complaint.{Refusal}
 use Rattle.facet_format.specs.Cursor.{World, current_span}
 use Rattle.facet_format.specs.Part.{nothing}
 use Rattle.facet_format.specs.Span.{Span}
-use Rattle.facet_json_document.specs.InputPlace.{Reader}
+use Rattle.facet_json_document.specs.Reader.{Reader}
 use Rattle.facet_json_document.specs.Language.{Language}
 use Rattle.facet_json_document.specs.Unread.{PartAt}
 use Rattle.facet_json_document.specs.Now.{on_input}
 use Rattle.facet_json_parser.specs.declared.part.Part.{Part as RustPart}
 use Rattle.facet_json_parser.specs.PartViews.{after_part, Skips, Captures}
 use Rattle.facet_json_parser.specs.PartViews as answers
-use Rattle.facet_json_parser.specs.Fill.{Lookahead, lookahead_at, reader_before, spot_of}
+use Rattle.facet_json_parser.specs.Lookahead.{Lookahead, lookahead_at, reader_before, spot_of}
 use Rattle.facet_json_parser.specs.Steps.{SkipsOne, skips, skips_without_memory, skips_nothing, CapturesOne, captures, captures_without_memory, captures_nothing}
 
 module _ (buffer : List ℕ) (language : Language) (f : Lookahead) where

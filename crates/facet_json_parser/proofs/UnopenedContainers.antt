@@ -1,4 +1,4 @@
--- Where there is no memory to open the container of an event that comes, the standing is refused before it.
+-- Where there is no memory to open the container of an event that comes, the lookahead is refused before it.
 use Rattle.std.proofs.Common.{◌≡◌, ℕ, true, false, List, Option, Some, None, refl, sym, subst}
 use Rattle.std.specs.Prelude.{is_some}
 use Rattle.std.specs.Option.{option_map}
@@ -8,10 +8,10 @@ use Rattle.facet_format.specs.Event.{takes_memory}
 use Rattle.facet_format.specs.Views.{span_of, event_kind_of}
 use Rattle.facet_json_document.specs.Language.{Language}
 use Rattle.facet_json_reader.specs.declared.reader.Held.{Held}
-use Rattle.facet_json_parser.specs.declared.standing.Standing.{Standing as RustStanding}
-use Rattle.facet_json_document.specs.InputPlace.{future_at}
+use Rattle.facet_json_parser.specs.declared.lookahead.Lookahead.{Lookahead as RustLookahead}
+use Rattle.facet_json_document.specs.Reader.{future_at}
 use Rattle.facet_json_reader.specs.Views.{passed_of, coming, GivesHeld, IsRefusedBefore, without_memory}
-use Rattle.facet_json_parser.specs.Fill.{reader_before}
+use Rattle.facet_json_parser.specs.Lookahead.{reader_before}
 use Rattle.facet_json_parser.specs.Views.{lookahead_of}
 
 -- What is not there is none.
@@ -20,7 +20,7 @@ nothing_held None e = refl
 nothing_held (Some h) e = cc
 
 -- Nothing is held, and the event comes, which takes memory.
-pub unopened-refused : (buffer : List ℕ) (language : Language) (s : RustStanding) (h : Held) (refusal : Refusal) → is_some s.held ≡ false →
+pub unopened-refused : (buffer : List ℕ) (language : Language) (s : RustLookahead) (h : Held) (refusal : Refusal) → is_some s.held ≡ false →
     GivesHeld (coming buffer language s.reader) h → takes_memory (event_kind_of h.event.kind) ≡ true →
     refusal ≡ no_memory_at (span_of s.reader.last) →
     (option_map passed_of s.held ≡ None)

@@ -1,4 +1,4 @@
-pub mod Fill
+pub mod Lookahead
 pub mod Inner
 pub mod PartViews
 pub mod Ready

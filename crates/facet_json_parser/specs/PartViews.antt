@@ -10,7 +10,7 @@ use Rattle.facet_json_token.specs.Token.{Kind, Token}
 use Rattle.facet_json_token.specs.Tokens.{next, tokens_from}
 use Rattle.facet_json_token.specs.Views.{kind_of}
 use Rattle.facet_json_document.specs.Future.{around}
-use Rattle.facet_json_document.specs.InputPlace.{Reader}
+use Rattle.facet_json_document.specs.Reader.{Reader}
 use Rattle.facet_json_document.specs.Language.{Language, gaps, rules}
 use Rattle.facet_json_document.specs.Place.{Place, names, place_turn}
 use Rattle.facet_json_document.specs.Unread.{begins_value, closes_container, past_value, past_key, PartFrom, PartAt}
@@ -33,7 +33,7 @@ Begins place (parts.Closing s) kind = closes_container (place_turn place kind) �
 abbrev pub token_of_part : RustPart → Kind → Token
 token_of_part part kind = record { kind = kind; span = first_span_of part }
 
--- The part stands first at the standing: what begins with its token, at a place after separators, stands there.
+-- The part stands first at the lookahead: what begins with its token, at a place after separators, stands there.
 pub record IsFirst (buffer : List ℕ) (language : Language) (s : Reader) (part : RustPart) : Type 0 where
   pub place : Place
   pub kind : Kind

@@ -7,7 +7,7 @@ use Rattle.facet_format.specs.Kept.{found}
 use Rattle.facet_json_document.specs.Language.{Language}
 use Rattle.facet_json_document.specs.Within.{ReaderWithin}
 use Rattle.facet_json_document.specs.UnreadLaws.{RefusalWithin}
-use Rattle.facet_json_parser.specs.Fill.{Lookahead, reader_before, HoldsWhatComes}
+use Rattle.facet_json_parser.specs.Lookahead.{Lookahead, reader_before, HoldsWhatComes}
 
 -- The place lies within the buffer, and an event that is held is the one that comes there.
 pub record IsSound (buffer : List ℕ) (language : Language) (f : Lookahead) : Type 0 where
@@ -21,9 +21,9 @@ ArePoints buffer language counter (point ∷ points) =
     IsSound buffer language point.1 × (point.0 ≤ counter) × (found point.0 points ≡ None) × ArePoints buffer language counter points
 
 -- a parser with these fields
-pub record IsReady (buffer : List ℕ) (language : Language) (standing : Lookahead) (refusal : Option Refusal) (points : List (ℕ × Lookahead))
+pub record IsReady (buffer : List ℕ) (language : Language) (lookahead : Lookahead) (refusal : Option Refusal) (points : List (ℕ × Lookahead))
     (counter : ℕ) : Type 0 where
-  pub stands : IsSound buffer language standing
+  pub stands : IsSound buffer language lookahead
   pub refused : IfSome refusal (RefusalWithin buffer)
   pub keeps : ArePoints buffer language counter points
   pub counter_fits : counter ≤ greatest

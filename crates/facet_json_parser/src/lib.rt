@@ -8,7 +8,7 @@ mod passing;
 mod points;
 mod quiet;
 mod run;
-mod standing;
+mod lookahead;
 
 pub use parser::JsonParser;
 pub use run::pass_run;

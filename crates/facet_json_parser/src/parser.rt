@@ -6,7 +6,7 @@ ghost use Rattle.std.specs.VecDeque.{deque_len, deque_capacity};
 ghost use Rattle.facet_format.specs.declared.event.ParseEvent.{ParseEvent as RustEvent};
 ghost use Rattle.facet_format.specs.Cursor.{next, peek, events, skip, capture, save, restore, restored, span, spans, refused_at};
 ghost use Rattle.facet_format.specs.Kept.{found, without};
-ghost use Rattle.facet_format.specs.Standing.{IsStep};
+ghost use Rattle.facet_format.specs.Steps.{IsStep};
 ghost use Rattle.facet_format.specs.Views.{event_of, parse_refusal, answer_of_event, answer_of_events, answer_of_skip, answer_of_capture, answer_of_save, answer_of_span};
 ghost use Rattle.facet_json_token.specs.Gap.{plain, jsonc};
 ghost use Rattle.facet_json_document.specs.Language.{strict};
@@ -23,7 +23,7 @@ use facet_format::{FormatParser, ParseError, ParseEvent, SavePoint, Span};
 use facet_json_reader::{Language, Refused};
 use facet_json_reader::Trust;
 use crate::points::{Point, bring_back, keep};
-use crate::standing::Standing;
+use crate::lookahead::Lookahead;
 use facet_json_token::Mode;
 use std::alloc::Global;
 use std::collections::VecDeque;
@@ -61,7 +61,7 @@ pub struct JsonParser<'de> {
     input: &'de [u8],
     language: Language,
     trust: Trust,
-    standing: Standing<'de>,
+    lookahead: Lookahead<'de>,
     refusal: Option<Refused>,
     points: Vec<Point<'de>>,
     counter: u64,
@@ -78,9 +78,9 @@ impl<'de> Model for JsonParser<'de> {
 
     ghost Value = { Now };
 
-    ghost view = { λ p. now_of p.input.now p.language p.standing p.refusal p.points.items p.counter };
+    ghost view = { λ p. now_of p.input.now p.language p.lookahead p.refusal p.points.items p.counter };
 
-    ghost invariant = { λ p. IsReady p.input.now (language_of p.language) (lookahead_of p.standing) (option_map refused_of p.refusal)
+    ghost invariant = { λ p. IsReady p.input.now (language_of p.language) (lookahead_of p.lookahead) (option_map refused_of p.refusal)
         (map point_of p.points.items) p.counter × (p.trust ≡ Utf8 → IsUtf8 p.input.now) };
 }
 
@@ -150,7 +150,7 @@ impl<'de> JsonParser<'de> {
             input,
             language,
             trust,
-            standing: Standing::new(alloc),
+            lookahead: Lookahead::new(alloc),
             refusal: None,
             points: Vec::new(alloc),
             counter: 0,
@@ -195,11 +195,11 @@ impl<'de> JsonParser<'de> {
         // Each language has its own copy of the code in line, so that neither pays for the other.
         match self.language {
             Language::Lenient(mode) => {
-                self.standing
+                self.lookahead
                     .next_quickly(self.input, Language::Lenient(mode), self.trust)
             }
             Language::Strict(mode) => {
-                self.standing
+                self.lookahead
                     .next_quickly(self.input, Language::Strict(mode), self.trust)
             }
         }
@@ -221,7 +221,7 @@ impl<'de> JsonParser<'de> {
         ensures { Moves self.old next (answer_of_event result) self.new }
     {
         self.unrefused()?;
-        match self.standing.next(self.alloc, self.input, self.language) {
+        match self.lookahead.next(self.alloc, self.input, self.language) {
             Ok(passed) => Ok(passed),
             Err(refused) => Err(self.refuse(refused)),
         }
@@ -241,7 +241,7 @@ impl<'de> JsonParser<'de> {
     {
         self.unrefused()?;
         match self
-            .standing
+            .lookahead
             .next_with_room(self.alloc, self.input, self.language, queue)
         {
             Ok(event) => Ok(event),
@@ -303,7 +303,7 @@ impl<'de> FormatParser<'de> for JsonParser<'de> {
         ensures end { IfOk result (λ o. IfNone o (IsOver self.old self.new)) }
     {
         self.unrefused()?;
-        match self.standing.peek(self.alloc, self.input, self.language) {
+        match self.lookahead.peek(self.alloc, self.input, self.language) {
             Ok(shown) => Ok(shown),
             Err(refused) => Err(self.refuse(refused)),
         }
@@ -366,7 +366,7 @@ impl<'de> FormatParser<'de> for JsonParser<'de> {
         ensures shorter { IfOk result (λ _. ahead self.new < ahead self.old) }
     {
         self.unrefused()?;
-        match self.standing.skip(self.alloc, self.input, self.language) {
+        match self.lookahead.skip(self.alloc, self.input, self.language) {
             Ok(()) => Ok(()),
             Err(refused) => Err(self.refuse(refused)),
         }
@@ -394,7 +394,7 @@ impl<'de> FormatParser<'de> for JsonParser<'de> {
         ensures given { IfOk result IsSome }
     {
         self.unrefused()?;
-        match self.standing.capture(self.alloc, self.input, self.language) {
+        match self.lookahead.capture(self.alloc, self.input, self.language) {
             Ok(text) => Ok(Some(text)),
             Err(refused) => Err(self.refuse(refused)),
         }
@@ -421,14 +421,14 @@ impl<'de> FormatParser<'de> for JsonParser<'de> {
     {
         self.unrefused()?;
         let Some(number) = self.counter.checked_add(1) else {
-            return Err(ParseError::from(Refused::save_limit(self.standing.span())));
+            return Err(ParseError::from(Refused::save_limit(self.lookahead.span())));
         };
-        match keep(&mut self.points, self.alloc, number, &self.standing) {
+        match keep(&mut self.points, self.alloc, number, &self.lookahead) {
             Ok(()) => {
                 self.counter = number;
                 Ok(SavePoint(number))
             }
-            Err(_) => Err(ParseError::from(Refused::out_of_memory(self.standing.span()))),
+            Err(_) => Err(ParseError::from(Refused::out_of_memory(self.lookahead.span()))),
         }
     }
 
@@ -441,8 +441,8 @@ impl<'de> FormatParser<'de> for JsonParser<'de> {
         ensures points { self.new.cursor.kept ≡ without point.0 self.old.cursor.kept }
         ensures counter { self.new.cursor.counter ≡ self.old.cursor.counter }
     {
-        if let Some(standing) = bring_back(&mut self.points, point.0) {
-            self.standing = standing;
+        if let Some(lookahead) = bring_back(&mut self.points, point.0) {
+            self.lookahead = lookahead;
             self.refusal = None;
         }
     }
@@ -455,7 +455,7 @@ impl<'de> FormatParser<'de> for JsonParser<'de> {
         ensures within { AnswerWithin self.now.buffer (answer_of_span result) }
         ensures given { IsSome result }
     {
-        Some(self.standing.span())
+        Some(self.lookahead.span())
     }
 
     /// The whole input, whatever was read of it. It is always there.

@@ -8,7 +8,7 @@ ghost use Rattle.facet_format.specs.Span.{stop, span_at};
 ghost use Rattle.facet_format.specs.Views.{span_of};
 ghost use Rattle.facet_json_token.specs.Tokens.{tokens_from};
 ghost use Rattle.facet_json_token.specs.Views.{mode_of};
-ghost use Rattle.facet_json_document.specs.InputPlace.{Reader as SpecReader};
+ghost use Rattle.facet_json_document.specs.Reader.{Reader as SpecReader};
 ghost use Rattle.facet_json_document.specs.Language.{Language as SpecLanguage, gaps};
 ghost use Rattle.facet_json_document.specs.Unread.{past_key, HasColon};
 ghost use Rattle.facet_json_reader.specs.PlaceViews.{no_raw_text, refused_of};

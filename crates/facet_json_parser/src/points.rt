@@ -8,31 +8,31 @@ ghost use Rattle.facet_json_parser.specs.Ready.{ArePoints};
 ghost use Rattle.facet_json_parser.specs.Views.{lookahead_of, point_of};
 ghost use Rattle.facet_json_document.specs.Language.{Language};
 
-use crate::standing::Standing;
+use crate::lookahead::Lookahead;
 use std::alloc::{AllocError, Global};
 
-/// A standing that is kept under a number.
+/// A lookahead that is kept under a number.
 #[derive(Debug, Drop)]
 pub struct Point<'de> {
     /// The number.
     pub number: u64,
     /// Where the parser stood.
-    pub standing: Standing<'de>,
+    pub lookahead: Lookahead<'de>,
 }
 
-/// Keeps a copy of the standing under this number. Without memory for it nothing changes.
+/// Keeps a copy of the lookahead under this number. Without memory for it nothing changes.
 pub fn keep<'de>(
     points: &mut Vec<Point<'de>>,
     alloc: Global,
     number: u64,
-    standing: &Standing<'de>,
+    lookahead: &Lookahead<'de>,
 ) -> Result<(), AllocError>
     ensures { MatchResult result
-        (λ _. map point_of points.new.items ≡ with_point number (lookahead_of standing.now) (map point_of points.old.items))
+        (λ _. map point_of points.new.items ≡ with_point number (lookahead_of lookahead.now) (map point_of points.old.items))
         (λ _. points.new.items ≡ points.old.items) }
 {
-    let standing = standing.copy(alloc)?;
-    Ok(points.push(Point { number, standing })?)
+    let lookahead = lookahead.copy(alloc)?;
+    Ok(points.push(Point { number, lookahead })?)
 }
 
 /// Where in the list the point of this number is.
@@ -44,8 +44,8 @@ fn place_of(points: &[Point<'_>], number: u64) -> Option<usize>
     points.iter().position(|point| point.number == number)
 }
 
-/// Takes out the standing under this number, if one is kept.
-pub fn bring_back<'de>(points: &mut Vec<Point<'de>>, number: u64) -> Option<Standing<'de>>
+/// Takes out the lookahead under this number, if one is kept.
+pub fn bring_back<'de>(points: &mut Vec<Point<'de>>, number: u64) -> Option<Lookahead<'de>>
     ensures { MatchOption result
         ((found number (map point_of points.old.items) ≡ None) × (points.new.items ≡ points.old.items))
         (λ s. (buffer : List ℕ) (language : Language) (counter : ℕ) → ArePoints buffer language counter (map point_of points.old.items)
@@ -53,5 +53,5 @@ pub fn bring_back<'de>(points: &mut Vec<Point<'de>>, number: u64) -> Option<Stan
         × (map point_of points.new.items ≡ without number (map point_of points.old.items))) }
 {
     let at = place_of(points, number)?;
-    Some(points.remove(at).standing)
+    Some(points.remove(at).lookahead)
 }

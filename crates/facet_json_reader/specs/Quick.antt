@@ -8,7 +8,7 @@ use Rattle.facet_format.specs.Span.{Span}
 use Rattle.facet_json_token.specs.Cut.{past_gap}
 use Rattle.facet_json_document.specs.Future.{Future, gives, within}
 use Rattle.facet_json_document.specs.Language.{Language, gaps}
-use Rattle.facet_json_document.specs.InputPlace.{past}
+use Rattle.facet_json_document.specs.Reader.{past}
 use Rattle.facet_json_document.specs.Place.{Place, root, after_colon, before_item, before_key, next_item, next_key}
 use Rattle.facet_json_reader.specs.Views.{reader_of, comes_at, coming}
 

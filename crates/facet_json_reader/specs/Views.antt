@@ -28,7 +28,7 @@ use Rattle.facet_json_document.specs.StrictTokens.{tokens_in}
 use Rattle.facet_json_document.specs.Meaning.{meaning_of}
 use Rattle.facet_json_document.specs.Place.{Place, after_key, place_turn, kind_name}
 use Rattle.facet_json_document.specs.Refusal.{needs_meaning, IsStuck}
-use Rattle.facet_json_document.specs.InputPlace.{Reader}
+use Rattle.facet_json_document.specs.Reader.{Reader}
 use Rattle.facet_json_document.specs.Walk.{scalar_of}
 use Rattle.facet_json_reader.specs.PlaceViews.{place_of, turn_of, name_text, refused_of}
 use Rattle.facet_json_reader.specs.TokenViews.{IsTextOf, IsUnmade, IsMeaningless}

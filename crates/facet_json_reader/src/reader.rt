@@ -11,7 +11,7 @@ ghost use Rattle.facet_json_token.specs.Tokens.{Tokens, ended, next};
 ghost use Rattle.facet_json_token.specs.Views.{kind_of, mode_of};
 ghost use Rattle.facet_json_document.specs.Future.{after_value, around, behind_root, finished, stage_after, within};
 ghost use Rattle.facet_json_document.specs.Place.{Place as SpecPlace, expected_at, goes_on};
-ghost use Rattle.facet_json_document.specs.InputPlace.{first_reader, past};
+ghost use Rattle.facet_json_document.specs.Reader.{first_reader, past};
 ghost use Rattle.facet_json_reader.specs.PlaceViews.{language_of, place_of, expected_text, refused_of, opening_event, closing_event, is_string_token};
 ghost use Rattle.facet_json_reader.specs.TokenViews.{CanBeRead, IsMeaningless};
 ghost use Rattle.facet_json_reader.specs.Views.{stage_of, passed_of, reader_of, with_opened, comes_at, StopsAt, IsNamed, IsTurn, IsValueOf, IsNameOf, IsColonAt, IsRefusedBefore, Answers, IsUpcoming};

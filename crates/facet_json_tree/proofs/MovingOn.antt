@@ -2,7 +2,7 @@
 use Rattle.std.proofs.Common.{Some, Ok, refl, arith}
 use Rattle.facet_format.specs.Event.{Event}
 use Rattle.facet_format.specs.Cursor.{next, event}
-use Rattle.facet_format.specs.Standing.{IsStep}
+use Rattle.facet_format.specs.Steps.{IsStep}
 use Rattle.facet_json_document.specs.Now.{Now, StandsAt}
 use Rattle.facet_json_meaning.specs.Nodes.{KeepsOn}
 use Rattle.facet_json_meaning.specs.Passing.{MovesOn}

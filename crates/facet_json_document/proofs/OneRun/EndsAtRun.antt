@@ -7,7 +7,7 @@ use Rattle.facet_json_token.specs.Gap.{Mode}
 use Rattle.facet_json_token.specs.Token.{Token, Fault}
 use Rattle.facet_json_token.specs.Tokens.{Tokens, ended, refused, next, tokens, tokens_from}
 use Rattle.facet_json_document.specs.Future.{finished, Stage, within, over, turn, reads_by, reads_colon_by}
-use Rattle.facet_json_document.specs.InputPlace.{Reader, future_at}
+use Rattle.facet_json_document.specs.Reader.{Reader, future_at}
 use Rattle.facet_json_document.specs.Language.{strict, Rules, strict_rules}
 use Rattle.facet_json_document.specs.Place.{Place, after_key, Turn, stops, passes, says, says_scalar, names, goes_on, led}
 use Rattle.facet_json_document.specs.Run.{Run}
@@ -86,7 +86,7 @@ pub now-ends : (buffer : List ℕ) (mode : Mode) (now : Now) → SameInput (fres
     future_of now ≡ finished → IsOneRun buffer mode
 now-ends buffer mode now input good e =
     let same = same_input-is (fresh_in buffer (strict mode)) now input in
-    standing-ends buffer mode now.cursor.spot.place (subst NowOpen same good).standing (subst (λ x. future_of x ≡ finished) same e)
+    standing-ends buffer mode now.cursor.spot.place (subst NowOpen same good).reader (subst (λ x. future_of x ≡ finished) same e)
 
 -- ---- the laws
 

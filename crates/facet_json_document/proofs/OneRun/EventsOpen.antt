@@ -6,7 +6,7 @@ use Rattle.facet_json_token.specs.Token.{Token}
 use Rattle.facet_json_token.specs.Tokens.{Tokens, ended, refused, next, tokens, tokens_from}
 use Rattle.facet_json_token.proofs.TokensSteps.{tokens_from-others}
 use Rattle.facet_json_document.specs.Future.{Future, gives, Stage, within, over, stack_after, stage_after, is_meaningless, turn, reads_by, reads_colon_by}
-use Rattle.facet_json_document.specs.InputPlace.{Reader, past, future_at}
+use Rattle.facet_json_document.specs.Reader.{Reader, past, future_at}
 use Rattle.facet_json_document.specs.Language.{Language, lenient, strict, gaps, rules}
 use Rattle.facet_json_document.specs.Place.{Place, after_key, Turn, stops, passes, says, says_scalar, names, goes_on, led}
 use Rattle.facet_json_document.specs.StrictTokens.{tokens_in}

@@ -4,7 +4,7 @@ use Rattle.std.specs.List.{All}
 use Rattle.std.proofs.lemmas.List.Elements.{All-nil}
 use Rattle.facet_format.specs.Event.{Event}
 use Rattle.facet_format.specs.Cursor.{Call, Answer, Cursor, Comes, no_event, one_event, Run, no_calls, one_call, passes, gives, gives_up, gives_without_memory, skips, captures, saves, restores, spot_after}
-use Rattle.facet_json_document.specs.InputPlace.{Reader}
+use Rattle.facet_json_document.specs.Reader.{Reader}
 use Rattle.facet_json_document.specs.Language.{Language}
 use Rattle.facet_json_document.specs.Now.{Now, fresh_in, on_input}
 use Rattle.facet_json_document.specs.Move.{Moves, MovesAll}
@@ -17,13 +17,13 @@ use Rattle.facet_json_document.proofs.OneRun.OpenBrackets.{nothing_passed, Stand
 
 -- Where a parser stands, and at each of its points, those brackets are open that the tokens before leave open.
 pub record NowOpen (now : Now) : Type 0 where
-  pub standing : StandsOpen now.buffer now.language now.cursor.spot.place
+  pub reader : StandsOpen now.buffer now.language now.cursor.spot.place
   pub kept : All (λ point. StandsOpen now.buffer now.language point.1.place) now.cursor.kept
 
 -- A new parser remembers no brackets, and none are open.
 pub fresh-open : (buffer : List ℕ) (language : Language) → NowOpen (fresh_in buffer language)
 fresh-open buffer language = record {
-  standing = (nothing_passed, refl);
+  reader = (nothing_passed, refl);
   kept = All-nil (λ point. StandsOpen buffer language point.1.place);
 }
 
@@ -40,36 +40,36 @@ module _ (now : Now) (good : NowOpen now) where
       StandsOpen now.buffer now.language (spot_after given after now.cursor.spot).place
   batch-open given after all =
       subst (StandsOpen now.buffer now.language) (sym (spot_after-place now.buffer now.language now.cursor.spot all))
-      (events-open now.buffer now.language all good.standing)
+      (events-open now.buffer now.language all good.reader)
 
   -- and after each step
   step-open : {call : Call} {answer : Answer} (d : Cursor Reader) → StepOf now call answer d → NowOpen (with_cursor now d)
   step-open d (passes p none comes) = record {
-    standing = past-open now.buffer now.language now.cursor.spot.place p _ good.standing
+    reader = past-open now.buffer now.language now.cursor.spot.place p _ good.reader
         (event-comes now.buffer now.language now.cursor.spot.place p comes);
     kept = good.kept;
   }
-  step-open d (gives k n given after none all count le over) = record { standing = batch-open given after all; kept = good.kept }
+  step-open d (gives k n given after none all count le over) = record { reader = batch-open given after all; kept = good.kept }
   step-open d (gives_without_memory k given after p spot none all le more there) =
-      record { standing = rw there (batch-open given after all); kept = good.kept }
-  step-open d (gives_up k given after r none all le stops so) = record { standing = batch-open given after all; kept = good.kept }
+      record { reader = rw there (batch-open given after all); kept = good.kept }
+  step-open d (gives_up k given after r none all le stops so) = record { reader = batch-open given after all; kept = good.kept }
   step-open d (skips part place none stands is) = record {
-    standing = skip-open now.buffer now.language now.cursor.spot.place part place good.standing stands is;
+    reader = skip-open now.buffer now.language now.cursor.spot.place part place good.reader stands is;
     kept = good.kept;
   }
   step-open d (captures part text place none stands is) = record {
-    standing = capture-open now.buffer now.language now.cursor.spot.place part text place good.standing stands is;
+    reader = capture-open now.buffer now.language now.cursor.spot.place part text place good.reader stands is;
     kept = good.kept;
   }
   step-open d (saves none h) = record {
-    standing = good.standing;
-    kept = with_point-holds (λ spot. StandsOpen now.buffer now.language spot.place) _ now.cursor.spot now.cursor.kept good.kept good.standing;
+    reader = good.reader;
+    kept = with_point-holds (λ spot. StandsOpen now.buffer now.language spot.place) _ now.cursor.spot now.cursor.kept good.kept good.reader;
   }
   step-open d (restores point spot e) = record {
-    standing = found-holds (λ spot. StandsOpen now.buffer now.language spot.place) point spot now.cursor.kept good.kept e;
+    reader = found-holds (λ spot. StandsOpen now.buffer now.language spot.place) point spot now.cursor.kept good.kept e;
     kept = without-holds (λ spot. StandsOpen now.buffer now.language spot.place) point now.cursor.kept good.kept;
   }
-  step-open d _ = record { standing = good.standing; kept = good.kept }
+  step-open d _ = record { reader = good.reader; kept = good.kept }
 
   -- Each move leaves it so.
   pub moves-open : (new : Now) {call : Call} {answer : Answer} → Moves now call answer new → NowOpen new

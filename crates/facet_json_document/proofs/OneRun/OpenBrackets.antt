@@ -6,7 +6,7 @@ use Rattle.facet_format.specs.Span.{stop}
 use Rattle.facet_json_token.specs.Token.{Token}
 use Rattle.facet_json_token.specs.Tokens.{Tokens, next, tokens, tokens_from}
 use Rattle.facet_json_document.specs.Future.{Stage, within, over, after_value, around}
-use Rattle.facet_json_document.specs.InputPlace.{Reader}
+use Rattle.facet_json_document.specs.Reader.{Reader}
 use Rattle.facet_json_document.specs.Language.{Language, gaps}
 use Rattle.facet_json_document.specs.Place.{Place, before_key, after_key, after_colon, after_member, before_item, after_item, next_key, next_item}
 use Rattle.facet_json_document.specs.Run.{opening, closing, is_separator, Run, brackets, RunsInside, nothing, separator, a_run}

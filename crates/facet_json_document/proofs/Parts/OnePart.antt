@@ -8,7 +8,7 @@ use Rattle.facet_format.specs.Span.{stop}
 use Rattle.facet_json_token.specs.Token.{Token}
 use Rattle.facet_json_token.specs.Tokens.{Tokens, next}
 use Rattle.facet_json_document.specs.Future.{Stage, within, over, around}
-use Rattle.facet_json_document.specs.InputPlace.{Reader}
+use Rattle.facet_json_document.specs.Reader.{Reader}
 use Rattle.facet_json_document.specs.Language.{Language, Rules, rules}
 use Rattle.facet_json_document.specs.Node.{is_scalar}
 use Rattle.facet_json_document.specs.Place.{Place, after_key, Turn, stops, passes, says, says_scalar, names, place_turn, leads_on, led}

@@ -11,12 +11,12 @@ use Rattle.facet_format.specs.Span.{stop}
 use Rattle.facet_json_token.specs.Token.{Kind, Token}
 use Rattle.facet_json_token.specs.Tokens.{Tokens, ended, refused, next, tokens_from}
 use Rattle.facet_json_document.specs.Future.{Stage, finished, events_before, within, over, after_value, around, behind_root, reads_by}
-use Rattle.facet_json_document.specs.InputPlace.{Reader, past, future_at}
+use Rattle.facet_json_document.specs.Reader.{Reader, past, future_at}
 use Rattle.facet_json_document.specs.Language.{Language, lenient, strict, gaps, rules, Rules, lenient_rules, strict_rules}
 use Rattle.facet_json_document.specs.Node.{is_scalar}
 use Rattle.facet_json_document.specs.Place.{Place, after_root, Turn, says, names, place_turn, led}
 use Rattle.facet_json_document.specs.Run.{Run, one_token, brackets, opening, BreaksOff}
-use Rattle.facet_json_document.specs.StandsOn.{IsOnWalk}
+use Rattle.facet_json_document.specs.OnWalk.{IsOnWalk}
 use Rattle.facet_json_document.specs.StrictTokens.{tokens_in}
 use Rattle.facet_json_document.specs.Unread.{begins_value, closes_container, past_value, past_key, PartFrom, separator, a_value, a_broken_value, a_key, a_closing, none_of_them, HasColon, colon_stands, colon_missing, PartIn}
 use Rattle.facet_json_document.specs.UnreadLaws.{PartsOnWalk}

@@ -7,7 +7,7 @@ use Rattle.facet_format.specs.Span.{span_at, stop}
 use Rattle.facet_json_token.specs.Token.{Token}
 use Rattle.facet_json_token.specs.Tokens.{Tokens, next}
 use Rattle.facet_json_document.specs.Future.{Stage, within, over}
-use Rattle.facet_json_document.specs.InputPlace.{Reader}
+use Rattle.facet_json_document.specs.Reader.{Reader}
 use Rattle.facet_json_document.specs.Language.{Language, gaps, Rules, rules}
 use Rattle.facet_json_document.specs.Place.{Place, led}
 use Rattle.facet_json_document.specs.Run.{Run, one_token, brackets, RunsInside, nothing as no_runs, separator as mark, a_run}

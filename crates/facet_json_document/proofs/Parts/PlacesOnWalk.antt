@@ -4,9 +4,9 @@ use Rattle.std.proofs.Common.{◌≡◌, ℕ, zero, suc, ◌+◌, ◌<◌, ◌�
 use Rattle.facet_format.specs.Event.{Passed}
 use Rattle.facet_format.specs.Part.{Source, last_of}
 use Rattle.facet_json_document.specs.Future.{Future, gives, finished, events_before}
-use Rattle.facet_json_document.specs.InputPlace.{Reader, past, future_at}
+use Rattle.facet_json_document.specs.Reader.{Reader, past, future_at}
 use Rattle.facet_json_document.specs.Language.{Language}
-use Rattle.facet_json_document.specs.StandsOn.{IsOnWalk}
+use Rattle.facet_json_document.specs.OnWalk.{IsOnWalk}
 use Rattle.facet_json_document.proofs.Parts.FinishedComes.{begins-with}
 use Rattle.facet_json_document.proofs.PastEvents.{past-comes}
 
@@ -56,7 +56,7 @@ last_of-drop (suc m) k (q ∷ w) h =
 -- ---- places
 
 module _ (buffer : List ℕ) (language : Language) (w : Source) (s : Reader) (place : ℕ) (on : IsOnWalk buffer language w s place) where
-  -- The event that comes is the one at the place on the walk, and the standing after it is the next place.
+  -- The event that comes is the one at the place on the walk, and the reader after it is the next place.
   pub record IsNext (p : Passed) : Type 0 where
     pub there : slice_get w.events place ≡ Some p
     pub after : IsOnWalk buffer language w (past p s) (suc place)

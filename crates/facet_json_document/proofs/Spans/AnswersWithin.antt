@@ -10,7 +10,7 @@ use Rattle.facet_format.specs.Part.{Part, skip_of, capture_of}
 use Rattle.facet_format.specs.Cursor.{Call, next, peek, events, skip, capture, save, restore, span, Answer, event, batch, skipped, raw, saved, Spot, Cursor, Comes, repeats, passes, passes_without_memory, passes_the_end, passes_nothing, peeks, peeks_without_memory, peeks_at_the_end, peeks_at_nothing, gives_none, gives, gives_up, gives_without_memory, skips, skips_without_memory, skips_nothing, captures, captures_without_memory, captures_nothing, saves, saves_at_the_limit, saves_without_memory, restores, restores_nothing, tells, repeated, an_event, at_spot, refused_at, kept_here, back_at, current_span, spot_after, unpeeked}
 use Rattle.facet_json_token.specs.Gap.{Mode}
 use Rattle.facet_json_document.specs.Language.{Language, lenient}
-use Rattle.facet_json_document.specs.InputPlace.{Reader, future_at}
+use Rattle.facet_json_document.specs.Reader.{Reader, future_at}
 use Rattle.facet_json_document.specs.Unread.{PartAt}
 use Rattle.facet_json_document.proofs.PastEvents.{comes-within}
 use Rattle.facet_json_document.proofs.Parts.PartsWithin.{parts_within}
@@ -26,7 +26,7 @@ use Rattle.facet_json_document.proofs.Spans.EventsWithin.{refused-within, span-w
 -- All that a new parser keeps lies within its input.
 pub fresh-within-in : (buffer : List ℕ) (language : Language) → NowWithin (fresh_in buffer language)
 fresh-within-in buffer language = record {
-  standing = omega arith;
+  reader = omega arith;
   kept = All-nil (λ point. ReaderWithin buffer point.1.place);
   refusal = tt;
 }
@@ -45,19 +45,19 @@ module _ (now : Now) (good : NowWithin now) where
   -- at another spot
   pub settled-within : (spot : Spot Reader) → ReaderWithin now.buffer spot.place →
       NowWithin (with_cursor now (at_spot now.cursor spot))
-  settled-within spot w = record { standing = w; kept = good.kept; refusal = good.refusal }
+  settled-within spot w = record { reader = w; kept = good.kept; refusal = good.refusal }
 
   -- at another spot, and refused
   pub refused_at-within : (spot : Spot Reader) (r : Refusal) → ReaderWithin now.buffer spot.place → RefusalWithin now.buffer r →
       NowWithin (with_cursor now (refused_at now.cursor spot r))
-  refused_at-within spot r w said = record { standing = w; kept = good.kept; refusal = said }
+  refused_at-within spot r w said = record { reader = w; kept = good.kept; refusal = said }
 
   -- with one more point
   pub kept-within : NowWithin (with_cursor now (kept_here now.cursor))
   kept-within = record {
-    standing = good.standing;
+    reader = good.reader;
     kept = with_point-holds (λ spot. ReaderWithin now.buffer spot.place) (suc now.cursor.counter) now.cursor.spot now.cursor.kept
-        good.kept good.standing;
+        good.kept good.reader;
     refusal = good.refusal;
   }
 
@@ -65,7 +65,7 @@ module _ (now : Now) (good : NowWithin now) where
   pub back-within : (point : ℕ) (spot : Spot Reader) → found point now.cursor.kept ≡ Some spot →
       NowWithin (with_cursor now (back_at now.cursor point spot))
   back-within point spot e = record {
-    standing = found-holds (λ spot. ReaderWithin now.buffer spot.place) point spot now.cursor.kept good.kept e;
+    reader = found-holds (λ spot. ReaderWithin now.buffer spot.place) point spot now.cursor.kept good.kept e;
     kept = without-holds (λ spot. ReaderWithin now.buffer spot.place) point now.cursor.kept good.kept;
     refusal = tt;
   }
@@ -74,7 +74,7 @@ module _ (now : Now) (good : NowWithin now) where
 
   -- The current span lies within the input.
   pub current-within : stop (current_span (on_input now.buffer now.language) now.cursor.spot) ≤ length now.buffer
-  current-within = span-within now.buffer now.language now.cursor.spot good.standing
+  current-within = span-within now.buffer now.language now.cursor.spot good.reader
 
   refusal_within : (r : Refusal) → now.cursor.refusal ≡ Some r → RefusalWithin now.buffer r
   refusal_within r e = subst (λ o. IfSome o (RefusalWithin now.buffer)) e good.refusal
@@ -94,7 +94,7 @@ module _ (now : Now) (good : NowWithin now) where
 
   stops_within : (r : Refusal) → RefusedAt now.buffer (future_at now.buffer now.language now.cursor.spot.place) r →
       RefusalWithin now.buffer r
-  stops_within r so = refused-within now.buffer now.language now.cursor.spot.place r good.standing so
+  stops_within r so = refused-within now.buffer now.language now.cursor.spot.place r good.reader so
 
   -- ---- parts
 
@@ -104,12 +104,12 @@ module _ (now : Now) (good : NowWithin now) where
   -- The place after a skip lies further on, and within the input.
   pub skip-behind : (part : Part Reader) (place : Reader) → PartAt now.buffer now.language here part → skip_of part ≡ Ok place →
       (stop here.last < stop place.last) × ReaderWithin now.buffer place
-  skip-behind part place stands is = (parts_within now.buffer now.language here part good.standing stands).skip place is
+  skip-behind part place stands is = (parts_within now.buffer now.language here part good.reader stands).skip place is
 
   -- So does the place after a capture.
   pub capture-behind : (part : Part Reader) (text : List ℕ) (place : Reader) → PartAt now.buffer now.language here part →
       capture_of now.buffer part ≡ Ok (text, place) → (stop here.last < stop place.last) × ReaderWithin now.buffer place
-  capture-behind part text place stands is = (parts_within now.buffer now.language here part good.standing stands).capture text place is
+  capture-behind part text place stands is = (parts_within now.buffer now.language here part good.reader stands).capture text place is
 
   -- ---- steps
 
@@ -118,7 +118,7 @@ module _ (now : Now) (good : NowWithin now) where
 
   refused_here : (r : Refusal) (answer : Answer) → RefusalWithin now.buffer r → AnswerWithin now.buffer answer →
       MovedWithin (with_cursor now (refused_at now.cursor now.cursor.spot r)) answer
-  refused_here r answer w inside = record { parser = refused_at-within now.cursor.spot r good.standing w; within = inside }
+  refused_here r answer w inside = record { parser = refused_at-within now.cursor.spot r good.reader w; within = inside }
 
   passed_here : (place : Reader) (answer : Answer) → ReaderWithin now.buffer place → AnswerWithin now.buffer answer →
       MovedWithin (with_cursor now (at_spot now.cursor (unpeeked place))) answer
@@ -128,7 +128,7 @@ module _ (now : Now) (good : NowWithin now) where
   event_comes : (p : Passed) → first_of (future_at now.buffer now.language now.cursor.spot.place) ≡ an_event p →
       (stop p.event.span ≤ length now.buffer) × (stop p.last ≤ length now.buffer)
   event_comes p e =
-      let (behind, inside, ends) = comes-within now.buffer now.language now.cursor.spot.place p _ good.standing
+      let (behind, inside, ends) = comes-within now.buffer now.language now.cursor.spot.place p _ good.reader
       (event-comes now.buffer now.language now.cursor.spot.place p e) in
       (omega (arith, inside, ends), ends)
 
@@ -136,10 +136,10 @@ module _ (now : Now) (good : NowWithin now) where
       Comes (on_input now.buffer now.language) now.cursor.spot.place given after → spot ≡ spot_after given after now.cursor.spot →
       RefusalWithin now.buffer r → MovedWithin (with_cursor now (refused_at now.cursor spot r)) (batch given (Err r))
   batch_refused given spot r after all there w =
-      let here = spot_after-within now.buffer now.language now.cursor.spot all good.standing in
+      let here = spot_after-within now.buffer now.language now.cursor.spot all good.reader in
       record {
         parser = refused_at-within spot r (rw there here) w;
-        within = ((given-within now.buffer now.language all good.standing).events, w);
+        within = ((given-within now.buffer now.language all good.reader).events, w);
       }
 
   step_within : {call : Call} {answer : Answer} (d : Cursor Reader) → StepOf now call answer d →
@@ -151,29 +151,29 @@ module _ (now : Now) (good : NowWithin now) where
   step_within d (passes_the_end none e) = unchanged _ tt
   step_within d (passes_nothing r none e so) = refused_here r _ (stops_within r so) (stops_within r so)
   step_within d (peeks p none comes) =
-      let (inside, ends) = event_comes p comes in record { parser = settled-within _ good.standing; within = inside }
+      let (inside, ends) = event_comes p comes in record { parser = settled-within _ good.reader; within = inside }
   step_within d (peeks_without_memory p none comes takes) = refused_here _ _ current-within current-within
   step_within d (peeks_at_the_end none e) = unchanged _ tt
   step_within d (peeks_at_nothing r none e so) = refused_here r _ (stops_within r so) (stops_within r so)
   step_within d gives_none = unchanged _ (no_events, tt)
   step_within d (gives k n given after none all count le over) = record {
-    parser = settled-within _ (spot_after-within now.buffer now.language now.cursor.spot all good.standing);
-    within = ((given-within now.buffer now.language all good.standing).events, tt);
+    parser = settled-within _ (spot_after-within now.buffer now.language now.cursor.spot all good.reader);
+    within = ((given-within now.buffer now.language all good.reader).events, tt);
   }
   step_within d (gives_without_memory k given after p spot none all le more there) =
-      let here = spot_after-within now.buffer now.language now.cursor.spot all good.standing in
+      let here = spot_after-within now.buffer now.language now.cursor.spot all good.reader in
       batch_refused given spot _ after all there (span-within now.buffer now.language spot (rw there here))
   step_within d (gives_up k given after r none all le stops so) =
-      let w = (given-within now.buffer now.language all good.standing).stands in
+      let w = (given-within now.buffer now.language all good.reader).stands in
       batch_refused given _ r after all refl (refused-within now.buffer now.language after r w so)
   step_within d (skips part place none stands is) = passed_here place _ (skip-behind part place stands is).1 tt
   step_within d (skips_without_memory part none stands opens) = refused_here _ _ current-within current-within
   step_within d (skips_nothing part r none stands is) =
-      let w = (parts_within now.buffer now.language here part good.standing stands).no_skip r is in refused_here r _ w w
+      let w = (parts_within now.buffer now.language here part good.reader stands).no_skip r is in refused_here r _ w w
   step_within d (captures part text place none stands is) = passed_here place _ (capture-behind part text place stands is).1 tt
   step_within d (captures_without_memory part none stands opens) = refused_here _ _ current-within current-within
   step_within d (captures_nothing part r none stands is) =
-      let w = (parts_within now.buffer now.language here part good.standing stands).no_capture r is in refused_here r _ w w
+      let w = (parts_within now.buffer now.language here part good.reader stands).no_capture r is in refused_here r _ w w
   step_within d (saves none h) = record { parser = kept-within; within = tt }
   step_within d (saves_at_the_limit none e) = unchanged _ current-within
   step_within d (saves_without_memory none h) = unchanged _ current-within

@@ -4,7 +4,7 @@ use Rattle.std.specs.Prelude.{Ok}
 use Rattle.facet_format.specs.Span.{stop}
 use Rattle.facet_format.specs.Event.{Event, Passed}
 use Rattle.facet_format.specs.Cursor.{Call, next, events, skip, capture, restore, Answer, event, batch, skipped, raw, Cursor, Comes, repeats, passes, gives_none, gives, gives_up, gives_without_memory, skips, captures, restores, an_event, spot_after}
-use Rattle.facet_json_document.specs.InputPlace.{Reader, future_at}
+use Rattle.facet_json_document.specs.Reader.{Reader, future_at}
 use Rattle.facet_json_document.proofs.PastEvents.{comes-within}
 use Rattle.facet_json_document.specs.Now.{Now, on_input, first_of, ahead, GoesOn}
 use Rattle.facet_json_document.proofs.CallsLead.{one-leads}
@@ -20,7 +20,7 @@ module _ (now : Now) (good : NowWithin now) where
   event_behind : (p : Passed) → first_of (future_at now.buffer now.language now.cursor.spot.place) ≡ an_event p →
       (stop now.cursor.spot.place.last < stop p.last) × (stop p.last ≤ length now.buffer)
   event_behind p e =
-      let (behind, inside, ends) = comes-within now.buffer now.language now.cursor.spot.place p _ good.standing
+      let (behind, inside, ends) = comes-within now.buffer now.language now.cursor.spot.place p _ good.reader
       (event-comes now.buffer now.language now.cursor.spot.place p e) in
       (behind, ends)
 
@@ -29,7 +29,7 @@ module _ (now : Now) (good : NowWithin now) where
       (length given + stop now.cursor.spot.place.last ≤ stop (spot_after given after now.cursor.spot).place.last)
       × (stop (spot_after given after now.cursor.spot).place.last ≤ length now.buffer)
   batch_behind given after all =
-      let there = given-within now.buffer now.language all good.standing in
+      let there = given-within now.buffer now.language all good.reader in
       rw (spot_after-place now.buffer now.language now.cursor.spot all) (there.further, there.stands)
 
   step_onward : {call : Call} {answer : Answer} (d : Cursor Reader) → StepOf now call answer d →

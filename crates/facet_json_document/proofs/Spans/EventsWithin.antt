@@ -12,7 +12,7 @@ use Rattle.facet_json_document.specs.Place.{Place}
 use Rattle.facet_json_document.specs.Refusal.{IsStuck, at_end, at_fault, meaningless, misplaced, Complains, of_number, of_plain_string, of_escaped_string}
 use Rattle.facet_json_document.proofs.InOrder.{InOrder, at_a_fault, at_a_token}
 use Rattle.facet_json_document.specs.Future.{Future, gives, finished, stuck}
-use Rattle.facet_json_document.specs.InputPlace.{Reader, future_at}
+use Rattle.facet_json_document.specs.Reader.{Reader, future_at}
 use Rattle.facet_json_document.proofs.PastEvents.{comes-within, stuck-in_order}
 use Rattle.facet_json_document.specs.Now.{first_of, RefusedAt, on_input}
 use Rattle.facet_json_document.specs.Within.{ReaderWithin, EventsWithin}

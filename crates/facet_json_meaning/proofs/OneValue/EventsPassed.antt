@@ -11,7 +11,7 @@ use Rattle.facet_json_token.specs.Tokens as tokens
 use Rattle.facet_json_token.proofs.TokensSteps.{tokens_from-others}
 use Rattle.facet_json_document.specs.Future.{gives, Stage, within, over, stack_after, stage_after, reads_by}
 use Rattle.facet_json_document.specs.StrictTokens.{tokens_in}
-use Rattle.facet_json_document.specs.InputPlace.{Reader, past}
+use Rattle.facet_json_document.specs.Reader.{Reader, past}
 use Rattle.facet_json_document.specs.Language.{Rules, rules}
 use Rattle.facet_json_document.specs.Place.{Place, says, says_scalar, names, place_turn, led}
 use Rattle.facet_json_document.specs.Place as turn

@@ -7,7 +7,7 @@ use Rattle.facet_format.specs.Event.{ContainerKind, object, Event, EventKind, Pa
 use Rattle.facet_format.specs.Span.{stop}
 use Rattle.facet_json_token.specs.Tokens.{next}
 use Rattle.facet_json_document.specs.Future.{Future, gives}
-use Rattle.facet_json_document.specs.InputPlace.{Reader}
+use Rattle.facet_json_document.specs.Reader.{Reader}
 use Rattle.facet_json_document.specs.Language.{rules, gaps}
 use Rattle.facet_json_document.specs.Run.{a_run, nothing}
 use Rattle.facet_json_document.proofs.Parts.TokensAfterRuns.{tokens_from-run}

@@ -8,7 +8,7 @@ use Rattle.facet_format.specs.Event as events
 use Rattle.facet_format.specs.Cursor.{Cursor, Spot, event, on_walk, event_or_end, an_event, at_spot, unpeeked, peek, Answer, Step, repeats, peeks, peeks_without_memory, peeks_at_the_end, peeks_at_nothing}
 use Rattle.facet_format.specs.Part.{Source}
 use Rattle.facet_format.specs.Kept.{found}
-use Rattle.facet_format.specs.Standing.{IsStep}
+use Rattle.facet_format.specs.Steps.{IsStep}
 use Rattle.facet_json_token.specs.Token.{Token}
 use Rattle.facet_json_document.specs.Node.{Node, scalar, Nodes, no_nodes, item}
 use Rattle.facet_json_document.specs.Node as node

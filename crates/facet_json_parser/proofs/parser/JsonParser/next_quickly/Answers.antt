@@ -1,4 +1,4 @@
--- What the standing passes at once is a move, in each language.
+-- What the lookahead passes at once is a move, in each language.
 use Rattle.std.proofs.Common.{◌∙◌, refl, sym, rules}
 use Rattle.facet_json_parser.proofs.AnswersAreMoves.{quick-answers}
 use Rattle.facet_json_parser.proofs.ParserWithin.{ready-within}
@@ -7,7 +7,7 @@ use Rattle.facet_json_parser.proofs.parser.JsonParser.next_quickly.Goals as goal
 pub returns-in-Lenient-clause-event : goal.returns-in-Lenient-clause-event
 returns-in-Lenient-clause-event c =
     let p = c.self.inside in
-    quick-answers p.input.now p.language _ p.standing c.next_quickly.new.self p.refusal p.points.items p.counter c.args.self.now
+    quick-answers p.input.now p.language _ p.lookahead c.next_quickly.new.self p.refusal p.points.items p.counter c.args.self.now
     c.next_quickly.result c.self.view_is (sym c.is_some.ensures ∙ c.if-is_some.false) c.in-Lenient.is c.next_quickly.ensures.passed
 
 pub returns-in-Lenient-clause-within : goal.returns-in-Lenient-clause-within
@@ -16,7 +16,7 @@ returns-in-Lenient-clause-within c = ready-within _ _ _ _ _ _ _ c.args.self.now 
 pub returns-in-Strict-clause-event : goal.returns-in-Strict-clause-event
 returns-in-Strict-clause-event c =
     let p = c.self.inside in
-    quick-answers p.input.now p.language _ p.standing c.next_quickly-in-Strict.new.self p.refusal p.points.items p.counter c.args.self.now
+    quick-answers p.input.now p.language _ p.lookahead c.next_quickly-in-Strict.new.self p.refusal p.points.items p.counter c.args.self.now
     c.next_quickly-in-Strict.result c.self.view_is (sym c.is_some.ensures ∙ c.if-is_some.false) c.in-Strict.is c.next_quickly-in-Strict.ensures.passed
 
 pub returns-in-Strict-clause-within : goal.returns-in-Strict-clause-within

@@ -3,7 +3,7 @@ use Rattle.std.specs.Option.{option_map}
 use Rattle.std.proofs.lemmas.Result.{err_from_is_err_and}
 use Rattle.facet_format.specs.Views.{event_of}
 use Rattle.facet_json_reader.specs.PlaceViews.{refused_of}
-use Rattle.facet_json_parser.specs.Fill.{spot_of}
+use Rattle.facet_json_parser.specs.Lookahead.{spot_of}
 use Rattle.facet_json_parser.specs.Views.{lookahead_of}
 use Rattle.facet_json_parser.proofs.EventsInBatch.{queue-answers, queue-refused, queue-repeats}
 use Rattle.facet_json_parser.proofs.ParserWithin.{ready-within, queue-refusal_within}

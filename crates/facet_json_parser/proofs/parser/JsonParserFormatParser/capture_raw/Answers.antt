@@ -3,7 +3,7 @@ use Rattle.std.proofs.lemmas.Result.{err_from_is_err_and}
 use Rattle.facet_json_reader.specs.PlaceViews.{refused_of}
 use Rattle.facet_json_document.proofs.MoveIsStep.{move-steps}
 use Rattle.facet_json_document.proofs.Spans.BytesAhead.{moves-goes_on, capture-lowers}
-use Rattle.facet_json_parser.specs.Fill.{spot_of}
+use Rattle.facet_json_parser.specs.Lookahead.{spot_of}
 use Rattle.facet_json_parser.specs.Views.{lookahead_of}
 use Rattle.facet_json_parser.proofs.ParserWithin.{ready-within, answer-within}
 use Rattle.facet_json_parser.proofs.PartsArePassed.{capture-repeats, capture-answers, capture-refused, capture-refusal_within}

@@ -5,7 +5,7 @@ use Rattle.facet_format.specs.Views.{event_of}
 use Rattle.facet_json_reader.specs.PlaceViews.{refused_of}
 use Rattle.facet_json_document.proofs.MoveIsStep.{move-steps}
 use Rattle.facet_json_document.proofs.Spans.BytesAhead.{moves-goes_on}
-use Rattle.facet_json_parser.specs.Fill.{spot_of}
+use Rattle.facet_json_parser.specs.Lookahead.{spot_of}
 use Rattle.facet_json_parser.specs.Views.{lookahead_of}
 use Rattle.facet_json_parser.proofs.AnswersAreMoves.{peek-repeats, peek-answers, peek-refused, event-shows, no-event-over}
 use Rattle.facet_json_parser.proofs.ParserWithin.{ready-within, answer-within, peek-refusal_within}

@@ -42,7 +42,7 @@ returns-in-Ok c =
     let i = c.self.inside in
     let e = c.in-Some.ensures in
     let known = ready-within _ _ _ _ _ _ _ c.args.self.now c.self.invariant.0 refl c.self.view_is in
-    let kept = ap (map kept_spot) c.in-Ok.ensures ∙ with_point-spots c.in-Some.number (lookahead_of i.standing) (map point_of i.points.items) in
+    let kept = ap (map kept_spot) c.in-Ok.ensures ∙ with_point-spots c.in-Some.number (lookahead_of i.lookahead) (map point_of i.points.items) in
     let move = save-keeps _ c.args.self.now (map kept_spot (map point_of c.keep.new.points.items)) c.in-Some.number c.self.view_is c.in_ok-unrefused.ensures
     (below-greatest i.counter e.0) (next-number i.counter c.in-Some.number e.1) kept in
     let is = moves-saved _ _ _ move in
@@ -62,6 +62,6 @@ returns-in-Err c =
     let i = c.self.inside in
     let known = ready-within _ _ _ _ _ _ _ c.args.self.now c.self.invariant.0 refl c.self.view_is in
     let told = c.span-in-Err.ensures _ _ c.self.invariant.0.stands.filled in
-    let move = save-fails _ c.args.self.now _ _ c.self.view_is (ap (λ ps. now_of i.input.now i.language i.standing i.refusal ps i.counter) c.in-Err.ensures)
+    let move = save-fails _ c.args.self.now _ _ c.self.view_is (ap (λ ps. now_of i.input.now i.language i.lookahead i.refusal ps i.counter) c.in-Err.ensures)
     c.in_ok-unrefused.ensures (below-greatest i.counter c.in-Some.ensures.0) (c.from-in-Err.ensures ∙ c.out_of_memory.ensures ∙ ap no_memory_at told) in
     record { steps = move-steps _ _ _ _ move; moves = move; within = answer-within _ _ known move; input = move.input; lowers = save-onward _ _ known move; point = tt; own_number = tt; unchanged = moves-unsaved _ _ _ move }
