@@ -1,4 +1,4 @@
--- The library's error: which kinds there are, and of each its kind_code, its error_text and its label.
+-- The library's error: which kinds there are, and of each its code, its text and its label.
 use Rattle.std.specs.Prelude.{ℕ, List, ◌++◌, Option, Some, None, Bool, codes, nat_eq, if◌then◌else◌}
 use Rattle.std.specs.Char.{encode_utf8}
 use Rattle.std.specs.List.{starts_with}
@@ -68,7 +68,7 @@ kind_code out_of_memory = codes "json::out_of_memory"
 
 -- ---- texts: the message. None is told of a debug form past ASCII, and of a writer's refusal, which shows its own
 
--- as the kind_code would spell it: `UnexpectedChar('x')`, `UnexpectedEof("in string")`, `InvalidUtf8`
+-- as the code would spell it: `UnexpectedChar('x')`, `UnexpectedEof("in string")`, `InvalidUtf8`
 abbrev pub scan_text : Scan → Option (List ℕ)
 scan_text (unexpected_char character) = debug_variant (codes "UnexpectedChar") (debug_char character)
 scan_text (unexpected_eof place) = debug_variant (codes "UnexpectedEof") (debug_str place)

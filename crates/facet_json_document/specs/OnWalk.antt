@@ -5,7 +5,7 @@ use Rattle.facet_json_document.specs.Language.{Language}
 use Rattle.facet_json_document.specs.Future.{finished, events_before}
 use Rattle.facet_json_document.specs.Reader.{Reader, future_at}
 
--- The reader is the place on the walk in the same input: the same events come, after the same token.
+-- The reader stands at the place on the walk in the same input: the same events come, after the same token.
 pub record IsOnWalk (buffer : List ℕ) (language : Language) (w : Source) (s : Reader) (place : ℕ) : Type 0 where
   pub bytes : buffer ≡ w.bytes
   pub place_within : place ≤ length w.events

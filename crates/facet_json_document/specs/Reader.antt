@@ -22,6 +22,6 @@ first_reader = record { last = span_at 0 0; stack = []; stage = within root }
 abbrev pub past : Passed → Reader → Reader
 past p s = record { last = p.last; stack = stack_after p.event.kind s.stack; stage = stage_after p.event.kind s.stack }
 
--- what is given out from the reader on
+-- what is given out from there on
 abbrev pub future_at : List ℕ → Language → Reader → Future
 future_at buffer language s = reads_by (rules language) buffer s.stack s.stage (tokens_in language buffer (stop s.last))

@@ -16,7 +16,7 @@ pub record Lookahead : Type 0 where
   -- whether a peek answered it
   pub shown : Bool
 
--- at a lookahead, where no event is held
+-- at a reader, where no event is held
 abbrev pub lookahead_at : Reader → Lookahead
 lookahead_at s = record { reader = s; held = None; shown = false }
 

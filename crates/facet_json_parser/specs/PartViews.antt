@@ -33,7 +33,7 @@ Begins place (parts.Closing s) kind = closes_container (place_turn place kind) �
 abbrev pub token_of_part : RustPart → Kind → Token
 token_of_part part kind = record { kind = kind; span = first_span_of part }
 
--- The part stands first at the lookahead: what begins with its token, at a place after separators, stands there.
+-- The part stands first at the reader: what begins with its token, at a place after separators, stands there.
 pub record IsFirst (buffer : List ℕ) (language : Language) (s : Reader) (part : RustPart) : Type 0 where
   pub place : Place
   pub kind : Kind

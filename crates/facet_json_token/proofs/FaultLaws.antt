@@ -1,4 +1,4 @@
--- The fault that `first_fault` computes is the one that `FirstFault` gives (specs/DecodeFault.antt), and a content has a text or a fault.
+-- The fault that `first_fault` computes is the one that `FirstFault` gives (specs/Fault.antt), and a content has a text or a fault.
 use Rattle.std.proofs.Common.{◌≡◌, ℕ, zero, suc, ◌+◌, ◌-◌, ◌<◌, ◌≤◌, ◌⊎◌, inl, inr, Bool, true, false, cond, ◌&&◌, List, [], ◌∷◌, ◌++◌, length, take, drop, Option, Some, None, refl, sym, ap, ◌∙◌, arith, length-append, length-drop, length-take}
 use Rattle.std.specs.Prelude.{◌==◌, nat_lt, slice_range}
 use Rattle.std.specs.Char.{encode_utf8}

@@ -1,4 +1,4 @@
--- How a reader that decodes run by run is refused: with the first fault of the content (specs/DecodeFault.antt).
+-- How a reader that decodes run by run is refused: with the first fault of the content (specs/Fault.antt).
 use Rattle.std.proofs.Common.{◌≡◌, ℕ, ◌+◌, ◌<◌, ◌≤◌, Bool, true, false, List, [], ◌∷◌, ◌++◌, length, take, drop, get_or, None, refl, sym, ap, subst, ◌∙◌, append_assoc, length-append, arith}
 use Rattle.std.specs.Prelude.{◌==◌, IsUtf8, slice_range}
 use Rattle.std.specs.Char.{encode_utf8}

@@ -1,4 +1,4 @@
--- What a refusal tells. The one file of the definitions that names types of the write_error_code.
+-- What a refusal tells. The one file of the definitions that names types of the code.
 use Rattle.std.specs.Prelude.{ℕ, List, Option, Some, None, codes}
 use Rattle.facet_json_tree.specs.declared.error.WriteError.{WriteError}
 use Rattle.facet_json_tree.specs.declared.error.WriteError.TheVariants.{Memory, Io}

@@ -1,4 +1,4 @@
--- The containers that are open, as the code holds them: the innermost by itself, and those around_innermost it, the outermost first.
+-- The containers that are open, as the code holds them: the innermost by itself, and those around it, the outermost first.
 use Rattle.std.specs.Prelude.{◌≡◌, List, [], ◌∷◌, map, reverse, Option, Some, None, Bool, false}
 use Rattle.facet_json_serializer.specs.declared.containers.Container.{Container}
 use Rattle.facet_json_serializer.specs.declared.containers.Container.TheVariants as container
@@ -8,7 +8,7 @@ abbrev pub opened_of : Container → Opened
 opened_of (container.Struct first) = in_struct first
 opened_of (container.List first) = in_list first
 
--- those around_innermost the innermost one, from the inside out
+-- those around the innermost one, from the inside out
 abbrev pub outwards : List Container → List Opened
 outwards others = reverse (map opened_of others)
 
@@ -16,7 +16,7 @@ abbrev pub all_open : Option Container → List Container → List Opened
 all_open None others = []
 all_open (Some c) others = opened_of c ∷ outwards others
 
--- nothing stands around_innermost nothing
+-- nothing stands around nothing
 abbrev pub IsPlaced : Option Container → List Container → Type 0
 IsPlaced None others = others ≡ []
 IsPlaced (Some c) others = Unit {0}
