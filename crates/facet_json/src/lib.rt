@@ -21,7 +21,7 @@ pub use facet_json_core::{Answer, Call, JsonError, JsonErrorKind, Place, Positio
 pub use facet_json_serializer::{BytesFormat, HexBytesOptions, JsonSerializeError, JsonSerializer, SerializeOptions};
 pub use facet_json_parser::JsonParser;
 pub use facet_json_reader::{MaterializedToken, TokenKind};
-pub use facet_json_tree::{Tree, WriteError, peek_to_string, peek_to_string_pretty, peek_to_string_with_options, peek_to_vec, peek_to_vec_pretty, peek_to_vec_with_options, peek_to_writer_std, peek_to_writer_std_pretty, peek_to_writer_std_with_options, read_tree, tree_from_slice, tree_from_slice_jsonc, tree_from_slice_strict, tree_from_slice_within, tree_from_slice_within_jsonc, tree_from_slice_within_strict, write_tree};
+pub use facet_json_tree::{Tree, WriteError, read_tree, tree_from_slice, tree_from_slice_jsonc, tree_from_slice_strict, tree_from_slice_within, tree_from_slice_within_jsonc, tree_from_slice_within_strict, write_tree};
 pub use fields::{Done, Fields, Maybe, Need, read_fields};
 pub use lent::{LentFields, write_fields};
 pub use facet_json_facet::Facet;

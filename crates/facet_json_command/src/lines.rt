@@ -21,7 +21,8 @@ use crate::session::Session;
 use facet_format::{ParseError, ParseEvent, ParseEventKind, SavePoint, ScalarValue, Span};
 use crate::outcome::{OUT_OF_MEMORY, Outcome};
 use facet_json_core::Answer;
-use facet_json_tree::peek_to_vec;
+use facet_json_tree::write_tree;
+use facet_json_serializer::{JsonSerializeError, JsonSerializer};
 use facet_json_tree::Tree;
 use std::alloc::Global;
 use std::borrow::CowStr;
@@ -355,8 +356,17 @@ fn text_of_tree(alloc: Global, tree: &Tree) -> Result<Vec<u8>, Outcome>
     ensures text { IfOk result (λ v. v.items ≡ tree_text default_options 0 (tree_view tree.now)) }
     ensures refused { IfErr result (λ o. o ≡ outcome.Refused 9 None) }
 {
-    match peek_to_vec(alloc, tree) {
+    match compact(alloc, tree) {
         Ok(text) => Ok(text),
         Err(_) => Err(OUT_OF_MEMORY),
     }
+}
+
+/// The compact text of a tree, or why it is not written.
+fn compact(alloc: Global, tree: &Tree) -> Result<Vec<u8>, JsonSerializeError>
+    ensures { IfOk result (λ v. v.items ≡ tree_text default_options 0 (tree_view tree.now)) }
+{
+    let mut serializer = JsonSerializer::new(alloc);
+    write_tree(&mut serializer, tree)?;
+    serializer.finish()
 }

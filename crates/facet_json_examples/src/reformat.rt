@@ -7,7 +7,7 @@ ghost use Rattle.facet_json.specs.Node.{Node};
 ghost use Rattle.facet_json.specs.Text.{default_options, text};
 ghost use Rattle.facet_json.specs.Tree.{Tree};
 
-use facet_json::{DeserializeError, JsonSerializeError, peek_to_vec, tree_from_slice};
+use facet_json::{DeserializeError, JsonSerializeError, to_vec, tree_from_slice};
 use std::alloc::Global;
 
 /// Why an input was not reformatted.
@@ -37,5 +37,5 @@ pub fn reformat<'t>(alloc: Global, input: &[u8]) -> Result<Vec<u8>, ReformatErro
         × (v.items ≡ text default_options 0 value)) }
 {
     let tree = tree_from_slice(alloc, input)?;
-    Ok(peek_to_vec(alloc, &tree)?)
+    Ok(to_vec(alloc, &tree)?)
 }

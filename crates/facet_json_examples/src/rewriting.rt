@@ -12,7 +12,7 @@ ghost use Rattle.facet_json.specs.TypedTrees.{without_plus};
 ghost use Rattle.facet_json.specs.Write.{pretty_options};
 
 use facet_json::laws::document_comes_back;
-use facet_json::{JsonError, peek_to_vec_pretty, to_vec, tree_from_slice};
+use facet_json::{JsonError, to_vec, to_vec_pretty, tree_from_slice};
 use std::alloc::Global;
 
 /// The document that the input has, written anew: of ` [1,] x` it is `[1]`. It is one document again, whose tree is the same, but that `-0` is
@@ -41,5 +41,5 @@ pub fn indented(alloc: Global, input: &[u8]) -> Result<Vec<u8>, JsonError>
 {
     document_comes_back();
     let tree = tree_from_slice(alloc, input)?;
-    Ok(peek_to_vec_pretty(alloc, &tree)?)
+    Ok(to_vec_pretty(alloc, &tree)?)
 }

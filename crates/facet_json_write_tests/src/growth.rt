@@ -6,7 +6,7 @@ use crate::trees::list_of_trees;
 use crate::writers::{FORMS, Form, is_after, sample, tabs_and_hex, text_by, write_by};
 use crate::written::{Call, make};
 use facet_json_serializer::{HexBytesOptions, SerializeOptions};
-use facet_json_tree::{WriteError, peek_to_string, peek_to_string_pretty, peek_to_string_with_options, peek_to_vec, peek_to_vec_pretty, peek_to_vec_with_options};
+use facet_json_tree::WriteError;
 use facet_json_serializer::{JsonSerializeError, JsonSerializer};
 use facet_json_tree::Tree;
 use facet_json::{to_string, to_string_pretty, to_string_with_options, to_vec, to_vec_pretty, to_vec_with_options};
@@ -200,9 +200,6 @@ fn vec_by(form: Form, alloc: Global, tree: &Tree) -> Result<Vec<u8>, JsonSeriali
         Form::Compact => to_vec(alloc, tree),
         Form::Pretty => to_vec_pretty(alloc, tree),
         Form::WithOptions => to_vec_with_options(alloc, tree, &tabs_and_hex()),
-        Form::PeekCompact => peek_to_vec(alloc, tree),
-        Form::PeekPretty => peek_to_vec_pretty(alloc, tree),
-        Form::PeekWithOptions => peek_to_vec_with_options(alloc, tree, &tabs_and_hex()),
     }
 }
 
@@ -212,9 +209,6 @@ fn string_by(form: Form, alloc: Global, tree: &Tree) -> Result<String, JsonSeria
         Form::Compact => to_string(alloc, tree),
         Form::Pretty => to_string_pretty(alloc, tree),
         Form::WithOptions => to_string_with_options(alloc, tree, &tabs_and_hex()),
-        Form::PeekCompact => peek_to_string(alloc, tree),
-        Form::PeekPretty => peek_to_string_pretty(alloc, tree),
-        Form::PeekWithOptions => peek_to_string_with_options(alloc, tree, &tabs_and_hex()),
     }
 }
 

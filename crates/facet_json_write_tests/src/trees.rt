@@ -3,7 +3,7 @@
 use crate::writers::pair;
 use facet_format::FormatSerializer;
 use facet_json_serializer::{BytesFormat, HexBytesOptions, SerializeOptions};
-use facet_json_tree::peek_to_vec_with_options;
+use facet_json::to_vec_with_options;
 use facet_json_serializer::{JsonSerializeError, JsonSerializer};
 use facet_json_tree::Tree;
 use facet_json_tree::write_tree;
@@ -42,7 +42,7 @@ fn text_of_digits(alloc: Global, format: BytesFormat) -> Result<Vec<u8>, JsonSer
         digits.push(digit)?;
     }
     let options = SerializeOptions::new().bytes_format(format);
-    peek_to_vec_with_options(alloc, &Tree::Bytes(digits), &options)
+    to_vec_with_options(alloc, &Tree::Bytes(digits), &options)
 }
 
 #[test]

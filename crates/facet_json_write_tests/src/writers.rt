@@ -1,10 +1,10 @@
-//! Texts of trees to writers that take all, a few bytes at a time, none, or fail; and the functions that look at a tree.
+//! Texts of trees to writers that take all, a few bytes at a time, none, or fail; and as bytes and as text.
 
 use facet_json_serializer::SerializeOptions;
-use facet_json_tree::{WriteError, peek_to_string, peek_to_string_pretty, peek_to_string_with_options, peek_to_vec, peek_to_vec_pretty, peek_to_vec_with_options, peek_to_writer_std, peek_to_writer_std_pretty, peek_to_writer_std_with_options};
+use facet_json_tree::WriteError;
 use facet_json_serializer::JsonSerializeError;
 use facet_json_tree::Tree;
-use facet_json::{to_writer_std, to_writer_std_pretty, to_writer_std_with_options};
+use facet_json::{to_string, to_string_pretty, to_string_with_options, to_vec, to_vec_pretty, to_vec_with_options, to_writer_std, to_writer_std_pretty, to_writer_std_with_options};
 use std::alloc::{AllocError, Global};
 use std::io;
 use std::io::{ErrorKind, Write};
@@ -43,22 +43,13 @@ pub enum Form {
     Pretty,
     /// `to_writer_std_with_options`
     WithOptions,
-    /// `peek_to_writer_std`
-    PeekCompact,
-    /// `peek_to_writer_std_pretty`
-    PeekPretty,
-    /// `peek_to_writer_std_with_options`
-    PeekWithOptions,
 }
 
 /// All of them.
-pub const FORMS: [Form; 6] = [
+pub const FORMS: [Form; 3] = [
     Form::Compact,
     Form::Pretty,
     Form::WithOptions,
-    Form::PeekCompact,
-    Form::PeekPretty,
-    Form::PeekWithOptions,
 ];
 
 /// Writes the tree by this function, in tabs and hexadecimal digits where it takes options.
@@ -72,20 +63,15 @@ pub fn write_by<W: Write>(
         Form::Compact => to_writer_std(alloc, writer, tree),
         Form::Pretty => to_writer_std_pretty(alloc, writer, tree),
         Form::WithOptions => to_writer_std_with_options(alloc, writer, tree, &tabs_and_hex()),
-        Form::PeekCompact => peek_to_writer_std(alloc, writer, tree),
-        Form::PeekPretty => peek_to_writer_std_pretty(alloc, writer, tree),
-        Form::PeekWithOptions => {
-            peek_to_writer_std_with_options(alloc, writer, tree, &tabs_and_hex())
-        }
     }
 }
 
 /// What it writes of the sample.
 pub fn text_by(form: Form) -> &'static str {
     match form {
-        Form::Compact | Form::PeekCompact => COMPACT,
-        Form::Pretty | Form::PeekPretty => PRETTY,
-        Form::WithOptions | Form::PeekWithOptions => TABS_AND_HEX,
+        Form::Compact => COMPACT,
+        Form::Pretty => PRETTY,
+        Form::WithOptions => TABS_AND_HEX,
     }
 }
 
@@ -262,23 +248,23 @@ fn is_string(answer: Result<String, JsonSerializeError>, text: &str) -> bool {
 }
 
 #[test]
-fn a_tree_is_looked_at(rt: HostRuntime) {
+fn a_tree_is_bytes_and_text(rt: HostRuntime) {
     let alloc = rt.alloc();
     let tree = sample(alloc).expect(&rt, "memory");
     let options = tabs_and_hex();
-    assert!(rt; is_vec(peek_to_vec(alloc, &tree), COMPACT));
-    assert!(rt; is_vec(peek_to_vec_pretty(alloc, &tree), PRETTY));
+    assert!(rt; is_vec(to_vec(alloc, &tree), COMPACT));
+    assert!(rt; is_vec(to_vec_pretty(alloc, &tree), PRETTY));
     assert!(rt;
         is_vec(
-            peek_to_vec_with_options(alloc, &tree, &options),
+            to_vec_with_options(alloc, &tree, &options),
             TABS_AND_HEX
         )
     );
-    assert!(rt; is_string(peek_to_string(alloc, &tree), COMPACT));
-    assert!(rt; is_string(peek_to_string_pretty(alloc, &tree), PRETTY));
+    assert!(rt; is_string(to_string(alloc, &tree), COMPACT));
+    assert!(rt; is_string(to_string_pretty(alloc, &tree), PRETTY));
     assert!(rt;
         is_string(
-            peek_to_string_with_options(alloc, &tree, &options),
+            to_string_with_options(alloc, &tree, &options),
             TABS_AND_HEX
         )
     );
