@@ -4,10 +4,9 @@ use Rattle.std.specs.Prelude.{Ok, Err, codes}
 use Rattle.facet_format.specs.Span.{span_at}
 use Rattle.std.specs.Str.{is_utf8, chars}
 use lib.Utf8.{encode}
-use Rattle.facet_format.specs.Part.{part_at}
+use Rattle.facet_format.specs.Part.{part_at, Source}
 use Rattle.facet_format.specs.Complaint.{Refusal, refusal_at, unexpected_eof, invalid_value}
 use Rattle.facet_format.specs.Event.{EventKind, Event, Passed, array, sequence_start, sequence_end, scalar, u64, holds_made}
-use Rattle.facet_format.specs.Part.{Source}
 use Rattle.facet_format.specs.Cursor.{next, peek, events, skip, capture, save, restore, span, Answer, event, batch, skipped, raw, saved, restored, spans, Spot, Cursor, start, on_walk, peeked_at, at_spot, Comes, no_event, one_event, Step, Run, no_calls, one_call, repeats, passes, passes_the_end, peeks, peeks_without_memory, peeks_at_the_end, peeks_at_nothing, gives_none, gives, skips, skips_nothing, captures, captures_nothing, saves, restores, restores_nothing, tells}
 use Rattle.facet_format.proofs.CursorSteps.{same-event}
 

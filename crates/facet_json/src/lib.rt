@@ -16,16 +16,34 @@ mod strict;
 mod writers;
 mod writing;
 
-pub use facet_format::{ContainerKind, Decimal, DeserializeError, DeserializeErrorKind, FieldKey, FieldLocationHint, FormatParser, FormatSerializer, ParseError, ParseEvent, ParseEventKind, SavePoint, ScalarValue, Span};
-pub use facet_json_core::{Answer, Call, JsonError, JsonErrorKind, Place, Position, RawJson, Report, Result, TranscodeError, drive, pass_end, position_at, transcode};
-pub use facet_json_serializer::{BytesFormat, HexBytesOptions, JsonSerializeError, JsonSerializer, SerializeOptions};
+pub use facet_format::{
+    ContainerKind, Decimal, DeserializeError, DeserializeErrorKind, FieldKey, FieldLocationHint,
+    FormatParser, FormatSerializer, ParseError, ParseEvent, ParseEventKind, SavePoint, ScalarValue,
+    Span,
+};
+pub use facet_json_core::{
+    Answer, Call, JsonError, JsonErrorKind, Place, Position, RawJson, Report, Result,
+    TranscodeError, drive, pass_end, position_at, transcode,
+};
+pub use facet_json_facet::Facet;
 pub use facet_json_parser::JsonParser;
 pub use facet_json_reader::{MaterializedToken, TokenKind};
-pub use facet_json_tree::{Tree, WriteError, read_tree, tree_from_slice, tree_from_slice_jsonc, tree_from_slice_strict, tree_from_slice_within, tree_from_slice_within_jsonc, tree_from_slice_within_strict, write_tree};
+pub use facet_json_serializer::{
+    BytesFormat, HexBytesOptions, JsonSerializeError, JsonSerializer, SerializeOptions,
+};
+pub use facet_json_tree::{
+    Tree, WriteError, read_tree, tree_from_slice, tree_from_slice_jsonc, tree_from_slice_strict,
+    tree_from_slice_within, tree_from_slice_within_jsonc, tree_from_slice_within_strict,
+    write_tree,
+};
 pub use fields::{Done, Fields, Maybe, Need, read_fields};
 pub use lent::{LentFields, write_fields};
-pub use facet_json_facet::Facet;
-pub use reading::{from_slice, from_slice_borrowed, from_slice_borrowed_jsonc, from_slice_jsonc, from_str, from_str_borrowed, from_str_borrowed_jsonc, from_str_jsonc};
+pub use reading::{
+    from_slice, from_slice_borrowed, from_slice_borrowed_jsonc, from_slice_jsonc, from_str,
+    from_str_borrowed, from_str_borrowed_jsonc, from_str_jsonc,
+};
 pub use strict::{from_slice_strict, from_str_strict};
-pub use writing::{to_string, to_string_pretty, to_string_with_options, to_vec, to_vec_pretty, to_vec_with_options};
 pub use writers::{to_writer_std, to_writer_std_pretty, to_writer_std_with_options};
+pub use writing::{
+    to_string, to_string_pretty, to_string_with_options, to_vec, to_vec_pretty, to_vec_with_options,
+};

@@ -11,9 +11,9 @@ ghost use Rattle.facet_json_document.specs.UnreadLaws.{RefusalWithin};
 ghost use Rattle.facet_json.specs.Inputs.{IsReadStrictly, IsToldOf, IsUnreadStrictly};
 
 use facet_format::DeserializeError;
+use facet_json_core::pass_end;
 use facet_json_facet::Facet;
 use facet_json_parser::JsonParser;
-use facet_json_core::pass_end;
 use std::alloc::Global;
 
 /// Reads the value of the bytes, which are one text of RFC 8259 (sections 2 to 7), with white space alone around it, and borrows nothing of

@@ -11,8 +11,7 @@ ghost use Rattle.facet_json_tree.specs.Write.{pretty_options, IsReadable};
 ghost use Rattle.facet_json.specs.Inputs.{ComesBack};
 
 use facet_json_facet::Facet;
-use facet_json_serializer::SerializeOptions;
-use facet_json_serializer::{JsonSerializeError, JsonSerializer};
+use facet_json_serializer::{JsonSerializeError, JsonSerializer, SerializeOptions};
 use std::alloc::Global;
 
 /// The compact text of a value (RFC 8259, sections 2 to 7): no white space, and each character that has no escape as its UTF-8. Where the

@@ -17,13 +17,12 @@ ghost use Rattle.facet_json_command.specs.Views.{count_of};
 ghost use Rattle.facet_json_command.specs.Run.{Prints};
 ghost use Rattle.facet_json_command.specs.Session.{Marks, outcome_of};
 
+use crate::outcome::{OUT_OF_MEMORY, Outcome};
 use crate::session::Session;
 use facet_format::{ParseError, ParseEvent, ParseEventKind, SavePoint, ScalarValue, Span};
-use crate::outcome::{OUT_OF_MEMORY, Outcome};
 use facet_json_core::Answer;
-use facet_json_tree::write_tree;
 use facet_json_serializer::{JsonSerializeError, JsonSerializer};
-use facet_json_tree::Tree;
+use facet_json_tree::{Tree, write_tree};
 use std::alloc::Global;
 use std::borrow::CowStr;
 use std::collections::VecDeque;

@@ -27,19 +27,18 @@ ghost use Rattle.facet_json_command.specs.Run.{IsDocumentIn, HasDocumentIn, layo
 ghost use Rattle.facet_json_command.specs.Outcome.{IsFailure, IsFaultOfRun};
 ghost use Rattle.facet_json_command.specs.Session.{Marks, outcome_of};
 
+use crate::arguments::{Command, command_of};
 use crate::input::Input;
 use crate::lines::{write_answer, write_event};
+use crate::outcome::{OUT_OF_MEMORY, Outcome};
 use crate::session::Session;
 use crate::tokens::{scan_all, write_scanned};
 use facet_format::FormatParser;
-use crate::arguments::{Command, command_of};
-use crate::outcome::{OUT_OF_MEMORY, Outcome};
-use facet_json_core::{Answer, Call, drive};
+use facet_json_core::{Answer, Call, TranscodeError, drive, pass_end, transcode};
 use facet_json_parser::JsonParser;
-use facet_json_serializer::{JsonSerializer, SerializeOptions};
 use facet_json_reader::Language;
+use facet_json_serializer::{JsonSerializer, SerializeOptions};
 use facet_json_token::Mode;
-use facet_json_core::{TranscodeError, pass_end, transcode};
 use std::alloc::{AllocError, Global};
 use std::io::{Read, Write};
 use std::vec::IntoIter;

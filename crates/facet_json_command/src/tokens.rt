@@ -15,10 +15,10 @@ ghost use Rattle.facet_json_command.specs.Outcome.{IsFaultOfRun, IsToldAs};
 
 use crate::input::Input;
 use crate::lines::{write_place, write_value};
+use crate::outcome::{OUT_OF_MEMORY, Outcome};
 use crate::session::Session;
 use facet_format::Span;
 use facet_format::numeral::NumberHint;
-use crate::outcome::{OUT_OF_MEMORY, Outcome};
 use facet_json_scan::{ScanReadError, Scanned, scan_reader};
 use facet_json_token::{Mode, ScanErrorKind, SpannedToken, Token};
 use std::io::{Read, Write};

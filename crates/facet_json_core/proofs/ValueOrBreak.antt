@@ -1,7 +1,6 @@
 -- From the root of an input on, whatever the rules: the events tell a value, and then comes what is behind the root; or they break off within one.
-use Rattle.std.specs.Prelude.{ℕ, List}
+use Rattle.std.specs.Prelude.{ℕ, List, is_none}
 use Rattle.std.proofs.Common.{◌≡◌, ℕ, Bool, true, false, cond, ◌&&◌, List, [], ◌∷◌, Option, Some, None, refl, sym, ap, ap₂, ◌∙◌, subst}
-use Rattle.std.specs.Prelude.{is_none}
 use Rattle.facet_format.specs.Event.{ContainerKind, object, array, struct_start, struct_end, sequence_start, sequence_end, Passed}
 use Rattle.facet_json_token.specs.Token.{Kind, Token}
 use Rattle.facet_json_token.specs.Token as token

@@ -19,17 +19,19 @@ mod text;
 mod transcode_error;
 mod value;
 
-pub use raw::RawJson;
 pub use error::{JsonError, Result};
-pub use kind::JsonErrorKind;
-pub use line::{Position, position_at};
-pub use place::Place;
-pub use report::Report;
 pub use facet_format::{FormatParser, FormatSerializer};
 pub use facet_json_parser::JsonParser;
 pub use facet_json_reader::{MaterializedToken, TokenKind};
-pub use facet_json_serializer::{BytesFormat, HexBytesOptions, JsonSerializeError, JsonSerializer, SerializeOptions};
+pub use facet_json_serializer::{
+    BytesFormat, HexBytesOptions, JsonSerializeError, JsonSerializer, SerializeOptions,
+};
+pub use kind::JsonErrorKind;
+pub use line::{Position, position_at};
 pub use next::{ended, mismatch, next_of_value, pass_end};
+pub use place::Place;
+pub use raw::RawJson;
+pub use report::Report;
+pub use script::{Answer, Call, drive};
 pub use transcode_error::TranscodeError;
 pub use value::transcode;
-pub use script::{Answer, Call, drive};

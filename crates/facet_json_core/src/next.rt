@@ -13,7 +13,10 @@ ghost use Rattle.facet_json_document.specs.UnreadLaws.{RefusalWithin};
 ghost use Rattle.facet_json_core.specs.Reading.{GivesNone};
 ghost use Rattle.facet_json_core.specs.Refusing.{mismatch_of, name_of_event, name_of_scalar, no_value_after, TellsRefusal};
 
-use facet_format::{DeserializeError, DeserializeErrorKind, FormatParser, ParseEvent, ParseEventKind, ScalarValue, Span};
+use facet_format::{
+    DeserializeError, DeserializeErrorKind, FormatParser, ParseEvent, ParseEventKind, ScalarValue,
+    Span,
+};
 use facet_json_parser::JsonParser;
 
 /// The next event, where a value has not ended.

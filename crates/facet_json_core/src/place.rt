@@ -6,7 +6,9 @@ ghost use Rattle.facet_format.specs.Views.{span_of};
 ghost use Rattle.facet_json_core.specs.Line.{begun_line, rest_of_line};
 ghost use Rattle.facet_json_core.specs.Report.{blank, marked, place_text};
 
-use crate::line::{Position, begins_character, characters, line_len, line_start, position_at, split};
+use crate::line::{
+    Position, begins_character, characters, line_len, line_start, position_at, split,
+};
 use facet_format::Span;
 use std::fmt;
 

@@ -7,9 +7,8 @@ ghost use Rattle.facet_json_core.specs.declared.kind.JsonErrorKind.TheVariants.{
 use crate::error::JsonError;
 use crate::kind::JsonErrorKind;
 use facet_format::{DeserializeError, ParseError};
-use facet_json_token::DecodeError;
 use facet_json_serializer::JsonSerializeError;
-use facet_json_token::ScanError;
+use facet_json_token::{DecodeError, ScanError};
 use std::alloc::{AllocError, AllocFailed};
 
 /// How reading was refused, whole.

@@ -6,8 +6,8 @@ ghost use Rattle.facet_json_core.specs.ErrorKind.{error_text};
 ghost use Rattle.facet_json_core.specs.ErrorViews.{error_kind_of};
 ghost use Rattle.facet_json_core.specs.Report.{report_text};
 
-use crate::place::Place;
 use crate::error::JsonError;
+use crate::place::Place;
 use std::fmt;
 
 /// An error with the source that its span is of. Displayed, it is the error's message, and then the place: its line and column,

@@ -4,8 +4,8 @@ ghost use Rattle.std.specs.Prelude.{◌≡◌};
 ghost use Rattle.facet_json_core.specs.TranscodeViews.{error_of};
 ghost use Rattle.facet_json_core.specs.declared.transcode_error.TranscodeError.TheVariants.{Read, Write};
 
-use facet_format::DeserializeError;
 use crate::error::JsonError;
+use facet_format::DeserializeError;
 use facet_json_serializer::JsonSerializeError;
 
 /// Why a value was not passed from a parser to a serializer: which of the two refused.

@@ -22,8 +22,8 @@ ghost use Rattle.facet_json_core.specs.Told.{begins};
 ghost use Rattle.facet_json_core.specs.Transcode.{serializer_call_of, containers_after as spec_depth_after, IsWritten, BeginsNone};
 ghost use Rattle.facet_json_core.specs.TranscodeViews.{IsUnwritten, TranscodeLacksMemory, IsTranscodeRefused, ErrorWithin, IsMisplaced, TellsError};
 
-use crate::transcode_error::TranscodeError;
 use crate::next::{mismatch, next_of_value};
+use crate::transcode_error::TranscodeError;
 use facet_format::{DeserializeError, FormatSerializer, ParseEvent, ParseEventKind};
 use facet_json_parser::JsonParser;
 use facet_json_serializer::{JsonSerializeError, JsonSerializer};

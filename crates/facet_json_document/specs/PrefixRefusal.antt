@@ -4,8 +4,7 @@ use Rattle.facet_format.specs.Complaint.{Refusal}
 use Rattle.facet_format.specs.Event.{Passed}
 use Rattle.facet_json_token.specs.Gap.{Mode}
 use Rattle.facet_json_document.specs.Begun.{RefusesAfter}
-pub use Rattle.facet_json_document.specs.Refusal.{is_number_kind, needs_meaning, IsStuck, at_end, at_fault, meaningless, misplaced}
-pub use Rattle.facet_json_document.specs.Refusal.{number_complaint, Complains, of_number, of_plain_string, of_escaped_string}
+pub use Rattle.facet_json_document.specs.Refusal.{is_number_kind, needs_meaning, IsStuck, at_end, at_fault, meaningless, misplaced, number_complaint, Complains, of_number, of_plain_string, of_escaped_string}
 
 -- The input is refused so in the mode.
 pub record Refuses (buffer : List ℕ) (mode : Mode) (refusal : Refusal) : Type 0 where

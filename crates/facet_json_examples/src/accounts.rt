@@ -3,10 +3,10 @@
 #![tactic(auto)]
 
 use facet_format::DeserializeError;
-use facet_json_parser::JsonParser;
 use facet_json::{Done, Maybe, Need, read_fields, write_fields};
-use facet_json_serializer::{JsonSerializeError, JsonSerializer};
 use facet_json_facet::Facet;
+use facet_json_parser::JsonParser;
+use facet_json_serializer::{JsonSerializeError, JsonSerializer};
 use std::alloc::Global;
 
 /// An account, as `{"id":7,"name":"Ann","email":"a@b.example","active":true,"age":40,"score":-3,"visits":12,"tags":["new"]}`.

@@ -18,4 +18,3 @@ pub mod transcoding;
 pub mod trees;
 pub mod typed;
 pub mod writing;
-

@@ -3,7 +3,9 @@
 ghost use Rattle.std.specs.Prelude.{◌≤◌, ◌<◌, IfOk, OnSome};
 ghost use Rattle.facet_json.specs.Now.{ahead};
 
-use facet_json::{FormatParser, JsonParser, ParseError, ParseEvent, ParseEventKind, RawJson, ScalarValue};
+use facet_json::{
+    FormatParser, JsonParser, ParseError, ParseEvent, ParseEventKind, RawJson, ScalarValue,
+};
 use std::alloc::Global;
 use std::borrow::CowStr;
 

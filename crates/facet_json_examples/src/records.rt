@@ -6,7 +6,10 @@ ghost use Rattle.facet_json.specs.Gap.{plain};
 ghost use Rattle.facet_json_examples.specs.Records.{person};
 ghost use Rattle.facet_json.specs.Inputs.{IsReadFrom, IsUnreadFrom};
 
-use facet_json::{DeserializeError, Done, Facet, JsonParser, JsonSerializeError, JsonSerializer, Maybe, Need, RawJson, from_slice, from_slice_borrowed, read_fields, write_fields};
+use facet_json::{
+    DeserializeError, Done, Facet, JsonParser, JsonSerializeError, JsonSerializer, Maybe, Need,
+    RawJson, from_slice, from_slice_borrowed, read_fields, write_fields,
+};
 use std::alloc::Global;
 
 /// A person, as `{"name":"Alice","age":30}`.

@@ -1,6 +1,8 @@
 //! Tokens one by one, and what strings and numbers stand for.
 
-use facet_json::scanner::{DecodeError, ParsedNumber, ScanError, Scanner, Token, decode_string, parse_number};
+use facet_json::scanner::{
+    DecodeError, ParsedNumber, ScanError, Scanner, Token, decode_string, parse_number,
+};
 use std::alloc::Global;
 use std::borrow::CowStr;
 

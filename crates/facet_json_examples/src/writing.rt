@@ -4,7 +4,10 @@ ghost use Rattle.std.specs.Prelude.{[], ◌∷◌, IfOk};
 ghost use Rattle.facet_json.specs.Event.{u64};
 ghost use Rattle.facet_json.specs.SerializerCall.{begin_seq, end_seq, scalar, TakesAll};
 
-use facet_json::{FormatSerializer, HexBytesOptions, JsonSerializeError, JsonSerializer, ScalarValue, SerializeOptions};
+use facet_json::{
+    FormatSerializer, HexBytesOptions, JsonSerializeError, JsonSerializer, ScalarValue,
+    SerializeOptions,
+};
 use std::alloc::Global;
 
 /// A message, as `{"id":7,"sent":"0x00ff"}`. Of more than 64 bytes only some at either end stand in it.

@@ -12,11 +12,11 @@ ghost use Rattle.facet_json_meaning.specs.OneValue.{PassesValue};
 ghost use Rattle.facet_json_meaning.specs.Reading.{IsRead, IsUnread};
 
 use crate::facet::Facet;
+use crate::steps::lists::{begin_list, end_comes};
+use crate::steps::next::next_of_value;
 use facet_format::{DeserializeError, FormatSerializer};
 use facet_json_parser::JsonParser;
 use facet_json_serializer::{JsonSerializeError, JsonSerializer};
-use crate::steps::lists::{begin_list, end_comes};
-use crate::steps::next::next_of_value;
 use std::alloc::Global;
 
 /// A list (RFC 8259, section 5): an array, each of whose elements is read as a `T`, in order. Only `read` borrows of the input, where

@@ -7,10 +7,10 @@ ghost use Rattle.facet_format.specs.Complaint.{no_memory};
 ghost use Rattle.facet_format.specs.Views.{refusal_of};
 
 use crate::facet::Facet;
+use crate::steps::objects::{begin_object, next_key};
 use facet_format::{DeserializeError, FormatSerializer};
 use facet_json_parser::JsonParser;
 use facet_json_serializer::{JsonSerializeError, JsonSerializer};
-use crate::steps::objects::{begin_object, next_key};
 use std::alloc::Global;
 use std::collections::BTreeMap;
 

@@ -1,10 +1,10 @@
 //! Values that may be null: `Option`.
 
 use crate::facet::Facet;
+use crate::steps::next::{null_comes, pass_null};
 use facet_format::{DeserializeError, FormatSerializer, ScalarValue};
 use facet_json_parser::JsonParser;
 use facet_json_serializer::{JsonSerializeError, JsonSerializer};
-use crate::steps::next::{null_comes, pass_null};
 use std::alloc::Global;
 
 /// A value that may be null (RFC 8259, section 3): `null` is `None`, and every other value is read as a `T`.

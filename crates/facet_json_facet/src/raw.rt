@@ -14,8 +14,8 @@ ghost use Rattle.facet_json_meaning.specs.Readings.{raw_of};
 
 use crate::facet::Facet;
 use facet_format::{DeserializeError, FormatParser, FormatSerializer};
-use facet_json_parser::JsonParser;
 use facet_json_core::RawJson;
+use facet_json_parser::JsonParser;
 use facet_json_serializer::{JsonSerializeError, JsonSerializer};
 use std::alloc::Global;
 

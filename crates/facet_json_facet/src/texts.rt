@@ -8,11 +8,14 @@ ghost use Rattle.facet_json_meaning.specs.Borrowed.{lent, made_text, IsNotLent};
 ghost use Rattle.facet_json_meaning.specs.Readings.{taken, text_of_tree};
 
 use crate::facet::Facet;
-use facet_format::{DeserializeError, DeserializeErrorKind, FormatSerializer, ParseEvent, ParseEventKind, ScalarValue, Span};
+use crate::steps::next::next_of_value;
+use facet_format::{
+    DeserializeError, DeserializeErrorKind, FormatSerializer, ParseEvent, ParseEventKind,
+    ScalarValue, Span,
+};
+use facet_json_core::mismatch;
 use facet_json_parser::JsonParser;
 use facet_json_serializer::{JsonSerializeError, JsonSerializer};
-use facet_json_core::mismatch;
-use crate::steps::next::next_of_value;
 use std::alloc::Global;
 use std::borrow::CowStr;
 

@@ -3,10 +3,8 @@
 use crate::facet::Facet;
 use facet_format::DeserializeError;
 use facet_json_parser::JsonParser;
-use facet_json_tree::read_tree;
 use facet_json_serializer::{JsonSerializeError, JsonSerializer};
-use facet_json_tree::Tree;
-use facet_json_tree::write_tree;
+use facet_json_tree::{Tree, read_tree, write_tree};
 use std::alloc::Global;
 
 /// Any value (RFC 8259, section 3), as the tree that it stands for. Nothing of the input is borrowed.

@@ -6,11 +6,11 @@ ghost use Rattle.facet_json_core.specs.Refusing.{mismatch_of};
 ghost use Rattle.facet_json_meaning.specs.Readings.{bool_of, taken};
 
 use crate::facet::Facet;
+use crate::steps::next::next_of_value;
 use facet_format::{DeserializeError, FormatSerializer, ParseEvent, ParseEventKind, ScalarValue};
+use facet_json_core::mismatch;
 use facet_json_parser::JsonParser;
 use facet_json_serializer::{JsonSerializeError, JsonSerializer};
-use facet_json_core::mismatch;
-use crate::steps::next::next_of_value;
 use std::alloc::Global;
 
 impl<'de> Facet<'de> for bool {

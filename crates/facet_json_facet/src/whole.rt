@@ -12,10 +12,12 @@ ghost use Rattle.facet_json_meaning.specs.OneValue.{PassesValue};
 ghost use Rattle.facet_json_meaning.specs.Reading.{IsRead, IsUnread, HasDocument, EndsStrictly};
 ghost use Rattle.facet_json_meaning.specs.Readings.{leaf, taken, whole_of};
 
-use facet_format::{DeserializeError, DeserializeErrorKind, ParseEvent, ParseEventKind, ScalarValue, Span};
-use facet_json_parser::JsonParser;
-use facet_json_core::mismatch;
 use crate::steps::next::next_of_value;
+use facet_format::{
+    DeserializeError, DeserializeErrorKind, ParseEvent, ParseEventKind, ScalarValue, Span,
+};
+use facet_json_core::mismatch;
+use facet_json_parser::JsonParser;
 
 /// A whole number, and the bytes of the input that it stands in.
 #[derive(Debug, Clone, Copy)]

@@ -7,12 +7,12 @@ ghost use Rattle.facet_json_core.specs.Refusing.{mismatch_of};
 ghost use Rattle.facet_json_meaning.specs.Readings.{taken, u128_of, i128_of, unsigned_text, signed_text};
 
 use crate::facet::Facet;
+use crate::steps::next::next_of_value;
 use crate::whole::out_of_range;
 use facet_format::{DeserializeError, FormatSerializer, ParseEvent, ParseEventKind, ScalarValue};
+use facet_json_core::mismatch;
 use facet_json_parser::JsonParser;
 use facet_json_serializer::{JsonSerializeError, JsonSerializer};
-use facet_json_core::mismatch;
-use crate::steps::next::next_of_value;
 use std::alloc::Global;
 
 impl<'de> Facet<'de> for u128 {

@@ -2,10 +2,9 @@
 //! no number, and each is refused as the parser refuses it.
 
 use facet_format::{DeserializeError, DeserializeErrorKind, Span};
-use facet_json_parser::JsonParser;
-use facet_json::{Done, Need, read_fields};
+use facet_json::{Done, Need, from_slice, from_slice_borrowed, read_fields};
 use facet_json_facet::Facet;
-use facet_json::{from_slice, from_slice_borrowed};
+use facet_json_parser::JsonParser;
 use std::alloc::Global;
 use std::collections::BTreeMap;
 

@@ -1,9 +1,12 @@
 //! The entry functions, each once with ample memory, and texts that the input lends.
 
 use facet_format::{DeserializeError, DeserializeErrorKind, Span};
-use facet_json_serializer::SerializeOptions;
-use facet_json_serializer::JsonSerializeError;
-use facet_json::{from_slice, from_slice_borrowed, from_slice_borrowed_jsonc, from_slice_jsonc, from_str, from_str_borrowed, from_str_borrowed_jsonc, from_str_jsonc, to_string, to_string_pretty, to_string_with_options, to_vec, to_vec_pretty, to_vec_with_options};
+use facet_json::{
+    from_slice, from_slice_borrowed, from_slice_borrowed_jsonc, from_slice_jsonc, from_str,
+    from_str_borrowed, from_str_borrowed_jsonc, from_str_jsonc, to_string, to_string_pretty,
+    to_string_with_options, to_vec, to_vec_pretty, to_vec_with_options,
+};
+use facet_json_serializer::{JsonSerializeError, SerializeOptions};
 use std::alloc::Global;
 use std::collections::BTreeMap;
 

@@ -1,8 +1,8 @@
 //! Structs: read, written, and read again.
 
 use facet_format::{DeserializeErrorKind, Span};
-use facet_json_examples::records::{Config, Person, Retry, person_in, raw_response};
 use facet_json::{from_slice, to_vec};
+use facet_json_examples::records::{Config, Person, Retry, person_in, raw_response};
 use std::alloc::Global;
 
 /// Whether the input is a person of this name and age.

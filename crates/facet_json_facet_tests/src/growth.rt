@@ -2,15 +2,20 @@
 //! of their requests for memory, which is refused, and they have to pass in every such run. Each row is tried twice, its set-up too: as
 //! one request is refused in a run, memory runs out in one of the two at most, and the other gives the whole answer.
 
-use facet_format::{DeserializeError, DeserializeErrorKind, FormatParser, ParseError, ParseEvent, Span};
-use facet_json_examples::accounts::Account;
-use facet_json_parser::JsonParser;
+use facet_format::{
+    DeserializeError, DeserializeErrorKind, FormatParser, ParseError, ParseEvent, Span,
+};
+use facet_json::{
+    Done, Need, from_slice, from_slice_borrowed, from_slice_borrowed_jsonc, from_slice_jsonc,
+    from_slice_strict, from_str, from_str_borrowed, from_str_borrowed_jsonc, from_str_jsonc,
+    from_str_strict, read_fields, to_vec, write_fields,
+};
 use facet_json_core::RawJson;
-use facet_json::{Done, Need, read_fields, write_fields};
+use facet_json_examples::accounts::Account;
+use facet_json_facet::Facet;
+use facet_json_parser::JsonParser;
 use facet_json_serializer::{JsonSerializeError, JsonSerializer};
 use facet_json_tree::Tree;
-use facet_json_facet::Facet;
-use facet_json::{from_slice, from_slice_borrowed, from_slice_borrowed_jsonc, from_slice_jsonc, from_slice_strict, from_str, from_str_borrowed, from_str_borrowed_jsonc, from_str_jsonc, from_str_strict, to_vec};
 use std::alloc::Global;
 use std::collections::BTreeMap;
 use std::process::Abort;

@@ -2,11 +2,10 @@
 
 use crate::typed::{refuses, writes};
 use facet_format::{DeserializeError, DeserializeErrorKind, Span};
-use facet_json_parser::JsonParser;
-use facet_json::{Done, Need, read_fields, write_fields};
-use facet_json_serializer::{JsonSerializeError, JsonSerializer};
+use facet_json::{Done, Need, from_str_borrowed, read_fields, write_fields};
 use facet_json_facet::Facet;
-use facet_json::from_str_borrowed;
+use facet_json_parser::JsonParser;
+use facet_json_serializer::{JsonSerializeError, JsonSerializer};
 use std::alloc::Global;
 
 /// A person, as `{"name":"Alice","age":30}`.

@@ -44,4 +44,3 @@ mod trees;
 mod typed;
 #[cfg(test)]
 mod wide;
-

@@ -8,9 +8,9 @@ ghost use Rattle.facet_json_core.specs.Refusing.{IsAbout};
 
 use crate::typed::{is_itself, out_of_range, refuses};
 use facet_format::{DeserializeError, DeserializeErrorKind, FormatParser, Span};
+use facet_json_facet::Facet;
 use facet_json_parser::JsonParser;
 use facet_json_serializer::{JsonSerializeError, JsonSerializer};
-use facet_json_facet::Facet;
 use std::alloc::Global;
 
 /// A value with a name of its own, which is read and written as the value is.

@@ -2,9 +2,9 @@
 
 use crate::typed::{is_itself, reads, refuses};
 use facet_format::{DeserializeError, DeserializeErrorKind, FormatParser, Span};
-use facet_json_parser::JsonParser;
 use facet_json_core::RawJson;
 use facet_json_facet::Facet;
+use facet_json_parser::JsonParser;
 use std::alloc::Global;
 use std::borrow::CowStr;
 

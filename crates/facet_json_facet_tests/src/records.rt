@@ -1,11 +1,11 @@
 //! Structs: they are read from objects by a table of their fields, and written call by call.
 
 use facet_format::{DeserializeError, DeserializeErrorKind, FormatSerializer, Span};
-use facet_json_parser::JsonParser;
-use facet_json_core::RawJson;
 use facet_json::{Done, Need, read_fields};
-use facet_json_serializer::{JsonSerializeError, JsonSerializer};
+use facet_json_core::RawJson;
 use facet_json_facet::Facet;
+use facet_json_parser::JsonParser;
+use facet_json_serializer::{JsonSerializeError, JsonSerializer};
 use std::alloc::Global;
 
 /// A person, as `{"name":"Alice","age":30}`. The name may be borrowed.

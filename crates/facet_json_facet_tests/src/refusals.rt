@@ -2,9 +2,9 @@
 
 use crate::typed::mismatch;
 use facet_format::{DeserializeError, DeserializeErrorKind, FormatParser, Span};
+use facet_json_facet::Facet;
 use facet_json_parser::JsonParser;
 use facet_json_tree::Tree;
-use facet_json_facet::Facet;
 use std::alloc::Global;
 use std::collections::BTreeMap;
 

@@ -2,9 +2,9 @@
 
 use crate::typed::{mismatch, out_of_range};
 use facet_format::{DeserializeError, DeserializeErrorKind, Span};
+use facet_json::{from_slice, from_slice_strict, from_str_strict};
 use facet_json_core::RawJson;
 use facet_json_facet::Facet;
-use facet_json::{from_slice, from_slice_strict, from_str_strict};
 use std::alloc::Global;
 
 /// Whether the answer is this refusal.

@@ -3,10 +3,14 @@
 
 use crate::refusals::is_told;
 use facet_format::{DeserializeError, DeserializeErrorKind, Span};
-use facet_json_examples::accounts::Account;
+use facet_json::{
+    from_slice, from_slice_borrowed, from_slice_borrowed_jsonc, from_slice_jsonc,
+    from_slice_strict, from_str, from_str_borrowed, from_str_borrowed_jsonc, from_str_jsonc,
+    from_str_strict,
+};
 use facet_json_core::RawJson;
+use facet_json_examples::accounts::Account;
 use facet_json_facet::Facet;
-use facet_json::{from_slice, from_slice_borrowed, from_slice_borrowed_jsonc, from_slice_jsonc, from_slice_strict, from_str, from_str_borrowed, from_str_borrowed_jsonc, from_str_jsonc, from_str_strict};
 use std::alloc::Global;
 use std::collections::BTreeMap;
 

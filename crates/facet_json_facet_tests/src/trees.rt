@@ -1,8 +1,8 @@
 //! Trees, by themselves and within other types.
 
 use crate::typed::{is_itself, reads};
-use facet_json_tree::Tree;
 use facet_json::from_slice;
+use facet_json_tree::Tree;
 use std::alloc::{AllocError, Global};
 use std::collections::BTreeMap;
 

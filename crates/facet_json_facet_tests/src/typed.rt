@@ -1,8 +1,8 @@
 //! What a type reads of an input, how it refuses one, and what it writes.
 
 use facet_format::{DeserializeError, DeserializeErrorKind, Span};
-use facet_json_facet::Facet;
 use facet_json::{from_slice, from_slice_borrowed, to_vec};
+use facet_json_facet::Facet;
 use std::alloc::Global;
 
 /// Whether this value was read.

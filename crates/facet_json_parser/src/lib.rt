@@ -2,13 +2,13 @@
 //! `FormatParser`. Values that are skipped or captured are passed by their brackets alone, and nothing of them is decoded.
 #![tactic(auto)]
 
+mod lookahead;
 mod parser;
 mod part;
 mod passing;
 mod points;
 mod quiet;
 mod run;
-mod lookahead;
 
 pub use parser::JsonParser;
 pub use run::pass_run;

@@ -1,7 +1,6 @@
 //! Where a parser stands: after the last token that was passed, with an event that is read but not passed.
 
-ghost use Rattle.std.specs.Prelude.{◌≡◌, ◌≤◌, ℕ, List, None, length, IfOk, IfErr, OnOk, MatchOption, MatchResult};
-ghost use Rattle.std.specs.Prelude.{Ok, Err, Some, OnSome, IsUtf8, ◌<◌};
+ghost use Rattle.std.specs.Prelude.{◌≡◌, ◌≤◌, ℕ, List, None, length, IfOk, IfErr, OnOk, MatchOption, MatchResult, Ok, Err, Some, OnSome, IsUtf8, ◌<◌};
 ghost use Rattle.std.specs.Option.{option_map};
 ghost use Rattle.std.specs.VecDeque.{deque_len, deque_capacity};
 ghost use Rattle.facet_json_parser.specs.Ready.{IsSound};
@@ -19,11 +18,10 @@ ghost use Rattle.facet_json_parser.specs.PartViews.{after_part};
 ghost use Rattle.facet_json_parser.specs.Lookahead.{lookahead_at, lookahead_with, first_lookahead, reader_before, spot_of, HoldsWhatComes, TakesHeld, Lends, Withholds};
 ghost use Rattle.facet_json_parser.specs.Views.{lookahead_of};
 
-use facet_format::{ParseEvent, ParseEventKind, Span};
-use facet_json_reader::{Language, Refused};
-use facet_json_reader::{Held, Reader, Trust};
 use crate::part::{Part, find};
 use crate::passing::{capture, leave, pass};
+use facet_format::{ParseEvent, ParseEventKind, Span};
+use facet_json_reader::{Held, Language, Reader, Refused, Trust};
 use std::alloc::{AllocError, Global};
 use std::collections::VecDeque;
 

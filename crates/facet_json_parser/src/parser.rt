@@ -19,11 +19,10 @@ ghost use Rattle.facet_json_document.specs.UnreadLaws.{RefusalWithin};
 ghost use Rattle.facet_json_document.specs.Within.{NowWithin, AnswerWithin};
 ghost use Rattle.facet_json_parser.specs.Steps.{QueuesNow};
 
-use facet_format::{FormatParser, ParseError, ParseEvent, SavePoint, Span};
-use facet_json_reader::{Language, Refused};
-use facet_json_reader::Trust;
-use crate::points::{Point, bring_back, keep};
 use crate::lookahead::Lookahead;
+use crate::points::{Point, bring_back, keep};
+use facet_format::{FormatParser, ParseError, ParseEvent, SavePoint, Span};
+use facet_json_reader::{Language, Refused, Trust};
 use facet_json_token::Mode;
 use std::alloc::Global;
 use std::collections::VecDeque;
@@ -394,7 +393,10 @@ impl<'de> FormatParser<'de> for JsonParser<'de> {
         ensures given { IfOk result IsSome }
     {
         self.unrefused()?;
-        match self.lookahead.capture(self.alloc, self.input, self.language) {
+        match self
+            .lookahead
+            .capture(self.alloc, self.input, self.language)
+        {
             Ok(text) => Ok(Some(text)),
             Err(refused) => Err(self.refuse(refused)),
         }

@@ -16,8 +16,7 @@ ghost use Rattle.facet_json_reader.specs.Views.{reader_of};
 ghost use Rattle.facet_json_parser.specs.PartViews.{first_span_of, IsFirst};
 
 use facet_format::Span;
-use facet_json_reader::{Expected, Language, Name, Place, Refused, Turn, Why};
-use facet_json_reader::{Reader, Stage};
+use facet_json_reader::{Expected, Language, Name, Place, Reader, Refused, Stage, Turn, Why};
 use facet_json_token::{SpannedToken, Token, cut};
 
 /// What stands first, by its first token.

@@ -16,10 +16,9 @@ ghost use Rattle.facet_json_reader.specs.Views.{reader_of};
 ghost use Rattle.facet_json_parser.specs.PartViews.{first_span_of, after_part, IsFirst, Skips, Captures};
 
 use crate::part::{Part, misplaced};
-use facet_format::Span;
-use facet_json_reader::{Expected, Name, NoRaw, Place, Refused, Why};
-use facet_json_reader::{Reader, Stage};
 use crate::run::pass_run;
+use facet_format::Span;
+use facet_json_reader::{Expected, Name, NoRaw, Place, Reader, Refused, Stage, Why};
 use facet_json_token::{Mode, SpannedToken, Token, cut};
 use std::alloc::Global;
 

@@ -11,8 +11,9 @@ ghost use Rattle.facet_json_document.specs.StrictTokens.{cut_in};
 ghost use Rattle.facet_json_reader.specs.PlaceViews.{language_of, least_of, place_of, HasSlices, IsJudged};
 
 use crate::place::Place;
-use facet_json_token::{check_number_strict, check_string_strict};
-use facet_json_token::{Mode, ScanError, ScanResult, SpannedToken, Token, cut};
+use facet_json_token::{
+    Mode, ScanError, ScanResult, SpannedToken, Token, check_number_strict, check_string_strict, cut,
+};
 
 /// What a parser takes as a document. What may stand between its tokens is the scanner's mode.
 #[derive(Debug, Clone, Copy, PartialEq, Eq)]

@@ -17,10 +17,10 @@ mod window;
 
 pub use contexts::Contexts;
 pub use language::Language;
-pub use place::{Place, Turn};
-pub use refusal::{Expected, Inside, Name, NoRaw, Refused, Why};
-pub use number::{short_number, short_number_strict};
-pub use text::{checked_text_at, quoted_text_at};
 pub use materialized::{MaterializedToken, TokenKind};
+pub use number::{short_number, short_number_strict};
+pub use place::{Place, Turn};
 pub use quick::Trust;
 pub use reader::{Held, Reader, Stage};
+pub use refusal::{Expected, Inside, Name, NoRaw, Refused, Why};
+pub use text::{checked_text_at, quoted_text_at};

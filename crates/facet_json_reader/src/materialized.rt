@@ -13,11 +13,12 @@ ghost use Rattle.facet_json_document.specs.Walk.{scalar_of};
 ghost use Rattle.facet_json_reader.specs.PlaceViews.{refused_of, name_text};
 ghost use Rattle.facet_json_reader.specs.TokenViews.{number_in, holds_made_text, CanBeRead, IsContent, IsReadAs, IsReadOrUnmade, IsTextOf, IsUnmade, IsMeaningless};
 
-use facet_format::{Decimal, ScalarValue, Span};
-use facet_json_token::{DecodeError, check_content, decode_string_owned, plain_text};
-use facet_json_token::{ParsedNumber, parse_measured};
 use crate::refusal::{Name, Refused, Why};
-use facet_json_token::{SpannedToken, Token};
+use facet_format::{Decimal, ScalarValue, Span};
+use facet_json_token::{
+    DecodeError, ParsedNumber, SpannedToken, Token, check_content, decode_string_owned,
+    parse_measured, plain_text,
+};
 use std::alloc::{AllocError, Global};
 use std::borrow::CowStr;
 

@@ -15,8 +15,7 @@ ghost use Rattle.facet_json_reader.specs.Values.{IsScalarThere};
 use crate::whole::whole_number;
 use facet_format::ScalarValue;
 use facet_format::numeral::{Parts, parts_at};
-use facet_json_token::{ParsedNumber, parse_measured};
-use facet_json_token::has_rfc_parts;
+use facet_json_token::{ParsedNumber, has_rfc_parts, parse_measured};
 
 /// The length and the value of the number at `at`, of which this is the first byte, where it takes no memory.
 #[inline(always)]

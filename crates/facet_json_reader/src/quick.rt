@@ -18,12 +18,14 @@ ghost use Rattle.facet_json_reader.specs.Values.{AreUnescaped, IsPlainText};
 ghost use Rattle.facet_json_reader.specs.Quick.{MayBeKey, MayBeValue, Reaches, IsWord, Leaves, PassesQuickly};
 ghost use Rattle.facet_json_reader.specs.Views.{stage_of};
 
-use crate::reader::{Reader, Stage, closing, opening};
-use facet_format::{ContainerKind, FieldKey, FieldLocationHint, ParseEvent, ParseEventKind, ScalarValue, Span};
 use crate::language::Language;
-use crate::place::Place;
-use crate::text::{checked_text_at, quoted_text_at};
 use crate::number::{short_number, short_number_strict};
+use crate::place::Place;
+use crate::reader::{Reader, Stage, closing, opening};
+use crate::text::{checked_text_at, quoted_text_at};
+use facet_format::{
+    ContainerKind, FieldKey, FieldLocationHint, ParseEvent, ParseEventKind, ScalarValue, Span,
+};
 use facet_json_token::plain_cut::common_len;
 use facet_json_token::quick::gap_end;
 use std::borrow::CowStr;

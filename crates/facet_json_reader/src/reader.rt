@@ -16,12 +16,14 @@ ghost use Rattle.facet_json_reader.specs.PlaceViews.{language_of, place_of, expe
 ghost use Rattle.facet_json_reader.specs.TokenViews.{CanBeRead, IsMeaningless};
 ghost use Rattle.facet_json_reader.specs.Views.{stage_of, passed_of, reader_of, with_opened, comes_at, StopsAt, IsNamed, IsTurn, IsValueOf, IsNameOf, IsColonAt, IsRefusedBefore, Answers, IsUpcoming};
 
-use crate::materialized::{materialize, string_text};
-use facet_format::{ContainerKind, FieldKey, FieldLocationHint, ParseEvent, ParseEventKind, ScalarValue, Span};
 use crate::contexts::Contexts;
-use crate::refusal::{Expected, Name, Refused, Why};
 use crate::language::Language;
+use crate::materialized::{materialize, string_text};
 use crate::place::{Place, Turn};
+use crate::refusal::{Expected, Name, Refused, Why};
+use facet_format::{
+    ContainerKind, FieldKey, FieldLocationHint, ParseEvent, ParseEventKind, ScalarValue, Span,
+};
 use facet_json_token::{Mode, SpannedToken, Token};
 use std::alloc::{AllocError, Global};
 use std::borrow::CowStr;

@@ -4,7 +4,9 @@ use crate::cuts::tell_cuts;
 use crate::shown::{Telling, push, push_answer};
 use crate::unread::{Unread, tell_parts};
 use facet_format::FormatParser;
-use facet_json::{Answer, Call, JsonParser, drive, tree_from_slice, tree_from_slice_jsonc, tree_from_slice_strict};
+use facet_json::{
+    Answer, Call, JsonParser, drive, tree_from_slice, tree_from_slice_jsonc, tree_from_slice_strict,
+};
 use std::alloc::{AllocError, Global};
 
 /// What a parser takes as a document.

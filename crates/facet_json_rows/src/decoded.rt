@@ -4,7 +4,11 @@ ghost use Rattle.std.specs.Prelude.{◌≤◌, length};
 
 use crate::row::range;
 use crate::tokens::write_refusal;
-use facet_json::scanner::{DecodeError, ScanError, check_content, decode_string, decode_string_borrowed, decode_string_borrowed_unchecked, decode_string_owned, decode_string_owned_unchecked, decode_string_unchecked};
+use facet_json::scanner::{
+    DecodeError, ScanError, check_content, decode_string, decode_string_borrowed,
+    decode_string_borrowed_unchecked, decode_string_owned, decode_string_owned_unchecked,
+    decode_string_unchecked,
+};
 use std::alloc::{AllocError, Global};
 use std::borrow::CowStr;
 

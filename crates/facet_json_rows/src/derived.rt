@@ -2,8 +2,12 @@
 
 use facet_format::numeral::NumberHint;
 use facet_format::{DeserializeErrorKind, Span};
-use facet_json::scanner::{DecodeError, Mode, ParsedNumber, ScanError, ScanErrorKind, SpannedToken, Token};
-use facet_json::{Answer, Call, JsonParser, JsonSerializeError, MaterializedToken, RawJson, TokenKind};
+use facet_json::scanner::{
+    DecodeError, Mode, ParsedNumber, ScanError, ScanErrorKind, SpannedToken, Token,
+};
+use facet_json::{
+    Answer, Call, JsonParser, JsonSerializeError, MaterializedToken, RawJson, TokenKind,
+};
 use std::alloc::{AllocError, Global};
 use std::fmt::Debug;
 

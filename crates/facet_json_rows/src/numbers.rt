@@ -4,7 +4,9 @@ ghost use Rattle.std.specs.Prelude.{◌≤◌, length};
 
 use crate::row::{first_word, range};
 use crate::tokens::write_refusal;
-use facet_json::scanner::{NumberHint, ParsedNumber, ScanError, parse_number, parse_number_unchecked};
+use facet_json::scanner::{
+    NumberHint, ParsedNumber, ScanError, parse_number, parse_number_unchecked,
+};
 use std::alloc::{AllocError, Global};
 
 /// Writes the number at a range of the buffer, or the refusal: `HINT` or `HINT START..END`.

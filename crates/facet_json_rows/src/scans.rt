@@ -4,7 +4,9 @@ ghost use Rattle.std.specs.Prelude.{◌<◌};
 
 use crate::faults::{Ended, FaultyReader, MANY_CALLS};
 use crate::pieces::write_other_pieces;
-use facet_json::scanner::{Marked, Mode, ScanError, ScanReadError, Scanned, SpannedToken, Token, cut, scan_reader};
+use facet_json::scanner::{
+    Marked, Mode, ScanError, ScanReadError, Scanned, SpannedToken, Token, cut, scan_reader,
+};
 use std::alloc::{AllocError, Global};
 use std::io::{ErrorKind, Read};
 

@@ -1,7 +1,10 @@
 //! Trees that are equal, and trees as text.
 
 use crate::row::{first_word, write_lines};
-use facet_json::{Decimal, RawJson, SerializeOptions, Tree, to_string, to_string_pretty, to_string_with_options, to_vec, to_vec_pretty, to_vec_with_options, tree_from_slice};
+use facet_json::{
+    Decimal, RawJson, SerializeOptions, Tree, to_string, to_string_pretty, to_string_with_options,
+    to_vec, to_vec_pretty, to_vec_with_options, tree_from_slice,
+};
 use std::alloc::{AllocError, Global};
 
 /// The tree of the text, or the leaf that its first word names; `some` is a list of such leaves, and `empty` one of empty containers.

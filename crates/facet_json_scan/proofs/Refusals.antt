@@ -17,9 +17,8 @@ use Rattle.facet_json_token.specs.Cut.{Cut, nothing_left, token, fault, start_of
 use Rattle.facet_json_token.specs.Open.{IsBeginning, IsOpen}
 use Rattle.facet_json_token.specs.Views.{scanned, fault_answer as fault_scanned}
 use Rattle.facet_json_token.proofs.FirstBytes.{cut_here-something, cut_here-number}
-use Rattle.facet_json_token.proofs.NumberCuts.{sign-bound}
+use Rattle.facet_json_token.proofs.NumberCuts.{sign-bound, number_at}
 use Rattle.facet_json_token.proofs.Gaps.{past_gap-ends, past_gap-again, cut-past_gap}
-use Rattle.facet_json_token.proofs.NumberCuts.{number_at}
 use Rattle.facet_json_token.proofs.Offsets.{drop-at_byte}
 use Rattle.facet_json_token.proofs.Starts.{start_of-number}
 use Rattle.facet_json_scan.specs.declared.scanner.token.Found.{Found}

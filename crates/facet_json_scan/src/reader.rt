@@ -8,8 +8,8 @@ ghost use Rattle.facet_json_scan.specs.Listed.{mode_with, AreTokensOf, StandWith
 ghost use Rattle.facet_json_scan.specs.Inner.Stands.{is_cut, Stands, IsScanned, IsFinished};
 
 use crate::answer::{ScanReadError, Scanned};
-use crate::source::ByteSource;
 use crate::scanner::Scanner;
+use crate::source::ByteSource;
 use facet_json_token::{ScanError, SpannedToken, Token};
 use std::alloc::Global;
 

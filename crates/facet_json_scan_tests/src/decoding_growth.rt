@@ -5,10 +5,12 @@
 
 use facet_format::numeral::NumberHint;
 use facet_format::{Decimal, Span};
-use facet_json_token::{DecodeError, check_content, decode_string, decode_string_borrowed, decode_string_borrowed_unchecked, decode_string_owned, decode_string_owned_unchecked, decode_string_unchecked};
-use facet_json_token::{ParsedNumber, parse_number, parse_number_unchecked};
-use facet_json_token::{check_number_strict, check_string_strict};
-use facet_json_token::{ScanError, ScanErrorKind};
+use facet_json_token::{
+    DecodeError, ParsedNumber, ScanError, ScanErrorKind, check_content, check_number_strict,
+    check_string_strict, decode_string, decode_string_borrowed, decode_string_borrowed_unchecked,
+    decode_string_owned, decode_string_owned_unchecked, decode_string_unchecked, parse_number,
+    parse_number_unchecked,
+};
 use std::alloc::Global;
 use std::borrow::CowStr;
 

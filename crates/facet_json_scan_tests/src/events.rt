@@ -1,7 +1,10 @@
 //! Events: what they derive, and copies of each kind.
 
 use crate::values::shows;
-use facet_format::{ContainerKind, Decimal, FieldKey, FieldLocationHint, ParseEvent, ParseEventKind, SavePoint, ScalarValue, Span};
+use facet_format::{
+    ContainerKind, Decimal, FieldKey, FieldLocationHint, ParseEvent, ParseEventKind, SavePoint,
+    ScalarValue, Span,
+};
 use std::alloc::Global;
 use std::borrow::CowStr;
 use std::process::Abort;

@@ -2,7 +2,10 @@
 //! of their requests for memory, which is refused, and they have to pass in every such run. Each row is tried twice, its set-up too: as
 //! one request is refused in a run, memory runs out in one of the two at most, and the other gives the whole answer.
 
-use facet_format::{ContainerKind, Decimal, FieldKey, FieldLocationHint, ParseEvent, ParseEventKind, ScalarValue, Span};
+use facet_format::{
+    ContainerKind, Decimal, FieldKey, FieldLocationHint, ParseEvent, ParseEventKind, ScalarValue,
+    Span,
+};
 use std::alloc::{AllocError, Global};
 use std::borrow::CowStr;
 

@@ -24,4 +24,3 @@ mod runs;
 mod sources;
 #[cfg(test)]
 mod values;
-

@@ -6,7 +6,10 @@ ghost use Rattle.facet_format.specs.Cursor.{Cursor};
 ghost use Rattle.facet_format.specs.Views.{event_of};
 ghost use Rattle.facet_format.specs.declared.error.DeserializeErrorKind.TheVariants.{OutOfMemory};
 
-use facet_format::{DeserializeError, FormatParser, ParseError, ParseEvent, ParseEventKind, SavePoint, ScalarValue, Span};
+use facet_format::{
+    DeserializeError, FormatParser, ParseError, ParseEvent, ParseEventKind, SavePoint, ScalarValue,
+    Span,
+};
 use std::alloc::AllocError;
 use std::collections::VecDeque;
 

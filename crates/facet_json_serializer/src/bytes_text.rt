@@ -8,8 +8,8 @@ ghost use Rattle.facet_json_serializer.specs.OptionsViews.{bytes_format_of};
 
 use crate::append::{push_bytes, push_number};
 use crate::layout::push_separator;
-use facet_json_escape::hex_digit;
 use crate::options::{BytesFormat, HexBytesOptions};
+use facet_json_escape::hex_digit;
 use std::alloc::AllocError;
 
 /// Appends bytes in this format.

@@ -7,8 +7,8 @@ ghost use Rattle.facet_json_document.specs.Text.{indents, new_line, separator, l
 ghost use Rattle.facet_json_serializer.specs.OptionsViews.{options_of};
 
 use crate::append::push_bytes;
-use facet_json_escape::{push_framed, push_quoted};
 use crate::options::SerializeOptions;
+use facet_json_escape::{push_framed, push_quoted};
 use std::alloc::AllocError;
 
 /// A new line, and the indent once for each open container, where the text is indented.

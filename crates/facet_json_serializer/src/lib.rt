@@ -14,6 +14,6 @@ mod scalar_text;
 mod serializer;
 mod writing;
 
-pub use options::{BytesFormat, HexBytesOptions, SerializeOptions};
 pub use error::JsonSerializeError;
+pub use options::{BytesFormat, HexBytesOptions, SerializeOptions};
 pub use serializer::JsonSerializer;

@@ -10,9 +10,9 @@ ghost use Rattle.facet_json_serializer.specs.OptionsViews.{options_of};
 
 use crate::append::{push_bytes, push_number};
 use crate::bytes_text::push_bytes_text;
+use crate::options::SerializeOptions;
 use facet_format::ScalarValue;
 use facet_json_escape::push_quoted;
-use crate::options::SerializeOptions;
 use std::alloc::AllocError;
 
 /// Appends the text of a value.

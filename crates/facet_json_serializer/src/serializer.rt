@@ -10,9 +10,9 @@ ghost use Rattle.facet_json_serializer.specs.Views.{call_answer_of, bytes_answer
 ghost use Rattle.facet_json_serializer.specs.Inner.Writes.{settled};
 
 use crate::error::JsonSerializeError;
+use crate::options::SerializeOptions;
 use crate::writing::Writing;
 use facet_format::{FormatSerializer, ScalarValue};
-use crate::options::SerializeOptions;
 use std::alloc::Global;
 use std::marker::Model;
 

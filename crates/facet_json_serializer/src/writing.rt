@@ -16,10 +16,10 @@ use crate::containers::{Container, Containers};
 use crate::digits::{push_comma_signed, push_comma_unsigned, push_signed, push_unsigned};
 use crate::error::JsonSerializeError;
 use crate::layout::{push_key, push_line, push_line_at_end, push_separator};
+use crate::options::SerializeOptions;
 use crate::scalar_text::push_scalar;
 use facet_format::ScalarValue;
 use facet_json_escape::push_framed;
-use crate::options::SerializeOptions;
 use std::alloc::{AllocError, Global};
 use std::borrow::CowStr;
 

@@ -1,12 +1,11 @@
 -- The test finds the numbers of RFC 8259: what it accepts is one, and each one is accepted.
-use Rattle.std.proofs.Common.{◌≡◌, ◌≢◌, ℕ, zero, suc, ◌+◌, ◌<◌, ◌≤◌, Bool, true, false, cond, ◌==◌, List, [], ◌∷◌, ◌++◌, ◌⊎◌, inl, inr, length, take, drop, get_or, refl, sym, ap, subst, ◌∙◌, arith, length-append, append_assoc, ltb-true, take-add}
+use Rattle.std.proofs.Common.{◌≡◌, ◌≢◌, ℕ, zero, suc, ◌+◌, ◌<◌, ◌≤◌, Bool, true, false, cond, ◌==◌, List, [], ◌∷◌, ◌++◌, ◌⊎◌, inl, inr, length, take, drop, get_or, refl, sym, ap, subst, ◌∙◌, arith, length-append, append_assoc, ltb-true, take-add, lt-ltb}
 use Rattle.std.proofs.lemmas.Bool.{and_parts, and_from, eqb-true, ne_eqb}
 use Rattle.std.proofs.lemmas.Bool.Decides.{nat_tests}
 use Rattle.std.proofs.lemmas.List.{take_all, append-nil, drop_at}
 use Rattle.facet_format.specs.Bytes.{is_sign, dot}
 use Rattle.facet_format.specs.Number.{IsNumeral, digits_len, minus_len, fraction_len, sign_len, exponent_len, parts, parts_len, hint_by}
 use Rattle.facet_format.specs.Number as numbers
-use Rattle.std.proofs.Common.{lt-ltb}
 use Rattle.facet_format.proofs.NumberLaws.{minus-taken, digits-taken, sign-taken, parts-is}
 use Rattle.facet_json_token.specs.RfcNumber.{is_rfc_digit, is_first_digit, is_rfc_exponent_mark, AreRfcDigits, none, digit, SomeDigits, IsRfcMinus, IsRfcWhole, nought, IsRfcFraction, IsRfcExponentSign, IsRfcExponent, IsRfcNumber}
 use Rattle.facet_json_token.specs.RfcNumberTest.{is_whole_of, is_fraction_of, is_exponent_of, are_rfc_parts, is_rfc_number}

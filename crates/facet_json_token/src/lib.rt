@@ -20,11 +20,15 @@ mod runs;
 mod token;
 mod window;
 
+pub use decode::{
+    DecodeError, check_content, decode_string, decode_string_borrowed,
+    decode_string_borrowed_unchecked, decode_string_owned, decode_string_owned_unchecked,
+    decode_string_unchecked,
+};
 pub use mode::Mode;
-pub use plain_cut::cut;
-pub use token::{ScanError, ScanErrorKind, ScanResult, SpannedToken, Token};
-pub use decode::{DecodeError, check_content, decode_string, decode_string_borrowed, decode_string_borrowed_unchecked, decode_string_owned, decode_string_owned_unchecked, decode_string_unchecked};
-pub use plain::{plain_text, plain_text_unchecked, quoted_text};
 pub use number::{ParsedNumber, parse_measured, parse_number, parse_number_unchecked};
+pub use plain::{plain_text, plain_text_unchecked, quoted_text};
+pub use plain_cut::cut;
 pub use rfc_number::{check_number_strict, has_rfc_parts};
 pub use rfc_string::check_string_strict;
+pub use token::{ScanError, ScanErrorKind, ScanResult, SpannedToken, Token};

@@ -6,9 +6,9 @@ ghost use Rattle.facet_format.specs.Number.{AreDigits, digits_value, number as s
 ghost use Rattle.facet_format.specs.Views.{hint_of};
 ghost use Rattle.facet_json_token.specs.NumberViews.{number_of, is_made_number, number_refusal};
 
+use crate::token::{ScanError, ScanErrorKind};
 use facet_format::numeral::{NumberHint, number_parts};
 use facet_format::{Decimal, Span};
-use crate::token::{ScanError, ScanErrorKind};
 use std::str;
 
 /// A number that has been read: in 64 bits where it fits them, else in 128, or as its text.

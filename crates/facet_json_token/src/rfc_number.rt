@@ -6,9 +6,9 @@ ghost use Rattle.facet_json_token.specs.RfcNumber.{IsRfcNumber};
 ghost use Rattle.facet_json_token.specs.RfcNumberTest.{is_rfc_number as spec_is_rfc_number, are_rfc_parts, is_whole_of, is_exponent_of};
 ghost use Rattle.facet_json_token.specs.StrictViews.{number_refused};
 
+use crate::token::{ScanError, ScanErrorKind};
 use facet_format::Span;
 use facet_format::numeral::{Parts, parts_at};
-use crate::token::{ScanError, ScanErrorKind};
 
 /// Whether `buf[start..end]` is a number of RFC 8259 (section 6): perhaps a minus, 0 or digits of which the first is another, and
 /// perhaps a fraction and an exponent, each with digits. Else it is refused as a question mark over the slice.

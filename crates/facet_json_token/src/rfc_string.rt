@@ -5,8 +5,8 @@ ghost use Rattle.facet_json_token.specs.Strict.{content_fault, may_stand};
 ghost use Rattle.facet_json_token.specs.StrictViews.{TellsWrong, byte_refused};
 
 use crate::rfc_window::plain_end;
-use facet_format::Span;
 use crate::token::{ScanError, ScanErrorKind};
+use facet_format::Span;
 
 /// Whether the content that stands in `buf[start..end]` has no byte below 0x20, but where a backslash escapes it, and whether after
 /// a backslash no other ASCII stands than RFC 8259 (section 7) has there. It is refused for the first byte that is wrong.

@@ -16,10 +16,10 @@ mod tree_calls;
 mod within;
 mod writers;
 
-pub use tree::Tree;
+pub use error::WriteError;
 pub use reader::{read_tree, tree_from_slice, tree_from_slice_jsonc};
 pub use strict::{tree_from_slice_strict, tree_from_slice_within_strict};
-pub use within::{tree_from_slice_within, tree_from_slice_within_jsonc};
+pub use tree::Tree;
 pub use tree_calls::write_tree;
-pub use error::WriteError;
+pub use within::{tree_from_slice_within, tree_from_slice_within_jsonc};
 pub use writers::write_text;

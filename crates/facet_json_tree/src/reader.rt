@@ -25,10 +25,13 @@ ghost use Rattle.facet_json_tree.specs.Inner.Beyond.{inner as spec_inner, Admits
 ghost use Rattle.facet_json_tree.specs.Inner.Reading.{WentOn, LeadsOn, AreItemsRead, AreMembersRead, AreItemsUnreadWithin, AreMembersUnreadWithin, HasBegun, IsRefused, BeganValue, BeganMember, PassedEnd, IsKey, IsFilled, PassesRest, IsLevel, IsUnfilled};
 ghost use Rattle.facet_json_tree.specs.Views.{tree_view, trees_view, pairs_view};
 
-use facet_format::{Decimal, DeserializeError, DeserializeErrorKind, FormatParser, ParseEvent, ParseEventKind, ScalarValue, Span};
-use facet_json_parser::JsonParser;
-use facet_json_core::next_of_value;
 use crate::tree::Tree;
+use facet_format::{
+    Decimal, DeserializeError, DeserializeErrorKind, FormatParser, ParseEvent, ParseEventKind,
+    ScalarValue, Span,
+};
+use facet_json_core::next_of_value;
+use facet_json_parser::JsonParser;
 use std::alloc::{AllocError, Global};
 
 /// Reads the plain document that the bytes begin with (RFC 8259, sections 2 to 7, with lenient readings such as a trailing comma). What follows it is

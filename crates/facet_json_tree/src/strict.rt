@@ -16,10 +16,10 @@ ghost use Rattle.facet_json_tree.specs.Inner.Beyond.{IsAllRead, IsNotAllRead};
 ghost use Rattle.facet_json_tree.specs.Views.{tree_view};
 
 use crate::reader::read_value;
-use facet_format::DeserializeError;
-use facet_json_parser::JsonParser;
-use facet_json_core::pass_end;
 use crate::tree::Tree;
+use facet_format::DeserializeError;
+use facet_json_core::pass_end;
+use facet_json_parser::JsonParser;
 use std::alloc::Global;
 
 /// Reads the document that the bytes are, which is one text of RFC 8259 (sections 2 to 7), with white space alone around it. Nothing

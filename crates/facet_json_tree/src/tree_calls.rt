@@ -11,9 +11,9 @@ ghost use Rattle.facet_json_serializer.specs.Views.{call_answer_of, write_refusa
 ghost use Rattle.facet_json_tree.specs.Views.{tree_view, trees_view, pairs_view};
 ghost use Rattle.facet_json_tree.specs.Write.{HasWritten, IsOfRust};
 
+use crate::tree::Tree;
 use facet_format::{FormatSerializer, ScalarValue};
 use facet_json_serializer::{JsonSerializeError, JsonSerializer};
-use crate::tree::Tree;
 use std::borrow::CowStr;
 
 /// Writes a tree, where a value stands, in the layout of the serializer's options (RFC 8259, sections 2 to 7).

@@ -14,9 +14,9 @@ ghost use Rattle.facet_json_tree.specs.Inner.Beyond.{IsReadWithin, IsValueUnread
 ghost use Rattle.facet_json_tree.specs.Views.{tree_view};
 
 use crate::reader::read_value;
+use crate::tree::Tree;
 use facet_format::DeserializeError;
 use facet_json_parser::JsonParser;
-use crate::tree::Tree;
 use std::alloc::Global;
 
 /// Reads the plain document that the bytes begin with, as `tree_from_slice` does, where it nests no deeper than `depth`: an array or

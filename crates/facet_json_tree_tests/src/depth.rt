@@ -1,8 +1,9 @@
 //! Trees that are read within a depth: what the least depth is that takes them, and how they are refused below it.
 
 use facet_format::{DeserializeError, DeserializeErrorKind, Span};
-use facet_json_tree::{tree_from_slice, tree_from_slice_within, tree_from_slice_within_jsonc};
-use facet_json_tree::Tree;
+use facet_json_tree::{
+    Tree, tree_from_slice, tree_from_slice_within, tree_from_slice_within_jsonc,
+};
 use std::alloc::Global;
 
 /// Whether the bytes are read within the depth, as without one.

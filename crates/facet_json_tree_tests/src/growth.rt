@@ -4,10 +4,12 @@
 
 use crate::samples::{each_kind, object};
 use facet_format::{Decimal, DeserializeError, DeserializeErrorKind};
-use facet_json_parser::JsonParser;
 use facet_json_core::RawJson;
-use facet_json_tree::{read_tree, tree_from_slice, tree_from_slice_jsonc, tree_from_slice_strict, tree_from_slice_within, tree_from_slice_within_jsonc, tree_from_slice_within_strict};
-use facet_json_tree::Tree;
+use facet_json_parser::JsonParser;
+use facet_json_tree::{
+    Tree, read_tree, tree_from_slice, tree_from_slice_jsonc, tree_from_slice_strict,
+    tree_from_slice_within, tree_from_slice_within_jsonc, tree_from_slice_within_strict,
+};
 use std::alloc::{AllocError, Global};
 
 /// Whether a call that was made twice gave its whole answer, but for one time at most in which memory ran out.

@@ -1,8 +1,7 @@
 //! Members by their names, items by their index.
 
 use crate::samples::{list, object};
-use facet_json_tree::tree_from_slice;
-use facet_json_tree::Tree;
+use facet_json_tree::{Tree, tree_from_slice};
 use std::alloc::Global;
 
 /// Whether this was found, or nothing where nothing is wanted.

@@ -1,8 +1,9 @@
 //! Trees of strict mode: the texts of RFC 8259 alone are taken, up to their end, and each other input is refused where its first fault stands.
 
 use facet_format::{DeserializeError, DeserializeErrorKind, Span};
-use facet_json_tree::{tree_from_slice, tree_from_slice_strict, tree_from_slice_within_strict};
-use facet_json_tree::Tree;
+use facet_json_tree::{
+    Tree, tree_from_slice, tree_from_slice_strict, tree_from_slice_within_strict,
+};
 use std::alloc::Global;
 
 /// Whether strict mode reads the bytes as lenient mode does, with no depth and within this one.

@@ -1,9 +1,9 @@
 //! How `transcode` refuses where a parser has read some events before.
 
 use facet_format::{DeserializeError, DeserializeErrorKind, FormatParser, Span};
-use facet_json_serializer::JsonSerializer;
-use facet_json_parser::JsonParser;
 use facet_json_core::{TranscodeError, transcode};
+use facet_json_parser::JsonParser;
+use facet_json_serializer::JsonSerializer;
 use std::alloc::Global;
 
 /// How `transcode` refuses after so many events of the input, where the parser does, and nothing was written before.

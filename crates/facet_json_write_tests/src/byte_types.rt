@@ -1,8 +1,9 @@
 //! Structs that are written by hand: their bytes stand under the key `data`, as the options say.
 
 use facet_format::FormatSerializer;
-use facet_json_serializer::{BytesFormat, HexBytesOptions, SerializeOptions};
-use facet_json_serializer::{JsonSerializeError, JsonSerializer};
+use facet_json_serializer::{
+    BytesFormat, HexBytesOptions, JsonSerializeError, JsonSerializer, SerializeOptions,
+};
 use std::alloc::Global;
 
 /// Bytes of any number.

@@ -2,8 +2,7 @@
 
 use crate::written::{Call, writes, writes_decimal, writes_scalar};
 use facet_format::{FormatSerializer, ScalarValue};
-use facet_json_serializer::SerializeOptions;
-use facet_json_serializer::{JsonSerializeError, JsonSerializer};
+use facet_json_serializer::{JsonSerializeError, JsonSerializer, SerializeOptions};
 use std::alloc::Global;
 
 #[test]

@@ -5,11 +5,13 @@
 use crate::trees::list_of_trees;
 use crate::writers::{FORMS, Form, is_after, sample, tabs_and_hex, text_by, write_by};
 use crate::written::{Call, make};
-use facet_json_serializer::{HexBytesOptions, SerializeOptions};
-use facet_json_tree::WriteError;
-use facet_json_serializer::{JsonSerializeError, JsonSerializer};
-use facet_json_tree::Tree;
-use facet_json::{to_string, to_string_pretty, to_string_with_options, to_vec, to_vec_pretty, to_vec_with_options};
+use facet_json::{
+    to_string, to_string_pretty, to_string_with_options, to_vec, to_vec_pretty, to_vec_with_options,
+};
+use facet_json_serializer::{
+    HexBytesOptions, JsonSerializeError, JsonSerializer, SerializeOptions,
+};
+use facet_json_tree::{Tree, WriteError};
 use std::alloc::Global;
 use std::io::ErrorKind;
 

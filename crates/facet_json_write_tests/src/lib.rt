@@ -37,4 +37,3 @@ mod trees;
 mod writers;
 #[cfg(test)]
 mod written;
-

@@ -2,8 +2,7 @@
 
 use crate::samples::is_reported;
 use facet_format::{DeserializeError, DeserializeErrorKind, Span};
-use facet_json_core::{JsonError, JsonErrorKind};
-use facet_json_core::{Position, position_at};
+use facet_json_core::{JsonError, JsonErrorKind, Position, position_at};
 
 const SOURCE: &str = "{\n  \"age\": \"x\"\n}";
 

@@ -1,7 +1,6 @@
 //! Errors that the tests look at, and what they look at.
 
-use facet_json_core::{JsonError, JsonErrorKind};
-use facet_json_core::Report;
+use facet_json_core::{JsonError, JsonErrorKind, Report};
 use std::alloc::{AllocError, Global};
 
 /// A field that the type does not have.

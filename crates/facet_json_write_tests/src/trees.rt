@@ -2,11 +2,11 @@
 
 use crate::writers::pair;
 use facet_format::FormatSerializer;
-use facet_json_serializer::{BytesFormat, HexBytesOptions, SerializeOptions};
 use facet_json::to_vec_with_options;
-use facet_json_serializer::{JsonSerializeError, JsonSerializer};
-use facet_json_tree::Tree;
-use facet_json_tree::write_tree;
+use facet_json_serializer::{
+    BytesFormat, HexBytesOptions, JsonSerializeError, JsonSerializer, SerializeOptions,
+};
+use facet_json_tree::{Tree, write_tree};
 use std::alloc::Global;
 
 /// Writes a list of two trees.

@@ -1,10 +1,11 @@
 //! Texts of trees to writers that take all, a few bytes at a time, none, or fail; and as bytes and as text.
 
-use facet_json_serializer::SerializeOptions;
-use facet_json_tree::WriteError;
-use facet_json_serializer::JsonSerializeError;
-use facet_json_tree::Tree;
-use facet_json::{to_string, to_string_pretty, to_string_with_options, to_vec, to_vec_pretty, to_vec_with_options, to_writer_std, to_writer_std_pretty, to_writer_std_with_options};
+use facet_json::{
+    to_string, to_string_pretty, to_string_with_options, to_vec, to_vec_pretty,
+    to_vec_with_options, to_writer_std, to_writer_std_pretty, to_writer_std_with_options,
+};
+use facet_json_serializer::{JsonSerializeError, SerializeOptions};
+use facet_json_tree::{Tree, WriteError};
 use std::alloc::{AllocError, Global};
 use std::io;
 use std::io::{ErrorKind, Write};
@@ -46,11 +47,7 @@ pub enum Form {
 }
 
 /// All of them.
-pub const FORMS: [Form; 3] = [
-    Form::Compact,
-    Form::Pretty,
-    Form::WithOptions,
-];
+pub const FORMS: [Form; 3] = [Form::Compact, Form::Pretty, Form::WithOptions];
 
 /// Writes the tree by this function, in tabs and hexadecimal digits where it takes options.
 pub fn write_by<W: Write>(
@@ -254,20 +251,10 @@ fn a_tree_is_bytes_and_text(rt: HostRuntime) {
     let options = tabs_and_hex();
     assert!(rt; is_vec(to_vec(alloc, &tree), COMPACT));
     assert!(rt; is_vec(to_vec_pretty(alloc, &tree), PRETTY));
-    assert!(rt;
-        is_vec(
-            to_vec_with_options(alloc, &tree, &options),
-            TABS_AND_HEX
-        )
-    );
+    assert!(rt; is_vec(to_vec_with_options(alloc, &tree, &options), TABS_AND_HEX));
     assert!(rt; is_string(to_string(alloc, &tree), COMPACT));
     assert!(rt; is_string(to_string_pretty(alloc, &tree), PRETTY));
-    assert!(rt;
-        is_string(
-            to_string_with_options(alloc, &tree, &options),
-            TABS_AND_HEX
-        )
-    );
+    assert!(rt; is_string(to_string_with_options(alloc, &tree, &options), TABS_AND_HEX));
 }
 
 /// Whether the refusal has this number and is displayed so.

@@ -1,8 +1,7 @@
 //! What a list of calls writes, and how each is answered.
 
 use facet_format::{Decimal, FormatSerializer, ScalarValue};
-use facet_json_serializer::SerializeOptions;
-use facet_json_serializer::{JsonSerializeError, JsonSerializer};
+use facet_json_serializer::{JsonSerializeError, JsonSerializer, SerializeOptions};
 use std::alloc::Global;
 use std::borrow::CowStr;
 

@@ -7,11 +7,10 @@ use Rattle.std.proofs.lemmas.Bool.Decides.{nat_tests}
 use Rattle.std.proofs.lemmas.List.Folds.{list_all-append}
 use Rattle.std.proofs.lemmas.Fmt.{decimal_digit, decimal_by_steps_wide}
 use Rattle.facet_format.specs.Bytes.{minus}
-use Rattle.facet_json_token.specs.RfcNumber.{is_rfc_digit, AreRfcDigits, none, digit, SomeDigits, IsRfcMinus, IsRfcExponentSign}
+use Rattle.facet_json_token.specs.RfcNumber.{is_rfc_digit, AreRfcDigits, none, digit, SomeDigits, IsRfcMinus, IsRfcExponentSign, is_first_digit, IsRfcWhole, nought, IsRfcFraction, IsRfcExponent, IsRfcNumber}
 use Rattle.facet_json_token.proofs.RfcNumbers.{are_digits}
 use Rattle.facet_json_document.specs.AsRead.{FitsBits}
 use Rattle.facet_json_document.specs.RfcText.{InUtf8}
-use Rattle.facet_json_token.specs.RfcNumber.{is_first_digit, IsRfcWhole, nought, IsRfcFraction, IsRfcExponent, IsRfcNumber}
 use Rattle.facet_json_document.proofs.Scalars.DecimalDigits.{decimal-digits}
 use Rattle.facet_json_document.proofs.Rfc.Encoded.{is_ascii, ascii, ascii-itself}
 

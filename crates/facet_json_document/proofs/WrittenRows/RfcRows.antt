@@ -1,9 +1,8 @@
 -- Small texts that the grammar of RFC 8259 has, and some that it has not.
 use Rattle.std.proofs.Common.{◌≡◌, ℕ, false, List, [], ◌∷◌, ◌++◌, refl, sym, ap, ◌∙◌, codes, get_or, eq-eqb, true≢false, ◌==◌}
 use Rattle.facet_format.specs.Bytes.{backslash, colon, comma, left_bracket, right_bracket, left_brace, right_brace}
-use Rattle.facet_json_token.specs.RfcNumber.{none, digit, IsRfcMinus, IsRfcExponentSign}
+use Rattle.facet_json_token.specs.RfcNumber.{none, digit, IsRfcMinus, IsRfcExponentSign, SomeDigits, IsRfcWhole, nought, IsRfcFraction, IsRfcExponent, IsRfcNumber}
 use Rattle.facet_json_document.specs.RfcText.{IsRfcStructural, IsRfcContent, empty, unescaped, short, unit, IsRfcString, IsRfcText, IsEnclosed, AreItems, literal_true, array, object, one_item, more_items, one_member, member}
-use Rattle.facet_json_token.specs.RfcNumber.{SomeDigits, IsRfcWhole, nought, IsRfcFraction, IsRfcExponent, IsRfcNumber}
 use Rattle.facet_json_document.specs.RfcText as rfc
 use Rattle.facet_json_document.proofs.Rfc.Lists.{unspaced}
 

@@ -12,8 +12,8 @@ ghost use Rattle.facet_json_meaning.specs.Passing.{LacksAlone};
 
 use crate::steps::next::next_of_value;
 use facet_format::{DeserializeError, FormatParser, ParseEvent, ParseEventKind};
-use facet_json_parser::JsonParser;
 use facet_json_core::mismatch;
+use facet_json_parser::JsonParser;
 
 /// Passes the event with which an array begins.
 ///

@@ -13,8 +13,8 @@ ghost use Rattle.facet_json_meaning.specs.Optional.{is_null_event};
 ghost use Rattle.facet_json_meaning.specs.Peeking.{FindsNull};
 
 use facet_format::{DeserializeError, FormatParser, ParseEvent, ParseEventKind, ScalarValue};
-use facet_json_parser::JsonParser;
 use facet_json_core::{ended, mismatch};
+use facet_json_parser::JsonParser;
 
 /// The next event, where a value is to come.
 ///

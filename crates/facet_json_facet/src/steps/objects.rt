@@ -13,8 +13,8 @@ ghost use Rattle.facet_json_meaning.specs.OneValue.{IsInside, PassesMemberOrEnd}
 
 use crate::steps::next::next_of_value;
 use facet_format::{DeserializeError, ParseEvent, ParseEventKind};
-use facet_json_parser::JsonParser;
 use facet_json_core::mismatch;
+use facet_json_parser::JsonParser;
 use std::alloc::Global;
 use std::borrow::CowStr;
 

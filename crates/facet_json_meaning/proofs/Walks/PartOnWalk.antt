@@ -3,8 +3,7 @@ use Rattle.std.proofs.Common.{◌≡◌, ℕ, zero, suc, ◌+◌, List, [], ◌�
 use Rattle.std.proofs.lemmas.List.{take-append-drop}
 use Rattle.facet_format.specs.Event.{Passed}
 use Rattle.facet_format.specs.Cursor.{Cursor}
-use Rattle.facet_format.specs.Part.{Source}
-use Rattle.facet_format.specs.Part.{Part, value, part_at}
+use Rattle.facet_format.specs.Part.{Source, Part, value, part_at}
 use Rattle.facet_format.specs.Span.{stop}
 use Rattle.facet_json_document.specs.Node.{Node}
 use Rattle.facet_json_document.specs.RunLaws.{last_token_of}

@@ -3,8 +3,7 @@ use Rattle.std.proofs.Common.{◌≡◌, ℕ, Bool, true, false, cond, List, Som
 use Rattle.std.specs.Str.{is_utf8}
 use Rattle.facet_format.specs.Complaint.{Refusal}
 use Rattle.facet_format.specs.Cursor.{Cursor, on_walk, unpeeked, current_span, no_memory_at, capture, Answer, raw, Step, repeats, captures, captures_without_memory, captures_nothing}
-use Rattle.facet_format.specs.Part.{Source}
-use Rattle.facet_format.specs.Part.{capture_of, captured}
+use Rattle.facet_format.specs.Part.{Source, capture_of, captured}
 use Rattle.facet_format.specs.Steps.{IsStep}
 use Rattle.facet_json_document.specs.Node.{Node}
 use Rattle.facet_json_document.specs.RunLaws.{last_token_of}

@@ -2,8 +2,7 @@
 use Rattle.std.proofs.Common.{◌≡◌, ℕ, ◌+◌, length, Ok, Err, inl, refl, sym, ap, ◌∙◌}
 use Rattle.facet_format.specs.Complaint.{Refusal}
 use Rattle.facet_format.specs.Cursor.{Cursor, on_walk, unpeeked, current_span, no_memory_at, skip, Answer, skipped, Step, repeats, skips, skips_without_memory, skips_nothing}
-use Rattle.facet_format.specs.Part.{Source}
-use Rattle.facet_format.specs.Part.{skip_of}
+use Rattle.facet_format.specs.Part.{Source, skip_of}
 use Rattle.facet_format.specs.Steps.{IsStep}
 use Rattle.facet_json_document.specs.Node.{Node}
 use Rattle.facet_json_document.specs.Walk.{walk}

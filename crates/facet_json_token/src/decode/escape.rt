@@ -10,8 +10,8 @@ ghost use Rattle.facet_json_token.specs.Fault.{decode_fault_at, fault_refusal, n
 ghost use Rattle.facet_json_token.specs.Inner.FirstFault.{fault_of, pair_fault};
 ghost use Rattle.facet_json_token.specs.Views.{scan_refusal};
 
-use facet_format::Span;
 use crate::token::{ScanError, ScanErrorKind};
+use facet_format::Span;
 
 /// What an escape stands for.
 #[derive(Clone, Copy)]

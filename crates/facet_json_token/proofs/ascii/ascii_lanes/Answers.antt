@@ -2,10 +2,9 @@
 use Rattle.std.proofs.Common.{◌≡◌, ap, ◌∙◌, arith}
 use Rattle.std.proofs.lemmas.Simd.{leading_from_mask_l, trailing_mask_l}
 use Rattle.std.proofs.lemmas.List.Sums.{prefix_len-le-length}
-use Rattle.facet_json_token.specs.Inner.Ascii.{is_low}
+use Rattle.facet_json_token.specs.Inner.Ascii.{is_low, is_high}
 use Rattle.std.specs.List.{prefix_len}
 use lib.Count.{count_trailing_zeros}
-use Rattle.facet_json_token.specs.Inner.Ascii.{is_high}
 use Rattle.facet_json_token.proofs.ascii.ascii_lanes.Goals as goal
 
 first_bit : (c : goal.Else-found-eq0) → count_trailing_zeros 64 c.high_bytes-found.result ≡ prefix_len is_low c.args.window

@@ -3,8 +3,7 @@ use Rattle.std.proofs.Common.{◌≡◌, ap, ◌∙◌, arith}
 use Rattle.std.specs.List.{prefix_len}
 use Rattle.std.proofs.lemmas.Simd.{leading_from_mask_l, trailing_mask_l}
 use Rattle.std.proofs.lemmas.List.Sums.{prefix_len-le-length}
-use Rattle.facet_json_token.specs.Inner.RfcWindow.{is_rfc_stop}
-use Rattle.facet_json_token.specs.Inner.RfcWindow.{is_rfc_plain}
+use Rattle.facet_json_token.specs.Inner.RfcWindow.{is_rfc_stop, is_rfc_plain}
 use lib.Count.{count_trailing_zeros}
 use Rattle.facet_json_token.proofs.rfc_window.plain_lanes.Goals as goal
 

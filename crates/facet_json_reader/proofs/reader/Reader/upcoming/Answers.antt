@@ -1,9 +1,8 @@
 use Rattle.std.proofs.Common.{◌∙◌, refl, sym, ap, subst, arith}
 use Rattle.std.proofs.lemmas.Result.{err_from_is_err_and}
 use Rattle.facet_format.specs.Views.{span_of}
-use Rattle.facet_json_reader.specs.PlaceViews.{language_of}
+use Rattle.facet_json_reader.specs.PlaceViews.{language_of, place_of}
 use Rattle.facet_json_reader.specs.declared.place.Turn.TheVariants as turns
-use Rattle.facet_json_reader.specs.PlaceViews.{place_of}
 use Rattle.facet_json_reader.specs.Views.{GivesHeld}
 use Rattle.facet_json_reader.proofs.PastSeparators.{over-comes, is-turn, stopped-refused, earlier-refused}
 use Rattle.facet_json_reader.proofs.EventsAtTurns.{says-given, passes-comes, stops-refused}
