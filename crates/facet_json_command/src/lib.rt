@@ -7,8 +7,6 @@ pub mod arguments;
 mod input;
 mod lines;
 pub mod outcome;
-pub mod report;
 pub mod run;
 pub mod script;
-mod session;
 mod tokens;

@@ -17,8 +17,7 @@ ghost use Rattle.facet_json_command.specs.Views.{count_of};
 ghost use Rattle.facet_json_command.specs.Run.{Prints};
 ghost use Rattle.facet_json_command.specs.Session.{Marks, outcome_of};
 
-use crate::outcome::{OUT_OF_MEMORY, Outcome};
-use crate::session::Session;
+use crate::outcome::{OUT_OF_MEMORY, Outcome, Session};
 use facet_format::{ParseError, ParseEvent, ParseEventKind, SavePoint, ScalarValue, Span};
 use facet_json_core::Answer;
 use facet_json_serializer::{JsonSerializeError, JsonSerializer};

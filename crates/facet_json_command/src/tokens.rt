@@ -15,8 +15,7 @@ ghost use Rattle.facet_json_command.specs.Outcome.{IsFaultOfRun, IsToldAs};
 
 use crate::input::Input;
 use crate::lines::{write_place, write_value};
-use crate::outcome::{OUT_OF_MEMORY, Outcome};
-use crate::session::Session;
+use crate::outcome::{OUT_OF_MEMORY, Outcome, Session};
 use facet_format::Span;
 use facet_format::numeral::NumberHint;
 use facet_json_scan::{ScanReadError, Scanned, scan_reader};

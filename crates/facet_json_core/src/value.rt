@@ -1,9 +1,9 @@
-//! One value from a parser to a serializer: its events in order, without a tree and without recursion.
+//! A value from a parser to a serializer, event by event, and how the next event of a value is read, and the end behind a root.
 
-ghost use Rattle.std.specs.Prelude.{◌≡◌, ◌⊎◌, ◌≤◌, ◌<◌, ◌+◌, ℕ, List, true, false, None, Some, length, IfOk, IfErr, IfSome, OnOk, MatchResult};
+ghost use Rattle.std.specs.Prelude.{◌≡◌, ◌⊎◌, ◌≤◌, ◌<◌, ◌+◌, ℕ, List, true, false, None, Some, length, IfOk, IfErr, IfSome, OnOk, MatchResult, ◌≢◌, Ok, OnErr};
 ghost use Rattle.facet_format.specs.Complaint.{no_memory};
 ghost use Rattle.facet_format.specs.Event.{Passed};
-ghost use Rattle.facet_format.specs.Views.{event_kind_of, event_of, refusal_of};
+ghost use Rattle.facet_format.specs.Views.{event_kind_of, event_of, refusal_of, scalar_value_of};
 ghost use Rattle.facet_json_token.specs.Gap.{Mode as SpecMode, plain};
 ghost use Rattle.facet_json_document.specs.Node.{Node};
 ghost use Rattle.facet_json_document.specs.Tree.{Tree as SpecTree};
@@ -11,20 +11,27 @@ ghost use Rattle.facet_json_document.specs.Document.{IsDocument};
 ghost use Rattle.facet_json_document.specs.Future.{Future, finished, gives};
 ghost use Rattle.facet_json_document.specs.Language.{strict};
 ghost use Rattle.facet_json_document.specs.StrictDocument.{IsStrictDocument};
-ghost use Rattle.facet_json_document.specs.Next.{PassesNext};
-ghost use Rattle.facet_json_document.specs.Now.{ahead, fresh, fresh_in, future_of, GoesOn};
+ghost use Rattle.facet_json_document.specs.Next.{PassesNext, IsOver};
+ghost use Rattle.facet_json_document.specs.Now.{ahead, fresh, fresh_in, future_of, GoesOn, current_span_of as last_read, StandsAt};
 ghost use Rattle.facet_json_serializer.specs.Serializer.{Writing as SpecWriting, Appends};
 ghost use Rattle.facet_json_serializer.specs.TreeCalls.{with_tree};
 ghost use Rattle.facet_json_serializer.specs.Views.{call_answer_of};
 ghost use Rattle.facet_json_core.specs.Reading.{GivesNone};
-ghost use Rattle.facet_json_core.specs.Refusing.{TellsRefusal};
+ghost use Rattle.facet_json_core.specs.Refusing.{TellsRefusal, mismatch_of, name_of_event, name_of_scalar, no_value_after};
 ghost use Rattle.facet_json_core.specs.Told.{begins};
 ghost use Rattle.facet_json_core.specs.Transcode.{serializer_call_of, containers_after as spec_depth_after, IsWritten, BeginsNone};
 ghost use Rattle.facet_json_core.specs.TranscodeViews.{IsUnwritten, TranscodeLacksMemory, IsTranscodeRefused, ErrorWithin, IsMisplaced, TellsError};
+ghost use Rattle.facet_format.specs.Cursor.{next, event};
+ghost use Rattle.facet_format.specs.Span.{stop};
+ghost use Rattle.facet_format.specs.Steps.{IsStep};
+ghost use Rattle.facet_json_document.specs.Move.{Moves};
+ghost use Rattle.facet_json_document.specs.UnreadLaws.{RefusalWithin};
 
-use crate::next::{mismatch, next_of_value};
 use crate::transcode_error::TranscodeError;
-use facet_format::{DeserializeError, FormatSerializer, ParseEvent, ParseEventKind};
+use facet_format::{
+    DeserializeError, DeserializeErrorKind, FormatParser, FormatSerializer, ParseEvent,
+    ParseEventKind, ScalarValue, Span,
+};
 use facet_json_parser::JsonParser;
 use facet_json_serializer::{JsonSerializeError, JsonSerializer};
 
@@ -179,5 +186,108 @@ fn pass(
         ParseEventKind::SequenceEnd => serializer.end_seq(),
         ParseEventKind::FieldKey(key) => serializer.field_key(key.name.as_str()),
         ParseEventKind::Scalar(value) => serializer.scalar(value),
+    }
+}
+
+/// The next event, where a value has not ended.
+///
+/// # Errors
+///
+/// As the parser's `next_event`; and where the parser is at the end of its document, an unexpected end.
+#[inline(always)]
+pub fn next_of_value<'t, 'de>(
+    parser: &mut JsonParser<'de>,
+) -> Result<ParseEvent<'de>, DeserializeError<'t>>
+    ensures onward { GoesOn parser.old parser.new }
+    ensures gave { IfOk result (λ e. PassesNext parser.old (event_of e) parser.new) }
+    ensures steps { IfOk result (λ e. IsStep StandsAt parser.old next (event (Ok (Some (event_of e)))) parser.new) }
+    ensures moves { IfOk result (λ e. Moves parser.old next (event (Ok (Some (event_of e)))) parser.new) }
+    ensures shorter { OnOk result (ahead parser.new < ahead parser.old) }
+    ensures event_within { IfOk result (λ e. stop (event_of e).span ≤ length parser.new.buffer) }
+    ensures refused { parser.old.cursor.refusal ≡ None → IfErr result (λ e. GivesNone parser.old (refusal_of e)) }
+    ensures within { IfErr result (λ e. IfSome e.span (λ s. s.offset + s.len ≤ length parser.new.buffer)) }
+    ensures tells { IfErr result (λ e. TellsRefusal parser.old parser.new (refusal_of e)) }
+{
+    match parser.next_event()? {
+        Some(event) => Ok(event),
+        None => Err(ended(parser)),
+    }
+}
+
+/// The refusal of a value where the parser is at the end.
+pub fn ended<'t>(parser: &JsonParser<'_>) -> DeserializeError<'t>
+    ensures within { IfSome result.span (λ s. s.offset + s.len ≤ length parser.now.buffer) }
+    ensures told { refusal_of result ≡ no_value_after (last_read parser.now) }
+{
+    let end = parser.current_span().unwrap().end();
+    DeserializeError {
+        kind: DeserializeErrorKind::UnexpectedEof { expected: "value" },
+        span: Some(Span::new(end, 0)),
+    }
+}
+
+/// Passes the end of a document, behind its root. A strict parser refuses all but white space there; a lenient one does not look.
+///
+/// ```text
+/// let mut parser = JsonParser::new_strict(alloc, b"1 2");
+/// next_of_value(&mut parser)     Ok: U64(1), span 0+1
+/// pass_end(&mut parser)          Err: UnexpectedToken { got: "U64", expected: "end of input" }, span 2+1
+/// ```
+///
+/// # Errors
+///
+/// As the parser's `next_event`; and `TypeMismatch`, expected `end of input`, with the event's span, where an event comes: the value is not over.
+pub fn pass_end<'t>(parser: &mut JsonParser<'_>) -> Result<(), DeserializeError<'t>>
+    ensures over { OnOk result (IsOver parser.old parser.new) }
+    ensures only { parser.old.cursor.refusal ≡ None → OnErr result (future_of parser.old ≢ finished) }
+    ensures onward { GoesOn parser.old parser.new }
+    ensures within { IfErr result (λ e. RefusalWithin parser.new.buffer (refusal_of e)) }
+    ensures tells { IfErr result (λ e. TellsRefusal parser.old parser.new (refusal_of e)) }
+{
+    let Some(event) = parser.next_event()? else {
+        return Ok(());
+    };
+    Err(mismatch("end of input", event))
+}
+
+/// The refusal of an event with which no value of the type begins, whose name is `expected`.
+pub fn mismatch<'t>(expected: &'t str, event: ParseEvent<'_>) -> DeserializeError<'t>
+    ensures span { result.span ≡ Some event.entry.span }
+    ensures told { refusal_of result ≡ mismatch_of expected.now (event_of event.entry) }
+{
+    let ParseEvent { kind, span } = event;
+    DeserializeError {
+        kind: DeserializeErrorKind::TypeMismatch {
+            expected,
+            got: name_of(&kind),
+        },
+        span: Some(span),
+    }
+}
+
+/// What an event of this kind is called in a refusal.
+fn name_of<'t>(kind: &ParseEventKind<'_>) -> &'t str
+    ensures { result.now ≡ name_of_event (event_kind_of kind.now) }
+{
+    match kind {
+        ParseEventKind::StructStart(_) => "object",
+        ParseEventKind::SequenceStart(_) => "array",
+        ParseEventKind::StructEnd | ParseEventKind::SequenceEnd => "end",
+        ParseEventKind::FieldKey(_) => "key",
+        ParseEventKind::Scalar(value) => scalar_name(value),
+    }
+}
+
+/// What a scalar is called in a refusal.
+fn scalar_name<'t>(value: &ScalarValue<'_>) -> &'t str
+    ensures { result.now ≡ name_of_scalar (scalar_value_of value.now) }
+{
+    match value {
+        ScalarValue::Null | ScalarValue::Unit => "null",
+        ScalarValue::Bool(_) => "bool",
+        ScalarValue::I64(_) | ScalarValue::U64(_) | ScalarValue::I128(_) | ScalarValue::U128(_) =>
+            "integer",
+        ScalarValue::Decimal(_) => "decimal",
+        ScalarValue::Char(_) | ScalarValue::Str(_) | ScalarValue::Bytes(_) => "string",
     }
 }

@@ -2,11 +2,9 @@
 //! time, and copied in runs.
 #![tactic(auto)]
 
-mod escape;
 mod place;
 mod plain;
 mod quote;
 mod window;
 
-pub use escape::hex_digit;
-pub use quote::{push_framed, push_quoted};
+pub use quote::{hex_digit, push_framed, push_quoted};

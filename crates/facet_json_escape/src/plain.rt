@@ -4,7 +4,7 @@ ghost use Rattle.std.specs.Prelude.{◌≡◌, ◌+◌, ◌≤◌, length};
 ghost use Rattle.std.specs.Bool.{OnTrue};
 ghost use Rattle.facet_json_escape.specs.Inner.Window.{PlainBetween};
 
-use crate::escape::needs_escape;
+use crate::quote::needs_escape;
 use std::simd::prelude::*;
 
 /// Whether none of four bytes needs an escape.

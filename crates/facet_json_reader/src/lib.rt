@@ -3,7 +3,6 @@
 #![tactic(auto)]
 
 mod contexts;
-mod digits;
 mod language;
 mod materialized;
 mod number;
@@ -12,8 +11,6 @@ mod quick;
 mod reader;
 mod refusal;
 mod text;
-mod whole;
-mod window;
 
 pub use contexts::Contexts;
 pub use language::Language;

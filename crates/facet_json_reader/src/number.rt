@@ -1,7 +1,7 @@
-//! Numbers that take no memory.
+//! Numbers that are read without an allocation, from their bytes: eight digits by one word, whole numbers, and all others by their parts.
 
-ghost use Rattle.std.specs.Prelude.{◌≡◌, ◌+◌, ◌≤◌, true, false, Some, length, drop, slice_get, slice_range, IfSome};
-ghost use Rattle.facet_format.specs.Number.{parts as number_parts, parts_len};
+ghost use Rattle.std.specs.Prelude.{◌≡◌, ◌+◌, ◌≤◌, true, false, Some, length, drop, slice_get, slice_range, IfSome, ℕ, ◌<◌, ◌^◌, take, ◌≢◌, ◌==◌, ◌||◌, pos, neg_ℤ, map};
+ghost use Rattle.facet_format.specs.Number.{parts as number_parts, parts_len, AreDigits, digits_value};
 ghost use Rattle.facet_format.specs.Views.{scalar_value_of};
 ghost use Rattle.facet_json_token.specs.Cut.{start_of, opens_number};
 ghost use Rattle.facet_json_token.specs.Token.{Kind};
@@ -9,13 +9,17 @@ ghost use Rattle.facet_json_token.specs.NumberViews.{number_of, is_made_number};
 ghost use Rattle.facet_json_document.specs.Meaning.{tree_of_number};
 ghost use Rattle.facet_json_document.specs.Walk.{scalar_by};
 ghost use Rattle.facet_json_token.specs.RfcNumber.{SomeDigits, IsRfcNumber};
-ghost use Rattle.facet_json_reader.specs.Inner.Whole.{digits_from, OpensNumber};
+ghost use Rattle.facet_json_reader.specs.Inner.Whole.{digits_from, OpensNumber, IsWholeNumber};
 ghost use Rattle.facet_json_reader.specs.Values.{IsScalarThere};
+ghost use Rattle.facet_json_reader.specs.Inner.Digits.{word};
+ghost use Rattle.std.specs.Simd.Lanes.{mask_l};
+ghost use Rattle.facet_format.specs.Bytes.{minus, dot, is_exponent_mark};
+ghost use Rattle.facet_format.specs.Inner.Window.{is_no_digit};
 
-use crate::whole::whole_number;
 use facet_format::ScalarValue;
 use facet_format::numeral::{Parts, parts_at};
 use facet_json_token::{ParsedNumber, has_rfc_parts, parse_measured};
+use std::simd::prelude::*;
 
 /// The length and the value of the number at `at`, of which this is the first byte, where it takes no memory.
 #[inline(always)]
@@ -134,4 +138,152 @@ fn short_scalar<'de>(number: ParsedNumber<'de>) -> Option<ScalarValue<'de>>
         ParsedNumber::Decimal(decimal) => Some(ScalarValue::Decimal(decimal)),
         _ => None,
     }
+}
+
+/// The value of one to sixteen decimal digits at `at`, where eight bytes stand.
+#[inline(always)]
+pub(crate) fn digits_at(input: &[u8], at: usize, len: usize) -> u64
+    requires some { 0 < len }
+    requires few { len ≤ 16 }
+    requires room { at + 8 ≤ length input.now }
+    requires within { at + len ≤ length input.now }
+    requires digits { AreDigits (slice_range input.now at (at + len)) }
+    ensures { result ≡ digits_value 0 (slice_range input.now at (at + len)) }
+{
+    if len <= 8 {
+        return few_digits(input, at, len);
+    }
+    let first = few_digits(input, at, len - 8);
+    first * 100_000_000 + few_digits(input, at + (len - 8), 8)
+}
+
+/// The value of one to eight decimal digits at `at`, where eight bytes stand. The digits are moved to the end of a word, after
+/// zeros. Then each two neighbours are joined, each two pairs, and the two fours.
+#[inline(always)]
+fn few_digits(input: &[u8], at: usize, len: usize) -> u64
+    requires some { 0 < len }
+    requires few { len ≤ 8 }
+    requires room { at + 8 ≤ length input.now }
+    requires digits { AreDigits (slice_range input.now at (at + len)) }
+    ensures value { result ≡ digits_value 0 (slice_range input.now at (at + len)) }
+    ensures small { result < 10 ^ 8 }
+{
+    let shift = 64 - 8 * len;
+    let bytes = eight_bytes(input, at) << shift;
+    let zeros = 0x3030_3030_3030_3030_u64 << shift;
+    let digits = bytes - zeros;
+    let pairs = (digits * 10 + (digits >> 8)) & 0x00FF_00FF_00FF_00FF;
+    let fours = (pairs * 100 + (pairs >> 16)) & 0x0000_FFFF_0000_FFFF;
+    (fours * 10_000 + (fours >> 32)) & 0xFFFF_FFFF
+}
+
+/// The eight bytes at `at` as a word, the first of them lowest.
+#[inline(always)]
+fn eight_bytes(input: &[u8], at: usize) -> u64
+    requires { at + 8 ≤ length input.now }
+    ensures { result ≡ word (take 8 (drop at input.now)) }
+{
+    match input[at..].first_chunk() {
+        Some(bytes) => u64::from_le_bytes(*bytes),
+        None => 0,
+    }
+}
+
+/// The length and the value of the number at `at`, of which this is the first byte, where it is at most fifteen digits, perhaps
+/// after a minus, and enough bytes stand there.
+#[inline(always)]
+pub(crate) fn whole_number<'de>(
+    input: &'de [u8],
+    at: usize,
+    first: u8,
+) -> Option<(usize, ScalarValue<'de>)>
+    requires here { slice_get input.now at ≡ Some first }
+    requires number { start_of first ≡ opens_number }
+    ensures there { IfSome result (λ r. IsScalarThere input.now at r.0 (scalar_value_of r.1)) }
+    ensures digits { IfSome result (λ r. SomeDigits (slice_range input.now (digits_from at first) (at + r.0))) }
+{
+    if input.len() - at < 17 {
+        return None;
+    }
+    if first == b'-' {
+        negative_there(input, at)
+    } else {
+        digits_there(input, at, first)
+    }
+}
+
+/// The same for digits alone.
+#[inline(always)]
+fn digits_there<'de>(input: &'de [u8], at: usize, first: u8) -> Option<(usize, ScalarValue<'de>)>
+    requires here { slice_get input.now at ≡ Some first }
+    requires number { start_of first ≡ opens_number }
+    requires no_minus { first ≢ minus }
+    requires room { at + 17 ≤ length input.now }
+    ensures there { IfSome result (λ r. IsScalarThere input.now at r.0 (scalar_value_of r.1)) }
+    ensures digits { IfSome result (λ r. SomeDigits (slice_range input.now at (at + r.0))) }
+{
+    match whole_len(input, at) {
+        Some(len) => Some((len, ScalarValue::U64(digits_at(input, at, len)))),
+        None => None,
+    }
+}
+
+/// The same for digits after a minus.
+#[inline(always)]
+fn negative_there<'de>(input: &'de [u8], at: usize) -> Option<(usize, ScalarValue<'de>)>
+    requires here { slice_get input.now at ≡ Some minus }
+    requires room { at + 17 ≤ length input.now }
+    ensures there { IfSome result (λ r. IsScalarThere input.now at r.0 (scalar_value_of r.1)) }
+    ensures digits { IfSome result (λ r. SomeDigits (slice_range input.now (at + 1) (at + r.0))) }
+{
+    let Some(len) = whole_len(input, at + 1) else {
+        return None;
+    };
+    match negated(digits_at(input, at + 1, len)) {
+        Some(value) => Some((len + 1, ScalarValue::I64(value))),
+        None => None,
+    }
+}
+
+/// How many digits stand at `at`, where some and at most fifteen do, and neither a fraction nor an exponent is after them.
+#[inline(always)]
+fn whole_len(input: &[u8], at: usize) -> Option<usize>
+    requires { at + 16 ≤ length input.now }
+    ensures { IfSome result (λ n. IsWholeNumber (drop at input.now) n) }
+{
+    let found = no_digits(u8x16::from_slice(&input[at..]));
+    let len = found.trailing_zeros() as usize;
+    if found == 0 || len == 0 {
+        return None;
+    }
+    if begins_part(input[at + len]) {
+        return None;
+    }
+    Some(len)
+}
+
+/// Whether a fraction or an exponent begins with this byte.
+#[inline(always)]
+fn begins_part(byte: u8) -> bool
+    ensures { result ≡ ((byte == dot) || is_exponent_mark byte) }
+{
+    byte == b'.' || byte == b'e' || byte == b'E'
+}
+
+/// A bit for each of sixteen bytes that is no digit.
+#[inline(always)]
+fn no_digits(window: u8x16) -> u64
+    ensures { result ≡ mask_l (map is_no_digit window) }
+{
+    (window - u8x16::splat(b'0'))
+        .simd_ge(u8x16::splat(10))
+        .to_bitmask()
+}
+
+/// The number after a minus, where it fits 64 bits.
+#[inline(always)]
+fn negated(digits: u64) -> Option<i64>
+    ensures { IfSome result (λ n. (n ≡ neg_ℤ (pos digits)) × (digits ≤ 2 ^ 63)) }
+{
+    0_i64.checked_sub_unsigned(digits)
 }

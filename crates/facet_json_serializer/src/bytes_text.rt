@@ -6,9 +6,8 @@ ghost use Rattle.facet_json_document.specs.Quoted.{hex_byte};
 ghost use Rattle.facet_json_document.specs.Text.{bytes_text, numbers, shortened, hex};
 ghost use Rattle.facet_json_serializer.specs.OptionsViews.{bytes_format_of};
 
-use crate::append::{push_bytes, push_number};
-use crate::layout::push_separator;
-use crate::options::{BytesFormat, HexBytesOptions};
+use crate::digits::{push_bytes, push_number};
+use crate::options::{BytesFormat, HexBytesOptions, push_separator};
 use facet_json_escape::hex_digit;
 use std::alloc::AllocError;
 

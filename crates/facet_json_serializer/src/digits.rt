@@ -1,4 +1,5 @@
-//! Appending whole numbers of up to 64 bits: their digits are written where they are to stand, in room that is appended for them.
+//! Appending bytes and numbers: the digits of whole numbers of up to 64 bits are written where they are to stand, in room that is appended for
+//! them.
 
 ghost use Rattle.std.specs.Prelude.{◌≡◌, ◌≤◌, ℕ, List, ◌∷◌, ◌++◌, length, take, unsigned_abs, OnOk};
 ghost use Rattle.std.specs.Fmt.{decimal, signed_decimal};
@@ -89,4 +90,20 @@ fn digit_count(n: u64) -> usize
         return 1;
     }
     n.ilog10() as usize + 1
+}
+
+/// Appends bytes as they stand.
+#[inline(always)]
+pub(crate) fn push_bytes(out: &mut Vec<u8>, bytes: &[u8]) -> Result<(), AllocError>
+    ensures { OnOk result (out.new.items ≡ out.old.items ++ bytes.now) }
+{
+    out.extend_from_slice(bytes)
+}
+
+/// Appends a whole number's decimal digits, after a minus where it is negative.
+pub(crate) fn push_number<N: itoa::Integer>(out: &mut Vec<u8>, n: N) -> Result<(), AllocError>
+    ensures { OnOk result (out.new.items ≡ out.old.items ++ N.text n) }
+{
+    let mut buffer = itoa::Buffer::new();
+    out.extend_from_slice(buffer.format(n).as_bytes())
 }

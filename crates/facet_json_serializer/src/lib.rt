@@ -2,13 +2,10 @@
 //! is refused (`JsonSerializeError`). The texts themselves are defined in `facet_json_document`.
 #![tactic(auto)]
 
-mod append;
 mod bytes_text;
-mod containers;
 mod digits;
 mod error;
 pub mod laws;
-mod layout;
 mod options;
 mod scalar_text;
 mod serializer;

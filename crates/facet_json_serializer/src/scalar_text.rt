@@ -8,8 +8,8 @@ ghost use Rattle.facet_json_document.specs.Text.{bool_text};
 ghost use Rattle.facet_json_serializer.specs.Serializer.{scalar_text};
 ghost use Rattle.facet_json_serializer.specs.OptionsViews.{options_of};
 
-use crate::append::{push_bytes, push_number};
 use crate::bytes_text::push_bytes_text;
+use crate::digits::{push_bytes, push_number};
 use crate::options::SerializeOptions;
 use facet_format::ScalarValue;
 use facet_json_escape::push_quoted;

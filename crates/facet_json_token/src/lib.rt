@@ -6,7 +6,6 @@
 mod ascii;
 mod decode;
 mod decode_refusal;
-mod in_sight;
 mod mode;
 mod number;
 mod plain;

@@ -14,8 +14,8 @@ ghost use Rattle.facet_json_token.specs.Cut as spec_cut;
 ghost use Rattle.facet_json_token.specs.Views.{mode_of, kind_of, scanned};
 ghost use Rattle.facet_format.specs.Views.{span_of};
 
-use crate::in_sight::{past_space, token_in_sight};
 use crate::mode::Mode;
+use crate::quick::{past_space, token_in_sight};
 use crate::token::{ScanError, ScanErrorKind, ScanResult, SpannedToken, Token};
 use crate::window::plain_end;
 use facet_format::Span;

@@ -6,8 +6,9 @@ ghost use Rattle.std.specs.Prelude.{◌≡◌, ◌⊎◌, IfErr};
 ghost use Rattle.facet_json_command.specs.declared.outcome.Outcome.TheVariants as outcome;
 ghost use Rattle.facet_json_command.specs.Outcome.{IsFaultOfRun};
 
-use facet_json_command::outcome::{OUT_OF_MEMORY, Outcome, failure, without_arguments};
-use facet_json_command::report::{status, write_line};
+use facet_json_command::outcome::{
+    OUT_OF_MEMORY, Outcome, failure, status, without_arguments, write_line,
+};
 use facet_json_command::run::run;
 use std::env;
 use std::io::BufWriter;

@@ -1,7 +1,7 @@
 -- The containers that are open, as the code holds them: the innermost by itself, and those around it, the outermost first.
 use Rattle.std.specs.Prelude.{◌≡◌, List, [], ◌∷◌, map, reverse, Option, Some, None, Bool, false}
-use Rattle.facet_json_serializer.specs.declared.containers.Container.{Container}
-use Rattle.facet_json_serializer.specs.declared.containers.Container.TheVariants as container
+use Rattle.facet_json_serializer.specs.declared.writing.Container.{Container}
+use Rattle.facet_json_serializer.specs.declared.writing.Container.TheVariants as container
 use Rattle.facet_json_serializer.specs.Serializer.{Opened, in_struct, in_list}
 
 abbrev pub opened_of : Container → Opened

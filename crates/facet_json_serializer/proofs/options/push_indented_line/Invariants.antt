@@ -1,0 +1,6 @@
+use Rattle.std.proofs.Common.{◌≡◌, ◌++◌}
+use Rattle.facet_json_document.specs.Text.{indents}
+use Rattle.facet_json_serializer.proofs.options.push_indented_line.Given as goal
+
+abbrev pub invariant-loop : goal.invariant-loop
+invariant-loop l = l.out.items ≡ l.initial.out.items ++ indents l.counter l.indent

@@ -1,8 +1,0 @@
-use Rattle.std.proofs.Common.{rules}
-use Rattle.facet_json_token.proofs.in_sight.number_in_sight.Goals as goal
-
-pub returns-then-is_bare : goal.returns-then-is_bare
-returns-then-is_bare c = search rules
-
-pub returns : goal.returns
-returns c = search rules
