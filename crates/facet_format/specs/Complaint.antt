@@ -35,6 +35,6 @@ pub record Refusal : Type 0 where
 abbrev pub refusal_at : Complaint → Span → Refusal
 refusal_at complaint span = record { complaint = complaint; span = Some span }
 
--- a growth was refused, which has no place in the input
+-- an allocation failed, which has no place in the input
 abbrev pub no_memory : Refusal
 no_memory = record { complaint = out_of_memory; span = None }

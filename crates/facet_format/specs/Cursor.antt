@@ -141,7 +141,7 @@ back_at c point spot = record c { spot = spot; refusal = None; kept = without po
 abbrev pub greatest : ℕ
 greatest = 0xffff_ffff_ffff_ffff
 
--- a growth was refused while this was the last token
+-- an allocation failed while this was the last token
 abbrev pub no_memory_at : Span → Refusal
 no_memory_at last = refusal_at out_of_memory last
 

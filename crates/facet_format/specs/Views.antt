@@ -50,7 +50,7 @@ complaint_of error.SaveLimit = complaint.save_limit
 abbrev pub refusal_of : DeserializeError → Refusal
 refusal_of e = record { complaint = complaint_of e.kind; span = option_map span_of e.span }
 
--- a growth was refused, which has no place in the input
+-- an allocation failed, which has no place in the input
 abbrev pub memory_refused : DeserializeError
 memory_refused = record { kind = error.OutOfMemory; span = None }
 

@@ -53,7 +53,7 @@ pub enum DeserializeErrorKind<'t> {
         /// Its name.
         field: &'t str,
     },
-    /// A growth was refused.
+    /// An allocation failed.
     OutOfMemory,
     /// The counter of save points is at its end.
     SaveLimit,
@@ -69,7 +69,7 @@ pub struct DeserializeError<'t> {
 }
 
 impl<'t> DeserializeError<'t> {
-    /// The refusal of a growth, which has no place in the input.
+    /// A failed allocation, which has no place in the input.
     pub fn out_of_memory() -> DeserializeError<'t>
         ensures refusal { refusal_of result ≡ no_memory }
         ensures error { result ≡ memory_refused }

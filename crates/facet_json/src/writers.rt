@@ -22,7 +22,7 @@ use std::io::Write;
 ///
 /// # Errors
 ///
-/// `Memory` where a growth is refused: then nothing was written. `Io` where the writer fails.
+/// `Memory` where an allocation fails: then nothing was written. `Io` where the writer fails.
 pub fn to_writer_std<'de, W: Write, T: Facet<'de>>(
     alloc: Global,
     writer: &mut W,
@@ -44,7 +44,7 @@ pub fn to_writer_std<'de, W: Write, T: Facet<'de>>(
 ///
 /// # Errors
 ///
-/// `Memory` where a growth is refused: then nothing was written. `Io` where the writer fails.
+/// `Memory` where an allocation fails: then nothing was written. `Io` where the writer fails.
 pub fn to_writer_std_pretty<'de, W: Write, T: Facet<'de>>(
     alloc: Global,
     writer: &mut W,
@@ -67,7 +67,7 @@ pub fn to_writer_std_pretty<'de, W: Write, T: Facet<'de>>(
 ///
 /// # Errors
 ///
-/// `Memory` where a growth is refused: then nothing was written. `Io` where the writer fails.
+/// `Memory` where an allocation fails: then nothing was written. `Io` where the writer fails.
 pub fn to_writer_std_with_options<'de, W: Write, T: Facet<'de>>(
     alloc: Global,
     writer: &mut W,

@@ -23,7 +23,7 @@ use std::alloc::Global;
 ///
 /// # Errors
 ///
-/// `OutOfMemory` alone, where a growth is refused.
+/// `OutOfMemory` alone, where an allocation fails.
 pub fn to_vec<'de, T: Facet<'de>>(alloc: Global, value: &T) -> Result<Vec<u8>, JsonSerializeError>
     ensures text { IfOk result (λ v. v.items ≡ text default_options 0 (T.tree_of (T.view value.now))) }
     ensures refused { IfErr result (λ e. write_refusal_of e ≡ out_of_memory) }
@@ -41,7 +41,7 @@ pub fn to_vec<'de, T: Facet<'de>>(alloc: Global, value: &T) -> Result<Vec<u8>, J
 ///
 /// # Errors
 ///
-/// `OutOfMemory` alone, where a growth is refused.
+/// `OutOfMemory` alone, where an allocation fails.
 pub fn to_vec_pretty<'de, T: Facet<'de>>(
     alloc: Global,
     value: &T,
@@ -61,7 +61,7 @@ pub fn to_vec_pretty<'de, T: Facet<'de>>(
 ///
 /// # Errors
 ///
-/// `OutOfMemory` alone, where a growth is refused.
+/// `OutOfMemory` alone, where an allocation fails.
 pub fn to_vec_with_options<'de, T: Facet<'de>>(
     alloc: Global,
     value: &T,
@@ -87,7 +87,7 @@ pub fn to_vec_with_options<'de, T: Facet<'de>>(
 ///
 /// # Errors
 ///
-/// `OutOfMemory` alone, where a growth is refused.
+/// `OutOfMemory` alone, where an allocation fails.
 pub fn to_string<'de, T: Facet<'de>>(alloc: Global, value: &T) -> Result<String, JsonSerializeError>
     ensures text { IfOk result (λ v. string_bytes v ≡ text default_options 0 (T.tree_of (T.view value.now))) }
     ensures refused { IfErr result (λ e. write_refusal_of e ≡ out_of_memory) }
@@ -105,7 +105,7 @@ pub fn to_string<'de, T: Facet<'de>>(alloc: Global, value: &T) -> Result<String,
 ///
 /// # Errors
 ///
-/// `OutOfMemory` alone, where a growth is refused.
+/// `OutOfMemory` alone, where an allocation fails.
 pub fn to_string_pretty<'de, T: Facet<'de>>(
     alloc: Global,
     value: &T,
@@ -125,7 +125,7 @@ pub fn to_string_pretty<'de, T: Facet<'de>>(
 ///
 /// # Errors
 ///
-/// `OutOfMemory` alone, where a growth is refused.
+/// `OutOfMemory` alone, where an allocation fails.
 pub fn to_string_with_options<'de, T: Facet<'de>>(
     alloc: Global,
     value: &T,

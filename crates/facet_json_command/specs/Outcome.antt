@@ -16,6 +16,6 @@ IsFailure Usage = ⊥
 abbrev pub IsFaultOfRun : Outcome → Type 0
 IsFaultOfRun outcome = (outcome ≡ Refused 9 None) ⊎ (outcome ≡ Io)
 
--- A call of the system that failed with an error of this kind is answered so: a growth that was refused in its midst is out of memory.
+-- A call of the system that failed with an error of this kind is answered so: an allocation that failed in its midst is out of memory.
 abbrev pub IsToldAs : ErrorKind → Outcome → Type 0
 IsToldAs kind outcome = (kind ≡ OutOfMemory → outcome ≡ Refused 9 None) × (kind ≢ OutOfMemory → outcome ≡ Io)

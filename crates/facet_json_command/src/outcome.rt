@@ -18,7 +18,7 @@ use std::io::{ErrorKind, Write};
 pub enum Outcome {
     /// All of the answer is written.
     Done,
-    /// The input was refused, or a growth was: the code of the refusal, and the bytes of the input that it is about,
+    /// The input was refused, or an allocation failed: the code of the refusal, and the bytes of the input that it is about,
     /// where they are known.
     Refused(u8, Option<Span>),
     /// A read or a write failed.
@@ -27,10 +27,10 @@ pub enum Outcome {
     Usage,
 }
 
-/// A growth was refused, which has no place in the input.
+/// An allocation failed, which has no place in the input.
 pub const OUT_OF_MEMORY: Outcome = Outcome::Refused(9, None);
 
-/// How a call of the system that failed is answered. A growth that was refused in the midst of it is out of memory.
+/// How a call of the system that failed is answered. An allocation that failed in the midst of it is out of memory.
 pub fn failure(error: &io::Error) -> Outcome
     ensures told { IsToldAs (error_kind error.now) result }
     ensures fault { IsFaultOfRun result }

@@ -22,7 +22,7 @@ is_own _ = false
 abbrev pub IsAbout : Span → Refusal → Type 0
 IsAbout span refusal = (complaint : Complaint) × (is_own complaint ≡ true) × (refusal ≡ refusal_at complaint span)
 
--- The same, or a growth was refused.
+-- The same, or an allocation failed.
 abbrev pub LacksOrIsAbout : Span → Refusal → Type 0
 LacksOrIsAbout span refusal = (refusal ≡ no_memory) ⊎ IsAbout span refusal
 
@@ -81,5 +81,5 @@ pub data TellsRefusal (old new : Now) (refusal : Refusal) : Type 0 where
   at_the_end : new.cursor.refusal ≡ None → future_of new ≡ finished → refusal ≡ no_value_after (current_span_of new) → TellsRefusal old new refusal
   -- A type refuses what was passed.
   of_a_type : (span : Span) → new.cursor.refusal ≡ None → IsSpanPassed old new span → IsAbout span refusal → TellsRefusal old new refusal
-  -- A growth of the value itself was refused.
+  -- An allocation for the value itself failed.
   without_memory : new.cursor.refusal ≡ None → refusal ≡ no_memory → TellsRefusal old new refusal

@@ -89,13 +89,13 @@ pub enum JsonErrorKind {
     Read(DeserializeErrorKind<'static>),
     /// How this library's writer refused.
     Write(JsonSerializeError),
-    /// A growth was refused.
+    /// An allocation failed.
     OutOfMemory,
 }
 
 impl JsonErrorKind {
     /// The name of the kind for programs, such as `json::type_mismatch`, which does not change from release to release. A reader's
-    /// refusal has the name of the kind that says the same, and every refused growth `json::out_of_memory`.
+    /// refusal has the name of the kind that says the same, and every failed allocation `json::out_of_memory`.
     ///
     /// ```text
     /// JsonErrorKind::InvalidUtf8.code()     "json::invalid_utf8"

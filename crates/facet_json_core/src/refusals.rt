@@ -63,7 +63,7 @@ impl From<JsonSerializeError> for JsonError {
     }
 }
 
-/// A growth was refused.
+/// An allocation failed.
 impl From<AllocError> for JsonError {
     ghost from_gives = { λ _ e. e ≡ error_at OutOfMemory None };
 
@@ -72,7 +72,7 @@ impl From<AllocError> for JsonError {
     }
 }
 
-/// A growth was refused, and what was to be stored is let go.
+/// An allocation failed, and what was to be stored is let go.
 impl<T: Drop> From<AllocFailed<T>> for JsonError {
     ghost from_gives = { λ _ e. e ≡ error_at OutOfMemory None };
 

@@ -23,7 +23,7 @@ use std::alloc::AllocError;
 ///
 /// # Errors
 ///
-/// `AllocError` alone, where a growth of `out` is refused: `out` may then end in a part of the text.
+/// `AllocError` alone, where an allocation for `out` fails: `out` may then end in a part of the text.
 pub fn push_quoted(out: &mut Vec<u8>, text: &str) -> Result<(), AllocError>
     ensures { OnOk result (out.new.items ≡ out.old.items ++ quoted text.now) }
 {
@@ -40,7 +40,7 @@ pub fn push_quoted(out: &mut Vec<u8>, text: &str) -> Result<(), AllocError>
 ///
 /// # Errors
 ///
-/// `AllocError` alone, where a growth of `out` is refused: `out` may then end in a part of this.
+/// `AllocError` alone, where an allocation for `out` fails: `out` may then end in a part of this.
 #[inline(never)]
 pub fn push_framed(
     out: &mut Vec<u8>,

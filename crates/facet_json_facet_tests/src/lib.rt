@@ -17,7 +17,7 @@ mod entries;
 #[cfg(test)]
 mod example_records;
 #[cfg(test)]
-mod growth;
+mod allocations;
 #[cfg(test)]
 mod lent;
 #[cfg(test)]

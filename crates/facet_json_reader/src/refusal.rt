@@ -218,7 +218,7 @@ pub enum Why {
     InvalidUtf8,
     /// No raw text, for this.
     NoRaw(NoRaw),
-    /// A growth was refused.
+    /// An allocation failed.
     OutOfMemory,
     /// The counter of save points is at its end.
     SaveLimit,
@@ -264,7 +264,7 @@ pub struct Refused {
 }
 
 impl Refused {
-    /// A growth was refused while this was the last token.
+    /// An allocation failed while this was the last token.
     pub fn out_of_memory(last: Span) -> Refused
         ensures { refused_of result ≡ no_memory_at (span_of last) }
     {

@@ -1,4 +1,4 @@
-//! Calls whose requests for memory stand between two marks, so that `check_growths` can refuse each of these and no other.
+//! Calls whose requests for memory stand between two marks, so that `checks/allocations` can refuse each of these and no other.
 
 use crate::compared::{Mode, parser_of};
 use crate::pieces::agree;

@@ -18,6 +18,6 @@ pub struct Scanned {
 pub enum ScanReadError {
     /// A read failed.
     Io = 1,
-    /// A growth was refused.
+    /// An allocation failed.
     Memory = 2,
 }

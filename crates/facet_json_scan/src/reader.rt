@@ -29,7 +29,7 @@ const LONGEST_PIECE: usize = 65_536;
 ///
 /// # Errors
 ///
-/// A read failed, which is not tried again, or a growth was refused. What was read until then is dropped.
+/// A read failed, which is not tried again, or an allocation failed. What was read until then is dropped.
 pub fn scan_reader<R: ByteSource>(
     alloc: Global,
     source: &mut R,

@@ -5,17 +5,17 @@
 #[cfg(test)]
 mod decimals;
 #[cfg(test)]
-mod decoding_growth;
+mod decoding_allocations;
 #[cfg(test)]
 mod events;
 #[cfg(test)]
-mod growth;
+mod allocations;
 #[cfg(test)]
 mod parsers;
 #[cfg(test)]
 mod pieces;
 #[cfg(test)]
-mod pieces_growth;
+mod pieces_allocations;
 #[cfg(test)]
 mod rows;
 #[cfg(test)]

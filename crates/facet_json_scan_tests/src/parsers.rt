@@ -47,7 +47,7 @@ fn position<'de, P: FormatParser<'de>>(parser: &P) -> usize {
     parser.current_span().unwrap().end()
 }
 
-/// How a reader over a parser refuses where a growth was refused.
+/// How a reader over a parser refuses where an allocation failed.
 fn growth_refused<'de, 't, P: FormatParser<'de>>(parser: &P) -> ParseError<'t>
     ensures { result.kind ≡ OutOfMemory }
 {

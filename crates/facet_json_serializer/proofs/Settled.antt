@@ -21,7 +21,7 @@ pub settles-unfailed : (failed : Bool) (w n : Writing) (old new : Option Writing
 settles-unfailed failed w n old new call answer well was h is =
     rw (is, sym was, well) (settles w n call answer h)
 
--- once a growth was refused, each call is
+-- once an allocation failed, each call is
 pub stays_failed : (failed : Bool) (w : Writing) (old : Option Writing) (call : SerializerCall) → failed ≡ true → cond failed None (Some w) ≡ old
     → Appends old call (Err out_of_memory) old
 stays_failed failed w old call ill was = rw (sym was, ill) (stays_out call)

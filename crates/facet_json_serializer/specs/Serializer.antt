@@ -107,14 +107,14 @@ addition o stack (byte_array bytes) = value_added o stack (bytes_text o.bytes_fo
 abbrev pub appended : Writing → Addition → Writing
 appended w a = record { options = w.options; stack = a.stack; written = w.written ++ a.added }
 
--- What a call of a serializer answers and leaves. It is none once a growth was refused.
+-- What a call of a serializer answers and leaves. It is none once an allocation failed.
 pub data Appends : Option Writing → SerializerCall → Result (Unit {0}) WriteRefusal → Option Writing → Type 0 where
   appends : (w : Writing) (call : SerializerCall) (a : Addition) → addition w.options w.stack call ≡ Ok a
       → Appends (Some w) call (Ok tt) (Some (appended w a))
   -- the call doesn't fit what is open, and nothing changes
   refuses : (w : Writing) (call : SerializerCall) (why : Misfit) → addition w.options w.stack call ≡ Err why
       → Appends (Some w) call (Err (misfits why)) (Some w)
-  -- a growth was refused: from now on every call is
+  -- an allocation failed: from now on every call is
   runs_out : (w : Writing) (call : SerializerCall) (a : Addition) → addition w.options w.stack call ≡ Ok a
       → Appends (Some w) call (Err out_of_memory) None
   stays_out : (call : SerializerCall) → Appends None call (Err out_of_memory) None

@@ -20,7 +20,7 @@ pub enum JsonSerializeError {
     /// A list was ended where none is the innermost open container.
     #[error("end_seq called without matching begin_seq")]
     NoListToEnd,
-    /// A growth was refused. From then on every call is refused so.
+    /// An allocation failed. From then on every call is refused so.
     #[error("out of memory")]
     OutOfMemory,
 }

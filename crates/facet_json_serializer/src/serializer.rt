@@ -35,7 +35,7 @@ use std::marker::Model;
 ///
 /// # Errors
 ///
-/// Every call is refused with `OutOfMemory` where a growth is refused, and from then on, `finish` too. The other refusals
+/// Every call is refused with `OutOfMemory` where an allocation fails, and from then on, `finish` too. The other refusals
 /// change nothing.
 #[derive(Debug, Drop)]
 pub struct JsonSerializer<'i> {

@@ -31,7 +31,7 @@ pub use unchecked::{
 pub enum DecodeError {
     /// The content has no text: what is wrong first, and where.
     Scan(ScanError),
-    /// A growth was refused.
+    /// An allocation failed.
     OutOfMemory,
 }
 

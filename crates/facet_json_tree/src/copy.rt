@@ -22,7 +22,7 @@ impl Tree {
     ///
     /// # Errors
     ///
-    /// `AllocError` alone, where a growth is refused: never for `null`, a truth value, a character or a whole number.
+    /// `AllocError` alone, where an allocation fails: never for `null`, a truth value, a character or a whole number.
     pub fn clone(&self, alloc: Global) -> Result<Tree, AllocError>
         ensures { MatchResult result
             (λ copy. tree_view copy ≡ tree_view self.now)

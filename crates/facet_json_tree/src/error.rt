@@ -11,7 +11,7 @@ use std::{fmt, io};
 /// Why a text was not written to a writer.
 #[derive(Debug, Drop)]
 pub enum WriteError {
-    /// A growth was refused. The writer has got nothing.
+    /// An allocation failed. The writer has got nothing.
     Memory,
     /// The writer failed, and this is its error. How much it has got is not known.
     Io(io::Error),
@@ -48,7 +48,7 @@ impl fmt::Display for WriteError {
 
 impl Error for WriteError {}
 
-/// A growth was refused.
+/// An allocation failed.
 impl From<AllocError> for WriteError {
     ghost from_gives = { λ _ e. e ≡ Memory };
 
@@ -57,7 +57,7 @@ impl From<AllocError> for WriteError {
     }
 }
 
-/// A growth was refused, and what was to be stored is let go.
+/// An allocation failed, and what was to be stored is let go.
 impl<T: Drop> From<AllocFailed<T>> for WriteError {
     ghost from_gives = { λ _ e. e ≡ Memory };
 

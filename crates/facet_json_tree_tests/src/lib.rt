@@ -9,7 +9,7 @@ mod copies;
 #[cfg(test)]
 mod depth;
 #[cfg(test)]
-mod growth;
+mod allocations;
 #[cfg(test)]
 mod lookups;
 #[cfg(test)]

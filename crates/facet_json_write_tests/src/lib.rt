@@ -10,13 +10,13 @@ mod byte_types;
 #[cfg(test)]
 mod calls;
 #[cfg(test)]
-mod error_growth;
+mod error_allocations;
 #[cfg(test)]
 mod escapes;
 #[cfg(test)]
 mod generic;
 #[cfg(test)]
-mod growth;
+mod allocations;
 #[cfg(test)]
 mod kinds;
 #[cfg(test)]

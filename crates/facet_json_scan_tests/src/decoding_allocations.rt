@@ -1,4 +1,4 @@
-//! Refused growths. With ample memory this test passes as any other does. `./check_growths` at the top runs it once more for each of its
+//! Failed allocations. With ample memory this test passes as any other does. `checks/allocations` runs it once more for each of its
 //! requests for memory, which is refused, and it has to pass in every such run. The decoders that take memory are called twice: as one
 //! request is refused in a run, memory runs out in one of the two at most, and the other gives the whole answer. What takes none gives
 //! it always.

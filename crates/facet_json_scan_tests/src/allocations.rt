@@ -1,4 +1,4 @@
-//! Refused growths. With ample memory these tests pass as any other does. `./check_growths` at the top runs them once more for each
+//! Failed allocations. With ample memory these tests pass as any other does. `checks/allocations` runs them once more for each
 //! of their requests for memory, which is refused, and they have to pass in every such run. Each row is tried twice, its set-up too: as
 //! one request is refused in a run, memory runs out in one of the two at most, and the other gives the whole answer.
 
