@@ -20,7 +20,7 @@ pub data Part (P : Type 0) : Type 0 where
   -- none of them
   nothing : Refusal → Part P
 
--- Its brackets have to be remembered, which takes memory.
+-- Its brackets have to be remembered, which allocates.
 abbrev pub has_brackets : {P : Type 0} → Part P → Bool
 has_brackets (value brackets start finish place) = brackets
 has_brackets (broken r) = true

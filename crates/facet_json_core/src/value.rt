@@ -38,7 +38,7 @@ use facet_json_serializer::{JsonSerializeError, JsonSerializer};
 /// Passes one value from the parser to the serializer: its events in order, up to its last one. The value is written where the
 /// serializer stands, by its options.
 ///
-/// It takes no memory but that of the open containers, one event's text, and what is written. It does not recurse.
+/// It allocates only for the open containers, one event's text, and what is written. It does not recurse.
 ///
 /// ```text
 /// let mut parser = JsonParser::new(alloc, b"[1, {\"a\": null},]");

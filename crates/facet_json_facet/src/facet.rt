@@ -59,7 +59,7 @@ pub trait Facet<'de>: Sized + Drop {
     /// The value borrows nothing of the input. A type whose values may borrow says of which this is so; of another nothing is said.
     ghost owned: { Self → Type 0 } = { λ _. Unit {0} };
 
-    /// Reading at the start of an input goes well only where the input has a document; and where the parser is strict, and then at the end,
+    /// Reading at the start of an input succeeds only where the input has a document; and where the parser is strict, and then at the end,
     /// only where the input is a strict document.
     ghost whole: { Bool };
 

@@ -16,11 +16,11 @@ pub fn same_bytes_same_text()
     ensures { SameBytesSameText }
 {}
 
-/// Strict mode, in the terms of RFC 8259 alone. Read by the next event, a strict parser ends well exactly where its input is UTF-8 and one text of
+/// Strict mode, in the terms of RFC 8259 alone. Read by the next event, a strict parser ends in `None` exactly where its input is UTF-8 and one text of
 /// the grammar (sections 2 to 8) whose strings have a text and whose whole numbers lie within 128 bits, out of memory aside; and there it answers
 /// every list of calls as a cursor on the walk of the text's document does.
 ///
-/// So ` [1, "a"] ` ends well. `[1,]`, `01`, `[1] x`, a text with a tab between its quotes and an empty input are refused.
+/// So ` [1, "a"] ` ends in `None`. `[1,]`, `01`, `[1] x`, a text with a tab between its quotes and an empty input are refused.
 pub fn strict_reads_texts()
     ensures { StrictReadsTexts }
 {}

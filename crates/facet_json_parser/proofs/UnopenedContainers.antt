@@ -19,7 +19,7 @@ pub nothing_held : (held : Option Held) → is_some held ≡ false → held ≡ 
 nothing_held None e = refl
 nothing_held (Some h) e = cc
 
--- Nothing is held, and the event comes, which takes memory.
+-- Nothing is held, and the event comes, which allocates.
 pub unopened-refused : (buffer : List ℕ) (language : Language) (s : RustLookahead) (h : Held) (refusal : Refusal) → is_some s.held ≡ false →
     GivesHeld (coming buffer language s.reader) h → takes_memory (event_kind_of h.event.kind) ≡ true →
     refusal ≡ no_memory_at (span_of s.reader.last) →

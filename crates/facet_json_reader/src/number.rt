@@ -21,7 +21,7 @@ use facet_format::numeral::{Parts, parts_at};
 use facet_json_token::{ParsedNumber, has_rfc_parts, parse_measured};
 use std::simd::prelude::*;
 
-/// The length and the value of the number at `at`, of which this is the first byte, where it takes no memory.
+/// The length and the value of the number at `at`, of which this is the first byte, where it allocates nothing.
 #[inline(always)]
 pub fn short_number<'de>(
     input: &'de [u8],
@@ -126,7 +126,7 @@ fn value_of_parts<'de>(
     }
 }
 
-/// The number as a scalar, where it takes no memory.
+/// The number as a scalar, where it allocates nothing.
 #[inline(always)]
 fn short_scalar<'de>(number: ParsedNumber<'de>) -> Option<ScalarValue<'de>>
     ensures { (kind : Kind) → is_made_number number.entry ≡ false

@@ -41,7 +41,7 @@ pub enum Trust {
 
 impl Reader {
     /// Passes the next event and answers it, where a few bytes decide it: a bracket, a text or a key without an escape, a number
-    /// that takes no memory, a literal. Else nothing changes.
+    /// that allocates nothing, a literal. Else nothing changes.
     #[inline(always)]
     pub fn pass_quickly<'de>(
         &mut self,
@@ -215,7 +215,7 @@ impl Reader {
         }
     }
 
-    /// Passes a number that takes no memory. The answer of the function that does it is a value of its own: so no other event
+    /// Passes a number that allocates nothing. The answer of the function that does it is a value of its own: so no other event
     /// needs memory.
     #[inline(always)]
     fn pass_number_apart<'de>(
@@ -242,7 +242,7 @@ impl Reader {
         }
     }
 
-    /// Passes a number that takes no memory, of which this is the first byte.
+    /// Passes a number that allocates nothing, of which this is the first byte.
     #[inline(never)]
     fn pass_number<'de>(
         &mut self,

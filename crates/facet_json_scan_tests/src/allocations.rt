@@ -32,7 +32,7 @@ fn is_kept(alloc: Global, text: &str) -> Option<bool> {
     }
 }
 
-/// A copy of the decimal of this text, which takes no memory.
+/// A copy of the decimal of this text, which allocates nothing.
 fn copied_free<'t>(alloc: Global, text: &'t str) -> Option<Decimal<'t>> {
     Decimal::new(text)?.clone(alloc).ok()
 }

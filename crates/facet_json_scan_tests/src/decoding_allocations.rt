@@ -1,5 +1,5 @@
 //! Failed allocations. With ample memory this test passes as any other does. `checks/allocations` runs it once more for each of its
-//! requests for memory, which is refused, and it has to pass in every such run. The decoders that take memory are called twice: as one
+//! requests for memory, which is refused, and it has to pass in every such run. The decoders that allocate are called twice: as one
 //! request is refused in a run, memory runs out in one of the two at most, and the other gives the whole answer. What takes none gives
 //! it always.
 
@@ -72,7 +72,7 @@ fn is_owned(answer: &Result<CowStr<'_>, DecodeError>, row: &Row) -> Option<bool>
     }
 }
 
-/// Whether each decoder that takes memory gives the row's answer.
+/// Whether each decoder that allocates gives the row's answer.
 fn decodes(alloc: Global, row: &Row) -> Option<bool> {
     let buf = row.0.as_bytes();
     let end = buf.len();

@@ -46,7 +46,7 @@ TellsUnsigned w t answer =
 abbrev pub TellsSigned : Width → Tree → Option ℤ → Type 0
 TellsSigned w t answer = MatchOption (as_whole t) (answer ≡ None) (λ n. SomeIff answer (FitsSigned w n) n)
 
--- values whose copies may take memory: all but `null`, truth values, characters and whole numbers
+-- values whose copies may allocate: all but `null`, truth values, characters and whole numbers
 abbrev pub may_allocate : Tree → Bool
 may_allocate null = false
 may_allocate unit = false

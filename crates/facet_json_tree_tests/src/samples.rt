@@ -54,7 +54,7 @@ pub fn each_kind(alloc: Global) -> Result<Tree, AllocError> {
     Ok(Tree::from(items))
 }
 
-/// Values that take no memory of their own.
+/// Values that allocate nothing of their own.
 fn push_numbers(items: &mut Vec<Tree>) -> Result<(), AllocError> {
     items.push(Tree::Unit)?;
     items.push(Tree::from('x'))?;
