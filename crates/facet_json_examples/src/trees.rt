@@ -17,3 +17,8 @@ fn pair(alloc: Global) -> Result<Vec<u8>, JsonSerializeError> {
     let items = vec![in alloc; Tree::U64(1), Tree::U64(2)]?;
     to_vec(alloc, &Tree::List(items))
 }
+
+/// The first user's name in `{"users":[{"name":"Ada"}]}`, and none where the tree has none.
+fn first_name(tree: &Tree) -> Option<&str> {
+    tree.get("users")?.item(0)?.get("name")?.as_str()
+}
