@@ -1,4 +1,4 @@
-//! Callers of `facet_json`, short and proved: the examples of the README, and more.
+//! Callers of `facet_json`, short and proved: the examples of the README and of `docs/GUIDE.md`, and more.
 #![tactic(auto)]
 
 pub mod accounts;
