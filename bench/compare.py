@@ -1,7 +1,8 @@
 #!/usr/bin/env python3
-"""Has each side do the same work on the same inputs, in turns, and writes tables and a picture of the shortest times.
+"""Has each side do the same work on the same inputs, in turns, and writes tables of the shortest times.
 
-compare.py OUT RESULTS [--turns N] [--before PROGRAM]: OUT has the built programs and the inputs. `bench/run` calls this.
+compare.py OUT RESULTS [--turns N] [--before PROGRAM]: OUT has the built programs and the inputs. `bench/run` calls this. What is measured of an
+older program stands in OUT/before.md alone.
 """
 import argparse
 import csv
@@ -10,7 +11,6 @@ import datetime
 import os
 import pathlib
 import platform
-import shutil
 import subprocess
 import sys
 
@@ -62,11 +62,10 @@ RATIOS = [
 ]
 SINCE = [
     Ratio("tokens / before", "tokens", "tokens", "before"),
-    Ratio("events / before", "events", "events", "before", 2.5),
+    Ratio("events / before", "events", "events", "before"),
     Ratio("tree / before", "tree", "tree", "before"),
     Ratio("to_vec / before", "text", "text", "before"),
 ]
-PICTURE = [0, 2, 4, 5, 6, 7, 10, 11]
 
 
 class Bench:
@@ -174,12 +173,12 @@ def commit():
     return said("git", "-C", str(here), "rev-parse", "--short=12", "HEAD")
 
 
-def circumstances(bench, load):
-    """Lines of where, when and how the times were taken."""
+def circumstances(bench):
+    """Lines of where and how the times were taken."""
     compiler = os.environ.get("CXX", "g++")
     target = os.environ.get("BENCH_TARGET", "native")
     yield f"Date: {datetime.date.today()}. Commit: {commit()}. Command: `{os.environ.get('BENCH_COMMAND', ' '.join(['python3', *sys.argv]))}`."
-    yield f"Processor: {processor()}, {os.cpu_count()} of them; Linux {platform.release()}. Load averages before and after: {load}, {loads()}."
+    yield f"Processor: {processor()}."
     yield f"This library: proved and built by `{said('rt', 'version')}`, for x86-64-v2."
     if "serde_json" in bench.programs:
         yield f"serde_json: {package('librust-serde-json-dev')} of Debian, by {said('rustc', '--version')}, `opt-level=3`, fat LTO, one codegen unit, `target-cpu={target}`."
@@ -191,11 +190,6 @@ def circumstances(bench, load):
         yield f"`fmt`: the processor time of a whole process, the shortest of {bench.turns * 3} runs."
     else:
         yield "`fmt` is not measured: the program was not built."
-
-
-def loads():
-    """The load average of the last minute."""
-    return f"{os.getloadavg()[0]:.1f}"
 
 
 def ratio_of(ratio, least):
@@ -238,7 +232,8 @@ def ratios_table(ratios, figures):
     used = [ratio for ratio in ratios if any(ratio_of(ratio, least) for least in figures.values())]
     yield row("Input", *(ratio.title for ratio in used))
     yield row(*["---"] * (len(used) + 1))
-    yield row("*to reach*", *((f"*{ratio.wanted}*" if ratio.wanted else "") for ratio in used))
+    if any(ratio.wanted for ratio in used):
+        yield row("*to reach*", *((f"*{ratio.wanted}*" if ratio.wanted else "") for ratio in used))
     for name, least in figures.items():
         yield row(short(name), *(cell(ratio, name, least) for ratio in used))
 
@@ -271,61 +266,26 @@ def speeds_table(side, sizes, figures):
             yield row(short(name), f"{sizes[name] / 1e6:.2f}", *speeds)
 
 
-def table(bench, load, sizes, figures):
+def table(bench, sizes, figures):
     """The whole page."""
     yield "# This library beside serde_json and simdjson"
     yield ""
-    yield from (f"- {line}" for line in circumstances(bench, load))
+    yield from (f"- {line}" for line in circumstances(bench))
     yield ""
     yield "## How many times as fast"
     yield ""
     yield "Above 1 this library is faster. Bold: less than is to be reached. What each work is: `bench/README.md`."
     yield ""
-    yield from ratios_table(RATIOS + SINCE, figures)
+    yield from ratios_table(RATIOS, figures)
     yield ""
     yield "## Where that is reached"
     yield ""
-    yield from reached_table(RATIOS + SINCE, figures)
-    for side in dict.fromkeys(side for least in figures.values() for _, side in least):
+    yield from reached_table(RATIOS, figures)
+    for side in dict.fromkeys(side for least in figures.values() for _, side in least if side != "before"):
         yield ""
         yield f"## MB a second: {'this library' if side == 'ours' else side}"
         yield ""
         yield from speeds_table(side, sizes, figures)
-
-
-def draw(results, figures):
-    """The picture, by gnuplot: a panel a ratio, a bar an input, from 1 up or down."""
-    if not shutil.which("gnuplot"):
-        print("bench: no gnuplot: without the picture (apt-get install gnuplot-nox)", file=sys.stderr)
-        return
-    panels = [RATIOS[at] for at in PICTURE if any(ratio_of(RATIOS[at], least) for least in figures.values())]
-    lines = [
-        "set terminal svg size 1280,1500 noenhanced font 'sans,13' background '#ffffff'",
-        f"set output '{results / 'ratios.svg'}'",
-        f"set multiplot layout {(len(panels) + 1) // 2},2 title 'How many times as fast as the other (above 1: this library is faster)'",
-        "set logscale y 2",
-        "set yrange [0.0625:16]",
-        "set ytics ('1/16' 0.0625, '1/8' 0.125, '1/4' 0.25, '1/2' 0.5, '1' 1, '2' 2, '4' 4, '8' 8, '16' 16)",
-        "set grid ytics lc '#dddddd'",
-        "set xtics rotate by -30 nomirror font ',10'",
-        "unset key",
-        "set style fill solid noborder",
-    ]
-    for panel in panels:
-        bars = [(short(name), ratio_of(panel, least)) for name, least in figures.items()]
-        bars = [(name, value) for name, value in bars if value]
-        ticks = ", ".join(f"'{name}' {at}" for at, (name, _) in enumerate(bars))
-        wanted = f", {panel.wanted} with lines lc '#c04040' dt 2" if panel.wanted else ""
-        lines += ["$bars << END", *(f"{at} {value:.4f}" for at, (_, value) in enumerate(bars)), "END"]
-        lines += [
-            f"set title \"{panel.title}{f' (to reach: {panel.wanted})' if panel.wanted else ''}\"",
-            f"set xrange [-0.7:{len(bars) - 0.3}]",
-            f"set xtics ({ticks})",
-            "plot $bars using 1:2:($1-0.35):($1+0.35):(($2<1)?$2:1):(($2<1)?1:$2) with boxxyerror lc '#4070b0', 1 with lines lc '#000000', "
-            f"$bars using 1:(($2<1)?$2*0.8:$2*1.25):(sprintf('%.2f',$2)) with labels font ',9'{wanted}",
-        ]
-    lines.append("unset multiplot")
-    subprocess.run(["gnuplot"], input="\n".join(lines), text=True, check=True)
 
 
 def main():
@@ -337,19 +297,21 @@ def main():
     given = arguments.parse_args()
     results = given.results
     results.mkdir(parents=True, exist_ok=True)
-    bench, load = Bench(given.out, given.turns, given.before), loads()
+    bench = Bench(given.out, given.turns, given.before)
     figures, sizes = {}, {}
     for path in sorted((given.out / "inputs").iterdir()):
         print(f"bench: {path.name}", file=sys.stderr)
         sizes[path.name] = path.stat().st_size
         figures[path.name] = bench.measure(path)
-    (results / "table.md").write_text("\n".join(table(bench, load, sizes, figures)) + "\n", encoding="utf-8")
+    (results / "table.md").write_text("\n".join(table(bench, sizes, figures)) + "\n", encoding="utf-8")
     with open(results / "figures.csv", "w", encoding="utf-8", newline="") as file:
         lines = csv.writer(file, lineterminator="\n")
         lines.writerow(["input", "bytes", "work", "side", "nanoseconds"])
-        lines.writerows([name, sizes[name], *key, spent] for name, least in figures.items() for key, spent in least.items())
-    draw(results, figures)
-    print(f"bench: {results}/table.md, figures.csv and ratios.svg are written", file=sys.stderr)
+        lines.writerows([name, sizes[name], *key, spent] for name, least in figures.items() for key, spent in least.items() if key[1] != "before")
+    print(f"bench: {results}/table.md and figures.csv are written", file=sys.stderr)
+    if given.before:
+        (given.out / "before.md").write_text("\n".join(ratios_table(SINCE, figures)) + "\n", encoding="utf-8")
+        print(f"bench: {given.out}/before.md is written", file=sys.stderr)
 
 
 if __name__ == "__main__":

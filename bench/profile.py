@@ -16,7 +16,7 @@ import subprocess
 import sys
 import tempfile
 
-from compare import RATIOS, SINCE, WORKS, Bench, commit, is_behind, loads, processor, row, said, short
+from compare import RATIOS, WORKS, Bench, commit, is_behind, processor, row, said, short
 
 SECONDS = 1.0
 ENTRIES = 3
@@ -75,7 +75,7 @@ def cases(figures, inputs):
     """Where this library is behind in a ratio that is to be reached, work after work."""
     for work in (*WORKS, "fmt"):
         for name, least in figures.items():
-            if any(ratio.work == work and is_behind(ratio, name, least) for ratio in RATIOS + SINCE):
+            if any(ratio.work == work and is_behind(ratio, name, least) for ratio in RATIOS):
                 yield Case(work, inputs / name, least[work, "ours"])
 
 
@@ -107,11 +107,11 @@ def profile(case, bench, folder):
     return row(case.work, short(case.path.name), *first, *[""] * (ENTRIES - len(first)))
 
 
-def page(lines, load):
+def page(lines):
     """The whole page."""
     yield "# Where the time goes where this library is behind"
     yield ""
-    yield f"- Date: {datetime.date.today()}. Commit: {commit()}. Processor: {processor()}. Load averages before and after: {load}, {loads()}."
+    yield f"- Date: {datetime.date.today()}. Commit: {commit()}. Processor: {processor()}."
     yield f"- `{' '.join(SAMPLING)}` of {said('perf', '--version')}, for some {SECONDS:g} s of each work: of one process, and of `fmt` of many, without the shell that runs them."
     yield ""
     yield "Each work on each input of which [table.md](table.md) has a ratio in bold, and the first entries of its profile: functions, and their shares of the samples."
@@ -133,9 +133,9 @@ def main():
         if hindered:
             print(f"bench: {hindered}: profile.md is not written", file=sys.stderr)
             return
-        bench, load = Bench(given.out), loads()
+        bench = Bench(given.out)
         lines = [profile(case, bench, folder) for case in cases(read_figures(given.results), given.out / "inputs")]
-    (given.results / "profile.md").write_text("\n".join(page(lines, load)) + "\n", encoding="utf-8")
+    (given.results / "profile.md").write_text("\n".join(page(lines)) + "\n", encoding="utf-8")
     print(f"bench: {given.results}/profile.md is written", file=sys.stderr)
 
 
