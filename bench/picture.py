@@ -114,6 +114,7 @@ def picture(speeds):
     yield f'<rect class="ground" x="0.5" y="0.5" width="{WIDTH - 1}" height="{height - 1}" rx="6"/>'
     yield text(LEFT, 22, title)
     yield from legend()
+    yield text(LEFT - 12, 45, "work", "end", "small")
     yield from axis(most, step, bottom)
     y = TOP
     for work, mean in drawn.items():
