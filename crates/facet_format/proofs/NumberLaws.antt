@@ -3,7 +3,8 @@ use Rattle.std.proofs.Common.{◌≡◌, ◌≢◌, ℕ, suc, ◌+◌, ◌≤◌
 use Rattle.std.proofs.lemmas.Bool.{cond_both, eqb-true, leb-true, and_parts, and_from, or_cases, or_right, not-true, ne_eqb, cases_lt, eq-eqb, not_from_false, false_from_ne_true, both_ways}
 use Rattle.std.proofs.lemmas.List.{append-nil, take_all, drop_at, length-take-le, nil_from_length}
 use Rattle.facet_format.specs.Bytes.{is_digit, is_exponent_mark, is_sign, minus, dot, lower_e, upper_e, plus}
-use Rattle.facet_format.specs.Number.{Hint, unsigned, signed, float, AreDigits, IsMinus, IsFraction, IsExponentSign, IsExponent, hint_by, IsNumeral, IsNumber, digits_len, minus_len, fraction_len, sign_len, exponent_len, parts, parts_len, parts_hint, is_bare, is_some_len, begins_number, is_number, same_hint}
+use Rattle.facet_format.specs.Number.{Hint, unsigned, signed, float, AreDigits, IsMinus, IsFraction, IsExponentSign, IsExponent, hint_by, IsNumeral, IsNumber}
+use Rattle.facet_format.specs.NumberParts.{digits_len, minus_len, fraction_len, sign_len, exponent_len, parts, parts_len, parts_hint, is_bare, is_some_len, begins_number, is_number, same_hint}
 use Rattle.facet_format.specs.Laws.{NumberIsLongest, NumberIsTested}
 use Rattle.facet_format.proofs.NumberPrefixes.{parts_len-bound, parts-take, power_len, from_sign, from_digits, from_fraction, from_exponent, same_hint-refl, is_number-front}
 

@@ -3,7 +3,8 @@ use Rattle.std.proofs.Common.{◌≡◌, ℕ, zero, suc, ◌+◌, ◌-◌, ◌�
 use Rattle.std.proofs.lemmas.List.{drop-take, length-take-le}
 use Rattle.facet_format.specs.Bytes.{is_digit, is_exponent_mark, is_sign, minus, dot}
 use Rattle.std.proofs.lemmas.Bool.{and_from, not_from_false, eq-eqb, eqb-false}
-use Rattle.facet_format.specs.Number.{Hint, unsigned, digits_len, minus_len, fraction_len, sign_len, exponent_len, Parts, parts, parts_len, parts_hint, is_bare, begins_number, is_number, same_hint}
+use Rattle.facet_format.specs.Number.{Hint, unsigned}
+use Rattle.facet_format.specs.NumberParts.{digits_len, minus_len, fraction_len, sign_len, exponent_len, Parts, parts, parts_len, parts_hint, is_bare, begins_number, is_number, same_hint}
 
 -- ---- no part is longer than the bytes
 

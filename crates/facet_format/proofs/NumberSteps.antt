@@ -4,7 +4,7 @@ use Rattle.std.proofs.lemmas.List.{drop-drop}
 use Rattle.std.specs.List.{prefix_len}
 use Rattle.facet_format.specs.Bytes.{is_digit}
 use Rattle.facet_format.specs.Inner.Window.{is_no_digit}
-use Rattle.facet_format.specs.Number.{minus_len, digits_len, fraction_len, exponent_len, Parts, parts}
+use Rattle.facet_format.specs.NumberParts.{minus_len, digits_len, fraction_len, exponent_len, Parts, parts}
 
 digit-step : (v : Bool) (n k : ℕ) → n ≡ k → cond v (suc n) 0 ≡ cond (not (not v)) (1 + k) 0
 digit-step true n k e = omega arith

@@ -6,7 +6,9 @@ use Rattle.std.proofs.lemmas.Bool.{and_parts, or_cases, eqb-true, leb-true}
 use Rattle.std.proofs.lemmas.List.{drop_more, append-nil, take_all}
 use Rattle.std.proofs.lemmas.Str.{IsUtf8-nil, IsUtf8-append, IsUtf8-from_ascii}
 use Rattle.facet_format.specs.Bytes.{is_digit, is_exponent_mark, is_sign, minus, plus, dot, lower_e, upper_e}
-use Rattle.facet_format.specs.Number.{Hint, AreDigits, none, digit, IsMinus, IsFraction, IsExponentSign, IsExponent, digits_value, hint_by, unsigned, signed, float, is_some_len, Parts, parts, minus_len, is_number, unsigned_number, negative_number, any_digit, has_value, value_by, decimal, number}
+use Rattle.facet_format.specs.Number.{Hint, AreDigits, none, digit, IsMinus, IsFraction, IsExponentSign, IsExponent, hint_by, unsigned, signed, float}
+use Rattle.facet_format.specs.NumberValue.{digits_value, unsigned_number, negative_number, any_digit, has_value, value_by, decimal, number}
+use Rattle.facet_format.specs.NumberParts.{is_some_len, Parts, parts, minus_len, is_number}
 use Rattle.facet_format.proofs.NumberLaws.{is_number-sound}
 
 -- The byte at a place among digits is a digit.

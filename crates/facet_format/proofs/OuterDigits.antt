@@ -3,7 +3,9 @@ use Rattle.std.proofs.Common.{◌≡◌, ℕ, zero, suc, ◌+◌, ◌-◌, ◌<�
 use Rattle.std.proofs.lemmas.Bool.{and_parts, or_left, or_right, and_from}
 use Rattle.std.proofs.lemmas.List.{get_or-take, get_or-drop}
 use Rattle.facet_format.specs.Bytes.{is_digit}
-use Rattle.facet_format.specs.Number.{float, minus_len, digits_len, parts, is_some_len, any_digit, has_value, is_number, decimal, number}
+use Rattle.facet_format.specs.Number.{float}
+use Rattle.facet_format.specs.NumberValue.{any_digit, has_value, decimal, number}
+use Rattle.facet_format.specs.NumberParts.{minus_len, digits_len, parts, is_some_len, is_number}
 use Rattle.facet_format.proofs.NumberLaws.{is_number-sound, parts_len-is}
 use Rattle.facet_format.proofs.NumberText.{number-decimal}
 

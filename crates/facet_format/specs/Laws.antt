@@ -8,7 +8,8 @@ use Rattle.facet_format.specs.Complaint.{out_of_memory}
 use Rattle.facet_format.specs.declared.error.DeserializeErrorKind.{DeserializeErrorKind}
 use Rattle.facet_format.specs.declared.error.DeserializeErrorKind.TheVariants as error
 use Rattle.facet_format.specs.Views.{complaint_of}
-use Rattle.facet_format.specs.Number.{Hint, IsNumber, parts, parts_len, parts_hint, is_bare, begins_number, is_number}
+use Rattle.facet_format.specs.Number.{Hint, IsNumber}
+use Rattle.facet_format.specs.NumberParts.{parts, parts_len, parts_hint, is_bare, begins_number, is_number}
 
 -- Where more than a minus stands, the number at the start is a number, and no longer prefix of the bytes is one.
 abbrev pub NumberIsLongest : Type 0

@@ -9,6 +9,8 @@ pub mod Inner
 pub mod Kept
 pub mod Laws
 pub mod Number
+pub mod NumberValue
+pub mod NumberParts
 pub mod Part
 pub mod Span
 pub mod SerializerCall

@@ -6,7 +6,9 @@ ghost use Rattle.std.specs.Cmp.{partial_equiv_from_equiv, on_per, on_equiv};
 ghost use Rattle.std.specs.Cmp.Lexicographic.{pointwise, nat_list_eq_equiv};
 ghost use Rattle.facet_format.specs.Bytes.{is_digit};
 ghost use Rattle.facet_format.specs.Event.{borrowed, owned, bytes_of, is_owned};
-ghost use Rattle.facet_format.specs.Number.{number, is_number, minus_len, float, decimal, has_value, ArePartsOf};
+ghost use Rattle.facet_format.specs.Number.{float};
+ghost use Rattle.facet_format.specs.NumberValue.{number, decimal, has_value};
+ghost use Rattle.facet_format.specs.NumberParts.{is_number, minus_len, ArePartsOf};
 
 use crate::event::copy_text;
 use crate::numeral::{NumberHint, Parts, number_parts};
@@ -23,7 +25,8 @@ impl<'a> Model for Decimal<'a> {
     ghost use Rattle.std.specs.Prelude.{◌≡◌, Some};
     ghost use Rattle.facet_format.specs.Event.{Text, bytes_of};
     ghost use Rattle.facet_format.specs.HeldText.{text_of};
-    ghost use Rattle.facet_format.specs.Number.{number, float, decimal};
+    ghost use Rattle.facet_format.specs.Number.{float};
+    ghost use Rattle.facet_format.specs.NumberValue.{number, decimal};
 
     ghost Value = { Text };
 

@@ -2,7 +2,7 @@
 
 ghost use Rattle.std.specs.Prelude.{◌≡◌, ◌+◌, ◌^◌, ◌<◌, ◌≤◌, true, false, length, drop, map, MatchOption};
 ghost use Rattle.std.specs.Simd.Lanes.{mask_l};
-ghost use Rattle.facet_format.specs.Number.{minus_len, digits_len, fraction_len, sign_len, exponent_len, parts, parts_len, parts_hint, is_bare, is_some_len, begins_number, is_number, ArePartsOf};
+ghost use Rattle.facet_format.specs.NumberParts.{minus_len, digits_len, fraction_len, sign_len, exponent_len, parts, parts_len, parts_hint, is_bare, is_some_len, begins_number, is_number, ArePartsOf};
 ghost use Rattle.facet_format.specs.Views.{hint_of};
 ghost use Rattle.facet_format.specs.Inner.Window.{is_no_digit};
 
@@ -35,7 +35,7 @@ pub struct Parts {
 
 impl Model for Parts {
     ghost use Rattle.std.specs.Prelude.{◌+◌, ◌<◌, ◌^◌};
-    ghost use Rattle.facet_format.specs.Number.{Parts as Lengths};
+    ghost use Rattle.facet_format.specs.NumberParts.{Parts as Lengths};
 
     ghost Value = { Lengths };
 

@@ -3,7 +3,8 @@ use Rattle.std.proofs.Common.{◌≡◌, ℕ, List, subst}
 use Rattle.facet_json_token.specs.Gap.{Mode}
 use Rattle.facet_json_token.specs.Token.{Kind, Token}
 use Rattle.facet_json_token.specs.Token as token
-use Rattle.facet_json_token.specs.Tokens.{Tokens, next, tokens}
+use Rattle.facet_json_token.specs.Tokens.{Tokens, next}
+use Rattle.facet_json_token.specs.TokenList.{tokens}
 use Rattle.facet_json_document.specs.Language.{lenient_rules}
 use Rattle.facet_json_document.specs.Place.{Place, root, passes, place_turn}
 use Rattle.facet_json_document.specs.Run.{Run}

@@ -3,6 +3,8 @@ pub use Rattle.facet_format.specs.Span
 pub use Rattle.facet_format.specs.Complaint
 pub use Rattle.facet_format.specs.Bytes
 pub use Rattle.facet_format.specs.Number
+pub use Rattle.facet_format.specs.NumberValue
+pub use Rattle.facet_format.specs.NumberParts
 pub use Rattle.facet_format.specs.Event
 pub use Rattle.facet_format.specs.HeldText
 pub use Rattle.facet_format.specs.Cursor
@@ -12,12 +14,16 @@ pub use Rattle.facet_format.specs.Steps
 pub use Rattle.facet_format.specs.Alike
 pub use Rattle.facet_format.specs.Agree
 pub use Rattle.facet_json_token.specs.Gap
+pub use Rattle.facet_json_token.specs.GapLen
 pub use Rattle.facet_json_token.specs.Token
 pub use Rattle.facet_json_token.specs.Cut
+pub use Rattle.facet_json_token.specs.Shape
 pub use Rattle.facet_json_token.specs.Faults
 pub use Rattle.facet_json_token.specs.Open
 pub use Rattle.facet_json_token.specs.Tokens
+pub use Rattle.facet_json_token.specs.TokenList
 pub use Rattle.facet_json_token.specs.Decode
+pub use Rattle.facet_json_token.specs.Decoded
 pub use Rattle.facet_json_token.specs.Fault
 pub use Rattle.facet_json_token.specs.RfcNumber
 pub use Rattle.facet_json_token.specs.RfcNumberTest
@@ -98,6 +104,7 @@ pub use Rattle.facet_json_meaning.specs.Readings
 pub use Rattle.facet_json_meaning.specs.Borrowed
 pub use Rattle.facet_json_meaning.specs.Optional
 pub use Rattle.facet_json_meaning.specs.Lists
+pub use Rattle.facet_json_meaning.specs.ListSteps
 pub use Rattle.facet_json_meaning.specs.Objects
 pub use Rattle.facet_json_meaning.specs.Maps
 pub use Rattle.facet_json_meaning.specs.Trees as TypedTrees

@@ -4,8 +4,8 @@ use Rattle.std.proofs.Common.{◌≡◌, ℕ, true, false, List, [], ◌∷◌, 
 use Rattle.std.specs.Option.{option_map}
 use Rattle.std.specs.Fmt.{decimal, signed_decimal}
 use Rattle.facet_format.specs.Event.{Passed, array, object, bytes_of, sequence_end, struct_end, sequence_start, struct_start}
-use Rattle.facet_format.specs.Number.{Number}
-use Rattle.facet_format.specs.Number as numbers
+use Rattle.facet_format.specs.NumberValue.{Number}
+use Rattle.facet_format.specs.NumberValue as numbers
 use Rattle.facet_json_token.specs.Token.{Kind, Token}
 use Rattle.facet_json_token.specs.Token as token
 use Rattle.facet_json_document.specs.Node.{Node, scalar, Nodes, no_nodes, item, Members, no_members, member}

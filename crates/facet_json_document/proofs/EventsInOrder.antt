@@ -4,7 +4,8 @@ use Rattle.std.proofs.Common.{◌≡◌, ℕ, ◌<◌, ◌≤◌, Bool, true, fa
 use Rattle.facet_json_token.specs.Gap.{Mode}
 use Rattle.facet_json_token.specs.Token.{Token}
 use Rattle.facet_format.specs.Span.{stop}
-use Rattle.facet_json_token.specs.Tokens.{Tokens, ended, refused, next, tokens_from}
+use Rattle.facet_json_token.specs.Tokens.{Tokens, ended, refused, next}
+use Rattle.facet_json_token.specs.TokenList.{tokens_from}
 use Rattle.facet_json_document.specs.Language.{Language, lenient, rules, Rules, lenient_rules, strict_rules}
 use Rattle.facet_json_document.specs.Place.{Place, after_key, after_colon, after_root, Turn, stops, passes, says, says_scalar, names, goes_on, led}
 use Rattle.facet_format.specs.Event.{ContainerKind, Passed}

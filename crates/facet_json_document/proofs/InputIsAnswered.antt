@@ -1,7 +1,7 @@
 -- The headline: an input has a document, whose walk a cursor goes along, or a longest prefix, after which it is refused.
 use Rattle.std.proofs.Common.{ℕ, List}
 use Rattle.facet_json_token.specs.Gap.{Mode}
-use Rattle.facet_json_token.specs.Tokens.{tokens}
+use Rattle.facet_json_token.specs.TokenList.{tokens}
 use Rattle.facet_json_document.proofs.Spelling.OneSpelling.{one_document}
 use Rattle.facet_json_document.specs.EventLaws.{RootComes, document_comes, prefix_comes}
 use Rattle.facet_json_document.specs.PrefixRefusal.{Refuses}

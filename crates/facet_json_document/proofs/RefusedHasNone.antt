@@ -4,7 +4,8 @@ use Rattle.std.proofs.Common.{◌≡◌, ℕ, List, [], refl, sym, ap, ◌∙◌
 use Rattle.facet_format.specs.Complaint.{Refusal}
 use Rattle.facet_format.specs.Event.{Passed}
 use Rattle.facet_json_token.specs.Gap.{Mode}
-use Rattle.facet_json_token.specs.Tokens.{Tokens, tokens}
+use Rattle.facet_json_token.specs.Tokens.{Tokens}
+use Rattle.facet_json_token.specs.TokenList.{tokens}
 use Rattle.facet_json_document.specs.Language.{lenient_rules}
 use Rattle.facet_json_document.specs.Future.{Future, stuck, events_before, within, reads}
 use Rattle.facet_json_document.specs.Place.{Place, root, after_key}

@@ -1,5 +1,5 @@
 -- An input is refused in one way.
-use Rattle.facet_json_token.specs.Tokens.{tokens}
+use Rattle.facet_json_token.specs.TokenList.{tokens}
 use Rattle.facet_json_document.specs.Refusal.{IsStuck}
 use Rattle.facet_json_document.proofs.StuckOnce.{stuck-once}
 use Rattle.facet_json_document.specs.EventLaws.{RefusedInOneWay}

@@ -6,7 +6,8 @@ use Rattle.facet_json_token.specs.Token.{Kind, Token}
 use Rattle.facet_json_token.specs.Token as token
 use Rattle.facet_json_token.specs.Gap.{Mode}
 use Rattle.facet_json_document.specs.Begun.{LongestPrefix, RefusesAfter}
-use Rattle.facet_json_token.specs.Tokens.{Tokens, ended, refused, next, tokens}
+use Rattle.facet_json_token.specs.Tokens.{Tokens, ended, refused, next}
+use Rattle.facet_json_token.specs.TokenList.{tokens}
 use Rattle.facet_json_document.specs.Language.{Rules, lenient_rules, strict_rules}
 use Rattle.facet_json_document.specs.Tree.{Tree, text}
 use Rattle.facet_json_document.specs.Meaning.{meaning_of, meaning}
@@ -17,7 +18,7 @@ use Rattle.facet_format.specs.Event.{ContainerKind, Passed}
 use Rattle.facet_json_document.specs.Walk.{key_event}
 use Rattle.facet_json_document.specs.Future.{gives, stuck, events_before, Stage, within, over, after_value, stack_after, stage_after, is_meaningless, turn, behind_root, reads, reads_by, reads_colon_by}
 use Rattle.facet_json_document.proofs.WalkComes.{follows, reads-turn}
-use Rattle.facet_json_token.specs.Decode.{decoded}
+use Rattle.facet_json_token.specs.Decoded.{decoded}
 use Rattle.facet_json_token.specs.DecodeLaws.{HasTextOrFault}
 use Rattle.facet_json_token.proofs.DecodeLaws.{decoded-decodes}
 use Rattle.facet_json_token.proofs.FaultLaws.{text_or_fault}

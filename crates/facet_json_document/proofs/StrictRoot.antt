@@ -6,7 +6,8 @@ use Rattle.facet_format.specs.Event as event
 use Rattle.facet_json_token.specs.Gap.{plain}
 use Rattle.facet_json_token.specs.Token.{Kind, Token}
 use Rattle.facet_json_token.specs.Token as token
-use Rattle.facet_json_token.specs.Tokens.{Tokens, ended, refused, next, tokens}
+use Rattle.facet_json_token.specs.Tokens.{Tokens, ended, refused, next}
+use Rattle.facet_json_token.specs.TokenList.{tokens}
 use Rattle.facet_json_document.specs.Document.{IsDocument}
 use Rattle.facet_json_document.specs.Future.{Future, gives, finished, stuck, events_before, Stage, within, over, after_value, around, behind_root, stage_after, is_meaningless, turn, reads, reads_by, reads_colon, reads_colon_by}
 use Rattle.facet_json_document.specs.Language.{strict, lenient_rules, strict_rules}

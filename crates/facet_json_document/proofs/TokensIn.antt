@@ -5,10 +5,12 @@ use Rattle.std.specs.Option.{option_map}
 use Rattle.std.proofs.lemmas.List.{length-take}
 use Rattle.facet_format.specs.Bytes.{backslash}
 use Rattle.facet_format.specs.Span.{stop}
-use Rattle.facet_json_token.specs.Gap.{Mode, one_more}
+use Rattle.facet_json_token.specs.Gap.{Mode}
+use Rattle.facet_json_token.specs.GapLen.{one_more}
 use Rattle.facet_json_token.specs.Token.{Kind, Token, Fault}
 use Rattle.facet_json_token.specs.Token as token
-use Rattle.facet_json_token.specs.Tokens.{Tokens, ended, refused, next, tokens_from}
+use Rattle.facet_json_token.specs.Tokens.{Tokens, ended, refused, next}
+use Rattle.facet_json_token.specs.TokenList.{tokens_from}
 use Rattle.facet_json_token.specs.Cut.{Cut, nothing_left, token as cut_token, fault, cut}
 use Rattle.facet_json_token.proofs.TokensSteps.{tokens_from-others, tokens_from-token, tokens_from-fault, tokens_from-nothing}
 use Rattle.facet_json_token.specs.RfcNumberTest.{is_rfc_number}

@@ -4,7 +4,8 @@ use Rattle.facet_json_token.specs.Gap.{Mode}
 use Rattle.facet_json_token.specs.Token.{Token, Fault}
 use Rattle.facet_format.specs.Span.{stop}
 use Rattle.facet_json_token.specs.Cut.{Cut, nothing_left, token, fault, cut}
-use Rattle.facet_json_token.specs.Tokens.{Tokens, ended, refused, next, tokens_past, tokens_from}
+use Rattle.facet_json_token.specs.Tokens.{Tokens, ended, refused, next}
+use Rattle.facet_json_token.specs.TokenList.{tokens_past, tokens_from}
 use Rattle.facet_json_document.proofs.InOrder.{InOrder, at_the_end, at_a_fault, at_a_token}
 use Rattle.facet_json_token.proofs.CutBounds.{CutFits, cut-fits}
 

@@ -5,8 +5,9 @@ use Rattle.std.specs.Char.{encode_utf8, IsScalar}
 use Rattle.std.specs.Fmt.{decimal, signed_decimal}
 use Rattle.std.specs.Str.{is_utf8}
 use Rattle.facet_format.specs.Bytes.{is_space}
-use Rattle.facet_format.specs.Number.{number, float}
-use Rattle.facet_format.specs.Number as numbers
+use Rattle.facet_format.specs.Number.{float}
+use Rattle.facet_format.specs.NumberValue.{number}
+use Rattle.facet_format.specs.NumberValue as numbers
 use Rattle.facet_json_document.specs.Document.{IsWholeDocument}
 use Rattle.facet_json_document.specs.Node.{Node}
 use Rattle.facet_json_document.specs.Text.{BytesFormat, as_array, as_hex, hex, Options}

@@ -1,7 +1,8 @@
 -- Documents (RFC 8259, section 2): a prefix of the input's tokens that spells a value, all of whose strings and numbers have a meaning.
 use Rattle.std.specs.Prelude.{◌≡◌, List, ℕ, Some}
 use Rattle.facet_json_token.specs.Gap.{Mode, plain}
-use Rattle.facet_json_token.specs.Tokens.{Tokens, ended, tokens}
+use Rattle.facet_json_token.specs.Tokens.{Tokens, ended}
+use Rattle.facet_json_token.specs.TokenList.{tokens}
 use Rattle.facet_json_document.specs.Node.{Node, Spells}
 use Rattle.facet_json_document.specs.Tree.{Tree}
 use Rattle.facet_json_document.specs.Meaning.{tree_of}

@@ -3,7 +3,8 @@
 -- its one refusal. Where memory may be lacking, the cursor's steps and `AnswersAlone` say.
 use Rattle.std.specs.Prelude.{◌≡◌, ℕ, List}
 use Rattle.facet_json_token.specs.Gap.{Mode}
-use Rattle.facet_json_token.specs.Tokens.{Tokens, tokens}
+use Rattle.facet_json_token.specs.Tokens.{Tokens}
+use Rattle.facet_json_token.specs.TokenList.{tokens}
 use Rattle.facet_format.specs.Span.{span_at}
 use Rattle.facet_format.specs.Complaint.{Refusal}
 use Rattle.facet_format.specs.Event.{Passed}

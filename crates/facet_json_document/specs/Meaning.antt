@@ -2,9 +2,9 @@
 use Rattle.std.specs.Prelude.{ℕ, true, false, List, Option, Some, None, slice_range}
 use Rattle.std.specs.Option.{option_map, option_and_then}
 use Rattle.std.specs.Fmt.{decimal, signed_decimal}
-use Rattle.facet_format.specs.Number.{Number}
-use Rattle.facet_format.specs.Number as numbers
-use Rattle.facet_json_token.specs.Decode.{decoded}
+use Rattle.facet_format.specs.NumberValue.{Number}
+use Rattle.facet_format.specs.NumberValue as numbers
+use Rattle.facet_json_token.specs.Decoded.{decoded}
 use Rattle.facet_json_token.specs.Token.{Kind, Token}
 use Rattle.facet_json_token.specs.Token as token
 use Rattle.facet_json_document.specs.Node.{Node, scalar, array, object, Nodes, no_nodes, item, Members, no_members, member}

@@ -4,7 +4,8 @@ use Rattle.facet_format.specs.Event.{Event}
 use Rattle.facet_format.specs.Cursor.{Call, next, peek, events, Answer, event, batch}
 use Rattle.facet_json_token.specs.Gap.{Mode}
 use Rattle.facet_json_token.specs.Token.{Token}
-use Rattle.facet_json_token.specs.Tokens.{ended, tokens}
+use Rattle.facet_json_token.specs.Tokens.{ended}
+use Rattle.facet_json_token.specs.TokenList.{tokens}
 use Rattle.facet_json_document.specs.Future.{finished}
 use Rattle.facet_json_document.specs.Language.{strict}
 use Rattle.facet_json_document.specs.Run.{Run}

@@ -1,7 +1,7 @@
 -- Where a reader stands in a document that is not whole yet, what goes on there, and what else is refused with (RFC 8259, sections 2 to 5).
 use Rattle.std.specs.Prelude.{ℕ, Bool, true, false, cond, List, Option, Some, None, codes, slice_range}
-use Rattle.facet_format.specs.Number.{Number}
-use Rattle.facet_format.specs.Number as numbers
+use Rattle.facet_format.specs.NumberValue.{Number}
+use Rattle.facet_format.specs.NumberValue as numbers
 use Rattle.facet_format.specs.Event.{object, array, EventKind}
 use Rattle.facet_format.specs.Event as event
 use Rattle.facet_format.specs.Complaint.{Complaint, unexpected_char, unexpected_eof, unexpected_token}

@@ -2,7 +2,8 @@
 -- 128 bits (sections 6 and 8.2 leave both to the reader).
 use Rattle.std.specs.Prelude.{◌≡◌, ℕ, List, [], ◌∷◌, ◌++◌, Some}
 use Rattle.std.specs.Str.{encode_utf8_all}
-use Rattle.facet_format.specs.Number.{Hint, Number, number}
+use Rattle.facet_format.specs.Number.{Hint}
+use Rattle.facet_format.specs.NumberValue.{Number, number}
 use Rattle.facet_json_token.specs.Decode.{Decodes}
 use Rattle.facet_json_document.specs.RfcText.{quotation_mark, IsRfcContent, IsValueOf, Spaced}
 use Rattle.facet_json_token.specs.RfcNumber.{IsRfcNumber}

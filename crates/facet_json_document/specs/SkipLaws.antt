@@ -7,7 +7,8 @@ use Rattle.facet_format.specs.Cursor.{skip, capture, skipped, raw, unpeeked, no_
 use Rattle.facet_format.specs.Part.{no_raw}
 use Rattle.facet_format.specs.Span.{span_at, stop}
 use Rattle.facet_json_token.specs.Token.{Token}
-use Rattle.facet_json_token.specs.Tokens.{Tokens, next, tokens_from}
+use Rattle.facet_json_token.specs.Tokens.{Tokens, next}
+use Rattle.facet_json_token.specs.TokenList.{tokens_from}
 use Rattle.facet_json_document.specs.Future.{within}
 use Rattle.facet_json_document.specs.Language.{gaps, Rules, rules}
 use Rattle.facet_json_document.specs.Place.{Place, passes, place_turn, led}

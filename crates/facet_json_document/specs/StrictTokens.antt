@@ -2,7 +2,8 @@
 use Rattle.std.specs.Prelude.{◌≡◌, ℕ, List, Some, None}
 use Rattle.facet_json_token.specs.Cut.{Cut, nothing_left, token, fault, cut}
 use Rattle.facet_json_token.specs.Token.{Token}
-use Rattle.facet_json_token.specs.Tokens.{Tokens, ended, refused, next, tokens_from}
+use Rattle.facet_json_token.specs.Tokens.{Tokens, ended, refused, next}
+use Rattle.facet_json_token.specs.TokenList.{tokens_from}
 use Rattle.facet_json_token.specs.Strict.{strict_fault}
 use Rattle.facet_json_document.specs.Language.{Language, lenient, strict}
 

@@ -5,7 +5,8 @@ use Rattle.facet_format.specs.Event.{ContainerKind, struct_start, struct_end, se
 use Rattle.facet_format.specs.Part.{Part, value, broken, key, closing, nothing}
 use Rattle.facet_format.specs.Span.{Span, span_at, stop}
 use Rattle.facet_json_token.specs.Token.{Kind, Token, Fault, number}
-use Rattle.facet_json_token.specs.Tokens.{Tokens, ended, refused, next, tokens_from}
+use Rattle.facet_json_token.specs.Tokens.{Tokens, ended, refused, next}
+use Rattle.facet_json_token.specs.TokenList.{tokens_from}
 use Rattle.facet_json_document.specs.Language.{Language, gaps, Rules, rules}
 use Rattle.facet_json_document.specs.Node.{is_scalar}
 use Rattle.facet_json_document.specs.Place.{Place, after_key, after_colon, Turn, passes, says, says_scalar, names, place_turn, goes_on, led, kind_name, expected_at, complaint_at_end, complaint_of_fault}

@@ -12,6 +12,7 @@ pub mod Borrowed
 pub mod Optional
 pub mod Peeking
 pub mod Lists
+pub mod ListSteps
 pub mod Trees
 pub use Rattle.facet_json_core.specs.Reading as ValueReading
 pub use Rattle.facet_json_core.specs.Refusing as Refusing

@@ -1,15 +1,8 @@
 -- What a list reads, as what it is written, and what comes within a list.
-use Rattle.std.specs.Prelude.{◌≡◌, ℕ, Bool, true, false, List, [], ◌∷◌, slice_get, Option, Some, None}
+use Rattle.std.specs.Prelude.{ℕ, List, [], ◌∷◌, Option, Some, None}
 use Rattle.std.specs.Option.{option_map, option_and_then}
-use Rattle.facet_format.specs.Complaint.{Refusal}
-use Rattle.facet_format.specs.Cursor.{Cursor, at_spot, peeked_at}
-use Rattle.facet_format.specs.Part.{Source}
-use Rattle.facet_format.specs.Event.{Event, EventKind, sequence_start, sequence_end, Passed}
 use Rattle.facet_json_document.specs.Node.{Node, scalar, array, object, Nodes, no_nodes, item}
 use Rattle.facet_json_document.specs.Tree.{Tree, list, Trees, no_trees, tree}
-use Rattle.facet_json_document.specs.Now.{Now, StandsAt}
-use Rattle.facet_json_meaning.specs.Passing.{WalksPast}
-use Rattle.facet_json_meaning.specs.Reading.{IsUnread}
 
 -- ---- what is read
 
@@ -37,41 +30,3 @@ trees_by tree_by (v ∷ vs) = tree (tree_by v) (trees_by tree_by vs)
 -- A list is written as the list of its items' trees.
 abbrev pub list_by : {V : Type 0} → (V → Tree) → List V → Tree
 list_by tree_by vs = list (trees_by tree_by vs)
-
--- ---- what comes
-
--- the elements of a node that is an array
-abbrev pub nodes_of : List ℕ → Node → Option Nodes
-nodes_of buffer (scalar t) = None
-nodes_of buffer (array first last nodes) = Some nodes
-nodes_of buffer (object first last inside) = None
-
--- whether an array begins with such an event
-abbrev pub begins_list : EventKind → Bool
-begins_list (sequence_start kind) = true
-begins_list _ = false
-
--- whether an array ends with such an event
-abbrev pub ends_list : EventKind → Bool
-ends_list sequence_end = true
-ends_list _ = false
-
--- Wherever the parser stood on a walk, an array begins there, and its first event is passed.
-pub record BeginsList (old new : Now) : Type 0 where
-  pub given : Event
-  pub begins : begins_list given.kind ≡ true
-  pub walks : WalksPast old given new
-
--- Before whatever node the parser stood, memory ran out, or the node is no array.
-abbrev pub IsNoList : Now → Refusal → Type 0
-IsNoList old refusal = IsUnread nodes_of old refusal
-
--- The answer is whether an array ends with this event, and the event stays the next one.
-pub record ShowsEnd (w : Source) (c : Cursor ℕ) (p : Passed) (found : Bool) (new : Now) : Type 0 where
-  pub shown : ends_list p.event.kind ≡ found
-  pub stands : StandsAt new w (at_spot c (peeked_at c.spot))
-
--- Wherever the parser stands before an event of a walk and is not refused, the answer is whether an array ends there.
-abbrev pub FindsEnd : Now → Bool → Now → Type 0
-FindsEnd old found new = (w : Source) (c : Cursor ℕ) (p : Passed) → StandsAt old w c → c.refusal ≡ None →
-    slice_get w.events c.spot.place ≡ Some p → ShowsEnd w c p found new

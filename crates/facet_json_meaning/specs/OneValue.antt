@@ -4,7 +4,8 @@ use Rattle.std.specs.Prelude.{◌≡◌, Bool, true, ◌∷◌, Option, MatchOpt
 use Rattle.facet_format.specs.Event.{ContainerKind, object, array, EventKind, struct_start, struct_end, sequence_start, sequence_end, field_key, scalar, Passed}
 use Rattle.facet_format.specs.Span.{stop}
 use Rattle.facet_json_token.specs.Token.{Token}
-use Rattle.facet_json_token.specs.Tokens.{Tokens, tokens_from}
+use Rattle.facet_json_token.specs.Tokens.{Tokens}
+use Rattle.facet_json_token.specs.TokenList.{tokens_from}
 use Rattle.facet_json_document.specs.Future.{Future, gives, within}
 use Rattle.facet_json_document.specs.Language.{gaps}
 use Rattle.facet_json_document.specs.Place.{after_colon}

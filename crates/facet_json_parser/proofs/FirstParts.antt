@@ -15,7 +15,7 @@ use Rattle.facet_format.specs.Part.{Part, nothing}
 use Rattle.facet_format.specs.Span.{stop}
 use Rattle.facet_format.specs.Views.{span_of}
 use Rattle.facet_json_token.specs.Token.{Token}
-use Rattle.facet_json_token.specs.Tokens.{tokens_from}
+use Rattle.facet_json_token.specs.TokenList.{tokens_from}
 use Rattle.facet_json_document.specs.Future.{within}
 use Rattle.facet_json_document.specs.Reader.{Reader}
 use Rattle.facet_json_document.specs.Language.{Language, lenient, gaps, rules}

@@ -4,9 +4,11 @@ use Rattle.facet_json_token.specs.declared.token.Token.TheVariants as code
 use Rattle.facet_json_token.specs.declared.token.SpannedToken.{SpannedToken}
 use Rattle.facet_json_token.specs.declared.token.ScanError.{ScanError}
 use Rattle.facet_json_token.specs.Views.{scanned}
-use Rattle.facet_json_token.specs.Gap.{Mode, plain, jsonc, whole, gap_len, gap_len_from}
+use Rattle.facet_json_token.specs.Gap.{Mode, plain, jsonc, whole}
+use Rattle.facet_json_token.specs.GapLen.{gap_len, gap_len_from}
 use Rattle.facet_json_token.specs.Token.{Kind}
-use Rattle.facet_json_token.specs.Cut.{IsStructural, object_starts, object_ends, array_starts, array_ends, colon_stands, comma_stands, punctuation, token_at, cut_here, past_gap, cut}
+use Rattle.facet_json_token.specs.Cut.{punctuation, token_at, cut_here, past_gap, cut}
+use Rattle.facet_json_token.specs.Shape.{IsStructural, object_starts, object_ends, array_starts, array_ends, colon_stands, comma_stands}
 use Rattle.facet_json_token.proofs.FirstBytes.{cut_here-by, no_end}
 use Rattle.facet_json_token.proofs.Offsets.{drop-at_byte}
 use Rattle.facet_json_token.proofs.Starts.{start_of-structural}

@@ -3,9 +3,11 @@ use Rattle.std.proofs.Common.{◌≡◌, ℕ, ◌+◌, ◌≤◌, ◌<◌, List,
 use Rattle.facet_format.specs.Event.{ContainerKind}
 use Rattle.facet_format.specs.Span.{Span, stop, span_at}
 use Rattle.facet_json_token.specs.Gap.{Mode}
-use Rattle.facet_json_token.specs.Cut.{IsStructural, cut, cut_here, past_gap, token_at}
+use Rattle.facet_json_token.specs.Cut.{cut, cut_here, past_gap, token_at}
+use Rattle.facet_json_token.specs.Shape.{IsStructural}
 use Rattle.facet_json_token.specs.Token.{Kind, Token}
-use Rattle.facet_json_token.specs.Tokens.{next, tokens_from}
+use Rattle.facet_json_token.specs.Tokens.{next}
+use Rattle.facet_json_token.specs.TokenList.{tokens_from}
 use Rattle.facet_json_token.proofs.CutBounds.{past_gap-bound}
 use Rattle.facet_json_token.proofs.Gaps.{past_gap-again, cut-past_gap}
 use Rattle.facet_json_token.proofs.TokensSteps.{tokens_by_first, tokens_from-token}

@@ -10,7 +10,8 @@ use Rattle.facet_format.specs.Span.{Span, span_at, stop}
 use Rattle.facet_format.specs.Views.{span_of}
 use Rattle.facet_json_token.specs.Gap.{Mode}
 use Rattle.facet_json_token.specs.Token.{Kind, Token}
-use Rattle.facet_json_token.specs.Tokens.{Tokens, ended, refused, next, tokens_from}
+use Rattle.facet_json_token.specs.Tokens.{Tokens, ended, refused, next}
+use Rattle.facet_json_token.specs.TokenList.{tokens_from}
 use Rattle.facet_json_token.specs.Cut.{cut}
 use Rattle.facet_json_token.specs.Views.{kind_of, scanned, scan_refusal}
 use Rattle.facet_json_document.specs.Language.{lenient}

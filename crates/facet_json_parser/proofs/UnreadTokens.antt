@@ -13,7 +13,8 @@ use Rattle.facet_format.specs.Views.{span_of}
 use Rattle.facet_json_token.specs.Cut.{cut}
 use Rattle.facet_json_token.specs.Gap.{Mode}
 use Rattle.facet_json_token.specs.Token.{Kind, colon}
-use Rattle.facet_json_token.specs.Tokens.{Tokens, ended, next, tokens_from}
+use Rattle.facet_json_token.specs.Tokens.{Tokens, ended, next}
+use Rattle.facet_json_token.specs.TokenList.{tokens_from}
 use Rattle.facet_json_token.specs.Views.{kind_of, scanned, scan_refusal}
 use Rattle.facet_json_document.specs.Language.{lenient}
 use Rattle.facet_json_document.specs.Place.{Place, after_key, goes_on}

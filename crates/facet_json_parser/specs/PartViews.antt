@@ -7,7 +7,8 @@ use Rattle.facet_format.specs.Part.{Part, has_brackets, skip_of, capture_of}
 use Rattle.facet_format.specs.Span.{Span, stop}
 use Rattle.facet_format.specs.Views.{span_of}
 use Rattle.facet_json_token.specs.Token.{Kind, Token}
-use Rattle.facet_json_token.specs.Tokens.{next, tokens_from}
+use Rattle.facet_json_token.specs.Tokens.{next}
+use Rattle.facet_json_token.specs.TokenList.{tokens_from}
 use Rattle.facet_json_token.specs.Views.{kind_of}
 use Rattle.facet_json_document.specs.Future.{around}
 use Rattle.facet_json_document.specs.Reader.{Reader}

@@ -9,7 +9,8 @@ use Rattle.facet_format.specs.Span.{Span, stop}
 use Rattle.facet_format.specs.Views.{span_of}
 use Rattle.facet_json_token.specs.Gap.{Mode}
 use Rattle.facet_json_token.specs.Token.{Token}
-use Rattle.facet_json_token.specs.Tokens.{Tokens, next, tokens_from}
+use Rattle.facet_json_token.specs.Tokens.{Tokens, next}
+use Rattle.facet_json_token.specs.TokenList.{tokens_from}
 use Rattle.facet_json_document.specs.Run.{opening, Run, BreaksOff}
 use Rattle.facet_json_reader.specs.PlaceViews.{refused_of}
 

@@ -6,7 +6,7 @@ ghost use Rattle.facet_format.specs.Event.{ContainerKind as SpecContainer};
 ghost use Rattle.facet_format.specs.Part.{no_raw};
 ghost use Rattle.facet_format.specs.Span.{stop, span_at};
 ghost use Rattle.facet_format.specs.Views.{span_of};
-ghost use Rattle.facet_json_token.specs.Tokens.{tokens_from};
+ghost use Rattle.facet_json_token.specs.TokenList.{tokens_from};
 ghost use Rattle.facet_json_token.specs.Views.{mode_of};
 ghost use Rattle.facet_json_document.specs.Reader.{Reader as SpecReader};
 ghost use Rattle.facet_json_document.specs.Language.{Language as SpecLanguage, gaps};

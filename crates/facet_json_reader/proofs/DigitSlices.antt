@@ -3,7 +3,8 @@ use Rattle.std.proofs.Common.{◌≡◌, ℕ, zero, suc, ◌+◌, ◌-◌, ◌*�
 use Rattle.std.specs.Prelude.{slice_range}
 use Rattle.std.proofs.Math.Nat.{pow-suc}
 use Rattle.std.proofs.lemmas.List.{take-take, length-take-le, drop-drop, drop-take}
-use Rattle.facet_format.specs.Number.{AreDigits, none, digit, digits_value}
+use Rattle.facet_format.specs.Number.{AreDigits, none, digit}
+use Rattle.facet_format.specs.NumberValue.{digits_value}
 
 digits-take : (n : ℕ) (bytes : List ℕ) → AreDigits bytes → AreDigits (take n bytes)
 digits-take zero bytes are = none

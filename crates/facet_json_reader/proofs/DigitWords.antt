@@ -5,7 +5,8 @@ use Rattle.std.proofs.lemmas.Bool.{and_parts, leb-true}
 use Rattle.std.proofs.lemmas.List.{take-replicate, take-take, length-replicate, length-append, length-take-le, length-drop}
 use Rattle.std.proofs.lemmas.Nat.{pow-add, pow_pos, mod_low}
 use Rattle.facet_format.specs.Bytes.{is_digit}
-use Rattle.facet_format.specs.Number.{AreDigits, none, digit, digits_value}
+use Rattle.facet_format.specs.Number.{AreDigits, none, digit}
+use Rattle.facet_format.specs.NumberValue.{digits_value}
 use Rattle.facet_json_reader.specs.Inner.Digits.{word}
 use Rattle.facet_json_reader.proofs.EightDigits.{Eight}
 

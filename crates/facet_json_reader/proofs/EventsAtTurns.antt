@@ -12,7 +12,7 @@ use Rattle.facet_format.specs.Cursor.{no_memory_at}
 use Rattle.facet_format.specs.Event.{ContainerKind, EventKind, Event, Passed, Scalar, Text, scalar, field_key, takes_memory, is_made, is_owned}
 use Rattle.facet_format.specs.Span.{Span, stop}
 use Rattle.facet_format.specs.Views.{span_of, event_of}
-use Rattle.facet_json_token.specs.Decode.{decoded}
+use Rattle.facet_json_token.specs.Decoded.{decoded}
 use Rattle.facet_json_document.specs.Language.{Language, rules}
 use Rattle.facet_json_document.specs.StrictTokens.{tokens_in}
 use Rattle.facet_json_token.specs.Token.{Kind, Token, colon}

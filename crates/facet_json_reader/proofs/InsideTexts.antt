@@ -3,7 +3,8 @@ use Rattle.std.proofs.Common.{◌≡◌, ◌+◌, ℕ, suc, Bool, true, false, c
 use Rattle.std.specs.Prelude.{slice_get, slice_range, get_or}
 use Rattle.std.specs.Option.{option_map}
 use Rattle.facet_format.specs.Bytes.{star, slash}
-use Rattle.facet_format.specs.Number.{Hint, parts, parts_len, parts_hint, is_bare}
+use Rattle.facet_format.specs.Number.{Hint}
+use Rattle.facet_format.specs.NumberParts.{parts, parts_len, parts_hint, is_bare}
 use Rattle.facet_json_token.specs.Gap.{Mode, plain, jsonc}
 use Rattle.facet_json_token.specs.Token.{Token, Kind, object_start, object_end, array_start, array_end, colon, comma, null, true_literal, false_literal, string, number, FaultKind, unexpected_char, unexpected_eof, Fault, in_literal, in_block_comment}
 use Rattle.facet_json_token.specs.Cut.{Cut, fault, token_at, fault_at, Start, punctuation, letter, opens_text, opens_number, opens_comment, opens_nothing, start_of, common_len, content_len, cut_text, cut_number, cut_slash, cut_by, cut_here, past_gap, cut}

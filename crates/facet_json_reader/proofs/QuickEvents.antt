@@ -10,7 +10,8 @@ use Rattle.facet_format.specs.Event.{ContainerKind, EventKind, Event, Passed, Sc
 use Rattle.facet_format.specs.Event as event
 use Rattle.facet_format.specs.Span.{stop, span_at}
 use Rattle.facet_format.specs.Views.{span_of, event_of}
-use Rattle.facet_format.specs.Number.{Hint, parts, parts_len, parts_hint, is_bare}
+use Rattle.facet_format.specs.Number.{Hint}
+use Rattle.facet_format.specs.NumberParts.{parts, parts_len, parts_hint, is_bare}
 use Rattle.facet_json_token.specs.Gap.{Mode, plain}
 use Rattle.facet_json_token.specs.Cut.{cut_here, past_gap, common_len, token_at, punctuation, start_of, opens_number, cut_number}
 use Rattle.facet_json_token.proofs.FirstBytes.{cut_here-number}

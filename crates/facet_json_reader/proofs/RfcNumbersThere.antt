@@ -3,7 +3,7 @@ use Rattle.std.proofs.Common.{◌≡◌, ◌≢◌, ℕ, suc, ◌+◌, ◌-◌, 
 use Rattle.std.specs.Prelude.{slice_range}
 use Rattle.std.proofs.lemmas.List.{get_or-take, get_or-drop}
 use Rattle.facet_format.specs.Bytes.{minus}
-use Rattle.facet_format.specs.Number.{Parts, parts, parts_len}
+use Rattle.facet_format.specs.NumberParts.{Parts, parts, parts_len}
 use Rattle.facet_json_token.proofs.Offsets.{drop-at_byte}
 use Rattle.facet_json_token.specs.RfcNumber.{SomeDigits, IsRfcMinus, IsRfcWhole, IsRfcNumber}
 use Rattle.facet_json_token.specs.RfcNumberTest.{are_rfc_parts}

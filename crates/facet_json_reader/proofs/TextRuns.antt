@@ -15,7 +15,7 @@ use Rattle.facet_json_token.specs.Inner.Window.{is_stop, is_plain}
 use Rattle.facet_json_token.proofs.FirstBytes.{cut_here-by}
 use Rattle.facet_json_token.proofs.TextSteps.{content-ends, cut_text-ends}
 use Rattle.facet_json_token.proofs.TextWindows.{content-after_run, marks-of_run}
-use Rattle.facet_json_token.specs.Decode.{decoded}
+use Rattle.facet_json_token.specs.Decoded.{decoded}
 use Rattle.facet_json_token.specs.Inner.Ascii.{is_high, is_low}
 use Rattle.facet_json_token.proofs.AsciiRuns.{run-IsUtf8}
 use Rattle.facet_json_reader.specs.Inner.Window.{is_stop_from, is_unescaped, is_mark, is_ordinary}

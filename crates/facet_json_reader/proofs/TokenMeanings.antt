@@ -9,7 +9,7 @@ use Rattle.facet_json_reader.specs.declared.materialized.MaterializedToken.{Mate
 use Rattle.facet_json_reader.specs.declared.refusal.Name.{Name}
 use Rattle.facet_json_reader.specs.declared.refusal.Expected.{Expected}
 use Rattle.facet_format.specs.Complaint.{refusal_at, unexpected_token}
-use Rattle.facet_format.specs.Number.{Number}
+use Rattle.facet_format.specs.NumberValue.{Number}
 use Rattle.facet_format.specs.Span.{Span}
 use Rattle.facet_json_token.specs.Token.{Kind}
 use Rattle.facet_json_token.specs.Token as token

@@ -1,12 +1,14 @@
 -- The token that stands at an offset, and the tokens from before the gap that ends there.
 use Rattle.std.proofs.Common.{◌≡◌, ℕ, ◌+◌, ◌≤◌, false, List, Some, length, drop, slice_get, sym, ap, ◌∙◌, subst, refl, arith, length-drop}
-use Rattle.facet_format.specs.Number.{Hint, Parts, parts, parts_len, parts_hint, is_bare}
+use Rattle.facet_format.specs.Number.{Hint}
+use Rattle.facet_format.specs.NumberParts.{Parts, parts, parts_len, parts_hint, is_bare}
 use Rattle.facet_format.specs.Span.{stop, span_at}
 use Rattle.facet_json_token.specs.Cut.{cut, cut_here, past_gap, common_len, token_at, punctuation, letter, opens_number, start_of}
 use Rattle.facet_json_token.specs.Gap.{Mode}
 use Rattle.facet_json_token.specs.Token.{Kind}
 use Rattle.facet_json_token.specs.Token as token
-use Rattle.facet_json_token.specs.Tokens.{next, tokens_from}
+use Rattle.facet_json_token.specs.Tokens.{next}
+use Rattle.facet_json_token.specs.TokenList.{tokens_from}
 use Rattle.facet_json_token.proofs.CutBounds.{CutFits, TokenFits, here_fits}
 use Rattle.facet_json_token.proofs.FirstBytes.{cut_here-by, cut_here-word, cut_here-number, cut_word-is}
 use Rattle.facet_json_token.proofs.NumberCuts.{cut_number-parts}

@@ -3,7 +3,9 @@ use Rattle.std.proofs.Common.{◌≡◌, ℕ, ◌+◌, ◌-◌, false, List, Som
 use Rattle.std.specs.Option.{option_map}
 use Rattle.facet_format.specs.Event.{Scalar, borrowed}
 use Rattle.facet_format.specs.Event as event
-use Rattle.facet_format.specs.Number.{Hint, Parts, parts, parts_len, parts_hint, is_bare, Number, number}
+use Rattle.facet_format.specs.Number.{Hint}
+use Rattle.facet_format.specs.NumberValue.{Number, number}
+use Rattle.facet_format.specs.NumberParts.{Parts, parts, parts_len, parts_hint, is_bare}
 use Rattle.facet_json_token.specs.Cut.{opens_number, start_of}
 use Rattle.facet_json_token.specs.Token.{Kind, string}
 use Rattle.facet_json_token.specs.Token as token

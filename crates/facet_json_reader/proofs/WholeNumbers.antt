@@ -6,7 +6,9 @@ use Rattle.std.proofs.lemmas.List.{drop-drop, drop_more, take_rest}
 use Rattle.std.proofs.lemmas.Option.{slice_get_within}
 use Rattle.facet_format.specs.Bytes.{minus, dot, is_exponent_mark}
 use Rattle.facet_format.specs.Event as event
-use Rattle.facet_format.specs.Number.{AreDigits, Hint, Parts, unsigned, signed, is_some_len, hint_by, minus_len, digits_len, sign_len, fraction_len, exponent_len, parts, parts_len, is_bare, is_number, number, digits_value, unsigned_number, negative_number, u64, u128, i64, i128}
+use Rattle.facet_format.specs.Number.{AreDigits, Hint, unsigned, signed, hint_by}
+use Rattle.facet_format.specs.NumberValue.{number, digits_value, unsigned_number, negative_number, u64, u128, i64, i128}
+use Rattle.facet_format.specs.NumberParts.{Parts, is_some_len, minus_len, digits_len, sign_len, fraction_len, exponent_len, parts, parts_len, is_bare, is_number}
 use Rattle.facet_format.proofs.NumberSteps.{PartsEnd-parts, PartsEnd-lengths}
 use Rattle.facet_format.proofs.NumberText.{unsigned-digits, number-unsigned, number-signed, signed-digits}
 use Rattle.facet_json_token.specs.Cut.{opens_number, start_of}

@@ -11,8 +11,10 @@ use Rattle.facet_format.specs.Bytes.{backslash}
 use Rattle.facet_format.specs.Complaint.{Refusal}
 use Rattle.facet_format.specs.Event.{Text, bytes_of, is_owned}
 use Rattle.facet_format.specs.HeldText.{text_of}
-use Rattle.facet_format.specs.Number.{Hint, Number, is_number}
-use Rattle.facet_format.specs.Number as numbers
+use Rattle.facet_format.specs.Number.{Hint}
+use Rattle.facet_format.specs.NumberValue.{Number}
+use Rattle.facet_format.specs.NumberParts.{is_number}
+use Rattle.facet_format.specs.NumberValue as numbers
 use Rattle.facet_format.specs.Span.{Span}
 use Rattle.facet_format.specs.Views.{hint_of}
 use Rattle.facet_json_token.specs.Token.{Kind}

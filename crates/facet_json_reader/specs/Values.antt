@@ -6,7 +6,7 @@ use Rattle.facet_format.specs.Event.{Scalar}
 use Rattle.facet_json_token.specs.Cut.{cut_here, token_at}
 use Rattle.facet_json_token.specs.Gap.{Mode}
 use Rattle.facet_json_token.specs.Token.{Kind, string}
-use Rattle.facet_json_token.specs.Decode.{decoded}
+use Rattle.facet_json_token.specs.Decoded.{decoded}
 use Rattle.facet_json_document.specs.Meaning.{meaning_of}
 use Rattle.facet_json_document.specs.Node.{is_scalar}
 use Rattle.facet_json_document.specs.Tree.{Tree}

@@ -1,7 +1,9 @@
 //! Numbers that are read without an allocation, from their bytes: eight digits by one word, whole numbers, and all others by their parts.
 
 ghost use Rattle.std.specs.Prelude.{◌≡◌, ◌+◌, ◌≤◌, true, false, Some, length, drop, slice_get, slice_range, IfSome, ℕ, ◌<◌, ◌^◌, take, ◌≢◌, ◌==◌, ◌||◌, pos, neg_ℤ, map};
-ghost use Rattle.facet_format.specs.Number.{parts as number_parts, parts_len, AreDigits, digits_value};
+ghost use Rattle.facet_format.specs.Number.{AreDigits};
+ghost use Rattle.facet_format.specs.NumberValue.{digits_value};
+ghost use Rattle.facet_format.specs.NumberParts.{parts as number_parts, parts_len};
 ghost use Rattle.facet_format.specs.Views.{scalar_value_of};
 ghost use Rattle.facet_json_token.specs.Cut.{start_of, opens_number};
 ghost use Rattle.facet_json_token.specs.Token.{Kind};

@@ -10,7 +10,7 @@ use Rattle.facet_json_token.specs.declared.token.SpannedToken.{SpannedToken}
 use Rattle.facet_json_token.specs.declared.token.ScanErrorKind.{ScanErrorKind}
 use Rattle.facet_json_token.specs.declared.token.ScanErrorKind.TheVariants as scan
 use Rattle.facet_json_token.specs.declared.token.ScanError.{ScanError}
-use Rattle.facet_format.specs.Number.{starts_number, parts}
+use Rattle.facet_format.specs.NumberParts.{starts_number, parts}
 use Rattle.facet_format.specs.Span.{Span, stop, span_at}
 use Rattle.facet_json_token.specs.Gap.{Mode}
 use Rattle.facet_json_token.specs.Cut.{Cut, nothing_left, token, fault, cut_here}

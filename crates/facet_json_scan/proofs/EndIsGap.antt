@@ -4,7 +4,8 @@ use Rattle.std.proofs.lemmas.Bool.{cases_lt}
 use Rattle.std.proofs.lemmas.List.{take_all, drop_all}
 use Rattle.std.proofs.lemmas.Option.{slice_get-get_or}
 use Rattle.facet_json_token.specs.Cut.{nothing_left, cut_here, past_gap, cut}
-use Rattle.facet_json_token.specs.Gap.{Mode, whole, gap_len, IsGap}
+use Rattle.facet_json_token.specs.Gap.{Mode, whole, IsGap}
+use Rattle.facet_json_token.specs.GapLen.{gap_len}
 use Rattle.facet_json_token.proofs.FirstBytes.{cut_here-something}
 use Rattle.facet_json_scan.specs.Laws.{EndIsGap}
 use Rattle.facet_json_scan.proofs.GapIsLongest.{gap_is_longest}

@@ -3,11 +3,13 @@ use Rattle.std.proofs.Common.{◌≡◌, ◌≢◌, ℕ, zero, suc, ◌+◌, ◌
 use Rattle.std.proofs.lemmas.Bool.{cond_both, eqb-true, eqb-false, eq-eqb, ne_eqb}
 use Rattle.std.proofs.lemmas.List.{take-append-drop}
 use Rattle.facet_format.specs.Bytes.{is_space, quote, backslash, slash, star, minus}
-use Rattle.facet_format.specs.Number.{Parts, parts, parts_len, parts_hint, is_bare, starts_number}
+use Rattle.facet_format.specs.NumberParts.{Parts, parts, parts_len, parts_hint, is_bare, starts_number}
 use Rattle.facet_format.specs.Span.{Span, span_at}
-use Rattle.facet_json_token.specs.Gap.{Mode, plain, jsonc, whole, with_line_mark, through_line_end, piece_len}
+use Rattle.facet_json_token.specs.Gap.{Mode, plain, jsonc, whole}
+use Rattle.facet_json_token.specs.GapLen.{with_line_mark, through_line_end, piece_len}
 use Rattle.facet_json_token.specs.Token.{Kind, FaultKind, Fault, unexpected_char, unexpected_eof, in_string, in_literal, in_block_comment}
-use Rattle.facet_json_token.specs.Cut.{IsLiteral, Cut, nothing_left, token, fault, Start, opens_nothing, start_of, token_at, fault_at, common_len, cut_word, content_len, cut_text, cut_number, cut_slash, cut_by, cut_here, past_gap, cut}
+use Rattle.facet_json_token.specs.Cut.{Cut, nothing_left, token, fault, Start, opens_nothing, start_of, token_at, fault_at, common_len, cut_word, content_len, cut_text, cut_number, cut_slash, cut_by, cut_here, past_gap, cut}
+use Rattle.facet_json_token.specs.Shape.{IsLiteral}
 use Rattle.facet_json_token.specs.Faults.{BeginsToken, BeginsNoNumber, IsFault}
 use Rattle.facet_json_token.specs.Laws.{FaultIsCut, FaultIsUnique}
 use Rattle.facet_format.proofs.NumberLaws.{number_is_longest, parts_len-some}

@@ -4,7 +4,8 @@ use Rattle.std.proofs.lemmas.List.{append-nil, drop-drop, length-drop}
 use Rattle.facet_json_scan.specs.declared.scanner.token.Found.{Found}
 use Rattle.facet_json_scan.specs.declared.scanner.token.Found.TheVariants as found
 use Rattle.facet_format.specs.Bytes.{is_space}
-use Rattle.facet_json_token.specs.Gap.{Mode, plain, whole, growing, piece_len, gap_len}
+use Rattle.facet_json_token.specs.Gap.{Mode, plain, whole, growing}
+use Rattle.facet_json_token.specs.GapLen.{piece_len, gap_len}
 use Rattle.facet_json_token.specs.Cut.{cut, cut_here, past_gap}
 use Rattle.facet_json_token.specs.Open.{IsBeginning, IsOpen}
 use Rattle.facet_json_scan.specs.Scanner.{Describes, answer_for, past_growing_gap}

@@ -2,9 +2,11 @@
 use Rattle.std.proofs.Common.{◌≡◌, ◌≢◌, ℕ, Bool, false, ◌==◌, List, [], ◌∷◌, refl, ap, ◌++◌, None}
 use Rattle.std.proofs.lemmas.Bool.{ne_eqb}
 use Rattle.facet_format.specs.Bytes.{quote, slash, star, is_space}
-use Rattle.facet_json_token.specs.Gap.{Mode, plain, jsonc, Input, growing, piece_len, OpensBlock, OpensLine, one_more, with_mark, with_line_mark, through_block_end, through_line_end}
+use Rattle.facet_json_token.specs.Gap.{Mode, plain, jsonc, Input, growing, OpensBlock, OpensLine}
+use Rattle.facet_json_token.specs.GapLen.{piece_len, one_more, with_mark, with_line_mark, through_block_end, through_line_end}
 use Rattle.facet_json_token.specs.Token.{Kind}
-use Rattle.facet_json_token.specs.Cut.{IsLiteral, start_of, letter, opens_comment}
+use Rattle.facet_json_token.specs.Cut.{start_of, letter, opens_comment}
+use Rattle.facet_json_token.specs.Shape.{IsLiteral}
 use Rattle.facet_json_token.specs.Open.{IsBeginning}
 use Rattle.facet_json_scan.specs.Scanner.{State, NumberPart, EndsIn, in_text, in_word, in_number, in_line, Describes}
 use Rattle.facet_format.proofs.NumberLaws.{begins_number-is}

@@ -3,10 +3,12 @@ use Rattle.std.proofs.Common.{◌≡◌, ◌≢◌, ℕ, ◌<◌, Bool, true, fa
 use Rattle.std.proofs.lemmas.Bool.{and_parts, and_from, eqb-true, ltb-true, lt-ltb, eq-eqb}
 use Rattle.std.proofs.lemmas.List.{append-nil}
 use Rattle.facet_format.specs.Bytes.{backslash, slash, star}
-use Rattle.facet_json_token.specs.Gap.{Mode, plain, jsonc, one_more, through_block_end, through_line_end}
-use Rattle.facet_format.specs.Number.{parts, parts_len, begins_number}
+use Rattle.facet_json_token.specs.Gap.{Mode, plain, jsonc}
+use Rattle.facet_json_token.specs.GapLen.{one_more, through_block_end, through_line_end}
+use Rattle.facet_format.specs.NumberParts.{parts, parts_len, begins_number}
 use Rattle.facet_json_token.specs.Token.{Kind}
-use Rattle.facet_json_token.specs.Cut.{ArePieces, IsLiteral, null_stands, true_stands, false_stands, Start, letter, start_of, common_len, content_len}
+use Rattle.facet_json_token.specs.Cut.{Start, letter, start_of, common_len, content_len}
+use Rattle.facet_json_token.specs.Shape.{ArePieces, IsLiteral, null_stands, true_stands, false_stands}
 use Rattle.facet_json_token.specs.Open.{IsBeginning}
 use Rattle.facet_json_token.specs.Inner.OpenTest.{is_prefix_by, is_open_comment, is_beginning_by, is_beginning, is_open, OpenIsTested}
 use Rattle.facet_format.proofs.NumberLaws.{parts_len-is, begins_number-is}

@@ -3,7 +3,8 @@ use Rattle.std.proofs.Common.{◌≡◌, ℕ, zero, suc, ◌+◌, ◌≤◌, ◌
 use Rattle.std.proofs.lemmas.Bool.{cond_both}
 use Rattle.std.proofs.lemmas.List.{drop-append-le, drop-drop}
 use Rattle.facet_format.specs.Bytes.{is_space, slash, star, line_feed}
-use Rattle.facet_json_token.specs.Gap.{Mode, plain, jsonc, whole, growing, one_more, through_block_end, through_line_end, with_mark, with_line_mark, comment_len, piece_len, gap_len_from, gap_len}
+use Rattle.facet_json_token.specs.Gap.{Mode, plain, jsonc, whole, growing}
+use Rattle.facet_json_token.specs.GapLen.{one_more, through_block_end, through_line_end, with_mark, with_line_mark, comment_len, piece_len, gap_len_from, gap_len}
 use Rattle.facet_json_token.specs.Cut.{past_gap, cut_here, cut}
 use Rattle.facet_json_token.specs.Tokens.{Tokens, AreCuts}
 use Rattle.facet_json_token.proofs.Gaps.{gap_len-none, gap_len-some}

@@ -3,7 +3,8 @@ use Rattle.std.proofs.Common.{◌≡◌, ◌≢◌, ℕ, ◌<◌, ◌≤◌, Lis
 use Rattle.std.proofs.lemmas.Bool.{cases_lt}
 use Rattle.std.proofs.lemmas.List.{drop_all}
 use Rattle.facet_format.specs.Bytes.{slash}
-use Rattle.facet_json_token.specs.Gap.{Mode, jsonc, whole, piece_len, gap_len, with_line_mark}
+use Rattle.facet_json_token.specs.Gap.{Mode, jsonc, whole}
+use Rattle.facet_json_token.specs.GapLen.{piece_len, gap_len, with_line_mark}
 use Rattle.facet_json_token.specs.Cut.{nothing_left, cut_here, past_gap, cut}
 use Rattle.facet_json_token.specs.Open.{IsBeginning, IsOpen}
 use Rattle.facet_json_token.proofs.Gaps.{gap_len-piece, gap_len-none}

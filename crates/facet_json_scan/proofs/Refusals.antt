@@ -3,7 +3,7 @@ use Rattle.std.proofs.Common.{◌≡◌, ℕ, zero, suc, ◌+◌, ◌≤◌, ◌
 use Rattle.std.proofs.lemmas.Bool.{eqb-true}
 use Rattle.std.proofs.lemmas.List.{append-nil}
 use Rattle.facet_format.specs.Bytes.{minus}
-use Rattle.facet_format.specs.Number.{Parts, parts, parts_len, parts_hint, is_bare}
+use Rattle.facet_format.specs.NumberParts.{Parts, parts, parts_len, parts_hint, is_bare}
 use Rattle.facet_format.specs.Span.{Span}
 use Rattle.facet_format.specs.Views.{span_of}
 use Rattle.facet_format.specs.declared.span.Span.{Span as RustSpan}
@@ -11,7 +11,8 @@ use Rattle.facet_json_token.specs.declared.token.SpannedToken.{SpannedToken}
 use Rattle.facet_json_token.specs.declared.token.ScanErrorKind.{ScanErrorKind}
 use Rattle.facet_json_token.specs.declared.token.ScanErrorKind.TheVariants as scan
 use Rattle.facet_json_token.specs.declared.token.ScanError.{ScanError}
-use Rattle.facet_json_token.specs.Gap.{Mode, whole, growing, piece_len}
+use Rattle.facet_json_token.specs.Gap.{Mode, whole, growing}
+use Rattle.facet_json_token.specs.GapLen.{piece_len}
 use Rattle.facet_json_token.specs.Token.{Token}
 use Rattle.facet_json_token.specs.Cut.{Cut, nothing_left, token, fault, start_of, opens_number, cut_number, cut_here, past_gap, cut}
 use Rattle.facet_json_token.specs.Open.{IsBeginning, IsOpen}

@@ -3,7 +3,8 @@ use Rattle.std.proofs.Common.{◌≡◌, ℕ, List, refl, sym, ap, ◌∙◌}
 use Rattle.facet_json_token.specs.Gap.{Mode}
 use Rattle.facet_format.specs.Span.{stop}
 use Rattle.facet_json_token.specs.Cut.{Cut, nothing_left, token, fault, cut}
-use Rattle.facet_json_token.specs.Tokens.{Tokens, ended, refused, next, AreCuts, tokens_from}
+use Rattle.facet_json_token.specs.Tokens.{Tokens, ended, refused, next, AreCuts}
+use Rattle.facet_json_token.specs.TokenList.{tokens_from}
 use Rattle.facet_json_token.specs.Laws.{TokensAreCuts}
 use Rattle.facet_json_token.proofs.TokensSteps.{tokens_from-fault, tokens_from-nothing, by_first, tokens_by_first}
 

@@ -1,10 +1,14 @@
 pub use Rattle.facet_json_token.specs.Gap
+pub use Rattle.facet_json_token.specs.GapLen
 pub use Rattle.facet_json_token.specs.Token
 pub use Rattle.facet_json_token.specs.Cut
+pub use Rattle.facet_json_token.specs.Shape
 pub use Rattle.facet_json_token.specs.Faults
 pub use Rattle.facet_json_token.specs.Open
 pub use Rattle.facet_json_token.specs.Tokens
+pub use Rattle.facet_json_token.specs.TokenList
 pub use Rattle.facet_json_token.specs.Decode
+pub use Rattle.facet_json_token.specs.Decoded
 pub use Rattle.facet_json_token.specs.Fault
 pub mod Inner
 pub mod Laws

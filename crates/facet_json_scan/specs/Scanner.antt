@@ -1,11 +1,14 @@
 -- The scanner over a buffer that grows: what it keeps between two calls, and what a call answers.
 use Rattle.std.specs.Prelude.{◌≡◌, ◌≢◌, ℕ, ◌+◌, ◌-◌, Bool, true, false, List, [], ◌∷◌, ◌++◌, length, take, drop, Option, Some, ◌==◌}
 use Rattle.facet_format.specs.Bytes.{quote, backslash, slash, star}
-use Rattle.facet_json_token.specs.Gap.{Mode, jsonc, growing, gap_len, OpensBlock, OpensLine}
-use Rattle.facet_format.specs.Number.{Hint, float, hint_by, IsNumeral, parts}
+use Rattle.facet_json_token.specs.Gap.{Mode, jsonc, growing, OpensBlock, OpensLine}
+use Rattle.facet_json_token.specs.GapLen.{gap_len}
+use Rattle.facet_format.specs.Number.{Hint, float, hint_by, IsNumeral}
+use Rattle.facet_format.specs.NumberParts.{parts}
 use Rattle.facet_format.specs.Span.{Span, stop, span_at}
 use Rattle.facet_json_token.specs.Token.{Kind, Token, Fault}
-use Rattle.facet_json_token.specs.Cut.{ArePieces, IsLiteral, Cut, nothing_left, token, fault, past_gap, cut}
+use Rattle.facet_json_token.specs.Cut.{Cut, nothing_left, token, fault, past_gap, cut}
+use Rattle.facet_json_token.specs.Shape.{ArePieces, IsLiteral}
 use Rattle.facet_json_token.specs.Open.{IsOpen}
 
 -- ---- what is kept

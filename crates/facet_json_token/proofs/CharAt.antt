@@ -8,7 +8,7 @@ use Rattle.std.proofs.lemmas.Bool.{cases_lt, and_parts, and_from, lt-ltb, le-ltb
 use Rattle.std.proofs.lemmas.List.{length-take}
 use Rattle.std.proofs.lemmas.Slice.Eq.{bytes_eq-Decides}
 use Rattle.facet_format.specs.Bytes.{backslash}
-use Rattle.facet_json_token.specs.Decode.{continued, if_encoded, utf8_at}
+use Rattle.facet_json_token.specs.Decoded.{continued, if_encoded, utf8_at}
 
 -- a byte that goes on with a character, with the low bits of this number
 abbrev pub next : ℕ → ℕ

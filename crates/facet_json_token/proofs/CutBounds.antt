@@ -7,10 +7,12 @@ use Rattle.std.proofs.lemmas.List.{drop-drop}
 use Rattle.std.proofs.lemmas.Option.{slice_get_within}
 use Rattle.facet_format.specs.Bytes.{backslash, star}
 use Rattle.facet_json_token.specs.Gap.{Mode, plain, jsonc, whole}
-use Rattle.facet_format.specs.Number.{Hint, parts, parts_len, parts_hint, is_bare, starts_number, is_number}
+use Rattle.facet_format.specs.Number.{Hint}
+use Rattle.facet_format.specs.NumberParts.{parts, parts_len, parts_hint, is_bare, starts_number, is_number}
 use Rattle.facet_format.specs.Span.{Span, stop, span_at}
 use Rattle.facet_json_token.specs.Token.{Kind, string, number, Token, Fault, unexpected_eof, unexpected_char, in_literal}
-use Rattle.facet_json_token.specs.Cut.{Cut, nothing_left, token, fault, IsStructural, object_starts, IsLiteral, null_stands, Start, start_of, token_at, fault_at, common_len, cut_word, content_len, cut_text, cut_bare_minus, cut_number, cut_slash, cut_by, cut_here, past_gap, cut}
+use Rattle.facet_json_token.specs.Cut.{Cut, nothing_left, token, fault, Start, start_of, token_at, fault_at, common_len, cut_word, content_len, cut_text, cut_bare_minus, cut_number, cut_slash, cut_by, cut_here, past_gap, cut}
+use Rattle.facet_json_token.specs.Shape.{IsStructural, object_starts, IsLiteral, null_stands}
 use Rattle.facet_json_token.proofs.Starts.{Begins, a_mark, a_word, a_text, a_number, a_comment, no_token, start_of-begins}
 use Rattle.facet_json_token.proofs.TextShapes.{Below, content_len-below}
 use Rattle.facet_json_token.proofs.Gaps.{gap_len-bound}

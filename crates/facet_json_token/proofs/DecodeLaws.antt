@@ -6,7 +6,8 @@ use Rattle.std.proofs.lemmas.Bool.{and_parts, eqb-true}
 use Rattle.std.proofs.lemmas.Str.{encode_ascii}
 use Rattle.std.proofs.lemmas.List.{take-append-drop}
 use Rattle.facet_format.specs.Bytes.{backslash, lower_u}
-use Rattle.facet_json_token.specs.Decode.{short_escape, code_unit, is_high_surrogate, is_low_surrogate, surrogate_pair, Piece, itself, short, other, unit, pair, Decodes, empty, piece, utf8_at, pair_of, low_at, unit_of, unit_at, short_of, escape_at, piece_at, decoded_past, decoded}
+use Rattle.facet_json_token.specs.Decode.{short_escape, code_unit, is_high_surrogate, is_low_surrogate, surrogate_pair, Piece, itself, short, other, unit, pair, Decodes, empty, piece}
+use Rattle.facet_json_token.specs.Decoded.{utf8_at, pair_of, low_at, unit_of, unit_at, short_of, escape_at, piece_at, decoded_past, decoded}
 use Rattle.facet_json_token.specs.DecodeLaws.{DecodedIsDecodes}
 use Rattle.facet_json_token.proofs.CharAt.{some_same, some_if, Leads, utf8_at-encoded, utf8_at-leads, encoded-first}
 

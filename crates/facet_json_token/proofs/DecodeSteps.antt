@@ -8,7 +8,8 @@ use Rattle.std.proofs.lemmas.List.{take-append-drop, drop-drop, drop-take, take-
 use Rattle.std.proofs.lemmas.List.Edits.{between_none, length-between, get_or-between}
 use Rattle.std.proofs.lemmas.Option.{slice_get-get_or}
 use Rattle.facet_format.specs.Bytes.{backslash}
-use Rattle.facet_json_token.specs.Decode.{piece_at, Decodes, empty, piece}
+use Rattle.facet_json_token.specs.Decode.{Decodes, empty, piece}
+use Rattle.facet_json_token.specs.Decoded.{piece_at}
 use Rattle.facet_json_token.proofs.DecodeLaws.{piece_at-begins, decodes-decoded}
 use Rattle.facet_json_token.proofs.PlainText.{IsPlain, plain-parts, decoded-plain, EndsRun}
 

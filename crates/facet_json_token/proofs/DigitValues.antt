@@ -4,7 +4,8 @@ use Rattle.std.specs.Prelude.{nat_le}
 use Rattle.std.proofs.Math.Nat.{pow-suc, pow-le-pow_right, mul-le-mul_right}
 use Rattle.std.proofs.lemmas.Bool.{and_parts, leb-true}
 use Rattle.facet_format.specs.Bytes.{is_digit}
-use Rattle.facet_format.specs.Number.{AreDigits, none, digit, digits_value}
+use Rattle.facet_format.specs.Number.{AreDigits, none, digit}
+use Rattle.facet_format.specs.NumberValue.{digits_value}
 use Rattle.facet_format.proofs.NumberText.{digits_value-step}
 
 -- A digit adds nine at most.

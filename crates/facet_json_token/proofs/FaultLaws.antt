@@ -7,7 +7,8 @@ use Rattle.std.proofs.lemmas.Bool.{and_parts, eqb-true, ltb-false}
 use Rattle.std.proofs.lemmas.Bool.Decides.{nat_tests}
 use Rattle.std.proofs.lemmas.List.{take-append-drop}
 use Rattle.facet_format.specs.Bytes.{backslash, lower_u}
-use Rattle.facet_json_token.specs.Decode.{short_escape, code_unit, is_high_surrogate, is_low_surrogate, surrogate_pair, Piece, Decodes, empty, piece, utf8_at, pair_of, low_at, unit_of, unit_at, short_of, escape_at, piece_at, decoded}
+use Rattle.facet_json_token.specs.Decode.{short_escape, code_unit, is_high_surrogate, is_low_surrogate, surrogate_pair, Piece, Decodes, empty, piece}
+use Rattle.facet_json_token.specs.Decoded.{utf8_at, pair_of, low_at, unit_of, unit_at, short_of, escape_at, piece_at, decoded}
 use Rattle.facet_json_token.specs.Fault.{DecodeFault, decode_fault_at, fault_after, no_character, not_digits, ends_in_digits, ends_in_escape, goes_on_unit, FaultHere, lone_backslash, few_digits, other_digits, high_alone, second_digits, second_other, low_first, escaped_other, not_utf8, FirstFault, here, after}
 use Rattle.facet_json_token.specs.Inner.FirstFault.{second_fault, pair_fault, digits_fault, unit_fault, escape_fault, fault_of, fault_past, first_fault, FirstFaultIsFound}
 use Rattle.facet_json_token.specs.DecodeLaws.{TextOrFault}

@@ -3,7 +3,8 @@ use Rattle.std.proofs.Common.{◌≡◌, ◌≢◌, ℕ, suc, ◌+◌, ◌<◌, 
 use Rattle.std.proofs.lemmas.Bool.{ne_eqb, eq-eqb, cases_eq, le-leb, lt-leb, and_from, and_left, and_right, or_from, or_left, or_right}
 use Rattle.facet_format.specs.Bytes.{left_brace, right_brace, left_bracket, right_bracket, colon, comma, quote, slash, star, minus, lower_n, lower_t, lower_f, is_digit}
 use Rattle.facet_json_token.specs.Gap.{Mode, plain, jsonc}
-use Rattle.facet_format.specs.Number.{Hint, parts, parts_len, parts_hint, is_bare, starts_number}
+use Rattle.facet_format.specs.Number.{Hint}
+use Rattle.facet_format.specs.NumberParts.{parts, parts_len, parts_hint, is_bare, starts_number}
 use Rattle.facet_json_token.specs.Token.{Kind, unexpected_char, unexpected_eof, in_literal, in_block_comment}
 use Rattle.facet_json_token.specs.Cut.{Cut, nothing_left, Start, punctuation, letter, opens_text, opens_number, opens_comment, opens_nothing, start_of, token_at, fault_at, common_len, content_len, cut_word, cut_text, cut_number, cut_slash, cut_by, cut_here}
 use Rattle.facet_json_token.specs.declared.token.Token.TheVariants as code

@@ -7,7 +7,8 @@ use Rattle.std.proofs.lemmas.Option.{slice_get_within}
 use Rattle.std.specs.List.{starts_with}
 use Rattle.std.specs.Option.{option_map}
 use Rattle.facet_format.specs.Bytes.{star, slash}
-use Rattle.facet_json_token.specs.Gap.{Mode, Input, whole, growing, one_more, through_block_end, through_line_end, with_mark, with_line_mark, comment_len, piece_len, gap_len}
+use Rattle.facet_json_token.specs.Gap.{Mode, Input, whole, growing}
+use Rattle.facet_json_token.specs.GapLen.{one_more, through_block_end, through_line_end, with_mark, with_line_mark, comment_len, piece_len, gap_len}
 use Rattle.facet_json_token.specs.Cut.{past_gap}
 use Rattle.facet_json_token.proofs.Gaps.{gap_len-piece}
 use Rattle.facet_json_token.proofs.Offsets.{drop-at_byte, option_map-one_more, option_map-none}

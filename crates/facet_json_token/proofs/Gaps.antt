@@ -3,7 +3,8 @@ use Rattle.std.proofs.Common.{◌≡◌, ℕ, zero, suc, ◌+◌, ◌≤◌, tru
 use Rattle.std.proofs.lemmas.List.{drop-drop}
 use Rattle.facet_format.specs.Bytes.{is_space}
 use Rattle.facet_json_token.specs.Cut.{cut, cut_here, past_gap}
-use Rattle.facet_json_token.specs.Gap.{Mode, plain, jsonc, Input, whole, piece_len, gap_len_from, gap_len}
+use Rattle.facet_json_token.specs.Gap.{Mode, plain, jsonc, Input, whole}
+use Rattle.facet_json_token.specs.GapLen.{piece_len, gap_len_from, gap_len}
 
 -- ---- by its first piece
 

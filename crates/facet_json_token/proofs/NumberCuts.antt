@@ -2,7 +2,8 @@
 use Rattle.std.proofs.Common.{◌≡◌, ℕ, ◌+◌, ◌≤◌, false, ◌==◌, List, [], ◌∷◌, ap, ap₂, sym, ◌∙◌, arith}
 use Rattle.std.proofs.lemmas.Bool.{cond_both}
 use Rattle.facet_format.specs.Bytes.{minus}
-use Rattle.facet_format.specs.Number.{Hint, Parts, parts, parts_len, parts_hint, is_bare}
+use Rattle.facet_format.specs.Number.{Hint}
+use Rattle.facet_format.specs.NumberParts.{Parts, parts, parts_len, parts_hint, is_bare}
 use Rattle.facet_json_token.specs.Token.{Token, number}
 use Rattle.facet_json_token.specs.Cut.{Cut, token, token_at, cut_bare_minus, cut_number}
 

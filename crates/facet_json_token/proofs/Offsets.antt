@@ -3,7 +3,7 @@ use Rattle.std.proofs.Common.{get_or, ◌≡◌, ℕ, ◌+◌, ◌<◌, List, �
 use Rattle.std.specs.Option.{option_map}
 use Rattle.std.proofs.lemmas.List.{drop_more}
 use Rattle.std.proofs.lemmas.Option.{slice_get_within, slice_get-get_or, get_or_from_slice_get}
-use Rattle.facet_json_token.specs.Gap.{one_more}
+use Rattle.facet_json_token.specs.GapLen.{one_more}
 
 -- where a byte stands, it is the first of what is left
 pub drop-at_byte : (bytes : List ℕ) (at b : ℕ) → slice_get bytes at ≡ Some b → drop at bytes ≡ b ∷ drop (at + 1) bytes

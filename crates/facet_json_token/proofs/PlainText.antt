@@ -10,7 +10,8 @@ use Rattle.std.proofs.lemmas.Bool.{and_parts, or_parts, eqb-true}
 use Rattle.std.proofs.lemmas.List.Folds.{list_any-append}
 use Rattle.std.proofs.lemmas.Str.{IsUtf8-nil, IsUtf8-append, IsUtf8-encode, encode_ascii}
 use Rattle.facet_format.specs.Bytes.{backslash}
-use Rattle.facet_json_token.specs.Decode.{Piece, itself, short, other, unit, pair, Decodes, empty, piece, decoded_past, decoded}
+use Rattle.facet_json_token.specs.Decode.{Piece, itself, short, other, unit, pair, Decodes, empty, piece}
+use Rattle.facet_json_token.specs.Decoded.{decoded_past, decoded}
 use Rattle.facet_json_token.proofs.CharAt.{Shape, one, two, three, four, shape}
 use Rattle.facet_json_token.proofs.DecodeLaws.{decodes-decoded, decoded-piece}
 

@@ -4,7 +4,8 @@ use Rattle.std.proofs.lemmas.Bool.{and_parts, and_from, eqb-true, ne_eqb}
 use Rattle.std.proofs.lemmas.Bool.Decides.{nat_tests}
 use Rattle.std.proofs.lemmas.List.{take_all, append-nil, drop_at}
 use Rattle.facet_format.specs.Bytes.{is_sign, dot}
-use Rattle.facet_format.specs.Number.{IsNumeral, digits_len, minus_len, fraction_len, sign_len, exponent_len, parts, parts_len, hint_by}
+use Rattle.facet_format.specs.Number.{IsNumeral, hint_by}
+use Rattle.facet_format.specs.NumberParts.{digits_len, minus_len, fraction_len, sign_len, exponent_len, parts, parts_len}
 use Rattle.facet_format.specs.Number as numbers
 use Rattle.facet_format.proofs.NumberLaws.{minus-taken, digits-taken, sign-taken, parts-is}
 use Rattle.facet_json_token.specs.RfcNumber.{is_rfc_digit, is_first_digit, is_rfc_exponent_mark, AreRfcDigits, none, digit, SomeDigits, IsRfcMinus, IsRfcWhole, nought, IsRfcFraction, IsRfcExponentSign, IsRfcExponent, IsRfcNumber}

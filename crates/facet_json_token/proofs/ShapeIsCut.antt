@@ -5,9 +5,11 @@ use Rattle.std.proofs.lemmas.Bool.{cond_both, eqb-true}
 use Rattle.std.proofs.lemmas.List.{length-take-le, take_at, drop_at, take_min}
 use Rattle.facet_format.specs.Bytes.{quote, slash, star}
 use Rattle.facet_json_token.specs.Gap.{Mode, plain, jsonc}
-use Rattle.facet_format.specs.Number.{IsNumber, parts, parts_len, parts_hint, is_bare, starts_number, begins_number}
+use Rattle.facet_format.specs.Number.{IsNumber}
+use Rattle.facet_format.specs.NumberParts.{parts, parts_len, parts_hint, is_bare, starts_number, begins_number}
 use Rattle.facet_json_token.specs.Token.{Kind, string, number, Token, unexpected_eof, unexpected_char, in_literal}
-use Rattle.facet_json_token.specs.Cut.{IsLiteral, IsLongest, IsShape, Cut, nothing_left, token, fault, Start, start_of, token_at, fault_at, common_len, cut_word, content_len, has_backslash, cut_text, cut_number, cut_slash, cut_by, cut_here}
+use Rattle.facet_json_token.specs.Cut.{Cut, nothing_left, token, fault, Start, start_of, token_at, fault_at, common_len, cut_word, content_len, has_backslash, cut_text, cut_number, cut_slash, cut_by, cut_here}
+use Rattle.facet_json_token.specs.Shape.{IsLiteral, IsLongest, IsShape}
 use Rattle.facet_json_token.specs.Laws.{ShapeIsCut, ShapeIsUnique}
 use Rattle.facet_json_token.proofs.Starts.{Begins, a_mark, a_word, a_text, a_number, a_comment, no_token, start_of-begins}
 use Rattle.facet_format.proofs.NumberPrefixes.{parts_len-bound}

@@ -3,10 +3,12 @@ use Rattle.std.proofs.Common.{◌≡◌, ℕ, suc, ◌+◌, ◌-◌, ◌≤◌, 
 use Rattle.std.proofs.lemmas.Bool.{eqb-true, both_ways, false_from_ne_true}
 use Rattle.std.proofs.lemmas.List.{length-take-le, take_at, drop_at}
 use Rattle.facet_format.specs.Bytes.{quote}
-use Rattle.facet_format.specs.Number.{Hint, IsNumber, parts, parts_len, parts_hint, is_bare, begins_number}
+use Rattle.facet_format.specs.Number.{Hint, IsNumber}
+use Rattle.facet_format.specs.NumberParts.{parts, parts_len, parts_hint, is_bare, begins_number}
 use Rattle.facet_json_token.specs.Gap.{Mode}
 use Rattle.facet_json_token.specs.Token.{Kind, string, number}
-use Rattle.facet_json_token.specs.Cut.{IsStructural, object_starts, object_ends, array_starts, array_ends, colon_stands, comma_stands, ArePieces, IsLiteral, null_stands, true_stands, false_stands, IsLongest, IsShape, start_of, token_at, content_len, has_backslash, cut_text, cut_number, cut_by, cut_here}
+use Rattle.facet_json_token.specs.Cut.{start_of, token_at, content_len, has_backslash, cut_text, cut_number, cut_by, cut_here}
+use Rattle.facet_json_token.specs.Shape.{IsStructural, object_starts, object_ends, array_starts, array_ends, colon_stands, comma_stands, ArePieces, IsLiteral, null_stands, true_stands, false_stands, IsLongest, IsShape}
 use Rattle.facet_format.proofs.NumberPrefixes.{parts-take, is_bare-some}
 use Rattle.facet_format.proofs.NumberLaws.{number_is_longest, parts_len-is, parts_hint-is, begins_number-is, is_bare-number}
 use Rattle.facet_json_token.proofs.NumberCuts.{sign-bound}

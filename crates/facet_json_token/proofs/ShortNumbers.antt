@@ -4,7 +4,9 @@ use Rattle.std.specs.Prelude.{◌==◌, nat_lt}
 use Rattle.std.proofs.lemmas.List.{append-nil}
 use Rattle.std.proofs.lemmas.Bool.{lt-ltb}
 use Rattle.facet_format.specs.Bytes.{is_digit, minus}
-use Rattle.facet_format.specs.Number.{AreDigits, none, digit, IsMinus, IsFraction, IsExponent, is_number, unsigned, unsigned_number, u64, u128, digits_value, number}
+use Rattle.facet_format.specs.Number.{AreDigits, none, digit, IsMinus, IsFraction, IsExponent, unsigned}
+use Rattle.facet_format.specs.NumberValue.{unsigned_number, u64, u128, digits_value, number}
+use Rattle.facet_format.specs.NumberParts.{is_number}
 use Rattle.facet_format.proofs.NumberText.{number-unsigned}
 use Rattle.facet_format.proofs.NumberLaws.{is_number-complete}
 

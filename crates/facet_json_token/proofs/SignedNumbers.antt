@@ -1,6 +1,7 @@
 -- Numbers that are digits after a minus.
 use Rattle.std.proofs.Common.{◌≡◌, ℕ, zero, suc, ◌<◌, Bool, true, false, List, refl, arith}
-use Rattle.facet_format.specs.Number.{signed, is_some_len, hint_by, parts, is_number}
+use Rattle.facet_format.specs.Number.{signed, hint_by}
+use Rattle.facet_format.specs.NumberParts.{is_some_len, parts, is_number}
 use Rattle.facet_format.proofs.NumberLaws.{is_number-sound, parts_hint-is}
 use Rattle.facet_json_token.proofs.NumberCuts.{sign-bound}
 

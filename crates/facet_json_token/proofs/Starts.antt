@@ -4,9 +4,10 @@ use Rattle.std.proofs.lemmas.Bool.{cond_both, eqb-true}
 use Rattle.std.proofs.lemmas.Bool.Decides.{nat_tests}
 use Rattle.facet_format.specs.Bytes.{quote, slash, left_brace, right_brace, left_bracket, right_bracket, is_space}
 use Rattle.facet_format.specs.Bytes as bytes
-use Rattle.facet_format.specs.Number.{starts_number}
+use Rattle.facet_format.specs.NumberParts.{starts_number}
 use Rattle.facet_json_token.specs.Token.{Kind}
-use Rattle.facet_json_token.specs.Cut.{IsStructural, object_starts, object_ends, array_starts, array_ends, colon_stands, comma_stands, IsLiteral, null_stands, true_stands, false_stands, Start, punctuation, letter, opens_text, opens_number, opens_comment, opens_nothing, start_of}
+use Rattle.facet_json_token.specs.Cut.{Start, punctuation, letter, opens_text, opens_number, opens_comment, opens_nothing, start_of}
+use Rattle.facet_json_token.specs.Shape.{IsStructural, object_starts, object_ends, array_starts, array_ends, colon_stands, comma_stands, IsLiteral, null_stands, true_stands, false_stands}
 
 -- The byte begins this.
 pub data Begins : ℕ → Start → Type 0 where

@@ -8,7 +8,7 @@ use Rattle.std.specs.List.{prefix_len}
 use Rattle.std.specs.Option.{option_map}
 use Rattle.std.proofs.lemmas.Bool.Decides.{nat_tests}
 use Rattle.facet_format.specs.Bytes.{backslash}
-use Rattle.facet_json_token.specs.Gap.{one_more}
+use Rattle.facet_json_token.specs.GapLen.{one_more}
 use Rattle.facet_json_token.specs.Inner.RfcWindow.{is_rfc_plain}
 use Rattle.facet_json_token.specs.Strict.{may_stand, wrong_at, content_fault}
 

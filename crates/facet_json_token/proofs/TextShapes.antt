@@ -2,8 +2,9 @@
 use Rattle.std.proofs.Common.{◌≡◌, ℕ, zero, suc, ◌<◌, Bool, true, false, cond, ◌==◌, List, [], ◌∷◌, ◌++◌, length, take, Option, Some, None, refl, sym, ap, subst, arith}
 use Rattle.std.proofs.lemmas.Bool.{cond_both, eqb-true}
 use Rattle.facet_format.specs.Bytes.{quote, backslash}
-use Rattle.facet_json_token.specs.Gap.{one_more}
-use Rattle.facet_json_token.specs.Cut.{ArePieces, content_len, has_backslash}
+use Rattle.facet_json_token.specs.GapLen.{one_more}
+use Rattle.facet_json_token.specs.Cut.{content_len, has_backslash}
+use Rattle.facet_json_token.specs.Shape.{ArePieces}
 
 -- ---- its length is within the bytes
 

@@ -8,7 +8,7 @@ use Rattle.std.proofs.lemmas.Option.{slice_get_within, get_or_from_slice_get}
 use Rattle.std.specs.List.{list_any}
 use Rattle.std.specs.Option.{option_map}
 use Rattle.facet_format.specs.Bytes.{quote, backslash}
-use Rattle.facet_json_token.specs.Gap.{one_more}
+use Rattle.facet_json_token.specs.GapLen.{one_more}
 use Rattle.facet_json_token.specs.Token.{string}
 use Rattle.facet_json_token.specs.Cut.{content_len, cut_text, token_at}
 use Rattle.facet_json_token.proofs.Offsets.{drop-at_byte, option_map-one_more}

@@ -7,7 +7,7 @@ use Rattle.std.proofs.lemmas.Option.{slice_get_within, slice_get-get_or, get_or_
 use Rattle.std.specs.List.{list_any, prefix_len}
 use Rattle.std.specs.Option.{option_map}
 use Rattle.facet_format.specs.Bytes.{quote, backslash}
-use Rattle.facet_json_token.specs.Gap.{one_more}
+use Rattle.facet_json_token.specs.GapLen.{one_more}
 use Rattle.facet_json_token.specs.Cut.{content_len}
 use Rattle.facet_json_token.specs.Inner.Window.{is_stop, is_plain}
 use Rattle.facet_json_token.proofs.Offsets.{drop-at_byte}

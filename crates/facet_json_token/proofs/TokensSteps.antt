@@ -6,7 +6,8 @@ use Rattle.facet_json_token.specs.Gap.{Mode}
 use Rattle.facet_json_token.specs.Token.{Token, Fault}
 use Rattle.facet_format.specs.Span.{stop}
 use Rattle.facet_json_token.specs.Cut.{Cut, nothing_left, token, fault, cut_here, past_gap, cut}
-use Rattle.facet_json_token.specs.Tokens.{Tokens, ended, refused, next, tokens_past, tokens_from}
+use Rattle.facet_json_token.specs.Tokens.{Tokens, ended, refused, next}
+use Rattle.facet_json_token.specs.TokenList.{tokens_past, tokens_from}
 use Rattle.facet_json_token.proofs.CutBounds.{TokenFits, cut-token_fits, drop_next}
 
 -- The tokens after k more bytes of the token before.

@@ -9,7 +9,8 @@ use Rattle.std.proofs.lemmas.Str.{IsUtf8-nil, IsUtf8-encode, IsUtf8-take, IsUtf8
 use Rattle.std.specs.Str.{IsCharBoundary}
 use Rattle.facet_format.specs.Bytes.{backslash, lower_u}
 use Rattle.facet_format.proofs.AsciiTexts.{ascii-before}
-use Rattle.facet_json_token.specs.Decode.{short_escape, is_hex, code_unit, Piece, itself, short, other, unit, pair, piece_at}
+use Rattle.facet_json_token.specs.Decode.{short_escape, is_hex, code_unit, Piece, itself, short, other, unit, pair}
+use Rattle.facet_json_token.specs.Decoded.{piece_at}
 use Rattle.facet_json_token.specs.Quoted.{IsQuoted}
 use Rattle.facet_json_token.proofs.DecodeLaws.{piece_at-begins}
 use Rattle.facet_json_token.proofs.DecodeSteps.{range-drop}

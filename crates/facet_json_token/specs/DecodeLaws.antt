@@ -1,6 +1,7 @@
 -- The laws of strings' contents. Each is the contract of a function of the module `laws` of `facet_json_scan`.
 use Rattle.std.specs.Prelude.{ℕ, ◌≡◌, ◌≤◌, ◌+◌, ◌↔◌, ◌⊎◌, List, length, Some}
-use Rattle.facet_json_token.specs.Decode.{Decodes, decoded}
+use Rattle.facet_json_token.specs.Decode.{Decodes}
+use Rattle.facet_json_token.specs.Decoded.{decoded}
 use Rattle.facet_json_token.specs.Fault.{DecodeFault, FirstFault}
 
 -- The text that is computed is the one text that the content stands for.

@@ -1,11 +1,12 @@
 -- What is wrong where no token stands: a relation by cases (RFC 8259, section 2).
 use Rattle.std.specs.Prelude.{◌≡◌, ◌≢◌, ℕ, ◌+◌, Bool, true, false, List, [], ◌∷◌, ◌++◌, length, take}
 use Rattle.facet_format.specs.Bytes.{is_space, quote, backslash, slash, star, minus}
-use Rattle.facet_format.specs.Number.{Hint, IsNumber, starts_number}
+use Rattle.facet_format.specs.Number.{Hint, IsNumber}
+use Rattle.facet_format.specs.NumberParts.{starts_number}
 use Rattle.facet_format.specs.Span.{Span, span_at}
 use Rattle.facet_json_token.specs.Gap.{Mode, plain, jsonc, OpensBlock}
 use Rattle.facet_json_token.specs.Token.{Kind, FaultKind, unexpected_char, unexpected_eof, in_string, in_number, in_literal, in_block_comment}
-use Rattle.facet_json_token.specs.Cut.{IsStructural, IsLiteral, ArePieces}
+use Rattle.facet_json_token.specs.Shape.{IsStructural, IsLiteral, ArePieces}
 
 -- The byte begins a token: it is one, it is a literal's first letter, it is a quote, or it is a minus or a digit.
 pub data BeginsToken : ℕ → Type 0 where

@@ -1,11 +1,14 @@
 -- Laws of gaps, tokens and growing buffers. Each is the contract of a function of the module `laws` of `facet_json_scan`.
 use Rattle.std.specs.Prelude.{ℕ, ◌≡◌, ◌≢◌, ◌≤◌, ◌↔◌, List, ◌++◌, length, take, drop}
-use Rattle.facet_json_token.specs.Gap.{Mode, Input, IsGap, gap_len}
+use Rattle.facet_json_token.specs.Gap.{Mode, Input, IsGap}
+use Rattle.facet_json_token.specs.GapLen.{gap_len}
 use Rattle.facet_format.specs.Span.{Span}
 use Rattle.facet_json_token.specs.Token.{Kind, FaultKind}
-use Rattle.facet_json_token.specs.Cut.{IsShape, nothing_left, fault, token_at, cut_here, past_gap, cut}
+use Rattle.facet_json_token.specs.Cut.{nothing_left, fault, token_at, cut_here, past_gap, cut}
+use Rattle.facet_json_token.specs.Shape.{IsShape}
 use Rattle.facet_json_token.specs.Faults.{IsFault}
-use Rattle.facet_json_token.specs.Tokens.{Tokens, AreCuts, tokens_from}
+use Rattle.facet_json_token.specs.Tokens.{Tokens, AreCuts}
+use Rattle.facet_json_token.specs.TokenList.{tokens_from}
 use Rattle.facet_json_token.specs.Open.{IsOpen}
 
 -- The gap at the start is a gap, and no longer prefix of the bytes is one.

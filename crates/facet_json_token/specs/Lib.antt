@@ -1,11 +1,14 @@
 pub mod Cut
+pub mod Shape
 pub mod DebugViews
 pub mod Decode
+pub mod Decoded
 pub mod DecodeLaws
 pub mod DecodeViews
 pub mod Fault
 pub mod Faults
 pub mod Gap
+pub mod GapLen
 pub mod Inner
 pub mod Laws
 pub mod NumberViews
@@ -17,4 +20,5 @@ pub mod Strict
 pub mod StrictViews
 pub mod Token
 pub mod Tokens
+pub mod TokenList
 pub mod Views

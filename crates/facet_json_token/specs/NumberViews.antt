@@ -5,7 +5,7 @@ use Rattle.facet_json_token.specs.declared.token.ScanError.{ScanError}
 use Rattle.facet_json_token.specs.declared.number.ParsedNumber.{ParsedNumber}
 use Rattle.facet_json_token.specs.declared.number.ParsedNumber.TheVariants as parsed
 use Rattle.facet_format.specs.Event.{bytes_of, is_owned}
-use Rattle.facet_format.specs.Number.{Number, u64, i64, u128, i128, decimal}
+use Rattle.facet_format.specs.NumberValue.{Number, u64, i64, u128, i128, decimal}
 
 abbrev pub number_of : ParsedNumber → Number
 number_of (parsed.U64 n) = u64 n

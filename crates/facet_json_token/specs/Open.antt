@@ -1,10 +1,11 @@
 -- Where a buffer that may grow does not say yet what stands at a position: what is left is a beginning of something longer.
 use Rattle.std.specs.Prelude.{◌≢◌, ℕ, ◌+◌, Bool, List, [], ◌∷◌, ◌++◌, drop}
 use Rattle.facet_format.specs.Bytes.{quote, backslash, slash, star, minus}
-use Rattle.facet_json_token.specs.Gap.{Mode, jsonc, growing, gap_len, OpensBlock, OpensLine}
+use Rattle.facet_json_token.specs.Gap.{Mode, jsonc, growing, OpensBlock, OpensLine}
+use Rattle.facet_json_token.specs.GapLen.{gap_len}
 use Rattle.facet_format.specs.Number.{Hint, IsNumber}
 use Rattle.facet_json_token.specs.Token.{Kind}
-use Rattle.facet_json_token.specs.Cut.{ArePieces, IsLiteral}
+use Rattle.facet_json_token.specs.Shape.{ArePieces, IsLiteral}
 
 -- ---- what open is
 

@@ -1,6 +1,6 @@
 -- A test for numbers of RFC 8259 (section 6), by the lengths of the parts that a numeral has.
 use Rattle.std.specs.Prelude.{ℕ, zero, suc, ◌+◌, Bool, true, false, not, ◌==◌, ◌&&◌, nat_lt, List, [], ◌∷◌, length, drop}
-use Rattle.facet_format.specs.Number.{Parts, parts, parts_len, sign_len}
+use Rattle.facet_format.specs.NumberParts.{Parts, parts, parts_len, sign_len}
 
 -- so many digits at the start, of which the first is not 0 where others follow
 abbrev pub is_whole_of : ℕ → List ℕ → Bool

@@ -3,7 +3,7 @@ use Rattle.std.specs.Prelude.{ℕ, ◌+◌, Bool, true, false, cond, not, ◌==�
 use Rattle.std.specs.Option.{option_map}
 use Rattle.facet_format.specs.Bytes.{quote, backslash, slash, lower_b, lower_f, lower_n, lower_r, lower_t, lower_u}
 use Rattle.facet_format.specs.Span.{span_at}
-use Rattle.facet_json_token.specs.Gap.{one_more}
+use Rattle.facet_json_token.specs.GapLen.{one_more}
 use Rattle.facet_json_token.specs.Token.{Kind, Token, Fault, string, number, unexpected_char}
 use Rattle.facet_json_token.specs.RfcNumberTest.{is_rfc_number}
 

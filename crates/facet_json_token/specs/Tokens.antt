@@ -1,5 +1,5 @@
 -- The list of all tokens of an input, with the end or the fault after the last.
-use Rattle.std.specs.Prelude.{◌≡◌, ℕ, zero, suc, ◌-◌, List, [], ◌∷◌, drop}
+use Rattle.std.specs.Prelude.{◌≡◌, ℕ, List}
 use Rattle.facet_json_token.specs.Gap.{Mode}
 use Rattle.facet_json_token.specs.Token.{Token, Fault}
 use Rattle.facet_format.specs.Span.{stop}
@@ -16,21 +16,3 @@ pub data AreCuts (buffer : List ℕ) (mode : Mode) : ℕ → Tokens → Type 0 w
   breaks_off : (position : ℕ) (f : Fault) → cut buffer position mode ≡ fault f → AreCuts buffer mode position (refused f)
   goes_on : (position : ℕ) (t : Token) (others : Tokens) → cut buffer position mode ≡ token t →
       AreCuts buffer mode (stop t.span) others → AreCuts buffer mode position (next t others)
-
--- ---- computed
-
--- The tokens of the buffer, of which these bytes are left at offset `at`, after the next `inside` of them, which belong to
--- the token before.
-unfoldable pub tokens_past : List ℕ → Mode → ℕ → ℕ → List ℕ → Tokens
-tokens_past buffer mode inside at [] = ended
-tokens_past buffer mode (suc inside) at (b ∷ left) = tokens_past buffer mode inside (suc at) left
-tokens_past buffer mode zero at (b ∷ left) =
-    elim (cut buffer at mode) [ nothing_left ↦ ended | fault f ↦ refused f | token t ↦ next t (tokens_past buffer mode (stop t.span - suc at) (suc at) left) ]
-
--- the tokens from a position on
-abbrev pub tokens_from : List ℕ → Mode → ℕ → Tokens
-tokens_from buffer mode position = tokens_past buffer mode 0 position (drop position buffer)
-
--- the tokens of the input
-abbrev pub tokens : List ℕ → Mode → Tokens
-tokens buffer mode = tokens_from buffer mode 0

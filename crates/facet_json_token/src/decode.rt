@@ -5,7 +5,8 @@ ghost use Rattle.std.specs.Prelude.{◌≡◌, ℕ, ◌≤◌, ◌<◌, List, So
 ghost use Rattle.std.specs.Cow.{cow_str_bytes, IsOwnedStr, IsBorrowedStr};
 ghost use Rattle.facet_json_token.specs.declared.decode.DecodeError.TheVariants as refusal;
 ghost use Rattle.facet_format.specs.Bytes.{backslash};
-ghost use Rattle.facet_json_token.specs.Decode.{decoded, Decodes};
+ghost use Rattle.facet_json_token.specs.Decode.{Decodes};
+ghost use Rattle.facet_json_token.specs.Decoded.{decoded};
 ghost use Rattle.facet_json_token.specs.Cut.{has_backslash};
 ghost use Rattle.facet_json_token.specs.DecodeViews.{IsItsText, RefusesContent, TellsFirstFault, whole_refused};
 ghost use Rattle.facet_json_token.specs.Inner.Run.{StopsBeingText};

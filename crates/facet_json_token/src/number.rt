@@ -2,7 +2,9 @@
 
 ghost use Rattle.std.specs.Prelude.{◌≡◌, ℕ, ◌+◌, ◌*◌, ◌≤◌, ◌<◌, ◌^◌, pos, neg_ℤ, true, false, None, Some, length, drop, slice_range, IsUtf8, IfErr, IfOk, MatchOption, MatchResult};
 ghost use Rattle.std.specs.Option.{option_map, IfSome};
-ghost use Rattle.facet_format.specs.Number.{AreDigits, digits_value, number as spec_number, is_number, float, unsigned, unsigned_number, negative_number};
+ghost use Rattle.facet_format.specs.Number.{AreDigits, float, unsigned};
+ghost use Rattle.facet_format.specs.NumberValue.{digits_value, number as spec_number, unsigned_number, negative_number};
+ghost use Rattle.facet_format.specs.NumberParts.{is_number};
 ghost use Rattle.facet_format.specs.Views.{hint_of};
 ghost use Rattle.facet_json_token.specs.NumberViews.{number_of, is_made_number, number_refusal};
 

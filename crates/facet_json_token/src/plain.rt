@@ -1,7 +1,7 @@
 //! Contents in which no backslash stands, and which stand for themselves where they are UTF-8.
 
 ghost use Rattle.std.specs.Prelude.{◌≡◌, ◌≤◌, Some, false, length, slice_range, IfSome, IsUtf8, MatchOption};
-ghost use Rattle.facet_json_token.specs.Decode.{decoded};
+ghost use Rattle.facet_json_token.specs.Decoded.{decoded};
 ghost use Rattle.facet_json_token.specs.Quoted.{IsQuoted};
 ghost use Rattle.facet_json_token.specs.Cut.{has_backslash};
 ghost use Rattle.facet_json_token.specs.DecodeViews.{IsItsText};

@@ -2,9 +2,10 @@
 
 ghost use Rattle.std.specs.Prelude.{◌≡◌, ℕ, ◌+◌, Bool, false, ◌<◌, ◌≤◌, length, drop, Option, slice_get, IfSome, IfOk};
 ghost use Rattle.std.specs.Option.{option_map};
-ghost use Rattle.facet_json_token.specs.Gap.{whole, through_block_end, through_line_end};
-ghost use Rattle.facet_json_token.specs.Gap as spec_gap;
-ghost use Rattle.facet_format.specs.Number.{parts, parts_len, parts_hint, is_bare};
+ghost use Rattle.facet_json_token.specs.Gap.{whole};
+ghost use Rattle.facet_json_token.specs.GapLen.{through_block_end, through_line_end};
+ghost use Rattle.facet_json_token.specs.GapLen as spec_gap;
+ghost use Rattle.facet_format.specs.NumberParts.{parts, parts_len, parts_hint, is_bare};
 ghost use Rattle.facet_json_token.specs.Token.{Kind};
 ghost use Rattle.facet_json_token.specs.Token as spec_token;
 ghost use Rattle.facet_json_token.specs.Cut.{past_gap, cut_here, fault_at, content_len};

@@ -7,7 +7,7 @@ ghost use Rattle.facet_json_token.specs.Gap.{Mode as SpecMode, Mode};
 ghost use Rattle.facet_json_token.specs.Token.{string, Kind};
 ghost use Rattle.facet_json_token.specs.Cut.{cut_here, past_gap, token_at, content_len};
 ghost use Rattle.facet_json_token.specs.Views.{mode_of, kind_of};
-ghost use Rattle.facet_format.specs.Number.{parts, parts_len, parts_hint, is_bare};
+ghost use Rattle.facet_format.specs.NumberParts.{parts, parts_len, parts_hint, is_bare};
 ghost use Rattle.facet_json_token.specs.Cut as spec_cut;
 ghost use Rattle.facet_json_token.specs.Inner.InSight.{told};
 

@@ -1,7 +1,7 @@
 //! Whether a text is a number of RFC 8259.
 
 ghost use Rattle.std.specs.Prelude.{◌≡◌, ◌≤◌, length, slice_range, MatchResult};
-ghost use Rattle.facet_format.specs.Number.{parts_len};
+ghost use Rattle.facet_format.specs.NumberParts.{parts_len};
 ghost use Rattle.facet_json_token.specs.RfcNumber.{IsRfcNumber};
 ghost use Rattle.facet_json_token.specs.RfcNumberTest.{is_rfc_number as spec_is_rfc_number, are_rfc_parts, is_whole_of, is_exponent_of};
 ghost use Rattle.facet_json_token.specs.StrictViews.{number_refused};

@@ -4,8 +4,10 @@ use Rattle.std.specs.Prelude.{IsUtf8, IfOk}
 use Rattle.std.specs.Char.{encode_utf8}
 use Rattle.std.specs.Str.{is_utf8}
 use Rattle.std.proofs.lemmas.Str.{IsUtf8-append, IsUtf8-encode, IsUtf8-from_is_utf8, is_utf8-from_IsUtf8}
-use Rattle.facet_format.specs.Number.{Number, float, number, is_number, parts, value_by}
-use Rattle.facet_format.specs.Number as numbers
+use Rattle.facet_format.specs.Number.{float}
+use Rattle.facet_format.specs.NumberValue.{Number, number, value_by}
+use Rattle.facet_format.specs.NumberParts.{is_number, parts}
+use Rattle.facet_format.specs.NumberValue as numbers
 use Rattle.facet_format.proofs.NumberText.{number-IsUtf8}
 use Rattle.facet_format.proofs.AsciiTexts.{ascii-before}
 use Rattle.facet_json_document.specs.Quoted.{quoted}

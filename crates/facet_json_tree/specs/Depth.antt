@@ -6,7 +6,8 @@ use Rattle.facet_format.specs.Event.{Passed, EventKind, struct_start, struct_end
 use Rattle.facet_format.specs.Event as event
 use Rattle.facet_format.specs.Span.{Span}
 use Rattle.facet_json_token.specs.Gap.{Mode}
-use Rattle.facet_json_token.specs.Tokens.{Tokens, tokens}
+use Rattle.facet_json_token.specs.Tokens.{Tokens}
+use Rattle.facet_json_token.specs.TokenList.{tokens}
 use Rattle.facet_json_document.specs.Node.{Node, scalar, array, object, Nodes, no_nodes, item, Members, no_members, member}
 use Rattle.facet_json_document.specs.Tree.{Tree}
 use Rattle.facet_json_document.specs.Place.{Place}

@@ -3,9 +3,12 @@ use Rattle.std.proofs.Common.{◌≡◌, ℕ, suc, ◌+◌, Bool, true, false, c
 use Rattle.std.specs.List.{list_any}
 use Rattle.std.proofs.lemmas.List.{take-append-le}
 use Rattle.facet_format.specs.Bytes.{quote, backslash}
-use Rattle.facet_format.specs.Number.{Hint, parts, parts_len, parts_hint, is_bare}
-use Rattle.facet_json_token.specs.Cut.{IsStructural, object_starts, object_ends, array_starts, array_ends, colon_stands, comma_stands, IsLiteral, null_stands, true_stands, false_stands, Cut, token, Start, start_of, token_at, fault_at, common_len, cut_word, content_len, cut_text, cut_number, cut_by, cut_here}
-use Rattle.facet_json_token.specs.Gap.{plain, one_more}
+use Rattle.facet_format.specs.Number.{Hint}
+use Rattle.facet_format.specs.NumberParts.{parts, parts_len, parts_hint, is_bare}
+use Rattle.facet_json_token.specs.Cut.{Cut, token, Start, start_of, token_at, fault_at, common_len, cut_word, content_len, cut_text, cut_number, cut_by, cut_here}
+use Rattle.facet_json_token.specs.Shape.{IsStructural, object_starts, object_ends, array_starts, array_ends, colon_stands, comma_stands, IsLiteral, null_stands, true_stands, false_stands}
+use Rattle.facet_json_token.specs.Gap.{plain}
+use Rattle.facet_json_token.specs.GapLen.{one_more}
 use Rattle.facet_json_token.specs.Token.{Kind, Token, string, number, unexpected_char, unexpected_eof, in_literal}
 use Rattle.facet_json_token.proofs.FirstBytes.{cut_word-is}
 use Rattle.facet_json_token.proofs.NumberCuts.{bare_minus-no_token}

@@ -3,11 +3,14 @@ use Rattle.std.proofs.Common.{◌≡◌, ℕ, zero, suc, ◌+◌, ◌-◌, ◌�
 use Rattle.std.specs.List.{list_any}
 use Rattle.std.proofs.lemmas.List.{drop-drop, drop-take, take_all}
 use Rattle.facet_format.specs.Bytes.{is_space, slash, star, quote, backslash, line_feed}
-use Rattle.facet_format.specs.Number.{Hint, parts, parts_len, parts_hint, is_bare}
+use Rattle.facet_format.specs.Number.{Hint}
+use Rattle.facet_format.specs.NumberParts.{parts, parts_len, parts_hint, is_bare}
 use Rattle.facet_format.specs.Span.{stop}
 use Rattle.facet_format.proofs.NumberPrefixes.{parts-take}
-use Rattle.facet_json_token.specs.Cut.{object_starts, object_ends, array_starts, array_ends, colon_stands, comma_stands, IsLiteral, null_stands, true_stands, false_stands, Cut, nothing_left, token, fault, Start, start_of, token_at, fault_at, common_len, cut_word, content_len, cut_text, cut_number, cut_slash, cut_by, cut_here, past_gap, cut}
-use Rattle.facet_json_token.specs.Gap.{Mode, plain, jsonc, whole, one_more, through_block_end, through_line_end, with_mark, with_line_mark, comment_len, piece_len, gap_len_from, gap_len}
+use Rattle.facet_json_token.specs.Cut.{Cut, nothing_left, token, fault, Start, start_of, token_at, fault_at, common_len, cut_word, content_len, cut_text, cut_number, cut_slash, cut_by, cut_here, past_gap, cut}
+use Rattle.facet_json_token.specs.Shape.{object_starts, object_ends, array_starts, array_ends, colon_stands, comma_stands, IsLiteral, null_stands, true_stands, false_stands}
+use Rattle.facet_json_token.specs.Gap.{Mode, plain, jsonc, whole}
+use Rattle.facet_json_token.specs.GapLen.{one_more, through_block_end, through_line_end, with_mark, with_line_mark, comment_len, piece_len, gap_len_from, gap_len}
 use Rattle.facet_json_token.specs.Token.{Kind, Token, string, number, unexpected_char, unexpected_eof, in_block_comment}
 use Rattle.facet_json_token.proofs.CutBounds.{TokenFits, CutFits, here_fits, past_gap-bound}
 use Rattle.facet_json_token.proofs.FirstBytes.{cut_word-is}

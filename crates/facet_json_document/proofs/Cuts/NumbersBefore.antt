@@ -3,7 +3,7 @@ use Rattle.std.proofs.Common.{◌≡◌, ℕ, suc, ◌+◌, ◌≤◌, true, fal
 use Rattle.std.proofs.lemmas.Bool.{not-true, or_parts}
 use Rattle.std.proofs.lemmas.List.{drop-append-le}
 use Rattle.facet_format.specs.Bytes.{is_digit, is_exponent_mark, is_sign, minus, dot}
-use Rattle.facet_format.specs.Number.{digits_len, minus_len, fraction_len, sign_len, exponent_len, parts}
+use Rattle.facet_format.specs.NumberParts.{digits_len, minus_len, fraction_len, sign_len, exponent_len, parts}
 use Rattle.facet_format.proofs.NumberPrefixes.{sign_len-bound, parts_len-bound, power_len, from_sign, from_digits, from_fraction, from_exponent}
 use Rattle.facet_json_document.proofs.Scalars.OneToken.{ends_number}
 

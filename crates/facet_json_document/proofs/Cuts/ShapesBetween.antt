@@ -2,11 +2,13 @@
 use Rattle.std.proofs.Common.{◌≡◌, ℕ, ◌+◌, ◌-◌, true, List, [], ◌∷◌, ◌++◌, length, take, drop, refl, ap, ◌∙◌, arith, append_assoc}
 use Rattle.std.specs.Prelude.{slice_range}
 use Rattle.std.proofs.lemmas.List.{take_at, drop_at}
-use Rattle.facet_format.specs.Number.{begins_number}
+use Rattle.facet_format.specs.NumberParts.{begins_number}
 use Rattle.facet_format.specs.Span.{span_at}
 use Rattle.facet_format.proofs.NumberLaws.{begins_number-is}
-use Rattle.facet_json_token.specs.Cut.{IsStructural, object_starts, object_ends, array_starts, array_ends, colon_stands, comma_stands, IsLiteral, null_stands, true_stands, false_stands, IsShape, cut_here, past_gap, cut}
-use Rattle.facet_json_token.specs.Gap.{plain, whole, piece_len, gap_len}
+use Rattle.facet_json_token.specs.Cut.{cut_here, past_gap, cut}
+use Rattle.facet_json_token.specs.Shape.{IsStructural, object_starts, object_ends, array_starts, array_ends, colon_stands, comma_stands, IsLiteral, null_stands, true_stands, false_stands, IsShape}
+use Rattle.facet_json_token.specs.Gap.{plain, whole}
+use Rattle.facet_json_token.specs.GapLen.{piece_len, gap_len}
 use Rattle.facet_json_token.specs.Token.{Kind}
 use Rattle.facet_json_token.proofs.Gaps.{gap_len-none}
 use Rattle.facet_json_token.proofs.ShapesCut.{cut_here-shape}

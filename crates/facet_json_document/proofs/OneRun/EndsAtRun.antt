@@ -5,7 +5,8 @@ use Rattle.facet_format.specs.Event.{ContainerKind}
 use Rattle.facet_format.specs.Span.{stop}
 use Rattle.facet_json_token.specs.Gap.{Mode}
 use Rattle.facet_json_token.specs.Token.{Token, Fault}
-use Rattle.facet_json_token.specs.Tokens.{Tokens, ended, refused, next, tokens, tokens_from}
+use Rattle.facet_json_token.specs.Tokens.{Tokens, ended, refused, next}
+use Rattle.facet_json_token.specs.TokenList.{tokens, tokens_from}
 use Rattle.facet_json_document.specs.Future.{finished, Stage, within, over, turn, reads_by, reads_colon_by}
 use Rattle.facet_json_document.specs.Reader.{Reader, future_at}
 use Rattle.facet_json_document.specs.Language.{strict, Rules, strict_rules}

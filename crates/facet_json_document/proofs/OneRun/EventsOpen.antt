@@ -3,7 +3,8 @@ use Rattle.std.proofs.Common.{◌≡◌, ℕ, Bool, true, false, List, Some, ref
 use Rattle.facet_format.specs.Event.{ContainerKind, object, Passed}
 use Rattle.facet_format.specs.Span.{stop}
 use Rattle.facet_json_token.specs.Token.{Token}
-use Rattle.facet_json_token.specs.Tokens.{Tokens, ended, refused, next, tokens, tokens_from}
+use Rattle.facet_json_token.specs.Tokens.{Tokens, ended, refused, next}
+use Rattle.facet_json_token.specs.TokenList.{tokens, tokens_from}
 use Rattle.facet_json_token.proofs.TokensSteps.{tokens_from-others}
 use Rattle.facet_json_document.specs.Future.{Future, gives, Stage, within, over, stack_after, stage_after, is_meaningless, turn, reads_by, reads_colon_by}
 use Rattle.facet_json_document.specs.Reader.{Reader, past, future_at}

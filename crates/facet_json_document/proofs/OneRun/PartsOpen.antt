@@ -5,7 +5,8 @@ use Rattle.facet_format.specs.Event.{ContainerKind, object}
 use Rattle.facet_format.specs.Part.{Part, value, broken, key, closing, nothing, skip_of, capture_of}
 use Rattle.facet_format.specs.Span.{stop}
 use Rattle.facet_json_token.specs.Gap.{Mode}
-use Rattle.facet_json_token.specs.Tokens.{Tokens, next, tokens, tokens_from}
+use Rattle.facet_json_token.specs.Tokens.{Tokens, next}
+use Rattle.facet_json_token.specs.TokenList.{tokens, tokens_from}
 use Rattle.facet_json_token.proofs.TokensSteps.{tokens_from-others}
 use Rattle.facet_json_document.specs.Future.{Stage, within, over}
 use Rattle.facet_json_document.specs.Reader.{Reader}

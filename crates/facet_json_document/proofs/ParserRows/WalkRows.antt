@@ -4,14 +4,18 @@ use Rattle.std.specs.Prelude.{ℕ, List, pos, neg_ℤ}
 use Rattle.std.specs.Option.{option_map}
 use Rattle.std.specs.Fmt.{digits}
 use lib.Utf8.{encode}
-use Rattle.facet_json_token.specs.Gap.{Mode, plain, jsonc, gap_len_from}
-use Rattle.facet_format.specs.Number.{parts, number}
+use Rattle.facet_json_token.specs.Gap.{Mode, plain, jsonc}
+use Rattle.facet_json_token.specs.GapLen.{gap_len_from}
+use Rattle.facet_format.specs.NumberValue.{number}
+use Rattle.facet_format.specs.NumberParts.{parts}
 use Rattle.facet_json_token.specs.Cut.{start_of, cut_here, cut}
 use Rattle.facet_format.specs.Span.{span_at}
-use Rattle.facet_json_token.specs.Tokens.{Tokens, tokens_past, tokens}
+use Rattle.facet_json_token.specs.Tokens.{Tokens}
+use Rattle.facet_json_token.specs.TokenList.{tokens_past, tokens}
 use Rattle.facet_json_token.specs.Tokens as tokens
 use Rattle.facet_json_token.specs.Token as token
-use Rattle.facet_json_token.specs.Decode.{short_escape, code_unit, utf8_at, unit_at, escape_at, piece_at, decoded_past}
+use Rattle.facet_json_token.specs.Decode.{short_escape, code_unit}
+use Rattle.facet_json_token.specs.Decoded.{utf8_at, unit_at, escape_at, piece_at, decoded_past}
 use Rattle.facet_json_document.specs.Meaning.{tree_of}
 use Rattle.facet_json_document.proofs.Spelled.{node_within, spelled, document, read_by}
 use Rattle.facet_format.specs.Event.{EventKind, Passed, object, array, borrowed, owned, struct_start, struct_end, sequence_start, sequence_end, field_key, scalar, null, bool, i64, u64, decimal, text}

@@ -9,7 +9,8 @@ use Rattle.facet_format.specs.Event as event
 use Rattle.facet_format.specs.Part.{Part, value, key, closing, Source, last_of, closing_len, part_of, part_at}
 use Rattle.facet_format.specs.Span.{stop}
 use Rattle.facet_json_token.specs.Token.{Kind, Token}
-use Rattle.facet_json_token.specs.Tokens.{Tokens, ended, refused, next, tokens_from}
+use Rattle.facet_json_token.specs.Tokens.{Tokens, ended, refused, next}
+use Rattle.facet_json_token.specs.TokenList.{tokens_from}
 use Rattle.facet_json_document.specs.Future.{Stage, finished, events_before, within, over, after_value, around, behind_root, reads_by}
 use Rattle.facet_json_document.specs.Reader.{Reader, past, future_at}
 use Rattle.facet_json_document.specs.Language.{Language, lenient, strict, gaps, rules, Rules, lenient_rules, strict_rules}

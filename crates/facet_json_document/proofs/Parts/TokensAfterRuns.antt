@@ -3,7 +3,8 @@ use Rattle.std.proofs.Common.{◌≡◌, ℕ, List}
 use Rattle.facet_format.specs.Span.{stop}
 use Rattle.facet_json_token.specs.Gap.{Mode}
 use Rattle.facet_json_token.specs.Token.{Token}
-use Rattle.facet_json_token.specs.Tokens.{Tokens, next, tokens_from}
+use Rattle.facet_json_token.specs.Tokens.{Tokens, next}
+use Rattle.facet_json_token.specs.TokenList.{tokens_from}
 use Rattle.facet_json_document.specs.Language.{Language, lenient}
 use Rattle.facet_json_document.specs.StrictTokens.{tokens_in}
 use Rattle.facet_json_document.proofs.TokensIn.{tokens_in-others}

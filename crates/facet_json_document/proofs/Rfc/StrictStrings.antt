@@ -8,9 +8,9 @@ use lib.Utf8.{scalar}
 use Rattle.std.proofs.lemmas.Bool.{and_parts, and_from}
 use Rattle.std.proofs.lemmas.Bool.Decides.{nat_tests}
 use Rattle.facet_format.specs.Bytes.{quote, backslash, lower_u}
-use Rattle.facet_json_token.specs.Gap.{one_more}
-use Rattle.facet_json_token.specs.Cut.{ArePieces}
-use Rattle.facet_json_token.specs.Cut as cut
+use Rattle.facet_json_token.specs.GapLen.{one_more}
+use Rattle.facet_json_token.specs.Shape.{ArePieces}
+use Rattle.facet_json_token.specs.Shape as cut
 use Rattle.facet_json_token.specs.Decode.{is_hex, code_unit, Piece, itself, short, other, unit, pair, Decodes}
 use Rattle.facet_json_token.specs.Decode as decode
 use Rattle.facet_json_token.proofs.CharAt.{Shape, one, two, three, four, shape}

@@ -5,11 +5,14 @@ use Rattle.std.specs.Fmt.{digits}
 use Rattle.std.specs.Option.{option_map}
 use lib.Utf8.{encode}
 use Rattle.facet_format.specs.Bytes.{quote, backslash, lower_u}
-use Rattle.facet_json_token.specs.Gap.{Mode, plain, jsonc, gap_len_from}
-use Rattle.facet_format.specs.Number.{parts, number}
+use Rattle.facet_json_token.specs.Gap.{Mode, plain, jsonc}
+use Rattle.facet_json_token.specs.GapLen.{gap_len_from}
+use Rattle.facet_format.specs.NumberValue.{number}
+use Rattle.facet_format.specs.NumberParts.{parts}
 use Rattle.facet_json_token.specs.Cut.{start_of, cut_here, cut}
-use Rattle.facet_json_token.specs.Tokens.{tokens_past}
-use Rattle.facet_json_token.specs.Decode.{short_escape, code_unit, utf8_at, unit_at, escape_at, piece_at, decoded_past}
+use Rattle.facet_json_token.specs.TokenList.{tokens_past}
+use Rattle.facet_json_token.specs.Decode.{short_escape, code_unit}
+use Rattle.facet_json_token.specs.Decoded.{utf8_at, unit_at, escape_at, piece_at, decoded_past}
 use Rattle.facet_json_document.specs.Node.{Node}
 use Rattle.facet_json_document.specs.Document.{IsDocument, IsWholeDocument}
 use Rattle.facet_json_document.specs.Tree.{Tree, null, bool, u64, i64, text, decimal, list, pairs, no_trees, tree, no_pairs, pair}

@@ -2,12 +2,15 @@
 use Rattle.std.proofs.Common.{◌≡◌, ℕ, List, [], ◌∷◌, refl, codes}
 use Rattle.facet_format.specs.Complaint.{Complaint, unexpected_char, unexpected_eof, unexpected_token, refusal_at}
 use Rattle.facet_format.specs.Event.{ContainerKind, object, array}
-use Rattle.facet_format.specs.Number.{parts, number}
+use Rattle.facet_format.specs.NumberValue.{number}
+use Rattle.facet_format.specs.NumberParts.{parts}
 use Rattle.facet_format.specs.Span.{span_at}
-use Rattle.facet_json_token.specs.Gap.{plain, gap_len_from}
+use Rattle.facet_json_token.specs.Gap.{plain}
+use Rattle.facet_json_token.specs.GapLen.{gap_len_from}
 use Rattle.facet_json_token.specs.Token.{Token}
 use Rattle.facet_json_token.specs.Cut.{start_of, cut_here, cut}
-use Rattle.facet_json_token.specs.Tokens.{Tokens, ended, next, tokens_past, tokens}
+use Rattle.facet_json_token.specs.Tokens.{Tokens, ended, next}
+use Rattle.facet_json_token.specs.TokenList.{tokens_past, tokens}
 use Rattle.facet_json_document.specs.Run.{opening, closing, Run, BreaksOff}
 use Rattle.facet_json_document.specs.Inner.PassedRun.{Outcome, closes, stops, passed}
 use Rattle.facet_json_document.proofs.Runs.PassedRuns.{IsOutcome, is-outcome}

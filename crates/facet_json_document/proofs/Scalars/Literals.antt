@@ -2,7 +2,7 @@
 use Rattle.std.proofs.Common.{◌≡◌, ℕ, Bool, true, false, List, ◌++◌, length, Some, None, refl}
 use Rattle.std.specs.Prelude.{codes}
 use Rattle.facet_format.specs.Span.{span_at}
-use Rattle.facet_json_token.specs.Cut.{IsLiteral, null_stands, true_stands, false_stands, IsShape}
+use Rattle.facet_json_token.specs.Shape.{IsLiteral, null_stands, true_stands, false_stands, IsShape}
 use Rattle.facet_json_token.specs.Token.{Kind, Token}
 use Rattle.facet_json_document.specs.Language.{Rules}
 use Rattle.facet_json_document.specs.Meaning.{meaning_of}

@@ -5,12 +5,14 @@ use Rattle.std.specs.Option.{option_map}
 use Rattle.std.proofs.lemmas.Bool.{and_from, and_parts, both_ways, not-true, or_left, or_right}
 use Rattle.std.proofs.lemmas.List.Folds.{list_all-append}
 use Rattle.facet_format.specs.Bytes.{is_digit, dot, is_exponent_mark, is_sign}
-use Rattle.facet_format.specs.Number.{Hint, AreDigits, IsMinus, IsFraction, IsExponentSign, IsExponent, IsNumeral, Number, is_number, number}
+use Rattle.facet_format.specs.Number.{Hint, AreDigits, IsMinus, IsFraction, IsExponentSign, IsExponent, IsNumeral}
+use Rattle.facet_format.specs.NumberValue.{Number, number}
+use Rattle.facet_format.specs.NumberParts.{is_number}
 use Rattle.std.specs.Prelude.{slice_range}
 use Rattle.facet_format.specs.Span.{Span, span_at}
 use Rattle.facet_format.proofs.NumberLaws.{is_number-sound}
 use Rattle.facet_format.proofs.NumberText.{number-none}
-use Rattle.facet_json_token.specs.Cut.{IsLongest, IsShape}
+use Rattle.facet_json_token.specs.Shape.{IsLongest, IsShape}
 use Rattle.facet_json_token.specs.Token as token
 use Rattle.facet_json_token.specs.Token.{Token}
 use Rattle.facet_json_token.proofs.RfcNumbers.{is_rfc-complete}

@@ -10,9 +10,10 @@ use Rattle.std.proofs.lemmas.Bool.Decides.{nat_tests}
 use Rattle.std.proofs.lemmas.Str.{encode_ascii, IsUtf8-encode, IsUtf8-from_is_utf8, is_utf8-from_IsUtf8}
 use Rattle.facet_format.specs.Bytes.{quote, backslash}
 use Rattle.facet_format.specs.Span.{span_at}
-use Rattle.facet_json_token.specs.Cut.{IsShape}
+use Rattle.facet_json_token.specs.Shape.{IsShape}
 use Rattle.facet_json_token.specs.Token.{string}
-use Rattle.facet_json_token.specs.Decode.{code_unit, Piece, Decodes, empty, piece, decoded}
+use Rattle.facet_json_token.specs.Decode.{code_unit, Piece, Decodes, empty, piece}
+use Rattle.facet_json_token.specs.Decoded.{decoded}
 use Rattle.facet_json_token.specs.Decode as decode
 use Rattle.facet_json_token.proofs.DecodeLaws.{decoded-decodes}
 use Rattle.facet_json_token.specs.Strict.{wrong_at, content_fault}

@@ -8,8 +8,10 @@ use Rattle.std.proofs.lemmas.Fmt.{decimal_is_IsNumeral_wide}
 use Rattle.std.proofs.lemmas.List.{take_all}
 use Rattle.std.proofs.lemmas.Str.Parse.{IsNumeralModel, tells_digits, numerals_by_fold}
 use Rattle.facet_format.specs.Bytes.{minus, is_digit}
-use Rattle.facet_format.specs.Number.{unsigned, signed, float, AreDigits, IsMinus, IsFraction, IsExponent, IsNumber, parts, minus_len, Number, digits_value, unsigned_number, negative_number, number}
-use Rattle.facet_format.specs.Number as numbers
+use Rattle.facet_format.specs.Number.{unsigned, signed, float, AreDigits, IsMinus, IsFraction, IsExponent, IsNumber}
+use Rattle.facet_format.specs.NumberValue.{Number, digits_value, unsigned_number, negative_number, number}
+use Rattle.facet_format.specs.NumberParts.{parts, minus_len}
+use Rattle.facet_format.specs.NumberValue as numbers
 use Rattle.facet_format.proofs.NumberLaws.{is_number-complete}
 use Rattle.facet_format.proofs.NumberText.{number-unsigned, number-signed}
 use Rattle.facet_json_document.specs.Meaning.{tree_of_number}

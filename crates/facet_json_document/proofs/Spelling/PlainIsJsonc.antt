@@ -3,11 +3,13 @@ use Rattle.std.proofs.Common.{◌≡◌, ℕ, zero, suc, ◌+◌, ◌-◌, Bool,
 use Rattle.std.proofs.lemmas.List.{drop-drop}
 use Rattle.std.proofs.lemmas.Bool.{eqb-true}
 use Rattle.facet_format.specs.Bytes.{is_space, slash}
-use Rattle.facet_json_token.specs.Gap.{Mode, plain, jsonc, Input, whole, comment_len, gap_len_from, gap_len}
+use Rattle.facet_json_token.specs.Gap.{Mode, plain, jsonc, Input, whole}
+use Rattle.facet_json_token.specs.GapLen.{comment_len, gap_len_from, gap_len}
 use Rattle.facet_json_token.specs.Token.{Token, Fault}
 use Rattle.facet_format.specs.Span.{stop}
 use Rattle.facet_json_token.specs.Cut.{Cut, nothing_left, token, fault, Start, opens_comment, start_of, cut_by, cut_here, past_gap, cut}
-use Rattle.facet_json_token.specs.Tokens.{Tokens, ended, refused, next, tokens_past, tokens}
+use Rattle.facet_json_token.specs.Tokens.{Tokens, ended, refused, next}
+use Rattle.facet_json_token.specs.TokenList.{tokens_past, tokens}
 use Rattle.facet_json_document.specs.Node.{Node, scalar, array, object, Nodes, no_nodes, Members, no_members, member, Spells, one_token, brackets, braces, SpellsItems, closed, item_and_comma, last_item, SpellsMembers, ended_members, member_and_comma, last_member}
 use Rattle.facet_json_document.specs.Laws.{PlainIsJsonc}
 use Rattle.facet_json_token.proofs.TokensSteps.{follow}

@@ -4,10 +4,13 @@ use Rattle.std.proofs.lemmas.Bool.{and_from}
 use Rattle.std.proofs.lemmas.List.{drop-drop}
 use Rattle.facet_format.specs.Bytes.{is_space}
 use Rattle.facet_format.specs.Span.{stop}
-use Rattle.facet_json_token.specs.Gap.{plain, whole, piece_len, gap_len, gap_len_from}
+use Rattle.facet_json_token.specs.Gap.{plain, whole}
+use Rattle.facet_json_token.specs.GapLen.{piece_len, gap_len, gap_len_from}
 use Rattle.facet_json_token.specs.Token.{comma, Token}
-use Rattle.facet_json_token.specs.Cut.{Cut, nothing_left, token, fault, IsShape, past_gap, cut}
-use Rattle.facet_json_token.specs.Tokens.{Tokens, ended, next, tokens_from}
+use Rattle.facet_json_token.specs.Cut.{Cut, nothing_left, token, fault, past_gap, cut}
+use Rattle.facet_json_token.specs.Shape.{IsShape}
+use Rattle.facet_json_token.specs.Tokens.{Tokens, ended, next}
+use Rattle.facet_json_token.specs.TokenList.{tokens_from}
 use Rattle.facet_json_token.proofs.Gaps.{gap_len-none, gap_len-some}
 use Rattle.facet_json_token.proofs.ShapeIsCut.{CutShape, here_shape}
 use Rattle.facet_json_token.proofs.TokensSteps.{by_first, tokens_by_first, tokens_from-others}

@@ -6,12 +6,14 @@ use Rattle.std.specs.Str.{encode_utf8_all}
 use Rattle.std.proofs.lemmas.List.{take_at}
 use Rattle.facet_format.specs.Bytes.{quote, left_brace, right_brace, left_bracket, right_bracket}
 use Rattle.facet_format.specs.Bytes as bytes
-use Rattle.facet_format.specs.Number.{Hint, Number}
-use Rattle.facet_format.specs.Number as numbers
+use Rattle.facet_format.specs.Number.{Hint}
+use Rattle.facet_format.specs.NumberValue.{Number}
+use Rattle.facet_format.specs.NumberValue as numbers
 use Rattle.facet_json_token.specs.Token.{Kind, object_start, object_end, array_start, array_end, colon, comma, null, true_literal, false_literal, string, number, Token, Fault}
-use Rattle.facet_json_token.specs.Cut.{IsStructural, object_starts, object_ends, array_starts, array_ends, colon_stands, comma_stands, IsLiteral, null_stands, true_stands, false_stands, ArePieces, IsShape}
+use Rattle.facet_json_token.specs.Shape.{IsStructural, object_starts, object_ends, array_starts, array_ends, colon_stands, comma_stands, IsLiteral, null_stands, true_stands, false_stands, ArePieces, IsShape}
 use Rattle.facet_json_token.proofs.CutBounds.{slice_at, drop_next}
-use Rattle.facet_json_token.specs.Decode.{Decodes, decoded}
+use Rattle.facet_json_token.specs.Decode.{Decodes}
+use Rattle.facet_json_token.specs.Decoded.{decoded}
 use Rattle.facet_json_token.proofs.DecodeLaws.{decodes-decoded}
 use Rattle.facet_json_token.specs.RfcNumberTest.{is_rfc_number}
 use Rattle.facet_json_token.specs.Strict.{wrong_at, strict_fault_of}

@@ -2,10 +2,11 @@
 use Rattle.std.proofs.Common.{◌≡◌, ℕ, ◌+◌, true, false, List, [], ◌∷◌, ◌++◌, length, Some, None, refl, sym, ap, ap₂, ◌∙◌, subst, arith, append_assoc, length-append}
 use Rattle.facet_format.specs.Bytes.{left_bracket, right_bracket, left_brace, right_brace}
 use Rattle.facet_format.specs.Bytes as bytes
-use Rattle.facet_json_token.specs.Cut.{IsStructural, object_starts, object_ends, array_starts, array_ends, colon_stands, comma_stands}
+use Rattle.facet_json_token.specs.Shape.{IsStructural, object_starts, object_ends, array_starts, array_ends, colon_stands, comma_stands}
 use Rattle.facet_json_token.specs.Gap.{plain}
 use Rattle.facet_json_token.specs.Token.{Kind, Token, array_start, array_end, object_start, object_end, colon, comma}
-use Rattle.facet_json_token.specs.Tokens.{next, tokens_from}
+use Rattle.facet_json_token.specs.Tokens.{next}
+use Rattle.facet_json_token.specs.TokenList.{tokens_from}
 use Rattle.facet_json_token.specs.Strict.{strict_fault}
 use Rattle.facet_json_document.specs.Language.{Rules}
 use Rattle.facet_json_document.specs.Meaning.{tree_of, trees_of, pairs_of, meaning, text_in_tree, put_item, put_pair}

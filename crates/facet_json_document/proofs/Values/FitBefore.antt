@@ -1,7 +1,7 @@
 -- Tokens that stand before others, by lenient rules or by strict ones.
 use Rattle.std.proofs.Common.{◌≡◌, ℕ, true, false, List, None, refl}
 use Rattle.facet_format.specs.Bytes as bytes
-use Rattle.facet_json_token.specs.Cut.{IsStructural, object_starts, object_ends, array_starts, array_ends, colon_stands, comma_stands}
+use Rattle.facet_json_token.specs.Shape.{IsStructural, object_starts, object_ends, array_starts, array_ends, colon_stands, comma_stands}
 use Rattle.facet_json_token.specs.Token.{Kind, Token, object_end, array_start, array_end, object_start, colon, comma}
 use Rattle.facet_json_token.specs.Tokens.{Tokens, next}
 use Rattle.facet_json_token.specs.Strict.{strict_fault, strict_fault_of}

@@ -8,10 +8,13 @@ use Rattle.std.proofs.lemmas.Bool.Decides.{nat_tests}
 use Rattle.std.proofs.Math.Seq.{drop-append_seam}
 use Rattle.facet_format.specs.Bytes.{is_space}
 use Rattle.facet_format.specs.Span.{span_at}
-use Rattle.facet_json_token.specs.Cut.{IsStructural, IsShape, cut, cut_here, past_gap, token}
-use Rattle.facet_json_token.specs.Gap.{plain, whole, piece_len, gap_len}
+use Rattle.facet_json_token.specs.Cut.{cut, cut_here, past_gap, token}
+use Rattle.facet_json_token.specs.Shape.{IsStructural, IsShape}
+use Rattle.facet_json_token.specs.Gap.{plain, whole}
+use Rattle.facet_json_token.specs.GapLen.{piece_len, gap_len}
 use Rattle.facet_json_token.specs.Token.{Kind, Token}
-use Rattle.facet_json_token.specs.Tokens.{ended, next, tokens_from}
+use Rattle.facet_json_token.specs.Tokens.{ended, next}
+use Rattle.facet_json_token.specs.TokenList.{tokens_from}
 use Rattle.facet_json_token.proofs.Gaps.{piece_len-blank, gap_len-none, gap_len-some}
 use Rattle.facet_json_token.proofs.ShapesCut.{cut_here-shape}
 use Rattle.facet_json_token.proofs.TokensSteps.{tokens_by_first, cut-end, tokens_from-nothing}

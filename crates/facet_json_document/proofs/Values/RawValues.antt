@@ -6,13 +6,14 @@ use Rattle.std.proofs.lemmas.Bool.{and_from, cases_Bool}
 use Rattle.std.proofs.lemmas.List.{drop-drop, drop-append-le, take-append-le}
 use Rattle.std.proofs.lemmas.Option.{slice_get-get_or}
 use Rattle.facet_format.specs.Bytes.{is_space}
-use Rattle.facet_format.specs.Number as numbers
+use Rattle.facet_format.specs.NumberValue as numbers
 use Rattle.facet_format.specs.Span.{Span, stop}
-use Rattle.facet_json_token.specs.Decode.{decoded}
+use Rattle.facet_json_token.specs.Decoded.{decoded}
 use Rattle.facet_json_token.specs.Cut.{Cut, nothing_left, token, fault, cut, cut_here}
 use Rattle.facet_json_token.specs.Gap.{plain}
 use Rattle.facet_json_token.specs.Token.{Fault, Kind, Token, string, number}
-use Rattle.facet_json_token.specs.Tokens.{Tokens, ended, next, tokens_from}
+use Rattle.facet_json_token.specs.Tokens.{Tokens, ended, next}
+use Rattle.facet_json_token.specs.TokenList.{tokens_from}
 use Rattle.facet_json_token.proofs.CutBounds.{KindFits, cut-token_fits}
 use Rattle.facet_json_token.proofs.FirstBytes.{cut_here-something}
 use Rattle.facet_json_token.proofs.TokensSteps.{by_first, tokens_by_first, tokens_from-others, cut-end}

@@ -3,12 +3,14 @@
 use Rattle.std.proofs.Common.{◌≡◌, ℕ, List, [], ◌∷◌, Some, pos, neg_ℤ, refl, codes}
 use Rattle.std.specs.Char.{encode_utf8}
 use Rattle.std.specs.Fmt.{digits}
-use Rattle.facet_format.specs.Number.{unsigned, parts, number}
+use Rattle.facet_format.specs.Number.{unsigned}
+use Rattle.facet_format.specs.NumberValue.{number}
+use Rattle.facet_format.specs.NumberParts.{parts}
 use Rattle.facet_format.specs.Span.{span_at}
 use Rattle.facet_json_token.specs.Cut.{start_of, cut_here, cut}
-use Rattle.facet_json_token.specs.Gap.{gap_len_from}
+use Rattle.facet_json_token.specs.GapLen.{gap_len_from}
 use Rattle.facet_json_token.specs.Token as token
-use Rattle.facet_json_token.specs.Tokens.{tokens_past}
+use Rattle.facet_json_token.specs.TokenList.{tokens_past}
 use Rattle.facet_json_document.specs.Document.{IsWholeDocument}
 use Rattle.facet_json_document.specs.Meaning.{tree_of}
 use Rattle.facet_json_document.specs.Node.{Node, scalar}

@@ -6,7 +6,7 @@ ghost use Rattle.facet_format.specs.Views.{event_of, refusal_of};
 ghost use Rattle.facet_json_document.specs.Now.{ahead, GoesOn};
 ghost use Rattle.facet_json_document.specs.UnreadLaws.{RefusalWithin};
 ghost use Rattle.facet_json_core.specs.Refusing.{mismatch_of, TellsRefusal};
-ghost use Rattle.facet_json_meaning.specs.Lists.{begins_list, ends_list, BeginsList, IsNoList, FindsEnd};
+ghost use Rattle.facet_json_meaning.specs.ListSteps.{begins_list, ends_list, BeginsList, IsNoList, FindsEnd};
 ghost use Rattle.facet_json_meaning.specs.OneValue.{IsInside, LooksAhead};
 ghost use Rattle.facet_json_meaning.specs.Passing.{LacksAlone};
 

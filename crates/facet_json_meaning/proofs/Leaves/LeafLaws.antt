@@ -2,8 +2,8 @@
 use Rattle.std.specs.Prelude.{ℕ, List}
 use Rattle.std.specs.Option.{option_map, option_and_then}
 use Rattle.std.proofs.Common.{◌≡◌, ℕ, false, List, Option, None, Some, refl, sym, ap, ◌∙◌}
-use Rattle.facet_json_token.specs.Decode.{decoded}
-use Rattle.facet_format.specs.Number.{number}
+use Rattle.facet_json_token.specs.Decoded.{decoded}
+use Rattle.facet_format.specs.NumberValue.{number}
 use Rattle.facet_json_token.specs.Token.{Kind, Token}
 use Rattle.facet_json_token.specs.Token as token
 use Rattle.facet_json_document.specs.Node.{Node, scalar}

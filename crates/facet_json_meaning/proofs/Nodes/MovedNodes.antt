@@ -5,7 +5,8 @@ use Rattle.facet_format.specs.Span.{stop}
 use Rattle.facet_json_token.specs.Gap.{plain}
 use Rattle.facet_json_token.specs.Cut.{cut}
 use Rattle.facet_json_token.specs.Token.{Kind, Token, string, number}
-use Rattle.facet_json_token.specs.Tokens.{Tokens, ended, refused, next, tokens_from}
+use Rattle.facet_json_token.specs.Tokens.{Tokens, ended, refused, next}
+use Rattle.facet_json_token.specs.TokenList.{tokens_from}
 use Rattle.facet_json_token.proofs.CutBounds.{KindFits, TokenFits, cut-token_fits}
 use Rattle.facet_json_token.proofs.TokensSteps.{tokens_by_first, tokens_from-others}
 use Rattle.facet_json_document.specs.Node.{Node, Nodes, no_nodes, Members, no_members, Spells, one_token, brackets, braces, SpellsItems, closed, item_and_comma, last_item, SpellsMembers, ended_members, member_and_comma, last_member}

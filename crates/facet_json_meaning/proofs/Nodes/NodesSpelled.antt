@@ -3,7 +3,8 @@ use Rattle.std.proofs.Common.{◌≡◌, ℕ, List, refl}
 use Rattle.facet_format.specs.Span.{stop}
 use Rattle.facet_json_token.specs.Gap.{Mode}
 use Rattle.facet_json_token.specs.Token.{Token}
-use Rattle.facet_json_token.specs.Tokens.{Tokens, next, tokens_from}
+use Rattle.facet_json_token.specs.Tokens.{Tokens, next}
+use Rattle.facet_json_token.specs.TokenList.{tokens_from}
 use Rattle.facet_json_token.proofs.TokensSteps.{tokens_from-others}
 use Rattle.facet_json_document.specs.Node.{Node, Nodes, Members, Spells, brackets, braces, SpellsItems, closed, item_and_comma, last_item, SpellsMembers, ended_members, member_and_comma, last_member}
 use Rattle.facet_json_document.specs.RunLaws.{last_token_of}

@@ -5,7 +5,8 @@ use Rattle.facet_format.specs.Span.{stop}
 use Rattle.facet_json_token.specs.Cut.{Cut, nothing_left, token, fault, cut}
 use Rattle.facet_json_token.specs.Gap.{Mode, plain, jsonc}
 use Rattle.facet_json_token.specs.Token.{Kind, Token, string, number, object_start, object_end, array_start, array_end, colon, comma}
-use Rattle.facet_json_token.specs.Tokens.{Tokens, next, tokens_from}
+use Rattle.facet_json_token.specs.Tokens.{Tokens, next}
+use Rattle.facet_json_token.specs.TokenList.{tokens_from}
 use Rattle.facet_json_token.proofs.CutBounds.{TokenFits, cut-token_fits}
 use Rattle.facet_json_token.proofs.TokensSteps.{cut-token_within, by_first, tokens_by_first, tokens_from-others}
 use Rattle.facet_json_document.specs.Node.{Node, scalar, array, object, Nodes, no_nodes, item, Members, no_members, member, is_scalar, is_string, Spells, one_token, brackets, braces, SpellsItems, closed, item_and_comma, last_item, SpellsMembers, ended_members, member_and_comma, last_member}

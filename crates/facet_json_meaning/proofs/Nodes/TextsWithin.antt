@@ -3,7 +3,8 @@ use Rattle.std.specs.Prelude.{ℕ, List, length}
 use Rattle.std.proofs.Common.{◌≡◌, ℕ, suc, ◌+◌, Bool, true, false, List, [], ◌∷◌, ◌++◌, Option, Some, refl, sym, ap, ap₂, ◌∙◌, subst, arith, append-nil}
 use Rattle.facet_format.specs.Bytes.{left_bracket, left_brace}
 use Rattle.facet_json_token.specs.Gap.{plain}
-use Rattle.facet_json_token.specs.Tokens.{ended, tokens_from}
+use Rattle.facet_json_token.specs.Tokens.{ended}
+use Rattle.facet_json_token.specs.TokenList.{tokens_from}
 use Rattle.facet_json_token.proofs.TokensSteps.{cut-end, tokens_from-nothing}
 use Rattle.facet_json_document.specs.Document.{Reads}
 use Rattle.facet_json_document.specs.Node.{Node}

@@ -2,9 +2,9 @@
 use Rattle.std.specs.Prelude.{ℕ, List, cond, slice_range}
 use Rattle.std.specs.Option.{option_map, IfSome}
 use Rattle.std.proofs.Common.{◌≡◌, ℕ, Bool, true, false, List, Option, None, Some, refl, sym, ap, ◌∙◌, subst}
-use Rattle.facet_format.specs.Number.{Number, number}
-use Rattle.facet_format.specs.Number as numbers
-use Rattle.facet_json_token.specs.Decode.{decoded}
+use Rattle.facet_format.specs.NumberValue.{Number, number}
+use Rattle.facet_format.specs.NumberValue as numbers
+use Rattle.facet_json_token.specs.Decoded.{decoded}
 use Rattle.facet_json_token.specs.Token.{Kind, Token}
 use Rattle.facet_json_token.specs.Token as token
 use Rattle.facet_json_document.specs.Document.{IsWholeDocument}

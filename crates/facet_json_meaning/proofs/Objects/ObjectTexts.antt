@@ -5,10 +5,11 @@ use Rattle.std.specs.Str.{is_utf8}
 use Rattle.std.proofs.Common.{◌≡◌, ℕ, ◌+◌, true, List, [], ◌∷◌, ◌++◌, Option, Some, refl, ap, ap₂, ◌∙◌, subst, arith, append_assoc, length-append}
 use Rattle.facet_format.specs.Bytes.{left_brace, right_brace}
 use Rattle.facet_format.specs.Bytes as bytes
-use Rattle.facet_json_token.specs.Cut.{object_starts, object_ends, comma_stands}
+use Rattle.facet_json_token.specs.Shape.{object_starts, object_ends, comma_stands}
 use Rattle.facet_json_token.specs.Gap.{plain}
 use Rattle.facet_json_token.specs.Token.{Token, object_start, object_end, comma}
-use Rattle.facet_json_token.specs.Tokens.{next, tokens_from}
+use Rattle.facet_json_token.specs.Tokens.{next}
+use Rattle.facet_json_token.specs.TokenList.{tokens_from}
 use Rattle.facet_json_document.specs.Meaning.{tree_of, pairs_of, put_pair, text_in_tree, meaning}
 use Rattle.facet_json_document.specs.Node.{Node, object, Members, no_members, member, Spells, braces, SpellsMembers, ended_members, member_and_comma, last_member}
 use Rattle.facet_json_document.specs.Quoted.{quoted}

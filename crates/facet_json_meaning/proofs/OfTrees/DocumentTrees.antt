@@ -6,8 +6,10 @@ use Rattle.std.specs.Str.{is_utf8}
 use Rattle.std.proofs.Common.{◌≡◌, ◌<◌, ◌≤◌, ◌^◌, zero, suc, Bool, true, false, cond, Option, Some, None, refl, sym, ap, ap₂, ◌∙◌, subst, arith, ltb-true, leb-true}
 use Rattle.std.proofs.lemmas.Bool.{lt-ltb}
 use Rattle.std.proofs.lemmas.Str.{is_utf8-from_IsUtf8}
-use Rattle.facet_format.specs.Number.{Hint, unsigned, signed, float, Number, parts, number, is_number, value_by, unsigned_number, negative_number, digits_value, has_value}
-use Rattle.facet_format.specs.Number as numbers
+use Rattle.facet_format.specs.Number.{Hint, unsigned, signed, float}
+use Rattle.facet_format.specs.NumberValue.{Number, number, value_by, unsigned_number, negative_number, digits_value, has_value}
+use Rattle.facet_format.specs.NumberParts.{parts, is_number}
+use Rattle.facet_format.specs.NumberValue as numbers
 use Rattle.facet_json_token.specs.Token.{Kind}
 use Rattle.facet_json_token.specs.Token as token
 use Rattle.facet_json_document.specs.Document.{IsWholeDocument}

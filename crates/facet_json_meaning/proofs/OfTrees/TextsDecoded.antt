@@ -6,7 +6,8 @@ use Rattle.std.proofs.Common.{◌≡◌, ◌+◌, ◌-◌, ◌*◌, ◌<◌, ◌
 use Rattle.std.proofs.lemmas.Bool.{and_parts, cases_lt, agree_below, agree_below_at}
 use Rattle.std.proofs.lemmas.Bool.Decides.{nat_tests}
 use Rattle.std.proofs.lemmas.Str.{IsUtf8-nil, IsUtf8-append, IsUtf8-encode, is_utf8-from_IsUtf8}
-use Rattle.facet_json_token.specs.Decode.{short_escape, is_hex, code_unit, is_high_surrogate, is_low_surrogate, surrogate_pair, Piece, itself, short, other, unit, pair, Decodes, empty, piece, decoded}
+use Rattle.facet_json_token.specs.Decode.{short_escape, is_hex, code_unit, is_high_surrogate, is_low_surrogate, surrogate_pair, Piece, itself, short, other, unit, pair, Decodes, empty, piece}
+use Rattle.facet_json_token.specs.Decoded.{decoded}
 use Rattle.facet_json_token.proofs.DecodeLaws.{decodes-decoded}
 use Rattle.facet_json_token.proofs.EscapeSteps.{short_of-none}
 use lib.Utf8.{scalar}

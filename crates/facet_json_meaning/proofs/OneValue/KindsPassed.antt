@@ -5,7 +5,7 @@ use Rattle.facet_format.specs.Event.{array, object, EventKind, struct_start, str
 use Rattle.facet_json_document.specs.Tree.{Tree}
 use Rattle.facet_json_document.specs.Now.{Now}
 use Rattle.facet_json_meaning.specs.Borrowed.{lent}
-use Rattle.facet_json_meaning.specs.Lists.{begins_list, ends_list}
+use Rattle.facet_json_meaning.specs.ListSteps.{begins_list, ends_list}
 use Rattle.facet_json_meaning.specs.Objects.{begins_object, key_or_end}
 use Rattle.facet_json_meaning.specs.OneValue.{PassesValue, IsInside, PassesEndOf, PassesByKind, PassesMemberOrEnd}
 use Rattle.facet_json_meaning.specs.Optional.{is_null_event}

@@ -6,10 +6,11 @@ use Rattle.std.specs.Option.{option_map}
 use Rattle.std.proofs.lemmas.List.Elements.{All-head, All-tail}
 use Rattle.facet_format.specs.Bytes.{left_bracket, right_bracket}
 use Rattle.facet_format.specs.Bytes as bytes
-use Rattle.facet_json_token.specs.Cut.{array_starts, array_ends, comma_stands}
+use Rattle.facet_json_token.specs.Shape.{array_starts, array_ends, comma_stands}
 use Rattle.facet_json_token.specs.Gap.{plain}
 use Rattle.facet_json_token.specs.Token.{Token, array_start, array_end, comma}
-use Rattle.facet_json_token.specs.Tokens.{next, tokens_from}
+use Rattle.facet_json_token.specs.Tokens.{next}
+use Rattle.facet_json_token.specs.TokenList.{tokens_from}
 use Rattle.facet_json_document.specs.Meaning.{tree_of, trees_of, put_item}
 use Rattle.facet_json_document.specs.Node.{Node, array, Nodes, no_nodes, item, Spells, brackets, SpellsItems, closed, item_and_comma, last_item}
 use Rattle.facet_json_document.specs.Text.{text, items_text, default_options}

@@ -21,7 +21,8 @@ use Rattle.facet_json_core.specs.Reading.{LacksMemory}
 use Rattle.facet_json_meaning.specs.Nodes.{StandsBefore, StandsAfter}
 use Rattle.facet_json_meaning.specs.Passing.{WalksPast, LacksAlone}
 use Rattle.facet_json_meaning.specs.Reading.{IsRead, IsUnread}
-use Rattle.facet_json_meaning.specs.Lists.{put_value, items_of, list_of, nodes_of, begins_list, ends_list, BeginsList, IsNoList, ShowsEnd, FindsEnd}
+use Rattle.facet_json_meaning.specs.Lists.{put_value, items_of, list_of}
+use Rattle.facet_json_meaning.specs.ListSteps.{nodes_of, begins_list, ends_list, BeginsList, IsNoList, ShowsEnd, FindsEnd}
 use Rattle.facet_json_meaning.proofs.Walks.FirstEvents.{first_event, first-passed}
 use Rattle.facet_json_meaning.proofs.Walks.PeekOnWalk.{step-no_end}
 use Rattle.facet_json_meaning.proofs.WalkPlaces.{drop-get, drop-suc, drop-node}

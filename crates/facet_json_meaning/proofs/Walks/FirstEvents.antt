@@ -7,9 +7,9 @@ use Rattle.facet_format.specs.Event.{Event, EventKind, Passed, array, object, se
 use Rattle.facet_format.specs.Event as event
 use Rattle.facet_format.specs.Cursor.{Cursor, at_spot, unpeeked}
 use Rattle.facet_format.specs.Part.{Source}
-use Rattle.facet_format.specs.Number.{Number, number}
-use Rattle.facet_format.specs.Number as numbers
-use Rattle.facet_json_token.specs.Decode.{decoded}
+use Rattle.facet_format.specs.NumberValue.{Number, number}
+use Rattle.facet_format.specs.NumberValue as numbers
+use Rattle.facet_json_token.specs.Decoded.{decoded}
 use Rattle.facet_json_token.specs.Token.{Kind, Token}
 use Rattle.facet_json_token.specs.Token as token
 use Rattle.facet_json_document.specs.Node.{Node, scalar}

@@ -4,7 +4,7 @@ use Rattle.facet_format.specs.Event.{ContainerKind}
 use Rattle.facet_json_token.specs.Gap.{Mode}
 use Rattle.facet_json_token.specs.Cut.{past_gap}
 use Rattle.facet_json_token.specs.Token.{Token}
-use Rattle.facet_json_token.specs.Tokens.{tokens_from}
+use Rattle.facet_json_token.specs.TokenList.{tokens_from}
 use Rattle.facet_json_document.specs.Inner.PassedRun.{passed}
 
 -- Where brackets are open, a run goes on from the one offset as from the other: the tokens between open and close nothing.

@@ -1,7 +1,7 @@
 -- Digits that are all of a number.
 use Rattle.std.specs.Prelude.{◌≡◌, ℕ, ◌+◌, ◌<◌, ◌==◌, List, Some, cond, drop, slice_get}
 use Rattle.facet_format.specs.Bytes.{minus}
-use Rattle.facet_format.specs.Number.{digits_len, fraction_len, exponent_len}
+use Rattle.facet_format.specs.NumberParts.{digits_len, fraction_len, exponent_len}
 use Rattle.facet_json_token.specs.Cut.{start_of, opens_number}
 
 -- The bytes begin with so many digits, some and fewer than sixteen, and after them is neither a fraction nor an exponent.

@@ -3,7 +3,8 @@ use Rattle.std.proofs.Common.{◌≡◌, ℕ, ◌+◌, ◌≤◌, Bool, true, fa
 use Rattle.std.proofs.lemmas.Bool.{eqb-true}
 use Rattle.std.proofs.lemmas.List.{drop-append-le, append-nil, drop-drop, length-drop}
 use Rattle.facet_format.specs.Bytes.{slash, star}
-use Rattle.facet_json_token.specs.Gap.{Mode, plain, jsonc, growing, piece_len, gap_len}
+use Rattle.facet_json_token.specs.Gap.{Mode, plain, jsonc, growing}
+use Rattle.facet_json_token.specs.GapLen.{piece_len, gap_len}
 use Rattle.facet_json_token.specs.Cut.{nothing_left, Start, start_of, cut_slash, cut_by, cut_here, past_gap, cut}
 use Rattle.facet_json_token.specs.Open.{IsBeginning, IsOpen}
 use Rattle.facet_json_scan.specs.Scanner.{past_growing_gap}

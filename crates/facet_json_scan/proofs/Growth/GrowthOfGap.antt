@@ -2,7 +2,8 @@
 use Rattle.std.proofs.Common.{◌≡◌, ℕ, zero, suc, Bool, true, false, cond, ◌==◌, ◌&&◌, List, [], ◌∷◌, ◌++◌, drop, Option, Some, None, refl, sym, ap, ◌∙◌}
 use Rattle.std.proofs.lemmas.Bool.{eqb-true, and_parts}
 use Rattle.facet_format.specs.Bytes.{is_space, slash, star}
-use Rattle.facet_json_token.specs.Gap.{Mode, plain, jsonc, whole, growing, OpensBlock, OpensLine, one_more, through_block_end, through_line_end, with_mark, with_line_mark, comment_len, piece_len, gap_len_from}
+use Rattle.facet_json_token.specs.Gap.{Mode, plain, jsonc, whole, growing, OpensBlock, OpensLine}
+use Rattle.facet_json_token.specs.GapLen.{one_more, through_block_end, through_line_end, with_mark, with_line_mark, comment_len, piece_len, gap_len_from}
 use Rattle.facet_json_token.specs.Open.{IsBeginning}
 use Rattle.facet_json_token.proofs.Gaps.{gap_len-none, gap_len-some}
 

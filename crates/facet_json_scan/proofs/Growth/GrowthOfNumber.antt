@@ -6,7 +6,8 @@ use Rattle.facet_format.specs.Bytes.{is_digit, is_exponent_mark, minus, dot}
 use Rattle.facet_json_token.specs.Gap.{Mode}
 use Rattle.facet_json_token.specs.Cut.{cut_number}
 use Rattle.facet_json_token.specs.Open.{IsBeginning}
-use Rattle.facet_format.specs.Number.{Hint, IsNumeral, digits_len, minus_len, fraction_len, sign_len, exponent_len, parts, parts_len, parts_hint, starts_number, begins_number, is_bare}
+use Rattle.facet_format.specs.Number.{Hint, IsNumeral}
+use Rattle.facet_format.specs.NumberParts.{digits_len, minus_len, fraction_len, sign_len, exponent_len, parts, parts_len, parts_hint, starts_number, begins_number, is_bare}
 use Rattle.facet_format.proofs.NumberPrefixes.{power_len, parts_len-bound}
 use Rattle.facet_json_token.proofs.NumberCuts.{number_at}
 use Rattle.facet_format.proofs.NumberLaws.{parts_len-some, bare-minus, bare_minus-is, numeral-measured}

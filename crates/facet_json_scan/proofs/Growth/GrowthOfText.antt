@@ -5,7 +5,8 @@ use Rattle.std.proofs.lemmas.List.{take-append-le}
 use Rattle.facet_format.specs.Bytes.{quote, backslash}
 use Rattle.facet_json_token.specs.Gap.{Mode}
 use Rattle.facet_json_token.specs.Token.{Kind}
-use Rattle.facet_json_token.specs.Cut.{ArePieces, common_len, cut_word, content_len, cut_text}
+use Rattle.facet_json_token.specs.Cut.{common_len, cut_word, content_len, cut_text}
+use Rattle.facet_json_token.specs.Shape.{ArePieces}
 use Rattle.facet_json_token.specs.Open.{IsBeginning}
 use Rattle.facet_json_token.proofs.TextShapes.{Below, content_len-below}
 use Rattle.facet_json_scan.proofs.Growth.GrowthOfGap.{Keeps, one_more-keeps, cond-keeps, cond-none}

@@ -2,10 +2,12 @@
 use Rattle.std.proofs.Common.{◌≡◌, ◌≢◌, ℕ, ◌<◌, Bool, true, false, ◌==◌, ◌⊎◌, inl, inr, List, [], ◌∷◌, ◌++◌, length, None, refl, sym, ap, subst, arith}
 use Rattle.std.proofs.lemmas.Bool.{eqb-true, and_parts, leb-true, or_cases}
 use Rattle.facet_format.specs.Bytes.{quote, backslash, slash, minus, lower_n, lower_t, lower_f, is_digit}
-use Rattle.facet_json_token.specs.Gap.{Mode, one_more}
-use Rattle.facet_format.specs.Number.{parts, parts_len, starts_number}
+use Rattle.facet_json_token.specs.Gap.{Mode}
+use Rattle.facet_json_token.specs.GapLen.{one_more}
+use Rattle.facet_format.specs.NumberParts.{parts, parts_len, starts_number}
 use Rattle.facet_json_token.specs.Token.{Kind}
-use Rattle.facet_json_token.specs.Cut.{ArePieces, IsLiteral, Start, punctuation, letter, opens_text, opens_number, opens_comment, opens_nothing, start_of, content_len}
+use Rattle.facet_json_token.specs.Cut.{Start, punctuation, letter, opens_text, opens_number, opens_comment, opens_nothing, start_of, content_len}
+use Rattle.facet_json_token.specs.Shape.{ArePieces, IsLiteral}
 use Rattle.facet_json_token.specs.Open.{IsBeginning}
 use Rattle.facet_json_scan.specs.Scanner.{State, Describes}
 use Rattle.facet_json_token.proofs.Starts.{Begins, a_mark, a_word, a_text, a_number, a_comment, no_token, start_of-begins, start_of-number}

@@ -3,7 +3,8 @@ use Rattle.std.proofs.Common.{◌≡◌, ◌≢◌, ℕ, suc, Bool, true, false,
 use Rattle.std.proofs.lemmas.Bool.{eqb-true}
 use Rattle.std.proofs.lemmas.List.{append-nil}
 use Rattle.facet_format.specs.Bytes.{is_digit, is_exponent_mark, is_sign, dot}
-use Rattle.facet_format.specs.Number.{Hint, AreDigits, IsFraction, IsExponentSign, IsExponent, hint_by, IsNumeral, digits_len, fraction_len, exponent_len, parts}
+use Rattle.facet_format.specs.Number.{Hint, AreDigits, IsFraction, IsExponentSign, IsExponent, hint_by, IsNumeral}
+use Rattle.facet_format.specs.NumberParts.{digits_len, fraction_len, exponent_len, parts}
 use Rattle.facet_json_scan.specs.Scanner.{NumberPart, in_digits, in_fraction, at_mark, in_exponent, last_part, EndsIn, ExtendsWith, EndsBefore}
 use Rattle.facet_format.proofs.NumberPrefixes.{power_len}
 use Rattle.facet_format.proofs.NumberLaws.{parts-is, parts-by, mark_no_digit, mark_no_dot, digits_len-append, digit_no_sign}

@@ -4,7 +4,8 @@ use Rattle.std.specs.Option.{option_map}
 use Rattle.std.proofs.lemmas.List.{get_or-drop, length-drop}
 use Rattle.std.proofs.lemmas.Option.{slice_get_within}
 use Rattle.facet_format.specs.Bytes.{slash, star}
-use Rattle.facet_json_token.specs.Gap.{jsonc, growing, OpensBlock, OpensLine, one_more, through_block_end, through_line_end, with_mark, with_line_mark, piece_len}
+use Rattle.facet_json_token.specs.Gap.{jsonc, growing, OpensBlock, OpensLine}
+use Rattle.facet_json_token.specs.GapLen.{one_more, through_block_end, through_line_end, with_mark, with_line_mark, piece_len}
 use Rattle.facet_json_scan.specs.Scanner.{in_line, in_block, ends_in_star, Describes}
 use Rattle.facet_json_token.proofs.Offsets.{drop-at_byte, option_map-none}
 use Rattle.facet_json_scan.proofs.Growth.GrowthOfGap.{opens_block, opens_line}

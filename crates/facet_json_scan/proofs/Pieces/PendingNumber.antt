@@ -3,7 +3,8 @@ use Rattle.std.proofs.Common.{◌≡◌, ℕ, ◌+◌, ◌-◌, ◌<◌, ◌≤�
 use Rattle.std.proofs.lemmas.Bool.{eqb-true}
 use Rattle.facet_format.specs.Bytes.{minus, dot}
 use Rattle.facet_json_token.specs.Gap.{Mode}
-use Rattle.facet_format.specs.Number.{Hint, float, AreDigits, IsMinus, IsFraction, IsExponent, hint_by, IsNumeral, is_some_len, parts, parts_len, parts_hint, is_bare, starts_number, begins_number}
+use Rattle.facet_format.specs.Number.{Hint, float, AreDigits, IsMinus, IsFraction, IsExponent, hint_by, IsNumeral}
+use Rattle.facet_format.specs.NumberParts.{is_some_len, parts, parts_len, parts_hint, is_bare, starts_number, begins_number}
 use Rattle.facet_json_token.specs.Token.{number}
 use Rattle.facet_json_token.specs.Cut.{opens_number, start_of, cut_number, cut_here, token_at}
 use Rattle.facet_json_token.specs.Open.{IsBeginning}

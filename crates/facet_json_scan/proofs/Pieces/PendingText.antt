@@ -5,7 +5,8 @@ use Rattle.std.proofs.lemmas.List.{take-append-le, take_all}
 use Rattle.facet_format.specs.Bytes.{quote, backslash}
 use Rattle.facet_json_token.specs.Gap.{Mode}
 use Rattle.facet_json_token.specs.Token.{Kind, string}
-use Rattle.facet_json_token.specs.Cut.{ArePieces, token_at, cut_here, start_of, cut_text, opens_text, content_len, has_backslash}
+use Rattle.facet_json_token.specs.Cut.{token_at, cut_here, start_of, cut_text, opens_text, content_len, has_backslash}
+use Rattle.facet_json_token.specs.Shape.{ArePieces}
 use Rattle.facet_json_token.specs.Open.{IsBeginning}
 use Rattle.facet_json_scan.specs.Scanner.{in_text, Describes}
 use Rattle.facet_json_token.proofs.TextShapes.{content_len-is, pieces-mark}

@@ -4,7 +4,8 @@ use Rattle.std.proofs.lemmas.Bool.{cond_both, eqb-true, eq-eqb}
 use Rattle.std.proofs.lemmas.List.{length-drop}
 use Rattle.facet_json_token.specs.Gap.{Mode}
 use Rattle.facet_json_token.specs.Token.{Kind}
-use Rattle.facet_json_token.specs.Cut.{IsLiteral, Start, letter, start_of, common_len}
+use Rattle.facet_json_token.specs.Cut.{Start, letter, start_of, common_len}
+use Rattle.facet_json_token.specs.Shape.{IsLiteral}
 use Rattle.facet_json_token.specs.Open.{IsBeginning}
 use Rattle.facet_json_scan.specs.Scanner.{in_word, Describes}
 use Rattle.facet_json_token.proofs.Starts.{Begins, a_word, start_of-begins}

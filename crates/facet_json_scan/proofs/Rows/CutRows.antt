@@ -2,12 +2,16 @@
 -- In the texts of this file a backslash or a quote stands after a backslash of its own.
 use Rattle.std.proofs.Common.{◌≡◌, ◌≢◌, ℕ, true, false, List, [], ◌∷◌, ◌++◌, refl, codes, arith}
 use Rattle.facet_format.specs.Bytes.{slash, star, left_bracket, right_bracket, dot, line_feed}
-use Rattle.facet_json_token.specs.Gap.{Mode, plain, jsonc, gap_len_from, OpensBlock, OpensLine}
-use Rattle.facet_format.specs.Number.{unsigned, signed, float, parts}
+use Rattle.facet_json_token.specs.Gap.{Mode, plain, jsonc, OpensBlock, OpensLine}
+use Rattle.facet_json_token.specs.GapLen.{gap_len_from}
+use Rattle.facet_format.specs.Number.{unsigned, signed, float}
+use Rattle.facet_format.specs.NumberParts.{parts}
 use Rattle.facet_json_token.specs.Token.{Kind, Token, object_start, object_end, array_start, array_end, colon, comma, null, true_literal, string, number, unexpected_char, unexpected_eof, in_string, in_number, in_literal, in_block_comment}
-use Rattle.facet_json_token.specs.Cut.{ArePieces, IsLiteral, nothing_left, start_of, token_at, fault_at, cut_here, cut}
+use Rattle.facet_json_token.specs.Cut.{nothing_left, start_of, token_at, fault_at, cut_here, cut}
+use Rattle.facet_json_token.specs.Shape.{ArePieces, IsLiteral}
 use Rattle.facet_format.specs.Span.{span_at}
-use Rattle.facet_json_token.specs.Tokens.{ended, refused, next, AreCuts, tokens_past, tokens}
+use Rattle.facet_json_token.specs.Tokens.{ended, refused, next, AreCuts}
+use Rattle.facet_json_token.specs.TokenList.{tokens_past, tokens}
 use Rattle.facet_json_token.specs.Open.{IsBeginning, IsOpen}
 use Rattle.facet_json_token.specs.Inner.OpenTest.{is_beginning, is_open}
 use Rattle.facet_format.proofs.NumberLaws.{is_number-sound}

@@ -4,8 +4,11 @@ use Rattle.std.proofs.Common.{◌≡◌, [], ◌∷◌, ◌++◌, Some, None, po
 use Rattle.std.specs.Char.{encode_utf8}
 use Rattle.std.specs.Str.{encode_utf8_all}
 use Rattle.facet_format.specs.Bytes.{quote, backslash, backspace, form_feed, line_feed, carriage_return, tab}
-use Rattle.facet_json_token.specs.Decode.{short_escape, code_unit, utf8_at, unit_at, escape_at, piece_at, decoded_past, decoded}
-use Rattle.facet_format.specs.Number.{unsigned, signed, float, u64, u128, i64, i128, decimal, parts, number}
+use Rattle.facet_json_token.specs.Decode.{short_escape, code_unit}
+use Rattle.facet_json_token.specs.Decoded.{utf8_at, unit_at, escape_at, piece_at, decoded_past, decoded}
+use Rattle.facet_format.specs.Number.{unsigned, signed, float}
+use Rattle.facet_format.specs.NumberValue.{u64, u128, i64, i128, decimal, number}
+use Rattle.facet_format.specs.NumberParts.{parts}
 
 row_backslash : codes "\\u\"" ≡ backslash ∷ 0x75 ∷ quote ∷ []
 row_backslash = refl

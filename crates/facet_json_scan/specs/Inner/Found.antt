@@ -3,7 +3,8 @@ use Rattle.std.specs.Prelude.{â„•, Option, Some, None, Result, Ok, Err, IfErr, â
 use Rattle.facet_json_token.specs.declared.token.SpannedToken.{SpannedToken}
 use Rattle.facet_json_token.specs.declared.token.ScanError.{ScanError}
 use Rattle.facet_format.specs.Span.{stop}
-use Rattle.facet_json_token.specs.Gap.{Mode, growing, piece_len}
+use Rattle.facet_json_token.specs.Gap.{Mode, growing}
+use Rattle.facet_json_token.specs.GapLen.{piece_len}
 use Rattle.facet_json_token.specs.Cut.{cut_here, cut, past_gap}
 use Rattle.facet_format.specs.Bytes.{slash}
 use Rattle.facet_json_scan.specs.declared.scanner.pending.Part.{Part as RustPart}

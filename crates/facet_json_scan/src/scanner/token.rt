@@ -9,7 +9,7 @@ ghost use Rattle.facet_json_token.specs.Cut.{start_of, letter};
 ghost use Rattle.facet_json_token.specs.Cut as spec_cut;
 ghost use Rattle.facet_json_token.specs.Open.{IsBeginning};
 ghost use Rattle.facet_json_scan.specs.Scanner.{in_text, ended, EndsIn, Describes};
-ghost use Rattle.facet_format.specs.Number.{parts, parts_len, parts_hint, is_bare};
+ghost use Rattle.facet_format.specs.NumberParts.{parts, parts_len, parts_hint, is_bare};
 ghost use Rattle.facet_json_token.specs.Views.{mode_of, kind_of, scanned};
 ghost use Rattle.facet_json_scan.specs.ScannerViews.{answered, span_answered, IndicesWithin};
 ghost use Rattle.facet_json_scan.specs.Inner.Found.{number_part_of, FoundHere, FoundFrom, FoundWithin, FoundRefused, RefusedThere};

@@ -1,7 +1,8 @@
 -- The first fault of a string's content, as rows and private contracts compute it.
 use Rattle.std.specs.Prelude.{◌≡◌, ℕ, zero, suc, ◌+◌, ◌-◌, cond, ◌==◌, ◌&&◌, List, [], ◌∷◌, length, Option, Some, None, ◌↔◌}
 use Rattle.facet_format.specs.Bytes.{backslash, lower_u}
-use Rattle.facet_json_token.specs.Decode.{code_unit, is_high_surrogate, piece_at}
+use Rattle.facet_json_token.specs.Decode.{code_unit, is_high_surrogate}
+use Rattle.facet_json_token.specs.Decoded.{piece_at}
 use Rattle.facet_json_token.specs.Fault.{DecodeFault, ends_in_escape, ends_in_digits, not_digits, no_character, decode_fault_at, fault_after, FirstFault}
 
 abbrev pub second_fault : Option ℕ → DecodeFault

@@ -2,7 +2,8 @@
 
 ghost use Rattle.std.specs.Prelude.{◌≡◌, ℕ, ◌+◌, ◌≤◌, List, Some, true, false, length, slice_range, string_bytes, IfOk, IfErr, IfSome, IsUtf8, MatchOption, MatchResult};
 ghost use Rattle.std.specs.Cow.{cow_str_bytes, IsOwnedStr, IsBorrowedStr};
-ghost use Rattle.facet_json_token.specs.Decode.{decoded, Decodes};
+ghost use Rattle.facet_json_token.specs.Decode.{Decodes};
+ghost use Rattle.facet_json_token.specs.Decoded.{decoded};
 ghost use Rattle.facet_json_token.specs.DecodeViews.{IsItsText, RefusesContent, whole_refused};
 
 use super::{DecodeError, Trust, borrowed_run, decode_runs, whole_refusal};

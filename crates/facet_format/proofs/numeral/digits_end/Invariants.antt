@@ -1,6 +1,6 @@
 -- The digits from here on end where the first ones end.
 use Rattle.std.proofs.Common.{◌≡◌, ◌+◌, ◌-◌, ◌≤◌, length, drop}
-use Rattle.facet_format.specs.Number.{digits_len}
+use Rattle.facet_format.specs.NumberParts.{digits_len}
 use Rattle.facet_format.proofs.numeral.digits_end.Given as goal
 
 abbrev pub invariant-loop-end : goal.invariant-loop-end

@@ -1,5 +1,5 @@
 use Rattle.std.proofs.Common.{drop, rules}
-use Rattle.facet_format.specs.Number.{parts}
+use Rattle.facet_format.specs.NumberParts.{parts}
 use Rattle.facet_format.proofs.NumberSteps.{PartsEnd-parts, PartsEnd-lengths}
 use Rattle.facet_format.proofs.numeral.parts_at.Goals as goal
 

@@ -4,7 +4,7 @@ use Rattle.std.proofs.lemmas.List.Elements.{All-nil, All-push, All-same}
 use Rattle.std.proofs.lemmas.Result.{err_from_is_err_and}
 use Rattle.facet_format.specs.Event.{array}
 use Rattle.facet_format.specs.Views.{refusal_of}
-use Rattle.facet_json_meaning.specs.Lists.{ends_list}
+use Rattle.facet_json_meaning.specs.ListSteps.{ends_list}
 use Rattle.facet_json_meaning.proofs.Keeping.{keeps-then}
 use Rattle.facet_json_meaning.proofs.OneValue.KindsPassed.{list-ended}
 use Rattle.facet_json_meaning.proofs.OneValue.WithinValues.{inside-value, inside-stays, next-is}

@@ -1,7 +1,7 @@
 -- The number is a token.
 use Rattle.std.proofs.Common.{sym, ◌∙◌, refl, arith, rules}
 use Rattle.std.proofs.lemmas.Option.{slice_get_within}
-use Rattle.facet_format.specs.Number.{parts_hint}
+use Rattle.facet_format.specs.NumberParts.{parts_hint}
 use Rattle.facet_json_reader.proofs.TokensThere.{number-cut}
 use Rattle.facet_json_parser.proofs.QuietTokens.{token-leads_on}
 use Rattle.facet_json_parser.proofs.quiet.number_end.Goals as goal

@@ -1,7 +1,7 @@
 -- A comma or a colon is a token where it stands.
 use Rattle.std.proofs.Common.{refl, arith, rules}
 use Rattle.facet_json_token.specs.Token.{comma, colon}
-use Rattle.facet_json_token.specs.Cut.{comma_stands, colon_stands}
+use Rattle.facet_json_token.specs.Shape.{comma_stands, colon_stands}
 use Rattle.facet_json_token.proofs.Offsets.{slice_get-from_read}
 use Rattle.facet_json_parser.proofs.QuietTokens.{separator-leads_on, leads_on-nowhere}
 use Rattle.facet_json_parser.proofs.quiet.past_separator.Goals as goal

@@ -2,7 +2,7 @@
 use Rattle.std.proofs.Common.{Some, refl, ap, ◌∙◌}
 use Rattle.facet_json_token.specs.Views.{mode_of}
 use Rattle.facet_json_token.specs.Token.{object_start, object_end, array_start, array_end, colon, comma}
-use Rattle.facet_json_token.specs.Cut.{object_starts, object_ends, array_starts, array_ends, colon_stands, comma_stands}
+use Rattle.facet_json_token.specs.Shape.{object_starts, object_ends, array_starts, array_ends, colon_stands, comma_stands}
 use Rattle.facet_json_token.proofs.Offsets.{slice_get-from_read}
 use Rattle.facet_json_parser.proofs.MarksAreCut.{mark-is_cut, mark-no_end}
 use Rattle.facet_json_parser.proofs.run.next_token.Goals as goal

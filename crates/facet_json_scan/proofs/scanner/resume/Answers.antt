@@ -1,6 +1,7 @@
 -- A string or a number goes on where no gap is before it.
 use Rattle.std.proofs.Common.{rules, drop, ap, ◌∙◌, subst, arith}
-use Rattle.facet_json_token.specs.Gap.{growing, piece_len}
+use Rattle.facet_json_token.specs.Gap.{growing}
+use Rattle.facet_json_token.specs.GapLen.{piece_len}
 use Rattle.facet_json_scan.specs.Scanner.{Describes}
 use Rattle.facet_json_token.specs.Views.{mode_of}
 use Rattle.facet_json_scan.specs.Inner.Found.{state_of, number_part_of}

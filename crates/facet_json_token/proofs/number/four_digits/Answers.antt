@@ -1,6 +1,6 @@
 -- Digits are at least `0`, and four of them are one step.
 use Rattle.std.proofs.Common.{◌≡◌, ◌+◌, ◌-◌, ◌*◌, drop, get_or, ap, ◌∙◌, arith}
-use Rattle.facet_format.specs.Number.{digits_value}
+use Rattle.facet_format.specs.NumberValue.{digits_value}
 use Rattle.facet_format.proofs.NumberText.{digit_at-above}
 use Rattle.facet_json_token.proofs.DigitValues.{four-digits}
 use Rattle.facet_json_token.proofs.number.four_digits.Goals as goal

@@ -2,7 +2,7 @@
 use Rattle.std.proofs.Common.{◌≡◌, List, ℕ, Some, Result, Ok, Err, Bor, sym, ap, ◌∙◌, rules}
 use Rattle.std.specs.Prelude.{slice_range, IsUtf8, IfSome, MatchResult}
 use Rattle.std.specs.Result.{result_ok}
-use Rattle.facet_json_token.specs.Decode.{decoded}
+use Rattle.facet_json_token.specs.Decoded.{decoded}
 use Rattle.facet_json_token.proofs.PlainText.{IsPlain, decoded-plain}
 use Rattle.facet_json_token.proofs.plain.plain_text.Goals as goal
 

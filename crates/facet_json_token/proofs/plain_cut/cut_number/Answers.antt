@@ -1,6 +1,6 @@
 -- The parts at the offset tell the token, or that nothing but a minus stands there.
 use Rattle.std.proofs.Common.{◌≡◌, ◌+◌, drop, Some, true, ap, sym, ◌∙◌, refl}
-use Rattle.facet_format.specs.Number.{parts, parts_len, parts_hint, is_bare}
+use Rattle.facet_format.specs.NumberParts.{parts, parts_len, parts_hint, is_bare}
 use Rattle.facet_json_token.specs.Token.{number}
 use Rattle.facet_format.specs.Views.{hint_of}
 use Rattle.facet_json_token.specs.Cut.{cut_number}

@@ -1,7 +1,7 @@
 -- The first line feed from here on is the first from the start on.
 use Rattle.std.proofs.Common.{◌≡◌, ◌+◌, ◌-◌, ◌≤◌, length, drop}
 use Rattle.std.specs.Option.{option_map}
-use Rattle.facet_json_token.specs.Gap.{through_line_end}
+use Rattle.facet_json_token.specs.GapLen.{through_line_end}
 use Rattle.facet_json_token.proofs.plain_cut.line_end.Given as goal
 
 abbrev pub invariant-loop-byte : goal.invariant-loop-byte

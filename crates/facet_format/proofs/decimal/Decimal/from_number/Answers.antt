@@ -1,5 +1,5 @@
 use Rattle.std.proofs.Common.{◌≡◌, true, false, refl, sym, ◌∙◌}
-use Rattle.facet_format.specs.Number.{has_value}
+use Rattle.facet_format.specs.NumberValue.{has_value}
 use Rattle.facet_format.proofs.NumberText.{number-decimal, number-no_decimal}
 use Rattle.facet_format.proofs.decimal.Decimal.from_number.Goals as goal
 

@@ -1,6 +1,6 @@
 use Rattle.std.proofs.Common.{◌≡◌, ℕ, zero, suc, refl, ap, ◌∙◌, arith}
 use Rattle.std.specs.Prelude.{not, ◌==◌}
-use Rattle.facet_format.specs.Number.{is_some_len}
+use Rattle.facet_format.specs.NumberParts.{is_some_len}
 use Rattle.facet_format.proofs.numeral.Parts.has_exponent.Goals as goal
 
 -- A part stands there where its length is not 0.

@@ -1,6 +1,6 @@
 use Rattle.std.proofs.lemmas.Result.{err_from_is_err_and, IfErr-weaker, on_ok_weaker}
 use Rattle.facet_format.specs.Views.{refusal_of}
-use Rattle.facet_json_meaning.specs.Lists.{nodes_of}
+use Rattle.facet_json_meaning.specs.ListSteps.{nodes_of}
 use Rattle.facet_json_meaning.proofs.Leaves.LeafReadings.{none-unread}
 use Rattle.facet_json_meaning.proofs.Sequences.ListSteps.{no_list-begins}
 use Rattle.facet_json_core.proofs.Refusing.{event-tells, mismatch-about}

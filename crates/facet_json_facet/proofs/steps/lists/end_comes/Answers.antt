@@ -5,7 +5,7 @@ use Rattle.facet_json_meaning.proofs.Sequences.ListSteps.{peek-finds_end, peek-n
 use Rattle.facet_json_meaning.proofs.Walks.PeekOnWalk.{peek-lacks}
 use Rattle.facet_format.specs.Cursor.{peek}
 use Rattle.facet_json_core.proofs.Refusing.{call-tells}
-use Rattle.facet_json_meaning.specs.Lists.{ends_list}
+use Rattle.facet_json_meaning.specs.ListSteps.{ends_list}
 use Rattle.facet_json_meaning.proofs.OneValue.WithinValues.{peek-looks, peek-looks_past}
 use Rattle.facet_json_facet.proofs.steps.lists.end_comes.Goals as goal
 

@@ -2,7 +2,8 @@
 use Rattle.std.proofs.Common.{◌≡◌, ◌≢◌, ◌+◌, [], ◌∷◌, drop, false, refl, sym, ap, ◌∙◌, subst, arith}
 use Rattle.std.proofs.lemmas.List.{drop_all}
 use Rattle.facet_format.specs.Bytes.{slash, star}
-use Rattle.facet_json_token.specs.Gap.{jsonc, growing, piece_len, OpensBlock, OpensLine}
+use Rattle.facet_json_token.specs.Gap.{jsonc, growing, OpensBlock, OpensLine}
+use Rattle.facet_json_token.specs.GapLen.{piece_len}
 use Rattle.facet_json_token.specs.Open.{IsBeginning}
 use Rattle.facet_json_scan.specs.Scanner.{Describes, after_slash, in_block, in_line}
 use Rattle.facet_json_token.proofs.Offsets.{drop-at_byte, slice_get-from_read}

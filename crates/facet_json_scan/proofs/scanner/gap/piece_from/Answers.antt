@@ -4,7 +4,8 @@ use Rattle.std.proofs.lemmas.Bool.{ne_eqb}
 use Rattle.std.proofs.lemmas.List.{drop_all}
 use Rattle.std.proofs.lemmas.Option.{slice_get_within}
 use Rattle.facet_format.specs.Bytes.{slash}
-use Rattle.facet_json_token.specs.Gap.{plain, growing, piece_len}
+use Rattle.facet_json_token.specs.Gap.{plain, growing}
+use Rattle.facet_json_token.specs.GapLen.{piece_len}
 use Rattle.facet_json_token.specs.Open.{IsBeginning}
 use Rattle.facet_json_token.specs.Views.{mode_of}
 use Rattle.facet_json_token.proofs.Offsets.{drop-at_byte, slice_get-from_read}

@@ -1,7 +1,7 @@
 -- Each byte goes on with what was read of the number, and where one doesn't the number is cut.
 use Rattle.std.proofs.Common.{◌≡◌, ◌≢◌, ◌+◌, ◌∷◌, ◌++◌, drop, slice_get, Some, get_or, refl, ap, sym, ◌∙◌, subst, arith, rules}
 use Rattle.std.proofs.lemmas.Option.{slice_get-get_or}
-use Rattle.facet_format.specs.Number.{parts}
+use Rattle.facet_format.specs.NumberParts.{parts}
 use Rattle.facet_json_token.specs.Cut.{nothing_left}
 use Rattle.facet_json_scan.specs.Scanner.{EndsIn, Describes}
 use Rattle.facet_json_scan.specs.Inner.Found.{number_part_of}

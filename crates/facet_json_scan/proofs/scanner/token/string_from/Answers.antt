@@ -3,7 +3,8 @@ use Rattle.std.proofs.Common.{◌+◌, ◌-◌, false, [], refl, sym, subst, ari
 use Rattle.facet_format.specs.Bytes.{quote}
 use Rattle.facet_format.specs.Span.{span_at}
 use Rattle.facet_json_token.specs.Token.{string}
-use Rattle.facet_json_token.specs.Cut.{ArePieces, token_at}
+use Rattle.facet_json_token.specs.Cut.{token_at}
+use Rattle.facet_json_token.specs.Shape.{ArePieces}
 use Rattle.facet_json_scan.specs.Scanner.{Describes, in_text}
 use Rattle.facet_json_scan.proofs.AnswersOfCuts.{found-here, answered-ends}
 use Rattle.facet_json_scan.proofs.Pieces.PendingText.{text-whole}

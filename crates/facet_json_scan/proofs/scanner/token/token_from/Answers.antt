@@ -3,7 +3,7 @@ use Rattle.std.proofs.Common.{◌≡◌, ◌+◌, ◌<◌, ◌⊎◌, inl, inr, 
 use Rattle.std.proofs.lemmas.List.{drop_all}
 use Rattle.facet_format.specs.Bytes.{quote, slash}
 use Rattle.facet_json_token.specs.Token.{null, true_literal, false_literal}
-use Rattle.facet_format.specs.Number.{starts_number}
+use Rattle.facet_format.specs.NumberParts.{starts_number}
 use Rattle.facet_json_token.specs.Cut.{start_of, cut_here}
 use Rattle.facet_json_token.specs.Open.{IsBeginning}
 use Rattle.facet_json_scan.specs.Scanner.{EndsIn, in_digits, answer_for}

@@ -5,7 +5,8 @@ use Rattle.facet_format.specs.Bytes.{slash, is_space}
 use Rattle.facet_format.specs.Span.{stop}
 use Rattle.facet_format.specs.Views.{span_of}
 use Rattle.facet_json_token.specs.Cut.{cut_here}
-use Rattle.facet_json_token.specs.Gap.{growing, piece_len}
+use Rattle.facet_json_token.specs.Gap.{growing}
+use Rattle.facet_json_token.specs.GapLen.{piece_len}
 use Rattle.facet_json_token.specs.Views.{mode_of}
 use Rattle.facet_json_token.proofs.FirstBytes.{cut_here-something}
 use Rattle.facet_json_token.proofs.InSight.{above_space, cut-here}

@@ -2,7 +2,8 @@
 use Rattle.std.proofs.Common.{◌≡◌, ◌+◌, drop, Some, None, true, false, cond, codes, length, sym, ap, ◌∙◌, arith, rules}
 use Rattle.std.proofs.lemmas.Result.{err_from_is_err_and}
 use Rattle.facet_format.specs.Complaint.{unexpected_eof}
-use Rattle.facet_json_token.specs.Decode.{piece_at, is_high_surrogate, low_at}
+use Rattle.facet_json_token.specs.Decode.{is_high_surrogate}
+use Rattle.facet_json_token.specs.Decoded.{piece_at, low_at}
 use Rattle.facet_json_token.specs.Fault.{decode_fault_at, no_character}
 use Rattle.facet_json_token.specs.Inner.FirstFault.{fault_of, pair_fault}
 use Rattle.facet_json_token.proofs.EscapeSteps.{piece_at-cut, piece_at-unit, unit_of-scalar, unit_of-low, unit_of-high, told-over, fault_of-cut, fault_of-unit}
