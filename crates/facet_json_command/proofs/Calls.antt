@@ -6,7 +6,8 @@ use Rattle.std.specs.Str.Parse.{AllDigits}
 use Rattle.facet_format.specs.Cursor.{Call, next, peek, events, skip, capture, save, restore, span}
 use Rattle.facet_json_core.specs.declared.script.Call.{Call as RustCall}
 use Rattle.facet_json_core.specs.ScriptViews.{call_of}
-use Rattle.facet_json_command.specs.Script.{comma, IsNumbered, IsWordOf, IsScript, one_word, word_first}
+use Rattle.facet_format.specs.Bytes.{comma}
+use Rattle.facet_json_command.specs.Script.{IsNumbered, IsWordOf, IsScript, one_word, word_first}
 use Rattle.facet_json_command.proofs.Cuts.{Lacks, one_cut, has_byte, lacks_both}
 
 -- ---- commas

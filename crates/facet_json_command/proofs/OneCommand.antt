@@ -4,7 +4,8 @@ use Rattle.std.specs.Str.Parse.{digits_value}
 use Rattle.facet_format.specs.Cursor.{Call, next, peek, events, skip, capture, save, restore, span}
 use Rattle.facet_json_token.specs.Gap.{Mode}
 use Rattle.facet_json_document.specs.Language.{Language, lenient}
-use Rattle.facet_json_command.specs.Script.{comma, IsWordOf, IsScript, one_word, word_first}
+use Rattle.facet_format.specs.Bytes.{comma}
+use Rattle.facet_json_command.specs.Script.{IsWordOf, IsScript, one_word, word_first}
 use Rattle.facet_json_command.specs.Arguments.{Command, fmt, events as list, tokens, drive, AreWords, AreArguments, AskFor}
 use Rattle.facet_json_command.proofs.Cuts.{same_tail, one_cut, has_byte}
 use Rattle.facet_json_command.proofs.Calls.{word_lacks}

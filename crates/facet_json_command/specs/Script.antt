@@ -1,10 +1,8 @@
 -- The script of `drive`: the words of calls, separated by single commas, as `next,events:2,restore:1`.
 use Rattle.std.specs.Prelude.{◌≡◌, ◌<◌, ◌^◌, ℕ, List, [], ◌∷◌, ◌++◌, codes}
 use Rattle.std.specs.Str.Parse.{IsNumeral, digits_value}
+use Rattle.facet_format.specs.Bytes.{comma}
 use Rattle.facet_format.specs.Cursor.{Call, next, peek, events, skip, capture, save, restore, span}
-
-abbrev pub comma : ℕ
-comma = 44
 
 -- The text is one or more decimal digits, without a sign, of this number, which is below 2^64.
 pub record IsPointNumber (text : List ℕ) (number : ℕ) : Type 0 where

@@ -10,7 +10,7 @@ ghost use Rattle.facet_json_escape.specs.Inner.Window as window;
 
 use crate::place::{place_byte, place_short};
 use crate::plain::plain_short;
-use crate::window::plain_end;
+use crate::window::verbatim_end;
 use std::alloc::AllocError;
 
 /// Appends a text between quotes (RFC 8259, section 7): an escape for each quote, backslash, DEL and character below U+0020, and each
@@ -135,7 +135,7 @@ fn push_content(out: &mut Vec<u8>, bytes: &[u8]) -> Result<(), AllocError>
 {
     let mut at = 0;
     while bytes.len() - at >= 16 {
-        let stop = plain_end(bytes, at);
+        let stop = verbatim_end(bytes, at);
         push_run(out, &bytes[at..stop])?;
         if stop == bytes.len() {
             return Ok(());

@@ -35,7 +35,7 @@ fn plain_lanes(window: u8x16) -> usize
 /// The first byte from `from` on that needs an escape, or the length. The last window is the text's last sixteen bytes, some of
 /// which the one before may have passed.
 #[inline(always)]
-pub(crate) fn plain_end(bytes: &[u8], from: usize) -> usize
+pub(crate) fn verbatim_end(bytes: &[u8], from: usize) -> usize
     requires { from + 16 ≤ length bytes.now }
     ensures value { result ≡ from + prefix_len needs_no_escape (drop from bytes.now) }
     ensures within { result ≤ length bytes.now }

@@ -5,6 +5,8 @@
 #[cfg(test)]
 mod accounts;
 #[cfg(test)]
+mod allocations;
+#[cfg(test)]
 mod bounds;
 #[cfg(test)]
 mod containers;
@@ -16,8 +18,6 @@ mod driving;
 mod entries;
 #[cfg(test)]
 mod example_records;
-#[cfg(test)]
-mod allocations;
 #[cfg(test)]
 mod lent;
 #[cfg(test)]

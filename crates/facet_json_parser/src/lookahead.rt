@@ -21,7 +21,8 @@ ghost use Rattle.facet_json_parser.specs.Views.{lookahead_of};
 use crate::part::{Part, find};
 use crate::passing::{capture, leave, pass};
 use facet_format::{ParseEvent, ParseEventKind, Span};
-use facet_json_reader::{Held, Language, Reader, Refused, Trust};
+use facet_json_reader::{Held, Language, Reader, Refused};
+use facet_json_token::Trust;
 use std::alloc::{AllocError, Global};
 use std::collections::VecDeque;
 

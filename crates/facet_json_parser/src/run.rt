@@ -18,7 +18,7 @@ ghost use Rattle.facet_json_parser.specs.RunViews.{AnswersRun, value_expected};
 use crate::quiet::past_quiet;
 use facet_format::{ContainerKind, Span};
 use facet_json_reader::{Contexts, Expected, Name, Refused, Why};
-use facet_json_token::plain_cut::token_at;
+use facet_json_token::cutting::token_at;
 use facet_json_token::{Mode, ScanResult, SpannedToken, Token, cut};
 use std::alloc::Global;
 

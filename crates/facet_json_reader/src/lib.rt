@@ -17,7 +17,6 @@ pub use language::Language;
 pub use materialized::{MaterializedToken, TokenKind};
 pub use number::{short_number, short_number_strict};
 pub use place::{Place, Turn};
-pub use quick::Trust;
 pub use reader::{Held, Reader, Stage};
 pub use refusal::{Expected, Inside, Name, NoRaw, Refused, Why};
 pub use text::{checked_text_at, quoted_text_at};

@@ -26,18 +26,10 @@ use crate::text::{checked_text_at, quoted_text_at};
 use facet_format::{
     ContainerKind, FieldKey, FieldLocationHint, ParseEvent, ParseEventKind, ScalarValue, Span,
 };
-use facet_json_token::plain_cut::common_len;
+use facet_json_token::Trust;
+use facet_json_token::cutting::common_len;
 use facet_json_token::quick::gap_end;
 use std::borrow::CowStr;
-
-/// What is known of an input's bytes.
-#[derive(Debug, Clone, Copy, PartialEq, Eq)]
-pub enum Trust {
-    /// Nothing: each text is checked.
-    Nothing,
-    /// They are UTF-8.
-    Utf8,
-}
 
 impl Reader {
     /// Passes the next event and answers it, where a few bytes decide it: a bracket, a text or a key without an escape, a number

@@ -22,7 +22,7 @@ use crate::scanner::pending::{Pending, State};
 use crate::scanner::token::{Found, number_from, scan_from, text_from};
 use crate::scanner::whole::scan;
 use facet_format::Span;
-use facet_json_token::plain_cut::skip_gap;
+use facet_json_token::cutting::skip_gap;
 use facet_json_token::{Mode, ScanResult, SpannedToken, Token, cut};
 use std::marker::Model;
 

@@ -3,13 +3,13 @@
 #![tactic(auto)]
 
 #[cfg(test)]
+mod allocations;
+#[cfg(test)]
 mod decimals;
 #[cfg(test)]
 mod decoding_allocations;
 #[cfg(test)]
 mod events;
-#[cfg(test)]
-mod allocations;
 #[cfg(test)]
 mod parsers;
 #[cfg(test)]

@@ -15,9 +15,10 @@ mod escape;
 mod unchecked;
 
 use crate::ascii::ascii_text;
-use crate::plain::{plain_text, plain_text_unchecked};
-use crate::runs::plain_end;
+use crate::mode::Trust;
+use crate::runs::unescaped_run_end;
 use crate::token::{ScanError, ScanErrorKind};
+use crate::unescaped::{plain_text, plain_text_unchecked};
 use escape::escape_at;
 use facet_format::Span;
 use std::alloc::{AllocError, Global};
@@ -78,15 +79,6 @@ pub fn decode_string_owned(
         → MatchResult result (λ s. string_bytes s ≡ text) (λ e. e ≡ DecodeError.OutOfMemory) }
 {
     decode_runs(alloc, buf, start, end, Trust::Nothing)
-}
-
-/// What is known of a content's bytes.
-#[derive(Clone, Copy)]
-enum Trust {
-    /// Nothing: each run is checked.
-    Nothing,
-    /// They are UTF-8.
-    Utf8,
 }
 
 /// Decodes a content run by run and escape by escape, for `decode_string_owned` and its unchecked form.
@@ -157,7 +149,7 @@ fn run_end(buf: &[u8], at: usize, end: usize) -> usize
     ensures plain { has_backslash (slice_range buf.now at result) ≡ false }
     ensures stops { result < end → slice_index buf.now result ≡ backslash }
 {
-    plain_end(buf, at, end)
+    unescaped_run_end(buf, at, end)
 }
 
 /// The text of bytes among which no backslash stands.

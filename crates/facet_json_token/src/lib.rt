@@ -4,12 +4,11 @@
 #![tactic(auto)]
 
 mod ascii;
+pub mod cutting;
 mod decode;
 mod decode_refusal;
 mod mode;
 mod number;
-mod plain;
-pub mod plain_cut;
 pub mod quick;
 mod refusal;
 mod rfc_number;
@@ -17,17 +16,18 @@ mod rfc_string;
 mod rfc_window;
 mod runs;
 mod token;
+mod unescaped;
 mod window;
 
+pub use cutting::cut;
 pub use decode::{
     DecodeError, check_content, decode_string, decode_string_borrowed,
     decode_string_borrowed_unchecked, decode_string_owned, decode_string_owned_unchecked,
     decode_string_unchecked,
 };
-pub use mode::Mode;
+pub use mode::{Mode, Trust};
 pub use number::{ParsedNumber, parse_measured, parse_number, parse_number_unchecked};
-pub use plain::{plain_text, plain_text_unchecked, quoted_text};
-pub use plain_cut::cut;
 pub use rfc_number::{check_number_strict, has_rfc_parts};
 pub use rfc_string::check_string_strict;
 pub use token::{ScanError, ScanErrorKind, ScanResult, SpannedToken, Token};
+pub use unescaped::{plain_text, plain_text_unchecked, quoted_text};

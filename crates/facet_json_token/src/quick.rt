@@ -1,5 +1,5 @@
 //! What a few bytes decide: tokens that the bytes after an offset show whole (all but faults, strings with escapes, and what stands after
-//! comments or at the end), and the ends of gaps and texts, for readers that make no token of them. Everything else is left to `plain_cut`.
+//! comments or at the end), and the ends of gaps and texts, for readers that make no token of them. Everything else is left to `cutting`.
 
 ghost use Rattle.std.specs.Prelude.{◌≡◌, ◌+◌, ◌-◌, ◌<◌, ◌≤◌, false, length, drop, Some, slice_get, IfSome, true};
 ghost use Rattle.facet_format.specs.Bytes.{quote};
@@ -11,10 +11,10 @@ ghost use Rattle.facet_format.specs.NumberParts.{parts, parts_len, parts_hint, i
 ghost use Rattle.facet_json_token.specs.Cut as spec_cut;
 ghost use Rattle.facet_json_token.specs.Inner.InSight.{told};
 
+use crate::cutting::skip_gap;
 use crate::mode::Mode;
-use crate::plain_cut::skip_gap;
 use crate::token::{SpannedToken, Token};
-use crate::window::{plain_end, space_end};
+use crate::window::{space_end, string_run_end};
 use facet_format::Span;
 use facet_format::numeral::parts_at;
 
@@ -26,7 +26,7 @@ pub fn plain_text_end(buffer: &[u8], at: usize) -> Option<usize>
         → cut_here mode at (drop at buffer.now) ≡ token_at (string (at + 1) end false) at ((end + 1) - at)) }
     ensures within { IfSome result (λ end. (at < end) × (end < length buffer.now)) }
 {
-    let end = plain_end(buffer, at + 1);
+    let end = string_run_end(buffer, at + 1);
     match buffer.get(end) {
         Some(b'"') => Some(end),
         _ => None,
@@ -117,7 +117,7 @@ fn text_in_sight(buffer: &[u8], at: usize) -> Option<SpannedToken>
         ≡ Some (spec_cut.cut_text at bytes (content_len false bytes))) }
 {
     let start = at + 1;
-    let end = plain_end(buffer, start);
+    let end = string_run_end(buffer, start);
     match buffer.get(end) {
         Some(b'"') => {
             let token = Token::String {

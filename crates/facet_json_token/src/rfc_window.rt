@@ -17,7 +17,7 @@ fn stops(window: u8x16) -> u64
 
 /// How many of sixteen bytes stand before the first such: sixteen where there is none.
 #[inline(always)]
-fn plain_lanes(window: u8x16) -> usize
+fn rfc_lanes(window: u8x16) -> usize
     ensures value { result ≡ prefix_len is_rfc_plain window }
     ensures within { result ≤ 16 }
 {
@@ -32,7 +32,7 @@ fn plain_lanes(window: u8x16) -> usize
 /// The offset of the first byte from `at` on that is below 0x20 or a backslash, or `end` where none stands before it. The last
 /// window may reach past `end`, but not past the buffer.
 #[inline(always)]
-pub(crate) fn plain_end(buf: &[u8], at: usize, end: usize) -> usize
+pub(crate) fn rfc_run_end(buf: &[u8], at: usize, end: usize) -> usize
     requires in_order { at ≤ end }
     requires in_range { end ≤ length buf.now }
     ensures ahead { at ≤ result }
@@ -43,9 +43,9 @@ pub(crate) fn plain_end(buf: &[u8], at: usize, end: usize) -> usize
     let mut stop = at;
     while stop < end {
         if buf.len() - stop < 16 {
-            return plain_end_bytewise(buf, stop, end);
+            return rfc_run_end_bytewise(buf, stop, end);
         }
-        let plain = plain_lanes(u8x16::from_slice(&buf[stop..]));
+        let plain = rfc_lanes(u8x16::from_slice(&buf[stop..]));
         if plain < 16 {
             return nearer(stop + plain, end);
         }
@@ -56,7 +56,7 @@ pub(crate) fn plain_end(buf: &[u8], at: usize, end: usize) -> usize
 
 /// The same, byte by byte: of a buffer's last bytes, which are fewer than a window.
 #[inline(never)]
-fn plain_end_bytewise(buf: &[u8], at: usize, end: usize) -> usize
+fn rfc_run_end_bytewise(buf: &[u8], at: usize, end: usize) -> usize
     requires in_order { at ≤ end }
     requires in_range { end ≤ length buf.now }
     ensures ahead { at ≤ result }

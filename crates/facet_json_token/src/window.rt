@@ -17,7 +17,7 @@ fn stops(window: u8x16) -> u64
 
 /// The offset of the first quote or backslash from `from` on, or the length.
 #[inline(always)]
-pub(crate) fn plain_end(buffer: &[u8], from: usize) -> usize
+pub(crate) fn string_run_end(buffer: &[u8], from: usize) -> usize
     requires { from ≤ length buffer.now }
     ensures value { result ≡ from + prefix_len is_plain (drop from buffer.now) }
     ensures ahead { from ≤ result }
@@ -31,12 +31,12 @@ pub(crate) fn plain_end(buffer: &[u8], from: usize) -> usize
         }
         at += 16;
     }
-    plain_end_bytewise(buffer, at)
+    string_run_end_bytewise(buffer, at)
 }
 
 /// The offset of the first quote or backslash from `from` on, or the length: what is left after the last window.
 #[inline(never)]
-fn plain_end_bytewise(buffer: &[u8], from: usize) -> usize
+fn string_run_end_bytewise(buffer: &[u8], from: usize) -> usize
     requires { from ≤ length buffer.now }
     ensures value { result ≡ from + prefix_len is_plain (drop from buffer.now) }
     ensures ahead { from ≤ result }

@@ -3,13 +3,13 @@
 #![tactic(auto)]
 
 #[cfg(test)]
+mod allocations;
+#[cfg(test)]
 mod contents;
 #[cfg(test)]
 mod copies;
 #[cfg(test)]
 mod depth;
-#[cfg(test)]
-mod allocations;
 #[cfg(test)]
 mod lookups;
 #[cfg(test)]

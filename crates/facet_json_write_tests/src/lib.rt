@@ -4,6 +4,8 @@
 #![tactic(auto)]
 
 #[cfg(test)]
+mod allocations;
+#[cfg(test)]
 mod byte_texts;
 #[cfg(test)]
 mod byte_types;
@@ -15,8 +17,6 @@ mod error_allocations;
 mod escapes;
 #[cfg(test)]
 mod generic;
-#[cfg(test)]
-mod allocations;
 #[cfg(test)]
 mod kinds;
 #[cfg(test)]

@@ -10,7 +10,7 @@ ghost use Rattle.facet_json_scan.specs.Inner.Found.{PieceHere, PieceWithin};
 
 use crate::scanner::pending::State;
 use facet_json_token::Mode;
-use facet_json_token::plain_cut::{block_end, line_end};
+use facet_json_token::cutting::{block_end, line_end};
 
 /// What of a gap stands at a place.
 #[derive(Drop)]

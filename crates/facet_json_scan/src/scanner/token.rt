@@ -17,7 +17,7 @@ ghost use Rattle.facet_json_scan.specs.Inner.Found.{number_part_of, FoundHere, F
 use crate::scanner::gap::{Piece, piece_from};
 use crate::scanner::pending::{Part, State};
 use facet_format::Span;
-use facet_json_token::plain_cut::{common_len, cut_number, cut_token, cut_word, token_at};
+use facet_json_token::cutting::{common_len, cut_number, cut_token, cut_word, token_at};
 use facet_json_token::quick::{gap_end, plain_text_end};
 use facet_json_token::{Mode, ScanResult, SpannedToken, Token};
 

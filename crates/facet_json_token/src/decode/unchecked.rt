@@ -6,7 +6,8 @@ ghost use Rattle.facet_json_token.specs.Decode.{Decodes};
 ghost use Rattle.facet_json_token.specs.Decoded.{decoded};
 ghost use Rattle.facet_json_token.specs.DecodeViews.{IsItsText, RefusesContent, whole_refused};
 
-use super::{DecodeError, Trust, borrowed_run, decode_runs, whole_refusal};
+use super::{DecodeError, borrowed_run, decode_runs, whole_refusal};
+use crate::mode::Trust;
 use std::alloc::Global;
 use std::borrow::CowStr;
 

@@ -10,17 +10,17 @@ use Rattle.facet_json_escape.proofs.quote.push_content.Goals as goal
 pub returns-then-stop-bytes : goal.returns-then-stop-bytes
 returns-then-stop-bytes c =
     let bytes = c.args.bytes.now in
-    let stop = c.plain_end-stop.result in
-    let run = put_out _ _ _ _ _ _ c.in_ok-push_run.ensures (escaped-to bytes c.loop-at.at stop c.plain_end-stop.ensures.value) c.loop-at.invariant.same in
+    let stop = c.verbatim_end-stop.result in
+    let run = put_out _ _ _ _ _ _ c.in_ok-push_run.ensures (escaped-to bytes c.loop-at.at stop c.verbatim_end-stop.ensures.value) c.loop-at.invariant.same in
     let now = c.push_run.new.out.items in
     sym (append-nil now) ∙ ap (λ l. now ++ flat_map escaped l) (sym (drop_all stop bytes (omega arith))) ∙ run
 
 pub loop-at-preserved : goal.loop-at-preserved
 loop-at-preserved c =
     let bytes = c.args.bytes.now in
-    let stop = c.plain_end-stop.result in
-    let lt : stop < length bytes = omega (arith, c.plain_end-stop.ensures.within, c.if-stop-bytes.false) in
-    let run = put_out _ _ _ _ _ _ c.in_ok-push_run.ensures (escaped-to bytes c.loop-at.at stop c.plain_end-stop.ensures.value) c.loop-at.invariant.same in
+    let stop = c.verbatim_end-stop.result in
+    let lt : stop < length bytes = omega (arith, c.verbatim_end-stop.ensures.within, c.if-stop-bytes.false) in
+    let run = put_out _ _ _ _ _ _ c.in_ok-push_run.ensures (escaped-to bytes c.loop-at.at stop c.verbatim_end-stop.ensures.value) c.loop-at.invariant.same in
     record {
       within = omega (arith, lt);
       same = put_out _ _ _ _ _ _ c.in_ok-push_escaped.ensures (escaped-at bytes stop lt) run;

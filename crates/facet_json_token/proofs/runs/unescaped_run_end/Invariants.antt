@@ -1,0 +1,16 @@
+-- The run from here on is the one from the start on.
+use Rattle.std.proofs.Common.{◌≡◌, ◌+◌, ◌-◌, ◌≤◌, length, drop}
+use Rattle.std.specs.List.{prefix_len}
+use Rattle.facet_json_token.specs.Inner.Run.{is_no_backslash}
+use Rattle.facet_json_token.proofs.runs.unescaped_run_end.Given as goal
+
+abbrev pub invariant-loop-stop : goal.invariant-loop-stop
+invariant-loop-stop l =
+    record {
+      ahead : l.at ≤ l.stop;
+      within : l.stop ≤ length l.buf;
+      same : l.at + prefix_len is_no_backslash (drop l.at l.buf) ≡ l.stop + prefix_len is_no_backslash (drop l.stop l.buf);
+    }
+
+abbrev pub decreases-loop-stop : goal.decreases-loop-stop
+decreases-loop-stop l = length l.buf - l.stop
