@@ -13,7 +13,7 @@ ghost use Rattle.facet_json_core.specs.Refusing.{TellsRefusal};
 ghost use Rattle.facet_json.specs.Fields.{keys, table, fields_of, begins_with, first_name, other_names, joined, LacksField};
 
 use facet_format::{DeserializeError, DeserializeErrorKind, FormatParser, Span};
-use facet_json_facet::Facet;
+use facet_json_facet::{Facet, value_in};
 use facet_json_facet::steps::{begin_object, next_name, pass_value};
 use facet_json_parser::JsonParser;
 use std::alloc::Global;
@@ -352,27 +352,6 @@ pub(crate) fn after_first<'n, 't>(names: &'n [&'t str]) -> &'n [&'t str]
     match names {
         [] => names,
         [_, others @ ..] => others,
-    }
-}
-
-/// Reads a field's value, which may borrow of the input where `borrows` says so.
-fn value_in<'t, 'de, T: Facet<'de>>(
-    alloc: Global,
-    parser: &mut JsonParser<'de>,
-    borrows: bool,
-) -> Result<T, DeserializeError<'t>>
-    ensures read { IfOk result (λ v. IsRead (cond borrows T.reading_borrowed T.reading) parser.old (T.view v) parser.new) }
-    ensures owned { borrows ≡ false → IfOk result T.owned }
-    ensures unread { IfErr result (λ e. IsUnread (cond borrows T.reading_borrowed T.reading) parser.old (refusal_of e)) }
-    ensures keeps { KeepsOn parser.old parser.new }
-    ensures one_value { OnOk result (PassesValue parser.old parser.new) }
-    ensures within { IfErr result (λ e. RefusalWithin parser.new.buffer (refusal_of e)) }
-    ensures tells { IfErr result (λ e. TellsRefusal parser.old parser.new (refusal_of e)) }
-{
-    if borrows {
-        T::read(alloc, parser)
-    } else {
-        T::read_owned(alloc, parser)
     }
 }
 

@@ -1,6 +1,6 @@
 //! The trait of types that are read from JSON and written as JSON.
 
-ghost use Rattle.std.specs.Prelude.{◌≡◌, ◌<◌, true, None, OnOk, OnErr, IfOk, IfErr};
+ghost use Rattle.std.specs.Prelude.{◌≡◌, ◌<◌, true, false, cond, None, OnOk, OnErr, IfOk, IfErr};
 ghost use Rattle.facet_format.specs.Views.{refusal_of};
 ghost use Rattle.facet_json_document.specs.Now.{ahead};
 ghost use Rattle.facet_json_document.specs.UnreadLaws.{RefusalWithin};
@@ -122,4 +122,31 @@ pub trait Facet<'de>: Sized + Drop {
 
     /// The text of a readable value reads as the value.
     ghost reads_back: { ReadsBack reading tree_of always readable };
+}
+
+/// Reads a value, which may borrow of the input where `borrows` says so: an element, or the value of a field.
+///
+/// # Errors
+///
+/// As `T` refuses.
+pub fn value_in<'t, 'de, T: Facet<'de>>(
+    alloc: Global,
+    parser: &mut JsonParser<'de>,
+    borrows: bool,
+) -> Result<T, DeserializeError<'t>>
+    ensures read { IfOk result (λ v. IsRead (cond borrows T.reading_borrowed T.reading) parser.old (T.view v) parser.new) }
+    ensures owned { borrows ≡ false → IfOk result T.owned }
+    ensures unread { IfErr result (λ e. IsUnread (cond borrows T.reading_borrowed T.reading) parser.old (refusal_of e)) }
+    ensures keeps { KeepsOn parser.old parser.new }
+    ensures shorter { OnOk result (ahead parser.new < ahead parser.old) }
+    ensures one_value { OnOk result (PassesValue parser.old parser.new) }
+    ensures within { IfErr result (λ e. RefusalWithin parser.new.buffer (refusal_of e)) }
+    ensures free { OnOk result (parser.new.cursor.refusal ≡ None) }
+    ensures tells { IfErr result (λ e. TellsRefusal parser.old parser.new (refusal_of e)) }
+{
+    if borrows {
+        T::read(alloc, parser)
+    } else {
+        T::read_owned(alloc, parser)
+    }
 }

@@ -17,4 +17,4 @@ mod unsigned;
 mod whole;
 mod wide;
 
-pub use facet::Facet;
+pub use facet::{Facet, value_in};

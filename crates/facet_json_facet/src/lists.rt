@@ -11,7 +11,7 @@ ghost use Rattle.facet_json_meaning.specs.Nodes.{KeepsOn};
 ghost use Rattle.facet_json_meaning.specs.OneValue.{PassesValue};
 ghost use Rattle.facet_json_meaning.specs.Reading.{IsRead, IsUnread};
 
-use crate::facet::Facet;
+use crate::facet::{Facet, value_in};
 use crate::steps::lists::{begin_list, end_comes};
 use crate::steps::next::next_of_value;
 use facet_format::{DeserializeError, FormatSerializer};
@@ -107,35 +107,8 @@ fn list_in<'t, 'de, T: Facet<'de>>(
     begin_list(parser)?;
     let mut items = Vec::new(alloc);
     while !end_comes(parser)? {
-        items.push(item_in(alloc, parser, borrows)?)?;
+        items.push(value_in(alloc, parser, borrows)?)?;
     }
     let _end = next_of_value(parser)?;
     Ok(items)
-}
-
-/// Reads an element, which may borrow of the input where `borrows` says so.
-///
-/// # Errors
-///
-/// As `T` refuses.
-fn item_in<'t, 'de, T: Facet<'de>>(
-    alloc: Global,
-    parser: &mut JsonParser<'de>,
-    borrows: bool,
-) -> Result<T, DeserializeError<'t>>
-    ensures read { IfOk result (λ v. IsRead (cond borrows T.reading_borrowed T.reading) parser.old (T.view v) parser.new) }
-    ensures owned { borrows ≡ false → IfOk result T.owned }
-    ensures unread { IfErr result (λ e. IsUnread (cond borrows T.reading_borrowed T.reading) parser.old (refusal_of e)) }
-    ensures keeps { KeepsOn parser.old parser.new }
-    ensures shorter { OnOk result (ahead parser.new < ahead parser.old) }
-    ensures one_value { OnOk result (PassesValue parser.old parser.new) }
-    ensures within { IfErr result (λ e. RefusalWithin parser.new.buffer (refusal_of e)) }
-    ensures free { OnOk result (parser.new.cursor.refusal ≡ None) }
-    ensures tells { IfErr result (λ e. TellsRefusal parser.old parser.new (refusal_of e)) }
-{
-    if borrows {
-        T::read(alloc, parser)
-    } else {
-        T::read_owned(alloc, parser)
-    }
 }

@@ -41,34 +41,34 @@ returns-in_err-end_comes-clause-unread g c =
     let p = err_from_is_err_and c.from_residual-in_err-end_comes.result c.from_residual-in_err-end_comes.ensures.1 in
     rw (p.1, p.2) (list-unseen reading _ _ _ (refusal_of c.in_err-end_comes.field-0.0) c.loop-items.invariant.so_far c.in_err-end_comes.ensures.lacks)
 
-pub returns-in_err-item_in-clause-unread : goal.returns-in_err-item_in-clause-unread
-returns-in_err-item_in-clause-unread g c =
+pub returns-in_err-value_in-clause-unread : goal.returns-in_err-value_in-clause-unread
+returns-in_err-value_in-clause-unread g c =
     let reading = cond c.args.borrows g.T.Facet.reading_borrowed g.T.Facet.reading in
     let goes : c.in_ok-end_comes.field-0 ≡ false = search rules in
     let before = list-goes_on reading _ _ c.end_comes.new.parser _ _ goes c.loop-items.invariant.so_far c.in_ok-end_comes.ensures.finds in
-    let p = err_from_is_err_and c.from_residual-in_err-item_in.result c.from_residual-in_err-item_in.ensures.1 in
-    rw (p.1, p.2) (list-unread reading _ _ _ (refusal_of c.in_err-item_in.field-0.0) before c.in_err-item_in.ensures.unread)
+    let p = err_from_is_err_and c.from_residual-in_err-value_in.result c.from_residual-in_err-value_in.ensures.1 in
+    rw (p.1, p.2) (list-unread reading _ _ _ (refusal_of c.in_err-value_in.field-0.0) before c.in_err-value_in.ensures.unread)
 
 pub loop-items-preserved : goal.loop-items-preserved
 loop-items-preserved g c =
     let i = c.loop-items.invariant in
     let view = g.T.Facet.view in
-    let v = c.in_ok-item_in.field-0 in
+    let v = c.in_ok-value_in.field-0 in
     let reading = cond c.args.borrows g.T.Facet.reading_borrowed g.T.Facet.reading in
     let goes : c.in_ok-end_comes.field-0 ≡ false = search rules in
     let before = list-goes_on reading _ _ c.end_comes.new.parser _ _ goes i.so_far c.in_ok-end_comes.ensures.finds in
-    let more = list-more reading _ _ c.item_in.new.parser _ (view v) before c.in_ok-item_in.ensures.read in
+    let more = list-more reading _ _ c.value_in.new.parser _ (view v) before c.in_ok-value_in.ensures.read in
     let seen : map view c.push.new.self.items ≡ map view c.loop-items.items.items ++ view v ∷ [] =
     ap (map view) c.in_ok-push.ensures.items ∙ map-append view c.loop-items.items.items (v ∷ []) in
     let here = inside-stays array _ _ _ i.inside c.end_comes.ensures.onward.input c.in_ok-end_comes.ensures.looks.there in
     record {
-      so_far = subst (λ (vs : List g.T.Facet.View). ReadSoFar reading c.args.parser.now vs c.item_in.new.parser) (sym seen) more;
+      so_far = subst (λ (vs : List g.T.Facet.View). ReadSoFar reading c.args.parser.now vs c.value_in.new.parser) (sym seen) more;
       owned = λ lent.
           All-same g.T.Facet.owned _ _ c.in_ok-push.ensures.items
-          (All-push g.T.Facet.owned c.loop-items.items.items v (i.owned lent) (c.in_ok-item_in.ensures.owned lent));
-      keeps = keeps-then _ _ _ (keeps-then _ _ _ i.keeps (goes-keeps _ _ c.end_comes.ensures.onward)) c.item_in.ensures.keeps;
-      shorter = omega (arith, i.shorter, c.end_comes.ensures.onward.onward, c.in_ok-item_in.ensures.shorter);
-      inside = inside-value array _ _ _ here c.item_in.ensures.keeps.input c.in_ok-item_in.ensures.one_value;
+          (All-push g.T.Facet.owned c.loop-items.items.items v (i.owned lent) (c.in_ok-value_in.ensures.owned lent));
+      keeps = keeps-then _ _ _ (keeps-then _ _ _ i.keeps (goes-keeps _ _ c.end_comes.ensures.onward)) c.value_in.ensures.keeps;
+      shorter = omega (arith, i.shorter, c.end_comes.ensures.onward.onward, c.in_ok-value_in.ensures.shorter);
+      inside = inside-value array _ _ _ here c.value_in.ensures.keeps.input c.in_ok-value_in.ensures.one_value;
     }
 
 pub returns-in_err-_end-clause-unread : goal.returns-in_err-_end-clause-unread
@@ -117,16 +117,16 @@ returns-in_err-end_comes-clause-tells g c =
     let p = err_from_is_err_and c.from_residual-in_err-end_comes.result c.from_residual-in_err-end_comes.ensures.1 in
     rw (p.1, p.2) (tells-later (keeps-there c.loop-items.invariant.keeps) c.in_err-end_comes.ensures.tells)
 
-pub returns-in_err-item_in-clause-tells : goal.returns-in_err-item_in-clause-tells
-returns-in_err-item_in-clause-tells g c =
-    let p = err_from_is_err_and c.from_residual-in_err-item_in.result c.from_residual-in_err-item_in.ensures.1 in
+pub returns-in_err-value_in-clause-tells : goal.returns-in_err-value_in-clause-tells
+returns-in_err-value_in-clause-tells g c =
+    let p = err_from_is_err_and c.from_residual-in_err-value_in.result c.from_residual-in_err-value_in.ensures.1 in
     let came = comes-then (keeps-there c.loop-items.invariant.keeps) (goes-there c.end_comes.ensures.onward) in
-    rw (p.1, p.2) (tells-later came c.in_err-item_in.ensures.tells)
+    rw (p.1, p.2) (tells-later came c.in_err-value_in.ensures.tells)
 
 pub returns-in_err-push-clause-tells : goal.returns-in_err-push-clause-tells
 returns-in_err-push-clause-tells g c =
     let p = err_from_is_err_and c.from_residual-in_err-push.result c.from_residual-in_err-push.ensures.1 in
-    rw (p.1, p.2) (without_memory c.in_ok-item_in.ensures.free refl)
+    rw (p.1, p.2) (without_memory c.in_ok-value_in.ensures.free refl)
 
 pub returns-in_err-_end-clause-tells : goal.returns-in_err-_end-clause-tells
 returns-in_err-_end-clause-tells g c =
