@@ -3,7 +3,7 @@
 
 ghost use Rattle.std.specs.Prelude.{◌≡◌, ◌+◌, ◌-◌, ◌<◌, ◌≤◌, false, length, drop, Some, slice_get, IfSome, true};
 ghost use Rattle.facet_format.specs.Bytes.{quote};
-ghost use Rattle.facet_json_token.specs.Gap.{Mode as SpecMode, Mode};
+ghost use Rattle.facet_json_token.specs.Gap.{Mode as SpecMode};
 ghost use Rattle.facet_json_token.specs.Token.{string, Kind};
 ghost use Rattle.facet_json_token.specs.Cut.{cut_here, past_gap, token_at, content_len};
 ghost use Rattle.facet_json_token.specs.Views.{mode_of, kind_of};
@@ -51,7 +51,7 @@ pub fn gap_end(buffer: &[u8], position: usize, mode: Mode) -> usize
 #[inline(always)]
 pub(crate) fn past_space(buffer: &[u8], position: usize) -> usize
     requires { position ≤ length buffer.now }
-    ensures same { (mode : Mode) → past_gap buffer.now result mode ≡ past_gap buffer.now position mode }
+    ensures same { (mode : SpecMode) → past_gap buffer.now result mode ≡ past_gap buffer.now position mode }
     ensures within { result ≤ length buffer.now }
 {
     let Some(byte) = buffer.get(position) else {
@@ -80,7 +80,7 @@ fn is_above_space(buffer: &[u8], at: usize) -> bool
 /// The token at `at`, where a look tells it.
 #[inline(always)]
 pub(crate) fn token_in_sight(buffer: &[u8], at: usize) -> Option<SpannedToken>
-    ensures { IfSome result (λ t. (mode : Mode) → told t ≡ Some (spec_cut.cut buffer.now at mode)) }
+    ensures { IfSome result (λ t. (mode : SpecMode) → told t ≡ Some (spec_cut.cut buffer.now at mode)) }
 {
     match buffer.get(at)? {
         b'"' => text_in_sight(buffer, at),
