@@ -2,9 +2,9 @@
 //! object one by one, and a value that is passed unread. Each says what it does wherever the parser stands on a document's walk, and what
 //! it keeps on every input. The types of std and structs are read by them too.
 
-mod lists;
-mod next;
-mod objects;
+pub(crate) mod lists;
+pub(crate) mod next;
+pub(crate) mod objects;
 mod values;
 
 pub use facet_json_core::mismatch;
