@@ -11,4 +11,4 @@ mod quiet;
 mod run;
 
 pub use parser::JsonParser;
-pub use run::pass_run;
+pub use run::{pass_container, pass_run};
