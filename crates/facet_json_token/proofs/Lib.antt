@@ -19,6 +19,7 @@ pub mod Offsets
 pub mod PlainRuns
 pub mod PlainText
 pub mod RfcNumbers
+pub mod RunEnds
 pub mod ShapeIsCut
 pub mod ShapesCut
 mod ShortNumbers

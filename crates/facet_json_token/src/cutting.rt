@@ -17,8 +17,8 @@ ghost use Rattle.facet_format.specs.Views.{span_of};
 
 use crate::mode::Mode;
 use crate::quick::{past_space, token_in_sight};
+use crate::runs::{Plain, run_end};
 use crate::token::{ScanError, ScanErrorKind, ScanResult, SpannedToken, Token};
-use crate::window::string_run_end;
 use facet_format::Span;
 use facet_format::numeral::{NumberHint, parts_at};
 
@@ -226,7 +226,7 @@ fn cut_text(buffer: &[u8], at: usize) -> ScanResult
         ≡ Some (spec_cut.cut_text at bytes (content_len false bytes)) }
 {
     let start = at + 1;
-    let mut end = string_run_end(buffer, start);
+    let mut end = run_end::<Plain>(buffer, start);
     let mut has_escapes = false;
     while let Some(byte) = buffer.get(end) {
         if *byte == b'"' {
@@ -238,7 +238,7 @@ fn cut_text(buffer: &[u8], at: usize) -> ScanResult
             return token_at(token, at, end + 1 - at);
         }
         has_escapes = true;
-        end = string_run_end(buffer, after_escape(buffer, end));
+        end = run_end::<Plain>(buffer, after_escape(buffer, end));
     }
     unexpected_eof(buffer, at, "in string")
 }

@@ -16,7 +16,7 @@ mod unchecked;
 
 use crate::ascii::ascii_text;
 use crate::mode::Trust;
-use crate::runs::unescaped_run_end;
+use crate::runs::{Unescaped, run_end_within};
 use crate::token::{ScanError, ScanErrorKind};
 use crate::unescaped::{plain_text, plain_text_unchecked};
 use escape::escape_at;
@@ -149,7 +149,7 @@ fn run_end(buf: &[u8], at: usize, end: usize) -> usize
     ensures plain { has_backslash (slice_range buf.now at result) ≡ false }
     ensures stops { result < end → slice_index buf.now result ≡ backslash }
 {
-    unescaped_run_end(buf, at, end)
+    run_end_within::<Unescaped>(buf, at, end)
 }
 
 /// The text of bytes among which no backslash stands.

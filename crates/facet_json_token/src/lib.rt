@@ -13,11 +13,9 @@ pub mod quick;
 mod refusal;
 mod rfc_number;
 mod rfc_string;
-mod rfc_window;
 mod runs;
 mod token;
 mod unescaped;
-mod window;
 
 pub use cutting::cut;
 pub use decode::{

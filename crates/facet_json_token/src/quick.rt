@@ -13,8 +13,8 @@ ghost use Rattle.facet_json_token.specs.Inner.InSight.{told};
 
 use crate::cutting::skip_gap;
 use crate::mode::Mode;
+use crate::runs::{Blank, Plain, run_end};
 use crate::token::{SpannedToken, Token};
-use crate::window::{space_end, string_run_end};
 use facet_format::Span;
 use facet_format::numeral::parts_at;
 
@@ -26,7 +26,7 @@ pub fn plain_text_end(buffer: &[u8], at: usize) -> Option<usize>
         → cut_here mode at (drop at buffer.now) ≡ token_at (string (at + 1) end false) at ((end + 1) - at)) }
     ensures within { IfSome result (λ end. (at < end) × (end < length buffer.now)) }
 {
-    let end = string_run_end(buffer, at + 1);
+    let end = run_end::<Plain>(buffer, at + 1);
     match buffer.get(end) {
         Some(b'"') => Some(end),
         _ => None,
@@ -63,7 +63,7 @@ pub(crate) fn past_space(buffer: &[u8], position: usize) -> usize
     if *byte == b' ' && is_above_space(buffer, position + 1) {
         return position + 1;
     }
-    space_end(buffer, position)
+    run_end::<Blank>(buffer, position)
 }
 
 /// Whether a byte above a space stands there, which is never white space.
@@ -117,7 +117,7 @@ fn text_in_sight(buffer: &[u8], at: usize) -> Option<SpannedToken>
         ≡ Some (spec_cut.cut_text at bytes (content_len false bytes))) }
 {
     let start = at + 1;
-    let end = string_run_end(buffer, start);
+    let end = run_end::<Plain>(buffer, start);
     match buffer.get(end) {
         Some(b'"') => {
             let token = Token::String {

@@ -4,7 +4,7 @@ ghost use Rattle.std.specs.Prelude.{◌≡◌, ◌≤◌, ◌<◌, None, true, g
 ghost use Rattle.facet_json_token.specs.Strict.{content_fault, may_stand};
 ghost use Rattle.facet_json_token.specs.StrictViews.{TellsWrong, byte_refused};
 
-use crate::rfc_window::rfc_run_end;
+use crate::runs::{RfcPlain, run_end_within};
 use crate::token::{ScanError, ScanErrorKind};
 use facet_format::Span;
 
@@ -24,7 +24,7 @@ pub fn check_string_strict(buf: &[u8], start: usize, end: usize) -> Result<(), S
 {
     let mut at = start;
     while at < end {
-        at = rfc_run_end(buf, at, end);
+        at = run_end_within::<RfcPlain>(buf, at, end);
         if at == end {
             return Ok(());
         }

@@ -6,9 +6,12 @@ use Rattle.facet_json_token.specs.declared.token.ScanError.{ScanError}
 use Rattle.facet_json_token.specs.Views.{scan_refusal}
 use Rattle.facet_json_token.specs.Fault.{decode_fault_at, no_character, fault_refusal}
 
+abbrev pub is_backslash : ℕ → Bool
+is_backslash b = b == backslash
+
 -- a byte other than a backslash
 abbrev pub is_no_backslash : ℕ → Bool
-is_no_backslash b = not (b == backslash)
+is_no_backslash b = not (is_backslash b)
 
 -- Bytes that start there in the buffer are refused for the first one at which they stop being text.
 pub record StopsBeingText (run : List ℕ) (start : ℕ) (e : ScanError) : Type 0 where

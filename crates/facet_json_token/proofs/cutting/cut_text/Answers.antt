@@ -13,13 +13,13 @@ use Rattle.facet_json_token.proofs.cutting.cut_text.Goals as goal
 pub loop-byte-init : goal.loop-byte-init
 loop-byte-init c =
     let buffer = c.args.buffer.now in
-    let end = c.string_run_end-end.ensures in
+    let end = c.run_end-end.ensures in
     record {
       ahead = end.ahead;
       within = end.within;
-      stops = λ b. stop-after_run buffer (c.args.at + 1) c.string_run_end-end.result b end.value;
-      same = content-after_run buffer (c.args.at + 1) c.string_run_end-end.result end.value;
-      seen = marks-of_run buffer (c.args.at + 1) c.string_run_end-end.result end.value;
+      stops = λ b. stop-after_run buffer (c.args.at + 1) c.run_end-end.result b end.value;
+      same = content-after_run buffer (c.args.at + 1) c.run_end-end.result end.value;
+      seen = marks-of_run buffer (c.args.at + 1) c.run_end-end.result end.value;
     }
 
 pub after_escape-requires : goal.after_escape-requires
@@ -32,16 +32,16 @@ pub loop-byte-preserved : goal.loop-byte-preserved
 loop-byte-preserved c =
     let buffer = c.args.buffer.now in
     let at = c.loop-byte.end in
-    let end = c.string_run_end-end-in-Some.ensures in
+    let end = c.run_end-end-in-Some.ensures in
     let after = c.after_escape.ensures in
     let here = slice_get-from_read buffer at c.in-Some.byte.now c.in-Some.byte.now c.in-Some.ensures.lookup.3 refl in
     let mark = here ∙ ap Some (stop-no_quote c.in-Some.byte.now (c.loop-byte.invariant.stops c.in-Some.byte.now here) c.if-byte-eq34.false) in
     record {
       ahead = omega (arith, c.loop-byte.invariant.ahead, after.range.0, end.ahead);
       within = end.within;
-      stops = λ b. stop-after_run buffer c.after_escape.result c.string_run_end-end-in-Some.result b end.value;
-      same = content-after_run buffer c.after_escape.result c.string_run_end-end-in-Some.result end.value ∙ after.same ∙ c.loop-byte.invariant.same;
-      seen = marks-after_escape buffer (c.args.at + 1) at c.string_run_end-end-in-Some.result c.loop-byte.has_escapes c.loop-byte.invariant.ahead
+      stops = λ b. stop-after_run buffer c.after_escape.result c.run_end-end-in-Some.result b end.value;
+      same = content-after_run buffer c.after_escape.result c.run_end-end-in-Some.result end.value ∙ after.same ∙ c.loop-byte.invariant.same;
+      seen = marks-after_escape buffer (c.args.at + 1) at c.run_end-end-in-Some.result c.loop-byte.has_escapes c.loop-byte.invariant.ahead
           (omega (arith, after.range.0, end.ahead)) mark c.loop-byte.invariant.seen;
     }
 

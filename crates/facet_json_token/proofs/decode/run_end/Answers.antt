@@ -5,10 +5,10 @@ use Rattle.facet_json_token.proofs.decode.run_end.Goals as goal
 
 pub returns-clause-plain : goal.returns-clause-plain
 returns-clause-plain c =
-    let ends = c.unescaped_run_end.ensures in
-    run-plain c.args.buf.now c.args.at c.unescaped_run_end.result ends.ahead ends.run
+    let ends = c.run_end_within.ensures in
+    run-plain c.args.buf.now c.args.at c.run_end_within.result ends.ahead ends.run
 
 pub returns-clause-stops : goal.returns-clause-stops
 returns-clause-stops c =
-    let ends = c.unescaped_run_end.ensures in
-    λ is. run-stops c.args.buf.now c.args.at c.unescaped_run_end.result (ends.stops is) (omega arith)
+    let ends = c.run_end_within.ensures in
+    λ is. run-stops c.args.buf.now c.args.at c.run_end_within.result (ends.stops is) (omega arith)

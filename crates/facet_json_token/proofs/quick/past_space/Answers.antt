@@ -11,4 +11,4 @@ returns-then-is_above_space-clause-same c =
     λ mode. past_gap-space mode c.args.buffer.now c.args.position (here ∙ ap Some c.if-byte-eq32.true)
 
 pub returns-clause-same : goal.returns-clause-same
-returns-clause-same c = λ mode. past_gap-blanks mode c.args.buffer.now c.args.position c.space_end.result c.space_end.ensures.value
+returns-clause-same c = λ mode. past_gap-blanks mode c.args.buffer.now c.args.position c.run_end.result c.run_end.ensures.value

@@ -15,12 +15,12 @@ returns-in-Some-eq34-clause-token c =
     λ mode.
     let buffer = c.args.buffer.now in
     let at = c.args.at in
-    let end = c.string_run_end-end.result in
+    let end = c.run_end-end.result in
     let rest = drop (at + 1) buffer in
     let here = slice_get-from_read buffer end c.in-Some-eq34.field-0.now quote c.in-Some-eq34.ensures.lookup.3 c.in-Some-eq34.field-0-test in
     let found : Some end ≡ option_map (λ n. (at + 1) + n) (content_len false rest) =
-    content-ends buffer end here ∙ content-after_run buffer (at + 1) end c.string_run_end-end.ensures.value in
-    sym (cut_text-ends at end rest false (content_len false rest) found (marks-of_run buffer (at + 1) end c.string_run_end-end.ensures.value)
+    content-ends buffer end here ∙ content-after_run buffer (at + 1) end c.run_end-end.ensures.value in
+    sym (cut_text-ends at end rest false (content_len false rest) found (marks-of_run buffer (at + 1) end c.run_end-end.ensures.value)
     ∙ cut_here-by mode buffer at quote opens_text c.requires refl)
 
 pub returns-in-Some-eq34-clause-within : goal.returns-in-Some-eq34-clause-within

@@ -15,8 +15,8 @@ returns-in-Some-eq34 c =
     let buffer = c.args.buffer.now in
     let at = c.args.at in
     let rest = drop (at + 1) buffer in
-    let end = c.string_run_end-end.result in
-    let run = c.string_run_end-end.ensures.value in
+    let end = c.run_end-end.result in
+    let run = c.run_end-end.ensures.value in
     let here = slice_get-from_read buffer end c.in-Some-eq34.field-0.now quote c.in-Some-eq34.ensures.lookup.3 c.in-Some-eq34.field-0-test in
     let found : Some end ≡ option_map (λ n. (at + 1) + n) (content_len false rest) = content-ends buffer end here ∙ content-after_run buffer (at + 1) end run in
     told-is c.token_of.result _ _

@@ -10,8 +10,8 @@ pub returns-then-at-end : goal.returns-then-at-end
 returns-then-at-end c =
     let buf = c.args.buf.now in
     let fits : c.args.end ≤ length buf = c.requires.within in
-    let run = c.rfc_run_end-at.ensures in
-    let stop = c.rfc_run_end-at.result in
+    let run = c.run_end_within-at.ensures in
+    let stop = c.run_end_within-at.result in
     none-wrong buf c.args.end fits c.args.start
     (c.loop-at.invariant.same fits ∙ from-run buf c.args.end fits c.loop-at.at stop run.ahead run.within run.run ∙ none-left buf c.args.end fits stop (omega arith))
 
@@ -19,8 +19,8 @@ pub returns-then-buf-at-ne92 : goal.returns-then-buf-at-ne92
 returns-then-buf-at-ne92 c =
     let buf = c.args.buf.now in
     let fits : c.args.end ≤ length buf = c.requires.within in
-    let run = c.rfc_run_end-at.ensures in
-    let stop = c.rfc_run_end-at.result in
+    let run = c.run_end_within-at.ensures in
+    let stop = c.run_end_within-at.result in
     let less : stop < c.args.end = omega arith in
     let there = stop-there buf c.loop-at.at stop (omega arith) run.ahead (run.stops less) in
     let low = control-there (get_or buf stop 0) there (ne_eqb _ _ (λ e. absurd (omega arith))) in
@@ -31,8 +31,8 @@ pub returns-then-escaped-end : goal.returns-then-escaped-end
 returns-then-escaped-end c =
     let buf = c.args.buf.now in
     let fits : c.args.end ≤ length buf = c.requires.within in
-    let run = c.rfc_run_end-at.ensures in
-    let stop = c.rfc_run_end-at.result in
+    let run = c.run_end_within-at.ensures in
+    let stop = c.run_end_within-at.result in
     none-wrong buf c.args.end fits c.args.start
     (c.loop-at.invariant.same fits ∙ from-run buf c.args.end fits c.loop-at.at stop run.ahead run.within run.run ∙ from-lone buf c.args.end fits stop (omega arith) (omega arith))
 
@@ -40,8 +40,8 @@ pub returns-then-not-may_be_escaped : goal.returns-then-not-may_be_escaped
 returns-then-not-may_be_escaped c =
     let buf = c.args.buf.now in
     let fits : c.args.end ≤ length buf = c.requires.within in
-    let run = c.rfc_run_end-at.ensures in
-    let stop = c.rfc_run_end-at.result in
+    let run = c.run_end_within-at.ensures in
+    let stop = c.run_end_within-at.result in
     let next : stop + 1 ≡ suc stop = omega arith in
     let less : suc stop < c.args.end = omega arith in
     let bad : may_stand true (get_or buf (suc stop) 0) ≡ false = grind (arith, c.may_be_escaped.ensures) in
@@ -54,8 +54,8 @@ pub loop-at-preserved : goal.loop-at-preserved
 loop-at-preserved c =
     let buf = c.args.buf.now in
     let fits : c.args.end ≤ length buf = c.requires.within in
-    let run = c.rfc_run_end-at.ensures in
-    let stop = c.rfc_run_end-at.result in
+    let run = c.run_end_within-at.ensures in
+    let stop = c.run_end_within-at.result in
     let two : (stop + 1) + 1 ≡ suc (suc stop) = omega arith in
     let good : may_stand true (get_or buf (suc stop) 0) ≡ true = grind (arith, c.may_be_escaped.ensures) in
     let on = c.loop-at.invariant.same fits ∙ from-run buf c.args.end fits c.loop-at.at stop run.ahead run.within run.run

@@ -1,0 +1,43 @@
+-- Where a run ends, of the bytes that do not pass p, seen sixteen bytes at a time.
+use Rattle.std.proofs.Common.{◌≡◌, ℕ, ◌+◌, ◌<◌, ◌≤◌, Bool, not, inl, inr, List, length, map, drop, ap, ◌∙◌, sym, arith}
+use Rattle.std.specs.List.{prefix_len}
+use Rattle.std.proofs.lemmas.Bool.{cases_order}
+use Rattle.std.proofs.lemmas.List.{length-drop}
+use Rattle.std.proofs.lemmas.List.Sums.{prefix_len-le-length}
+use Rattle.facet_format.proofs.Windows.{mask_through, mask_stops, mask_within}
+use lib.Lanes.{chunk, mask_l}
+use lib.Count.{count_trailing_zeros}
+
+-- The run from a place on ends where the one from the start on does.
+abbrev pub SameRun : (p : ℕ → Bool) (bytes : List ℕ) (start place limit : ℕ) → Type 0
+SameRun p bytes start place limit =
+    record {
+      ahead : start ≤ place;
+      within : place ≤ limit;
+      same : start + prefix_len (λ b. not (p b)) (drop start bytes) ≡ place + prefix_len (λ b. not (p b)) (drop place bytes);
+    }
+
+-- a window without a bit is passed
+pub window-passed : (p : ℕ → Bool) (bytes : List ℕ) (at found : ℕ) → at + 16 ≤ length bytes → found ≡ mask_l (map p (chunk at 16 bytes)) → found ≡ 0 →
+    at + prefix_len (λ b. not (p b)) (drop at bytes) ≡ (at + 16) + prefix_len (λ b. not (p b)) (drop (at + 16) bytes)
+window-passed p bytes at found room mask none =
+    let run = mask_through p bytes at 16 room (sym mask ∙ none) in
+    omega (arith, run)
+
+-- in another the run ends at the first bit
+pub window-stops : (p : ℕ → Bool) (bytes : List ℕ) (at found : ℕ) → at + 16 ≤ length bytes → found ≡ mask_l (map p (chunk at 16 bytes)) → 0 < found →
+    (prefix_len (λ b. not (p b)) (drop at bytes) ≡ count_trailing_zeros 64 found) × (count_trailing_zeros 64 found < 16)
+window-stops p bytes at found room mask some =
+    let bits : 0 < mask_l (map p (chunk at 16 bytes)) = omega (arith, mask) in
+    let first = ap (count_trailing_zeros 64) mask in
+    (mask_stops p bytes at 16 room (omega arith) bits ∙ sym first, omega (arith, first, mask_within p bytes at 16 room (omega arith) bits))
+
+-- up to the end of the bytes the run is seen whole
+pub end-of_run : (p : ℕ → Bool) (bytes : List ℕ) (at stop : ℕ) → at ≤ length bytes → stop ≤ length bytes → stop ≤ at + prefix_len (λ b. not (p b)) (drop at bytes) →
+    (stop < length bytes → stop ≡ at + prefix_len (λ b. not (p b)) (drop at bytes)) → stop ≡ at + prefix_len (λ b. not (p b)) (drop at bytes)
+end-of_run p bytes at stop room within run stops =
+    elim (cases_order stop (length bytes)) [
+      | inl e ↦ omega (arith, e, run, prefix_len-le-length (λ b. not (p b)) (drop at bytes), length-drop at bytes)
+      | inr (inl l) ↦ stops l
+      | inr (inr g) ↦ absurd (omega (arith, g, within))
+    ]

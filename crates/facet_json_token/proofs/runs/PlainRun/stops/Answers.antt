@@ -1,0 +1,12 @@
+-- Two comparisons with one byte each, lane by lane.
+use Rattle.std.proofs.Common.{arith}
+use Rattle.std.proofs.lemmas.Simd.{zip2_splat}
+use Rattle.facet_json_token.specs.Inner.Window.{is_stop}
+use Rattle.facet_format.proofs.Lanes.{equal, either, masked}
+use Rattle.facet_json_token.proofs.runs.PlainRun.stops.Goals as goal
+
+pub returns : goal.returns
+returns c =
+    let v = c.args.window in
+    let long = c.fits-window.0 in
+    masked _ is_stop v _ (omega arith) c.fits-window.1 (either _ _ v (zip2_splat equal v 16 _ long) (zip2_splat equal v 16 _ long)) tt
