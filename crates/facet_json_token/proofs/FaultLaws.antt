@@ -212,17 +212,17 @@ lost _ _ (low_first a b c d low bytes is is_low) =
 lost _ _ (escaped_other b bytes high) = lost-escaped b bytes high
 lost _ _ (not_utf8 b bytes ne no_char) = lost-byte b bytes ne no_char
 
--- No fault stands where nothing does.
-fault-some : (l : List ℕ) (f : DecodeFault) → FaultHere l f → 0 < length l
-fault-some _ _ lone_backslash = omega arith
-fault-some _ _ (few_digits digits few) = omega arith
-fault-some _ _ (other_digits a b c d bytes is) = omega arith
-fault-some _ _ (high_alone a b c d high bytes is is_high alone) = omega arith
-fault-some _ _ (second_digits a b c d high e f g h bytes is is_high same) = omega arith
-fault-some _ _ (second_other a b c d high e f g h u bytes is is_high same low) = omega arith
-fault-some _ _ (low_first a b c d low bytes is is_low) = omega arith
-fault-some _ _ (escaped_other b bytes high) = omega arith
-fault-some _ _ (not_utf8 b bytes ne no_char) = omega arith
+-- The bytes of a fault are there, and no fault stands where nothing does.
+here-within : (l : List ℕ) (f : DecodeFault) → FaultHere l f → (f.bytes.offset + f.bytes.len ≤ length l) × (0 < length l)
+here-within _ _ lone_backslash = (omega arith, omega arith)
+here-within _ _ (few_digits digits few) = (omega arith, omega arith)
+here-within _ _ (other_digits a b c d bytes is) = (omega arith, omega arith)
+here-within _ _ (high_alone a b c d high bytes is is_high alone) = (omega arith, omega arith)
+here-within _ _ (second_digits a b c d high e f g h bytes is is_high same) = (omega arith, omega arith)
+here-within _ _ (second_other a b c d high e f g h u bytes is is_high same low) = (omega arith, omega arith)
+here-within _ _ (low_first a b c d low bytes is is_low) = (omega arith, omega arith)
+here-within _ _ (escaped_other b bytes high) = (omega arith, omega arith)
+here-within _ _ (not_utf8 b bytes ne no_char) = (omega arith, omega arith)
 
 -- ---- the first fault
 
@@ -256,7 +256,7 @@ fault_past-piece (b ∷ first) others c passed is =
 -- The fault at the start is the first one.
 fault_past-here : (l : List ℕ) (f : DecodeFault) (passed : ℕ) → FaultHere l f → fault_past passed 0 l ≡ Some (fault_after passed f)
 unfolding fault_past
-fault_past-here [] f passed is = absurd (omega (arith, fault-some [] f is))
+fault_past-here [] f passed is = absurd (omega (arith, (here-within [] f is).1))
 fault_past-here (b ∷ bytes) f passed is =
     let own = lost (b ∷ bytes) f is in
     ap (fault_by passed b bytes) own.none ∙ ap (λ g. Some (fault_after passed g)) own.computed
@@ -359,21 +359,9 @@ fault-no_text content f is = by (decoded content) refl
     by None e = refl
     by (Some text) e = absurd (not_both content text f (decodes-decoded content text e) is)
 
--- The bytes of a fault are there.
-here-within : (l : List ℕ) (f : DecodeFault) → FaultHere l f → f.bytes.offset + f.bytes.len ≤ length l
-here-within _ _ lone_backslash = omega arith
-here-within _ _ (few_digits digits few) = omega arith
-here-within _ _ (other_digits a b c d bytes is) = omega arith
-here-within _ _ (high_alone a b c d high bytes is is_high alone) = omega arith
-here-within _ _ (second_digits a b c d high e f g h bytes is is_high same) = omega arith
-here-within _ _ (second_other a b c d high e f g h u bytes is is_high same low) = omega arith
-here-within _ _ (low_first a b c d low bytes is is_low) = omega arith
-here-within _ _ (escaped_other b bytes high) = omega arith
-here-within _ _ (not_utf8 b bytes ne no_char) = omega arith
-
--- They are some of the content's.
+-- The bytes of a fault are some of the content's.
 pub fault-within : (content : List ℕ) (f : DecodeFault) → FirstFault content f → f.bytes.offset + f.bytes.len ≤ length content
-fault-within _ _ (here content f is) = here-within content f is
+fault-within _ _ (here content f is) = (here-within content f is).0
 fault-within _ _ (after first others content c later f is behind e g) =
     let own = fault-within others later behind in
     let size = ap length e ∙ length-append first others in
@@ -381,7 +369,7 @@ fault-within _ _ (after first others content c later f is behind e g) =
 
 -- A content with a fault has bytes.
 first-some : (content : List ℕ) (f : DecodeFault) → FirstFault content f → 0 < length content
-first-some _ _ (here content f is) = fault-some content f is
+first-some _ _ (here content f is) = (here-within content f is).1
 first-some _ _ (after first others content c later f is behind e g) =
     let own = first-some others later behind in omega (arith, own, ap length e, length-append first others)
 

@@ -1,10 +1,10 @@
 -- How a reader that decodes run by run is refused: with the first fault of the content (specs/Fault.antt).
-use Rattle.std.proofs.Common.{◌≡◌, ℕ, ◌+◌, ◌<◌, ◌≤◌, Bool, true, false, List, [], ◌∷◌, ◌++◌, length, take, drop, get_or, None, refl, sym, ap, subst, ◌∙◌, append_assoc, length-append, arith}
+use Rattle.std.proofs.Common.{◌≡◌, ℕ, ◌+◌, ◌<◌, ◌≤◌, false, List, [], ◌∷◌, ◌++◌, length, take, drop, get_or, None, refl, sym, ap, subst, ◌∙◌, append_assoc, length-append, arith}
 use Rattle.std.specs.Prelude.{◌==◌, IsUtf8, slice_range}
 use Rattle.std.specs.Char.{encode_utf8}
 use Rattle.std.specs.Str.{IsValidUpTo, StartsWithNoChar}
 use Rattle.std.specs.List.{list_any}
-use Rattle.std.proofs.lemmas.Bool.{eqb-true, or_parts}
+use Rattle.std.proofs.lemmas.Bool.{ne_eqb, or_parts}
 use Rattle.std.proofs.lemmas.List.{take-append-drop, take_at, length-take-le, length-drop}
 use Rattle.std.proofs.lemmas.List.Edits.{length-between}
 use Rattle.std.proofs.lemmas.Str.{encode_ascii, length-encode, len_utf8_bounds, IsUtf8-append, IsUtf8-encode}
@@ -39,16 +39,12 @@ fault-after_decoded _ b _ f g (piece first others content c rest text front behi
 
 -- A character whose first byte is no backslash is none.
 other-first : (c b : ℕ) (others : List ℕ) → encode_utf8 c ≡ b ∷ others → (b == backslash) ≡ false → (c == backslash) ≡ false
-other-first c b others e ne = by (c == backslash) refl
-  where
-    by : (t : Bool) → (c == backslash) ≡ t → t ≡ false
-    by false is = refl
-    by true is =
-        let at : c ≡ backslash = eqb-true c backslash is in
-        let own = encode_ascii c (omega arith) in
-        let first : c ≡ b = cc in
-        let equal : b ≡ backslash = cc in
-        grind arith
+other-first c b others e ne =
+    ne_eqb c backslash (λ (at : c ≡ backslash).
+    let own = encode_ascii c (omega arith) in
+    let first : c ≡ b = cc in
+    let equal : b ≡ backslash = cc in
+    grind arith)
 
 -- The first byte of plain bytes is no backslash.
 first-other : (b : ℕ) (run : List ℕ) → IsPlain (b ∷ run) → (b == backslash) ≡ false

@@ -1,5 +1,5 @@
 -- What stands in sight: white space leaves the end of the gap where it is, and a byte that begins no piece of a gap ends it.
-use Rattle.std.proofs.Common.{◌≡◌, ◌≢◌, ℕ, suc, ◌+◌, ◌-◌, ◌<◌, ◌≤◌, Bool, true, false, not, cond, eqb, List, [], ◌∷◌, length, take, drop, slice_get, Option, Some, None, Ok, IfSome, refl, ap, sym, ◌∙◌, arith}
+use Rattle.std.proofs.Common.{◌≡◌, ◌≢◌, ℕ, suc, ◌+◌, ◌-◌, ◌<◌, ◌≤◌, Bool, true, false, not, cond, eqb, List, [], ◌∷◌, length, take, drop, get_or, slice_get, Option, Some, None, Ok, IfSome, refl, ap, sym, ◌∙◌, arith}
 use Rattle.std.proofs.lemmas.List.{drop-drop, take_rest}
 use Rattle.std.proofs.lemmas.Bool.{ne_eqb, eq-eqb, eqb-true, and_parts}
 use Rattle.std.proofs.lemmas.Option.{slice_get_within}
@@ -18,7 +18,7 @@ use Rattle.facet_json_token.specs.declared.token.SpannedToken.{SpannedToken}
 use Rattle.facet_json_token.specs.Views.{kind_of, with_span, token_answer, scanned}
 use Rattle.facet_json_token.specs.Inner.InSight.{told}
 use Rattle.facet_json_token.specs.Inner.Window.{is_blank}
-use Rattle.facet_json_token.proofs.Offsets.{drop-at_byte}
+use Rattle.facet_json_token.proofs.Offsets.{drop-at_byte, slice_get-from_read}
 use Rattle.facet_json_token.proofs.FirstBytes.{cut_here-by, cut_here-word, cut_here-number, start_of-number_range}
 use Rattle.facet_json_token.proofs.NumberCuts.{number_at}
 use Rattle.facet_json_token.proofs.Gaps.{piece_len-blank, gap_len-none, gap_len-piece}
@@ -90,12 +90,12 @@ unfolding cut
 cut-within_gap mode buffer at position e = ap (λ n. cut_here mode n (drop n buffer)) e
 
 -- what begins there is cut
-pub cut-by : (buffer : List ℕ) (at b : ℕ) (start : Start) → slice_get buffer at ≡ Some b → start_of b ≡ start →
+cut-by : (buffer : List ℕ) (at b : ℕ) (start : Start) → slice_get buffer at ≡ Some b → start_of b ≡ start →
     is_space b ≡ false → eqb b slash ≡ false → (mode : Mode) → cut_by start mode at b (drop (at + 1) buffer) ≡ cut buffer at mode
 cut-by buffer at b start h e s n mode = cut_here-by mode buffer at b start h e ∙ cut-here mode buffer at b h s n
 
 -- a literal
-pub cut-word : (buffer : List ℕ) (at b : ℕ) (word : List ℕ) (kind : Kind) → slice_get buffer at ≡ Some b →
+cut-word : (buffer : List ℕ) (at b : ℕ) (word : List ℕ) (kind : Kind) → slice_get buffer at ≡ Some b →
     start_of b ≡ letter word kind → is_space b ≡ false → eqb b slash ≡ false → (mode : Mode) →
     cut_word at (drop at buffer) word kind (common_len word (drop at buffer)) ≡ cut buffer at mode
 cut-word buffer at b word kind h e s n mode = cut_here-word mode buffer at b word kind h e ∙ cut-here mode buffer at b h s n
@@ -138,6 +138,24 @@ pub told-cut : (found : Option SpannedToken) (x : Cut) (buffer : List ℕ) (at :
     ((mode : Mode) → x ≡ cut buffer at mode) → IfSome found (λ t. (mode : Mode) → told t ≡ Some (cut buffer at mode))
 told-cut None x buffer at h e = tt
 told-cut (Some t) x buffer at h e = λ mode. h ∙ ap Some (e mode)
+
+-- a byte tells what it begins
+pub told-by : (found : Option SpannedToken) (buffer : List ℕ) (at b byte : ℕ) (start : Start) (x : Cut) →
+    (at < length buffer) × ((d : ℕ) → b ≡ get_or buffer at d) → b ≡ byte → start_of byte ≡ start → is_space byte ≡ false →
+    eqb byte slash ≡ false → ((mode : Mode) → x ≡ cut_by start mode at byte (drop (at + 1) buffer)) →
+    IfSome found (λ t. told t ≡ Some x) → IfSome found (λ t. (mode : Mode) → told t ≡ Some (cut buffer at mode))
+told-by found buffer at b byte start x read is starts no_space no_slash same h =
+    let here = slice_get-from_read buffer at b byte read is in
+    told-cut found x buffer at h (λ mode. same mode ∙ cut-by buffer at byte start here starts no_space no_slash mode)
+
+-- a letter tells the literal
+pub told-word : (found : Option SpannedToken) (buffer : List ℕ) (at b byte : ℕ) (word : List ℕ) (kind : Kind) →
+    (at < length buffer) × ((d : ℕ) → b ≡ get_or buffer at d) → b ≡ byte → start_of byte ≡ letter word kind → is_space byte ≡ false →
+    eqb byte slash ≡ false → IfSome found (λ t. told t ≡ Some (cut_word at (drop at buffer) word kind (common_len word (drop at buffer)))) →
+    IfSome found (λ t. (mode : Mode) → told t ≡ Some (cut buffer at mode))
+told-word found buffer at b byte word kind read is starts no_space no_slash h =
+    let here = slice_get-from_read buffer at b byte read is in
+    told-cut found _ buffer at h (cut-word buffer at byte word kind here starts no_space no_slash)
 
 answer-told : (s : RustSpan) (t : RustToken) (c : Cut) → with_span (span_of s) (kind_of t) ≡ Some c → token_answer s t ≡ Some c
 answer-told s code.Eof c e = cc

@@ -1,12 +1,12 @@
 -- Runs of bytes without a backslash: where such a run is UTF-8 it stands for itself, before a backslash or at the
 -- end, and elsewhere for nothing.
-use Rattle.std.proofs.Common.{◌≡◌, ℕ, ◌<◌, true, false, List, [], ◌∷◌, ◌++◌, length, get_or, Option, Some, None, option_map, refl, sym, ap, ◌∙◌, append_assoc, append-nil, arith, Bool}
+use Rattle.std.proofs.Common.{◌≡◌, ℕ, ◌<◌, true, false, List, [], ◌∷◌, ◌++◌, length, get_or, Option, Some, None, option_map, refl, sym, ap, ◌∙◌, append_assoc, append-nil, arith}
 use Rattle.std.specs.Prelude.{◌==◌, IsUtf8}
 use Rattle.std.specs.List.{list_any}
 use Rattle.std.specs.Char.{encode_utf8}
 use Rattle.std.specs.Str.{all_scalars, encode_utf8_all}
 use Rattle.std.proofs.Math.Utf8.{scalar}
-use Rattle.std.proofs.lemmas.Bool.{and_parts, or_parts, eqb-true}
+use Rattle.std.proofs.lemmas.Bool.{ne_eqb, and_parts, or_parts}
 use Rattle.std.proofs.lemmas.List.Folds.{list_any-append}
 use Rattle.std.proofs.lemmas.Str.{IsUtf8-nil, IsUtf8-append, IsUtf8-encode, encode_ascii}
 use Rattle.facet_format.specs.Bytes.{backslash}
@@ -27,15 +27,11 @@ plain-parts a b plain =
 
 -- No character of plain bytes is a backslash.
 plain-other : (c : ℕ) → IsPlain (encode_utf8 c) → (c == backslash) ≡ false
-plain-other c plain = by (c == backslash) refl
-  where
-    by : (t : Bool) → (c == backslash) ≡ t → t ≡ false
-    by false is = refl
-    by true is =
-        let at : c ≡ backslash = eqb-true c backslash is in
-        let own = encode_ascii backslash (omega arith) in
-        let same : list_any (λ b. b == backslash) (encode_utf8 c) ≡ true = rw (at, own) refl in
-        cc
+plain-other c plain =
+    ne_eqb c backslash (λ (at : c ≡ backslash).
+    let own = encode_ascii backslash (omega arith) in
+    let same : list_any (λ b. b == backslash) (encode_utf8 c) ≡ true = rw (at, own) refl in
+    cc)
 
 -- a text with this in front, where there is one
 abbrev pub prefixed : List ℕ → Option (List ℕ) → Option (List ℕ)

@@ -18,11 +18,15 @@ SameRun p bytes start place limit =
     }
 
 -- a window without a bit is passed
-pub window-passed : (p : ℕ → Bool) (bytes : List ℕ) (at found : ℕ) → at + 16 ≤ length bytes → found ≡ mask_l (map p (chunk at 16 bytes)) → found ≡ 0 →
-    at + prefix_len (λ b. not (p b)) (drop at bytes) ≡ (at + 16) + prefix_len (λ b. not (p b)) (drop (at + 16) bytes)
-window-passed p bytes at found room mask none =
+pub window-passed : (p : ℕ → Bool) (bytes : List ℕ) (start at found : ℕ) → SameRun p bytes start at (length bytes) → at + 16 ≤ length bytes →
+    found ≡ mask_l (map p (chunk at 16 bytes)) → found ≡ 0 → SameRun p bytes start (at + 16) (length bytes)
+window-passed p bytes start at found way room mask none =
     let run = mask_through p bytes at 16 room (sym mask ∙ none) in
-    omega (arith, run)
+    record {
+      ahead = omega (arith, way.ahead);
+      within = room;
+      same = omega (arith, run, way.same);
+    }
 
 -- in another the run ends at the first bit
 pub window-stops : (p : ℕ → Bool) (bytes : List ℕ) (at found : ℕ) → at + 16 ≤ length bytes → found ≡ mask_l (map p (chunk at 16 bytes)) → 0 < found →

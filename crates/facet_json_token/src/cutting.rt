@@ -91,6 +91,7 @@ pub fn skip_gap(buffer: &[u8], position: usize, mode: Mode) -> usize
 }
 
 /// The length of the white space character or closed comment at `at`, 0 where there is none.
+#[tactic(auto, using(std::proofs::lemmas::Grind::common_steps))]
 fn piece_len(buffer: &[u8], at: usize, mode: Mode) -> usize
     requires { at ≤ length buffer.now }
     ensures len { result ≡ spec_gap.piece_len (mode_of mode) whole (drop at buffer.now) }
@@ -107,6 +108,7 @@ fn piece_len(buffer: &[u8], at: usize, mode: Mode) -> usize
 }
 
 /// The length of the closed comment at `at`, 0 where there is none. The end of the input closes a line comment too.
+#[tactic(auto, using(std::proofs::lemmas::Grind::common_steps))]
 fn comment_len(buffer: &[u8], at: usize) -> usize
     requires { slice_get buffer.now at ≡ Some slash }
     ensures len { result ≡ spec_gap.comment_len whole (drop at buffer.now) }

@@ -79,8 +79,8 @@ pub fn parse_measured<'a>(
     }
 }
 
-/// The refusal of a slice without a value.
-fn refusal(start: usize, end: usize) -> ScanError
+/// The refusal of a slice that is no number, or has no value.
+pub(crate) fn refusal(start: usize, end: usize) -> ScanError
     requires { start ≤ end }
     ensures { result ≡ number_refusal start end }
 {

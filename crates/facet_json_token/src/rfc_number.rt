@@ -6,8 +6,8 @@ ghost use Rattle.facet_json_token.specs.RfcNumber.{IsRfcNumber};
 ghost use Rattle.facet_json_token.specs.RfcNumberTest.{is_rfc_number as spec_is_rfc_number, are_rfc_parts, is_whole_of, is_exponent_of};
 ghost use Rattle.facet_json_token.specs.StrictViews.{number_refused};
 
-use crate::token::{ScanError, ScanErrorKind};
-use facet_format::Span;
+use crate::number::refusal;
+use crate::token::ScanError;
 use facet_format::numeral::{Parts, parts_at};
 
 /// Whether `buf[start..end]` is a number of RFC 8259 (section 6): perhaps a minus, 0 or digits of which the first is another, and
@@ -28,17 +28,6 @@ pub fn check_number_strict(buf: &[u8], start: usize, end: usize) -> Result<(), S
         Ok(())
     } else {
         Err(refusal(start, end))
-    }
-}
-
-/// The refusal of a slice that is no number of RFC 8259.
-fn refusal(start: usize, end: usize) -> ScanError
-    requires { start ≤ end }
-    ensures { result ≡ number_refused start end }
-{
-    ScanError {
-        kind: ScanErrorKind::UnexpectedChar('?'),
-        span: Span::new(start, end - start),
     }
 }
 

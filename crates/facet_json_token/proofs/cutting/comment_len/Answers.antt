@@ -1,4 +1,3 @@
-use Rattle.std.proofs.lemmas.Grind.{common_steps}
 -- The length of each kind of comment, from the offset where it ends.
 use Rattle.std.proofs.Common.{◌+◌, arith, rules}
 use Rattle.std.proofs.lemmas.Option.{slice_get_within}
@@ -38,11 +37,5 @@ returns-in-None-line_end-clause-len c =
 pub returns-in_default-2-clause-within : goal.returns-in_default-2-clause-within
 returns-in_default-2-clause-within c = omega (arith, slice_get_within c.args.buffer.now c.args.at slash c.requires)
 
-pub returns-in_default-clause-len : goal.returns-in_default-clause-len
-returns-in_default-clause-len c = grind (arith, common_steps)
-
 pub returns-in_default-clause-within : goal.returns-in_default-clause-within
 returns-in_default-clause-within c = search rules
-
-pub returns-in_default-2-clause-len : goal.returns-in_default-2-clause-len
-returns-in_default-2-clause-len c = grind (arith, common_steps)

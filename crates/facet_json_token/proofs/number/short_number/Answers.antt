@@ -1,4 +1,4 @@
-use Rattle.std.proofs.Common.{refl, arith, take_all, sym, subst, ◌∙◌, rules}
+use Rattle.std.proofs.Common.{refl, arith, take_all, sym, subst, ◌∙◌}
 use Rattle.std.proofs.lemmas.Grind.{common_steps}
 use Rattle.facet_format.specs.Number.{none, AreDigits}
 use Rattle.facet_json_token.proofs.ShortNumbers.{digits-more, digits-number, some-bytes}
@@ -16,15 +16,3 @@ loop-byte-preserved c = record {
 
 pub returns : goal.returns
 returns c = (digits-number c.args.text.now (subst AreDigits (take_all c.loop-byte.byte-index c.args.text.now c.loop-byte-test.false) c.loop-byte.invariant.digits) (some-bytes c.args.text.now c.if-is_empty.ensures), grind (arith, common_steps), c.loop-byte.invariant.fits)
-
-pub returns-then-is_empty : goal.returns-then-is_empty
-returns-then-is_empty c = search rules
-
-pub returns-then-not-is_ascii_digit : goal.returns-then-not-is_ascii_digit
-returns-then-not-is_ascii_digit c = search rules
-
-pub returns-in_err-shifted : goal.returns-in_err-shifted
-returns-in_err-shifted c = search rules
-
-pub returns-in_err-value : goal.returns-in_err-value
-returns-in_err-value c = search rules

@@ -1,5 +1,5 @@
 -- White space leaves the end of the gap where it is, and a byte above a space ends it.
-use Rattle.std.proofs.Common.{◌∙◌, refl, rules}
+use Rattle.std.proofs.Common.{◌∙◌, refl}
 use Rattle.std.proofs.lemmas.Bool.{ne_eqb}
 use Rattle.facet_format.specs.Bytes.{slash}
 use Rattle.facet_json_token.specs.Views.{mode_of}
@@ -15,12 +15,3 @@ returns-in-Some-clause-end c =
     let here = slice_get-from_read buffer at b b c.in-Some.ensures.lookup.3 refl in
     past_gap-here (mode_of c.args.mode) buffer at b here (above_space b c.if-byte-gt32.true) (ne_eqb b slash c.if-byte-ne47.true)
     ∙ c.past_space-at.ensures.same (mode_of c.args.mode)
-
-pub returns-in-Some-clause-within : goal.returns-in-Some-clause-within
-returns-in-Some-clause-within c = search rules
-
-pub returns-in_default-clause-end : goal.returns-in_default-clause-end
-returns-in_default-clause-end c = search rules
-
-pub returns-in_default-clause-within : goal.returns-in_default-clause-within
-returns-in_default-clause-within c = search rules

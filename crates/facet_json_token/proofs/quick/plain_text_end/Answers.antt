@@ -1,5 +1,5 @@
 -- The run of plain bytes ends at the quote that closes the string.
-use Rattle.std.proofs.Common.{◌≡◌, ◌+◌, false, drop, Some, sym, ◌∙◌, refl, rules}
+use Rattle.std.proofs.Common.{◌≡◌, ◌+◌, false, drop, Some, sym, ◌∙◌, refl}
 use Rattle.std.specs.Option.{option_map}
 use Rattle.facet_format.specs.Bytes.{quote}
 use Rattle.facet_json_token.specs.Cut.{content_len, opens_text, start_of}
@@ -22,18 +22,3 @@ returns-in-Some-eq34-clause-token c =
     content-ends buffer end here ∙ content-after_run buffer (at + 1) end c.run_end-end.ensures.value in
     sym (cut_text-ends at end rest false (content_len false rest) found (marks-of_run buffer (at + 1) end c.run_end-end.ensures.value)
     ∙ cut_here-by mode buffer at quote opens_text c.requires refl)
-
-pub returns-in-Some-eq34-clause-within : goal.returns-in-Some-eq34-clause-within
-returns-in-Some-eq34-clause-within c = search rules
-
-pub returns-in_default-clause-token : goal.returns-in_default-clause-token
-returns-in_default-clause-token c = search rules
-
-pub returns-in_default-clause-within : goal.returns-in_default-clause-within
-returns-in_default-clause-within c = search rules
-
-pub returns-in_default-2-clause-token : goal.returns-in_default-2-clause-token
-returns-in_default-2-clause-token c = search rules
-
-pub returns-in_default-2-clause-within : goal.returns-in_default-2-clause-within
-returns-in_default-2-clause-within c = search rules

@@ -1,5 +1,5 @@
 -- The run of plain bytes ends at the quote that closes the string.
-use Rattle.std.proofs.Common.{◌≡◌, ◌+◌, false, drop, Some, ◌∙◌, refl, rules}
+use Rattle.std.proofs.Common.{◌≡◌, ◌+◌, false, drop, Some, ◌∙◌, refl}
 use Rattle.std.specs.Option.{option_map}
 use Rattle.facet_format.specs.Bytes.{quote}
 use Rattle.facet_json_token.specs.Token.{string}
@@ -22,9 +22,3 @@ returns-in-Some-eq34 c =
     told-is c.token_of.result _ _
     (c.token_of.ensures (string (at + 1) end false) refl)
     (cut_text-ends at end rest false (content_len false rest) found (marks-of_run buffer (at + 1) end run))
-
-pub returns-in_default : goal.returns-in_default
-returns-in_default c = search rules
-
-pub returns-in_default-2 : goal.returns-in_default-2
-returns-in_default-2 c = search rules

@@ -5,12 +5,8 @@ use Rattle.facet_json_token.proofs.runs.run_end.Goals as goal
 
 pub loop-at-preserved : goal.loop-at-preserved
 loop-at-preserved g c =
-    let run = window-passed g.R.Run.is_end c.args.buffer.now c.loop-at.at c.stops-found.result (omega arith) c.stops-found.ensures (omega arith) in
-    record {
-      ahead = omega (arith, c.loop-at.invariant.ahead);
-      within = omega arith;
-      same = omega (arith, run, c.loop-at.invariant.same);
-    }
+    window-passed g.R.Run.is_end c.args.buffer.now c.args.from c.loop-at.at c.stops-found.result c.loop-at.invariant
+    (omega arith) c.stops-found.ensures (omega arith)
 
 pub returns-then-found-ne0-clause-value : goal.returns-then-found-ne0-clause-value
 returns-then-found-ne0-clause-value g c =

@@ -5,12 +5,8 @@ use Rattle.facet_json_token.proofs.runs.run_end_within.Goals as goal
 
 pub loop-stop-preserved : goal.loop-stop-preserved
 loop-stop-preserved g c =
-    let run = window-passed g.R.Run.is_end c.args.buffer.now c.loop-stop.stop c.stops-found.result (omega arith) c.stops-found.ensures (omega arith) in
-    record {
-      ahead = omega (arith, c.loop-stop.invariant.ahead);
-      within = omega arith;
-      same = omega (arith, run, c.loop-stop.invariant.same);
-    }
+    window-passed g.R.Run.is_end c.args.buffer.now c.args.at c.loop-stop.stop c.stops-found.result c.loop-stop.invariant
+    (omega arith) c.stops-found.ensures (omega arith)
 
 pub returns-then-found-ne0-clause-run : goal.returns-then-found-ne0-clause-run
 returns-then-found-ne0-clause-run g c =

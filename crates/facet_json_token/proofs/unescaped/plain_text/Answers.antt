@@ -1,5 +1,5 @@
 -- A plain content that is UTF-8 stands for itself.
-use Rattle.std.proofs.Common.{◌≡◌, List, ℕ, Some, Result, Ok, Err, Bor, sym, ap, ◌∙◌, rules}
+use Rattle.std.proofs.Common.{◌≡◌, List, ℕ, Some, Result, Ok, Err, Bor, sym, ap, ◌∙◌}
 use Rattle.std.specs.Prelude.{slice_range, IsUtf8, IfSome, MatchResult}
 use Rattle.std.specs.Result.{result_ok}
 use Rattle.facet_json_token.specs.Decoded.{decoded}
@@ -21,9 +21,3 @@ pub returns-in-None-clause-text : goal.returns-in-None-clause-text
 returns-in-None-clause-text c =
     let a = c.args in
     rw c.ok.ensures.value (own-text (slice_range a.buf.now a.start a.end) c.from_utf8.result _ c.requires.plain c.from_utf8.ensures.cases)
-
-pub returns-in-Some-clause-borrowed : goal.returns-in-Some-clause-borrowed
-returns-in-Some-clause-borrowed c = search rules
-
-pub returns-in-None-clause-borrowed : goal.returns-in-None-clause-borrowed
-returns-in-None-clause-borrowed c = search rules
