@@ -1,5 +1,5 @@
 -- A string that ends is cut whole, and nothing longer begins.
-use Rattle.std.proofs.Common.{◌+◌, ◌-◌, false, [], refl, sym, subst, arith, rules}
+use Rattle.std.proofs.Common.{◌+◌, ◌-◌, false, [], refl, sym, subst, arith}
 use Rattle.facet_format.specs.Bytes.{quote}
 use Rattle.facet_format.specs.Span.{span_at}
 use Rattle.facet_json_token.specs.Token.{string}
@@ -44,9 +44,3 @@ returns-clause-refusal c = λ mode.
     let end = c.in-Some.end in
     token-no_refusal c.token_at.result (record { kind = string (at + 1) end false; span = span_at at ((end + 1) - at) }) _
     (c.token_at.ensures (string (at + 1) end false) refl)
-
-pub returns-in_default-clause-within : goal.returns-in_default-clause-within
-returns-in_default-clause-within c = search rules
-
-pub returns-in_default-clause-refusal : goal.returns-in_default-clause-refusal
-returns-in_default-clause-refusal c = search rules
