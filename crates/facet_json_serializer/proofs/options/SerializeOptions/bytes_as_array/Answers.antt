@@ -1,5 +1,0 @@
-use Rattle.std.proofs.Common.{rules}
-use Rattle.facet_json_serializer.proofs.options.SerializeOptions.bytes_as_array.Goals as goal
-
-pub returns : goal.returns
-returns c = search rules
