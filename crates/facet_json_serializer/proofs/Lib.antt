@@ -1,4 +1,3 @@
-pub mod Appended
 pub mod ByteTexts
 pub mod CallsTaken
 pub mod DecimalLengths

@@ -3,23 +3,23 @@ use Rattle.std.proofs.Common.{◌≡◌, ℕ, Bool, true, false, true≢false, c
 use Rattle.facet_format.specs.SerializerCall.{SerializerCall, byte_sequence, byte_array, IsServed, IsServedOrLeft}
 use Rattle.facet_json_serializer.specs.declared.error.JsonSerializeError.{JsonSerializeError}
 use Rattle.facet_json_serializer.specs.Views.{write_refusal_of, call_answer_of, bytes_answer_of}
-use Rattle.facet_json_serializer.specs.Serializer.{Writing, WriteRefusal, out_of_memory, Appends, appends, refuses, runs_out, stays_out, Takes, IsSpent}
-use Rattle.facet_json_serializer.specs.Inner.Writes.{Writes, settled}
-use Rattle.facet_json_serializer.specs.Inner.Writes as held
+use Rattle.facet_json_serializer.specs.Serializer.{Writing, Addition, Misfit, WriteRefusal, misfits, out_of_memory, addition, Appends, appends, refuses, runs_out, stays_out, Takes, IsSpent}
+use Rattle.facet_json_serializer.specs.Inner.Writes.{Adds, Writes, settled}
 
 -- what a call appends to the text that is held, it appends
-settles : (w n : Writing) (call : SerializerCall) (answer : Result (Unit {0}) WriteRefusal) → Writes w call answer n
-    → Appends (Some w) call answer (settled (Some n) answer)
-settles w n call answer (held.writes _ _ a can) = appends w call a can
-settles w n call answer (held.refuses _ _ why cannot) = refuses w call why cannot
-settles w n call answer (held.runs_out _ _ a left can) = runs_out w call a can
+settles : (w n : Writing) (call : SerializerCall) (added : Result Addition Misfit) (answer : Result (Unit {0}) WriteRefusal)
+    → addition w.options w.stack call ≡ added → Adds w added answer n → Appends (Some w) call answer (settled (Some n) answer)
+settles w n call (Ok a) (Ok done) can h = rw h (appends w call a can)
+settles w n call (Ok a) (Err (misfits why)) can h = absurd (cc)
+settles w n call (Ok a) (Err out_of_memory) can h = runs_out w call a can
+settles w n call (Err misfit) answer cannot h = rw (h.0, h.1) (refuses w call misfit cannot)
 
 -- the same by the fields of a serializer that has not failed
 pub settles-unfailed : (failed : Bool) (w n : Writing) (old new : Option Writing) (call : SerializerCall) (answer : Result (Unit {0}) WriteRefusal)
     → failed ≡ false → cond failed None (Some w) ≡ old → Writes w call answer n → new ≡ settled (cond failed None (Some n)) answer
     → Appends old call answer new
 settles-unfailed failed w n old new call answer well was h is =
-    rw (is, sym was, well) (settles w n call answer h)
+    rw (is, sym was, well) (settles w n call _ answer refl h)
 
 -- once an allocation failed, each call is
 pub stays_failed : (failed : Bool) (w : Writing) (old : Option Writing) (call : SerializerCall) → failed ≡ true → cond failed None (Some w) ≡ old

@@ -19,6 +19,22 @@ length-after_value (in_list first ∷ around) = refl
 at : Options → List Opened → List ℕ → Writing
 at o stack written = record { options = o; stack = stack; written = written }
 
+-- a container's calls, where those between its brackets are known
+container_then : (o : Options) (stack : List Opened) (written : List ℕ) (container : Opened) (bracket : List ℕ) (end : SerializerCall)
+    (calls rest : List SerializerCall) (inside : ℕ → List ℕ)
+    → let begun = written ++ (before_value o stack ++ bracket) in
+    after_calls (at o (container ∷ after_written stack) begun) (calls ++ end ∷ rest)
+    ≡ after_calls (at o (after_written stack) (begun ++ inside (length (after_written stack)))) rest
+    → after_calls (at o (container ∷ after_written stack) begun) ((calls ++ end ∷ []) ++ rest)
+    ≡ after_calls (at o (after_written stack) (written ++ (before_value o stack ++ (bracket ++ inside (length stack))))) rest
+container_then o stack written container bracket end calls rest inside h =
+    let before = before_value o stack in
+    ap (λ cs. after_calls (at o (container ∷ after_written stack) (written ++ (before ++ bracket))) cs) (append_assoc calls (end ∷ []) rest)
+    ∙ h
+    ∙ ap (λ n. after_calls (at o (after_written stack) ((written ++ (before ++ bracket)) ++ inside n)) rest) (length-after_value stack)
+    ∙ ap (λ s. after_calls (at o (after_written stack) s) rest)
+    (append_assoc written (before ++ bracket) (inside (length stack)) ∙ ap (λ s. written ++ s) (append_assoc before bracket (inside (length stack))))
+
 mutual
   unfolding at after_calls tree_calls item_calls member_calls text items_text members_text
 
@@ -38,23 +54,11 @@ mutual
   tree_then o stack written (bytes b) rest = refl
   tree_then o stack written (raw t) rest = refl
   tree_then o stack written (list items) rest =
-      let before = before_value o stack in
-      let begun = written ++ (before ++ left_bracket ∷ []) in
-      ap (λ calls. after_calls (at o (in_list true ∷ after_written stack) begun) calls) (append_assoc (item_calls items) (end_seq ∷ []) rest)
-      ∙ items_then o (after_written stack) true begun items rest
-      ∙ ap (λ n. after_calls (at o (after_written stack) (begun ++ items_text o n true items)) rest) (length-after_value stack)
-      ∙ ap (λ s. after_calls (at o (after_written stack) s) rest)
-      (append_assoc written (before ++ left_bracket ∷ []) (items_text o (length stack) true items)
-      ∙ ap (λ s. written ++ s) (append_assoc before (left_bracket ∷ []) (items_text o (length stack) true items)))
+      container_then o stack written (in_list true) (left_bracket ∷ []) end_seq (item_calls items) rest (λ n. items_text o n true items)
+      (items_then o (after_written stack) true (written ++ (before_value o stack ++ left_bracket ∷ [])) items rest)
   tree_then o stack written (pairs members) rest =
-      let before = before_value o stack in
-      let begun = written ++ (before ++ left_brace ∷ []) in
-      ap (λ calls. after_calls (at o (in_struct true ∷ after_written stack) begun) calls) (append_assoc (member_calls members) (end_struct ∷ []) rest)
-      ∙ members_then o (after_written stack) true begun members rest
-      ∙ ap (λ n. after_calls (at o (after_written stack) (begun ++ members_text o n true members)) rest) (length-after_value stack)
-      ∙ ap (λ s. after_calls (at o (after_written stack) s) rest)
-      (append_assoc written (before ++ left_brace ∷ []) (members_text o (length stack) true members)
-      ∙ ap (λ s. written ++ s) (append_assoc before (left_brace ∷ []) (members_text o (length stack) true members)))
+      container_then o stack written (in_struct true) (left_brace ∷ []) end_struct (member_calls members) rest (λ n. members_text o n true members)
+      (members_then o (after_written stack) true (written ++ (before_value o stack ++ left_brace ∷ [])) members rest)
 
   items_then : (o : Options) (around : List Opened) (first : Bool) (written : List ℕ) (items : Trees) (rest : List SerializerCall)
       → after_calls (at o (in_list first ∷ around) written) (item_calls items ++ end_seq ∷ rest)

@@ -92,11 +92,15 @@ list_ended o [] = Err no_list_to_end
 list_ended o (in_struct first ∷ around) = Err no_list_to_end
 list_ended o (in_list first ∷ around) = Ok (record { added = line_at_end o (length around) first ++ right_bracket ∷ []; stack = around })
 
+-- a container that is begun, by its bracket
+abbrev pub container_added : Options → List Opened → Opened → List ℕ → Result Addition Misfit
+container_added o stack container bracket = Ok (record { added = before_value o stack ++ bracket; stack = container ∷ after_written stack })
+
 abbrev pub addition : Options → List Opened → SerializerCall → Result Addition Misfit
-addition o stack begin_struct = Ok (record { added = before_value o stack ++ left_brace ∷ []; stack = in_struct true ∷ after_written stack })
+addition o stack begin_struct = container_added o stack (in_struct true) (left_brace ∷ [])
 addition o stack (field_key name) = key_added o name stack
 addition o stack end_struct = struct_ended o stack
-addition o stack begin_seq = Ok (record { added = before_value o stack ++ left_bracket ∷ []; stack = in_list true ∷ after_written stack })
+addition o stack begin_seq = container_added o stack (in_list true) (left_bracket ∷ [])
 addition o stack end_seq = list_ended o stack
 addition o stack (scalar value) = value_added o stack (scalar_text o value)
 addition o stack (raw_scalar json) = value_added o stack json

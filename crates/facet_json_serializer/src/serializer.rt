@@ -6,12 +6,12 @@ ghost use Rattle.facet_json_document.specs.Text.{default_options};
 ghost use Rattle.facet_format.specs.SerializerCall.{begin_struct, field_key, end_struct, begin_seq, end_seq, scalar, raw_scalar, byte_sequence, byte_array, IsServed, IsServedOrLeft};
 ghost use Rattle.facet_json_serializer.specs.Serializer.{Writing as SpecWriting, out_of_memory, Appends, Takes, IsSpent};
 ghost use Rattle.facet_json_serializer.specs.OptionsViews.{options_of};
-ghost use Rattle.facet_json_serializer.specs.Views.{call_answer_of, bytes_answer_of, write_refusal_of};
+ghost use Rattle.facet_json_serializer.specs.Views.{call_of, call_answer_of, bytes_answer_of, write_refusal_of};
 ghost use Rattle.facet_json_serializer.specs.Inner.Writes.{settled};
 
 use crate::error::JsonSerializeError;
 use crate::options::SerializeOptions;
-use crate::writing::Writing;
+use crate::writing::{Call, Writing};
 use facet_format::{FormatSerializer, ScalarValue};
 use std::alloc::Global;
 use std::marker::Model;
@@ -87,14 +87,16 @@ impl<'i> JsonSerializer<'i> {
         Ok(self.writing.out)
     }
 
-    /// Writes bytes in the format of the options.
-    fn bytes(&mut self, bytes: &[u8]) -> Result<(), JsonSerializeError>
-        ensures { Appends self.old (byte_sequence bytes.now) (call_answer_of result) self.new }
+    /// Makes a call, unless an allocation failed before.
+    #[inline(always)]
+    fn make(&mut self, call: Call<'_>) -> Result<(), JsonSerializeError>
+        ensures serves { IsServed Takes IsSpent self.old (call_of call.entry) result self.new }
+        ensures appends { Appends self.old (call_of call.entry) (call_answer_of result) self.new }
     {
         if self.failed {
             return Err(JsonSerializeError::OutOfMemory);
         }
-        let answer = self.writing.bytes(bytes);
+        let answer = self.writing.make(call);
         self.settle(answer)
     }
 
@@ -127,11 +129,7 @@ impl<'i> FormatSerializer for JsonSerializer<'i> {
         ensures serves { IsServed Takes IsSpent self.old begin_struct result self.new }
         ensures appends { Appends self.old begin_struct (call_answer_of result) self.new }
     {
-        if self.failed {
-            return Err(JsonSerializeError::OutOfMemory);
-        }
-        let answer = self.writing.begin_struct();
-        self.settle(answer)
+        self.make(Call::BeginStruct)
     }
 
     /// Writes a key of the innermost open struct.
@@ -143,11 +141,7 @@ impl<'i> FormatSerializer for JsonSerializer<'i> {
         ensures serves { IsServed Takes IsSpent self.old (field_key key.now) result self.new }
         ensures appends { Appends self.old (field_key key.now) (call_answer_of result) self.new }
     {
-        if self.failed {
-            return Err(JsonSerializeError::OutOfMemory);
-        }
-        let answer = self.writing.field_key(key);
-        self.settle(answer)
+        self.make(Call::FieldKey(key))
     }
 
     /// Ends the innermost open struct.
@@ -159,11 +153,7 @@ impl<'i> FormatSerializer for JsonSerializer<'i> {
         ensures serves { IsServed Takes IsSpent self.old end_struct result self.new }
         ensures appends { Appends self.old end_struct (call_answer_of result) self.new }
     {
-        if self.failed {
-            return Err(JsonSerializeError::OutOfMemory);
-        }
-        let answer = self.writing.end_struct();
-        self.settle(answer)
+        self.make(Call::EndStruct)
     }
 
     /// Begins a list: a comma before it in a list, unless it is the first there, and a bracket.
@@ -175,11 +165,7 @@ impl<'i> FormatSerializer for JsonSerializer<'i> {
         ensures serves { IsServed Takes IsSpent self.old begin_seq result self.new }
         ensures appends { Appends self.old begin_seq (call_answer_of result) self.new }
     {
-        if self.failed {
-            return Err(JsonSerializeError::OutOfMemory);
-        }
-        let answer = self.writing.begin_seq();
-        self.settle(answer)
+        self.make(Call::BeginSeq)
     }
 
     /// Ends the innermost open list.
@@ -191,11 +177,7 @@ impl<'i> FormatSerializer for JsonSerializer<'i> {
         ensures serves { IsServed Takes IsSpent self.old end_seq result self.new }
         ensures appends { Appends self.old end_seq (call_answer_of result) self.new }
     {
-        if self.failed {
-            return Err(JsonSerializeError::OutOfMemory);
-        }
-        let answer = self.writing.end_seq();
-        self.settle(answer)
+        self.make(Call::EndSeq)
     }
 
     /// Writes a value that holds no others.
@@ -208,11 +190,7 @@ impl<'i> FormatSerializer for JsonSerializer<'i> {
         ensures serves { IsServed Takes IsSpent self.old (scalar (scalar_value_of value.entry)) result self.new }
         ensures appends { Appends self.old (scalar (scalar_value_of value.entry)) (call_answer_of result) self.new }
     {
-        if self.failed {
-            return Err(JsonSerializeError::OutOfMemory);
-        }
-        let answer = self.writing.scalar(&value);
-        self.settle(answer)
+        self.make(Call::Scalar(&value))
     }
 
     /// Writes a value by its JSON text, as it stands.
@@ -225,11 +203,7 @@ impl<'i> FormatSerializer for JsonSerializer<'i> {
         ensures serves { IsServed Takes IsSpent self.old (raw_scalar json.now) result self.new }
         ensures appends { Appends self.old (raw_scalar json.now) (call_answer_of result) self.new }
     {
-        if self.failed {
-            return Err(JsonSerializeError::OutOfMemory);
-        }
-        let answer = self.writing.raw_scalar(json);
-        self.settle(answer)
+        self.make(Call::RawScalar(json))
     }
 
     /// Writes bytes in the format of the options. It answers that it has written them: a serializer of a format without
@@ -243,7 +217,7 @@ impl<'i> FormatSerializer for JsonSerializer<'i> {
         ensures appends { Appends self.old (byte_sequence bytes.now) (bytes_answer_of result) self.new }
         ensures written { IfOk result (λ done. done ≡ true) }
     {
-        match self.bytes(bytes) {
+        match self.make(Call::Bytes(bytes)) {
             Ok(()) => Ok(true),
             Err(refused) => Err(refused),
         }

@@ -1,14 +1,15 @@
 //! A text that is written while memory suffices: what each call appends, and what it leaves open.
 
-ghost use Rattle.std.specs.Prelude.{◌≡◌, [], ◌∷◌, true, cond, OnOk, IfOk, ◌<◌, ◌^◌, length};
+ghost use Rattle.std.specs.Prelude.{◌≡◌, [], ◌∷◌, true, cond, Ok, OnOk, IfOk, ◌<◌, ◌^◌, length};
 ghost use Rattle.facet_format.specs.Bytes.{comma};
 ghost use Rattle.facet_format.specs.Event as event;
 ghost use Rattle.facet_format.specs.HeldText.{text_of};
 ghost use Rattle.facet_format.specs.Views.{scalar_value_of};
 ghost use Rattle.facet_format.specs.SerializerCall as calls;
+ghost use Rattle.facet_json_serializer.specs.Serializer.{container_added};
 ghost use Rattle.facet_json_serializer.specs.OptionsViews.{options_of};
-ghost use Rattle.facet_json_serializer.specs.Views.{writing_of, call_answer_of};
-ghost use Rattle.facet_json_serializer.specs.Inner.Writes.{Writes, value_begun, with_text};
+ghost use Rattle.facet_json_serializer.specs.Views.{call_of, writing_of, call_answer_of};
+ghost use Rattle.facet_json_serializer.specs.Inner.Writes.{Adds, Writes, innermost_ended, value_begun, with_text};
 ghost use Rattle.facet_json_serializer.specs.Inner.Open.{opened_of, struct_mark, list_mark, around_innermost, with_first_passed};
 
 use crate::bytes_text::push_bytes_text;
@@ -23,6 +24,27 @@ use facet_json_escape::push_framed;
 use std::alloc::{AllocError, Global};
 use std::borrow::CowStr;
 use std::marker::Model;
+
+/// A call that writes.
+#[derive(Clone, Copy)]
+pub(crate) enum Call<'a> {
+    /// Begins a struct.
+    BeginStruct,
+    /// Writes a key of the innermost struct.
+    FieldKey(&'a str),
+    /// Ends the innermost struct.
+    EndStruct,
+    /// Begins a list.
+    BeginSeq,
+    /// Ends the innermost list.
+    EndSeq,
+    /// Writes a value that holds no others.
+    Scalar(&'a ScalarValue<'a>),
+    /// Writes a value whose JSON text is given.
+    RawScalar(&'a str),
+    /// Writes bytes by their format.
+    Bytes(&'a [u8]),
+}
 
 /// The options, the containers that are open, and the text so far.
 #[derive(Debug, Drop)]
@@ -96,23 +118,33 @@ impl<'i> Writing<'i> {
         Ok(false)
     }
 
-    /// Begins a struct.
-    pub(crate) fn begin_struct(&mut self) -> Result<(), JsonSerializeError>
-        ensures { Writes (writing_of self.old) calls.begin_struct (call_answer_of result) (writing_of self.new) }
+    /// Makes a call.
+    #[inline(always)]
+    pub(crate) fn make(&mut self, call: Call<'_>) -> Result<(), JsonSerializeError>
+        ensures { Writes (writing_of self.old) (call_of call.entry) (call_answer_of result) (writing_of self.new) }
     {
-        self.begin_value()?;
-        self.stack.push(Container::Struct { first: true })?;
-        push_bytes(&mut self.out, b"{")?;
-        Ok(())
+        match call {
+            Call::BeginStruct => self.begin(Container::Struct { first: true }, b"{"),
+            Call::FieldKey(key) => self.field_key(key),
+            Call::EndStruct => self.end_struct(),
+            Call::BeginSeq => self.begin(Container::List { first: true }, b"["),
+            Call::EndSeq => self.end_seq(),
+            Call::Scalar(value) => self.scalar(value),
+            Call::RawScalar(json) => self.raw_scalar(json),
+            Call::Bytes(bytes) => self.bytes(bytes),
+        }
     }
 
-    /// Begins a list.
-    pub(crate) fn begin_seq(&mut self) -> Result<(), JsonSerializeError>
-        ensures { Writes (writing_of self.old) calls.begin_seq (call_answer_of result) (writing_of self.new) }
+    /// Begins a container by its bracket.
+    #[inline(always)]
+    fn begin(&mut self, container: Container, bracket: &[u8]) -> Result<(), JsonSerializeError>
+        ensures { Adds (writing_of self.old)
+            (container_added (options_of self.old.options) self.old.stack (opened_of container) bracket.now)
+            (call_answer_of result) (writing_of self.new) }
     {
         self.begin_value()?;
-        self.stack.push(Container::List { first: true })?;
-        push_bytes(&mut self.out, b"[")?;
+        self.stack.push(container)?;
+        push_bytes(&mut self.out, bracket)?;
         Ok(())
     }
 
@@ -136,11 +168,7 @@ impl<'i> Writing<'i> {
         let Some(first) = self.stack.struct_mark() else {
             return Err(JsonSerializeError::NoStructToEnd);
         };
-        let depth = self.stack.around();
-        push_line_at_end(&mut self.out, &self.options, depth, first)?;
-        push_bytes(&mut self.out, b"}")?;
-        self.stack.pop();
-        Ok(())
+        self.end(first, b"}")
     }
 
     /// Ends the innermost list.
@@ -150,9 +178,19 @@ impl<'i> Writing<'i> {
         let Some(first) = self.stack.list_mark() else {
             return Err(JsonSerializeError::NoListToEnd);
         };
+        self.end(first, b"]")
+    }
+
+    /// Ends the innermost container by its bracket.
+    #[inline(always)]
+    fn end(&mut self, first: bool, bracket: &[u8]) -> Result<(), JsonSerializeError>
+        ensures { Adds (writing_of self.old)
+            (Ok (innermost_ended (options_of self.old.options) self.old.stack first bracket.now))
+            (call_answer_of result) (writing_of self.new) }
+    {
         let depth = self.stack.around();
         push_line_at_end(&mut self.out, &self.options, depth, first)?;
-        push_bytes(&mut self.out, b"]")?;
+        push_bytes(&mut self.out, bracket)?;
         self.stack.pop();
         Ok(())
     }
@@ -181,6 +219,7 @@ impl<'i> Writing<'i> {
     }
 
     /// Writes a whole number without a sign.
+    #[tactic(auto, unfolding(facet_json_document::specs::Text::text))]
     #[inline(always)]
     fn unsigned(&mut self, n: u64) -> Result<(), JsonSerializeError>
         ensures { Writes (writing_of self.old) (calls.scalar (event.u64 n)) (call_answer_of result) (writing_of self.new) }
@@ -193,6 +232,7 @@ impl<'i> Writing<'i> {
     }
 
     /// The same, out of line: where no comma alone stands before it.
+    #[tactic(auto, unfolding(facet_json_document::specs::Text::text))]
     #[inline(never)]
     fn unsigned_apart(&mut self, n: u64) -> Result<(), JsonSerializeError>
         ensures { Writes (writing_of self.old) (calls.scalar (event.u64 n)) (call_answer_of result) (writing_of self.new) }
@@ -203,6 +243,7 @@ impl<'i> Writing<'i> {
     }
 
     /// Writes a whole number that may have a sign.
+    #[tactic(auto, unfolding(facet_json_document::specs::Text::text))]
     #[inline(always)]
     fn signed(&mut self, n: i64) -> Result<(), JsonSerializeError>
         ensures { Writes (writing_of self.old) (calls.scalar (event.i64 n)) (call_answer_of result) (writing_of self.new) }
@@ -215,6 +256,7 @@ impl<'i> Writing<'i> {
     }
 
     /// The same, out of line: where no comma alone stands before it.
+    #[tactic(auto, unfolding(facet_json_document::specs::Text::text))]
     #[inline(never)]
     fn signed_apart(&mut self, n: i64) -> Result<(), JsonSerializeError>
         ensures { Writes (writing_of self.old) (calls.scalar (event.i64 n)) (call_answer_of result) (writing_of self.new) }

@@ -2,7 +2,7 @@ use Rattle.std.proofs.Common.{Err}
 use Rattle.facet_json_serializer.specs.declared.error.JsonSerializeError.TheVariants.{OutOfMemory}
 use Rattle.facet_json_serializer.specs.Views.{writing_of}
 use Rattle.facet_json_serializer.proofs.Settled.{settles-unfailed, stays_failed, serves}
-use Rattle.facet_json_serializer.proofs.serializer.JsonSerializerFormatSerializer.end_seq.Goals as goal
+use Rattle.facet_json_serializer.proofs.serializer.JsonSerializer.make.Goals as goal
 
 pub returns-then-self : goal.returns-then-self
 returns-then-self c =
@@ -11,6 +11,6 @@ returns-then-self c =
 
 pub returns : goal.returns
 returns c =
-    let settled = settles-unfailed _ (writing_of c.self.inside.writing) (writing_of c.end_seq-answer.new.self) _ _ _ _ c.if-self.false c.self.view_is
-    c.end_seq-answer.ensures c.settle.ensures.now in
-    rw c.settle.ensures.answer (record { serves = serves _ _ _ c.end_seq-answer.result settled; appends = settled })
+    let settled = settles-unfailed _ (writing_of c.self.inside.writing) (writing_of c.make-answer.new.self) _ _ _ _ c.if-self.false c.self.view_is
+    c.make-answer.ensures c.settle.ensures.now in
+    rw c.settle.ensures.answer (record { serves = serves _ _ _ c.make-answer.result settled; appends = settled })
