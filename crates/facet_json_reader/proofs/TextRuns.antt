@@ -6,20 +6,19 @@ use Rattle.std.specs.Option.{option_map}
 use Rattle.std.proofs.lemmas.Bool.{and_from, le-leb, ltb-false, not-true, not_from_false, or_parts, cases_lt}
 use Rattle.std.proofs.lemmas.List.{get_or-drop}
 use Rattle.std.proofs.lemmas.List.Sums.{prefix_len_passes}
-use Rattle.std.proofs.lemmas.Option.{get_or_from_slice_get}
+use Rattle.std.proofs.lemmas.Option.{get_or_from_slice_get, slice_get_within}
 use Rattle.facet_format.specs.Bytes.{quote, backslash}
-use Rattle.facet_json_token.specs.Cut.{has_backslash, content_len, cut_here, opens_text, start_of, token_at}
+use Rattle.facet_json_token.specs.Cut.{content_len, cut_here, opens_text, start_of, token_at}
 use Rattle.facet_json_token.specs.Gap.{Mode}
 use Rattle.facet_json_token.specs.Token.{string}
 use Rattle.facet_json_token.specs.Inner.Window.{is_stop, is_plain}
 use Rattle.facet_json_token.proofs.FirstBytes.{cut_here-by}
 use Rattle.facet_json_token.proofs.TextSteps.{content-ends, cut_text-ends}
 use Rattle.facet_json_token.proofs.TextWindows.{content-after_run, marks-of_run}
-use Rattle.facet_json_token.specs.Decoded.{decoded}
 use Rattle.facet_json_token.specs.Inner.Ascii.{is_high, is_low}
 use Rattle.facet_json_token.proofs.AsciiRuns.{run-IsUtf8}
 use Rattle.facet_json_reader.specs.Inner.Window.{is_stop_from, is_unescaped, is_mark, is_ordinary}
-use Rattle.facet_json_reader.specs.Values.{AreUnescaped, IsPlainText}
+use Rattle.facet_json_reader.specs.Values.{IsClosedAt}
 
 -- A run of bytes of a class is no longer than one of a wider class.
 step : (a b : Bool) (m n : ℕ) → (a ≡ true → b ≡ true) → m ≤ n → cond a (1 + m) 0 ≤ cond b (1 + n) 0
@@ -54,18 +53,9 @@ unescaped-stands least b e =
     let no_end = or_parts (b == quote) (b == backslash) neither.0 in
     and_from _ _ (not_from_false (b == backslash) no_end.1) (le-leb least b (ltb-false b least neither.1))
 
-ordinary-parts : (least b : ℕ) → is_ordinary least b ≡ true → (is_unescaped least b ≡ true) × (is_low b ≡ true)
-ordinary-parts least b e =
-    let neither = or_parts (is_stop_from least b) (is_high b) (not-true (is_mark least b) e) in
-    (not_from_false (is_stop_from least b) neither.0, not_from_false (is_high b) neither.1)
-
--- An ordinary byte may stand in a text unescaped.
-pub ordinary-unescaped : (least b : ℕ) → is_ordinary least b ≡ true → is_unescaped least b ≡ true
-ordinary-unescaped least b e = (ordinary-parts least b e).0
-
--- It is ASCII.
+-- An ordinary byte is ASCII.
 ordinary-low : (least b : ℕ) → is_ordinary least b ≡ true → is_low b ≡ true
-ordinary-low least b e = (ordinary-parts least b e).1
+ordinary-low least b e = not_from_false (is_high b) (or_parts (is_stop_from least b) (is_high b) (not-true (is_mark least b) e)).1
 
 -- A run of ordinary bytes is UTF-8.
 pub run-text : (least : ℕ) (buffer : List ℕ) (start end : ℕ) → end ≡ start + prefix_len (is_ordinary least) (drop start buffer) →
@@ -86,38 +76,31 @@ text-cut mode buffer at end opens closes run =
     sym (cut_text-ends at end rest false (content_len false rest) found (marks-of_run buffer (at + 1) end run)
     ∙ cut_here-by mode buffer at quote opens_text opens refl)
 
--- After the quote at an offset a run of bytes that may stand in a text unescaped goes up to here.
+-- After the quote at an offset a run of bytes that may stand in a text unescaped goes up to a quote, which closes it.
 module _ (least : ℕ) (p : ℕ → Bool) (unescaped : (b : ℕ) → p b ≡ true → is_unescaped least b ≡ true)
-    (buffer : List ℕ) (at end : ℕ) (run : end ≡ (at + 1) + prefix_len p (drop (at + 1) buffer)) where
-  -- Each of its bytes may stand in a text unescaped.
-  pub run-unescaped : AreUnescaped least (slice_range buffer (at + 1) end)
-  run-unescaped =
-      run-all p (λ b. not (b == backslash) && nat_le least b) (λ b e. unescaped-stands least b (unescaped b e))
-      (end - (at + 1)) (drop (at + 1) buffer) (omega (arith, run))
-
-  -- Where a quote ends it, the quote ends the run of plain bytes.
-  plain-end : slice_get buffer end ≡ Some quote → end ≡ (at + 1) + prefix_len is_plain (drop (at + 1) buffer)
-  plain-end closes =
+    (buffer : List ℕ) (at finish : ℕ) (run : finish ≡ (at + 1) + prefix_len p (drop (at + 1) buffer)) (closes : slice_get buffer finish ≡ Some quote) where
+  -- It ends the run of plain bytes.
+  plain-end : finish ≡ (at + 1) + prefix_len is_plain (drop (at + 1) buffer)
+  plain-end =
       let rest = drop (at + 1) buffer in
       let n = prefix_len p rest in
       let wider = run-wider p is_plain (λ b e. unescaped-plain least b (unescaped b e)) rest in
       elim (cases_lt n (prefix_len is_plain rest)) [
         | inl more ↦
             let there : get_or rest n 0 ≡ quote =
-            get_or-drop (at + 1) buffer n 0 ∙ ap (λ (k : ℕ). get_or buffer k 0) (sym run) ∙ get_or_from_slice_get buffer end quote 0 closes in
+            get_or-drop (at + 1) buffer n 0 ∙ ap (λ (k : ℕ). get_or buffer k 0) (sym run) ∙ get_or_from_slice_get buffer finish quote 0 closes in
             let passes : is_plain quote ≡ true = ap is_plain (sym there) ∙ prefix_len_passes is_plain rest n 0 more in
             cc
         | inr all ↦ omega (arith, run, wider, all)
       ]
 
-  -- No backslash stands in it then.
-  pub run-no_backslash : slice_get buffer end ≡ Some quote → has_backslash (slice_range buffer (at + 1) end) ≡ false
-  run-no_backslash closes = sym (marks-of_run buffer (at + 1) end (plain-end closes))
-
-  -- It is a string then, with the text that its content has.
-  pub run-IsPlainText : slice_get buffer at ≡ Some quote → slice_get buffer end ≡ Some quote → (text : List ℕ) →
-      decoded (slice_range buffer (at + 1) end) ≡ Some text → IsPlainText buffer at end text
-  run-IsPlainText opens closes text means = record {
-    cut = λ mode. text-cut mode buffer at end opens closes (plain-end closes);
-    means = means;
+  pub run-IsClosedAt : slice_get buffer at ≡ Some quote → IsClosedAt least buffer at finish
+  run-IsClosedAt opens = record {
+    cut = λ mode. text-cut mode buffer at finish opens closes plain-end;
+    plain = sym (marks-of_run buffer (at + 1) finish plain-end);
+    unescaped = run-all p (λ b. not (b == backslash) && nat_le least b) (λ b e. unescaped-stands least b (unescaped b e))
+        (finish - (at + 1)) (drop (at + 1) buffer) (omega (arith, run));
+    closes = closes;
+    ordered = omega (arith, run);
+    within = omega (arith, slice_get_within buffer finish quote closes);
   }

@@ -1,9 +1,9 @@
 -- Values that stand at an offset, as their tokens mean them.
-use Rattle.std.specs.Prelude.{◌≡◌, ◌+◌, ◌-◌, ◌==◌, ◌&&◌, ℕ, true, false, not, nat_le, List, Some, drop, slice_range}
+use Rattle.std.specs.Prelude.{◌≡◌, ◌<◌, ◌+◌, ◌-◌, ◌==◌, ◌&&◌, ℕ, true, false, not, nat_le, length, List, Some, drop, slice_get, slice_range}
 use Rattle.std.specs.List.{list_all}
-use Rattle.facet_format.specs.Bytes.{backslash}
+use Rattle.facet_format.specs.Bytes.{quote, backslash}
 use Rattle.facet_format.specs.Event.{Scalar}
-use Rattle.facet_json_token.specs.Cut.{cut_here, token_at}
+use Rattle.facet_json_token.specs.Cut.{has_backslash, cut_here, token_at}
 use Rattle.facet_json_token.specs.Gap.{Mode}
 use Rattle.facet_json_token.specs.Token.{Kind, string}
 use Rattle.facet_json_token.specs.Decoded.{decoded}
@@ -20,6 +20,15 @@ pub record IsPlainText (buffer : List ℕ) (at finish : ℕ) (text : List ℕ) :
 -- Each byte may stand in a text unescaped: it is no backslash, and no less than this one.
 abbrev pub AreUnescaped : ℕ → List ℕ → Type 0
 AreUnescaped least bytes = list_all (λ b. not (b == backslash) && nat_le least b) bytes ≡ true
+
+-- The string whose quote stands at this offset is closed by the quote at that one: no escape stands between them, and no byte below this one.
+pub record IsClosedAt (least : ℕ) (buffer : List ℕ) (at finish : ℕ) : Type 0 where
+  pub cut : (mode : Mode) → cut_here mode at (drop at buffer) ≡ token_at (string (at + 1) finish false) at ((finish + 1) - at)
+  pub plain : has_backslash (slice_range buffer (at + 1) finish) ≡ false
+  pub unescaped : AreUnescaped least (slice_range buffer (at + 1) finish)
+  pub closes : slice_get buffer finish ≡ Some quote
+  pub ordered : at < finish
+  pub within : finish < length buffer
 
 -- At this offset stands a scalar's token of this length, which is read as this value.
 pub record IsScalarThere (buffer : List ℕ) (at len : ℕ) (value : Scalar) : Type 0 where

@@ -1,11 +1,11 @@
 //! Texts without an escape, from their bytes, sixteen at a time.
 
-ghost use Rattle.std.specs.Prelude.{◌≡◌, ◌<◌, ◌+◌, length, Some, slice_get, slice_range, IfSome, IsUtf8, ◌≤◌, drop, map};
+ghost use Rattle.std.specs.Prelude.{◌≡◌, ◌<◌, ◌+◌, ℕ, Bool, true, not, length, Some, slice_get, slice_range, IfSome, IsUtf8, ◌≤◌, drop, map};
 ghost use Rattle.facet_format.specs.Bytes.{quote};
-ghost use Rattle.facet_json_reader.specs.Values.{AreUnescaped, IsPlainText};
+ghost use Rattle.facet_json_reader.specs.Values.{AreUnescaped, IsClosedAt, IsPlainText};
 ghost use Rattle.std.specs.List.{prefix_len};
 ghost use Rattle.std.specs.Simd.Lanes.{mask_l};
-ghost use Rattle.facet_json_reader.specs.Inner.Window.{is_stop_from, is_unescaped, is_mark, is_ordinary};
+ghost use Rattle.facet_json_reader.specs.Inner.Window.{is_stop_from, is_unescaped, is_mark, ordinary-unescaped};
 
 use facet_json_token::{plain_text, plain_text_unchecked, quoted_text};
 use std::simd::prelude::*;
@@ -33,11 +33,8 @@ fn ascii_text_at<'de>(input: &'de [u8], at: usize, least: u8) -> Option<(usize, 
     ensures unescaped { IfSome result (λ r. AreUnescaped least (slice_range input.now (at + 1) r.0)) }
     ensures within { IfSome result (λ r. (at < r.0) × (r.0 < length input.now)) }
 {
-    let end = ordinary_end(input, at + 1, least);
-    match input.get(end) {
-        Some(b'"') => Some((end, plain_text_unchecked(input, at + 1, end))),
-        _ => None,
-    }
+    let end = closing_quote::<Ordinary>(input, at, least)?;
+    Some((end, plain_text_unchecked(input, at + 1, end)))
 }
 
 /// The same of any text: its end is found first, and then it is checked.
@@ -48,14 +45,9 @@ fn other_text_at<'de>(input: &'de [u8], at: usize, least: u8) -> Option<(usize, 
     ensures unescaped { IfSome result (λ r. AreUnescaped least (slice_range input.now (at + 1) r.0)) }
     ensures within { IfSome result (λ r. (at < r.0) × (r.0 < length input.now)) }
 {
-    let end = unescaped_end(input, at + 1, least);
-    match input.get(end) {
-        Some(b'"') => match plain_text(input, at + 1, end) {
-            Some(text) => Some((end, text)),
-            None => None,
-        },
-        _ => None,
-    }
+    let end = closing_quote::<Unescaped>(input, at, least)?;
+    let text = plain_text(input, at + 1, end)?;
+    Some((end, text))
 }
 
 /// As `checked_text_at`, of an input that is UTF-8: nothing is checked.
@@ -67,100 +59,111 @@ pub fn quoted_text_at<'de>(input: &'de [u8], at: usize, least: u8) -> Option<(us
     ensures unescaped { IfSome result (λ r. AreUnescaped least (slice_range input.now (at + 1) r.0)) }
     ensures within { IfSome result (λ r. (at < r.0) × (r.0 < length input.now)) }
 {
-    let end = unescaped_end(input, at + 1, least);
+    let end = closing_quote::<Unescaped>(input, at, least)?;
+    Some((end, quoted_text(input, at + 1, end)))
+}
+
+/// The offset of the quote that closes the string whose quote is at `at`, where no other byte ends the run of its text before.
+#[inline(always)]
+fn closing_quote<E: Ends>(input: &[u8], at: usize, least: u8) -> Option<usize>
+    requires here { slice_get input.now at ≡ Some quote }
+    ensures closed { IfSome result (λ end. IsClosedAt least input.now at end) }
+    ensures run { IfSome result (λ end. end ≡ (at + 1) + prefix_len (λ b. not (E.ends least b)) (drop (at + 1) input.now)) }
+{
+    let end = run_end::<E>(input, at + 1, least);
     match input.get(end) {
-        Some(b'"') => Some((end, quoted_text(input, at + 1, end))),
+        Some(b'"') => Some(end),
         _ => None,
     }
 }
 
-/// A bit for each of sixteen bytes that is a quote, a backslash or below `least`.
-#[inline(always)]
-fn stops(window: u8x16, least: u8) -> u64
-    ensures { result ≡ mask_l (map (is_stop_from least) window) }
-{
-    let ends = window.simd_eq(u8x16::splat(b'"')) | window.simd_eq(u8x16::splat(b'\\'));
-    (ends | window.simd_lt(u8x16::splat(least))).to_bitmask()
+/// Bytes that end a run of a text in which none below a bound may stand, a quote and a backslash among them.
+trait Ends {
+    /// By the bound, whether a byte is one of them.
+    ghost ends: { ℕ → ℕ → Bool };
+
+    /// A bit for each of sixteen bytes that is one of them.
+    fn stops(window: u8x16, least: u8) -> u64
+        ensures { result ≡ mask_l (map (ends least) window) };
+
+    /// Whether a byte is one of them.
+    fn stops_at(byte: u8, least: u8) -> bool
+        ensures { result ≡ ends least byte };
+
+    /// Any other byte may stand in a text unescaped.
+    ghost unescaped: { (least b : ℕ) → not (ends least b) ≡ true → is_unescaped least b ≡ true };
 }
 
-/// A bit for each of sixteen bytes that is a quote, a backslash, below `least` or no ASCII.
-#[inline(always)]
-fn marks(window: u8x16, least: u8) -> u64
-    ensures { result ≡ mask_l (map (is_mark least) window) }
-{
-    let ends = window.simd_eq(u8x16::splat(b'"')) | window.simd_eq(u8x16::splat(b'\\'));
-    let others = window.simd_ge(u8x16::splat(0x80)) | window.simd_lt(u8x16::splat(least));
-    (ends | others).to_bitmask()
+/// The bytes that may not stand in a text unescaped.
+struct Unescaped;
+
+impl Ends for Unescaped {
+    ghost ends = { is_stop_from };
+
+    ghost unescaped = { λ least b e. e };
+
+    #[inline(always)]
+    fn stops(window: u8x16, least: u8) -> u64 {
+        let ends = window.simd_eq(u8x16::splat(b'"')) | window.simd_eq(u8x16::splat(b'\\'));
+        (ends | window.simd_lt(u8x16::splat(least))).to_bitmask()
+    }
+
+    #[inline(always)]
+    fn stops_at(byte: u8, least: u8) -> bool {
+        byte == b'"' || byte == b'\\' || byte < least
+    }
 }
 
-/// The offset of the first quote, backslash or byte below `least` from `from` on, or the length.
+/// These, and the bytes that are no ASCII.
+struct Ordinary;
+
+impl Ends for Ordinary {
+    ghost ends = { is_mark };
+
+    ghost unescaped = { ordinary-unescaped };
+
+    #[inline(always)]
+    fn stops(window: u8x16, least: u8) -> u64 {
+        let ends = window.simd_eq(u8x16::splat(b'"')) | window.simd_eq(u8x16::splat(b'\\'));
+        let others = window.simd_ge(u8x16::splat(0x80)) | window.simd_lt(u8x16::splat(least));
+        (ends | others).to_bitmask()
+    }
+
+    #[inline(always)]
+    fn stops_at(byte: u8, least: u8) -> bool {
+        byte == b'"' || byte == b'\\' || byte < least || byte >= 0x80
+    }
+}
+
+/// The offset of the first of these bytes from `from` on, or the length.
 #[inline(always)]
-pub(crate) fn unescaped_end(buffer: &[u8], from: usize, least: u8) -> usize
+fn run_end<E: Ends>(buffer: &[u8], from: usize, least: u8) -> usize
     requires { from ≤ length buffer.now }
-    ensures value { result ≡ from + prefix_len (is_unescaped least) (drop from buffer.now) }
+    ensures value { result ≡ from + prefix_len (λ b. not (E.ends least b)) (drop from buffer.now) }
     ensures ahead { from ≤ result }
     ensures within { result ≤ length buffer.now }
 {
     let mut at = from;
     while buffer.len() - at >= 16 {
-        let found = stops(u8x16::from_slice(&buffer[at..]), least);
+        let found = E::stops(u8x16::from_slice(&buffer[at..]), least);
         if found != 0 {
             return at + found.trailing_zeros() as usize;
         }
         at += 16;
     }
-    unescaped_end_bytewise(buffer, at, least)
+    run_end_bytewise::<E>(buffer, at, least)
 }
 
 /// The same, byte by byte: what is left after the last window.
 #[inline(never)]
-fn unescaped_end_bytewise(buffer: &[u8], from: usize, least: u8) -> usize
+fn run_end_bytewise<E: Ends>(buffer: &[u8], from: usize, least: u8) -> usize
     requires { from ≤ length buffer.now }
-    ensures value { result ≡ from + prefix_len (is_unescaped least) (drop from buffer.now) }
+    ensures value { result ≡ from + prefix_len (λ b. not (E.ends least b)) (drop from buffer.now) }
     ensures ahead { from ≤ result }
     ensures within { result ≤ length buffer.now }
 {
     let mut at = from;
-    while at < buffer.len() && buffer[at] != b'"' && buffer[at] != b'\\' && buffer[at] >= least {
-        at += 1;
-    }
-    at
-}
-
-/// The offset of the first quote, backslash or byte that is below `least` or no ASCII from `from` on, or the length.
-#[inline(always)]
-pub(crate) fn ordinary_end(buffer: &[u8], from: usize, least: u8) -> usize
-    requires { from ≤ length buffer.now }
-    ensures value { result ≡ from + prefix_len (is_ordinary least) (drop from buffer.now) }
-    ensures ahead { from ≤ result }
-    ensures within { result ≤ length buffer.now }
-{
-    let mut at = from;
-    while buffer.len() - at >= 16 {
-        let found = marks(u8x16::from_slice(&buffer[at..]), least);
-        if found != 0 {
-            return at + found.trailing_zeros() as usize;
-        }
-        at += 16;
-    }
-    ordinary_end_bytewise(buffer, at, least)
-}
-
-/// The same, byte by byte: what is left after the last window.
-#[inline(never)]
-fn ordinary_end_bytewise(buffer: &[u8], from: usize, least: u8) -> usize
-    requires { from ≤ length buffer.now }
-    ensures value { result ≡ from + prefix_len (is_ordinary least) (drop from buffer.now) }
-    ensures ahead { from ≤ result }
-    ensures within { result ≤ length buffer.now }
-{
-    let mut at = from;
-    while at < buffer.len()
-        && buffer[at] != b'"'
-        && buffer[at] != b'\\'
-        && buffer[at] >= least
-        && buffer[at] < 0x80
-    {
+    while at < buffer.len() && !E::stops_at(buffer[at], least) {
         at += 1;
     }
     at

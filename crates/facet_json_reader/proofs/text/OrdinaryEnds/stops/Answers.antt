@@ -7,7 +7,7 @@ use Rattle.facet_json_token.specs.Inner.Window.{is_stop}
 use Rattle.facet_json_token.specs.Inner.Ascii.{is_high}
 use Rattle.facet_json_reader.specs.Inner.Window.{is_mark}
 use Rattle.facet_json_reader.proofs.ComparedLanes.{lanes-either, lanes-masked}
-use Rattle.facet_json_reader.proofs.text.marks.Goals as goal
+use Rattle.facet_json_reader.proofs.text.OrdinaryEnds.stops.Goals as goal
 
 -- The order of two alternatives is all the same.
 turned : (a b c : Bool) → (a || (b || c)) ≡ ((a || c) || b)

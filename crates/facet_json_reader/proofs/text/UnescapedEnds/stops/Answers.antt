@@ -6,7 +6,7 @@ use Rattle.facet_format.proofs.Lanes.{equal, below}
 use Rattle.facet_json_token.specs.Inner.Window.{is_stop}
 use Rattle.facet_json_reader.specs.Inner.Window.{is_stop_from}
 use Rattle.facet_json_reader.proofs.ComparedLanes.{lanes-either, lanes-masked}
-use Rattle.facet_json_reader.proofs.text.stops.Goals as goal
+use Rattle.facet_json_reader.proofs.text.UnescapedEnds.stops.Goals as goal
 
 pub returns : goal.returns
 returns c =
