@@ -14,6 +14,7 @@ pub mod PackedKinds
 pub mod PastSeparators
 pub mod QuickEvents
 pub mod RfcNumbersThere
+pub mod SameEnd
 pub mod ScannedTokens
 pub mod StoppingTokens
 pub mod TextRuns

@@ -4,6 +4,8 @@ use Rattle.std.specs.Prelude.{codes, MatchOption}
 use Rattle.std.specs.Option.{option_map}
 use Rattle.facet_format.specs.declared.event.ParseEvent.{ParseEvent}
 use Rattle.facet_json_reader.specs.declared.reader.Reader.{Reader}
+use Rattle.facet_format.specs.declared.event.ContainerKind.{ContainerKind as RustContainerKind}
+use Rattle.facet_format.specs.declared.event.ContainerKind.TheVariants as containers
 use Rattle.facet_format.specs.Bytes.{lower_n, lower_t, lower_f}
 use Rattle.facet_format.specs.Bytes as mark_byte
 use Rattle.facet_format.specs.Event.{ContainerKind, EventKind, Event, Passed, Scalar, borrowed}
@@ -28,9 +30,11 @@ use Rattle.facet_json_document.specs.Place.{Place, root, before_key, after_colon
 use Rattle.facet_json_document.specs.Tree.{Tree}
 use Rattle.facet_json_document.specs.Tree as tree
 use Rattle.facet_json_document.specs.Walk.{event_at, scalar_event, key_event, scalar_of, name_of}
-use Rattle.facet_json_document.proofs.WalkComes.{TakesValue, at_root, of_member, of_list, of_next_item, follows, reads-turn, turn-plain, turn-meant, scalar_here}
+use Rattle.facet_json_document.specs.Node.{is_scalar}
+use Rattle.facet_json_document.proofs.WalkComes.{object_here, array_here, TakesValue, at_root, of_member, of_list, of_next_item, follows, reads-turn, turn-plain, turn-meant, scalar_here}
 use Rattle.facet_json_reader.proofs.TokensThere.{mark-cut, tokens_in-past_gap, word-cut}
 use Rattle.facet_json_reader.proofs.TurnsAtPlaces.{is_mark, mark-plain}
+use Rattle.facet_json_reader.specs.PlaceViews.{opening_bracket, closing_bracket, opening_token, closing_token, opening_event}
 use Rattle.facet_json_reader.specs.Values.{IsPlainText, IsScalarThere}
 use Rattle.facet_json_reader.specs.Quick.{MayBeKey, MayBeValue, Reaches, IsWord, null_stands, true_stands, false_stands, Leaves, PassesQuickly}
 use Rattle.facet_json_reader.specs.Views.{stage_of, comes_at, coming}
@@ -60,33 +64,20 @@ stands-reaches buffer language r place position at stage fits here gap = record 
 }
 
 -- A literal is a scalar.
+abbrev literal : (buffer : List ℕ) (at len : ℕ) (kind : Kind) (meant : Tree) → ((mode : Mode) → cut_here mode at (drop at buffer) ≡ token_at kind at len) →
+    is_scalar kind ≡ true → meaning_of buffer kind ≡ Some meant → IsScalarThere buffer at len (scalar_of kind (Some meant))
+literal buffer at len kind meant cut scalar means =
+    record { kind = kind; meant = meant; cut = cut; scalar = scalar; means = means; read = refl }
+
 pub word-there : (buffer : List ℕ) (at first : ℕ) (word : List ℕ) (value : Scalar) → IsWord first word value → slice_get buffer at ≡ Some first →
     common_len word (drop at buffer) ≡ length word → IsScalarThere buffer at (length word) value
 unfolding start_of
-word-there buffer at _ _ _ null_stands here all = record {
-  kind = token.null;
-  meant = tree.null;
-  cut = λ mode. word-cut mode buffer at lower_n (codes "null") token.null here refl all;
-  scalar = refl;
-  means = refl;
-  read = refl;
-}
-word-there buffer at _ _ _ true_stands here all = record {
-  kind = token.true_literal;
-  meant = tree.bool true;
-  cut = λ mode. word-cut mode buffer at lower_t (codes "true") token.true_literal here refl all;
-  scalar = refl;
-  means = refl;
-  read = refl;
-}
-word-there buffer at _ _ _ false_stands here all = record {
-  kind = token.false_literal;
-  meant = tree.bool false;
-  cut = λ mode. word-cut mode buffer at lower_f (codes "false") token.false_literal here refl all;
-  scalar = refl;
-  means = refl;
-  read = refl;
-}
+word-there buffer at _ _ _ null_stands here all =
+    literal buffer at 4 token.null tree.null (λ mode. word-cut mode buffer at lower_n (codes "null") token.null here refl all) refl refl
+word-there buffer at _ _ _ true_stands here all =
+    literal buffer at 4 token.true_literal (tree.bool true) (λ mode. word-cut mode buffer at lower_t (codes "true") token.true_literal here refl all) refl refl
+word-there buffer at _ _ _ false_stands here all =
+    literal buffer at 5 token.false_literal (tree.bool false) (λ mode. word-cut mode buffer at lower_f (codes "false") token.false_literal here refl all) refl refl
 
 -- What is cut at a number's first byte is a number.
 number_by : (mode : Mode) (at len n : ℕ) (bytes : List ℕ) (kind : Kind) (hint : Hint) (bare : Bool) →
@@ -117,6 +108,24 @@ unfolding word-there
 word-plain buffer at _ _ _ null_stands here all = refl
 word-plain buffer at _ _ _ true_stands here all = refl
 word-plain buffer at _ _ _ false_stands here all = refl
+
+-- Brackets are cut at their bytes.
+pub opening-cut : (mode : Mode) (buffer : List ℕ) (at : ℕ) (kind : RustContainerKind) → slice_get buffer at ≡ Some (opening_bracket kind) →
+    cut_here mode at (drop at buffer) ≡ token_at (opening_token kind) at 1
+unfolding start_of
+opening-cut mode buffer at containers.Object here = mark-cut mode buffer at mark_byte.left_brace token.object_start here refl
+opening-cut mode buffer at containers.Array here = mark-cut mode buffer at mark_byte.left_bracket token.array_start here refl
+
+pub closing-cut : (mode : Mode) (buffer : List ℕ) (at : ℕ) (kind : RustContainerKind) → slice_get buffer at ≡ Some (closing_bracket kind) →
+    cut_here mode at (drop at buffer) ≡ token_at (closing_token kind) at 1
+unfolding start_of
+closing-cut mode buffer at containers.Object here = mark-cut mode buffer at mark_byte.right_brace token.object_end here refl
+closing-cut mode buffer at containers.Array here = mark-cut mode buffer at mark_byte.right_bracket token.array_end here refl
+
+-- A container may open where a value may stand.
+opens-here : (place : Place) (kind : RustContainerKind) → MayBeValue place → place_turn place (opening_token kind) ≡ says (opening_event kind)
+opens-here place containers.Object may = object_here [] place (takes_value place may)
+opens-here place containers.Array may = array_here [] place (takes_value place may)
 
 -- A colon begins its token.
 colon_begins : start_of mark_byte.colon ≡ punctuation colon
@@ -179,12 +188,12 @@ module _ (buffer : List ℕ) (language : Language) (r : Reader) (place : Place) 
   }
 
   -- A bracket that opens a container gives its event, where there is memory for it.
-  pub start-passes : (kind : Kind) (way : EventKind) (o : Option ParseEvent) (t : Reader) → Reaches buffer language r place at →
-      cut_here (gaps language) at (drop at buffer) ≡ token_at kind at 1 → place_turn place kind ≡ says way →
-      MatchOption o (t ≡ r) (λ e. Leaves r way (span_at at 1) (span_at at 1) (event_of e) t) →
+  pub start-passes : (kind : RustContainerKind) (o : Option ParseEvent) (t : Reader) → MayBeValue place → Reaches buffer language r place at →
+      slice_get buffer at ≡ Some (opening_bracket kind) → MatchOption o (t ≡ r) (λ e. Leaves r (opening_event kind) (span_at at 1) (span_at at 1) (event_of e) t) →
       MatchOption o (t ≡ r) (λ e. PassesQuickly buffer language r (event_of e) t)
-  start-passes kind way None t is cuts turns left = left
-  start-passes kind way (Some e) t is cuts turns left = bracket-passes kind way (event_of e) t is cuts turns left
+  start-passes kind None t may is here left = left
+  start-passes kind (Some e) t may is here left =
+      bracket-passes (opening_token kind) (opening_event kind) (event_of e) t is (opening-cut (gaps language) buffer at kind here) (opens-here place kind may) left
 
   -- A scalar gives its event.
   pub scalar-passes : (len : ℕ) (value : Scalar) (e : Event) (t : Reader) → MayBeValue place → Reaches buffer language r place at →

@@ -23,6 +23,7 @@ use Rattle.facet_json_reader.specs.declared.place.Place.{Place as RustPlace}
 use Rattle.facet_json_reader.specs.declared.place.Place.TheVariants as places
 use Rattle.facet_json_reader.specs.declared.place.Turn.{Turn as RustTurn}
 use Rattle.facet_json_reader.specs.declared.place.Turn.TheVariants as turns
+use Rattle.facet_format.specs.Bytes.{left_brace, left_bracket, right_brace, right_bracket}
 use Rattle.facet_format.specs.Complaint.{Complaint, Refusal}
 use Rattle.facet_format.specs.Complaint as complaint
 use Rattle.facet_format.specs.Event.{ContainerKind, object, array, EventKind}
@@ -33,6 +34,7 @@ use Rattle.facet_json_token.specs.declared.token.ScanError.{ScanError}
 use Rattle.facet_json_token.specs.Cut.{fault}
 use Rattle.facet_json_token.specs.Strict.{strict_fault}
 use Rattle.facet_json_token.specs.Token.{Token, Fault, Kind, in_string, in_number, in_literal, in_block_comment}
+use Rattle.facet_json_token.specs.Token as token
 use Rattle.facet_json_token.specs.Views.{mode_of, fault_answer}
 use Rattle.facet_json_document.specs.Language.{Language, lenient, strict}
 use Rattle.facet_json_document.specs.Place.{Place, Turn, stops, passes, says, says_scalar, place_turn}
@@ -145,6 +147,23 @@ opening_event containers.Array = event.sequence_start array
 abbrev pub closing_event : RustContainerKind → EventKind
 closing_event containers.Object = event.struct_end
 closing_event containers.Array = event.sequence_end
+
+-- the tokens of these brackets, and their bytes
+abbrev pub opening_token : RustContainerKind → Kind
+opening_token containers.Object = token.object_start
+opening_token containers.Array = token.array_start
+
+abbrev pub opening_bracket : RustContainerKind → ℕ
+opening_bracket containers.Object = left_brace
+opening_bracket containers.Array = left_bracket
+
+abbrev pub closing_token : RustContainerKind → Kind
+closing_token containers.Object = token.object_end
+closing_token containers.Array = token.array_end
+
+abbrev pub closing_bracket : RustContainerKind → ℕ
+closing_bracket containers.Object = right_brace
+closing_bracket containers.Array = right_bracket
 
 abbrev pub turn_of : RustTurn → Turn
 turn_of turns.Stops = stops

@@ -23,30 +23,25 @@ use facet_format::numeral::{Parts, parts_at};
 use facet_json_token::{ParsedNumber, has_rfc_parts, parse_measured};
 use std::simd::prelude::*;
 
+/// The length of a number and its value.
+type Measured<'de> = (usize, ScalarValue<'de>);
+
 /// The length and the value of the number at `at`, of which this is the first byte, where it allocates nothing.
 #[inline(always)]
-pub fn short_number<'de>(
-    input: &'de [u8],
-    at: usize,
-    first: u8,
-) -> Option<(usize, ScalarValue<'de>)>
+pub fn short_number<'de>(input: &'de [u8], at: usize, first: u8) -> Option<Measured<'de>>
     requires here { slice_get input.now at ≡ Some first }
     requires number { start_of first ≡ opens_number }
     ensures { IfSome result (λ r. IsScalarThere input.now at r.0 (scalar_value_of r.1)) }
 {
     match whole_number(input, at, first) {
         Some(whole) => Some(whole),
-        None => measured_number(input, at, first),
+        None => value_of_parts(input, at, parts_at(input, at)),
     }
 }
 
 /// The same, where it is a number of RFC 8259.
 #[inline(always)]
-pub fn short_number_strict<'de>(
-    input: &'de [u8],
-    at: usize,
-    first: u8,
-) -> Option<(usize, ScalarValue<'de>)>
+pub fn short_number_strict<'de>(input: &'de [u8], at: usize, first: u8) -> Option<Measured<'de>>
     requires here { slice_get input.now at ≡ Some first }
     requires number { start_of first ≡ opens_number }
     ensures there { IfSome result (λ r. IsScalarThere input.now at r.0 (scalar_value_of r.1)) }
@@ -75,11 +70,7 @@ fn leads_by_no_zero(input: &[u8], at: usize, first: u8, len: usize) -> bool
 
 /// The same for each number of RFC 8259, part by part.
 #[inline(always)]
-fn measured_number_strict<'de>(
-    input: &'de [u8],
-    at: usize,
-    first: u8,
-) -> Option<(usize, ScalarValue<'de>)>
+fn measured_number_strict<'de>(input: &'de [u8], at: usize, first: u8) -> Option<Measured<'de>>
     requires here { slice_get input.now at ≡ Some first }
     requires number { start_of first ≡ opens_number }
     ensures there { IfSome result (λ r. IsScalarThere input.now at r.0 (scalar_value_of r.1)) }
@@ -92,23 +83,9 @@ fn measured_number_strict<'de>(
     value_of_parts(input, at, parts)
 }
 
-/// The same for each number, part by part.
-#[inline(always)]
-fn measured_number<'de>(input: &'de [u8], at: usize, first: u8) -> Option<(usize, ScalarValue<'de>)>
-    requires here { slice_get input.now at ≡ Some first }
-    requires number { start_of first ≡ opens_number }
-    ensures { IfSome result (λ r. IsScalarThere input.now at r.0 (scalar_value_of r.1)) }
-{
-    value_of_parts(input, at, parts_at(input, at))
-}
-
 /// The same of the number at `at` that has these parts.
 #[inline(always)]
-fn value_of_parts<'de>(
-    input: &'de [u8],
-    at: usize,
-    parts: Parts,
-) -> Option<(usize, ScalarValue<'de>)>
+fn value_of_parts<'de>(input: &'de [u8], at: usize, parts: Parts) -> Option<Measured<'de>>
     requires here { OpensNumber input.now at }
     requires parts { parts ≡ number_parts (drop at input.now) }
     requires within { at + parts_len parts ≤ length input.now }
@@ -194,11 +171,7 @@ fn eight_bytes(input: &[u8], at: usize) -> u64
 /// The length and the value of the number at `at`, of which this is the first byte, where it is at most fifteen digits, perhaps
 /// after a minus, and enough bytes stand there.
 #[inline(always)]
-pub(crate) fn whole_number<'de>(
-    input: &'de [u8],
-    at: usize,
-    first: u8,
-) -> Option<(usize, ScalarValue<'de>)>
+pub(crate) fn whole_number<'de>(input: &'de [u8], at: usize, first: u8) -> Option<Measured<'de>>
     requires here { slice_get input.now at ≡ Some first }
     requires number { start_of first ≡ opens_number }
     ensures there { IfSome result (λ r. IsScalarThere input.now at r.0 (scalar_value_of r.1)) }
@@ -216,7 +189,7 @@ pub(crate) fn whole_number<'de>(
 
 /// The same for digits alone.
 #[inline(always)]
-fn digits_there<'de>(input: &'de [u8], at: usize, first: u8) -> Option<(usize, ScalarValue<'de>)>
+fn digits_there<'de>(input: &'de [u8], at: usize, first: u8) -> Option<Measured<'de>>
     requires here { slice_get input.now at ≡ Some first }
     requires number { start_of first ≡ opens_number }
     requires no_minus { first ≢ minus }
@@ -232,7 +205,7 @@ fn digits_there<'de>(input: &'de [u8], at: usize, first: u8) -> Option<(usize, S
 
 /// The same for digits after a minus.
 #[inline(always)]
-fn negative_there<'de>(input: &'de [u8], at: usize) -> Option<(usize, ScalarValue<'de>)>
+fn negative_there<'de>(input: &'de [u8], at: usize) -> Option<Measured<'de>>
     requires here { slice_get input.now at ≡ Some minus }
     requires room { at + 17 ≤ length input.now }
     ensures there { IfSome result (λ r. IsScalarThere input.now at r.0 (scalar_value_of r.1)) }

@@ -89,11 +89,29 @@ impl Place {
     {
         match self {
             Place::Root | Place::AfterColon | Place::NextItem => value_turn(token),
-            Place::BeforeKey => key_turn(token),
-            Place::AfterMember => member_turn(token),
-            Place::BeforeItem => first_item_turn(token),
-            Place::AfterItem => item_turn(token),
-            Place::NextKey => next_key_turn(token),
+            Place::BeforeKey => match token {
+                Token::ObjectEnd => Turn::Closes(ContainerKind::Object),
+                Token::String { .. } => Turn::Names,
+                _ => Turn::Stops,
+            },
+            Place::NextKey => match token {
+                Token::String { .. } => Turn::Names,
+                _ => Turn::Stops,
+            },
+            Place::AfterMember => match token {
+                Token::Comma => Turn::Passes(Place::BeforeKey),
+                Token::ObjectEnd => Turn::Closes(ContainerKind::Object),
+                _ => Turn::Stops,
+            },
+            Place::BeforeItem => match token {
+                Token::ArrayEnd => Turn::Closes(ContainerKind::Array),
+                token => value_turn(token),
+            },
+            Place::AfterItem => match token {
+                Token::Comma => Turn::Passes(Place::BeforeItem),
+                Token::ArrayEnd => Turn::Closes(ContainerKind::Array),
+                _ => Turn::Stops,
+            },
             Place::AfterRoot => Turn::Stops,
         }
     }
@@ -125,64 +143,6 @@ fn value_turn(token: &Token) -> Turn
         Token::False => Turn::Scalar,
         Token::String { .. } => Turn::Scalar,
         Token::Number { .. } => Turn::Scalar,
-        _ => Turn::Stops,
-    }
-}
-
-/// The turn of a token after `{`, or after a comma in an object.
-fn key_turn(token: &Token) -> Turn
-    ensures turn { turn_of result ≡ turn_by before_key (kind_of token.now) }
-    ensures names { result ≡ Turn.Names → is_string_token token.now ≡ true }
-{
-    match token {
-        Token::ObjectEnd => Turn::Closes(ContainerKind::Object),
-        Token::String { .. } => Turn::Names,
-        _ => Turn::Stops,
-    }
-}
-
-/// The turn of a token after a comma in an object, where none may trail.
-fn next_key_turn(token: &Token) -> Turn
-    ensures turn { turn_of result ≡ turn_by next_key (kind_of token.now) }
-    ensures names { result ≡ Turn.Names → is_string_token token.now ≡ true }
-{
-    match token {
-        Token::String { .. } => Turn::Names,
-        _ => Turn::Stops,
-    }
-}
-
-/// The turn of a token after a member.
-fn member_turn(token: &Token) -> Turn
-    ensures turn { turn_of result ≡ turn_by after_member (kind_of token.now) }
-    ensures names { result ≡ Turn.Names → is_string_token token.now ≡ true }
-{
-    match token {
-        Token::Comma => Turn::Passes(Place::BeforeKey),
-        Token::ObjectEnd => Turn::Closes(ContainerKind::Object),
-        _ => Turn::Stops,
-    }
-}
-
-/// The turn of a token after `[`, or after a comma in an array.
-fn first_item_turn(token: &Token) -> Turn
-    ensures turn { turn_of result ≡ turn_by before_item (kind_of token.now) }
-    ensures names { result ≡ Turn.Names → is_string_token token.now ≡ true }
-{
-    match token {
-        Token::ArrayEnd => Turn::Closes(ContainerKind::Array),
-        token => value_turn(token),
-    }
-}
-
-/// The turn of a token after an item.
-fn item_turn(token: &Token) -> Turn
-    ensures turn { turn_of result ≡ turn_by after_item (kind_of token.now) }
-    ensures names { result ≡ Turn.Names → is_string_token token.now ≡ true }
-{
-    match token {
-        Token::Comma => Turn::Passes(Place::BeforeItem),
-        Token::ArrayEnd => Turn::Closes(ContainerKind::Array),
         _ => Turn::Stops,
     }
 }

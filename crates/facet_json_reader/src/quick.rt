@@ -2,18 +2,18 @@
 //! token by token, in `reader`.
 
 ghost use Rattle.std.specs.Prelude.{◌≡◌, ◌≤◌, ◌<◌, Bool, ◌+◌, ◌-◌, ℕ, List, Some, length, slice_get, slice_range, true, false, IfSome, IsUtf8, MatchOption};
-ghost use Rattle.facet_format.specs.Bytes.{quote, right_brace, right_bracket};
+ghost use Rattle.facet_format.specs.Bytes.{quote};
 ghost use Rattle.facet_format.specs.Event.{scalar, field_key, borrowed};
 ghost use Rattle.facet_format.specs.Span.{Span as SpecSpan, stop, span_at};
 ghost use Rattle.facet_format.specs.Views.{span_of, event_of, scalar_value_of};
 ghost use Rattle.facet_json_token.specs.Cut.{start_of, opens_number};
 ghost use Rattle.facet_json_token.specs.Token.{comma, string};
 ghost use Rattle.facet_json_document.specs.Future.{within};
-ghost use Rattle.facet_json_document.specs.Place.{Place as SpecPlace, led, passes, place_turn};
+ghost use Rattle.facet_json_document.specs.Place.{Place as SpecPlace, led, passes, says, place_turn};
 ghost use Rattle.facet_json_document.specs.Language.{Language as SpecLanguage, lenient, strict, rules};
 ghost use Rattle.facet_json_token.specs.Gap.{Mode as SpecMode};
 ghost use Rattle.facet_json_document.specs.StrictTokens.{Allows};
-ghost use Rattle.facet_json_reader.specs.PlaceViews.{language_of, least_of, place_of, opening_event, closing_event};
+ghost use Rattle.facet_json_reader.specs.PlaceViews.{language_of, least_of, place_of, opening_event, closing_event, closing_token, closing_bracket};
 ghost use Rattle.facet_json_reader.specs.Values.{AreUnescaped, IsPlainText};
 ghost use Rattle.facet_json_reader.specs.Quick.{MayBeKey, MayBeValue, Reaches, IsWord, Leaves, PassesQuickly};
 ghost use Rattle.facet_json_reader.specs.Views.{stage_of};
@@ -53,8 +53,8 @@ impl Reader {
         let first = *input.get(at)?;
         match first {
             b'"' => self.pass_string(input, language, trust, place, at),
-            b'}' => self.pass_object_end(place, at),
-            b']' => self.pass_array_end(place, at),
+            b'}' => self.pass_closing(ContainerKind::Object, place, at),
+            b']' => self.pass_closing(ContainerKind::Array, place, at),
             _ => self.pass_value(input, language, place, at, first),
         }
     }
@@ -105,29 +105,22 @@ impl Reader {
         }
     }
 
-    /// Passes the bracket that closes an object, which stands here.
+    /// Passes the bracket that closes a container of this kind, which stands here.
     #[inline(always)]
-    fn pass_object_end<'de>(&mut self, place: Place, at: usize) -> Option<ParseEvent<'de>>
-        ensures { (buffer : List ℕ) (language : SpecLanguage) → slice_get buffer at ≡ Some right_brace
+    fn pass_closing<'de>(
+        &mut self,
+        kind: ContainerKind,
+        place: Place,
+        at: usize,
+    ) -> Option<ParseEvent<'de>>
+        ensures { (buffer : List ℕ) (language : SpecLanguage) → slice_get buffer at ≡ Some (closing_bracket kind)
             → Reaches buffer language self.old (place_of place) at → MatchOption result (self.new ≡ self.old)
             (λ e. PassesQuickly buffer language self.old (event_of e) self.new) }
     {
-        match place {
-            Place::BeforeKey | Place::AfterMember => Some(self.pass_end(ContainerKind::Object, at)),
-            _ => None,
-        }
-    }
-
-    /// Passes the bracket that closes an array, which stands here.
-    #[inline(always)]
-    fn pass_array_end<'de>(&mut self, place: Place, at: usize) -> Option<ParseEvent<'de>>
-        ensures { (buffer : List ℕ) (language : SpecLanguage) → slice_get buffer at ≡ Some right_bracket
-            → Reaches buffer language self.old (place_of place) at → MatchOption result (self.new ≡ self.old)
-            (λ e. PassesQuickly buffer language self.old (event_of e) self.new) }
-    {
-        match place {
-            Place::BeforeItem | Place::AfterItem => Some(self.pass_end(ContainerKind::Array, at)),
-            _ => None,
+        if closes_at(kind, place) {
+            Some(self.pass_end(kind, at))
+        } else {
+            None
         }
     }
 
@@ -326,6 +319,17 @@ fn after_comma(language: Language, place: Place) -> Option<Place>
         Place::AfterItem => Some(language.led(Place::BeforeItem)),
         Place::AfterMember => Some(language.led(Place::BeforeKey)),
         _ => None,
+    }
+}
+
+/// Whether a container of this kind may end at this place.
+#[inline(always)]
+fn closes_at(kind: ContainerKind, place: Place) -> bool
+    ensures { result ≡ true → place_turn (place_of place) (closing_token kind) ≡ says (closing_event kind) }
+{
+    match kind {
+        ContainerKind::Object => matches!(place, Place::BeforeKey | Place::AfterMember),
+        ContainerKind::Array => matches!(place, Place::BeforeItem | Place::AfterItem),
     }
 }
 

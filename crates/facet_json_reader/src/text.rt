@@ -19,31 +19,17 @@ pub fn checked_text_at<'de>(input: &'de [u8], at: usize, least: u8) -> Option<(u
     ensures unescaped { IfSome result (λ r. AreUnescaped least (slice_range input.now (at + 1) r.0)) }
     ensures within { IfSome result (λ r. (at < r.0) × (r.0 < length input.now)) }
 {
-    match ascii_text_at(input, at, least) {
-        Some(found) => Some(found),
+    match closing_quote::<Ordinary>(input, at, least) {
+        Some(end) => Some((end, plain_text_unchecked(input, at + 1, end))),
         None => other_text_at(input, at, least),
     }
 }
 
-/// The same of a text that is ASCII: one pass.
-#[inline(always)]
-fn ascii_text_at<'de>(input: &'de [u8], at: usize, least: u8) -> Option<(usize, &'de str)>
-    requires here { slice_get input.now at ≡ Some quote }
-    ensures text { IfSome result (λ r. IsPlainText input.now at r.0 r.1.now) }
-    ensures unescaped { IfSome result (λ r. AreUnescaped least (slice_range input.now (at + 1) r.0)) }
-    ensures within { IfSome result (λ r. (at < r.0) × (r.0 < length input.now)) }
-{
-    let end = closing_quote::<Ordinary>(input, at, least)?;
-    Some((end, plain_text_unchecked(input, at + 1, end)))
-}
-
-/// The same of any text: its end is found first, and then it is checked.
+/// The same where a byte is no ASCII: the end of the text is found first, and then it is checked.
 #[inline(never)]
 fn other_text_at<'de>(input: &'de [u8], at: usize, least: u8) -> Option<(usize, &'de str)>
-    requires here { slice_get input.now at ≡ Some quote }
-    ensures text { IfSome result (λ r. IsPlainText input.now at r.0 r.1.now) }
-    ensures unescaped { IfSome result (λ r. AreUnescaped least (slice_range input.now (at + 1) r.0)) }
-    ensures within { IfSome result (λ r. (at < r.0) × (r.0 < length input.now)) }
+    requires { slice_get input.now at ≡ Some quote }
+    ensures { IfSome result (λ r. IsClosedAt least input.now at r.0 × IsPlainText input.now at r.0 r.1.now) }
 {
     let end = closing_quote::<Unescaped>(input, at, least)?;
     let text = plain_text(input, at + 1, end)?;

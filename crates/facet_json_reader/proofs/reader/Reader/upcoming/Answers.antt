@@ -1,13 +1,21 @@
-use Rattle.std.proofs.Common.{◌∙◌, refl, sym, ap, subst, arith}
+use Rattle.std.proofs.Common.{◌≡◌, ◌∙◌, refl, sym, ap, subst, arith}
 use Rattle.std.proofs.lemmas.Result.{err_from_is_err_and}
 use Rattle.facet_format.specs.Views.{span_of}
-use Rattle.facet_json_reader.specs.PlaceViews.{language_of, place_of}
+use Rattle.facet_json_token.specs.Views.{kind_of}
+use Rattle.facet_json_document.specs.Place.{stops}
+use Rattle.facet_json_reader.specs.PlaceViews.{language_of, place_of, turn_of, turn_by}
+use Rattle.facet_json_reader.specs.declared.place.Turn.{Turn as RustTurn}
 use Rattle.facet_json_reader.specs.declared.place.Turn.TheVariants as turns
-use Rattle.facet_json_reader.specs.Views.{GivesHeld}
+use Rattle.facet_json_reader.specs.Views.{GivesHeld, IsTurn}
 use Rattle.facet_json_reader.proofs.PastSeparators.{over-comes, is-turn, stopped-refused, earlier-refused}
 use Rattle.facet_json_reader.proofs.EventsAtTurns.{says-given, passes-comes, stops-refused}
 use Rattle.facet_json_reader.proofs.ScannedTokens.{cut-readable, fault-stops}
 use Rattle.facet_json_reader.proofs.reader.Reader.upcoming.Goals as goal
+
+-- The turn of the token that was cut.
+turn : (c : goal.In_ok-token) (way : RustTurn) → turn_of way ≡ turn_by (place_of c.loop-token.place) (kind_of c.in_ok-token.token.token) → (turn_of way ≡ stops → ⊥) →
+    IsTurn c.args.input.now (language_of c.args.language) (place_of c.loop-token.place) c.loop-token.position c.in_ok-token.token way
+turn c way = is-turn c.args.input.now (language_of c.args.language) c.loop-token.place c.loop-token.position c.in_ok-token.token way c.loop-token.invariant.ends c.in_ok-token.ensures.answer
 
 pub returns-in_err-end : goal.returns-in_err-end
 returns-in_err-end c =
@@ -21,12 +29,10 @@ returns-in_default c = over-comes c.args.input.now (language_of c.args.language)
 
 pub returns-in_err-token : goal.returns-in_err-token
 returns-in_err-token c =
-    let r = c.args.self.now in
-    let l = c.loop-token in
     let p = err_from_is_err_and c.from_residual-in_err-token.result c.from_residual-in_err-token.ensures.1 in
-    let stops = fault-stops c.args.input.now l.position (language_of c.args.language) c.in_err-token.field-0.0 (place_of l.place) _ l.invariant.ends c.in_err-token.ensures.answer p.2 in
-    let here = stops-refused c.args.input.now (language_of c.args.language) r.contexts (place_of l.place) l.position (span_of r.last) _ _ refl stops in
-    rw p.1 (earlier-refused c.args.input.now (span_of r.last) _ _ _ l.invariant.same here)
+    let stops = fault-stops c.args.input.now c.loop-token.position (language_of c.args.language) c.in_err-token.field-0.0 (place_of c.loop-token.place) _ c.loop-token.invariant.ends c.in_err-token.ensures.answer p.2 in
+    let here = stops-refused c.args.input.now (language_of c.args.language) c.args.self.now.contexts (place_of c.loop-token.place) c.loop-token.position (span_of c.args.self.now.last) _ _ refl stops in
+    rw p.1 (earlier-refused c.args.input.now (span_of c.args.self.now.last) _ _ _ c.loop-token.invariant.same here)
 
 pub stopped-requires : goal.stopped-requires
 stopped-requires c =
@@ -34,45 +40,35 @@ stopped-requires c =
 
 pub returns-in-Stops : goal.returns-in-Stops
 returns-in-Stops c =
-    let r = c.args.self.now in
-    let l = c.loop-token in
-    let here = stopped-refused c.args.input.now (language_of c.args.language) r.contexts l.place l.position c.in_ok-token.token (span_of r.last) _ l.invariant.ends c.in_ok-token.ensures.answer c.in-Stops.ensures.turn (λ e. c.stopped.ensures.end e (c.in_ok-token.ensures.end e)) c.stopped.ensures.token in
-    earlier-refused c.args.input.now (span_of r.last) _ _ _ l.invariant.same here
+    let here = stopped-refused c.args.input.now (language_of c.args.language) c.args.self.now.contexts c.loop-token.place c.loop-token.position c.in_ok-token.token (span_of c.args.self.now.last) _ c.loop-token.invariant.ends c.in_ok-token.ensures.answer c.in-Stops.ensures.turn (λ e. c.stopped.ensures.end e (c.in_ok-token.ensures.end e)) c.stopped.ensures.token in
+    earlier-refused c.args.input.now (span_of c.args.self.now.last) _ _ _ c.loop-token.invariant.same here
 
 pub loop-token-smaller : goal.loop-token-smaller
 loop-token-smaller c =
-    let r = c.args.self.now in
-    let l = c.loop-token in
-    let t = is-turn c.args.input.now (language_of c.args.language) l.place l.position c.in_ok-token.token (turns.Passes c.in-Passes.next) l.invariant.ends c.in_ok-token.ensures.answer c.in-Passes.ensures.turn (λ e. cc) in
+    let t = turn (goal.at.loop-token-smaller c).In_ok-token (turns.Passes c.in-Passes.next) c.in-Passes.ensures.turn (λ e. cc) in
     omega (arith, t.past, t.ends, c.end-position-in-Passes.ensures.fits (omega (arith, t.ends)))
 
 pub loop-token-preserved : goal.loop-token-preserved
 loop-token-preserved c =
-    let r = c.args.self.now in
-    let l = c.loop-token in
-    let t = is-turn c.args.input.now (language_of c.args.language) l.place l.position c.in_ok-token.token (turns.Passes c.in-Passes.next) l.invariant.ends c.in_ok-token.ensures.answer c.in-Passes.ensures.turn (λ e. cc) in
+    let t = turn (goal.at.loop-token-preserved c).In_ok-token (turns.Passes c.in-Passes.next) c.in-Passes.ensures.turn (λ e. cc) in
     let ends = c.end-position-in-Passes.ensures.fits (omega (arith, t.ends)) in
     record {
       ends = omega (arith, t.ends, ends);
-      same = rw (ends, c.led-place.ensures) (passes-comes c.args.input.now (language_of c.args.language) r.contexts (place_of l.place) l.position c.in_ok-token.token (turns.Passes c.in-Passes.next) (place_of c.in-Passes.next) refl t ∙ l.invariant.same);
+      same = rw (ends, c.led-place.ensures) (passes-comes c.args.input.now (language_of c.args.language) c.args.self.now.contexts (place_of c.loop-token.place) c.loop-token.position c.in_ok-token.token (turns.Passes c.in-Passes.next) (place_of c.in-Passes.next) refl t ∙ c.loop-token.invariant.same);
     }
 
 pub returns-in-Opens : goal.returns-in-Opens
 returns-in-Opens c =
-    let r = c.args.self.now in
-    let l = c.loop-token in
-    let t = is-turn c.args.input.now (language_of c.args.language) l.place l.position c.in_ok-token.token (turns.Opens c.in-Opens.kind) l.invariant.ends c.in_ok-token.ensures.answer c.in-Opens.ensures.turn (λ e. cc) in
-    let here = says-given c.args.input.now (language_of c.args.language) r.contexts (place_of l.place) l.position c.in_ok-token.token (turns.Opens c.in-Opens.kind) _ refl t c.event.result (rw c.opening.ensures at c.event.ensures.event) (ap span_of c.event.ensures.last) in
-    subst (λ f. GivesHeld f c.event.result) l.invariant.same here
+    let t = turn (goal.at.returns-in-Opens c).In_ok-token (turns.Opens c.in-Opens.kind) c.in-Opens.ensures.turn (λ e. cc) in
+    let here = says-given c.args.input.now (language_of c.args.language) c.args.self.now.contexts (place_of c.loop-token.place) c.loop-token.position c.in_ok-token.token (turns.Opens c.in-Opens.kind) _ refl t c.event.result (rw c.opening.ensures at c.event.ensures.event) (ap span_of c.event.ensures.last) in
+    subst (λ f. GivesHeld f c.event.result) c.loop-token.invariant.same here
 
 pub returns-in-Closes : goal.returns-in-Closes
 returns-in-Closes c =
-    let r = c.args.self.now in
-    let l = c.loop-token in
-    let t = is-turn c.args.input.now (language_of c.args.language) l.place l.position c.in_ok-token.token (turns.Closes c.in-Closes.kind) l.invariant.ends c.in_ok-token.ensures.answer c.in-Closes.ensures.turn (λ e. cc) in
+    let t = turn (goal.at.returns-in-Closes c).In_ok-token (turns.Closes c.in-Closes.kind) c.in-Closes.ensures.turn (λ e. cc) in
     let held = c.event-in-Closes in
-    let here = says-given c.args.input.now (language_of c.args.language) r.contexts (place_of l.place) l.position c.in_ok-token.token (turns.Closes c.in-Closes.kind) _ refl t held.result (rw c.closing.ensures at held.ensures.event) (ap span_of held.ensures.last) in
-    subst (λ f. GivesHeld f held.result) l.invariant.same here
+    let here = says-given c.args.input.now (language_of c.args.language) c.args.self.now.contexts (place_of c.loop-token.place) c.loop-token.position c.in_ok-token.token (turns.Closes c.in-Closes.kind) _ refl t held.result (rw c.closing.ensures at held.ensures.event) (ap span_of held.ensures.last) in
+    subst (λ f. GivesHeld f held.result) c.loop-token.invariant.same here
 
 pub scalar-requires : goal.scalar-requires
 scalar-requires c =
@@ -80,20 +76,16 @@ scalar-requires c =
 
 pub returns-in_err-scalar-in-Scalar : goal.returns-in_err-scalar-in-Scalar
 returns-in_err-scalar-in-Scalar c =
-    let r = c.args.self.now in
-    let l = c.loop-token in
-    let t = is-turn c.args.input.now (language_of c.args.language) l.place l.position c.in_ok-token.token turns.Scalar l.invariant.ends c.in_ok-token.ensures.answer c.in-Scalar.ensures.turn (λ e. cc) in
+    let t = turn (goal.at.returns-in_err-scalar-in-Scalar c).In_ok-token turns.Scalar c.in-Scalar.ensures.turn (λ e. cc) in
     let p = err_from_is_err_and c.from_residual-in_err-scalar-in-Scalar.result c.from_residual-in_err-scalar-in-Scalar.ensures.1 in
-    let here = c.in_err-scalar-in-Scalar.ensures (language_of c.args.language) r.contexts (place_of l.place) l.position t in
-    rw (p.1, p.2) (earlier-refused c.args.input.now (span_of r.last) _ _ _ l.invariant.same here)
+    let here = c.in_err-scalar-in-Scalar.ensures (language_of c.args.language) c.args.self.now.contexts (place_of c.loop-token.place) c.loop-token.position t in
+    rw (p.1, p.2) (earlier-refused c.args.input.now (span_of c.args.self.now.last) _ _ _ c.loop-token.invariant.same here)
 
 pub returns-in-Scalar : goal.returns-in-Scalar
 returns-in-Scalar c =
-    let r = c.args.self.now in
-    let l = c.loop-token in
-    let t = is-turn c.args.input.now (language_of c.args.language) l.place l.position c.in_ok-token.token turns.Scalar l.invariant.ends c.in_ok-token.ensures.answer c.in-Scalar.ensures.turn (λ e. cc) in
-    let here = c.in_ok-scalar-in-Scalar.ensures (language_of c.args.language) r.contexts (place_of l.place) l.position t in
-    subst (λ f. GivesHeld f c.in_ok-scalar-in-Scalar.field-0) l.invariant.same here
+    let t = turn (goal.at.returns-in-Scalar c).In_ok-token turns.Scalar c.in-Scalar.ensures.turn (λ e. cc) in
+    let here = c.in_ok-scalar-in-Scalar.ensures (language_of c.args.language) c.args.self.now.contexts (place_of c.loop-token.place) c.loop-token.position t in
+    subst (λ f. GivesHeld f c.in_ok-scalar-in-Scalar.field-0) c.loop-token.invariant.same here
 
 pub key-requires-clause-token : goal.key-requires-clause-token
 key-requires-clause-token c =
@@ -101,24 +93,18 @@ key-requires-clause-token c =
 
 pub key-requires-clause-within : goal.key-requires-clause-within
 key-requires-clause-within c =
-    let r = c.args.self.now in
-    let l = c.loop-token in
-    let t = is-turn c.args.input.now (language_of c.args.language) l.place l.position c.in_ok-token.token turns.Names l.invariant.ends c.in_ok-token.ensures.answer c.in-Names.ensures.turn (λ e. cc) in
+    let t = turn (goal.at.key-requires-clause-within c).In_ok-token turns.Names c.in-Names.ensures.turn (λ e. cc) in
     t.ends
 
 pub returns-in_err-key-in-Names : goal.returns-in_err-key-in-Names
 returns-in_err-key-in-Names c =
-    let r = c.args.self.now in
-    let l = c.loop-token in
-    let t = is-turn c.args.input.now (language_of c.args.language) l.place l.position c.in_ok-token.token turns.Names l.invariant.ends c.in_ok-token.ensures.answer c.in-Names.ensures.turn (λ e. cc) in
+    let t = turn (goal.at.returns-in_err-key-in-Names c).In_ok-token turns.Names c.in-Names.ensures.turn (λ e. cc) in
     let p = err_from_is_err_and c.from_residual-in_err-key-in-Names.result c.from_residual-in_err-key-in-Names.ensures.1 in
-    let here = c.in_err-key-in-Names.ensures r.contexts (place_of l.place) l.position t in
-    rw (p.1, p.2) (earlier-refused c.args.input.now (span_of r.last) _ _ _ l.invariant.same here)
+    let here = c.in_err-key-in-Names.ensures c.args.self.now.contexts (place_of c.loop-token.place) c.loop-token.position t in
+    rw (p.1, p.2) (earlier-refused c.args.input.now (span_of c.args.self.now.last) _ _ _ c.loop-token.invariant.same here)
 
 pub returns-in-Names : goal.returns-in-Names
 returns-in-Names c =
-    let r = c.args.self.now in
-    let l = c.loop-token in
-    let t = is-turn c.args.input.now (language_of c.args.language) l.place l.position c.in_ok-token.token turns.Names l.invariant.ends c.in_ok-token.ensures.answer c.in-Names.ensures.turn (λ e. cc) in
-    let here = c.in_ok-key-in-Names.ensures r.contexts (place_of l.place) l.position t in
-    subst (λ f. GivesHeld f c.in_ok-key-in-Names.field-0) l.invariant.same here
+    let t = turn (goal.at.returns-in-Names c).In_ok-token turns.Names c.in-Names.ensures.turn (λ e. cc) in
+    let here = c.in_ok-key-in-Names.ensures c.args.self.now.contexts (place_of c.loop-token.place) c.loop-token.position t in
+    subst (λ f. GivesHeld f c.in_ok-key-in-Names.field-0) c.loop-token.invariant.same here
