@@ -10,9 +10,9 @@ use Rattle.facet_json_token.specs.declared.token.ScanError.{ScanError}
 use Rattle.facet_format.specs.Number.{Hint}
 use Rattle.facet_format.specs.Span.{stop}
 use Rattle.facet_format.specs.Views.{span_of, hint_of}
-use Rattle.facet_json_token.specs.Cut.{Cut, fault, cut}
+use Rattle.facet_json_token.specs.Cut.{Cut, cut}
 use Rattle.facet_json_token.specs.Gap.{Mode}
-use Rattle.facet_json_token.specs.Token.{Kind, Token, number, unexpected_char}
+use Rattle.facet_json_token.specs.Token.{Kind, number, unexpected_char}
 use Rattle.facet_json_token.specs.Views.{kind_of, scanned, fault_answer}
 use Rattle.facet_json_token.proofs.CutBounds.{KindFits, StringFits, NumberFits}
 use Rattle.facet_json_token.specs.RfcNumber.{IsRfcNumber}

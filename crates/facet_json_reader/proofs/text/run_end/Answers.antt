@@ -1,5 +1,5 @@
 -- A window in which no byte ends the run is passed, and in another the run ends.
-use Rattle.std.proofs.Common.{◌<◌, ap, arith}
+use Rattle.std.proofs.Common.{ap, arith}
 use lib.Count.{count_trailing_zeros}
 use Rattle.facet_format.proofs.Windows.{mask_through, mask_stops, mask_within}
 use Rattle.facet_json_reader.proofs.text.run_end.Goals as goal
