@@ -5,4 +5,4 @@ use Rattle.facet_json_reader.proofs.text.checked_text_at.Goals as goal
 
 pub plain_text_unchecked-requires-clause-utf8 : goal.plain_text_unchecked-requires-clause-utf8
 plain_text_unchecked-requires-clause-utf8 c =
-    run-text c.args.least c.args.input.now (c.args.at + 1) c.in_ok-end.end c.in_ok-end.ensures.run
+    run-text c.args.least c.args.input.now (c.args.at + 1) c.in-Some.end c.in-Some.ensures.run

@@ -10,4 +10,4 @@ returns-then-closes_at c =
     λ buffer language here reached.
     let kind = c.args.kind in
     bracket-passes buffer language c.args.self.now (place_of c.args.place) c.args.at (closing_token kind) (closing_event kind) (event_of c.pass_end.result) c.pass_end.new.self
-    reached (closing-cut (gaps language) buffer c.args.at kind here) ? c.pass_end.ensures
+    reached (closing-cut (gaps language) buffer c.args.at kind here) (c.if-closes_at.ensures refl) c.pass_end.ensures
