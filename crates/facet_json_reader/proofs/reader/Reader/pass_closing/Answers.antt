@@ -1,4 +1,5 @@
 -- The bracket gives the end of the container.
+use Rattle.std.proofs.Common.{refl}
 use Rattle.facet_format.specs.Views.{event_of}
 use Rattle.facet_json_document.specs.Language.{gaps}
 use Rattle.facet_json_reader.specs.PlaceViews.{place_of, closing_event, closing_token}

@@ -11,9 +11,10 @@ use Rattle.facet_json_reader.proofs.PastSeparators.{over-comes, is-turn, stopped
 use Rattle.facet_json_reader.proofs.EventsAtTurns.{says-given, passes-comes, stops-refused}
 use Rattle.facet_json_reader.proofs.ScannedTokens.{cut-readable, fault-stops}
 use Rattle.facet_json_reader.proofs.reader.Reader.upcoming.Goals as goal
+use Rattle.facet_json_reader.proofs.reader.Reader.upcoming.Goals.{In_ok-token}
 
 -- The turn of the token that was cut.
-turn : (c : goal.In_ok-token) (way : RustTurn) → turn_of way ≡ turn_by (place_of c.loop-token.place) (kind_of c.in_ok-token.token.token) → (turn_of way ≡ stops → ⊥) →
+turn : (c : In_ok-token) (way : RustTurn) → turn_of way ≡ turn_by (place_of c.loop-token.place) (kind_of c.in_ok-token.token.token) → (turn_of way ≡ stops → ⊥) →
     IsTurn c.args.input.now (language_of c.args.language) (place_of c.loop-token.place) c.loop-token.position c.in_ok-token.token way
 turn c way = is-turn c.args.input.now (language_of c.args.language) c.loop-token.place c.loop-token.position c.in_ok-token.token way c.loop-token.invariant.ends c.in_ok-token.ensures.answer
 
