@@ -13,8 +13,8 @@ ghost use Rattle.facet_json_core.specs.Refusing.{TellsRefusal};
 ghost use Rattle.facet_json.specs.Fields.{keys, table, fields_of, begins_with, first_name, other_names, joined, LacksField};
 
 use facet_format::{DeserializeError, DeserializeErrorKind, FormatParser, Span};
-use facet_json_facet::{Facet, value_in};
 use facet_json_facet::steps::{begin_object, next_name, pass_value};
+use facet_json_facet::{Facet, value_in};
 use facet_json_parser::JsonParser;
 use std::alloc::Global;
 
