@@ -1,5 +1,5 @@
 -- What is found after a gap, from what is found where it ends.
-use Rattle.std.proofs.Common.{◌≡◌, ℕ, zero, suc, ◌+◌, ◌≤◌, ◌<◌, Bool, true, false, cond, List, [], ◌∷◌, length, drop, Some, refl, sym, ap, ◌∙◌, subst, arith}
+use Rattle.std.proofs.Common.{◌≡◌, ℕ, zero, suc, ◌+◌, ◌≤◌, ◌<◌, Bool, true, false, cond, List, [], ◌∷◌, ◌++◌, length, drop, Some, refl, sym, ap, ◌∙◌, subst, arith}
 use Rattle.std.proofs.lemmas.List.{append-nil, drop-drop, length-drop}
 use Rattle.facet_json_scan.specs.declared.scanner.token.Found.{Found}
 use Rattle.facet_json_scan.specs.declared.scanner.token.Found.TheVariants as found
@@ -12,6 +12,7 @@ use Rattle.facet_json_scan.specs.Scanner.{Describes, answer_for, past_growing_ga
 use Rattle.facet_json_scan.specs.Inner.Found.{FoundHere, FoundFrom, state_of}
 use Rattle.facet_json_token.proofs.GapSteps.{past_gap-piece}
 use Rattle.facet_json_token.proofs.Gaps.{piece_len-blank, gap_len-none, gap_len-some, gap_len-piece, gap_len-bound}
+use Rattle.facet_json_scan.proofs.Segments.{between, between-rest}
 use Rattle.facet_json_scan.proofs.Growth.GrowthOfGap.{piece_len-keeps}
 use Rattle.facet_json_scan.proofs.Growth.GrowthOfCut.{past_gap-stays}
 
@@ -40,6 +41,12 @@ found-no_gap mode buffer p (found.Answer at result) room none h =
 found-no_gap mode buffer p (found.Open at s) room none h =
     let q = growing_gap-none mode buffer p none in
     (h.0 ∙ sym q, subst (λ n. Describes mode (state_of s) (drop n buffer)) (sym q) h.1)
+
+-- The same where what stands up to a later offset is known.
+pub found-goes_on : (mode : Mode) (buffer : List ℕ) (start at : ℕ) (f : Found) → start ≤ at → at ≤ length buffer →
+    piece_len mode growing (between buffer start at ++ drop at buffer) ≡ 0 → FoundHere mode buffer start f → FoundFrom mode buffer start f
+found-goes_on mode buffer start at f order room none =
+    found-no_gap mode buffer start f (omega arith) (ap (piece_len mode growing) (between-rest buffer start at order room) ∙ none)
 
 -- After a piece it is found from where the piece begins.
 pub found-piece : (mode : Mode) (buffer : List ℕ) (p end : ℕ) (f : Found) → p < end → end ≤ length buffer →

@@ -100,15 +100,12 @@ cut-word : (buffer : List ℕ) (at b : ℕ) (word : List ℕ) (kind : Kind) → 
     cut_word at (drop at buffer) word kind (common_len word (drop at buffer)) ≡ cut buffer at mode
 cut-word buffer at b word kind h e s n mode = cut_here-word mode buffer at b word kind h e ∙ cut-here mode buffer at b h s n
 
-above-space : (b : ℕ) → 0x20 < b → is_space b ≡ false
-above-space b h = rw (ne_eqb b space (λ e. omega (arith, h, e)), ne_eqb b tab (λ e. omega (arith, h, e)), ne_eqb b line_feed (λ e. omega (arith, h, e)), ne_eqb b carriage_return (λ e. omega (arith, h, e))) refl
-
 -- a number
 pub cut-number : (buffer : List ℕ) (at b : ℕ) → slice_get buffer at ≡ Some b → minus ≤ b → b ≤ 0x39 → b ≢ 0x2e → b ≢ slash →
     (mode : Mode) → number_at at (drop (at + 1) buffer) (parts (drop at buffer)) ≡ cut buffer at mode
 cut-number buffer at b h low high no_dot no_slash mode =
     cut_here-number mode buffer at b h (start_of-number_range b low high no_dot no_slash)
-    ∙ cut-here mode buffer at b h (above-space b (omega (arith, low))) (ne_eqb b slash no_slash)
+    ∙ cut-here mode buffer at b h (above_space b (omega (arith, low))) (ne_eqb b slash no_slash)
 
 common-whole : (word bytes : List ℕ) → starts_with eqb bytes word ≡ true → length word ≡ common_len word bytes
 common-whole [] bytes e = refl

@@ -236,21 +236,22 @@ sign-after_mark b e = λ text i.
     exponent-grows text b i.hint n in_exponent (exponent-sign n.exponent n.has_exponent b n.is_exponent one e)
     (exponent-last n.fraction n.exponent b (λ z. omega (arith, one, ap length z)))
 
+-- A digit after the mark, or after what follows it.
+exponent_digit-grows : (text : List ℕ) (b : ℕ) (hint : Hint) (n : IsNumeral text hint) → n.exponent ≢ [] →
+    is_digit b ≡ true → EndsIn in_exponent (text ++ b ∷ [])
+exponent_digit-grows text b hint n some e =
+    exponent-grows text b hint n in_exponent (exponent-digit n.exponent n.has_exponent b n.is_exponent some e)
+    (exponent-last n.fraction n.exponent b some)
+
 pub digit-after_mark : (b : ℕ) → is_digit b ≡ true → ExtendsWith at_mark b in_exponent
 digit-after_mark b e = λ text i.
-    let n = i.numeral in
-    let one = last-mark n.fraction n.exponent i.last in
-    let some : n.exponent ≢ [] = λ z. omega (arith, one, ap length z) in
-    exponent-grows text b i.hint n in_exponent (exponent-digit n.exponent n.has_exponent b n.is_exponent some e)
-    (exponent-last n.fraction n.exponent b some)
+    let one = last-mark i.numeral.fraction i.numeral.exponent i.last in
+    exponent_digit-grows text b i.hint i.numeral (λ z. omega (arith, one, ap length z)) e
 
 pub digit-after_exponent : (b : ℕ) → is_digit b ≡ true → ExtendsWith in_exponent b in_exponent
 digit-after_exponent b e = λ text i.
-    let n = i.numeral in
-    let two = last-exponent n.fraction n.exponent i.last in
-    let some : n.exponent ≢ [] = λ z. omega (arith, two, ap length z) in
-    exponent-grows text b i.hint n in_exponent (exponent-digit n.exponent n.has_exponent b n.is_exponent some e)
-    (exponent-last n.fraction n.exponent b some)
+    let two = last-exponent i.numeral.fraction i.numeral.exponent i.last in
+    exponent_digit-grows text b i.hint i.numeral (λ z. omega (arith, two, ap length z)) e
 
 -- ---- a byte that a number ends before
 

@@ -25,168 +25,95 @@ token_of kind offset len = record { kind = kind; span = span_at offset len }
 
 -- ---- literals
 
--- What follows the letters of a literal is not looked at.
-letters_after_row : cut (codes "truex") 0 plain ≡ token_at true_literal 0 4
+literals :
+    -- What follows the letters of a literal is not looked at.
+    (cut (codes "truex") 0 plain ≡ token_at true_literal 0 4)
+    -- The first letter that differs is the fault.
+    × (cut (codes "trux") 0 plain ≡ fault_at (unexpected_char 0x78) 3 1)
+    -- A literal may not end with the input.
+    × (cut (codes "tru") 0 plain ≡ fault_at (unexpected_eof in_literal) 0 3)
+    -- Nor may this one.
+    × (cut (codes "nul") 0 plain ≡ fault_at (unexpected_eof in_literal) 0 3)
+    -- Nor this.
+    × (cut (codes "fals") 0 plain ≡ fault_at (unexpected_eof in_literal) 0 4)
 unfolding cut cut_here start_of parts gap_len_from
-letters_after_row = refl
-
--- The first letter that differs is the fault.
-wrong_letter_row : cut (codes "trux") 0 plain ≡ fault_at (unexpected_char 0x78) 3 1
-unfolding cut cut_here start_of parts gap_len_from
-wrong_letter_row = refl
-
--- A literal may not end with the input.
-part_of_true_row : cut (codes "tru") 0 plain ≡ fault_at (unexpected_eof in_literal) 0 3
-unfolding cut cut_here start_of parts gap_len_from
-part_of_true_row = refl
-
--- Nor may this one.
-part_of_null_row : cut (codes "nul") 0 plain ≡ fault_at (unexpected_eof in_literal) 0 3
-unfolding cut cut_here start_of parts gap_len_from
-part_of_null_row = refl
-
--- Nor this.
-part_of_false_row : cut (codes "fals") 0 plain ≡ fault_at (unexpected_eof in_literal) 0 4
-unfolding cut cut_here start_of parts gap_len_from
-part_of_false_row = refl
+literals = (refl, refl, refl, refl, refl)
 
 -- ---- numbers
 
--- A minus is no number.
-minus_alone_row : cut (codes "-") 0 plain ≡ fault_at (unexpected_eof in_number) 0 1
+numbers :
+    -- A minus is no number.
+    (cut (codes "-") 0 plain ≡ fault_at (unexpected_eof in_number) 0 1)
+    -- What follows a minus alone is the fault, shown at the minus.
+    × (cut (codes "-x") 0 plain ≡ fault_at (unexpected_char 0x78) 0 1)
+    -- A dot begins nothing.
+    × (cut (codes ".5") 0 plain ≡ fault_at (unexpected_char dot) 0 1)
+    -- No digit need follow a dot.
+    × (cut (codes "1.") 0 plain ≡ token_at (number 0 2 float) 0 2)
+    -- Nor need one stand before it.
+    × (cut (codes "-.5") 0 plain ≡ token_at (number 0 3 float) 0 3)
+    -- No digit need follow an exponent mark.
+    × (cut (codes "1e") 0 plain ≡ token_at (number 0 2 float) 0 2)
+    -- A fraction may be a dot alone.
+    × (cut (codes "1.e5") 0 plain ≡ token_at (number 0 4 float) 0 4)
+    -- Leading zeros may stand.
+    × (cut (codes "007") 0 plain ≡ token_at (number 0 3 unsigned) 0 3)
+    -- A minus and digits.
+    × (cut (codes "-42]") 0 plain ≡ token_at (number 0 3 signed) 0 3)
 unfolding cut cut_here start_of parts gap_len_from
-minus_alone_row = refl
-
--- What follows a minus alone is the fault, shown at the minus.
-minus_and_letter_row : cut (codes "-x") 0 plain ≡ fault_at (unexpected_char 0x78) 0 1
-unfolding cut cut_here start_of parts gap_len_from
-minus_and_letter_row = refl
-
--- A dot begins nothing.
-dot_first_row : cut (codes ".5") 0 plain ≡ fault_at (unexpected_char dot) 0 1
-unfolding cut cut_here start_of parts gap_len_from
-dot_first_row = refl
-
--- No digit need follow a dot.
-dot_last_row : cut (codes "1.") 0 plain ≡ token_at (number 0 2 float) 0 2
-unfolding cut cut_here start_of parts gap_len_from
-dot_last_row = refl
-
--- Nor need one stand before it.
-minus_and_dot_row : cut (codes "-.5") 0 plain ≡ token_at (number 0 3 float) 0 3
-unfolding cut cut_here start_of parts gap_len_from
-minus_and_dot_row = refl
-
--- No digit need follow an exponent mark.
-mark_last_row : cut (codes "1e") 0 plain ≡ token_at (number 0 2 float) 0 2
-unfolding cut cut_here start_of parts gap_len_from
-mark_last_row = refl
-
--- A fraction may be a dot alone.
-dot_and_mark_row : cut (codes "1.e5") 0 plain ≡ token_at (number 0 4 float) 0 4
-unfolding cut cut_here start_of parts gap_len_from
-dot_and_mark_row = refl
-
--- Leading zeros may stand.
-leading_zeros_row : cut (codes "007") 0 plain ≡ token_at (number 0 3 unsigned) 0 3
-unfolding cut cut_here start_of parts gap_len_from
-leading_zeros_row = refl
-
--- A minus and digits.
-signed_row : cut (codes "-42]") 0 plain ≡ token_at (number 0 3 signed) 0 3
-unfolding cut cut_here start_of parts gap_len_from
-signed_row = refl
+numbers = (refl, refl, refl, refl, refl, refl, refl, refl, refl)
 
 -- ---- strings
 
--- A string may not end with the input.
-open_string_row : cut (codes "\"abc") 0 plain ≡ fault_at (unexpected_eof in_string) 0 4
+strings :
+    -- A string may not end with the input.
+    (cut (codes "\"abc") 0 plain ≡ fault_at (unexpected_eof in_string) 0 4)
+    -- An escaped quote ends no string.
+    × (cut (codes "\"a\\\"b\"") 0 plain ≡ token_at (string 1 5 true) 0 6)
+    -- Nor does the end of the input after a backslash.
+    × (cut (codes "\"a\\") 0 plain ≡ fault_at (unexpected_eof in_string) 0 3)
+    -- An escape never jumps over the closing quote.
+    × (cut (codes "\"\\u12\"") 0 plain ≡ token_at (string 1 5 true) 0 6)
+    -- Any other byte may stand in a string.
+    × (cut (codes "\"" ++ 0x00 ∷ 0xff ∷ codes "\"") 0 plain ≡ token_at (string 1 3 false) 0 4)
 unfolding cut cut_here start_of parts gap_len_from
-open_string_row = refl
-
--- An escaped quote ends no string.
-escaped_quote_row : cut (codes "\"a\\\"b\"") 0 plain ≡ token_at (string 1 5 true) 0 6
-unfolding cut cut_here start_of parts gap_len_from
-escaped_quote_row = refl
-
--- Nor does the end of the input after a backslash.
-open_escape_row : cut (codes "\"a\\") 0 plain ≡ fault_at (unexpected_eof in_string) 0 3
-unfolding cut cut_here start_of parts gap_len_from
-open_escape_row = refl
-
--- An escape never jumps over the closing quote.
-short_unit_row : cut (codes "\"\\u12\"") 0 plain ≡ token_at (string 1 5 true) 0 6
-unfolding cut cut_here start_of parts gap_len_from
-short_unit_row = refl
-
--- Any other byte may stand in a string.
-raw_bytes_row : cut (codes "\"" ++ 0x00 ∷ 0xff ∷ codes "\"") 0 plain ≡ token_at (string 1 3 false) 0 4
-unfolding cut cut_here start_of parts gap_len_from
-raw_bytes_row = refl
+strings = (refl, refl, refl, refl, refl)
 
 -- ---- slashes
 
--- A slash begins nothing.
-slash_row : cut (codes "/") 0 plain ≡ fault_at (unexpected_char slash) 0 1
+slashes :
+    -- A slash begins nothing.
+    (cut (codes "/") 0 plain ≡ fault_at (unexpected_char slash) 0 1)
+    -- Nor does it alone where comments may stand.
+    × (cut (codes "/") 0 jsonc ≡ fault_at (unexpected_char slash) 0 1)
+    -- Nor after a number.
+    × (cut (codes "1/") 1 jsonc ≡ fault_at (unexpected_char slash) 1 1)
+    -- In plain mode there are no comments.
+    × (cut (codes "/**/1") 0 plain ≡ fault_at (unexpected_char slash) 0 1)
+    -- One star does not both open and close.
+    × (cut (codes "/*/") 0 jsonc ≡ fault_at (unexpected_eof in_block_comment) 0 3)
+    -- The end of the input ends a line comment.
+    × (cut (codes "//x") 0 jsonc ≡ nothing_left)
+    -- A line feed does too, and is part of it.
+    × (cut (codes "//x" ++ line_feed ∷ codes "1") 0 jsonc ≡ token_at (number 4 5 unsigned) 4 1)
+    -- A block comment is a gap.
+    × (cut (codes "/**/1") 0 jsonc ≡ token_at (number 4 5 unsigned) 4 1)
+    -- So are two, and a space.
+    × (cut (codes "/*a*//*b*/ 1") 0 jsonc ≡ token_at (number 11 12 unsigned) 11 1)
 unfolding cut cut_here start_of parts gap_len_from
-slash_row = refl
-
--- Nor does it alone where comments may stand.
-jsonc_slash_row : cut (codes "/") 0 jsonc ≡ fault_at (unexpected_char slash) 0 1
-unfolding cut cut_here start_of parts gap_len_from
-jsonc_slash_row = refl
-
--- Nor after a number.
-slash_behind_row : cut (codes "1/") 1 jsonc ≡ fault_at (unexpected_char slash) 1 1
-unfolding cut cut_here start_of parts gap_len_from
-slash_behind_row = refl
-
--- In plain mode there are no comments.
-comment_in_plain_row : cut (codes "/**/1") 0 plain ≡ fault_at (unexpected_char slash) 0 1
-unfolding cut cut_here start_of parts gap_len_from
-comment_in_plain_row = refl
-
--- One star does not both open and close.
-slash_star_slash_row : cut (codes "/*/") 0 jsonc ≡ fault_at (unexpected_eof in_block_comment) 0 3
-unfolding cut cut_here start_of parts gap_len_from
-slash_star_slash_row = refl
-
--- The end of the input ends a line comment.
-line_comment_row : cut (codes "//x") 0 jsonc ≡ nothing_left
-unfolding cut cut_here start_of parts gap_len_from
-line_comment_row = refl
-
--- A line feed does too, and is part of it.
-line_feed_row : cut (codes "//x" ++ line_feed ∷ codes "1") 0 jsonc ≡ token_at (number 4 5 unsigned) 4 1
-unfolding cut cut_here start_of parts gap_len_from
-line_feed_row = refl
-
--- A block comment is a gap.
-block_comment_row : cut (codes "/**/1") 0 jsonc ≡ token_at (number 4 5 unsigned) 4 1
-unfolding cut cut_here start_of parts gap_len_from
-block_comment_row = refl
-
--- So are two, and a space.
-two_comments_row : cut (codes "/*a*//*b*/ 1") 0 jsonc ≡ token_at (number 11 12 unsigned) 11 1
-unfolding cut cut_here start_of parts gap_len_from
-two_comments_row = refl
+slashes = (refl, refl, refl, refl, refl, refl, refl, refl, refl)
 
 -- ---- other bytes
 
--- A byte order mark begins nothing, and its first byte is the fault.
-byte_order_mark_row : cut (0xef ∷ 0xbb ∷ 0xbf ∷ codes "1") 0 plain ≡ fault_at (unexpected_char 0xef) 0 1
+other_bytes :
+    -- A byte order mark begins nothing, and its first byte is the fault.
+    (cut (0xef ∷ 0xbb ∷ 0xbf ∷ codes "1") 0 plain ≡ fault_at (unexpected_char 0xef) 0 1)
+    -- White space alone is nothing.
+    × (cut (codes " " ++ 0x09 ∷ line_feed ∷ 0x0d ∷ []) 0 plain ≡ nothing_left)
+    -- So is nothing.
+    × (cut (codes "") 0 plain ≡ nothing_left)
 unfolding cut cut_here start_of parts gap_len_from
-byte_order_mark_row = refl
-
--- White space alone is nothing.
-only_space_row : cut (codes " " ++ 0x09 ∷ line_feed ∷ 0x0d ∷ []) 0 plain ≡ nothing_left
-unfolding cut cut_here start_of parts gap_len_from
-only_space_row = refl
-
--- So is nothing.
-empty_row : cut (codes "") 0 plain ≡ nothing_left
-unfolding cut cut_here start_of parts gap_len_from
-empty_row = refl
+other_bytes = (refl, refl, refl)
 
 -- ---- faults, by the relation
 
@@ -227,38 +154,27 @@ dot_fault = (fault_is_cut (codes ".5") 0 plain (unexpected_char dot) (span_at 0 
 
 -- ---- all tokens
 
--- A comma is a token, wherever it stands.
-list_tokens_row : tokens (codes "[1,]") plain ≡
+all_tokens :
+    -- A comma is a token, wherever it stands.
+    (tokens (codes "[1,]") plain ≡
     next (token_of array_start 0 1) (next (token_of (number 1 2 unsigned) 1 1) (next (token_of comma 2 1) (
-    next (token_of array_end 3 1) ended)))
-unfolding cut cut_here start_of parts gap_len_from tokens_past
-list_tokens_row = refl
-
--- A fault stands after the tokens before it.
-fault_behind_row : tokens (codes "1 x") plain ≡
-    next (token_of (number 0 1 unsigned) 0 1) (refused (record { kind = unexpected_char 0x78; span = span_at 2 1 }))
-unfolding cut cut_here start_of parts gap_len_from tokens_past
-fault_behind_row = refl
-
--- The content of a string stands between its quotes.
-object_tokens_row : tokens (codes "{\"a\":1}") plain ≡
+    next (token_of array_end 3 1) ended))))
+    -- A fault stands after the tokens before it.
+    × (tokens (codes "1 x") plain ≡
+    next (token_of (number 0 1 unsigned) 0 1) (refused (record { kind = unexpected_char 0x78; span = span_at 2 1 })))
+    -- The content of a string stands between its quotes.
+    × (tokens (codes "{\"a\":1}") plain ≡
     next (token_of object_start 0 1) (next (token_of (string 2 3 false) 1 3) (next (token_of colon 4 1) (
-    next (token_of (number 5 6 unsigned) 5 1) (next (token_of object_end 6 1) ended))))
-unfolding cut cut_here start_of parts gap_len_from tokens_past
-object_tokens_row = refl
-
--- A comment is in no token.
-comment_tokens_row : tokens (codes "[1, /*c*/ 2]") jsonc ≡
+    next (token_of (number 5 6 unsigned) 5 1) (next (token_of object_end 6 1) ended)))))
+    -- A comment is in no token.
+    × (tokens (codes "[1, /*c*/ 2]") jsonc ≡
     next (token_of array_start 0 1) (next (token_of (number 1 2 unsigned) 1 1) (next (token_of comma 2 1) (
-    next (token_of (number 10 11 unsigned) 10 1) (next (token_of array_end 11 1) ended))))
+    next (token_of (number 10 11 unsigned) 10 1) (next (token_of array_end 11 1) ended)))))
+    -- A comment may hold a byte that is no UTF-8.
+    × (tokens (left_bracket ∷ slash ∷ star ∷ 0xff ∷ star ∷ slash ∷ 0x31 ∷ right_bracket ∷ []) jsonc ≡
+    next (token_of array_start 0 1) (next (token_of (number 6 7 unsigned) 6 1) (next (token_of array_end 7 1) ended)))
 unfolding cut cut_here start_of parts gap_len_from tokens_past
-comment_tokens_row = refl
-
--- A comment may hold a byte that is no UTF-8.
-comment_byte_tokens_row : tokens (left_bracket ∷ slash ∷ star ∷ 0xff ∷ star ∷ slash ∷ 0x31 ∷ right_bracket ∷ []) jsonc ≡
-    next (token_of array_start 0 1) (next (token_of (number 6 7 unsigned) 6 1) (next (token_of array_end 7 1) ended))
-unfolding cut cut_here start_of parts gap_len_from tokens_past
-comment_byte_tokens_row = refl
+all_tokens = (refl, refl, refl, refl, refl)
 
 -- A token is cut where the one before ends, and then a fault.
 cuts_to_a_fault_row : AreCuts (codes "1 x") plain 0
@@ -338,42 +254,31 @@ closed : (buffer : List ℕ) (position : ℕ) (mode : Mode) → is_open buffer p
     IsOpen buffer position mode → ⊥
 closed buffer position mode e open_there = let tested = (open_is_tested buffer position mode).1 open_there in cc
 
--- After a number stands a byte that isn't part of it.
-number_and_comma_closed : IsOpen (codes "42,") 0 plain → ⊥
+closed_rows :
+    -- After a number stands a byte that isn't part of it.
+    (IsOpen (codes "42,") 0 plain → ⊥)
+    -- A literal is closed with its last letter.
+    × (IsOpen (codes "true") 0 plain → ⊥)
+    -- A wrong letter is the fault under more bytes too.
+    × (IsOpen (codes "trux") 0 plain → ⊥)
+    -- A string is closed with its quote.
+    × (IsOpen (codes "\"a\"") 0 plain → ⊥)
+    -- A bracket stands alone.
+    × (IsOpen (codes "[") 0 plain → ⊥)
+    -- In plain mode a slash is a fault, whatever follows it.
+    × (IsOpen (codes "/") 0 plain → ⊥)
+    -- A line comment with its line feed is a gap, and nothing is after it.
+    × (IsOpen (codes "//x" ++ line_feed ∷ []) 0 jsonc → ⊥)
+    -- Nothing is no beginning.
+    × (IsOpen (codes "") 0 plain → ⊥)
 unfolding is_open is_beginning start_of gap_len_from parts
-number_and_comma_closed = closed (codes "42,") 0 plain refl
-
--- A literal is closed with its last letter.
-literal_closed : IsOpen (codes "true") 0 plain → ⊥
-unfolding is_open is_beginning start_of gap_len_from parts
-literal_closed = closed (codes "true") 0 plain refl
-
--- A wrong letter is the fault under more bytes too.
-wrong_letter_closed : IsOpen (codes "trux") 0 plain → ⊥
-unfolding is_open is_beginning start_of gap_len_from parts
-wrong_letter_closed = closed (codes "trux") 0 plain refl
-
--- A string is closed with its quote.
-string_closed : IsOpen (codes "\"a\"") 0 plain → ⊥
-unfolding is_open is_beginning start_of gap_len_from parts
-string_closed = closed (codes "\"a\"") 0 plain refl
-
--- A bracket stands alone.
-bracket_closed : IsOpen (codes "[") 0 plain → ⊥
-unfolding is_open is_beginning start_of gap_len_from parts
-bracket_closed = closed (codes "[") 0 plain refl
-
--- In plain mode a slash is a fault, whatever follows it.
-slash_closed : IsOpen (codes "/") 0 plain → ⊥
-unfolding is_open is_beginning start_of gap_len_from parts
-slash_closed = closed (codes "/") 0 plain refl
-
--- A line comment with its line feed is a gap, and nothing is after it.
-line_comment_closed : IsOpen (codes "//x" ++ line_feed ∷ []) 0 jsonc → ⊥
-unfolding is_open is_beginning start_of gap_len_from parts
-line_comment_closed = closed (codes "//x" ++ line_feed ∷ []) 0 jsonc refl
-
--- Nothing is no beginning.
-empty_closed : IsOpen (codes "") 0 plain → ⊥
-unfolding is_open is_beginning start_of gap_len_from parts
-empty_closed = closed (codes "") 0 plain refl
+closed_rows = (
+  closed (codes "42,") 0 plain refl,
+  closed (codes "true") 0 plain refl,
+  closed (codes "trux") 0 plain refl,
+  closed (codes "\"a\"") 0 plain refl,
+  closed (codes "[") 0 plain refl,
+  closed (codes "/") 0 plain refl,
+  closed (codes "//x" ++ line_feed ∷ []) 0 jsonc refl,
+  closed (codes "") 0 plain refl,
+)

@@ -1,5 +1,5 @@
 -- Each token is kept, and the scanner stands after it.
-use Rattle.std.proofs.Common.{◌<◌, ◌≤◌, length, sym, ◌∙◌, subst, arith}
+use Rattle.std.proofs.Common.{◌<◌, ◌≤◌, [], ◌∷◌, ◌++◌, length, sym, ◌∙◌, subst, arith}
 use Rattle.facet_json_scan.specs.Scanner.{first_unread}
 use Rattle.facet_json_scan.specs.Inner.Stands.{Stands, IsScanRefused}
 use Rattle.facet_json_scan.proofs.Steps.{token-step, rest-step, refusal-step}
@@ -13,28 +13,23 @@ returns-then-not-is_token-clause-scanned c =
     (sym c.is_token.ensures ∙ c.if-not-is_token.true) (c.in-Ok.ensures.token h.start h.goes_on) in
     (step.0, step.1, c.in-Ok.ensures.mode ∙ c.loop-token.invariant.mode)
 
-pub loop-token-smaller : goal.loop-token-smaller
-loop-token-smaller c =
+step : (c : goal.In_ok-keep-in-Ok) → let s = c.next_token.new.self in
+    Stands c.args.buf.now (c.loop-token.tokens.items ++ c.in-Ok.token ∷ []) s ×
+    (first_unread c.loop-token.scanner < first_unread s) × (first_unread s ≤ length c.args.buf.now)
+step c =
     let h = c.loop-token.invariant.stands in
-    let step =
     token-step c.args.buf.now c.loop-token.tokens.items c.loop-token.scanner c.next_token.new.self h c.in-Ok.token
     (sym c.is_token.ensures ∙ c.if-not-is_token.false) (c.in-Ok.ensures.span, c.in-Ok.ensures.indices)
-    (c.in-Ok.ensures.token h.start h.goes_on) in
-    let further : first_unread c.loop-token.scanner < first_unread c.next_token.new.self = step.1 in
-    let room : first_unread c.next_token.new.self ≤ length c.args.buf.now = step.2 in
-    omega (arith, further, room)
+    (c.in-Ok.ensures.token h.start h.goes_on)
+
+pub loop-token-smaller : goal.loop-token-smaller
+loop-token-smaller c = omega (arith, (step c).1, (step c).2)
 
 pub loop-token-preserved : goal.loop-token-preserved
-loop-token-preserved c =
-    let h = c.loop-token.invariant.stands in
-    let step =
-    token-step c.args.buf.now c.loop-token.tokens.items c.loop-token.scanner c.next_token.new.self h c.in-Ok.token
-    (sym c.is_token.ensures ∙ c.if-not-is_token.false) (c.in-Ok.ensures.span, c.in-Ok.ensures.indices)
-    (c.in-Ok.ensures.token h.start h.goes_on) in
-    record {
-      stands = subst (λ l. Stands c.args.buf.now l c.next_token.new.self) (sym c.in_ok-keep-in-Ok.ensures.kept) step.0;
-      mode = c.in-Ok.ensures.mode ∙ c.loop-token.invariant.mode;
-    }
+loop-token-preserved c = record {
+  stands = subst (λ l. Stands c.args.buf.now l c.next_token.new.self) (sym c.in_ok-keep-in-Ok.ensures.kept) (step c).0;
+  mode = c.in-Ok.ensures.mode ∙ c.loop-token.invariant.mode;
+}
 
 pub returns-in-Err-clause-scanned : goal.returns-in-Err-clause-scanned
 returns-in-Err-clause-scanned c =

@@ -10,31 +10,27 @@ use Rattle.facet_json_token.proofs.CutBounds.{cut-fits}
 use Rattle.facet_json_scan.proofs.AnswersOfCuts.{answered-cut_or_end, answered-end_within, fits-within}
 use Rattle.facet_json_scan.proofs.scanner.cut_prefix.Goals as goal
 
+size : (c : goal.After-cut) → length (take c.args.end c.args.buffer.now) ≡ c.args.end
+size c = length-take-le c.args.end c.args.buffer.now c.requires.room
+
+within : (c : goal.After-cut) → let last = length (take c.args.end c.args.buffer.now) in
+    (stop (span_answered c.cut.result) ≤ last) × IndicesWithin last c.cut.result
+within c =
+    let front = take c.args.end c.args.buffer.now in
+    let mode = mode_of c.args.mode in
+    let fits = cut-fits front c.args.first mode (omega (arith, size c)) in
+    answered-end_within c.cut.result (cut front c.args.first mode) (length front) c.cut.ensures.answer
+    c.cut.ensures.end (fits-within front c.args.first _ fits)
+
 pub returns-clause-token : goal.returns-clause-token
 returns-clause-token c =
     let front = take c.args.end c.args.buffer.now in
-    let size : length front ≡ c.args.end = length-take-le c.args.end c.args.buffer.now c.requires.room in
     let cuts = cut front c.args.first (mode_of c.args.mode) in
     answered-cut_or_end c.cut.result cuts (length front) c.cut.ensures.answer c.cut.ensures.end
-    ∙ ap (λ n. Some (answer_for n cuts)) size
+    ∙ ap (λ n. Some (answer_for n cuts)) (size c)
 
 pub returns-clause-span : goal.returns-clause-span
-returns-clause-span c =
-    let front = take c.args.end c.args.buffer.now in
-    let mode = mode_of c.args.mode in
-    let size : length front ≡ c.args.end = length-take-le c.args.end c.args.buffer.now c.requires.room in
-    let fits = cut-fits front c.args.first mode (omega arith) in
-    let within : stop (span_answered c.cut.result) ≤ length front =
-    (answered-end_within c.cut.result (cut front c.args.first mode) (length front) c.cut.ensures.answer
-    c.cut.ensures.end (fits-within front c.args.first _ fits)).0 in
-    omega arith
+returns-clause-span c = omega (arith, size c, (within c).0)
 
 pub returns-clause-indices : goal.returns-clause-indices
-returns-clause-indices c =
-    let front = take c.args.end c.args.buffer.now in
-    let mode = mode_of c.args.mode in
-    let size : length front ≡ c.args.end = length-take-le c.args.end c.args.buffer.now c.requires.room in
-    let fits = cut-fits front c.args.first mode (omega arith) in
-    subst (λ n. IndicesWithin n c.cut.result) size
-    (answered-end_within c.cut.result (cut front c.args.first mode) (length front) c.cut.ensures.answer
-    c.cut.ensures.end (fits-within front c.args.first _ fits)).1
+returns-clause-indices c = subst (λ n. IndicesWithin n c.cut.result) (size c) (within c).1

@@ -1,13 +1,14 @@
 -- The part and the first byte tell the token, and a minus alone is refused.
-use Rattle.std.proofs.Common.{◌≡◌, ◌+◌, ◌-◌, drop, slice_get, Some, get_or, refl, ap, ◌∙◌, arith}
+use Rattle.std.proofs.Common.{◌≡◌, ◌+◌, ◌-◌, ◌≤◌, length, drop, slice_get, Some, get_or, refl, ap, ◌∙◌, arith}
 use Rattle.std.proofs.lemmas.Option.{slice_get-get_or}
 use Rattle.facet_format.specs.Bytes.{minus}
-use Rattle.facet_format.specs.Span.{span_at}
+use Rattle.facet_format.specs.Span.{span_at, stop}
 use Rattle.facet_json_token.specs.Gap.{plain}
-use Rattle.facet_json_token.specs.Token.{number}
+use Rattle.facet_json_token.specs.Token.{Kind, number}
 use Rattle.facet_format.specs.Views.{hint_of}
 use Rattle.facet_json_token.specs.Cut.{token_at}
 use Rattle.facet_json_scan.specs.Inner.Found.{number_part_of}
+use Rattle.facet_json_scan.specs.ScannerViews.{span_answered, IndicesWithin}
 use Rattle.facet_json_scan.proofs.AnswersOfCuts.{answered-ends, number-answered}
 use Rattle.facet_json_token.proofs.NumberCuts.{number_at}
 use Rattle.facet_json_scan.proofs.Pieces.PendingNumber.{number-token}
@@ -21,29 +22,24 @@ returns-then-end-start-clause-token c = λ i same.
     let start = c.args.start in
     c.cut_number.ensures ∙ ap (λ p. Some (number_at start (drop (start + 1) buffer) p)) same
 
+-- a minus stands there
+minus_there : (c : goal.After-cut_number) → slice_get c.args.buffer.now c.args.start ≡ Some minus
+minus_there c = slice_get-get_or c.args.buffer.now c.args.start 0 (omega arith) ∙ ap Some c.if-is_negative.true
+
+answered : (c : goal.After-cut_number) → let last = length c.args.buffer.now in
+    (stop (span_answered c.cut_number.result) ≤ last) × IndicesWithin last c.cut_number.result
+answered c =
+    number-answered plain c.args.buffer.now c.args.start minus c.cut_number.result (minus_there c) refl c.cut_number.ensures
+
 pub returns-then-end-start-clause-refusal : goal.returns-then-end-start-clause-refusal
 returns-then-end-start-clause-refusal c = λ mode.
-    let buffer = c.args.buffer.now in
-    let start = c.args.start in
-    let here : slice_get buffer start ≡ Some minus =
-    slice_get-get_or buffer start 0 (omega arith) ∙ ap Some c.if-is_negative.true in
-    minus-refused mode buffer start c.cut_number.result here (omega arith) c.cut_number.ensures
+    minus-refused mode c.args.buffer.now c.args.start c.cut_number.result (minus_there c) (omega arith) c.cut_number.ensures
 
 pub returns-then-end-start-clause-span : goal.returns-then-end-start-clause-span
-returns-then-end-start-clause-span c =
-    let buffer = c.args.buffer.now in
-    let start = c.args.start in
-    let here : slice_get buffer start ≡ Some minus =
-    slice_get-get_or buffer start 0 (omega arith) ∙ ap Some c.if-is_negative.true in
-    (number-answered plain buffer start minus c.cut_number.result here refl c.cut_number.ensures).0
+returns-then-end-start-clause-span c = (answered c).0
 
 pub returns-then-end-start-clause-indices : goal.returns-then-end-start-clause-indices
-returns-then-end-start-clause-indices c =
-    let buffer = c.args.buffer.now in
-    let start = c.args.start in
-    let here : slice_get buffer start ≡ Some minus =
-    slice_get-get_or buffer start 0 (omega arith) ∙ ap Some c.if-is_negative.true in
-    (number-answered plain buffer start minus c.cut_number.result here refl c.cut_number.ensures).1
+returns-then-end-start-clause-indices c = (answered c).1
 
 pub returns-clause-token : goal.returns-clause-token
 returns-clause-token c = λ i same.
@@ -62,26 +58,22 @@ returns-clause-token c = λ i same.
     ∙ ap Some (number-token buffer (drop (start + 1) buffer) start end b (number_part_of c.args.part) c.requires.order
     (omega arith) here more i)
 
+abbrev kind_of_it : (c : goal.After-token_at) → Kind
+kind_of_it c = number c.args.start c.args.end (hint_of c.hint.result)
+
 pub returns-clause-refusal : goal.returns-clause-refusal
 returns-clause-refusal c = λ mode.
-    let start = c.args.start in
-    let end = c.args.end in
-    let kind = number start end (hint_of c.hint.result) in
-    token-no_refusal c.token_at.result (record { kind = kind; span = span_at start (end - start) }) _
-    (c.token_at.ensures kind refl)
+    token-no_refusal c.token_at.result (record { kind = kind_of_it c; span = span_at c.args.start (c.args.end - c.args.start) }) _
+    (c.token_at.ensures (kind_of_it c) refl)
+
+token_answered : (c : goal.After-token_at) → let last = length c.args.buffer.now in
+    (stop (span_answered c.token_at.result) ≤ last) × IndicesWithin last c.token_at.result
+token_answered c =
+    answered-ends c.token_at.result (token_at (kind_of_it c) c.args.start (c.args.end - c.args.start)) _
+    (c.token_at.ensures (kind_of_it c) refl) (omega arith, (omega arith, omega arith))
 
 pub returns-clause-span : goal.returns-clause-span
-returns-clause-span c =
-    let start = c.args.start in
-    let end = c.args.end in
-    let kind = number start end (hint_of c.hint.result) in
-    (answered-ends c.token_at.result (token_at kind start (end - start)) _ (c.token_at.ensures kind refl)
-    (omega arith, (omega arith, omega arith))).0
+returns-clause-span c = (token_answered c).0
 
 pub returns-clause-indices : goal.returns-clause-indices
-returns-clause-indices c =
-    let start = c.args.start in
-    let end = c.args.end in
-    let kind = number start end (hint_of c.hint.result) in
-    (answered-ends c.token_at.result (token_at kind start (end - start)) _ (c.token_at.ensures kind refl)
-    (omega arith, (omega arith, omega arith))).1
+returns-clause-indices c = (token_answered c).1

@@ -43,44 +43,32 @@ returns-in-34-clause-here c = λ shut. c.string_from.ensures.here (mode_of c.arg
 pub returns-in-110-clause-here : goal.returns-in-110-clause-here
 unfolding start_of
 returns-in-110-clause-here c = λ shut.
-    let b = c.in-Some.first.now in
-    let here = slice_get-from_read c.args.buffer.now c.args.at b b c.in-Some.ensures.lookup.3 refl in
-    c.word_from.ensures.here (mode_of c.args.mode) b null here (ap start_of c.in-110.is) refl
+    c.word_from.ensures.here (mode_of c.args.mode) 110 null (slice_get-from_read c.args.buffer.now c.args.at c.in-Some.first.now 110 c.in-Some.ensures.lookup.3 c.in-110.is) refl refl
 
 pub returns-in-110-clause-within : goal.returns-in-110-clause-within
 unfolding start_of
 returns-in-110-clause-within c =
-    let b = c.in-Some.first.now in
-    let here = slice_get-from_read c.args.buffer.now c.args.at b b c.in-Some.ensures.lookup.3 refl in
-    c.word_from.ensures.within b null here (ap start_of c.in-110.is) refl
+    c.word_from.ensures.within 110 null (slice_get-from_read c.args.buffer.now c.args.at c.in-Some.first.now 110 c.in-Some.ensures.lookup.3 c.in-110.is) refl refl
 
 pub returns-in-116-clause-here : goal.returns-in-116-clause-here
 unfolding start_of
 returns-in-116-clause-here c = λ shut.
-    let b = c.in-Some.first.now in
-    let here = slice_get-from_read c.args.buffer.now c.args.at b b c.in-Some.ensures.lookup.3 refl in
-    c.word_from-in-116.ensures.here (mode_of c.args.mode) b true_literal here (ap start_of c.in-116.is) refl
+    c.word_from-in-116.ensures.here (mode_of c.args.mode) 116 true_literal (slice_get-from_read c.args.buffer.now c.args.at c.in-Some.first.now 116 c.in-Some.ensures.lookup.3 c.in-116.is) refl refl
 
 pub returns-in-116-clause-within : goal.returns-in-116-clause-within
 unfolding start_of
 returns-in-116-clause-within c =
-    let b = c.in-Some.first.now in
-    let here = slice_get-from_read c.args.buffer.now c.args.at b b c.in-Some.ensures.lookup.3 refl in
-    c.word_from-in-116.ensures.within b true_literal here (ap start_of c.in-116.is) refl
+    c.word_from-in-116.ensures.within 116 true_literal (slice_get-from_read c.args.buffer.now c.args.at c.in-Some.first.now 116 c.in-Some.ensures.lookup.3 c.in-116.is) refl refl
 
 pub returns-in-102-clause-here : goal.returns-in-102-clause-here
 unfolding start_of
 returns-in-102-clause-here c = λ shut.
-    let b = c.in-Some.first.now in
-    let here = slice_get-from_read c.args.buffer.now c.args.at b b c.in-Some.ensures.lookup.3 refl in
-    c.word_from-in-102.ensures.here (mode_of c.args.mode) b false_literal here (ap start_of c.in-102.is) refl
+    c.word_from-in-102.ensures.here (mode_of c.args.mode) 102 false_literal (slice_get-from_read c.args.buffer.now c.args.at c.in-Some.first.now 102 c.in-Some.ensures.lookup.3 c.in-102.is) refl refl
 
 pub returns-in-102-clause-within : goal.returns-in-102-clause-within
 unfolding start_of
 returns-in-102-clause-within c =
-    let b = c.in-Some.first.now in
-    let here = slice_get-from_read c.args.buffer.now c.args.at b b c.in-Some.ensures.lookup.3 refl in
-    c.word_from-in-102.ensures.within b false_literal here (ap start_of c.in-102.is) refl
+    c.word_from-in-102.ensures.within 102 false_literal (slice_get-from_read c.args.buffer.now c.args.at c.in-Some.first.now 102 c.in-Some.ensures.lookup.3 c.in-102.is) refl refl
 
 pub returns-in_default-first-clause-here : goal.returns-in_default-first-clause-here
 returns-in_default-first-clause-here c = λ shut.

@@ -1,56 +1,43 @@
 -- Each byte goes on with the number, or the number ends before it.
-use Rattle.std.proofs.Common.{◌≡◌, true, false, ◌==◌, sym, ◌∙◌, subst, eq-eqb}
+use Rattle.std.proofs.Common.{◌≡◌, true, false, sym, ◌∙◌, eq-eqb}
 use Rattle.std.proofs.lemmas.Bool.{ne_eqb}
-use Rattle.facet_format.specs.Bytes.{is_digit, is_exponent_mark, dot}
-use Rattle.facet_json_scan.specs.Scanner.{in_digits, in_fraction, at_mark, in_exponent, ExtendsWith, EndsBefore}
-use Rattle.facet_json_scan.specs.Inner.Found.{number_part_of}
+use Rattle.facet_format.specs.Bytes.{dot}
+use Rattle.facet_json_scan.specs.Scanner.{at_mark, in_exponent, ExtendsWith, EndsBefore}
 use Rattle.facet_json_scan.proofs.Pieces.NumberParts.{digit-after_digits, dot-after_digits, mark-after_digits, shut-digits, digit-after_fraction, mark-after_fraction, shut-fraction, sign-after_mark, digit-after_mark, shut-mark, digit-after_exponent, shut-exponent}
 use Rattle.facet_json_scan.proofs.scanner.pending.Part.after.Goals as goal
 use Rattle.facet_json_scan.proofs.scanner.pending.Part.after.Goals.{then-is_digit-3, else-is_digit-3}
 
 pub returns-then-is_digit : goal.returns-then-is_digit
 returns-then-is_digit c =
-    let is : is_digit c.args.byte ≡ true = sym c.is_digit-is_digit.ensures ∙ c.if-is_digit.true in
-    subst (λ p. ExtendsWith (number_part_of p) c.args.byte in_digits) (sym c.in-Digits.is) (digit-after_digits c.args.byte is)
+    rw c.in-Digits.is (digit-after_digits c.args.byte (sym c.is_digit-is_digit.ensures ∙ c.if-is_digit.true))
 
 pub returns-then-byte-eq46 : goal.returns-then-byte-eq46
 returns-then-byte-eq46 c =
-    let is : (c.args.byte == dot) ≡ true = eq-eqb c.args.byte dot c.if-byte-eq46.true in
-    subst (λ p. ExtendsWith (number_part_of p) c.args.byte in_fraction) (sym c.in-Digits.is) (dot-after_digits c.args.byte is)
+    rw c.in-Digits.is (dot-after_digits c.args.byte (eq-eqb c.args.byte dot c.if-byte-eq46.true))
 
 pub returns-then-is_exponent_mark : goal.returns-then-is_exponent_mark
 returns-then-is_exponent_mark c =
-    let is : is_exponent_mark c.args.byte ≡ true = sym c.is_exponent_mark.ensures ∙ c.if-is_exponent_mark.true in
-    subst (λ p. ExtendsWith (number_part_of p) c.args.byte at_mark) (sym c.in-Digits.is) (mark-after_digits c.args.byte is)
+    rw c.in-Digits.is (mark-after_digits c.args.byte (sym c.is_exponent_mark.ensures ∙ c.if-is_exponent_mark.true))
 
 pub returns-else-is_exponent_mark : goal.returns-else-is_exponent_mark
 returns-else-is_exponent_mark c =
-    let no_digit : is_digit c.args.byte ≡ false = sym c.is_digit-is_digit.ensures ∙ c.if-is_digit.false in
-    let no_dot : (c.args.byte == dot) ≡ false = ne_eqb c.args.byte dot c.if-byte-eq46.false in
-    let no_mark : is_exponent_mark c.args.byte ≡ false =
-    sym c.is_exponent_mark.ensures ∙ c.if-is_exponent_mark.false in
-    subst (λ p. EndsBefore (number_part_of p) c.args.byte) (sym c.in-Digits.is)
-    (shut-digits c.args.byte no_digit no_dot no_mark)
+    rw c.in-Digits.is
+    (shut-digits c.args.byte (sym c.is_digit-is_digit.ensures ∙ c.if-is_digit.false) (ne_eqb c.args.byte dot c.if-byte-eq46.false)
+    (sym c.is_exponent_mark.ensures ∙ c.if-is_exponent_mark.false))
 
 pub returns-then-is_digit-2 : goal.returns-then-is_digit-2
 returns-then-is_digit-2 c =
-    let is : is_digit c.args.byte ≡ true = sym c.is_digit-is_digit.ensures ∙ c.if-is_digit-2.true in
-    subst (λ p. ExtendsWith (number_part_of p) c.args.byte in_fraction) (sym c.in-Fraction.is)
-    (digit-after_fraction c.args.byte is)
+    rw c.in-Fraction.is (digit-after_fraction c.args.byte (sym c.is_digit-is_digit.ensures ∙ c.if-is_digit-2.true))
 
 pub returns-then-is_exponent_mark-2 : goal.returns-then-is_exponent_mark-2
 returns-then-is_exponent_mark-2 c =
-    let is : is_exponent_mark c.args.byte ≡ true =
-    sym c.is_exponent_mark-else-is_digit-2.ensures ∙ c.if-is_exponent_mark-2.true in
-    subst (λ p. ExtendsWith (number_part_of p) c.args.byte at_mark) (sym c.in-Fraction.is) (mark-after_fraction c.args.byte is)
+    rw c.in-Fraction.is
+    (mark-after_fraction c.args.byte (sym c.is_exponent_mark-else-is_digit-2.ensures ∙ c.if-is_exponent_mark-2.true))
 
 pub returns-else-is_exponent_mark-2 : goal.returns-else-is_exponent_mark-2
 returns-else-is_exponent_mark-2 c =
-    let no_digit : is_digit c.args.byte ≡ false = sym c.is_digit-is_digit.ensures ∙ c.if-is_digit-2.false in
-    let no_mark : is_exponent_mark c.args.byte ≡ false =
-    sym c.is_exponent_mark-else-is_digit-2.ensures ∙ c.if-is_exponent_mark-2.false in
-    subst (λ p. EndsBefore (number_part_of p) c.args.byte) (sym c.in-Fraction.is)
-    (shut-fraction c.args.byte no_digit no_mark)
+    rw c.in-Fraction.is
+    (shut-fraction c.args.byte (sym c.is_digit-is_digit.ensures ∙ c.if-is_digit-2.false) (sym c.is_exponent_mark-else-is_digit-2.ensures ∙ c.if-is_exponent_mark-2.false))
 
 pub returns-then-is_sign : goal.returns-then-is_sign
 returns-then-is_sign c =
@@ -60,7 +47,7 @@ returns-then-is_sign c =
       | else-is_digit-3 w ↦
           sign-after_mark c.args.byte (sym w.is_sign.ensures ∙ sym w.value-is ∙ c.if-is_sign.true)
     ] in
-    subst (λ p. ExtendsWith (number_part_of p) c.args.byte in_exponent) (sym c.in-Mark.is) goes_on
+    rw c.in-Mark.is goes_on
 
 pub returns-else-is_sign : goal.returns-else-is_sign
 returns-else-is_sign c =
@@ -71,15 +58,12 @@ returns-else-is_sign c =
           shut-mark c.args.byte (sym c.is_digit-is_digit.ensures ∙ w.if-is_digit-3.false)
           (sym w.is_sign.ensures ∙ sym w.value-is ∙ c.if-is_sign.false)
     ] in
-    subst (λ p. EndsBefore (number_part_of p) c.args.byte) (sym c.in-Mark.is) ends
+    rw c.in-Mark.is ends
 
 pub returns-then-is_digit-4 : goal.returns-then-is_digit-4
 returns-then-is_digit-4 c =
-    let is : is_digit c.args.byte ≡ true = sym c.is_digit-is_digit.ensures ∙ c.if-is_digit-4.true in
-    subst (λ p. ExtendsWith (number_part_of p) c.args.byte in_exponent) (sym c.in-Exponent.is)
-    (digit-after_exponent c.args.byte is)
+    rw c.in-Exponent.is (digit-after_exponent c.args.byte (sym c.is_digit-is_digit.ensures ∙ c.if-is_digit-4.true))
 
 pub returns-else-is_digit-4 : goal.returns-else-is_digit-4
 returns-else-is_digit-4 c =
-    let no_digit : is_digit c.args.byte ≡ false = sym c.is_digit-is_digit.ensures ∙ c.if-is_digit-4.false in
-    subst (λ p. EndsBefore (number_part_of p) c.args.byte) (sym c.in-Exponent.is) (shut-exponent c.args.byte no_digit)
+    rw c.in-Exponent.is (shut-exponent c.args.byte (sym c.is_digit-is_digit.ensures ∙ c.if-is_digit-4.false))
