@@ -215,8 +215,7 @@ mark-grows text b hint n none e =
 
 pub mark-after_digits : (b : ℕ) → is_exponent_mark b ≡ true → ExtendsWith in_digits b at_mark
 mark-after_digits b e = λ text i.
-    let none = last-digits i.numeral.fraction i.numeral.exponent i.last in
-    mark-grows text b i.hint i.numeral none.1 e
+    mark-grows text b i.hint i.numeral (last-digits i.numeral.fraction i.numeral.exponent i.last).1 e
 
 pub digit-after_fraction : (b : ℕ) → is_digit b ≡ true → ExtendsWith in_fraction b in_fraction
 digit-after_fraction b e = λ text i.
@@ -226,8 +225,7 @@ digit-after_fraction b e = λ text i.
 
 pub mark-after_fraction : (b : ℕ) → is_exponent_mark b ≡ true → ExtendsWith in_fraction b at_mark
 mark-after_fraction b e = λ text i.
-    let is = last-fraction i.numeral.fraction i.numeral.exponent i.last in
-    mark-grows text b i.hint i.numeral is.1 e
+    mark-grows text b i.hint i.numeral (last-fraction i.numeral.fraction i.numeral.exponent i.last).1 e
 
 pub sign-after_mark : (b : ℕ) → is_sign b ≡ true → ExtendsWith at_mark b in_exponent
 sign-after_mark b e = λ text i.

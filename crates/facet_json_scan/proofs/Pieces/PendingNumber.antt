@@ -1,5 +1,5 @@
 -- A number that the end of a buffer cuts, and its token where it ends before.
-use Rattle.std.proofs.Common.{◌≡◌, ℕ, ◌+◌, ◌-◌, ◌<◌, ◌≤◌, Bool, true, false, cond, ◌==◌, List, [], ◌∷◌, ◌++◌, length, drop, slice_get, Some, refl, ap, ap₂, sym, ◌∙◌, subst, arith, length-drop}
+use Rattle.std.proofs.Common.{◌≡◌, ◌≢◌, ℕ, ◌+◌, ◌-◌, ◌<◌, ◌≤◌, Bool, true, false, cond, ◌==◌, List, [], ◌∷◌, ◌++◌, length, drop, slice_get, Some, refl, ap, ap₂, sym, ◌∙◌, subst, arith, length-drop}
 use Rattle.std.proofs.lemmas.Bool.{eqb-true}
 use Rattle.facet_format.specs.Bytes.{minus, dot}
 use Rattle.facet_json_token.specs.Gap.{Mode}
@@ -22,49 +22,38 @@ use Rattle.facet_json_token.proofs.Starts.{start_of-number}
 pub number-ends : (mode : Mode) (part : NumberPart) (text : List ℕ) → Describes mode (in_number part) text → EndsIn part text
 number-ends mode part text (Describes.number _ _ _ i) = i
 
+-- A byte that is a sign, or digits.
+byte-ends : (b : ℕ) (sign digits : List ℕ) (has_minus : Bool) → IsMinus sign has_minus → AreDigits digits →
+    b ∷ [] ≡ sign ++ digits ++ [] ++ [] → sign ++ digits ≢ [] → EndsIn in_digits (b ∷ [])
+byte-ends b sign digits has_minus is_minus are_digits whole starts =
+    let numeral : IsNumeral (b ∷ []) (hint_by has_minus false false) =
+    record {
+      sign = sign;
+      digits = digits;
+      fraction = [];
+      exponent = [];
+      has_minus = has_minus;
+      has_fraction = false;
+      has_exponent = false;
+      is_minus = is_minus;
+      are_digits = are_digits;
+      is_fraction = IsFraction.absent;
+      is_exponent = IsExponent.absent;
+      whole = whole;
+      starts = starts;
+      kind = refl;
+    } in
+    record { hint = hint_by has_minus false false; numeral = numeral; last = refl }
+
 -- A minus or a digit is a number's first byte.
 pub first-ends : (b : ℕ) → starts_number b ≡ true → EndsIn in_digits (b ∷ [])
-first-ends b e = by_minus b (b == minus) refl e
+first-ends b e = by_minus (b == minus) refl e
   where
-    by_minus : (b : ℕ) (t : Bool) → (b == minus) ≡ t → starts_number b ≡ true → EndsIn in_digits (b ∷ [])
-    by_minus b true is e =
-        let numeral : IsNumeral (b ∷ []) (hint_by true false false) =
-        record {
-          sign = minus ∷ [];
-          digits = [];
-          fraction = [];
-          exponent = [];
-          has_minus = true;
-          has_fraction = false;
-          has_exponent = false;
-          is_minus = IsMinus.present;
-          are_digits = AreDigits.none;
-          is_fraction = IsFraction.absent;
-          is_exponent = IsExponent.absent;
-          whole = ap (λ x. x ∷ []) (eqb-true b minus is);
-          starts = λ z. cc;
-          kind = refl;
-        } in
-        record { hint = hint_by true false false; numeral = numeral; last = refl }
-    by_minus b false is e =
-        let numeral : IsNumeral (b ∷ []) (hint_by false false false) =
-        record {
-          sign = [];
-          digits = b ∷ [];
-          fraction = [];
-          exponent = [];
-          has_minus = false;
-          has_fraction = false;
-          has_exponent = false;
-          is_minus = IsMinus.absent;
-          are_digits = AreDigits.digit b [] (rw is at e) AreDigits.none;
-          is_fraction = IsFraction.absent;
-          is_exponent = IsExponent.absent;
-          whole = refl;
-          starts = λ z. cc;
-          kind = refl;
-        } in
-        record { hint = hint_by false false false; numeral = numeral; last = refl }
+    by_minus : (t : Bool) → (b == minus) ≡ t → starts_number b ≡ true → EndsIn in_digits (b ∷ [])
+    by_minus true is e =
+        byte-ends b (minus ∷ []) [] true IsMinus.present AreDigits.none (ap (λ x. x ∷ []) (eqb-true b minus is)) (λ z. cc)
+    by_minus false is e =
+        byte-ends b [] (b ∷ []) false IsMinus.absent (AreDigits.digit b [] (rw is at e) AreDigits.none) refl (λ z. cc)
 
 -- ---- where it ends before the buffer does
 
