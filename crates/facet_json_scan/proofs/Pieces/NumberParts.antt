@@ -227,19 +227,23 @@ pub mark-after_fraction : (b : ℕ) → is_exponent_mark b ≡ true → ExtendsW
 mark-after_fraction b e = λ text i.
     mark-grows text b i.hint i.numeral (last-fraction i.numeral.fraction i.numeral.exponent i.last).1 e
 
-pub sign-after_mark : (b : ℕ) → is_sign b ≡ true → ExtendsWith at_mark b in_exponent
-sign-after_mark b e = λ text i.
-    let n = i.numeral in
-    let one = last-mark n.fraction n.exponent i.last in
-    exponent-grows text b i.hint n in_exponent (exponent-sign n.exponent n.has_exponent b n.is_exponent one e)
-    (exponent-last n.fraction n.exponent b (λ z. omega (arith, one, ap length z)))
+-- An exponent that has begun goes on.
+in_exponent-grows : (text : List ℕ) (b : ℕ) (hint : Hint) (n : IsNumeral text hint) → n.exponent ≢ [] →
+    IsExponent (n.exponent ++ b ∷ []) true → EndsIn in_exponent (text ++ b ∷ [])
+in_exponent-grows text b hint n some grown =
+    exponent-grows text b hint n in_exponent grown (exponent-last n.fraction n.exponent b some)
 
--- A digit after the mark, or after what follows it.
+-- By a digit.
 exponent_digit-grows : (text : List ℕ) (b : ℕ) (hint : Hint) (n : IsNumeral text hint) → n.exponent ≢ [] →
     is_digit b ≡ true → EndsIn in_exponent (text ++ b ∷ [])
 exponent_digit-grows text b hint n some e =
-    exponent-grows text b hint n in_exponent (exponent-digit n.exponent n.has_exponent b n.is_exponent some e)
-    (exponent-last n.fraction n.exponent b some)
+    in_exponent-grows text b hint n some (exponent-digit n.exponent n.has_exponent b n.is_exponent some e)
+
+pub sign-after_mark : (b : ℕ) → is_sign b ≡ true → ExtendsWith at_mark b in_exponent
+sign-after_mark b e = λ text i.
+    let one = last-mark i.numeral.fraction i.numeral.exponent i.last in
+    in_exponent-grows text b i.hint i.numeral (λ z. omega (arith, one, ap length z))
+    (exponent-sign i.numeral.exponent i.numeral.has_exponent b i.numeral.is_exponent one e)
 
 pub digit-after_mark : (b : ℕ) → is_digit b ≡ true → ExtendsWith at_mark b in_exponent
 digit-after_mark b e = λ text i.
