@@ -2,7 +2,7 @@
 use Rattle.std.proofs.Common.{◌≡◌, ◌<◌, ◌^◌, ℕ, Bool, true, List, ℤ, Result, Ok, Err}
 use Rattle.std.specs.Result.{OnOk}
 use Rattle.std.specs.Str.{is_utf8}
-use Rattle.facet_json_document.specs.Tree.{null, bool, i64, u64, text, i128, u128, raw}
+use Rattle.facet_json_document.specs.Tree.{null, bool, text, i128, u128, raw}
 use Rattle.facet_json_document.specs.AsRead.{FitsBits, WellFormed, RawParts}
 use Rattle.facet_json_tree.specs.Write.{IsOfRust}
 
@@ -11,34 +11,26 @@ pub on-ok : {E : Type 0} (P : Type 0) (r : Result (Unit {0}) E) → P → OnOk r
 on-ok P (Ok nothing) h = h
 on-ok P (Err e) h = tt
 
-pub bool-of_rust : {E : Type 0} (b : Bool) (r : Result (Unit {0}) E) → OnOk r (IsOfRust (bool b))
+pub null-of_rust : IsOfRust null
 unfolding WellFormed RawParts
-bool-of_rust b r = on-ok (IsOfRust (bool b)) r (tt, tt)
+null-of_rust = (tt, tt)
 
-pub text-of_rust : {E : Type 0} (t : List ℕ) (r : Result (Unit {0}) E) → is_utf8 t ≡ true → OnOk r (IsOfRust (text t))
+pub bool-of_rust : (b : Bool) → IsOfRust (bool b)
 unfolding WellFormed RawParts
-text-of_rust t r utf8 = on-ok (IsOfRust (text t)) r (utf8, tt)
+bool-of_rust b = (tt, tt)
 
-pub u64-of_rust : {E : Type 0} (n : ℕ) (r : Result (Unit {0}) E) → n < 2 ^ 64 → OnOk r (IsOfRust (u64 n))
+pub text-of_rust : (t : List ℕ) → is_utf8 t ≡ true → IsOfRust (text t)
 unfolding WellFormed RawParts
-u64-of_rust n r fits = on-ok (IsOfRust (u64 n)) r (fits, tt)
+text-of_rust t utf8 = (utf8, tt)
 
-pub i64-of_rust : {E : Type 0} (z : ℤ) (r : Result (Unit {0}) E) → FitsBits 63 z → OnOk r (IsOfRust (i64 z))
+pub u128-of_rust : (n : ℕ) → n < 2 ^ 128 → IsOfRust (u128 n)
 unfolding WellFormed RawParts
-i64-of_rust z r fits = on-ok (IsOfRust (i64 z)) r (fits, tt)
+u128-of_rust n fits = (fits, tt)
 
-pub null-of_rust : {E : Type 0} (r : Result (Unit {0}) E) → OnOk r (IsOfRust null)
+pub i128-of_rust : (z : ℤ) → FitsBits 127 z → IsOfRust (i128 z)
 unfolding WellFormed RawParts
-null-of_rust r = on-ok (IsOfRust null) r (tt, tt)
+i128-of_rust z fits = (fits, tt)
 
-pub u128-of_rust : {E : Type 0} (n : ℕ) (r : Result (Unit {0}) E) → n < 2 ^ 128 → OnOk r (IsOfRust (u128 n))
+pub raw-of_rust : (t : List ℕ) → is_utf8 t ≡ true → IsOfRust (raw t)
 unfolding WellFormed RawParts
-u128-of_rust n r fits = on-ok (IsOfRust (u128 n)) r (fits, tt)
-
-pub i128-of_rust : {E : Type 0} (z : ℤ) (r : Result (Unit {0}) E) → FitsBits 127 z → OnOk r (IsOfRust (i128 z))
-unfolding WellFormed RawParts
-i128-of_rust z r fits = on-ok (IsOfRust (i128 z)) r (fits, tt)
-
-pub raw-of_rust : {E : Type 0} (t : List ℕ) (r : Result (Unit {0}) E) → is_utf8 t ≡ true → OnOk r (IsOfRust (raw t))
-unfolding WellFormed RawParts
-raw-of_rust t r utf8 = on-ok (IsOfRust (raw t)) r (tt, utf8)
+raw-of_rust t utf8 = (tt, utf8)

@@ -4,6 +4,7 @@
 
 mod facet;
 pub mod laws;
+mod leaves;
 mod lists;
 mod maps;
 mod options;

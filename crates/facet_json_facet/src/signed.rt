@@ -1,261 +1,199 @@
 //! Whole numbers with a sign: `i8`, `i16`, `i32`, `i64` and `isize`.
 
-use crate::facet::Facet;
-use crate::whole::{next_whole, out_of_range};
-use facet_format::{DeserializeError, FormatSerializer, ScalarValue};
-use facet_json_parser::JsonParser;
-use facet_json_serializer::{JsonSerializeError, JsonSerializer};
-use std::alloc::Global;
+use crate::whole::Number;
+use facet_format::ScalarValue;
 
-impl<'de> Facet<'de> for i8 {
-    ghost use Rattle.std.specs.Prelude.{ℤ, true};
+impl Number for i8 {
+    ghost use Rattle.std.specs.Prelude.{codes, FitsSigned};
+    ghost use Rattle.std.specs.Int.{w8, w64};
     ghost use Rattle.facet_json_document.specs.Tree.{i64 as i64_tree};
     ghost use Rattle.facet_json_document.specs.AsRead.{FitsBits};
-    ghost use Rattle.facet_json_meaning.specs.Readings.{leaf, signed_of};
-    ghost use Rattle.facet_json_meaning.proofs.Leaves.LeafLaws.{leaf-same};
+    ghost use Rattle.facet_json_tree.proofs.OfRust.{fits-within};
+    ghost use Rattle.facet_json_meaning.specs.Readings.{signed_in};
     ghost use Rattle.facet_json_meaning.proofs.Leaves.WholeNumbers.{i8-reads_back};
+    ghost use Rattle.facet_json_facet.specs.Inner.NumberLaws.{signed-tries, signed-of_rust};
 
-    ghost View = { ℤ };
+    ghost called = { codes "i8" };
 
-    ghost view = { λ n. n };
-
-    ghost reading = { leaf (signed_of 7) };
-
-    ghost reading_borrowed = { leaf (signed_of 7) };
+    ghost holds = { signed_in 7 };
 
     ghost tree_of = { i64_tree };
 
-    ghost always = { λ n. FitsBits 7 n };
+    ghost fits = { FitsSigned w8 };
 
-    ghost readable = { λ _. Unit {0} };
+    ghost always = { FitsBits 7 };
 
-    ghost whole = { true };
+    ghost fits_wide = { FitsSigned w64 };
 
-    fn read_owned<'t>(
-        _alloc: Global,
-        parser: &mut JsonParser<'de>,
-    ) -> Result<i8, DeserializeError<'t>> {
-        let number = next_whole("i8", parser)?;
-        match i8::try_from(number.value) {
-            Ok(n) => Ok(n),
-            Err(_) => Err(out_of_range("i8", number.span)),
-        }
+    fn name() -> &'static str {
+        "i8"
     }
 
-    fn read<'t>(alloc: Global, parser: &mut JsonParser<'de>) -> Result<i8, DeserializeError<'t>> {
-        i8::read_owned(alloc, parser)
+    fn wide(&self) -> ScalarValue<'_> {
+        ScalarValue::I64(i64::from(*self))
     }
 
-    fn write(&self, serializer: &mut JsonSerializer<'_>) -> Result<(), JsonSerializeError> {
-        serializer.scalar(ScalarValue::I64(i64::from(*self)))
-    }
+    ghost tries = { signed-tries w8 };
 
-    ghost same_reading = { leaf-same (signed_of 7) };
+    ghost fits_always = { fits-within w8 };
 
-    ghost same_reading_borrowed = { leaf-same (signed_of 7) };
+    ghost of_rust = { signed-of_rust };
 
     ghost reads_back = { i8-reads_back };
 }
 
-impl<'de> Facet<'de> for i16 {
-    ghost use Rattle.std.specs.Prelude.{ℤ, true};
+impl Number for i16 {
+    ghost use Rattle.std.specs.Prelude.{codes, FitsSigned};
+    ghost use Rattle.std.specs.Int.{w16, w64};
     ghost use Rattle.facet_json_document.specs.Tree.{i64 as i64_tree};
     ghost use Rattle.facet_json_document.specs.AsRead.{FitsBits};
-    ghost use Rattle.facet_json_meaning.specs.Readings.{leaf, signed_of};
-    ghost use Rattle.facet_json_meaning.proofs.Leaves.LeafLaws.{leaf-same};
+    ghost use Rattle.facet_json_tree.proofs.OfRust.{fits-within};
+    ghost use Rattle.facet_json_meaning.specs.Readings.{signed_in};
     ghost use Rattle.facet_json_meaning.proofs.Leaves.WholeNumbers.{i16-reads_back};
+    ghost use Rattle.facet_json_facet.specs.Inner.NumberLaws.{signed-tries, signed-of_rust};
 
-    ghost View = { ℤ };
+    ghost called = { codes "i16" };
 
-    ghost view = { λ n. n };
-
-    ghost reading = { leaf (signed_of 15) };
-
-    ghost reading_borrowed = { leaf (signed_of 15) };
+    ghost holds = { signed_in 15 };
 
     ghost tree_of = { i64_tree };
 
-    ghost always = { λ n. FitsBits 15 n };
+    ghost fits = { FitsSigned w16 };
 
-    ghost readable = { λ _. Unit {0} };
+    ghost always = { FitsBits 15 };
 
-    ghost whole = { true };
+    ghost fits_wide = { FitsSigned w64 };
 
-    fn read_owned<'t>(
-        _alloc: Global,
-        parser: &mut JsonParser<'de>,
-    ) -> Result<i16, DeserializeError<'t>> {
-        let number = next_whole("i16", parser)?;
-        match i16::try_from(number.value) {
-            Ok(n) => Ok(n),
-            Err(_) => Err(out_of_range("i16", number.span)),
-        }
+    fn name() -> &'static str {
+        "i16"
     }
 
-    fn read<'t>(alloc: Global, parser: &mut JsonParser<'de>) -> Result<i16, DeserializeError<'t>> {
-        i16::read_owned(alloc, parser)
+    fn wide(&self) -> ScalarValue<'_> {
+        ScalarValue::I64(i64::from(*self))
     }
 
-    fn write(&self, serializer: &mut JsonSerializer<'_>) -> Result<(), JsonSerializeError> {
-        serializer.scalar(ScalarValue::I64(i64::from(*self)))
-    }
+    ghost tries = { signed-tries w16 };
 
-    ghost same_reading = { leaf-same (signed_of 15) };
+    ghost fits_always = { fits-within w16 };
 
-    ghost same_reading_borrowed = { leaf-same (signed_of 15) };
+    ghost of_rust = { signed-of_rust };
 
     ghost reads_back = { i16-reads_back };
 }
 
-impl<'de> Facet<'de> for i32 {
-    ghost use Rattle.std.specs.Prelude.{ℤ, true};
+impl Number for i32 {
+    ghost use Rattle.std.specs.Prelude.{codes, FitsSigned};
+    ghost use Rattle.std.specs.Int.{w32, w64};
     ghost use Rattle.facet_json_document.specs.Tree.{i64 as i64_tree};
     ghost use Rattle.facet_json_document.specs.AsRead.{FitsBits};
-    ghost use Rattle.facet_json_meaning.specs.Readings.{leaf, signed_of};
-    ghost use Rattle.facet_json_meaning.proofs.Leaves.LeafLaws.{leaf-same};
+    ghost use Rattle.facet_json_tree.proofs.OfRust.{fits-within};
+    ghost use Rattle.facet_json_meaning.specs.Readings.{signed_in};
     ghost use Rattle.facet_json_meaning.proofs.Leaves.WholeNumbers.{i32-reads_back};
+    ghost use Rattle.facet_json_facet.specs.Inner.NumberLaws.{signed-tries, signed-of_rust};
 
-    ghost View = { ℤ };
+    ghost called = { codes "i32" };
 
-    ghost view = { λ n. n };
-
-    ghost reading = { leaf (signed_of 31) };
-
-    ghost reading_borrowed = { leaf (signed_of 31) };
+    ghost holds = { signed_in 31 };
 
     ghost tree_of = { i64_tree };
 
-    ghost always = { λ n. FitsBits 31 n };
+    ghost fits = { FitsSigned w32 };
 
-    ghost readable = { λ _. Unit {0} };
+    ghost always = { FitsBits 31 };
 
-    ghost whole = { true };
+    ghost fits_wide = { FitsSigned w64 };
 
-    fn read_owned<'t>(
-        _alloc: Global,
-        parser: &mut JsonParser<'de>,
-    ) -> Result<i32, DeserializeError<'t>> {
-        let number = next_whole("i32", parser)?;
-        match i32::try_from(number.value) {
-            Ok(n) => Ok(n),
-            Err(_) => Err(out_of_range("i32", number.span)),
-        }
+    fn name() -> &'static str {
+        "i32"
     }
 
-    fn read<'t>(alloc: Global, parser: &mut JsonParser<'de>) -> Result<i32, DeserializeError<'t>> {
-        i32::read_owned(alloc, parser)
+    fn wide(&self) -> ScalarValue<'_> {
+        ScalarValue::I64(i64::from(*self))
     }
 
-    fn write(&self, serializer: &mut JsonSerializer<'_>) -> Result<(), JsonSerializeError> {
-        serializer.scalar(ScalarValue::I64(i64::from(*self)))
-    }
+    ghost tries = { signed-tries w32 };
 
-    ghost same_reading = { leaf-same (signed_of 31) };
+    ghost fits_always = { fits-within w32 };
 
-    ghost same_reading_borrowed = { leaf-same (signed_of 31) };
+    ghost of_rust = { signed-of_rust };
 
     ghost reads_back = { i32-reads_back };
 }
 
-impl<'de> Facet<'de> for i64 {
-    ghost use Rattle.std.specs.Prelude.{ℤ, true};
+impl Number for i64 {
+    ghost use Rattle.std.specs.Prelude.{codes, FitsSigned};
+    ghost use Rattle.std.specs.Int.{w64};
     ghost use Rattle.facet_json_document.specs.Tree.{i64 as i64_tree};
     ghost use Rattle.facet_json_document.specs.AsRead.{FitsBits};
-    ghost use Rattle.facet_json_meaning.specs.Readings.{leaf, signed_of};
-    ghost use Rattle.facet_json_meaning.proofs.Leaves.LeafLaws.{leaf-same};
+    ghost use Rattle.facet_json_tree.proofs.OfRust.{fits-within};
+    ghost use Rattle.facet_json_meaning.specs.Readings.{signed_in};
     ghost use Rattle.facet_json_meaning.proofs.Leaves.WholeNumbers.{i64-reads_back};
+    ghost use Rattle.facet_json_facet.specs.Inner.NumberLaws.{signed-tries, signed-of_rust};
 
-    ghost View = { ℤ };
+    ghost called = { codes "i64" };
 
-    ghost view = { λ n. n };
-
-    ghost reading = { leaf (signed_of 63) };
-
-    ghost reading_borrowed = { leaf (signed_of 63) };
+    ghost holds = { signed_in 63 };
 
     ghost tree_of = { i64_tree };
 
-    ghost always = { λ n. FitsBits 63 n };
+    ghost fits = { FitsSigned w64 };
 
-    ghost readable = { λ _. Unit {0} };
+    ghost always = { FitsBits 63 };
 
-    ghost whole = { true };
+    ghost fits_wide = { FitsSigned w64 };
 
-    fn read_owned<'t>(
-        _alloc: Global,
-        parser: &mut JsonParser<'de>,
-    ) -> Result<i64, DeserializeError<'t>> {
-        let number = next_whole("i64", parser)?;
-        match i64::try_from(number.value) {
-            Ok(n) => Ok(n),
-            Err(_) => Err(out_of_range("i64", number.span)),
-        }
+    fn name() -> &'static str {
+        "i64"
     }
 
-    fn read<'t>(alloc: Global, parser: &mut JsonParser<'de>) -> Result<i64, DeserializeError<'t>> {
-        i64::read_owned(alloc, parser)
+    fn wide(&self) -> ScalarValue<'_> {
+        ScalarValue::I64(*self)
     }
 
-    fn write(&self, serializer: &mut JsonSerializer<'_>) -> Result<(), JsonSerializeError> {
-        serializer.scalar(ScalarValue::I64(*self))
-    }
+    ghost tries = { signed-tries w64 };
 
-    ghost same_reading = { leaf-same (signed_of 63) };
+    ghost fits_always = { fits-within w64 };
 
-    ghost same_reading_borrowed = { leaf-same (signed_of 63) };
+    ghost of_rust = { signed-of_rust };
 
     ghost reads_back = { i64-reads_back };
 }
 
-impl<'de> Facet<'de> for isize {
-    ghost use Rattle.std.specs.Prelude.{ℤ, true};
+impl Number for isize {
+    ghost use Rattle.std.specs.Prelude.{codes, FitsSigned};
+    ghost use Rattle.std.specs.Int.{w64};
     ghost use Rattle.facet_json_document.specs.Tree.{i64 as i64_tree};
     ghost use Rattle.facet_json_document.specs.AsRead.{FitsBits};
-    ghost use Rattle.facet_json_meaning.specs.Readings.{leaf, signed_of};
-    ghost use Rattle.facet_json_meaning.proofs.Leaves.LeafLaws.{leaf-same};
+    ghost use Rattle.facet_json_tree.proofs.OfRust.{fits-within};
+    ghost use Rattle.facet_json_meaning.specs.Readings.{signed_in};
     ghost use Rattle.facet_json_meaning.proofs.Leaves.WholeNumbers.{i64-reads_back};
+    ghost use Rattle.facet_json_facet.specs.Inner.NumberLaws.{signed-tries, signed-of_rust};
 
-    ghost View = { ℤ };
+    ghost called = { codes "isize" };
 
-    ghost view = { λ n. n };
-
-    ghost reading = { leaf (signed_of 63) };
-
-    ghost reading_borrowed = { leaf (signed_of 63) };
+    ghost holds = { signed_in 63 };
 
     ghost tree_of = { i64_tree };
 
-    ghost always = { λ n. FitsBits 63 n };
+    ghost fits = { FitsSigned w64 };
 
-    ghost readable = { λ _. Unit {0} };
+    ghost always = { FitsBits 63 };
 
-    ghost whole = { true };
+    ghost fits_wide = { FitsSigned w64 };
 
-    fn read_owned<'t>(
-        _alloc: Global,
-        parser: &mut JsonParser<'de>,
-    ) -> Result<isize, DeserializeError<'t>> {
-        let number = next_whole("isize", parser)?;
-        match isize::try_from(number.value) {
-            Ok(n) => Ok(n),
-            Err(_) => Err(out_of_range("isize", number.span)),
-        }
+    fn name() -> &'static str {
+        "isize"
     }
 
-    fn read<'t>(
-        alloc: Global,
-        parser: &mut JsonParser<'de>,
-    ) -> Result<isize, DeserializeError<'t>> {
-        isize::read_owned(alloc, parser)
+    fn wide(&self) -> ScalarValue<'_> {
+        ScalarValue::I64(*self as i64)
     }
 
-    fn write(&self, serializer: &mut JsonSerializer<'_>) -> Result<(), JsonSerializeError> {
-        serializer.scalar(ScalarValue::I64(*self as i64))
-    }
+    ghost tries = { signed-tries w64 };
 
-    ghost same_reading = { leaf-same (signed_of 63) };
+    ghost fits_always = { fits-within w64 };
 
-    ghost same_reading_borrowed = { leaf-same (signed_of 63) };
+    ghost of_rust = { signed-of_rust };
 
     ghost reads_back = { i64-reads_back };
 }

@@ -1,13 +1,12 @@
 //! Texts: `String`, which owns its text, and `&str`, whose text stands in the input.
 
-ghost use Rattle.std.specs.Prelude.{◌≡◌, ◌⊎◌, IfOk, IfErr, IfSome, None, Some, codes, string_bytes};
-ghost use Rattle.facet_format.specs.Complaint.{no_memory, refusal_at};
+ghost use Rattle.std.specs.Prelude.{◌≡◌, IfOk, IfErr, None, Some};
+ghost use Rattle.facet_format.specs.Complaint.{refusal_at};
 ghost use Rattle.facet_format.specs.Views.{event_of, refusal_of, span_of};
-ghost use Rattle.facet_json_core.specs.Refusing.{mismatch_of};
 ghost use Rattle.facet_json_meaning.specs.Borrowed.{lent, made_text, IsNotLent};
-ghost use Rattle.facet_json_meaning.specs.Readings.{taken, text_of_tree};
 
 use crate::facet::Facet;
+use crate::leaves::Leaf;
 use crate::steps::next::next_of_value;
 use facet_format::{
     DeserializeError, DeserializeErrorKind, FormatSerializer, ParseEvent, ParseEventKind,
@@ -19,51 +18,40 @@ use facet_json_serializer::{JsonSerializeError, JsonSerializer};
 use std::alloc::Global;
 use std::borrow::CowStr;
 
-impl<'de> Facet<'de> for String {
-    ghost use Rattle.std.specs.Prelude.{ℕ, List, true, ◌≡◌, string_bytes};
+impl Leaf for String {
+    ghost use Rattle.std.specs.Prelude.{◌≡◌, ◌⊎◌, ℕ, List, true, codes, string_bytes};
     ghost use Rattle.std.specs.Str.{is_utf8};
+    ghost use Rattle.facet_format.specs.Complaint.{no_memory};
     ghost use Rattle.facet_json_document.specs.Tree.{text as text_tree};
-    ghost use Rattle.facet_json_meaning.specs.Readings.{leaf, text_of_tree};
-    ghost use Rattle.facet_json_meaning.proofs.Leaves.LeafLaws.{leaf-same};
+    ghost use Rattle.facet_json_core.specs.Refusing.{mismatch_of};
+    ghost use Rattle.facet_json_core.proofs.Refusing.{lacks-about};
+    ghost use Rattle.facet_json_meaning.specs.Readings.{text_of_tree};
     ghost use Rattle.facet_json_meaning.proofs.Leaves.TextLaws.{text-reads_back};
 
     ghost View = { List ℕ };
 
     ghost view = { string_bytes };
 
-    ghost reading = { leaf text_of_tree };
+    ghost takes = { text_of_tree };
 
-    ghost reading_borrowed = { leaf text_of_tree };
+    ghost refuses = { λ given r. (r ≡ no_memory) ⊎ (r ≡ mismatch_of (codes "string") given) };
 
     ghost tree_of = { text_tree };
 
     ghost always = { λ t. is_utf8 t ≡ true };
 
-    ghost readable = { λ _. Unit {0} };
-
-    ghost whole = { true };
-
-    fn read_owned<'t>(
-        alloc: Global,
-        parser: &mut JsonParser<'de>,
-    ) -> Result<String, DeserializeError<'t>> {
-        string_in(alloc, next_of_value(parser)?)
+    fn take<'t>(alloc: Global, event: ParseEvent<'_>) -> Result<String, DeserializeError<'t>> {
+        match event.kind {
+            ParseEventKind::Scalar(ScalarValue::Str(text)) => Ok(text.into_owned(alloc)?),
+            _ => Err(mismatch("string", event)),
+        }
     }
 
-    fn read<'t>(
-        alloc: Global,
-        parser: &mut JsonParser<'de>,
-    ) -> Result<String, DeserializeError<'t>> {
-        String::read_owned(alloc, parser)
+    fn to_scalar(&self) -> ScalarValue<'_> {
+        ScalarValue::Str(CowStr::Borrowed(self.as_str()))
     }
 
-    fn write(&self, serializer: &mut JsonSerializer<'_>) -> Result<(), JsonSerializeError> {
-        serializer.scalar(ScalarValue::Str(CowStr::Borrowed(self.as_str())))
-    }
-
-    ghost same_reading = { leaf-same text_of_tree };
-
-    ghost same_reading_borrowed = { leaf-same text_of_tree };
+    ghost refuses_about = { λ given r told. lacks-about given told };
 
     ghost reads_back = { text-reads_back };
 }
@@ -122,19 +110,6 @@ impl<'de> Facet<'de> for &'de str {
     ghost same_reading_borrowed = { borrowed-same };
 
     ghost reads_back = { unread-reads_back };
-}
-
-/// The text that an event is.
-fn string_in<'t>(alloc: Global, event: ParseEvent<'_>) -> Result<String, DeserializeError<'t>>
-    ensures taken { IfOk result (λ s. taken text_of_tree (event_of event.entry).kind ≡ Some (string_bytes s)) }
-    ensures refused { IfErr result (λ e. (refusal_of e ≡ no_memory) ⊎ (taken text_of_tree (event_of event.entry).kind ≡ None)) }
-    ensures span { IfErr result (λ e. IfSome e.span (λ s. s ≡ event.entry.span)) }
-    ensures told { IfErr result (λ e. (refusal_of e ≡ no_memory) ⊎ (refusal_of e ≡ mismatch_of (codes "string") (event_of event.entry))) }
-{
-    match event.kind {
-        ParseEventKind::Scalar(ScalarValue::Str(text)) => Ok(text.into_owned(alloc)?),
-        _ => Err(mismatch("string", event)),
-    }
 }
 
 /// The text of the input that an event is.

@@ -1,256 +1,189 @@
 //! Whole numbers without a sign: `u8`, `u16`, `u32`, `u64` and `usize`.
 
-use crate::facet::Facet;
-use crate::whole::{next_whole, out_of_range};
-use facet_format::{DeserializeError, FormatSerializer, ScalarValue};
-use facet_json_parser::JsonParser;
-use facet_json_serializer::{JsonSerializeError, JsonSerializer};
-use std::alloc::Global;
+use crate::whole::Number;
+use facet_format::ScalarValue;
 
-impl<'de> Facet<'de> for u8 {
-    ghost use Rattle.std.specs.Prelude.{ℕ, true, ◌<◌, ◌^◌};
+impl Number for u8 {
+    ghost use Rattle.std.specs.Prelude.{codes, ◌<◌, ◌^◌};
+    ghost use Rattle.std.specs.Int.{w8};
     ghost use Rattle.facet_json_document.specs.Tree.{u64 as u64_tree};
-    ghost use Rattle.facet_json_meaning.specs.Readings.{leaf, unsigned_of};
-    ghost use Rattle.facet_json_meaning.proofs.Leaves.LeafLaws.{leaf-same};
+    ghost use Rattle.facet_json_meaning.specs.Readings.{unsigned_in};
     ghost use Rattle.facet_json_meaning.proofs.Leaves.WholeNumbers.{u8-reads_back};
+    ghost use Rattle.facet_json_facet.specs.Inner.NumberLaws.{unsigned-tries, unsigned-of_rust};
 
-    ghost View = { ℕ };
+    ghost called = { codes "u8" };
 
-    ghost view = { λ n. n };
-
-    ghost reading = { leaf (unsigned_of 8) };
-
-    ghost reading_borrowed = { leaf (unsigned_of 8) };
+    ghost holds = { unsigned_in 8 };
 
     ghost tree_of = { u64_tree };
 
+    ghost fits = { λ n. n < 2 ^ 8 };
+
     ghost always = { λ n. n < 2 ^ 8 };
 
-    ghost readable = { λ _. Unit {0} };
+    ghost fits_wide = { λ n. n < 2 ^ 64 };
 
-    ghost whole = { true };
-
-    fn read_owned<'t>(
-        _alloc: Global,
-        parser: &mut JsonParser<'de>,
-    ) -> Result<u8, DeserializeError<'t>> {
-        let number = next_whole("u8", parser)?;
-        match u8::try_from(number.value) {
-            Ok(n) => Ok(n),
-            Err(_) => Err(out_of_range("u8", number.span)),
-        }
+    fn name() -> &'static str {
+        "u8"
     }
 
-    fn read<'t>(alloc: Global, parser: &mut JsonParser<'de>) -> Result<u8, DeserializeError<'t>> {
-        u8::read_owned(alloc, parser)
+    fn wide(&self) -> ScalarValue<'_> {
+        ScalarValue::U64(u64::from(*self))
     }
 
-    fn write(&self, serializer: &mut JsonSerializer<'_>) -> Result<(), JsonSerializeError> {
-        serializer.scalar(ScalarValue::U64(u64::from(*self)))
-    }
+    ghost tries = { unsigned-tries w8 };
 
-    ghost same_reading = { leaf-same (unsigned_of 8) };
+    ghost fits_always = { λ n fits. fits };
 
-    ghost same_reading_borrowed = { leaf-same (unsigned_of 8) };
+    ghost of_rust = { unsigned-of_rust };
 
     ghost reads_back = { u8-reads_back };
 }
 
-impl<'de> Facet<'de> for u16 {
-    ghost use Rattle.std.specs.Prelude.{ℕ, true, ◌<◌, ◌^◌};
+impl Number for u16 {
+    ghost use Rattle.std.specs.Prelude.{codes, ◌<◌, ◌^◌};
+    ghost use Rattle.std.specs.Int.{w16};
     ghost use Rattle.facet_json_document.specs.Tree.{u64 as u64_tree};
-    ghost use Rattle.facet_json_meaning.specs.Readings.{leaf, unsigned_of};
-    ghost use Rattle.facet_json_meaning.proofs.Leaves.LeafLaws.{leaf-same};
+    ghost use Rattle.facet_json_meaning.specs.Readings.{unsigned_in};
     ghost use Rattle.facet_json_meaning.proofs.Leaves.WholeNumbers.{u16-reads_back};
+    ghost use Rattle.facet_json_facet.specs.Inner.NumberLaws.{unsigned-tries, unsigned-of_rust};
 
-    ghost View = { ℕ };
+    ghost called = { codes "u16" };
 
-    ghost view = { λ n. n };
-
-    ghost reading = { leaf (unsigned_of 16) };
-
-    ghost reading_borrowed = { leaf (unsigned_of 16) };
+    ghost holds = { unsigned_in 16 };
 
     ghost tree_of = { u64_tree };
 
+    ghost fits = { λ n. n < 2 ^ 16 };
+
     ghost always = { λ n. n < 2 ^ 16 };
 
-    ghost readable = { λ _. Unit {0} };
+    ghost fits_wide = { λ n. n < 2 ^ 64 };
 
-    ghost whole = { true };
-
-    fn read_owned<'t>(
-        _alloc: Global,
-        parser: &mut JsonParser<'de>,
-    ) -> Result<u16, DeserializeError<'t>> {
-        let number = next_whole("u16", parser)?;
-        match u16::try_from(number.value) {
-            Ok(n) => Ok(n),
-            Err(_) => Err(out_of_range("u16", number.span)),
-        }
+    fn name() -> &'static str {
+        "u16"
     }
 
-    fn read<'t>(alloc: Global, parser: &mut JsonParser<'de>) -> Result<u16, DeserializeError<'t>> {
-        u16::read_owned(alloc, parser)
+    fn wide(&self) -> ScalarValue<'_> {
+        ScalarValue::U64(u64::from(*self))
     }
 
-    fn write(&self, serializer: &mut JsonSerializer<'_>) -> Result<(), JsonSerializeError> {
-        serializer.scalar(ScalarValue::U64(u64::from(*self)))
-    }
+    ghost tries = { unsigned-tries w16 };
 
-    ghost same_reading = { leaf-same (unsigned_of 16) };
+    ghost fits_always = { λ n fits. fits };
 
-    ghost same_reading_borrowed = { leaf-same (unsigned_of 16) };
+    ghost of_rust = { unsigned-of_rust };
 
     ghost reads_back = { u16-reads_back };
 }
 
-impl<'de> Facet<'de> for u32 {
-    ghost use Rattle.std.specs.Prelude.{ℕ, true, ◌<◌, ◌^◌};
+impl Number for u32 {
+    ghost use Rattle.std.specs.Prelude.{codes, ◌<◌, ◌^◌};
+    ghost use Rattle.std.specs.Int.{w32};
     ghost use Rattle.facet_json_document.specs.Tree.{u64 as u64_tree};
-    ghost use Rattle.facet_json_meaning.specs.Readings.{leaf, unsigned_of};
-    ghost use Rattle.facet_json_meaning.proofs.Leaves.LeafLaws.{leaf-same};
+    ghost use Rattle.facet_json_meaning.specs.Readings.{unsigned_in};
     ghost use Rattle.facet_json_meaning.proofs.Leaves.WholeNumbers.{u32-reads_back};
+    ghost use Rattle.facet_json_facet.specs.Inner.NumberLaws.{unsigned-tries, unsigned-of_rust};
 
-    ghost View = { ℕ };
+    ghost called = { codes "u32" };
 
-    ghost view = { λ n. n };
-
-    ghost reading = { leaf (unsigned_of 32) };
-
-    ghost reading_borrowed = { leaf (unsigned_of 32) };
+    ghost holds = { unsigned_in 32 };
 
     ghost tree_of = { u64_tree };
 
+    ghost fits = { λ n. n < 2 ^ 32 };
+
     ghost always = { λ n. n < 2 ^ 32 };
 
-    ghost readable = { λ _. Unit {0} };
+    ghost fits_wide = { λ n. n < 2 ^ 64 };
 
-    ghost whole = { true };
-
-    fn read_owned<'t>(
-        _alloc: Global,
-        parser: &mut JsonParser<'de>,
-    ) -> Result<u32, DeserializeError<'t>> {
-        let number = next_whole("u32", parser)?;
-        match u32::try_from(number.value) {
-            Ok(n) => Ok(n),
-            Err(_) => Err(out_of_range("u32", number.span)),
-        }
+    fn name() -> &'static str {
+        "u32"
     }
 
-    fn read<'t>(alloc: Global, parser: &mut JsonParser<'de>) -> Result<u32, DeserializeError<'t>> {
-        u32::read_owned(alloc, parser)
+    fn wide(&self) -> ScalarValue<'_> {
+        ScalarValue::U64(u64::from(*self))
     }
 
-    fn write(&self, serializer: &mut JsonSerializer<'_>) -> Result<(), JsonSerializeError> {
-        serializer.scalar(ScalarValue::U64(u64::from(*self)))
-    }
+    ghost tries = { unsigned-tries w32 };
 
-    ghost same_reading = { leaf-same (unsigned_of 32) };
+    ghost fits_always = { λ n fits. fits };
 
-    ghost same_reading_borrowed = { leaf-same (unsigned_of 32) };
+    ghost of_rust = { unsigned-of_rust };
 
     ghost reads_back = { u32-reads_back };
 }
 
-impl<'de> Facet<'de> for u64 {
-    ghost use Rattle.std.specs.Prelude.{ℕ, true, ◌<◌, ◌^◌};
+impl Number for u64 {
+    ghost use Rattle.std.specs.Prelude.{codes, ◌<◌, ◌^◌};
+    ghost use Rattle.std.specs.Int.{w64};
     ghost use Rattle.facet_json_document.specs.Tree.{u64 as u64_tree};
-    ghost use Rattle.facet_json_meaning.specs.Readings.{leaf, unsigned_of};
-    ghost use Rattle.facet_json_meaning.proofs.Leaves.LeafLaws.{leaf-same};
+    ghost use Rattle.facet_json_meaning.specs.Readings.{unsigned_in};
     ghost use Rattle.facet_json_meaning.proofs.Leaves.WholeNumbers.{u64-reads_back};
+    ghost use Rattle.facet_json_facet.specs.Inner.NumberLaws.{unsigned-tries, unsigned-of_rust};
 
-    ghost View = { ℕ };
+    ghost called = { codes "u64" };
 
-    ghost view = { λ n. n };
-
-    ghost reading = { leaf (unsigned_of 64) };
-
-    ghost reading_borrowed = { leaf (unsigned_of 64) };
+    ghost holds = { unsigned_in 64 };
 
     ghost tree_of = { u64_tree };
 
+    ghost fits = { λ n. n < 2 ^ 64 };
+
     ghost always = { λ n. n < 2 ^ 64 };
 
-    ghost readable = { λ _. Unit {0} };
+    ghost fits_wide = { λ n. n < 2 ^ 64 };
 
-    ghost whole = { true };
-
-    fn read_owned<'t>(
-        _alloc: Global,
-        parser: &mut JsonParser<'de>,
-    ) -> Result<u64, DeserializeError<'t>> {
-        let number = next_whole("u64", parser)?;
-        match u64::try_from(number.value) {
-            Ok(n) => Ok(n),
-            Err(_) => Err(out_of_range("u64", number.span)),
-        }
+    fn name() -> &'static str {
+        "u64"
     }
 
-    fn read<'t>(alloc: Global, parser: &mut JsonParser<'de>) -> Result<u64, DeserializeError<'t>> {
-        u64::read_owned(alloc, parser)
+    fn wide(&self) -> ScalarValue<'_> {
+        ScalarValue::U64(*self)
     }
 
-    fn write(&self, serializer: &mut JsonSerializer<'_>) -> Result<(), JsonSerializeError> {
-        serializer.scalar(ScalarValue::U64(*self))
-    }
+    ghost tries = { unsigned-tries w64 };
 
-    ghost same_reading = { leaf-same (unsigned_of 64) };
+    ghost fits_always = { λ n fits. fits };
 
-    ghost same_reading_borrowed = { leaf-same (unsigned_of 64) };
+    ghost of_rust = { unsigned-of_rust };
 
     ghost reads_back = { u64-reads_back };
 }
 
-impl<'de> Facet<'de> for usize {
-    ghost use Rattle.std.specs.Prelude.{ℕ, true, ◌<◌, ◌^◌};
+impl Number for usize {
+    ghost use Rattle.std.specs.Prelude.{codes, ◌<◌, ◌^◌};
+    ghost use Rattle.std.specs.Int.{w64};
     ghost use Rattle.facet_json_document.specs.Tree.{u64 as u64_tree};
-    ghost use Rattle.facet_json_meaning.specs.Readings.{leaf, unsigned_of};
-    ghost use Rattle.facet_json_meaning.proofs.Leaves.LeafLaws.{leaf-same};
+    ghost use Rattle.facet_json_meaning.specs.Readings.{unsigned_in};
     ghost use Rattle.facet_json_meaning.proofs.Leaves.WholeNumbers.{u64-reads_back};
+    ghost use Rattle.facet_json_facet.specs.Inner.NumberLaws.{unsigned-tries, unsigned-of_rust};
 
-    ghost View = { ℕ };
+    ghost called = { codes "usize" };
 
-    ghost view = { λ n. n };
-
-    ghost reading = { leaf (unsigned_of 64) };
-
-    ghost reading_borrowed = { leaf (unsigned_of 64) };
+    ghost holds = { unsigned_in 64 };
 
     ghost tree_of = { u64_tree };
 
+    ghost fits = { λ n. n < 2 ^ 64 };
+
     ghost always = { λ n. n < 2 ^ 64 };
 
-    ghost readable = { λ _. Unit {0} };
+    ghost fits_wide = { λ n. n < 2 ^ 64 };
 
-    ghost whole = { true };
-
-    fn read_owned<'t>(
-        _alloc: Global,
-        parser: &mut JsonParser<'de>,
-    ) -> Result<usize, DeserializeError<'t>> {
-        let number = next_whole("usize", parser)?;
-        match usize::try_from(number.value) {
-            Ok(n) => Ok(n),
-            Err(_) => Err(out_of_range("usize", number.span)),
-        }
+    fn name() -> &'static str {
+        "usize"
     }
 
-    fn read<'t>(
-        alloc: Global,
-        parser: &mut JsonParser<'de>,
-    ) -> Result<usize, DeserializeError<'t>> {
-        usize::read_owned(alloc, parser)
+    fn wide(&self) -> ScalarValue<'_> {
+        ScalarValue::U64(*self as u64)
     }
 
-    fn write(&self, serializer: &mut JsonSerializer<'_>) -> Result<(), JsonSerializeError> {
-        serializer.scalar(ScalarValue::U64(*self as u64))
-    }
+    ghost tries = { unsigned-tries w64 };
 
-    ghost same_reading = { leaf-same (unsigned_of 64) };
+    ghost fits_always = { λ n fits. fits };
 
-    ghost same_reading_borrowed = { leaf-same (unsigned_of 64) };
+    ghost of_rust = { unsigned-of_rust };
 
     ghost reads_back = { u64-reads_back };
 }

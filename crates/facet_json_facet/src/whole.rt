@@ -1,64 +1,115 @@
-//! A whole number that is read, before it is known whether a type holds it.
+//! Whole numbers of at most 64 bits: a number is read, and then the type holds it or it is out of range.
 
-ghost use Rattle.std.specs.Prelude.{◌≡◌, ◌≤◌, ◌<◌, None, Some, length, IfOk, IfErr, OnOk};
+ghost use Rattle.std.specs.Prelude.{◌≡◌, None, Some, IfOk, IfErr};
 ghost use Rattle.facet_format.specs.Complaint.{number_out_of_range, refusal_at};
-ghost use Rattle.facet_format.specs.Span.{stop};
-ghost use Rattle.facet_format.specs.Views.{event_of, refusal_of, span_of};
-ghost use Rattle.facet_json_document.specs.Now.{ahead};
-ghost use Rattle.facet_json_document.specs.UnreadLaws.{RefusalWithin};
-ghost use Rattle.facet_json_core.specs.Refusing.{mismatch_of, IsSpanPassed, TellsRefusal};
-ghost use Rattle.facet_json_meaning.specs.Nodes.{KeepsOn};
-ghost use Rattle.facet_json_meaning.specs.OneValue.{PassesValue};
-ghost use Rattle.facet_json_meaning.specs.Reading.{IsRead, IsUnread, HasDocument, EndsStrictly};
-ghost use Rattle.facet_json_meaning.specs.Readings.{leaf, taken, whole_of};
+ghost use Rattle.facet_format.specs.Views.{event_of, refusal_of, scalar_value_of, span_of};
+ghost use Rattle.facet_json_core.specs.Refusing.{mismatch_of};
+ghost use Rattle.facet_json_serializer.specs.Serializer.{scalar_tree};
+ghost use Rattle.facet_json_meaning.specs.Readings.{taken, whole_of};
 
-use crate::steps::next::next_of_value;
+use crate::leaves::Leaf;
 use facet_format::{
     DeserializeError, DeserializeErrorKind, ParseEvent, ParseEventKind, ScalarValue, Span,
 };
 use facet_json_core::mismatch;
-use facet_json_parser::JsonParser;
+use std::alloc::Global;
+use std::num::TryFromIntError;
 
-/// A whole number, and the bytes of the input that it stands in.
-#[derive(Debug, Clone, Copy)]
-pub(crate) struct Whole {
-    /// The number.
-    pub(crate) value: i128,
-    /// Where it stands.
-    pub(crate) span: Span,
+/// A type of whole numbers of at most 64 bits.
+pub(crate) trait Number: TryFrom<i128, Error = TryFromIntError> + Drop {
+    ghost use Rattle.std.specs.Prelude.{◌≡◌, ℕ, List, ℤ, Option, Some, None, Result, IfOk, IfErr};
+    ghost use Rattle.std.specs.Option.{option_and_then};
+    ghost use Rattle.facet_json_document.specs.Tree.{Tree};
+    ghost use Rattle.facet_json_tree.specs.Write.{IsOfRust};
+    ghost use Rattle.facet_json_meaning.specs.Laws.{ReadsBack};
+    ghost use Rattle.facet_json_meaning.specs.Readings.{leaf, whole_of};
+
+    /// What the type is called.
+    ghost called: { List ℕ };
+
+    /// The number as a value, where the type holds it.
+    ghost holds: { ℤ → Option Self };
+
+    /// The tree as which a value is written.
+    ghost tree_of: { Self → Tree };
+
+    /// The value lies within the bits of the type.
+    ghost fits: { Self → Type 0 };
+
+    /// What every value of the type has.
+    ghost always: { Self → Type 0 };
+
+    /// The value lies within 64 bits.
+    ghost fits_wide: { Self → Type 0 };
+
+    /// What the type is called.
+    fn name() -> &'static str
+        ensures { result.now ≡ called };
+
+    /// The scalar as which a value is written.
+    fn wide(&self) -> ScalarValue<'_>
+        ensures tree { tree_of self.now ≡ scalar_tree (scalar_value_of result) }
+        ensures fits { fits self.now }
+        ensures fits_wide { fits_wide self.now };
+
+    /// A number is converted where the type holds it, and not where it does not.
+    ghost tries: { (z : ℤ) (r : Result Self _) → Self.try_from_gives z r →
+        IfOk r (λ n. holds z ≡ Some n) × IfErr r (λ e. holds z ≡ None) };
+
+    /// Every value within the type's bits has it.
+    ghost fits_always: { (n : Self) → fits n → always n };
+
+    /// A value within 64 bits is a tree of Rust.
+    ghost of_rust: { (n : Self) → fits_wide n → IsOfRust (tree_of n) };
+
+    /// The text of a value reads as the value.
+    ghost reads_back: { ReadsBack (leaf (λ t. option_and_then holds (whole_of t))) tree_of always (λ _. Unit {0}) };
 }
 
-/// Reads a whole number, for a type whose name is `expected`.
+impl<T: Number> Leaf for T {
+    ghost use Rattle.std.specs.Prelude.{◌≡◌, ◌⊎◌, refl};
+    ghost use Rattle.std.proofs.Common.{inr};
+    ghost use Rattle.std.specs.Option.{option_and_then};
+    ghost use Rattle.facet_format.specs.Complaint.{number_out_of_range, refusal_at};
+    ghost use Rattle.facet_json_core.specs.Refusing.{mismatch_of};
+    ghost use Rattle.facet_json_core.proofs.Refusing.{either-about};
+    ghost use Rattle.facet_json_meaning.specs.Readings.{whole_of};
+
+    ghost View = { T };
+
+    ghost view = { λ n. n };
+
+    ghost takes = { λ t. option_and_then T.holds (whole_of t) };
+
+    ghost refuses = { λ given r. (r ≡ refusal_at (number_out_of_range T.called) given.span) ⊎ (r ≡ mismatch_of T.called given) };
+
+    ghost tree_of = { T.tree_of };
+
+    ghost always = { T.always };
+
+    fn take<'t>(_alloc: Global, event: ParseEvent<'_>) -> Result<T, DeserializeError<'t>> {
+        let span = event.span;
+        let number = whole_in(T::name(), event)?;
+        match T::try_from(number) {
+            Ok(n) => Ok(n),
+            Err(_) => Err(out_of_range(T::name(), span)),
+        }
+    }
+
+    fn to_scalar(&self) -> ScalarValue<'_> {
+        self.wide()
+    }
+
+    ghost refuses_about = { λ given r told. inr (either-about given told refl) };
+
+    ghost reads_back = { T.reads_back };
+}
+
+/// The whole number that an event is, for a type whose name is `expected`.
 ///
 /// # Errors
 ///
-/// As `next_of_value`; and `TypeMismatch`, where another value stands there.
-pub(crate) fn next_whole<'t, 'de>(
-    expected: &'t str,
-    parser: &mut JsonParser<'de>,
-) -> Result<Whole, DeserializeError<'t>>
-    ensures read { IfOk result (λ n. IsRead (leaf whole_of) parser.old n.value parser.new) }
-    ensures unread { IfErr result (λ e. IsUnread (leaf whole_of) parser.old (refusal_of e)) }
-    ensures document { OnOk result (HasDocument parser.old) }
-    ensures strict { OnOk result (EndsStrictly parser.old parser.new) }
-    ensures keeps { KeepsOn parser.old parser.new }
-    ensures shorter { OnOk result (ahead parser.new < ahead parser.old) }
-    ensures span_passed { IfOk result (λ n. IsSpanPassed parser.old parser.new (span_of n.span)) }
-    ensures one_value { OnOk result (PassesValue parser.old parser.new) }
-    ensures span_within { IfOk result (λ n. stop (span_of n.span) ≤ length parser.new.buffer) }
-    ensures within { IfErr result (λ e. RefusalWithin parser.new.buffer (refusal_of e)) }
-    ensures free { OnOk result (parser.new.cursor.refusal ≡ None) }
-    ensures tells { IfErr result (λ e. TellsRefusal parser.old parser.new (refusal_of e)) }
-{
-    let event = next_of_value(parser)?;
-    let span = event.span;
-    match whole_in(expected, event) {
-        Ok(value) => Ok(Whole { value, span }),
-        Err(refused) => Err(refused),
-    }
-}
-
-/// The whole number that an event is.
+/// It is another event: a mismatch, with its span.
 fn whole_in<'t>(expected: &'t str, event: ParseEvent<'_>) -> Result<i128, DeserializeError<'t>>
     ensures taken { IfOk result (λ z. taken whole_of (event_of event.entry).kind ≡ Some z) }
     ensures refused { IfErr result (λ e. taken whole_of (event_of event.entry).kind ≡ None) }

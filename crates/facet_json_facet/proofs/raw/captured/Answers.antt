@@ -1,4 +1,4 @@
-use Rattle.std.proofs.Common.{refl, rules}
+use Rattle.std.proofs.Common.{refl}
 use Rattle.std.proofs.lemmas.Result.{err_from_is_err_and}
 use Rattle.facet_json_meaning.proofs.Walks.RawOnWalk.{answer-captures, answer-uncaptured}
 use Rattle.facet_format.specs.Cursor.{capture}
@@ -16,18 +16,6 @@ pub returns-clause-read : goal.returns-clause-read
 returns-clause-read c =
     let steps = rw c.unwrap.ensures at c.in_ok-text.ensures.steps in
     answer-captures _ _ _ _ refl steps
-
-pub returns-in_err-text-clause-read : goal.returns-in_err-text-clause-read
-returns-in_err-text-clause-read c = search rules
-
-pub returns-in_err-text-clause-keeps : goal.returns-in_err-text-clause-keeps
-returns-in_err-text-clause-keeps c = search rules
-
-pub returns-in_err-text-clause-shorter : goal.returns-in_err-text-clause-shorter
-returns-in_err-text-clause-shorter c = search rules
-
-pub returns-in_err-text-clause-within : goal.returns-in_err-text-clause-within
-returns-in_err-text-clause-within c = search rules
 
 pub returns-in_err-text-clause-tells : goal.returns-in_err-text-clause-tells
 returns-in_err-text-clause-tells c =

@@ -1,4 +1,3 @@
-use Rattle.std.proofs.Common.{rules}
 use Rattle.facet_json_facet.proofs.lists.VecFacet.read.Goals as goal
 
 pub returns-clause-read : goal.returns-clause-read
@@ -6,18 +5,3 @@ returns-clause-read g c = c.list_in.ensures.read
 
 pub returns-clause-unread : goal.returns-clause-unread
 returns-clause-unread g c = c.list_in.ensures.unread
-
-pub returns-clause-document : goal.returns-clause-document
-returns-clause-document c = search rules
-
-pub returns-clause-strict : goal.returns-clause-strict
-returns-clause-strict c = search rules
-
-pub returns-clause-keeps : goal.returns-clause-keeps
-returns-clause-keeps c = search rules
-
-pub returns-clause-shorter : goal.returns-clause-shorter
-returns-clause-shorter c = search rules
-
-pub returns-clause-within : goal.returns-clause-within
-returns-clause-within c = search rules

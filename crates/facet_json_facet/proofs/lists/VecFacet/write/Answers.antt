@@ -1,4 +1,4 @@
-use Rattle.std.proofs.Common.{arith, rules}
+use Rattle.std.proofs.Common.{arith}
 use Rattle.facet_json_facet.proofs.ListCalls.{list-begun, item-written, list-written, list-refused, list-spent, list-of_rust, list-have}
 use Rattle.facet_json_facet.proofs.lists.VecFacet.write.Goals as goal
 
@@ -45,18 +45,3 @@ returns-clause-always g c =
     let xs = c.as_slice-item-items.result.now in
     let done = list-have g.T.Facet.view g.T.Facet.tree_of g.T.Facet.always _ _ _ xs l.item-index c.end_seq.result (omega arith) l.invariant c.end_seq.ensures.appends in
     rw c.as_slice-item-items.ensures.value at done
-
-pub returns-in_err-begin_seq-clause-written : goal.returns-in_err-begin_seq-clause-written
-returns-in_err-begin_seq-clause-written c = search rules
-
-pub returns-in_err-begin_seq-clause-refused : goal.returns-in_err-begin_seq-clause-refused
-returns-in_err-begin_seq-clause-refused c = search rules
-
-pub returns-in_err-begin_seq-clause-spent : goal.returns-in_err-begin_seq-clause-spent
-returns-in_err-begin_seq-clause-spent c = search rules
-
-pub returns-in_err-begin_seq-clause-of_rust : goal.returns-in_err-begin_seq-clause-of_rust
-returns-in_err-begin_seq-clause-of_rust c = search rules
-
-pub returns-in_err-begin_seq-clause-always : goal.returns-in_err-begin_seq-clause-always
-returns-in_err-begin_seq-clause-always c = search rules

@@ -1,4 +1,4 @@
-use Rattle.std.proofs.Common.{string_bytes, rules}
+use Rattle.std.proofs.Common.{string_bytes}
 use Rattle.std.proofs.lemmas.Option.{MatchOption-at_none}
 use Rattle.std.proofs.lemmas.Result.{err_from_is_err_and}
 use Rattle.facet_format.specs.Views.{refusal_of}
@@ -43,21 +43,6 @@ returns-clause-read g c =
 
 pub returns-clause-one_value : goal.returns-clause-one_value
 returns-clause-one_value g c = MatchOption-at_none _ _ c.in_default.is c.in_ok-key.ensures.member _ c.loop-map.invariant.inside
-
-pub returns-in_err-begin_object-clause-read : goal.returns-in_err-begin_object-clause-read
-returns-in_err-begin_object-clause-read c = search rules
-
-pub returns-in_err-begin_object-clause-document : goal.returns-in_err-begin_object-clause-document
-returns-in_err-begin_object-clause-document c = search rules
-
-pub returns-in_err-begin_object-clause-strict : goal.returns-in_err-begin_object-clause-strict
-returns-in_err-begin_object-clause-strict c = search rules
-
-pub returns-in_err-begin_object-clause-keeps : goal.returns-in_err-begin_object-clause-keeps
-returns-in_err-begin_object-clause-keeps c = search rules
-
-pub returns-in_err-begin_object-clause-shorter : goal.returns-in_err-begin_object-clause-shorter
-returns-in_err-begin_object-clause-shorter c = search rules
 
 pub returns-in_err-key-clause-tells : goal.returns-in_err-key-clause-tells
 returns-in_err-key-clause-tells g c =

@@ -1,4 +1,3 @@
-use Rattle.std.proofs.Common.{rules}
 use Rattle.std.proofs.lemmas.Result.{err_from_is_err_and}
 use Rattle.facet_format.specs.Views.{refusal_of}
 use Rattle.facet_json_meaning.specs.Optional.{optional}
@@ -35,24 +34,6 @@ pub returns-clause-read : goal.returns-clause-read
 returns-clause-read g c =
     let finds = rw c.if-branch.false at c.in_ok-null_comes.ensures.finds in
     value-read g.T.Facet.reading _ _ _ _ finds c.in_ok-read_owned.ensures.read
-
-pub returns-in_err-null_comes-clause-read : goal.returns-in_err-null_comes-clause-read
-returns-in_err-null_comes-clause-read c = search rules
-
-pub returns-in_err-null_comes-clause-document : goal.returns-in_err-null_comes-clause-document
-returns-in_err-null_comes-clause-document c = search rules
-
-pub returns-in_err-null_comes-clause-strict : goal.returns-in_err-null_comes-clause-strict
-returns-in_err-null_comes-clause-strict c = search rules
-
-pub returns-in_err-null_comes-clause-keeps : goal.returns-in_err-null_comes-clause-keeps
-returns-in_err-null_comes-clause-keeps c = search rules
-
-pub returns-in_err-null_comes-clause-shorter : goal.returns-in_err-null_comes-clause-shorter
-returns-in_err-null_comes-clause-shorter c = search rules
-
-pub returns-in_err-null_comes-clause-owned : goal.returns-in_err-null_comes-clause-owned
-returns-in_err-null_comes-clause-owned c = search rules
 
 pub returns-in_err-pass_null-clause-tells : goal.returns-in_err-pass_null-clause-tells
 returns-in_err-pass_null-clause-tells g c =

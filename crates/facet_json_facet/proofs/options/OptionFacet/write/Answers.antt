@@ -12,7 +12,7 @@ returns-in-None-clause-written g c =
     c.scalar.ensures.appends
 
 pub returns-in-None-clause-of_rust : goal.returns-in-None-clause-of_rust
-returns-in-None-clause-of_rust g c = rw c.in-None.is (null-of_rust c.scalar.result)
+returns-in-None-clause-of_rust g c = rw c.in-None.is (on-ok _ c.scalar.result null-of_rust)
 
 pub returns-in-Some-clause-written : goal.returns-in-Some-clause-written
 returns-in-Some-clause-written c = search rules

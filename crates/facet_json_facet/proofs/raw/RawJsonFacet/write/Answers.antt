@@ -1,4 +1,4 @@
-use Rattle.std.proofs.Common.{◌≡◌, true, subst, rules}
+use Rattle.std.proofs.Common.{◌≡◌, true, subst}
 use Rattle.std.specs.Str.{is_utf8}
 use Rattle.std.proofs.lemmas.Str.{is_utf8-from_IsUtf8}
 use Rattle.facet_format.specs.Event.{bytes_of}
@@ -14,13 +14,7 @@ returns-clause-written c = raw-called _ _ _ (raw (bytes_of c.args.self.now)) c.r
 
 pub returns-clause-of_rust : goal.returns-clause-of_rust
 returns-clause-of_rust c =
-    raw-of_rust _ c.raw_scalar.result (subst (λ t. is_utf8 t ≡ true) c.as_str.ensures (is_utf8-from_IsUtf8 _ c.as_str.utf8))
-
-pub returns-clause-refused : goal.returns-clause-refused
-returns-clause-refused c = search rules
-
-pub returns-clause-spent : goal.returns-clause-spent
-returns-clause-spent c = search rules
+    on-ok _ c.raw_scalar.result (raw-of_rust _ (subst (λ t. is_utf8 t ≡ true) c.as_str.ensures (is_utf8-from_IsUtf8 _ c.as_str.utf8)))
 
 pub returns-clause-always : goal.returns-clause-always
 returns-clause-always c =

@@ -1,4 +1,4 @@
-use Rattle.std.proofs.Common.{refl, rules}
+use Rattle.std.proofs.Common.{refl}
 use Rattle.std.proofs.lemmas.Result.{err_from_is_err_and}
 use Rattle.facet_format.specs.Views.{refusal_of}
 use Rattle.facet_json_meaning.proofs.Walks.NextOnWalk.{answer-walks, answer-lacks, answer-no_end}
@@ -21,24 +21,6 @@ pub returns-in-None-clause-lacks : goal.returns-in-None-clause-lacks
 returns-in-None-clause-lacks c =
     let steps = rw c.in-None.is at c.in_ok-event.ensures.steps in
     answer-no_end _ _ (refusal_of c.ended.result) _ refl steps
-
-pub returns-in_err-event-clause-onward : goal.returns-in_err-event-clause-onward
-returns-in_err-event-clause-onward c = search rules
-
-pub returns-in_err-event-clause-shorter : goal.returns-in_err-event-clause-shorter
-returns-in_err-event-clause-shorter c = search rules
-
-pub returns-in_err-event-clause-passed : goal.returns-in_err-event-clause-passed
-returns-in_err-event-clause-passed c = search rules
-
-pub returns-in_err-event-clause-walks : goal.returns-in_err-event-clause-walks
-returns-in_err-event-clause-walks c = search rules
-
-pub returns-in_err-event-clause-event_within : goal.returns-in_err-event-clause-event_within
-returns-in_err-event-clause-event_within c = search rules
-
-pub returns-in_err-event-clause-within : goal.returns-in_err-event-clause-within
-returns-in_err-event-clause-within c = search rules
 
 pub returns-in_err-event-clause-tells : goal.returns-in_err-event-clause-tells
 returns-in_err-event-clause-tells c =

@@ -1,4 +1,4 @@
-use Rattle.std.proofs.Common.{inr, rules}
+use Rattle.std.proofs.Common.{inr}
 use Rattle.std.proofs.lemmas.Result.{IfOk-weaker, IfErr-weaker, err_from_is_err_and}
 use Rattle.facet_format.specs.Views.{refusal_of}
 use Rattle.facet_json_meaning.proofs.Objects.MembersOnWalk.{none-key, other-key}
@@ -19,18 +19,6 @@ returns-clause-passed c = IfOk-weaker c.name_in.result _ _ (λ name taken. (_, t
 pub returns-clause-lacks : goal.returns-clause-lacks
 returns-clause-lacks c =
     IfErr-weaker c.name_in.result _ _ (λ e none. other-key _ _ _ (refusal_of e) c.in_ok-next_of_value.ensures.walks (inr none)) c.name_in.ensures.refused
-
-pub returns-in_err-next_of_value-clause-passed : goal.returns-in_err-next_of_value-clause-passed
-returns-in_err-next_of_value-clause-passed c = search rules
-
-pub returns-in_err-next_of_value-clause-onward : goal.returns-in_err-next_of_value-clause-onward
-returns-in_err-next_of_value-clause-onward c = search rules
-
-pub returns-in_err-next_of_value-clause-shorter : goal.returns-in_err-next_of_value-clause-shorter
-returns-in_err-next_of_value-clause-shorter c = search rules
-
-pub returns-in_err-next_of_value-clause-within : goal.returns-in_err-next_of_value-clause-within
-returns-in_err-next_of_value-clause-within c = search rules
 
 pub returns-clause-tells : goal.returns-clause-tells
 returns-clause-tells c =

@@ -1,4 +1,4 @@
-use Rattle.std.proofs.Common.{refl, rules}
+use Rattle.std.proofs.Common.{refl}
 use Rattle.std.proofs.lemmas.Result.{err_from_is_err_and, IfOk-weaker, IfErr-weaker}
 use Rattle.facet_format.specs.Views.{refusal_of}
 use Rattle.facet_json_meaning.specs.Borrowed.{borrowed_text}
@@ -28,18 +28,6 @@ returns-clause-document c whole =
 pub returns-clause-strict : goal.returns-clause-strict
 returns-clause-strict c whole =
     IfOk-weaker c.lent_in.result _ _ (λ s lent. borrowed-strict _ _ _ s.now c.in_ok-next_of_value.ensures.passed lent) c.lent_in.ensures.lent
-
-pub returns-in_err-next_of_value-clause-read : goal.returns-in_err-next_of_value-clause-read
-returns-in_err-next_of_value-clause-read c = search rules
-
-pub returns-in_err-next_of_value-clause-keeps : goal.returns-in_err-next_of_value-clause-keeps
-returns-in_err-next_of_value-clause-keeps c = search rules
-
-pub returns-in_err-next_of_value-clause-shorter : goal.returns-in_err-next_of_value-clause-shorter
-returns-in_err-next_of_value-clause-shorter c = search rules
-
-pub returns-in_err-next_of_value-clause-within : goal.returns-in_err-next_of_value-clause-within
-returns-in_err-next_of_value-clause-within c = search rules
 
 pub returns-clause-tells : goal.returns-clause-tells
 returns-clause-tells c =

@@ -1,4 +1,4 @@
-use Rattle.std.proofs.Common.{refl, rules}
+use Rattle.std.proofs.Common.{refl}
 use Rattle.std.proofs.lemmas.Str.{is_utf8-from_IsUtf8}
 use Rattle.facet_json_tree.proofs.ScalarCalls.{scalar-called}
 use Rattle.facet_json_facet.proofs.ScalarsOfRust.{on-ok, text-of_rust}
@@ -10,13 +10,7 @@ returns-clause-written c = scalar-called _ _ _ _ c.scalar.result refl c.scalar.e
 pub returns-clause-of_rust : goal.returns-clause-of_rust
 returns-clause-of_rust c =
     let utf8 = rw c.as_bytes-utf8.ensures.value at c.as_bytes-utf8.ensures.utf8 in
-    text-of_rust _ c.scalar.result (is_utf8-from_IsUtf8 c.args.self.now.now utf8)
-
-pub returns-clause-refused : goal.returns-clause-refused
-returns-clause-refused c = search rules
-
-pub returns-clause-spent : goal.returns-clause-spent
-returns-clause-spent c = search rules
+    on-ok _ c.scalar.result (text-of_rust _ (is_utf8-from_IsUtf8 c.args.self.now.now utf8))
 
 pub returns-clause-always : goal.returns-clause-always
 returns-clause-always c = on-ok (Unit {0}) c.scalar.result tt

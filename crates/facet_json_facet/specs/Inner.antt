@@ -1,0 +1,2 @@
+-- Lemmas that the laws of private traits want here.
+pub mod NumberLaws

@@ -1,0 +1,117 @@
+//! Types that have their value from a scalar alone: how each of them is read and written.
+
+ghost use Rattle.std.specs.Prelude.{◌≡◌, ◌⊎◌, None, Some, IfOk, IfErr, IfSome};
+ghost use Rattle.facet_format.specs.Complaint.{no_memory};
+ghost use Rattle.facet_format.specs.Views.{event_of, refusal_of, scalar_value_of};
+ghost use Rattle.facet_json_serializer.specs.Serializer.{scalar_tree};
+ghost use Rattle.facet_json_tree.specs.Write.{IsOfRust};
+ghost use Rattle.facet_json_meaning.specs.Readings.{taken};
+
+use crate::facet::Facet;
+use crate::steps::next::next_of_value;
+use facet_format::{DeserializeError, FormatSerializer, ParseEvent, ScalarValue};
+use facet_json_parser::JsonParser;
+use facet_json_serializer::{JsonSerializeError, JsonSerializer};
+use std::alloc::Global;
+
+/// A type that has its value from a scalar, which is one event, and is written as one. Nothing of the input is borrowed.
+pub(crate) trait Leaf: Sized + Drop {
+    ghost use Rattle.std.specs.Prelude.{Option};
+    ghost use Rattle.facet_format.specs.Complaint.{Refusal};
+    ghost use Rattle.facet_format.specs.Event.{Event};
+    ghost use Rattle.facet_json_document.specs.Tree.{Tree};
+    ghost use Rattle.facet_json_core.specs.Refusing.{LacksOrIsAbout};
+    ghost use Rattle.facet_json_meaning.specs.Laws.{ReadsBack};
+    ghost use Rattle.facet_json_meaning.specs.Readings.{leaf};
+
+    /// What is seen of values.
+    ghost View: { Type 0 };
+
+    /// What is seen of a value.
+    ghost view: { Self → View };
+
+    /// What is taken of a scalar's tree, if anything.
+    ghost takes: { Tree → Option View };
+
+    /// How an event is refused.
+    ghost refuses: { Event → Refusal → Type 0 };
+
+    /// The tree as which a value is written.
+    ghost tree_of: { View → Tree };
+
+    /// What every value of the type has.
+    ghost always: { View → Type 0 };
+
+    /// The value that an event is.
+    ///
+    /// # Errors
+    ///
+    /// It is none of the type: a mismatch, or a number out of range, with its span. Or out of memory.
+    fn take<'t>(alloc: Global, event: ParseEvent<'_>) -> Result<Self, DeserializeError<'t>>
+        ensures taken { IfOk result (λ v. taken takes (event_of event.entry).kind ≡ Some (view v)) }
+        ensures refused { IfErr result (λ e. (refusal_of e ≡ no_memory) ⊎ (taken takes (event_of event.entry).kind ≡ None)) }
+        ensures span { IfErr result (λ e. IfSome e.span (λ s. s ≡ event.entry.span)) }
+        ensures told { IfErr result (λ e. refuses (event_of event.entry) (refusal_of e)) };
+
+    /// The scalar as which a value is written.
+    fn to_scalar(&self) -> ScalarValue<'_>
+        ensures tree { tree_of (view self.now) ≡ scalar_tree (scalar_value_of result) }
+        ensures of_rust { IsOfRust (tree_of (view self.now)) }
+        ensures always { always (view self.now) };
+
+    /// A refusal is about the event, or memory lacks.
+    ghost refuses_about: { (given : Event) (r : Refusal) → refuses given r → LacksOrIsAbout given.span r };
+
+    /// The text of a value reads as the value.
+    ghost reads_back: { ReadsBack (leaf takes) tree_of always (λ _. Unit {0}) };
+}
+
+/// Truth values, whole numbers and `String` are each read from one event (RFC 8259, section 3), and written by one call.
+///
+/// ```text
+/// <bool as Facet>::read_owned(alloc, &mut JsonParser::new(alloc, b"true"))     Ok: true
+/// <u8 as Facet>::read_owned(alloc, &mut JsonParser::new(alloc, b"256"))        NumberOutOfRange
+/// <u8 as Facet>::read_owned(alloc, &mut JsonParser::new(alloc, b"null"))       TypeMismatch
+/// ```
+impl<'de, T: Leaf> Facet<'de> for T {
+    ghost use Rattle.std.specs.Prelude.{true};
+    ghost use Rattle.facet_json_meaning.specs.Readings.{leaf};
+    ghost use Rattle.facet_json_meaning.proofs.Leaves.LeafLaws.{leaf-same};
+
+    ghost View = { T.View };
+
+    ghost view = { T.view };
+
+    ghost reading = { leaf T.takes };
+
+    ghost reading_borrowed = { leaf T.takes };
+
+    ghost tree_of = { T.tree_of };
+
+    ghost always = { T.always };
+
+    ghost readable = { λ _. Unit {0} };
+
+    ghost whole = { true };
+
+    fn read_owned<'t>(
+        alloc: Global,
+        parser: &mut JsonParser<'de>,
+    ) -> Result<T, DeserializeError<'t>> {
+        T::take(alloc, next_of_value(parser)?)
+    }
+
+    fn read<'t>(alloc: Global, parser: &mut JsonParser<'de>) -> Result<T, DeserializeError<'t>> {
+        T::read_owned(alloc, parser)
+    }
+
+    fn write(&self, serializer: &mut JsonSerializer<'_>) -> Result<(), JsonSerializeError> {
+        serializer.scalar(self.to_scalar())
+    }
+
+    ghost same_reading = { leaf-same T.takes };
+
+    ghost same_reading_borrowed = { leaf-same T.takes };
+
+    ghost reads_back = { T.reads_back };
+}
