@@ -70,6 +70,18 @@ module _ (place : Place) (rest : Tokens) where
   abbrev at_cut : Passed → Future → Cut
   at_cut first others = record { place = place; tokens = rest; first = first; others = others }
 
+  -- An event before what goes on: together they tell this.
+  past-event : {V W : Type 0} {tells : Future → V → Future → Type 0} {all_tell : Future → W → Future → Type 0} (p : Passed) (inner mid after : Future)
+      (more : Ends V tells place rest inner mid) (value : W) → all_tell (gives p more.whole) value after → Ends W all_tell place rest (gives p inner) after
+  past-event p inner mid after more value told = record {
+    first = more.first;
+    others = more.others;
+    whole = gives p more.whole;
+    value = value;
+    on = past (Some (at_cut more.first more.others)) p inner more.whole more.on;
+    told = told;
+  }
+
   mutual
     pub value-ends : (f after : Future) → Breaks place rest f → Ends Tree Tells place rest f after
     value-ends _ after at_once = record {
@@ -82,24 +94,10 @@ module _ (place : Place) (rest : Tokens) where
     }
     value-ends _ after (in_list p inner kind k broken) =
         let more = items-end inner after broken in
-        record {
-          first = more.first;
-          others = more.others;
-          whole = gives p more.whole;
-          value = list more.value;
-          on = past (Some (at_cut more.first more.others)) p inner more.whole more.on;
-          told = a_list p more.whole after kind more.value k more.told;
-        }
+        past-event p inner after after more (list more.value) (a_list p more.whole after kind more.value k more.told)
     value-ends _ after (in_object p inner kind k broken) =
         let more = members-end inner after broken in
-        record {
-          first = more.first;
-          others = more.others;
-          whole = gives p more.whole;
-          value = pairs more.value;
-          on = past (Some (at_cut more.first more.others)) p inner more.whole more.on;
-          told = an_object p more.whole after kind more.value k more.told;
-        }
+        past-event p inner after after more (pairs more.value) (an_object p more.whole after kind more.value k more.told)
 
     items-end : (f after : Future) → BreaksItems place rest f → Ends Trees TellsItems place rest f after
     items-end f after (in_item _ broken) =
@@ -137,14 +135,8 @@ module _ (place : Place) (rest : Tokens) where
     members-end _ after (in_member key inner name k broken) =
         let end = gives (made struct_end) after in
         let more = value-ends inner end broken in
-        record {
-          first = more.first;
-          others = more.others;
-          whole = gives key more.whole;
-          value = pair (bytes_of name) more.value no_pairs;
-          on = past (Some (at_cut more.first more.others)) key inner more.whole more.on;
-          told = one_member key more.whole end after name more.value no_pairs k more.told (no_member (made struct_end) after refl);
-        }
+        past-event key inner end after more (pair (bytes_of name) more.value no_pairs)
+        (one_member key more.whole end after name more.value no_pairs k more.told (no_member (made struct_end) after refl))
     members-end _ after (past_member key inner others name t k told broken) =
         let more = members-end others after broken in
         let item = told-on told more.on in

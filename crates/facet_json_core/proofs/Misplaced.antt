@@ -1,15 +1,15 @@
 -- An event with which no value begins, where one is to come.
-use Rattle.std.proofs.Common.{◌≡◌, ◌⊎◌, inl, inr, ℕ, List, true, false, Some, refl, sym, ap, ◌∙◌, subst}
+use Rattle.std.proofs.Common.{◌≡◌, ◌⊎◌, inl, inr, ℕ, List, true, false, sym, ap, ◌∙◌}
 use Rattle.std.specs.Prelude.{codes}
 use Rattle.facet_format.specs.Complaint.{Refusal}
 use Rattle.facet_format.specs.Event.{Event, Passed}
-use Rattle.facet_json_document.specs.Future.{Future, gives, stuck}
+use Rattle.facet_json_document.specs.Future.{Future, gives}
 use Rattle.facet_json_document.specs.Place.{Place}
 use Rattle.facet_json_document.specs.Tree.{Tree}
 use Rattle.facet_json_document.specs.Next.{PassesNext}
 use Rattle.facet_json_document.specs.Now.{Now, future_of}
 use Rattle.facet_json_token.specs.Tokens.{Tokens}
-use Rattle.facet_json_core.specs.Reading.{LacksMemory, GivesNone, lacks_memory, at_the_end, is_stuck, IsValueUnread}
+use Rattle.facet_json_core.specs.Reading.{LacksMemory, GivesNone, IsValueUnread}
 use Rattle.facet_json_core.specs.Refusing.{mismatch_of}
 use Rattle.facet_json_core.specs.Told.{begins, Tells, a_scalar, a_list, an_object, Breaks, at_once, in_list, in_object}
 use Rattle.facet_json_core.specs.Transcode.{BeginsNone}

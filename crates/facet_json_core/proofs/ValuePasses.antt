@@ -1,6 +1,7 @@
 -- A value's events, passed one by one: which calls are left, and how many containers are open.
 use Rattle.std.proofs.Common.{◌≡◌, ◌-◌, ℕ, suc, List, [], ◌∷◌, ◌++◌, Some, refl, sym, ap, ◌∙◌, append_assoc, subst, arith}
-use Rattle.facet_format.specs.Event.{Scalar, null, unit, bool, char, i64, u64, i128, u128, decimal, text, bytes, borrowed, bytes_of, Passed}
+use Rattle.facet_format.specs.Event as event
+use Rattle.facet_format.specs.Event.{EventKind, Scalar, null, unit, bool, char, i64, u64, i128, u128, decimal, text, bytes, borrowed, bytes_of, Passed}
 use Rattle.facet_json_document.specs.Text as texts
 use Rattle.facet_json_document.specs.Text.{Options}
 use Rattle.facet_json_document.specs.Tree.{Tree, Trees, Pairs}
@@ -68,10 +69,6 @@ scalar-alike (bytes b) t e = cc
 
 -- ---- one event
 
--- The last event of a container at this depth leaves one less.
-one_less : (n : ℕ) → suc n - 1 ≡ n
-one_less n = omega arith
-
 -- After a value its container goes on, or all has ended.
 closes-after : (n : ℕ) (f rest : Future) (calls : List SerializerCall) → Closes n f calls rest → After n f calls rest
 closes-after _ f _ calls (nothing _ _ none) = subst (λ cs. After 0 f cs f) (sym none) (over f)
@@ -79,6 +76,26 @@ closes-after _ f rest calls (items n _ others _ ts _ after told left are) =
     goes_on n f rest calls (within n f rest calls (items n f others rest ts calls after told left are))
 closes-after _ f rest calls (members n _ others _ ps _ after told left are) =
     goes_on n f rest calls (within n f rest calls (members n f others rest ps calls after told left are))
+
+-- An event of this kind comes, and the calls that are left begin with its own.
+stepped : (n : ℕ) (p : Passed) (kind : EventKind) (others rest : Future) (calls left : List SerializerCall) → p.event.kind ≡ kind →
+    calls ≡ serializer_call_of kind ∷ left → After (containers_after kind n) others left rest → Stepped n (gives p others) calls rest
+stepped n p kind others rest calls left k are after = record {
+  passed = p;
+  others = others;
+  comes = refl;
+  first = serializer_call_of kind;
+  left = left;
+  are = are;
+  alike = λ o stack. ap (λ kind. addition o stack (serializer_call_of kind)) (sym k);
+  after = subst (λ kind. After (containers_after kind n) others left rest) (sym k) after;
+}
+
+-- The last event of a container at this depth leaves one less.
+closes-one : (n : ℕ) (f rest : Future) (calls : List SerializerCall) → Closes n f calls rest → After (suc n - 1) f calls rest
+closes-one n f rest calls left =
+    let one_less : n ≡ suc n - 1 = omega arith in
+    subst (λ m. After m f calls rest) one_less (closes-after n f rest calls left)
 
 -- The first event of a value.
 value-step : (n : ℕ) (f others rest : Future) (t : Tree) (calls after : List SerializerCall) → Tells f t others → Closes n others after rest →
@@ -98,47 +115,21 @@ value-step n _ others rest t calls after (a_scalar p _ v _ k told) left are =
     }
 value-step n _ others rest _ calls after (a_list p inner _ c ts k told) left are =
     let more = item_calls ts ++ end_seq ∷ after in
-    record {
-      passed = p;
-      others = inner;
-      comes = refl;
-      first = begin_seq;
-      left = more;
-      are = are ∙ ap (λ cs. begin_seq ∷ cs) (append_assoc (item_calls ts) (end_seq ∷ []) after);
-      alike = λ o stack. ap (λ kind. addition o stack (serializer_call_of kind)) (sym k);
-      after = subst (λ kind. After (containers_after kind n) inner more rest) (sym k)
-          (goes_on n inner rest more (within n inner rest more (items n inner others rest ts more after told left refl)));
-    }
+    stepped n p (event.sequence_start c) inner rest calls more k
+    (are ∙ ap (λ cs. begin_seq ∷ cs) (append_assoc (item_calls ts) (end_seq ∷ []) after))
+    (goes_on n inner rest more (within n inner rest more (items n inner others rest ts more after told left refl)))
 value-step n _ others rest _ calls after (an_object p inner _ c ps k told) left are =
     let more = member_calls ps ++ end_struct ∷ after in
-    record {
-      passed = p;
-      others = inner;
-      comes = refl;
-      first = begin_struct;
-      left = more;
-      are = are ∙ ap (λ cs. begin_struct ∷ cs) (append_assoc (member_calls ps) (end_struct ∷ []) after);
-      alike = λ o stack. ap (λ kind. addition o stack (serializer_call_of kind)) (sym k);
-      after = subst (λ kind. After (containers_after kind n) inner more rest) (sym k)
-          (goes_on n inner rest more (within n inner rest more (members n inner others rest ps more after told left refl)));
-    }
+    stepped n p (event.struct_start c) inner rest calls more k
+    (are ∙ ap (λ cs. begin_struct ∷ cs) (append_assoc (member_calls ps) (end_struct ∷ []) after))
+    (goes_on n inner rest more (within n inner rest more (members n inner others rest ps more after told left refl)))
 
 -- The next event of a list.
 items-step : (n : ℕ) (f others rest : Future) (ts : Trees) (calls after : List SerializerCall) → TellsItems f ts others → Closes n others after rest →
     calls ≡ item_calls ts ++ end_seq ∷ after → Stepped (suc n) f calls rest
 unfolding tree_calls item_calls
 items-step n _ others rest _ calls after (no_item p _ k) left are =
-    record {
-      passed = p;
-      others = others;
-      comes = refl;
-      first = end_seq;
-      left = after;
-      are = are;
-      alike = λ o stack. ap (λ kind. addition o stack (serializer_call_of kind)) (sym k);
-      after = subst (λ kind. After (containers_after kind (suc n)) others after rest) (sym k)
-          (subst (λ m. After m others after rest) (sym (one_less n)) (closes-after n others rest after left));
-    }
+    stepped (suc n) p event.sequence_end others rest calls after k are (closes-one n others rest after left)
 items-step n f others rest _ calls after (one_item _ behind _ t ts told more) left are =
     let next = item_calls ts ++ end_seq ∷ after in
     value-step (suc n) f behind rest t calls next told (items n behind others rest ts next after more left refl)
@@ -149,31 +140,13 @@ members-step : (n : ℕ) (f others rest : Future) (ps : Pairs) (calls after : Li
     calls ≡ member_calls ps ++ end_struct ∷ after → Stepped (suc n) f calls rest
 unfolding tree_calls member_calls
 members-step n _ others rest _ calls after (no_member p _ k) left are =
-    record {
-      passed = p;
-      others = others;
-      comes = refl;
-      first = end_struct;
-      left = after;
-      are = are;
-      alike = λ o stack. ap (λ kind. addition o stack (serializer_call_of kind)) (sym k);
-      after = subst (λ kind. After (containers_after kind (suc n)) others after rest) (sym k)
-          (subst (λ m. After m others after rest) (sym (one_less n)) (closes-after n others rest after left));
-    }
+    stepped (suc n) p event.struct_end others rest calls after k are (closes-one n others rest after left)
 members-step n _ others rest _ calls after (one_member p inner behind _ name t ps k told more) left are =
     let next = member_calls ps ++ end_struct ∷ after in
     let here = tree_calls t ++ next in
-    record {
-      passed = p;
-      others = inner;
-      comes = refl;
-      first = field_key (bytes_of name);
-      left = here;
-      are = are ∙ ap (λ cs. field_key (bytes_of name) ∷ cs) (append_assoc (tree_calls t) (member_calls ps) (end_struct ∷ after));
-      alike = λ o stack. ap (λ kind. addition o stack (serializer_call_of kind)) (sym k);
-      after = subst (λ kind. After (containers_after kind (suc n)) inner here rest) (sym k)
-          (goes_on n inner rest here (value (suc n) inner behind rest t here next told (members n behind others rest ps next after more left refl) refl));
-    }
+    stepped (suc n) p (event.field_key name) inner rest calls here k
+    (are ∙ ap (λ cs. field_key (bytes_of name) ∷ cs) (append_assoc (tree_calls t) (member_calls ps) (end_struct ∷ after)))
+    (goes_on n inner rest here (value (suc n) inner behind rest t here next told (members n behind others rest ps next after more left refl) refl))
 
 -- An event comes of what is left, and its call is the next one.
 pub steps : (n : ℕ) (f : Future) (calls : List SerializerCall) (rest : Future) → Before n f calls rest → Stepped n f calls rest

@@ -1,5 +1,5 @@
 use Rattle.facet_format.specs.Cursor.{no_calls}
-use Rattle.std.proofs.Common.{refl, rules}
+use Rattle.std.proofs.Common.{refl}
 use Rattle.facet_json_core.proofs.CallsInOrder.{made-none, made-one_more, made-within, made-all, made-run}
 use Rattle.facet_json_core.proofs.script.drive.Goals as goal
 
@@ -25,15 +25,3 @@ returns-clause-run c =
 
 pub returns-clause-input : goal.returns-clause-input
 returns-clause-input c = c.loop-call.invariant.moves.input
-
-pub returns-in_err-answers-clause-moves : goal.returns-in_err-answers-clause-moves
-returns-in_err-answers-clause-moves c = search rules
-
-pub returns-in_err-answers-clause-run : goal.returns-in_err-answers-clause-run
-returns-in_err-answers-clause-run c = search rules
-
-pub returns-in_err-answers-clause-within : goal.returns-in_err-answers-clause-within
-returns-in_err-answers-clause-within c = search rules
-
-pub returns-in_err-answers-clause-input : goal.returns-in_err-answers-clause-input
-returns-in_err-answers-clause-input c = search rules

@@ -1,9 +1,5 @@
-use Rattle.std.proofs.Common.{rules}
 use Rattle.facet_json_core.proofs.Refusing.{told-ended}
 use Rattle.facet_json_core.proofs.value.ended.Goals as goal
-
-pub returns-clause-within : goal.returns-clause-within
-returns-clause-within c = search rules
 
 pub returns-clause-told : goal.returns-clause-told
 returns-clause-told c =

@@ -1,4 +1,4 @@
-use Rattle.std.proofs.Common.{refl, rules}
+use Rattle.std.proofs.Common.{refl}
 use Rattle.std.proofs.lemmas.Result.{err_from_is_err_and}
 use Rattle.facet_format.specs.Cursor.{next}
 use Rattle.facet_json_core.proofs.NextEventComes.{next-refused}
@@ -23,21 +23,3 @@ returns-in-Some-clause-gave c = rw c.in-Some.is at c.in_ok-event.ensures.next
 
 pub returns-in-Some-clause-steps : goal.returns-in-Some-clause-steps
 returns-in-Some-clause-steps c = rw c.in-Some.is at c.in_ok-event.ensures.steps
-
-pub returns-in-Some-clause-onward : goal.returns-in-Some-clause-onward
-returns-in-Some-clause-onward c = search rules
-
-pub returns-in-Some-clause-shorter : goal.returns-in-Some-clause-shorter
-returns-in-Some-clause-shorter c = search rules
-
-pub returns-in-Some-clause-event_within : goal.returns-in-Some-clause-event_within
-returns-in-Some-clause-event_within c = search rules
-
-pub returns-in-Some-clause-refused : goal.returns-in-Some-clause-refused
-returns-in-Some-clause-refused c = search rules
-
-pub returns-in-Some-clause-within : goal.returns-in-Some-clause-within
-returns-in-Some-clause-within c = search rules
-
-pub returns-in-Some-clause-tells : goal.returns-in-Some-clause-tells
-returns-in-Some-clause-tells c = search rules

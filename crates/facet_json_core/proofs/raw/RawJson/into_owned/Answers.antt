@@ -3,9 +3,3 @@ use Rattle.facet_json_core.proofs.raw.RawJson.into_owned.Goals as goal
 
 pub returns-in-Owned : goal.returns-in-Owned
 returns-in-Owned c = search rules
-
-pub returns-in-Ok : goal.returns-in-Ok
-returns-in-Ok c = search rules
-
-pub returns-in-Err : goal.returns-in-Err
-returns-in-Err c = search rules

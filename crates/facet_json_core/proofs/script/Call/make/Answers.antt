@@ -1,4 +1,3 @@
-use Rattle.std.proofs.Common.{rules}
 use Rattle.facet_json_parser.proofs.AnswersAreMoves.{told-moves}
 use Rattle.facet_json_core.proofs.script.Call.make.Goals as goal
 
@@ -7,6 +6,3 @@ returns-in-Span c = rw c.in-Span.is (record {
   moves = told-moves _ _ c.current_span.ensures.told;
   within = c.current_span.ensures.within;
 })
-
-pub returns-in-Next-clause-moves : goal.returns-in-Next-clause-moves
-returns-in-Next-clause-moves c = search rules
