@@ -82,11 +82,11 @@ pub fn transcode<'t>(
     ensures same { parser.new.buffer ≡ parser.old.buffer }
     ensures free { OnOk result (parser.new.cursor.refusal ≡ None) }
 {
-    pass_value(parser, serializer)
+    write_value(parser, serializer)
 }
 
 /// Passes the events of one value: up to the first after which no container is open.
-fn pass_value<'t>(
+fn write_value<'t>(
     parser: &mut JsonParser<'_>,
     serializer: &mut JsonSerializer<'_>,
 ) -> Result<(), TranscodeError<'t>>

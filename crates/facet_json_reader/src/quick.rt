@@ -55,7 +55,7 @@ impl Reader {
             b'"' => self.pass_string(input, language, trust, place, at),
             b'}' => self.pass_closing(ContainerKind::Object, place, at),
             b']' => self.pass_closing(ContainerKind::Array, place, at),
-            _ => self.pass_value(input, language, place, at, first),
+            _ => self.begin_value(input, language, place, at, first),
         }
     }
 
@@ -126,7 +126,7 @@ impl Reader {
 
     /// Passes the bracket that opens a container, or a whole literal or number, of which this is the first byte.
     #[inline(always)]
-    fn pass_value<'de>(
+    fn begin_value<'de>(
         &mut self,
         input: &'de [u8],
         language: Language,

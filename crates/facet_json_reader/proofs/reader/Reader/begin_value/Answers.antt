@@ -6,7 +6,7 @@ use Rattle.facet_json_token.proofs.FirstBytes.{start_of-number_range}
 use Rattle.facet_json_reader.specs.PlaceViews.{language_of, place_of}
 use Rattle.facet_json_reader.specs.Quick.{null_stands, true_stands, false_stands}
 use Rattle.facet_json_reader.proofs.QuickEvents.{start-passes}
-use Rattle.facet_json_reader.proofs.reader.Reader.pass_value.Goals as goal
+use Rattle.facet_json_reader.proofs.reader.Reader.begin_value.Goals as goal
 
 pub pass_number_apart-requires-clause-number : goal.pass_number_apart-requires-clause-number
 pass_number_apart-requires-clause-number c = start_of-number_range c.args.first (grind arith) (grind arith) (grind arith) (grind arith)

@@ -6,7 +6,7 @@ use Rattle.facet_json_serializer.specs.Serializer.{Writing}
 use Rattle.facet_json_core.specs.Refusing.{ComesTo}
 use Rattle.facet_json_core.specs.Told.{begins}
 use Rattle.facet_json_core.proofs.Passing.{Passing}
-use Rattle.facet_json_core.proofs.value.pass_value.Given as goal
+use Rattle.facet_json_core.proofs.value.write_value.Given as goal
 
 abbrev pub invariant-loop-event : goal.invariant-loop-event
 invariant-loop-event l = record {

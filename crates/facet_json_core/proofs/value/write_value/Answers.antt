@@ -8,7 +8,7 @@ use Rattle.facet_json_core.specs.Refusing.{without_memory}
 use Rattle.facet_json_core.proofs.Misplaced.{misplaced-unread, none-passed, none-misplaced}
 use Rattle.facet_json_core.proofs.Refusing.{stays-there, goes-there, comes-then, tells-later}
 use Rattle.facet_json_core.proofs.Passing.{begins, goes-on, one-passed, one-refused, written, none-unread}
-use Rattle.facet_json_core.proofs.value.pass_value.Goals as goal
+use Rattle.facet_json_core.proofs.value.write_value.Goals as goal
 
 pub loop-event-init : goal.loop-event-init
 loop-event-init c = record {
