@@ -1,12 +1,20 @@
 //! Maps from texts: `BTreeMap`.
 
-ghost use Rattle.std.specs.Prelude.{◌≡◌, IfErr, OnOk};
+ghost use Rattle.std.specs.Prelude.{◌≡◌, ◌<◌, false, cond, None, IfOk, IfErr, OnOk};
 ghost use Rattle.std.specs.BTreeMap.{insert_entry};
+ghost use Rattle.std.specs.List.{All};
 ghost use Rattle.std.specs.String.{string_cmp};
 ghost use Rattle.facet_format.specs.Complaint.{no_memory};
 ghost use Rattle.facet_format.specs.Views.{refusal_of};
+ghost use Rattle.facet_json_document.specs.Now.{ahead};
+ghost use Rattle.facet_json_document.specs.UnreadLaws.{RefusalWithin};
+ghost use Rattle.facet_json_core.specs.Refusing.{TellsRefusal};
+ghost use Rattle.facet_json_meaning.specs.Maps.{seen_entries, map_of};
+ghost use Rattle.facet_json_meaning.specs.Nodes.{KeepsOn};
+ghost use Rattle.facet_json_meaning.specs.OneValue.{PassesValue};
+ghost use Rattle.facet_json_meaning.specs.Reading.{IsRead, IsUnread};
 
-use crate::facet::Facet;
+use crate::facet::{Facet, value_in};
 use crate::steps::objects::{begin_object, next_key};
 use facet_format::{DeserializeError, FormatSerializer};
 use facet_json_parser::JsonParser;
@@ -43,26 +51,14 @@ impl<'de, T: Facet<'de>> Facet<'de> for BTreeMap<String, T> {
         alloc: Global,
         parser: &mut JsonParser<'de>,
     ) -> Result<BTreeMap<String, T>, DeserializeError<'t>> {
-        begin_object(parser)?;
-        let mut map = BTreeMap::new(alloc);
-        while let Some(key) = next_key(alloc, parser)? {
-            let value = T::read_owned(alloc, parser)?;
-            put(&mut map, key, value)?;
-        }
-        Ok(map)
+        map_in(alloc, parser, false)
     }
 
     fn read<'t>(
         alloc: Global,
         parser: &mut JsonParser<'de>,
     ) -> Result<BTreeMap<String, T>, DeserializeError<'t>> {
-        begin_object(parser)?;
-        let mut map = BTreeMap::new(alloc);
-        while let Some(key) = next_key(alloc, parser)? {
-            let value = T::read(alloc, parser)?;
-            put(&mut map, key, value)?;
-        }
-        Ok(map)
+        map_in(alloc, parser, true)
     }
 
     fn write(&self, serializer: &mut JsonSerializer<'_>) -> Result<(), JsonSerializeError> {
@@ -79,6 +75,35 @@ impl<'de, T: Facet<'de>> Facet<'de> for BTreeMap<String, T> {
     ghost same_reading_borrowed = { map-same T.reading_borrowed T.same_reading_borrowed };
 
     ghost reads_back = { map-reads_back T.reading T.tree_of T.always T.readable T.same_reading T.reads_back };
+}
+
+/// Reads the map before which the parser stands. Its values may borrow of the input where `borrows` says so.
+///
+/// # Errors
+///
+/// No object begins, a value is refused, or out of memory.
+fn map_in<'t, 'de, T: Facet<'de>>(
+    alloc: Global,
+    parser: &mut JsonParser<'de>,
+    borrows: bool,
+) -> Result<BTreeMap<String, T>, DeserializeError<'t>>
+    ensures read { IfOk result (λ m. IsRead (map_of (cond borrows T.reading_borrowed T.reading)) parser.old (seen_entries T.view m.entries) parser.new) }
+    ensures owned { borrows ≡ false → IfOk result (λ m. All (λ e. T.owned e.1) m.entries) }
+    ensures unread { IfErr result (λ e. IsUnread (map_of (cond borrows T.reading_borrowed T.reading)) parser.old (refusal_of e)) }
+    ensures keeps { KeepsOn parser.old parser.new }
+    ensures shorter { OnOk result (ahead parser.new < ahead parser.old) }
+    ensures one_value { OnOk result (PassesValue parser.old parser.new) }
+    ensures within { IfErr result (λ e. RefusalWithin parser.new.buffer (refusal_of e)) }
+    ensures free { OnOk result (parser.new.cursor.refusal ≡ None) }
+    ensures tells { IfErr result (λ e. TellsRefusal parser.old parser.new (refusal_of e)) }
+{
+    begin_object(parser)?;
+    let mut map = BTreeMap::new(alloc);
+    while let Some(key) = next_key(alloc, parser)? {
+        let value = value_in(alloc, parser, borrows)?;
+        put(&mut map, key, value)?;
+    }
+    Ok(map)
 }
 
 /// Puts a value in at a key. Where the key is there already, its value is replaced.

@@ -1,6 +1,17 @@
 //! Values that may be null: `Option`.
 
-use crate::facet::Facet;
+ghost use Rattle.std.specs.Prelude.{◌≡◌, ◌<◌, false, cond, None, IfOk, IfErr, OnOk};
+ghost use Rattle.std.specs.Option.{option_map, IfSome};
+ghost use Rattle.facet_format.specs.Views.{refusal_of};
+ghost use Rattle.facet_json_document.specs.Now.{ahead};
+ghost use Rattle.facet_json_document.specs.UnreadLaws.{RefusalWithin};
+ghost use Rattle.facet_json_core.specs.Refusing.{TellsRefusal};
+ghost use Rattle.facet_json_meaning.specs.Nodes.{KeepsOn};
+ghost use Rattle.facet_json_meaning.specs.OneValue.{PassesValue};
+ghost use Rattle.facet_json_meaning.specs.Optional.{optional};
+ghost use Rattle.facet_json_meaning.specs.Reading.{IsRead, IsUnread};
+
+use crate::facet::{Facet, value_in};
 use crate::steps::next::{null_comes, pass_null};
 use facet_format::{DeserializeError, FormatSerializer, ScalarValue};
 use facet_json_parser::JsonParser;
@@ -41,22 +52,14 @@ impl<'de, T: Facet<'de>> Facet<'de> for Option<T> {
         alloc: Global,
         parser: &mut JsonParser<'de>,
     ) -> Result<Option<T>, DeserializeError<'t>> {
-        if null_comes(parser)? {
-            pass_null(parser)?;
-            return Ok(None);
-        }
-        Ok(Some(T::read_owned(alloc, parser)?))
+        optional_in(alloc, parser, false)
     }
 
     fn read<'t>(
         alloc: Global,
         parser: &mut JsonParser<'de>,
     ) -> Result<Option<T>, DeserializeError<'t>> {
-        if null_comes(parser)? {
-            pass_null(parser)?;
-            return Ok(None);
-        }
-        Ok(Some(T::read(alloc, parser)?))
+        optional_in(alloc, parser, true)
     }
 
     fn write(&self, serializer: &mut JsonSerializer<'_>) -> Result<(), JsonSerializeError> {
@@ -71,4 +74,31 @@ impl<'de, T: Facet<'de>> Facet<'de> for Option<T> {
     ghost same_reading_borrowed = { optional-same T.reading_borrowed T.same_reading_borrowed };
 
     ghost reads_back = { optional-reads_back T.reading T.tree_of T.always T.readable T.reads_back };
+}
+
+/// Reads the value before which the parser stands, or null. It may borrow of the input where `borrows` says so.
+///
+/// # Errors
+///
+/// As `T` refuses; and as the parser's `peek_event` and `next_event`.
+fn optional_in<'t, 'de, T: Facet<'de>>(
+    alloc: Global,
+    parser: &mut JsonParser<'de>,
+    borrows: bool,
+) -> Result<Option<T>, DeserializeError<'t>>
+    ensures read { IfOk result (λ o. IsRead (optional (cond borrows T.reading_borrowed T.reading)) parser.old (option_map T.view o) parser.new) }
+    ensures owned { borrows ≡ false → IfOk result (λ o. IfSome o T.owned) }
+    ensures unread { IfErr result (λ e. IsUnread (optional (cond borrows T.reading_borrowed T.reading)) parser.old (refusal_of e)) }
+    ensures keeps { KeepsOn parser.old parser.new }
+    ensures shorter { OnOk result (ahead parser.new < ahead parser.old) }
+    ensures one_value { OnOk result (PassesValue parser.old parser.new) }
+    ensures within { IfErr result (λ e. RefusalWithin parser.new.buffer (refusal_of e)) }
+    ensures free { OnOk result (parser.new.cursor.refusal ≡ None) }
+    ensures tells { IfErr result (λ e. TellsRefusal parser.old parser.new (refusal_of e)) }
+{
+    if null_comes(parser)? {
+        pass_null(parser)?;
+        return Ok(None);
+    }
+    Ok(Some(value_in(alloc, parser, borrows)?))
 }

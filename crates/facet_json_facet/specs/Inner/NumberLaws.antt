@@ -1,5 +1,5 @@
 -- Whole numbers: what converting one says of the type, and what its bits say of its tree.
-use Rattle.std.proofs.Common.{◌≡◌, ◌<◌, ◌^◌, ℕ, ℤ, None, Some, Result, Ok, Err, SFits}
+use Rattle.std.proofs.Common.{◌≡◌, ◌<◌, ◌^◌, ℕ, ℤ, None, Some, Result, Ok, Err}
 use Rattle.std.specs.Prelude.{FitsSigned, unsigned_abs}
 use Rattle.std.specs.Int.{Width, w64, FitsUnsigned}
 use Rattle.std.specs.Result.{OkIff, IfOk, IfErr}

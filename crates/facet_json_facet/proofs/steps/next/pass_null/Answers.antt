@@ -1,8 +1,8 @@
-use Rattle.std.proofs.Common.{◌≡◌, true, false, ap, sym, ◌∙◌, rules}
+use Rattle.std.proofs.Common.{◌≡◌, true, false, ap, sym, ◌∙◌}
 use Rattle.std.proofs.lemmas.Result.{err_from_is_err_and, IfErr-weaker, on_ok_weaker}
 use Rattle.facet_format.specs.Complaint.{Refusal}
 use Rattle.facet_format.specs.Event.{Event}
-use Rattle.facet_format.specs.Views.{refusal_of, event_of}
+use Rattle.facet_format.specs.Views.{refusal_of}
 use Rattle.facet_json_document.specs.Now.{Now}
 use Rattle.facet_json_meaning.specs.Optional.{is_null_event}
 use Rattle.facet_json_meaning.specs.Passing.{WalksPast, LacksAlone, LacksNull}

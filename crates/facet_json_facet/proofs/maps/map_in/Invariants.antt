@@ -1,12 +1,13 @@
+use Rattle.std.proofs.Common.{◌≡◌, false, cond}
 use Rattle.std.specs.List.{All}
 use Rattle.facet_json_document.specs.Now.{ahead}
 use Rattle.facet_json_meaning.proofs.Objects.MapEntries.{IsUnderWay}
-use Rattle.facet_json_facet.proofs.maps.BTreeMapStringFacet.read_owned.Given as goal
+use Rattle.facet_json_facet.proofs.maps.map_in.Given as goal
 
 abbrev pub invariant-loop-map : goal.invariant-loop-map
 invariant-loop-map g l = record {
-  way : IsUnderWay g.T.Facet.reading g.T.Facet.view l.fn.parser l.map.entries l.parser;
-  owned : All (λ e. g.T.Facet.owned e.1) l.map.entries;
+  way : IsUnderWay (cond l.fn.borrows g.T.Facet.reading_borrowed g.T.Facet.reading) g.T.Facet.view l.fn.parser l.map.entries l.parser;
+  owned : l.fn.borrows ≡ false → All (λ e. g.T.Facet.owned e.1) l.map.entries;
 }
 
 abbrev pub decreases-loop-map : goal.decreases-loop-map
