@@ -8,7 +8,7 @@ use Rattle.facet_json_token.specs.Gap.{Mode, plain, jsonc, whole}
 use Rattle.facet_json_token.specs.GapLen.{gap_len, gap_len_from}
 use Rattle.facet_json_token.specs.Token.{Kind}
 use Rattle.facet_json_token.specs.Cut.{punctuation, token_at, cut_here, past_gap, cut}
-use Rattle.facet_json_token.specs.Shape.{IsStructural, object_starts, object_ends, array_starts, array_ends, colon_stands, comma_stands}
+use Rattle.facet_json_token.specs.Shape.{IsStructural, object_starts}
 use Rattle.facet_json_token.proofs.FirstBytes.{cut_here-by, no_end}
 use Rattle.facet_json_token.proofs.Offsets.{drop-at_byte}
 use Rattle.facet_json_token.proofs.Starts.{start_of-structural}
@@ -17,23 +17,11 @@ use Rattle.facet_json_token.proofs.Starts.{start_of-structural}
 no_gap : (mode : Mode) (b : ℕ) (kind : Kind) (rest : List ℕ) → IsStructural b kind → gap_len mode whole (b ∷ rest) ≡ 0
 unfolding gap_len_from
 no_gap plain _ _ rest object_starts = refl
-no_gap plain _ _ rest object_ends = refl
-no_gap plain _ _ rest array_starts = refl
-no_gap plain _ _ rest array_ends = refl
-no_gap plain _ _ rest colon_stands = refl
-no_gap plain _ _ rest comma_stands = refl
+no_gap plain _ _ rest _ = refl
 no_gap jsonc _ _ [] object_starts = refl
+no_gap jsonc _ _ [] _ = refl
 no_gap jsonc _ _ (c ∷ rest) object_starts = refl
-no_gap jsonc _ _ [] object_ends = refl
-no_gap jsonc _ _ (c ∷ rest) object_ends = refl
-no_gap jsonc _ _ [] array_starts = refl
-no_gap jsonc _ _ (c ∷ rest) array_starts = refl
-no_gap jsonc _ _ [] array_ends = refl
-no_gap jsonc _ _ (c ∷ rest) array_ends = refl
-no_gap jsonc _ _ [] colon_stands = refl
-no_gap jsonc _ _ (c ∷ rest) colon_stands = refl
-no_gap jsonc _ _ [] comma_stands = refl
-no_gap jsonc _ _ (c ∷ rest) comma_stands = refl
+no_gap jsonc _ _ (c ∷ rest) _ = refl
 
 -- Where it stands at a position, it is cut there.
 pub mark-is_cut : (buffer : List ℕ) (at b : ℕ) (mode : Mode) (kind : Kind) → IsStructural b kind → slice_get buffer at ≡ Some b →

@@ -1,5 +1,5 @@
 -- Of every parser: what it keeps lies within the input, and so does what its calls answer; and what its calls leave.
-use Rattle.std.proofs.Common.{◌≡◌, ◌+◌, ◌<◌, ◌≤◌, ℕ, zero, suc, List, [], ◌∷◌, map, Option, Some, None, refl, sym, ap, subst, ◌∙◌, arith}
+use Rattle.std.proofs.Common.{◌≡◌, ◌+◌, ◌<◌, ◌≤◌, ℕ, zero, suc, List, [], ◌∷◌, map, Option, Some, None, true, refl, sym, ap, subst, ◌∙◌, arith}
 use Rattle.std.specs.Prelude.{Result, Ok, Err, IfOk, OnSome}
 use Rattle.std.specs.List.{All}
 use Rattle.std.specs.Option.{option_map}
@@ -12,12 +12,15 @@ use Rattle.facet_format.specs.Event.{Event}
 use Rattle.facet_format.specs.Kept.{found, without}
 use Rattle.facet_format.specs.Cursor.{Call, next, events, save, restore, Spot, Cursor, refused_at, Answer, event, batch, spans, Step, gives_none}
 use Rattle.facet_format.specs.Span.{Span}
+use Rattle.facet_format.specs.Steps.{IsStep}
 use Rattle.facet_json_document.specs.Language.{Language}
 use Rattle.facet_json_document.specs.Reader.{Reader}
-use Rattle.facet_json_document.specs.Now.{Now, on_input, current_span_of, ahead, GoesOn}
+use Rattle.facet_json_document.specs.Now.{Now, on_input, current_span_of, ahead, GoesOn, StandsAt}
 use Rattle.facet_json_document.specs.Move.{Moves}
+use Rattle.facet_json_document.proofs.StepLaws.{leaves_points}
 use Rattle.facet_json_document.specs.Within.{ReaderWithin, NowWithin, AnswerWithin, no_events}
 use Rattle.facet_json_document.specs.UnreadLaws.{RefusalWithin}
+use Rattle.facet_json_document.proofs.MoveIsStep.{move-steps}
 use Rattle.facet_json_document.proofs.MoveLaws.{with_cursor, same_cursor-is}
 use Rattle.facet_json_document.proofs.Spans.AnswersWithin.{moves-within, current-within}
 use Rattle.facet_json_document.proofs.Spans.BytesAhead.{moves-onward, moves-goes_on, next-lowers, events-lower}
@@ -68,6 +71,19 @@ ready-within buffer language f refusal points counter made now ready is e =
 pub answer-within : (old new : Now) {call : Call} {answer : Answer} → NowWithin old → Moves old call answer new →
     AnswerWithin new.buffer answer
 answer-within old new good move = (moves-within old good new move).within
+
+-- What is said of every call but a restore: it is a step and a move, its answer lies within the input, and no bytes are put back.
+pub record Moved (old : Now) (call : Call) (answer : Answer) (new : Now) : Type 0 where
+  pub steps : IsStep StandsAt old call answer new
+  pub moves : Moves old call answer new
+  pub within : AnswerWithin new.buffer answer
+  pub lowers : ahead new ≤ ahead old
+  pub onward : GoesOn old new
+
+pub moved : (old new : Now) {call : Call} {answer : Answer} → NowWithin old → leaves_points call ≡ true → Moves old call answer new → Moved old call answer new
+moved old new good leaves move =
+    let gone = moves-goes_on old good new leaves move in
+    record { steps = move-steps old new _ _ move; moves = move; within = answer-within old new good move; lowers = gone.onward; onward = gone }
 
 -- A save doesn't go back.
 pub save-onward : (old new : Now) {answer : Answer} → NowWithin old → Moves old save answer new → ahead new ≤ ahead old

@@ -1,5 +1,5 @@
 -- Tokens that open and close nothing are passed, and a run goes on after them.
-use Rattle.std.proofs.Common.{◌≡◌, ℕ, ◌+◌, ◌≤◌, ◌<◌, List, ◌∷◌, length, drop, Some, slice_get, refl, sym, ap, ◌∙◌, arith}
+use Rattle.std.proofs.Common.{◌≡◌, ℕ, ◌+◌, ◌≤◌, ◌<◌, List, ◌∷◌, length, drop, get_or, Some, slice_get, refl, sym, ap, ◌∙◌, arith}
 use Rattle.facet_format.specs.Event.{ContainerKind}
 use Rattle.facet_format.specs.Span.{Span, stop, span_at}
 use Rattle.facet_json_token.specs.Gap.{Mode}
@@ -10,6 +10,7 @@ use Rattle.facet_json_token.specs.Tokens.{next}
 use Rattle.facet_json_token.specs.TokenList.{tokens_from}
 use Rattle.facet_json_token.proofs.CutBounds.{past_gap-bound}
 use Rattle.facet_json_token.proofs.Gaps.{past_gap-again, cut-past_gap}
+use Rattle.facet_json_token.proofs.Offsets.{slice_get-from_read}
 use Rattle.facet_json_token.proofs.TokensSteps.{tokens_by_first, tokens_from-token}
 use Rattle.facet_json_document.specs.Inner.PassedRun.{leaves, passing, passed, Outcome}
 use Rattle.facet_json_document.proofs.Runs.RunsPassed.{passed-next, passed-any}
@@ -79,6 +80,11 @@ module _ (buffer : List ℕ) (mode : Mode) where
       let t : Token = record { kind = kind; span = span_at at 1 } in
       first-leads_on at (at + 1) t (omega arith) (omega (arith, room)) quiet
       (tokens_from-token buffer at mode t (omega (arith, room)) (sym (mark-is_cut buffer at b mode kind is here)))
+
+  -- So is a comma or a colon that was read there.
+  pub read-leads_on : (at b read : ℕ) (kind : Kind) → IsStructural b kind → (at < length buffer) × ((d : ℕ) → read ≡ get_or buffer at d) → read ≡ b → IsQuiet kind →
+      RunLeadsOn buffer mode at (at + 1)
+  read-leads_on at b read kind is there same quiet = separator-leads_on at b kind is (slice_get-from_read buffer at read b there same) there.0 quiet
 
   -- What a run comes to stays so after quiet tokens.
   pub leads-on : (stack around : List ContainerKind) (innermost : ContainerKind) (s : Span) (at : ℕ) (o : Outcome) →

@@ -1,4 +1,4 @@
-use Rattle.std.proofs.Common.{refl, rules}
+use Rattle.std.proofs.Common.{refl}
 use Rattle.std.proofs.lemmas.Result.{err_from_is_err_and}
 use Rattle.facet_json_token.specs.Views.{mode_of}
 use Rattle.facet_json_document.specs.Language.{lenient}
@@ -35,9 +35,3 @@ returns-in_default c = record {
       colon_missing _ _ (colon-missing buffer c.args.position (mode_of c.args.mode) c.in_ok-token.token c.requires c.in_ok-token.ensures.answer c.in_default.not-Colon c.in_default.not-Eof _ (λ kind rest k never. c.misplaced.ensures buffer kind after_key rest k refl never));
   within = tt;
 }
-
-pub returns-in_err-token-clause-within : goal.returns-in_err-token-clause-within
-returns-in_err-token-clause-within c = search rules
-
-pub returns-in-Eof-clause-within : goal.returns-in-Eof-clause-within
-returns-in-Eof-clause-within c = search rules

@@ -1,4 +1,4 @@
-use Rattle.std.proofs.Common.{arith, rules}
+use Rattle.std.proofs.Common.{arith}
 use Rattle.facet_format.specs.Views.{span_of}
 use Rattle.facet_json_parser.proofs.PassedParts.{value-root, value-skips, key-skips, closing-skips}
 use Rattle.facet_json_parser.proofs.passing.pass.Goals as goal
@@ -25,12 +25,3 @@ returns-in-Closing-clause-skips c =
     λ language s same stands.
     let is = c.in-Closing.is in
     rw is (closing-skips c.args.input.now language s (span_of c.args.last) c.in-Closing.span (rw is at stands))
-
-pub returns-in-Value-clause-within : goal.returns-in-Value-clause-within
-returns-in-Value-clause-within c = search rules
-
-pub returns-in-Key-clause-within : goal.returns-in-Key-clause-within
-returns-in-Key-clause-within c = search rules
-
-pub returns-in-Closing-clause-within : goal.returns-in-Closing-clause-within
-returns-in-Closing-clause-within c = search rules

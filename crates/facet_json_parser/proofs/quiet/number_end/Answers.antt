@@ -1,5 +1,5 @@
 -- The number is a token.
-use Rattle.std.proofs.Common.{sym, ◌∙◌, refl, arith, rules}
+use Rattle.std.proofs.Common.{sym, ◌∙◌, refl, arith}
 use Rattle.std.proofs.lemmas.Option.{slice_get_within}
 use Rattle.facet_format.specs.NumberParts.{parts_hint}
 use Rattle.facet_json_reader.proofs.TokensThere.{number-cut}
@@ -14,12 +14,3 @@ returns-clause-on c =
     let room = slice_get_within c.args.input.now c.args.at c.args.first c.requires.here in
     token-leads_on c.args.input.now mode c.args.at c.len.result _ _ gap (omega (arith, room)) refl (λ innermost around s. refl)
     (number-cut mode c.args.input.now c.args.at c.args.first c.len.result q (parts_hint q) c.requires.here c.requires.number c.parts_at-parts.ensures.parts c.len.ensures refl more)
-
-pub returns-then-is_bare-clause-on : goal.returns-then-is_bare-clause-on
-returns-then-is_bare-clause-on c = search rules
-
-pub returns-then-is_bare-clause-past : goal.returns-then-is_bare-clause-past
-returns-then-is_bare-clause-past c = search rules
-
-pub returns-clause-past : goal.returns-clause-past
-returns-clause-past c = search rules

@@ -1,4 +1,4 @@
-use Rattle.std.proofs.Common.{◌⊎◌, inr, MatchResult, Result, Ok, Err, rules}
+use Rattle.std.proofs.Common.{◌⊎◌, inr, MatchResult, Result, Ok, Err}
 use Rattle.std.proofs.lemmas.Option.{same_Some}
 use Rattle.facet_json_parser.proofs.run.pass_token.Goals as goal
 
@@ -19,6 +19,3 @@ returns-in-ArrayEnd-clause-token c =
     λ kind around k e.
     let same = same_Some _ _ (rw c.in-ArrayEnd.is at k) in
     rw (← same) (or_otherwise c.close_bracket-in-ArrayEnd.result _ _ _ (c.close_bracket-in-ArrayEnd.ensures around e))
-
-pub returns-in_default : goal.returns-in_default
-returns-in_default c = search rules

@@ -1,4 +1,4 @@
-use Rattle.std.proofs.Common.{◌∙◌, refl, ap, rules}
+use Rattle.std.proofs.Common.{◌∙◌, refl, ap}
 use Rattle.std.specs.Prelude.{is_some}
 use Rattle.facet_format.specs.Cursor.{no_memory_at}
 use Rattle.facet_format.specs.Views.{span_of}
@@ -26,12 +26,3 @@ pub returns-in-Ok-clause-spot : goal.returns-in-Ok-clause-spot
 returns-in-Ok-clause-spot c =
     let after = c.in-Ok.ensures in
     opened-spot c.args.self.now.reader c.open.new.self c.in-Some.held after.last after.stage after.contexts c.args.self.now refl (ap is_some c.requires.free)
-
-pub returns-in-Ok-clause-free : goal.returns-in-Ok-clause-free
-returns-in-Ok-clause-free c = search rules
-
-pub returns-in-Ok-clause-over : goal.returns-in-Ok-clause-over
-returns-in-Ok-clause-over c = search rules
-
-pub returns-in-Ok-clause-refused : goal.returns-in-Ok-clause-refused
-returns-in-Ok-clause-refused c = search rules

@@ -1,4 +1,4 @@
-use Rattle.std.proofs.Common.{sym, rules}
+use Rattle.std.proofs.Common.{sym}
 use Rattle.std.proofs.lemmas.Result.{err_from_is_err_and}
 use Rattle.facet_format.specs.Views.{span_of}
 use Rattle.facet_json_reader.specs.PlaceViews.{language_of}
@@ -34,12 +34,3 @@ returns-clause-passed c =
     let first = c.in_ok-part.ensures.found (reader_before f).stack in
     let passed = c.in_ok-text.ensures.captures language (reader_before f) mode first in
     capture-passes c.args.input.now language f (lookahead_of c.leave.new.self) c.in_ok-part.part (span_of c.span.result) (span_of c.in_ok-text.last) c.in_ok-text.text.now passed c.leave.ensures
-
-pub returns-in_err-part-clause-sound : goal.returns-in_err-part-clause-sound
-returns-in_err-part-clause-sound c = search rules
-
-pub returns-in_err-text-clause-sound : goal.returns-in_err-text-clause-sound
-returns-in_err-text-clause-sound c = search rules
-
-pub returns-clause-sound : goal.returns-clause-sound
-returns-clause-sound c = search rules

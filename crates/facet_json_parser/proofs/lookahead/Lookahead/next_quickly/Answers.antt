@@ -1,5 +1,5 @@
 -- An event that is passed at once is the one that comes.
-use Rattle.std.proofs.Common.{ap, sym, ◌∙◌, rules}
+use Rattle.std.proofs.Common.{ap, sym, ◌∙◌}
 use Rattle.std.specs.Option.{option_map}
 use Rattle.facet_json_reader.specs.PlaceViews.{language_of}
 use Rattle.facet_json_reader.specs.Views.{passed_of}
@@ -19,9 +19,3 @@ returns-clause-passed c =
     let s = c.args.self.now in
     let none = ap (option_map passed_of) (nothing_held s.held (sym c.is_some.ensures ∙ c.if-is_some.false)) in
     passed-passes c.args.input.now (language_of c.args.language) s c.pass_quickly.new.self c.pass_quickly.result none c.pass_quickly.ensures
-
-pub returns-then-is_some-clause-sound : goal.returns-then-is_some-clause-sound
-returns-then-is_some-clause-sound c = search rules
-
-pub returns-then-is_some-clause-passed : goal.returns-then-is_some-clause-passed
-returns-then-is_some-clause-passed c = search rules

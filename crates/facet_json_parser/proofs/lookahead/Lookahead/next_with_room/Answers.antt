@@ -1,5 +1,5 @@
 use Rattle.std.proofs.lemmas.Result.{err_from_is_err_and}
-use Rattle.std.proofs.Common.{refl, ap, not, ◌∙◌, rules}
+use Rattle.std.proofs.Common.{refl, ap, not, ◌∙◌}
 use Rattle.facet_format.specs.Cursor.{no_memory_at}
 use Rattle.facet_json_reader.specs.PlaceViews.{language_of}
 use Rattle.facet_json_parser.specs.Views.{lookahead_of}
@@ -34,9 +34,3 @@ returns-in-Err-clause-passed c =
     rw (← c.in_ok-fill.ensures.spot)
     (held-lacks_room c.args.input.now (language_of c.args.language) (lookahead_of c.fill.new.self) c.fill.new.self.held _ (c.is_none.ensures ∙ ap not c.if-is_none.false)
     c.in_ok-fill.ensures.held (c.out_of_memory.ensures ∙ ap no_memory_at (c.span.ensures c.args.input.now (language_of c.args.language) c.in_ok-fill.ensures.held)) refl)
-
-pub returns-in-Ok-clause-items : goal.returns-in-Ok-clause-items
-returns-in-Ok-clause-items c = search rules
-
-pub returns-in-Ok-clause-room : goal.returns-in-Ok-clause-room
-returns-in-Ok-clause-room c = search rules

@@ -15,12 +15,7 @@ returns-in_err-unrefused c =
     rw (p.1, p.2) (next-repeats c.args.self.now _ c.in_err-unrefused.ensures)
 
 pub refuse-requires : goal.refuse-requires
-refuse-requires c =
-    let known = ready-within _ _ _ _ _ _ _ c.args.self.now c.self.invariant.0 refl c.self.view_is in
-    record {
-      within = next-refusal_within _ c.args.self.now (refused_of c.in-Err.refused) (spot_of (lookahead_of c.next.new.self)) c.self.view_is
-          c.in_ok-unrefused.ensures known c.in-Err.ensures.passed;
-    }
+refuse-requires c = record { within = next-refusal_within _ c.args.self.now _ _ c.self.view_is c.in_ok-unrefused.ensures (ready-within _ _ _ _ _ _ _ c.args.self.now c.self.invariant.0 refl c.self.view_is) c.in-Err.ensures.passed }
 
 pub returns-in-Ok : goal.returns-in-Ok
 returns-in-Ok c =

@@ -1,5 +1,5 @@
 -- What the lookahead passes at once is a move, in each language.
-use Rattle.std.proofs.Common.{◌∙◌, refl, sym, rules}
+use Rattle.std.proofs.Common.{◌∙◌, refl, sym}
 use Rattle.facet_json_parser.proofs.AnswersAreMoves.{quick-answers}
 use Rattle.facet_json_parser.proofs.ParserWithin.{ready-within}
 use Rattle.facet_json_parser.proofs.parser.JsonParser.next_quickly.Goals as goal
@@ -24,6 +24,3 @@ returns-in-Strict-clause-within c = ready-within _ _ _ _ _ _ _ c.args.self.now c
 
 pub returns-then-is_some-clause-within : goal.returns-then-is_some-clause-within
 returns-then-is_some-clause-within c = ready-within _ _ _ _ _ _ _ c.args.self.now c.self.invariant.0 refl c.self.view_is
-
-pub returns-then-is_some-clause-event : goal.returns-then-is_some-clause-event
-returns-then-is_some-clause-event c = search rules

@@ -18,12 +18,7 @@ pub returns-in_err-unrefused-clause-within : goal.returns-in_err-unrefused-claus
 returns-in_err-unrefused-clause-within c = ready-within _ _ _ _ _ _ _ _ c.self.invariant.0 refl c.self.view_is
 
 pub refuse-requires : goal.refuse-requires
-refuse-requires c =
-    let known = ready-within _ _ _ _ _ _ _ c.args.self.now c.self.invariant.0 refl c.self.view_is in
-    record {
-      within = queue-refusal_within _ c.args.self.now (refused_of c.in-Err.refused) (spot_of (lookahead_of c.next_with_room.new.self)) c.self.view_is
-          c.in_ok-unrefused.ensures known c.in-Err.ensures.passed;
-    }
+refuse-requires c = record { within = queue-refusal_within _ c.args.self.now _ _ c.self.view_is c.in_ok-unrefused.ensures (ready-within _ _ _ _ _ _ _ c.args.self.now c.self.invariant.0 refl c.self.view_is) c.in-Err.ensures.passed }
 
 pub returns-in-Ok-clause-event : goal.returns-in-Ok-clause-event
 returns-in-Ok-clause-event c =

@@ -3,12 +3,10 @@ use Rattle.std.specs.Option.{option_map}
 use Rattle.std.proofs.lemmas.Result.{err_from_is_err_and}
 use Rattle.facet_format.specs.Views.{event_of}
 use Rattle.facet_json_reader.specs.PlaceViews.{refused_of}
-use Rattle.facet_json_document.proofs.MoveIsStep.{move-steps}
-use Rattle.facet_json_document.proofs.Spans.BytesAhead.{moves-goes_on}
 use Rattle.facet_json_parser.specs.Lookahead.{spot_of}
 use Rattle.facet_json_parser.specs.Views.{lookahead_of}
 use Rattle.facet_json_parser.proofs.AnswersAreMoves.{peek-repeats, peek-answers, peek-refused, event-shows, no-event-over}
-use Rattle.facet_json_parser.proofs.ParserWithin.{ready-within, answer-within, peek-refusal_within}
+use Rattle.facet_json_parser.proofs.ParserWithin.{ready-within, moved, peek-refusal_within}
 use Rattle.facet_json_parser.proofs.parser.JsonParserFormatParser.peek_event.Goals as goal
 
 pub returns-in_err-unrefused : goal.returns-in_err-unrefused
@@ -16,36 +14,24 @@ returns-in_err-unrefused c =
     let p = err_from_is_err_and c.from_residual.result c.from_residual.ensures.1 in
     let known = ready-within _ _ _ _ _ _ _ c.args.self.now c.self.invariant.0 refl c.self.view_is in
     let move = peek-repeats c.args.self.now _ c.in_err-unrefused.ensures in
-    let gone = moves-goes_on _ known _ refl move in
-    rw (p.1, p.2) (record { steps = move-steps _ _ _ _ move; lowers = gone.onward; moves = move; within = answer-within _ _ known move; onward = gone; next = tt; end = tt })
+    let is = moved _ _ known refl move in
+    rw (p.1, p.2) (record { steps = is.steps; lowers = is.lowers; moves = move; within = is.within; onward = is.onward; next = tt; end = tt })
 
 pub refuse-requires : goal.refuse-requires
-refuse-requires c =
-    let known = ready-within _ _ _ _ _ _ _ c.args.self.now c.self.invariant.0 refl c.self.view_is in
-    record {
-      within = peek-refusal_within _ c.args.self.now (refused_of c.in-Err.refused) (spot_of (lookahead_of c.peek.new.self)) c.self.view_is
-          c.in_ok-unrefused.ensures known c.in-Err.ensures.shown;
-    }
+refuse-requires c = record { within = peek-refusal_within _ c.args.self.now _ _ c.self.view_is c.in_ok-unrefused.ensures (ready-within _ _ _ _ _ _ _ c.args.self.now c.self.invariant.0 refl c.self.view_is) c.in-Err.ensures.shown }
 
 pub returns-in-Ok : goal.returns-in-Ok
 returns-in-Ok c =
     let known = ready-within _ _ _ _ _ _ _ c.args.self.now c.self.invariant.0 refl c.self.view_is in
     let move = peek-answers _ c.args.self.now (option_map event_of c.in-Ok.shown) (spot_of (lookahead_of c.peek.new.self)) c.self.view_is
     c.in_ok-unrefused.ensures c.in-Ok.ensures.shown in
-    let gone = moves-goes_on _ known _ refl move in record {
-      steps = move-steps _ _ _ _ move;
-      lowers = gone.onward;
-      moves = move;
-      within = answer-within _ _ known move;
-      onward = gone;
-      next = event-shows _ _ c.in-Ok.shown move;
-      end = no-event-over _ _ c.in-Ok.shown move;
-    }
+    let is = moved _ _ known refl move in
+    record { steps = is.steps; lowers = is.lowers; moves = move; within = is.within; onward = is.onward; next = event-shows _ _ c.in-Ok.shown move; end = no-event-over _ _ c.in-Ok.shown move }
 
 pub returns-in-Err : goal.returns-in-Err
 returns-in-Err c =
     let known = ready-within _ _ _ _ _ _ _ c.args.self.now c.self.invariant.0 refl c.self.view_is in
     let move = peek-refused _ c.args.self.now _ (refused_of c.in-Err.refused) _ (spot_of (lookahead_of c.peek.new.self)) c.self.view_is
     c.in_ok-unrefused.ensures c.in-Err.ensures.shown c.refuse.ensures.kept c.refuse.ensures.error in
-    let gone = moves-goes_on _ known _ refl move in
-    (record { steps = move-steps _ _ _ _ move; lowers = gone.onward; moves = move; within = answer-within _ _ known move; onward = gone; next = tt; end = tt })
+    let is = moved _ _ known refl move in
+    record { steps = is.steps; lowers = is.lowers; moves = move; within = is.within; onward = is.onward; next = tt; end = tt }
