@@ -10,7 +10,11 @@ returns c =
     let move = c.in-Some.ensures.event in
     let is = moved _ _ known refl move in
     record {
-      steps = is.steps; lowers = is.lowers; moves = move; within = is.within; onward = is.onward;
+      steps = is.steps;
+      lowers = is.lowers;
+      moves = move;
+      within = is.within;
+      onward = is.onward;
       shorter = result-lowers _ _ (Ok (Some c.in-Some.event)) known move;
       next = result-passes _ _ (Ok (Some c.in-Some.event)) move;
       end = result-over _ _ (Ok (Some c.in-Some.event)) move;
@@ -22,7 +26,11 @@ returns-in_default c =
     let move = rw c.in_default.ensures.event at c.next_apart.ensures in
     let is = moved _ _ known refl move in
     record {
-      steps = is.steps; lowers = is.lowers; moves = move; within = is.within; onward = is.onward;
+      steps = is.steps;
+      lowers = is.lowers;
+      moves = move;
+      within = is.within;
+      onward = is.onward;
       shorter = result-lowers _ _ c.next_apart.result known move;
       next = result-passes _ _ c.next_apart.result move;
       end = result-over _ _ c.next_apart.result move;
