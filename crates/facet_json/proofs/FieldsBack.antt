@@ -6,8 +6,7 @@ use Rattle.std.proofs.lemmas.Slice.Eq.{bytes_eq-Decides}
 use Rattle.facet_json_token.specs.Token.{Token}
 use Rattle.facet_json_document.specs.Meaning.{text_in_tree, meaning}
 use Rattle.facet_json_document.specs.Node.{Node, Members, no_members, member}
-use Rattle.facet_json_meaning.specs.Optional.{optional}
-use Rattle.facet_json.specs.Fields.{Reading, Table, none, need, maybe, seen_by, field_step, need_ends, maybe_ends, joined, after_members}
+use Rattle.facet_json.specs.Fields.{Reading, Table, table, none, seen_by, field_step, after_members}
 use Rattle.facet_json.specs.Shapes.{lacks}
 
 -- The members have these keys, one after the other.
@@ -62,31 +61,19 @@ module _ {V S : Type 0} (reading : Reading V) (others : List (List ℕ) → List
       ∙ ap (λ o. option_and_then (after_members step buffer rest) (seen_by true o None seen (others names name seen buffer value))) is
       ∙ past-all (Some v) names rest are apart seen
 
-need-over : {V S W : Type 0} (ends : S → Option W) (v : V) (o : Option S) →
-    option_and_then (need_ends ends) (option_map (λ s. (Some v, s)) o) ≡ option_map (λ w. (v, w)) (option_and_then ends o)
-need-over ends v None = refl
-need-over ends v (Some s) = refl
+module _ {V W : Type 0} (reading : Reading V) (t : Table W) (ends : Option V × t.Seen → Option (V × W)) (v : V)
+    (begins : (seen : t.Seen) → ends (Some v, seen) ≡ option_map (λ w. (v, w)) (t.ends seen)) where
+  -- Where the field has its value, the fields are it and the others.
+  ends-over : (o : Option t.Seen) → option_and_then ends (option_map (λ s. (Some v, s)) o) ≡ option_map (λ w. (v, w)) (option_and_then t.ends o)
+  ends-over None = refl
+  ends-over (Some seen) = begins seen
 
-maybe-over : {V S W : Type 0} (ends : S → Option W) (v : Option V) (o : Option S) →
-    option_and_then (maybe_ends ends) (option_map (λ s. (Some v, s)) o) ≡ option_map (λ w. (v, w)) (option_and_then ends o)
-maybe-over ends v None = refl
-maybe-over ends v (Some s) = refl
-
-module _ {V W : Type 0} (reading : Reading V) (t : Table W) (name : List ℕ) (names : List (List ℕ)) (apart : lacks name names ≡ true) (w : W) where
   -- A member of the name that reads as the field's value is the field, before the others.
-  pub need-are : (v : V) (buffer : List ℕ) (key mark : Token) (value : Node) (rest : Members) → text_in_tree (meaning buffer key) ≡ Some name →
-      reading buffer value ≡ Some v → FieldsAre t names w buffer rest → FieldsAre (need reading t) (name ∷ names) (v, w) buffer (member key mark value rest)
-  need-are v buffer key mark value rest named is h = record {
+  pub field-are : (name : List ℕ) (names : List (List ℕ)) → lacks name names ≡ true → (w : W) (buffer : List ℕ) (key mark : Token) (value : Node) (rest : Members) →
+      text_in_tree (meaning buffer key) ≡ Some name → reading buffer value ≡ Some v → FieldsAre t names w buffer rest →
+      FieldsAre (table (None, t.start) (field_step reading t.step) ends) (name ∷ names) (v, w) buffer (member key mark value rest)
+  field-are name names apart w buffer key mark value rest named is h = record {
     keys = (named, h.keys);
-    are = ap (option_and_then (need_ends t.ends)) (first-filled reading t.step name names buffer key mark value rest v t.start named is h.keys apart)
-        ∙ need-over t.ends v (after_members (t.step names) buffer rest t.start) ∙ ap (option_map (λ x. (v, x))) h.are;
-  }
-
-  pub maybe-are : (v : Option V) (buffer : List ℕ) (key mark : Token) (value : Node) (rest : Members) → text_in_tree (meaning buffer key) ≡ Some name →
-      optional reading buffer value ≡ Some v → FieldsAre t names w buffer rest →
-      FieldsAre (maybe reading t) (name ∷ names) (v, w) buffer (member key mark value rest)
-  maybe-are v buffer key mark value rest named is h = record {
-    keys = (named, h.keys);
-    are = ap (option_and_then (maybe_ends t.ends)) (first-filled (optional reading) t.step name names buffer key mark value rest v t.start named is h.keys apart)
-        ∙ maybe-over t.ends v (after_members (t.step names) buffer rest t.start) ∙ ap (option_map (λ x. (v, x))) h.are;
+    are = ap (option_and_then ends) (first-filled reading t.step name names buffer key mark value rest v t.start named is h.keys apart)
+        ∙ ends-over (after_members (t.step names) buffer rest t.start) ∙ ap (option_map (λ x. (v, x))) h.are;
   }

@@ -1,5 +1,5 @@
 -- The calls by which a struct's fields are written.
-use Rattle.std.proofs.Common.{◌≡◌, Bool, true, false, List, [], ◌∷◌, ◌++◌, Option, None, Some, Result, Ok, Err, refl, sym, ap, ◌∙◌, subst}
+use Rattle.std.proofs.Common.{◌≡◌, true, List, [], ◌∷◌, ◌++◌, Option, None, Some, Result, Ok, Err, refl, sym, ap, ◌∙◌, subst}
 use Rattle.std.specs.Prelude.{ℕ}
 use Rattle.facet_format.specs.SerializerCall.{SerializerCall, begin_struct, field_key, end_struct, TakesAll}
 use Rattle.facet_json_document.specs.Text.{Options}

@@ -1,23 +1,23 @@
 -- The laws of structs, field by field: nodes of the same text are read alike, and what is written of a readable struct is read as it.
-use Rattle.std.proofs.Common.{◌≡◌, ℕ, Bool, true, false, cond, List, [], ◌∷◌, Option, refl, sym, ap, ◌∙◌, subst}
+use Rattle.std.proofs.Common.{◌≡◌, ℕ, Bool, true, false, cond, List, [], ◌∷◌, Option, Some, None, refl, subst}
 use Rattle.std.proofs.lemmas.Bool.{and_parts}
 use Rattle.std.proofs.lemmas.Str.{is_utf8-from_IsUtf8}
 use Rattle.std.specs.Char.{is_ascii}
 use Rattle.std.specs.List.{list_all}
+use Rattle.std.specs.Option.{option_map}
 use Rattle.std.specs.Str.{is_utf8}
 use Rattle.facet_json_document.specs.Node.{no_members}
 use Rattle.facet_json_document.specs.Text.{text, members_text, default_options}
-use Rattle.facet_json_document.specs.Tree.{Tree, pairs, no_pairs}
+use Rattle.facet_json_document.specs.Tree.{Tree, pairs, no_pairs, pair}
 use Rattle.facet_json_document.specs.AsRead.{RawParts, RawMembers, IsDocumentText}
 use Rattle.facet_json_document.proofs.Rfc.Encoded.{ascii}
 use Rattle.facet_json_meaning.specs.Laws.{SameReading, ReadsBack}
-use Rattle.facet_json_meaning.specs.Optional.{optional}
 use Rattle.facet_json_meaning.proofs.Nullable.OptionalLaws.{optional-same, optional-reads_back}
 use Rattle.facet_json_meaning.proofs.Nodes.TextsWithin.{ReadsAnywhere, reads-anywhere, reads-alone, text-depth}
-use Rattle.facet_json.specs.Fields.{Reading, fields_of}
+use Rattle.facet_json.specs.Fields.{Reading, Table, table, need, maybe, field_step, need_ends, maybe_ends, fields_of}
 use Rattle.facet_json.specs.Shapes.{Shape, ShapeLaws, shape, nullable, FieldList, no_more, needs, may_have, struct_of, is_text, lacks, are_names}
 use Rattle.facet_json.proofs.FieldLaws.{SameSteps, none-same, need-same, maybe-same, fields-same}
-use Rattle.facet_json.proofs.FieldsBack.{FieldsAre, none-are, need-are, maybe-are}
+use Rattle.facet_json.proofs.FieldsBack.{FieldsAre, none-are, field-are}
 use Rattle.facet_json_meaning.proofs.Objects.ObjectTexts.{MembersAnywhere, members-none, members-join, object-whole}
 
 -- ---- types
@@ -76,43 +76,51 @@ module _ {V : Type 0} (s : Shape V) (laws : ShapeLaws s) where
       subst (λ t. ReadsAnywhere s.reading t v) (text-depth 0 1 (s.tree_of v))
       (reads-anywhere s.reading laws.same_reading (text default_options 0 (s.tree_of v)) v (laws.reads_back v has is).1)
 
-pub needs-laws : {V W : Type 0} {s : Shape V} {others : FieldList W} (name : List ℕ) → ShapeLaws s → FieldListLaws others →
-    FieldListLaws (needs name s others)
-unfolding RawMembers
-needs-laws {s = s} {others = others} name laws more = record {
-  same = need-same laws.same_reading more.same;
-  same_borrowed = need-same laws.same_reading_borrowed more.same_borrowed;
-  back = λ names v has is.
+-- a field and those after it, where these are what an object's fields are after its last member
+abbrev field_list : {V W : Type 0} → List ℕ → Shape V → (others : FieldList W) → (Option V × others.table.Seen → Option (V × W)) → Table (V × W) → FieldList (V × W)
+field_list name s others ends borrowed = record {
+  names = name ∷ others.names;
+  table = table (None, others.table.start) (field_step s.reading others.table.step) ends;
+  table_borrowed = borrowed;
+  written = λ v. pair name (s.tree_of v.0) (others.written v.1);
+  always = λ v. s.always v.0 × others.always v.1;
+  readable = λ v. s.readable v.0 × others.readable v.1;
+}
+
+module _ {V W : Type 0} (name : List ℕ) (s : Shape V) (laws : ShapeLaws s) (others : FieldList W) (more : FieldListLaws others) where
+  field-back : (ends : Option V × others.table.Seen → Option (V × W)) (borrowed : Table (V × W)) →
+      ((v : V) (seen : others.table.Seen) → ends (Some v, seen) ≡ option_map (λ w. (v, w)) (others.table.ends seen)) →
+      let fields = field_list name s others ends borrowed in
+      are_names fields.names ≡ true → (v : V × W) → fields.always v → fields.readable v → FieldsBack fields v
+  unfolding RawMembers
+  field-back ends borrowed begins names v has is =
+      let fields = field_list name s others ends borrowed in
       let named = and_parts (is_text name) _ names in
       let apart = and_parts (lacks name others.names) (are_names others.names) named.1 in
       let behind = more.back apart.1 v.1 has.1 is.1 in
       record {
         raw = ((laws.reads_back v.0 has.0 is.0).0, behind.raw);
         none = λ e buffer. absurd (cc);
-        stand = members-join s.reading name v.0 (FieldsAre others.table others.names v.1) (FieldsAre (needs name s others).table (name ∷ others.names) v)
-            (need-are s.reading others.table name others.names apart.0 v.1 v.0) (s.tree_of v.0) (others.written v.1) (text-utf8 name named.0)
+        stand = members-join s.reading name v.0 (FieldsAre others.table others.names v.1) (FieldsAre fields.table (name ∷ others.names) v)
+            (field-are s.reading others.table ends v.0 (begins v.0) name others.names apart.0 v.1) (s.tree_of v.0) (others.written v.1) (text-utf8 name named.0)
             (value-stands s laws v.0 has.0 is.0) behind.none behind.stand;
-      };
+      }
+
+pub needs-laws : {V W : Type 0} {s : Shape V} {others : FieldList W} (name : List ℕ) → ShapeLaws s → FieldListLaws others →
+    FieldListLaws (needs name s others)
+needs-laws {s = s} {others = others} name laws more = record {
+  same = need-same laws.same_reading more.same;
+  same_borrowed = need-same laws.same_reading_borrowed more.same_borrowed;
+  back = field-back name s laws others more (need_ends others.table.ends) (need s.reading_borrowed others.table_borrowed) (λ v seen. refl);
 }
 
 pub may_have-laws : {V W : Type 0} {s : Shape V} {others : FieldList W} (name : List ℕ) → ShapeLaws s → FieldListLaws others →
     FieldListLaws (may_have name s others)
-unfolding RawMembers
 may_have-laws {s = s} {others = others} name laws more = record {
   same = maybe-same laws.same_reading more.same;
   same_borrowed = maybe-same laws.same_reading_borrowed more.same_borrowed;
-  back = λ names v has is.
-      let named = and_parts (is_text name) _ names in
-      let apart = and_parts (lacks name others.names) (are_names others.names) named.1 in
-      let behind = more.back apart.1 v.1 has.1 is.1 in
-      let option = nullable-laws laws in
-      record {
-        raw = ((option.reads_back v.0 has.0 is.0).0, behind.raw);
-        none = λ e buffer. absurd (cc);
-        stand = members-join (optional s.reading) name v.0 (FieldsAre others.table others.names v.1) (FieldsAre (may_have name s others).table (name ∷ others.names) v)
-            (maybe-are s.reading others.table name others.names apart.0 v.1 v.0) ((nullable s).tree_of v.0) (others.written v.1) (text-utf8 name named.0)
-            (value-stands (nullable s) option v.0 has.0 is.0) behind.none behind.stand;
-      };
+  back = field-back name (nullable s) (nullable-laws laws) others more (maybe_ends others.table.ends) (maybe s.reading_borrowed others.table_borrowed)
+      (λ v seen. refl);
 }
 
 -- ---- structs

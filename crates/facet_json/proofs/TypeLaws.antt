@@ -1,6 +1,8 @@
 -- The laws of each type.
-use Rattle.std.proofs.Common.{ℕ}
-use Rattle.facet_json_meaning.specs.Readings.{bool_of, unsigned_of, signed_of, text_of_tree, u128_of, i128_of, raw_of}
+use Rattle.std.proofs.Common.{Option}
+use Rattle.facet_json_document.specs.Tree.{Tree}
+use Rattle.facet_json_meaning.specs.Laws.{ReadsBack}
+use Rattle.facet_json_meaning.specs.Readings.{leaf, bool_of, unsigned_of, signed_of, text_of_tree, u128_of, i128_of}
 use Rattle.facet_json_meaning.proofs.Leaves.BorrowedLaws.{borrowed-same, unread-same, unread-reads_back}
 use Rattle.facet_json_meaning.proofs.Leaves.LeafLaws.{leaf-same}
 use Rattle.facet_json_meaning.proofs.Sequences.ListLaws.{list-same, list-reads_back}
@@ -12,44 +14,49 @@ use Rattle.facet_json_meaning.proofs.OfTrees.TreeLaws.{tree-same, tree-reads_bac
 use Rattle.facet_json_meaning.proofs.Leaves.TruthLaws.{bool-reads_back}
 use Rattle.facet_json_meaning.proofs.Leaves.WholeNumbers.{u8-reads_back, u16-reads_back, u32-reads_back, u64-reads_back, i8-reads_back, i16-reads_back, i32-reads_back, i64-reads_back}
 use Rattle.facet_json_meaning.proofs.Leaves.WideNumbers.{u128-reads_back, i128-reads_back}
-use Rattle.facet_json.specs.Shapes.{Shape, ShapeLaws}
+use Rattle.facet_json.specs.Shapes.{Shape, ShapeLaws, shape}
 use Rattle.facet_json.specs.Types as types
 
+-- a type of leaves, each read alike wherever it stands
+leaf-laws : {V : Type 0} (of : Tree → Option V) {tree_of : V → Tree} {always readable : V → Type 0} → ReadsBack (leaf of) tree_of always readable
+    → ShapeLaws (shape (leaf of) (leaf of) tree_of always readable)
+leaf-laws of back = record { same_reading = leaf-same of; same_reading_borrowed = leaf-same of; reads_back = back }
+
 pub bool-laws : ShapeLaws types.bool
-bool-laws = record { same_reading = leaf-same bool_of; same_reading_borrowed = leaf-same bool_of; reads_back = bool-reads_back }
+bool-laws = leaf-laws bool_of bool-reads_back
 
 pub u8-laws : ShapeLaws types.u8
-u8-laws = record { same_reading = leaf-same (unsigned_of 8); same_reading_borrowed = leaf-same (unsigned_of 8); reads_back = u8-reads_back }
+u8-laws = leaf-laws (unsigned_of 8) u8-reads_back
 
 pub u16-laws : ShapeLaws types.u16
-u16-laws = record { same_reading = leaf-same (unsigned_of 16); same_reading_borrowed = leaf-same (unsigned_of 16); reads_back = u16-reads_back }
+u16-laws = leaf-laws (unsigned_of 16) u16-reads_back
 
 pub u32-laws : ShapeLaws types.u32
-u32-laws = record { same_reading = leaf-same (unsigned_of 32); same_reading_borrowed = leaf-same (unsigned_of 32); reads_back = u32-reads_back }
+u32-laws = leaf-laws (unsigned_of 32) u32-reads_back
 
 pub u64-laws : ShapeLaws types.u64
-u64-laws = record { same_reading = leaf-same (unsigned_of 64); same_reading_borrowed = leaf-same (unsigned_of 64); reads_back = u64-reads_back }
+u64-laws = leaf-laws (unsigned_of 64) u64-reads_back
 
 pub u128-laws : ShapeLaws types.u128
-u128-laws = record { same_reading = leaf-same u128_of; same_reading_borrowed = leaf-same u128_of; reads_back = u128-reads_back }
+u128-laws = leaf-laws u128_of u128-reads_back
 
 pub i8-laws : ShapeLaws types.i8
-i8-laws = record { same_reading = leaf-same (signed_of 7); same_reading_borrowed = leaf-same (signed_of 7); reads_back = i8-reads_back }
+i8-laws = leaf-laws (signed_of 7) i8-reads_back
 
 pub i16-laws : ShapeLaws types.i16
-i16-laws = record { same_reading = leaf-same (signed_of 15); same_reading_borrowed = leaf-same (signed_of 15); reads_back = i16-reads_back }
+i16-laws = leaf-laws (signed_of 15) i16-reads_back
 
 pub i32-laws : ShapeLaws types.i32
-i32-laws = record { same_reading = leaf-same (signed_of 31); same_reading_borrowed = leaf-same (signed_of 31); reads_back = i32-reads_back }
+i32-laws = leaf-laws (signed_of 31) i32-reads_back
 
 pub i64-laws : ShapeLaws types.i64
-i64-laws = record { same_reading = leaf-same (signed_of 63); same_reading_borrowed = leaf-same (signed_of 63); reads_back = i64-reads_back }
+i64-laws = leaf-laws (signed_of 63) i64-reads_back
 
 pub i128-laws : ShapeLaws types.i128
-i128-laws = record { same_reading = leaf-same i128_of; same_reading_borrowed = leaf-same i128_of; reads_back = i128-reads_back }
+i128-laws = leaf-laws i128_of i128-reads_back
 
 pub text-laws : ShapeLaws types.text
-text-laws = record { same_reading = leaf-same text_of_tree; same_reading_borrowed = leaf-same text_of_tree; reads_back = text-reads_back }
+text-laws = leaf-laws text_of_tree text-reads_back
 
 pub borrowed-laws : ShapeLaws types.borrowed
 borrowed-laws = record { same_reading = unread-same; same_reading_borrowed = borrowed-same; reads_back = unread-reads_back }

@@ -1,6 +1,7 @@
 //! Fields of structs, in the order in which a table names them.
 
 ghost use Rattle.std.specs.Prelude.{◌≡◌, ◌≤◌, ◌<◌, false, cond, length, None, Some, IfOk, IfErr, OnOk};
+ghost use Rattle.std.specs.Option.{option_map, IfSome};
 ghost use Rattle.facet_format.specs.Complaint.{missing_field, refusal_at};
 ghost use Rattle.facet_format.specs.Span.{stop};
 ghost use Rattle.facet_format.specs.Views.{refusal_of, span_of};
@@ -10,7 +11,7 @@ ghost use Rattle.facet_json_meaning.specs.Nodes.{KeepsOn};
 ghost use Rattle.facet_json_meaning.specs.OneValue.{PassesValue, IsAfterKey};
 ghost use Rattle.facet_json_meaning.specs.Reading.{IsRead, IsUnread};
 ghost use Rattle.facet_json_core.specs.Refusing.{TellsRefusal};
-ghost use Rattle.facet_json.specs.Fields.{keys, table, fields_of, begins_with, first_name, other_names, joined, LacksField};
+ghost use Rattle.facet_json.specs.Fields.{field_step, keys, table, fields_of, begins_with, first_name, other_names, joined, LacksField};
 
 use facet_format::{DeserializeError, DeserializeErrorKind, FormatParser, Span};
 use facet_json_facet::steps::{begin_object, next_name, pass_value};
@@ -157,8 +158,7 @@ impl<'de, T: Facet<'de>, R: Fields<'de>> Fields<'de> for Need<T, R> {
     type Slots = (Option<T>, R::Slots);
 
     ghost use Rattle.std.specs.Prelude.{Option, None};
-    ghost use Rattle.std.specs.Option.{option_map, IfSome};
-    ghost use Rattle.facet_json.specs.Fields.{field_step, need_ends};
+    ghost use Rattle.facet_json.specs.Fields.{need_ends};
 
     ghost Seen = { Option T.View × R.Seen };
 
@@ -190,18 +190,7 @@ impl<'de, T: Facet<'de>, R: Fields<'de>> Fields<'de> for Need<T, R> {
         parser: &mut JsonParser<'de>,
         borrows: bool,
     ) -> Result<(), DeserializeError<'t>> {
-        if is_first(names, key) {
-            slots.0 = Some(value_in::<T>(alloc, parser, borrows)?);
-            return Ok(());
-        }
-        R::put(
-            &mut slots.1,
-            after_first(names),
-            key,
-            alloc,
-            parser,
-            borrows,
-        )
+        put_first::<T, R>(slots, names, key, alloc, parser, borrows)
     }
 
     fn finish<'t>(
@@ -224,9 +213,8 @@ impl<'de, T: Facet<'de>, R: Fields<'de>> Fields<'de> for Maybe<T, R> {
     type Slots = (Option<Option<T>>, R::Slots);
 
     ghost use Rattle.std.specs.Prelude.{Option, None};
-    ghost use Rattle.std.specs.Option.{option_map, IfSome};
     ghost use Rattle.facet_json_meaning.specs.Optional.{optional};
-    ghost use Rattle.facet_json.specs.Fields.{field_step, maybe_ends};
+    ghost use Rattle.facet_json.specs.Fields.{maybe_ends};
 
     ghost Seen = { Option (Option T.View) × R.Seen };
 
@@ -258,18 +246,7 @@ impl<'de, T: Facet<'de>, R: Fields<'de>> Fields<'de> for Maybe<T, R> {
         parser: &mut JsonParser<'de>,
         borrows: bool,
     ) -> Result<(), DeserializeError<'t>> {
-        if is_first(names, key) {
-            slots.0 = Some(value_in::<Option<T>>(alloc, parser, borrows)?);
-            return Ok(());
-        }
-        R::put(
-            &mut slots.1,
-            after_first(names),
-            key,
-            alloc,
-            parser,
-            borrows,
-        )
+        put_first::<Option<T>, R>(slots, names, key, alloc, parser, borrows)
     }
 
     fn finish<'t>(
@@ -281,6 +258,44 @@ impl<'de, T: Facet<'de>, R: Fields<'de>> Fields<'de> for Maybe<T, R> {
         let others = R::finish(others, after_first(names), bracket)?;
         Ok(Maybe(flat(value), others))
     }
+}
+
+/// Reads the value of a member before which the parser stands, as the first field where the member's key is that field's name, and else as
+/// one of those after it.
+#[inline(always)]
+fn put_first<'t, 'de, T: Facet<'de>, R: Fields<'de>>(
+    slots: &mut (Option<T>, R::Slots),
+    names: &[&str],
+    key: &str,
+    alloc: Global,
+    parser: &mut JsonParser<'de>,
+    borrows: bool,
+) -> Result<(), DeserializeError<'t>>
+    ensures read { OnOk result (IsRead
+        (field_step (cond borrows T.reading_borrowed T.reading) (R.step borrows) (keys names.now) key.now (option_map T.view slots.old.0, R.seen slots.old.1))
+        parser.old (option_map T.view slots.new.0, R.seen slots.new.1) parser.new) }
+    ensures unread { IfErr result (λ e. IsUnread
+        (field_step (cond borrows T.reading_borrowed T.reading) (R.step borrows) (keys names.now) key.now (option_map T.view slots.old.0, R.seen slots.old.1))
+        parser.old (refusal_of e)) }
+    ensures keeps { KeepsOn parser.old parser.new }
+    ensures one_value { IsAfterKey parser.old → OnOk result (PassesValue parser.old parser.new) }
+    ensures within { IfErr result (λ e. RefusalWithin parser.new.buffer (refusal_of e)) }
+    ensures owned { borrows ≡ false → IfSome slots.old.0 T.owned × R.owned_slots slots.old.1
+        → OnOk result (IfSome slots.new.0 T.owned × R.owned_slots slots.new.1) }
+    ensures tells { IfErr result (λ e. TellsRefusal parser.old parser.new (refusal_of e)) }
+{
+    if is_first(names, key) {
+        slots.0 = Some(value_in::<T>(alloc, parser, borrows)?);
+        return Ok(());
+    }
+    R::put(
+        &mut slots.1,
+        after_first(names),
+        key,
+        alloc,
+        parser,
+        borrows,
+    )
 }
 
 /// Reads an object as fields of these names (RFC 8259, section 4). The last member of a repeated key counts, and a member that no

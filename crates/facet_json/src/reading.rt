@@ -1,9 +1,10 @@
 //! Values of a type from the bytes or the text that they stand in.
 
-ghost use Rattle.std.specs.Prelude.{◌≡◌, true, IfOk, IfErr, OnOk};
+ghost use Rattle.std.specs.Prelude.{◌≡◌, ℕ, List, true, false, cond, IfOk, IfErr, OnOk};
 ghost use Rattle.facet_format.specs.Views.{refusal_of};
-ghost use Rattle.facet_json_token.specs.Gap.{plain, jsonc};
+ghost use Rattle.facet_json_token.specs.Gap.{Mode, plain, jsonc};
 ghost use Rattle.facet_json_document.specs.Language.{lenient};
+ghost use Rattle.facet_json_document.specs.Now.{fresh};
 ghost use Rattle.facet_json_document.specs.UnreadLaws.{RefusalWithin};
 ghost use Rattle.facet_json.specs.Inputs.{IsReadFrom, IsUnreadFrom, BeginsWithDocument, IsToldOf, BeginsWithRun};
 
@@ -36,7 +37,7 @@ pub fn from_slice<'t, 'de, T: Facet<'de>>(
     ensures within { IfErr result (λ e. RefusalWithin input.now (refusal_of e)) }
     ensures tells { IfErr result (λ e. IsToldOf input.now (lenient plain) (refusal_of e)) }
 {
-    T::read_owned(alloc, &mut JsonParser::new(alloc, input))
+    first_value(alloc, &mut JsonParser::new(alloc, input), false)
 }
 
 /// Reads the value of the document that the bytes begin with (RFC 8259, sections 2 to 7, with lenient readings such as a trailing comma),
@@ -48,8 +49,7 @@ pub fn from_slice<'t, 'de, T: Facet<'de>>(
 ///
 /// # Errors
 ///
-/// The input's document is no value of the type: `TypeMismatch`, `NumberOutOfRange`, `InvalidValue` or `MissingField`. Or the input begins with no
-/// document, as far as it was looked at: a refusal of the kinds 1 to 4. Or out of memory. A span is an offset and a length in bytes.
+/// As `from_slice`.
 pub fn from_slice_borrowed<'t, 'de, T: Facet<'de>>(
     alloc: Global,
     input: &'de [u8],
@@ -61,7 +61,7 @@ pub fn from_slice_borrowed<'t, 'de, T: Facet<'de>>(
     ensures within { IfErr result (λ e. RefusalWithin input.now (refusal_of e)) }
     ensures tells { IfErr result (λ e. IsToldOf input.now (lenient plain) (refusal_of e)) }
 {
-    T::read(alloc, &mut JsonParser::new(alloc, input))
+    first_value(alloc, &mut JsonParser::new(alloc, input), true)
 }
 
 /// Reads a value as `from_slice`, where comments may stand wherever white space may: `//` up to the line's end, and `/*` up to `*/`.
@@ -72,8 +72,7 @@ pub fn from_slice_borrowed<'t, 'de, T: Facet<'de>>(
 ///
 /// # Errors
 ///
-/// The input's document is no value of the type: `TypeMismatch`, `NumberOutOfRange`, `InvalidValue` or `MissingField`. Or the input begins with no
-/// document, as far as it was looked at: a refusal of the kinds 1 to 4. Or out of memory. A span is an offset and a length in bytes.
+/// As `from_slice`.
 pub fn from_slice_jsonc<'t, 'de, T: Facet<'de>>(
     alloc: Global,
     input: &'de [u8],
@@ -86,7 +85,7 @@ pub fn from_slice_jsonc<'t, 'de, T: Facet<'de>>(
     ensures within { IfErr result (λ e. RefusalWithin input.now (refusal_of e)) }
     ensures tells { IfErr result (λ e. IsToldOf input.now (lenient jsonc) (refusal_of e)) }
 {
-    T::read_owned(alloc, &mut JsonParser::new_jsonc(alloc, input))
+    first_value(alloc, &mut JsonParser::new_jsonc(alloc, input), false)
 }
 
 /// Reads a value as `from_slice_borrowed`, where comments may stand as in `from_slice_jsonc`.
@@ -97,8 +96,7 @@ pub fn from_slice_jsonc<'t, 'de, T: Facet<'de>>(
 ///
 /// # Errors
 ///
-/// The input's document is no value of the type: `TypeMismatch`, `NumberOutOfRange`, `InvalidValue` or `MissingField`. Or the input begins with no
-/// document, as far as it was looked at: a refusal of the kinds 1 to 4. Or out of memory. A span is an offset and a length in bytes.
+/// As `from_slice`.
 pub fn from_slice_borrowed_jsonc<'t, 'de, T: Facet<'de>>(
     alloc: Global,
     input: &'de [u8],
@@ -110,7 +108,7 @@ pub fn from_slice_borrowed_jsonc<'t, 'de, T: Facet<'de>>(
     ensures within { IfErr result (λ e. RefusalWithin input.now (refusal_of e)) }
     ensures tells { IfErr result (λ e. IsToldOf input.now (lenient jsonc) (refusal_of e)) }
 {
-    T::read(alloc, &mut JsonParser::new_jsonc(alloc, input))
+    first_value(alloc, &mut JsonParser::new_jsonc(alloc, input), true)
 }
 
 /// Reads a value as `from_slice`, from a text, which is known to be UTF-8.
@@ -121,8 +119,7 @@ pub fn from_slice_borrowed_jsonc<'t, 'de, T: Facet<'de>>(
 ///
 /// # Errors
 ///
-/// The input's document is no value of the type: `TypeMismatch`, `NumberOutOfRange`, `InvalidValue` or `MissingField`. Or the input begins with no
-/// document, as far as it was looked at: a refusal of the kinds 1 to 4. Or out of memory. A span is an offset and a length in bytes.
+/// As `from_slice`.
 pub fn from_str<'t, 'de, T: Facet<'de>>(
     alloc: Global,
     input: &'de str,
@@ -135,7 +132,11 @@ pub fn from_str<'t, 'de, T: Facet<'de>>(
     ensures within { IfErr result (λ e. RefusalWithin input.now (refusal_of e)) }
     ensures tells { IfErr result (λ e. IsToldOf input.now (lenient plain) (refusal_of e)) }
 {
-    T::read_owned(alloc, &mut JsonParser::new_trusted(alloc, input.as_bytes()))
+    first_value(
+        alloc,
+        &mut JsonParser::new_trusted(alloc, input.as_bytes()),
+        false,
+    )
 }
 
 /// Reads a value as `from_slice_borrowed`, from a text, which is known to be UTF-8.
@@ -146,8 +147,7 @@ pub fn from_str<'t, 'de, T: Facet<'de>>(
 ///
 /// # Errors
 ///
-/// The input's document is no value of the type: `TypeMismatch`, `NumberOutOfRange`, `InvalidValue` or `MissingField`. Or the input begins with no
-/// document, as far as it was looked at: a refusal of the kinds 1 to 4. Or out of memory. A span is an offset and a length in bytes.
+/// As `from_slice`.
 pub fn from_str_borrowed<'t, 'de, T: Facet<'de>>(
     alloc: Global,
     input: &'de str,
@@ -159,7 +159,11 @@ pub fn from_str_borrowed<'t, 'de, T: Facet<'de>>(
     ensures within { IfErr result (λ e. RefusalWithin input.now (refusal_of e)) }
     ensures tells { IfErr result (λ e. IsToldOf input.now (lenient plain) (refusal_of e)) }
 {
-    T::read(alloc, &mut JsonParser::new_trusted(alloc, input.as_bytes()))
+    first_value(
+        alloc,
+        &mut JsonParser::new_trusted(alloc, input.as_bytes()),
+        true,
+    )
 }
 
 /// Reads a value as `from_slice_jsonc`, from a text, which is known to be UTF-8.
@@ -170,8 +174,7 @@ pub fn from_str_borrowed<'t, 'de, T: Facet<'de>>(
 ///
 /// # Errors
 ///
-/// The input's document is no value of the type: `TypeMismatch`, `NumberOutOfRange`, `InvalidValue` or `MissingField`. Or the input begins with no
-/// document, as far as it was looked at: a refusal of the kinds 1 to 4. Or out of memory. A span is an offset and a length in bytes.
+/// As `from_slice`.
 pub fn from_str_jsonc<'t, 'de, T: Facet<'de>>(
     alloc: Global,
     input: &'de str,
@@ -184,8 +187,12 @@ pub fn from_str_jsonc<'t, 'de, T: Facet<'de>>(
     ensures within { IfErr result (λ e. RefusalWithin input.now (refusal_of e)) }
     ensures tells { IfErr result (λ e. IsToldOf input.now (lenient jsonc) (refusal_of e)) }
 {
-    let bytes = input.as_bytes();
-    T::read_owned(alloc, &mut JsonParser::new_jsonc_trusted(alloc, bytes))
+    let text = input.as_bytes();
+    first_value(
+        alloc,
+        &mut JsonParser::new_jsonc_trusted(alloc, text),
+        false,
+    )
 }
 
 /// Reads a value as `from_slice_borrowed_jsonc`, from a text, which is known to be UTF-8.
@@ -196,8 +203,7 @@ pub fn from_str_jsonc<'t, 'de, T: Facet<'de>>(
 ///
 /// # Errors
 ///
-/// The input's document is no value of the type: `TypeMismatch`, `NumberOutOfRange`, `InvalidValue` or `MissingField`. Or the input begins with no
-/// document, as far as it was looked at: a refusal of the kinds 1 to 4. Or out of memory. A span is an offset and a length in bytes.
+/// As `from_slice`.
 pub fn from_str_borrowed_jsonc<'t, 'de, T: Facet<'de>>(
     alloc: Global,
     input: &'de str,
@@ -209,6 +215,33 @@ pub fn from_str_borrowed_jsonc<'t, 'de, T: Facet<'de>>(
     ensures within { IfErr result (λ e. RefusalWithin input.now (refusal_of e)) }
     ensures tells { IfErr result (λ e. IsToldOf input.now (lenient jsonc) (refusal_of e)) }
 {
-    let bytes = input.as_bytes();
-    T::read(alloc, &mut JsonParser::new_jsonc_trusted(alloc, bytes))
+    let text = input.as_bytes();
+    first_value(alloc, &mut JsonParser::new_jsonc_trusted(alloc, text), true)
+}
+
+/// Reads the value before which a new parser stands, and may borrow of the input where `borrows` says so.
+#[inline(always)]
+fn first_value<'t, 'de, T: Facet<'de>>(
+    alloc: Global,
+    parser: &mut JsonParser<'de>,
+    borrows: bool,
+) -> Result<T, DeserializeError<'t>>
+    ensures read { (input : List ℕ) (mode : Mode) → parser.old ≡ fresh input mode
+        → IfOk result (λ v. IsReadFrom (cond borrows T.reading_borrowed T.reading) input mode (T.view v)) }
+    ensures owned { borrows ≡ false → IfOk result T.owned }
+    ensures unread { (input : List ℕ) (mode : Mode) → parser.old ≡ fresh input mode
+        → IfErr result (λ e. IsUnreadFrom (cond borrows T.reading_borrowed T.reading) input mode (refusal_of e)) }
+    ensures document { (input : List ℕ) (mode : Mode) → parser.old ≡ fresh input mode
+        → T.whole ≡ true → OnOk result (BeginsWithDocument input mode) }
+    ensures one_value { (input : List ℕ) (mode : Mode) → parser.old ≡ fresh input mode → OnOk result (BeginsWithRun input mode) }
+    ensures within { (input : List ℕ) (mode : Mode) → parser.old ≡ fresh input mode
+        → IfErr result (λ e. RefusalWithin input (refusal_of e)) }
+    ensures tells { (input : List ℕ) (mode : Mode) → parser.old ≡ fresh input mode
+        → IfErr result (λ e. IsToldOf input (lenient mode) (refusal_of e)) }
+{
+    if borrows {
+        T::read(alloc, parser)
+    } else {
+        T::read_owned(alloc, parser)
+    }
 }

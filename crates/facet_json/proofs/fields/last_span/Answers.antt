@@ -1,9 +1,5 @@
-use Rattle.std.proofs.Common.{rules}
 use Rattle.facet_json_meaning.proofs.Refusals.{told-last}
 use Rattle.facet_json.proofs.fields.last_span.Goals as goal
-
-pub returns-clause-within : goal.returns-clause-within
-returns-clause-within c = search rules
 
 pub returns-clause-told : goal.returns-clause-told
 returns-clause-told c = told-last _ _ (rw c.unwrap.ensures at c.current_span.ensures.told)

@@ -1,4 +1,4 @@
-use Rattle.std.proofs.Common.{◌∙◌, rules}
+use Rattle.std.proofs.Common.{◌∙◌}
 use Rattle.std.proofs.lemmas.Option.{MatchOption-at_some, MatchOption-at_none}
 use Rattle.std.proofs.lemmas.Result.{IfOk-weaker, IfErr-weaker, err_from_is_err_and}
 use Rattle.facet_format.specs.Event.{bytes_of}
@@ -96,18 +96,6 @@ pub returns-clause-one_value : goal.returns-clause-one_value
 returns-clause-one_value g c =
     let passed = MatchOption-at_none _ _ c.in_default.is c.in_ok-key.ensures.member _ c.loop-slots.invariant.way.inside in
     IfOk-weaker c.finish.result _ _ (λ f full. passed) c.finish.ensures.full
-
-pub returns-in_err-begin_object-clause-read : goal.returns-in_err-begin_object-clause-read
-returns-in_err-begin_object-clause-read c = search rules
-
-pub returns-in_err-begin_object-clause-keeps : goal.returns-in_err-begin_object-clause-keeps
-returns-in_err-begin_object-clause-keeps c = search rules
-
-pub returns-in_err-begin_object-clause-shorter : goal.returns-in_err-begin_object-clause-shorter
-returns-in_err-begin_object-clause-shorter c = search rules
-
-pub returns-in_err-begin_object-clause-within : goal.returns-in_err-begin_object-clause-within
-returns-in_err-begin_object-clause-within c = search rules
 
 pub returns-in_err-key-clause-tells : goal.returns-in_err-key-clause-tells
 returns-in_err-key-clause-tells g c =

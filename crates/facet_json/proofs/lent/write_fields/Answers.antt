@@ -1,4 +1,3 @@
-use Rattle.std.proofs.Common.{rules}
 use Rattle.facet_json_tree.proofs.CallsLeft.{last-answered, last-refused, last-spent}
 use Rattle.facet_json_facet.proofs.ScalarsOfRust.{on-ok}
 use Rattle.facet_json.proofs.MemberCalls.{end-left}
@@ -19,20 +18,5 @@ returns-clause-spent g c =
     let left = end-left _ _ _ _ c.in_ok-begin_struct.ensures.appends c.in_ok-write_members.ensures.written in
     last-spent _ _ _ _ _ c.end_struct.result left c.end_struct.ensures.appends
 
-pub returns-in_err-begin_struct-clause-written : goal.returns-in_err-begin_struct-clause-written
-returns-in_err-begin_struct-clause-written c = search rules
-
-pub returns-in_err-begin_struct-clause-refused : goal.returns-in_err-begin_struct-clause-refused
-returns-in_err-begin_struct-clause-refused c = search rules
-
-pub returns-in_err-begin_struct-clause-spent : goal.returns-in_err-begin_struct-clause-spent
-returns-in_err-begin_struct-clause-spent c = search rules
-
-pub returns-in_err-begin_struct-clause-of_rust : goal.returns-in_err-begin_struct-clause-of_rust
-returns-in_err-begin_struct-clause-of_rust c = search rules
-
 pub returns-clause-always : goal.returns-clause-always
 returns-clause-always g c = on-ok (g.F.LentFields.always c.args.fields.now) c.end_struct.result c.in_ok-write_members.ensures.always
-
-pub returns-in_err-begin_struct-clause-always : goal.returns-in_err-begin_struct-clause-always
-returns-in_err-begin_struct-clause-always c = search rules

@@ -6,9 +6,3 @@ returns-clause-comes_back g c = c.to_vec_with_options.ensures.comes_back c.new.e
 
 pub returns-clause-text : goal.returns-clause-text
 returns-clause-text c = search rules
-
-pub returns-clause-refused : goal.returns-clause-refused
-returns-clause-refused c = search rules
-
-pub returns-clause-read_back : goal.returns-clause-read_back
-returns-clause-read_back c = search rules

@@ -23,23 +23,8 @@ returns-clause-read_back g c =
     let is : IfOk c.finish.result (λ v. v.items ≡ text o 0 t) = search rules in
     answered-readable (λ v. v.items) _ o _ c.in_ok-write.ensures.of_rust is
 
-pub returns-in_err-write-clause-text : goal.returns-in_err-write-clause-text
-returns-in_err-write-clause-text c = search rules
-
-pub returns-in_err-write-clause-refused : goal.returns-in_err-write-clause-refused
-returns-in_err-write-clause-refused c = search rules
-
-pub returns-in_err-write-clause-read_back : goal.returns-in_err-write-clause-read_back
-returns-in_err-write-clause-read_back c = search rules
-
-pub returns-in_err-write-clause-utf8 : goal.returns-in_err-write-clause-utf8
-returns-in_err-write-clause-utf8 c = search rules
-
 pub returns-clause-text : goal.returns-clause-text
 returns-clause-text c = search rules
-
-pub returns-clause-refused : goal.returns-clause-refused
-returns-clause-refused c = search rules
 
 pub returns-clause-comes_back : goal.returns-clause-comes_back
 returns-clause-comes_back g c default =

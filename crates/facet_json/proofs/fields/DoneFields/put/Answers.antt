@@ -2,17 +2,8 @@ use Rattle.std.proofs.Common.{rules}
 use Rattle.facet_json_facet.proofs.ScalarsOfRust.{on-ok}
 use Rattle.facet_json.proofs.fields.DoneFields.put.Goals as goal
 
-pub returns-clause-read : goal.returns-clause-read
-returns-clause-read c = search rules
-
 pub returns-clause-unread : goal.returns-clause-unread
 returns-clause-unread c = search rules
-
-pub returns-clause-keeps : goal.returns-clause-keeps
-returns-clause-keeps c = search rules
-
-pub returns-clause-within : goal.returns-clause-within
-returns-clause-within c = search rules
 
 pub returns-clause-owned : goal.returns-clause-owned
 returns-clause-owned c kept before = on-ok (Unit {0}) c.pass_value.result tt

@@ -1,12 +1,6 @@
 use Rattle.std.proofs.Common.{rules}
 use Rattle.facet_json.proofs.fields.NeedFields.finish.Goals as goal
 
-pub returns-in-None-clause-full : goal.returns-in-None-clause-full
-returns-in-None-clause-full c = search rules
-
-pub returns-in-None-clause-missing : goal.returns-in-None-clause-missing
-returns-in-None-clause-missing c = search rules
-
 pub returns-in-None-clause-span : goal.returns-in-None-clause-span
 returns-in-None-clause-span c = search rules
 

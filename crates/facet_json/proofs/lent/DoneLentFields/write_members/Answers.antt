@@ -1,4 +1,3 @@
-use Rattle.std.proofs.Common.{rules}
 use Rattle.facet_json_tree.proofs.OfRust.{no_member-of_rust}
 use Rattle.facet_json.proofs.MemberCalls.{none-written}
 use Rattle.facet_json.proofs.lent.DoneLentFields.write_members.Goals as goal
@@ -8,12 +7,6 @@ returns-clause-written c = none-written _
 
 pub returns-clause-of_rust : goal.returns-clause-of_rust
 returns-clause-of_rust c = no_member-of_rust
-
-pub returns-clause-refused : goal.returns-clause-refused
-returns-clause-refused c = search rules
-
-pub returns-clause-spent : goal.returns-clause-spent
-returns-clause-spent c = search rules
 
 pub returns-clause-always : goal.returns-clause-always
 returns-clause-always c = tt

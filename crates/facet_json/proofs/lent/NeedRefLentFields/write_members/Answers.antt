@@ -1,4 +1,3 @@
-use Rattle.std.proofs.Common.{rules}
 use Rattle.std.proofs.lemmas.Result.{on_ok_weaker}
 use Rattle.std.proofs.lemmas.Str.{is_utf8-from_IsUtf8}
 use Rattle.facet_json_tree.proofs.OfRust.{member-of_rust}
@@ -17,20 +16,5 @@ returns-clause-of_rust g c =
     let others = rw c.after_first.ensures at c.write_members.ensures.of_rust in
     on_ok_weaker c.write_members.result (λ more. member-of_rust _ _ _ (is_utf8-from_IsUtf8 _ utf8) c.in_ok-write.ensures.of_rust more) others
 
-pub returns-in_err-field_key-clause-written : goal.returns-in_err-field_key-clause-written
-returns-in_err-field_key-clause-written c = search rules
-
-pub returns-in_err-field_key-clause-refused : goal.returns-in_err-field_key-clause-refused
-returns-in_err-field_key-clause-refused c = search rules
-
-pub returns-in_err-field_key-clause-spent : goal.returns-in_err-field_key-clause-spent
-returns-in_err-field_key-clause-spent c = search rules
-
-pub returns-in_err-field_key-clause-of_rust : goal.returns-in_err-field_key-clause-of_rust
-returns-in_err-field_key-clause-of_rust c = search rules
-
 pub returns-clause-always : goal.returns-clause-always
 returns-clause-always g c = on_ok_weaker c.write_members.result (λ more. (c.in_ok-write.ensures.always, more)) c.write_members.ensures.always
-
-pub returns-in_err-field_key-clause-always : goal.returns-in_err-field_key-clause-always
-returns-in_err-field_key-clause-always c = search rules

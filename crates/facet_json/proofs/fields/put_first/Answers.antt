@@ -1,10 +1,10 @@
 use Rattle.std.specs.Option.{option_map}
-use Rattle.std.proofs.Common.{cond, sym, ◌∙◌, rules}
+use Rattle.std.proofs.Common.{cond, sym, ◌∙◌}
 use Rattle.std.proofs.lemmas.Result.{IfErr-weaker, err_from_is_err_and, on_ok_weaker}
 use Rattle.facet_format.specs.Views.{refusal_of}
 use Rattle.facet_json.specs.Fields.{keys}
 use Rattle.facet_json.proofs.FieldCells.{first-read, first-unread, others-read, others-unread}
-use Rattle.facet_json.proofs.fields.NeedFields.put.Goals as goal
+use Rattle.facet_json.proofs.fields.put_first.Goals as goal
 
 pub returns-in_err-value_in-clause-unread : goal.returns-in_err-value_in-clause-unread
 returns-in_err-value_in-clause-unread g c =
@@ -24,18 +24,6 @@ pub returns-clause-unread : goal.returns-clause-unread
 returns-clause-unread g c =
     let unread = rw c.after_first.ensures at c.put.ensures.unread in
     IfErr-weaker c.put.result _ _ (λ e h. others-unread (cond c.args.borrows g.T.Facet.reading_borrowed g.T.Facet.reading) (g.R.Fields.step c.args.borrows) (keys c.args.names.now) c.args.key.now (option_map g.T.Facet.view c.args.slots.now.0, g.R.Fields.seen c.args.slots.now.1) c.args.parser.now (refusal_of e) (sym c.is_first.ensures ∙ c.if-is_first.false) h) unread
-
-pub returns-in_err-value_in-clause-read : goal.returns-in_err-value_in-clause-read
-returns-in_err-value_in-clause-read c = search rules
-
-pub returns-in_err-value_in-clause-keeps : goal.returns-in_err-value_in-clause-keeps
-returns-in_err-value_in-clause-keeps c = search rules
-
-pub returns-in_err-value_in-clause-within : goal.returns-in_err-value_in-clause-within
-returns-in_err-value_in-clause-within c = search rules
-
-pub returns-then-is_first-clause-unread : goal.returns-then-is_first-clause-unread
-returns-then-is_first-clause-unread c = search rules
 
 pub returns-then-is_first-clause-owned : goal.returns-then-is_first-clause-owned
 returns-then-is_first-clause-owned g c kept before = (c.in_ok-value_in.ensures.owned kept, before.1)
