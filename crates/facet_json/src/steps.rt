@@ -1,4 +1,4 @@
-//! The steps of readers that are written by hand over a `JsonParser`: the items of `facet_json_steps`.
+//! The steps of a reader that is written by hand over a `JsonParser`.
 
 pub use facet_json_core::mismatch;
 pub use facet_json_facet::steps::{

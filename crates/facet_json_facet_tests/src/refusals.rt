@@ -24,28 +24,23 @@ fn stands(parser: &mut JsonParser<'_>, is_first: bool) -> bool {
     is_first || parser.next_event().is_ok()
 }
 
-/// Whether a value there is refused so, and the parser goes on after it.
-fn refuses_owned<'de, T: Facet<'de>>(
+/// Whether a value there is refused so, where it may borrow or may not, and the parser goes on after it.
+fn refuses_there<'de, T: Facet<'de>>(
     alloc: Global,
     parser: &mut JsonParser<'de>,
     error: DeserializeError<'de>,
     is_first: bool,
+    borrows: bool,
 ) -> bool {
-    stands(parser, is_first)
-        && is_told(T::read_owned(alloc, parser), error)
-        && parser.next_event().is_ok()
-}
-
-/// The same where it may borrow.
-fn refuses_borrowed<'de, T: Facet<'de>>(
-    alloc: Global,
-    parser: &mut JsonParser<'de>,
-    error: DeserializeError<'de>,
-    is_first: bool,
-) -> bool {
-    stands(parser, is_first)
-        && is_told(T::read(alloc, parser), error)
-        && parser.next_event().is_ok()
+    if !stands(parser, is_first) {
+        return false;
+    }
+    let answer = if borrows {
+        T::read(alloc, parser)
+    } else {
+        T::read_owned(alloc, parser)
+    };
+    is_told(answer, error) && parser.next_event().is_ok()
 }
 
 /// Whether a value there is refused so, borrowed or not, and the parser goes on after it.
@@ -55,19 +50,20 @@ fn is_refused<'de, T: Facet<'de>>(
     error: DeserializeError<'de>,
     is_first: bool,
 ) -> bool {
-    let owned = refuses_owned::<T>(
+    let bytes = input.as_bytes();
+    refuses_there::<T>(
         alloc,
-        &mut JsonParser::new(alloc, input.as_bytes()),
+        &mut JsonParser::new(alloc, bytes),
         error,
         is_first,
-    );
-    let borrowed = refuses_borrowed::<T>(
+        false,
+    ) && refuses_there::<T>(
         alloc,
-        &mut JsonParser::new(alloc, input.as_bytes()),
+        &mut JsonParser::new(alloc, bytes),
         error,
         is_first,
-    );
-    owned && borrowed
+        true,
+    )
 }
 
 /// Whether the type takes the input, or refuses its event of this name and span: the first event, or the second where it is not at the start.

@@ -34,27 +34,11 @@ fn hexadecimal_texts_are_shortened(rt: HostRuntime) {
 
 #[test]
 fn hexadecimal_digits_are_lower_case(rt: HostRuntime) {
-    let alloc = rt.alloc();
     let hex = SerializeOptions::new().bytes_as_hex();
-    assert!(rt;
-        writes(
-            alloc,
-            hex,
-            &[Call::Bytes(&[0, 127, 255])],
-            &[],
-            "\"0x007fff\""
-        )
-    );
-    let letters = SerializeOptions::new().bytes_as_hex();
-    assert!(rt;
-        writes(
-            alloc,
-            letters,
-            &[Call::Bytes(&[0xaa, 0xbb, 0xcc, 0xdd])],
-            &[],
-            "\"0xaabbccdd\""
-        )
-    );
+    let ends = [Call::Bytes(&[0, 127, 255])];
+    assert!(rt; writes(rt.alloc(), hex, &ends, &[], "\"0x007fff\""));
+    let letters = [Call::Bytes(&[0xaa, 0xbb, 0xcc, 0xdd])];
+    assert!(rt; writes(rt.alloc(), hex, &letters, &[], "\"0xaabbccdd\""));
 }
 
 #[test]
@@ -69,22 +53,8 @@ fn lists_of_numbers_are_always_compact(rt: HostRuntime) {
         Call::EndSeq,
     ];
     let text = "[\n  [],\n  {},\n  [0,127]\n]";
-    assert!(rt;
-        writes(
-            rt.alloc(),
-            SerializeOptions::new().pretty(),
-            &calls,
-            &[],
-            text
-        )
-    );
-    assert!(rt;
-        writes(
-            rt.alloc(),
-            SerializeOptions::new().bytes_as_array(),
-            &[Call::Bytes(&[])],
-            &[],
-            "[]"
-        )
-    );
+    let pretty = SerializeOptions::new().pretty();
+    assert!(rt; writes(rt.alloc(), pretty, &calls, &[], text));
+    let compact = SerializeOptions::new().bytes_as_array();
+    assert!(rt; writes(rt.alloc(), compact, &[Call::Bytes(&[])], &[], "[]"));
 }

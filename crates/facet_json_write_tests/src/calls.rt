@@ -85,35 +85,20 @@ fn items_and_members_are_separated(rt: HostRuntime) {
         Call::EndSeq,
         Call::EndStruct,
     ];
-    assert!(rt;
-        writes(
-            rt.alloc(),
-            SerializeOptions::new(),
-            &calls,
-            &[],
-            "{\"a\":[],\"b\":[1]}"
-        )
-    );
-    let text = "{\n  \"a\": [],\n  \"b\": [\n    1\n  ]\n}";
-    assert!(rt;
-        writes(
-            rt.alloc(),
+    let layouts = [
+        (SerializeOptions::new(), "{\"a\":[],\"b\":[1]}"),
+        (
             SerializeOptions::new().pretty(),
-            &calls,
-            &[],
-            text
-        )
-    );
-    let tabs = "{\n\t\"a\": [],\n\t\"b\": [\n\t\t1\n\t]\n}";
-    assert!(rt;
-        writes(
-            rt.alloc(),
+            "{\n  \"a\": [],\n  \"b\": [\n    1\n  ]\n}",
+        ),
+        (
             SerializeOptions::new().indent("\t"),
-            &calls,
-            &[],
-            tabs
-        )
-    );
+            "{\n\t\"a\": [],\n\t\"b\": [\n\t\t1\n\t]\n}",
+        ),
+    ];
+    for (options, text) in &layouts {
+        assert!(rt; writes(rt.alloc(), *options, &calls, &[], text));
+    }
 }
 
 #[test]
@@ -139,15 +124,8 @@ fn a_list_of_structs_is_indented(rt: HostRuntime) {
     ];
     let text =
         "{\n  \"List\": [\n    {\n      \"Number\": 10\n    },\n    {\n      \"Number\": 20\n    },\n    {\n      \"Number\": 30\n    }\n  ]\n}";
-    assert!(rt;
-        writes(
-            rt.alloc(),
-            SerializeOptions::new().pretty(),
-            &calls,
-            &[],
-            text
-        )
-    );
+    let pretty = SerializeOptions::new().pretty();
+    assert!(rt; writes(rt.alloc(), pretty, &calls, &[], text));
 }
 
 /// Whether the value is written as this text, without options.
