@@ -1,3 +1,4 @@
 pub mod ListCalls
 pub mod MapCalls
 pub mod ScalarsOfRust
+pub mod TakenNext

@@ -1,2 +1,3 @@
 -- Lemmas that the laws of private traits want here.
 pub mod NumberLaws
+pub mod Taking

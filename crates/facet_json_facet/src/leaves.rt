@@ -1,11 +1,18 @@
 //! Types that have their value from a scalar alone: how each of them is read and written.
 
-ghost use Rattle.std.specs.Prelude.{◌≡◌, ◌⊎◌, None, Some, IfOk, IfErr, IfSome};
+ghost use Rattle.std.specs.Prelude.{◌≡◌, ◌⊎◌, ◌<◌, None, Some, IfOk, IfErr, IfSome, OnOk, MatchOption};
 ghost use Rattle.facet_format.specs.Complaint.{no_memory};
 ghost use Rattle.facet_format.specs.Views.{event_of, refusal_of, scalar_value_of};
 ghost use Rattle.facet_json_serializer.specs.Serializer.{scalar_tree};
 ghost use Rattle.facet_json_tree.specs.Write.{IsOfRust};
-ghost use Rattle.facet_json_meaning.specs.Readings.{taken};
+ghost use Rattle.facet_json_meaning.specs.Readings.{taken, leaf};
+ghost use Rattle.facet_json_facet.specs.Inner.Taking.{TakesNext, IsTakenOf};
+ghost use Rattle.facet_json_document.specs.Now.{ahead};
+ghost use Rattle.facet_json_document.specs.UnreadLaws.{RefusalWithin};
+ghost use Rattle.facet_json_core.specs.Refusing.{TellsRefusal};
+ghost use Rattle.facet_json_meaning.specs.Nodes.{KeepsOn};
+ghost use Rattle.facet_json_meaning.specs.OneValue.{PassesValue};
+ghost use Rattle.facet_json_meaning.specs.Reading.{IsRead, IsUnread, HasDocument, EndsStrictly};
 
 use crate::facet::Facet;
 use crate::steps::next::next_of_value;
@@ -53,6 +60,18 @@ pub(crate) trait Leaf: Sized + Drop {
         ensures span { IfErr result (λ e. IfSome e.span (λ s. s ≡ event.entry.span)) }
         ensures told { IfErr result (λ e. refuses (event_of event.entry) (refusal_of e)) };
 
+    /// The value that comes next, where a few bytes decide what comes, or its refusal. Else nothing changes.
+    ///
+    /// # Errors
+    ///
+    /// As `take`.
+    fn take_quickly<'t>(
+        alloc: Global,
+        parser: &mut JsonParser<'_>,
+    ) -> Option<Result<Self, DeserializeError<'t>>>
+        ensures { MatchOption result (parser.new ≡ parser.old)
+            (λ answer. (given : Event) × TakesNext parser.old given parser.new × IsTakenOf view takes refuses given answer) };
+
     /// The scalar as which a value is written.
     fn to_scalar(&self) -> ScalarValue<'_>
         ensures tree { tree_of (view self.now) ≡ scalar_tree (scalar_value_of result) }
@@ -98,7 +117,10 @@ impl<'de, T: Leaf> Facet<'de> for T {
         alloc: Global,
         parser: &mut JsonParser<'de>,
     ) -> Result<T, DeserializeError<'t>> {
-        T::take(alloc, next_of_value(parser)?)
+        match T::take_quickly(alloc, parser) {
+            Some(answer) => answer,
+            None => take_slowly(alloc, parser),
+        }
     }
 
     fn read<'t>(alloc: Global, parser: &mut JsonParser<'de>) -> Result<T, DeserializeError<'t>> {
@@ -114,4 +136,28 @@ impl<'de, T: Leaf> Facet<'de> for T {
     ghost same_reading_borrowed = { leaf-same T.takes };
 
     ghost reads_back = { T.reads_back };
+}
+
+/// Reads the next event, and takes the value that it is.
+///
+/// # Errors
+///
+/// No event comes, or it is no value of the type.
+#[inline(never)]
+fn take_slowly<'t, T: Leaf>(
+    alloc: Global,
+    parser: &mut JsonParser<'_>,
+) -> Result<T, DeserializeError<'t>>
+    ensures read { IfOk result (λ v. IsRead (leaf T.takes) parser.old (T.view v) parser.new) }
+    ensures unread { IfErr result (λ e. IsUnread (leaf T.takes) parser.old (refusal_of e)) }
+    ensures document { OnOk result (HasDocument parser.old) }
+    ensures strict { OnOk result (EndsStrictly parser.old parser.new) }
+    ensures keeps { KeepsOn parser.old parser.new }
+    ensures shorter { OnOk result (ahead parser.new < ahead parser.old) }
+    ensures one_value { OnOk result (PassesValue parser.old parser.new) }
+    ensures within { IfErr result (λ e. RefusalWithin parser.new.buffer (refusal_of e)) }
+    ensures free { OnOk result (parser.new.cursor.refusal ≡ None) }
+    ensures tells { IfErr result (λ e. TellsRefusal parser.old parser.new (refusal_of e)) }
+{
+    T::take(alloc, next_of_value(parser)?)
 }

@@ -12,8 +12,7 @@ ghost use Rattle.facet_json_meaning.specs.OneValue.{PassesValue};
 ghost use Rattle.facet_json_meaning.specs.Reading.{IsRead, IsUnread};
 
 use crate::facet::{Facet, value_in};
-use crate::steps::lists::{begin_list, end_comes};
-use crate::steps::next::next_of_value;
+use crate::steps::lists::{begin_list, take_end};
 use facet_format::{DeserializeError, FormatSerializer};
 use facet_json_parser::JsonParser;
 use facet_json_serializer::{JsonSerializeError, JsonSerializer};
@@ -106,9 +105,8 @@ fn list_in<'t, 'de, T: Facet<'de>>(
 {
     begin_list(parser)?;
     let mut items = Vec::new(alloc);
-    while !end_comes(parser)? {
+    while !take_end(parser)? {
         items.push(value_in(alloc, parser, borrows)?)?;
     }
-    let _end = next_of_value(parser)?;
     Ok(items)
 }

@@ -12,7 +12,7 @@ ghost use Rattle.facet_json_meaning.specs.Optional.{optional};
 ghost use Rattle.facet_json_meaning.specs.Reading.{IsRead, IsUnread};
 
 use crate::facet::{Facet, value_in};
-use crate::steps::next::{null_comes, pass_null};
+use crate::steps::next::take_null;
 use facet_format::{DeserializeError, FormatSerializer, ScalarValue};
 use facet_json_parser::JsonParser;
 use facet_json_serializer::{JsonSerializeError, JsonSerializer};
@@ -96,8 +96,7 @@ fn optional_in<'t, 'de, T: Facet<'de>>(
     ensures free { OnOk result (parser.new.cursor.refusal ≡ None) }
     ensures tells { IfErr result (λ e. TellsRefusal parser.old parser.new (refusal_of e)) }
 {
-    if null_comes(parser)? {
-        pass_null(parser)?;
+    if take_null(parser)? {
         return Ok(None);
     }
     Ok(Some(value_in(alloc, parser, borrows)?))

@@ -1,13 +1,13 @@
 //! Texts: `String`, which owns its text, and `&str`, whose text stands in the input.
 
-ghost use Rattle.std.specs.Prelude.{◌≡◌, IfOk, IfErr, None, Some};
-ghost use Rattle.facet_format.specs.Complaint.{refusal_at};
+ghost use Rattle.std.specs.Prelude.{◌≡◌, IfOk, IfErr, None, Some, string_bytes};
+ghost use Rattle.facet_format.specs.Complaint.{no_memory, refusal_at};
 ghost use Rattle.facet_format.specs.Views.{event_of, refusal_of, span_of};
 ghost use Rattle.facet_json_meaning.specs.Borrowed.{lent, made_text, IsNotLent};
 
 use crate::facet::Facet;
 use crate::leaves::Leaf;
-use crate::steps::next::next_of_value;
+use crate::steps::next::{next_of_value, take_next};
 use facet_format::{
     DeserializeError, DeserializeErrorKind, FormatSerializer, ParseEvent, ParseEventKind,
     ScalarValue, Span,
@@ -45,6 +45,15 @@ impl Leaf for String {
             ParseEventKind::Scalar(ScalarValue::Str(text)) => Ok(text.into_owned(alloc)?),
             _ => Err(mismatch("string", event)),
         }
+    }
+
+    #[inline(always)]
+    fn take_quickly<'t>(
+        alloc: Global,
+        parser: &mut JsonParser<'_>,
+    ) -> Option<Result<String, DeserializeError<'t>>> {
+        let (text, _): (&str, Span) = take_next(parser)?;
+        Some(owned_text(alloc, text))
     }
 
     fn to_scalar(&self) -> ScalarValue<'_> {
@@ -97,6 +106,9 @@ impl<'de> Facet<'de> for &'de str {
         _alloc: Global,
         parser: &mut JsonParser<'de>,
     ) -> Result<&'de str, DeserializeError<'t>> {
+        if let Some((text, _)) = take_next(parser) {
+            return Ok(text);
+        }
         lent_in(next_of_value(parser)?)
     }
 
@@ -110,6 +122,18 @@ impl<'de> Facet<'de> for &'de str {
     ghost same_reading_borrowed = { borrowed-same };
 
     ghost reads_back = { unread-reads_back };
+}
+
+/// The text with memory of its own.
+///
+/// # Errors
+///
+/// Out of memory.
+fn owned_text<'t>(alloc: Global, text: &str) -> Result<String, DeserializeError<'t>>
+    ensures text { IfOk result (λ s. string_bytes s ≡ text.now) }
+    ensures memory { IfErr result (λ e. (refusal_of e ≡ no_memory) × (e.span ≡ None)) }
+{
+    Ok(String::from_str(alloc, text)?)
 }
 
 /// The text of the input that an event is.

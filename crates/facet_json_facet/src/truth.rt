@@ -1,8 +1,10 @@
 //! Truth values: `true` and `false`.
 
 use crate::leaves::Leaf;
+use crate::steps::next::take_next;
 use facet_format::{DeserializeError, ParseEvent, ParseEventKind, ScalarValue};
 use facet_json_core::mismatch;
+use facet_json_parser::JsonParser;
 use std::alloc::Global;
 
 impl Leaf for bool {
@@ -31,6 +33,15 @@ impl Leaf for bool {
             ParseEventKind::Scalar(ScalarValue::Bool(b)) => Ok(b),
             _ => Err(mismatch("bool", event)),
         }
+    }
+
+    #[inline(always)]
+    fn take_quickly<'t>(
+        _alloc: Global,
+        parser: &mut JsonParser<'_>,
+    ) -> Option<Result<bool, DeserializeError<'t>>> {
+        let (value, _) = take_next(parser)?;
+        Some(Ok(value))
     }
 
     fn to_scalar(&self) -> ScalarValue<'_> {

@@ -8,10 +8,13 @@ ghost use Rattle.facet_json_serializer.specs.Serializer.{scalar_tree};
 ghost use Rattle.facet_json_meaning.specs.Readings.{taken, whole_of};
 
 use crate::leaves::Leaf;
+use crate::steps::next::take_next;
 use facet_format::{
     DeserializeError, DeserializeErrorKind, ParseEvent, ParseEventKind, ScalarValue, Span,
 };
 use facet_json_core::mismatch;
+use facet_json_parser::JsonParser;
+use facet_json_reader::Whole;
 use std::alloc::Global;
 use std::num::TryFromIntError;
 
@@ -90,10 +93,20 @@ impl<T: Number> Leaf for T {
     fn take<'t>(_alloc: Global, event: ParseEvent<'_>) -> Result<T, DeserializeError<'t>> {
         let span = event.span;
         let number = whole_in(T::name(), event)?;
-        match T::try_from(number) {
-            Ok(n) => Ok(n),
-            Err(_) => Err(out_of_range(T::name(), span)),
-        }
+        held(number, span)
+    }
+
+    #[inline(always)]
+    fn take_quickly<'t>(
+        _alloc: Global,
+        parser: &mut JsonParser<'_>,
+    ) -> Option<Result<T, DeserializeError<'t>>> {
+        let (whole, span) = take_next(parser)?;
+        let number = match whole {
+            Whole::Unsigned(n) => i128::from(n),
+            Whole::Signed(n) => i128::from(n),
+        };
+        Some(held(number, span))
     }
 
     fn to_scalar(&self) -> ScalarValue<'_> {
@@ -103,6 +116,24 @@ impl<T: Number> Leaf for T {
     ghost refuses_about = { λ given r told. inr (either-about given told refl) };
 
     ghost reads_back = { T.reads_back };
+}
+
+/// The number as a value of the type.
+///
+/// # Errors
+///
+/// The type does not hold it: `NumberOutOfRange`, with this span.
+#[inline(always)]
+fn held<'t, T: Number>(number: i128, span: Span) -> Result<T, DeserializeError<'t>>
+    ensures is { IfOk result (λ n. T.holds number ≡ Some n) }
+    ensures none { IfErr result (λ e. T.holds number ≡ None) }
+    ensures span { IfErr result (λ e. e.span ≡ Some span) }
+    ensures told { IfErr result (λ e. refusal_of e ≡ refusal_at (number_out_of_range T.called) (span_of span)) }
+{
+    match T::try_from(number) {
+        Ok(n) => Ok(n),
+        Err(_) => Err(out_of_range(T::name(), span)),
+    }
 }
 
 /// The whole number that an event is, for a type whose name is `expected`.

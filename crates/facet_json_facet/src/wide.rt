@@ -7,6 +7,7 @@ use crate::leaves::Leaf;
 use crate::whole::out_of_range;
 use facet_format::{DeserializeError, ParseEvent, ParseEventKind, ScalarValue};
 use facet_json_core::mismatch;
+use facet_json_parser::JsonParser;
 use std::alloc::Global;
 
 impl Leaf for u128 {
@@ -45,6 +46,13 @@ impl Leaf for u128 {
             Some(n) => Ok(n),
             None => Err(mismatch("u128", event)),
         }
+    }
+
+    fn take_quickly<'t>(
+        _alloc: Global,
+        _parser: &mut JsonParser<'_>,
+    ) -> Option<Result<u128, DeserializeError<'t>>> {
+        None
     }
 
     fn to_scalar(&self) -> ScalarValue<'_> {
@@ -89,6 +97,13 @@ impl Leaf for i128 {
             Some(n) => Ok(n),
             None => Err(mismatch("i128", event)),
         }
+    }
+
+    fn take_quickly<'t>(
+        _alloc: Global,
+        _parser: &mut JsonParser<'_>,
+    ) -> Option<Result<i128, DeserializeError<'t>>> {
+        None
     }
 
     fn to_scalar(&self) -> ScalarValue<'_> {

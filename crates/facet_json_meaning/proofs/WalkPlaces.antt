@@ -1,7 +1,8 @@
 -- What comes at a place of a walk, after it, and after a node.
 use Rattle.std.specs.Prelude.{ℕ, List, drop, slice_get, length}
 use Rattle.std.proofs.Common.{◌≡◌, ◌+◌, ℕ, zero, suc, List, [], ◌∷◌, ◌++◌, Some, sym, ap, ◌∙◌}
-use Rattle.std.proofs.lemmas.List.{drop-drop}
+use Rattle.std.proofs.lemmas.List.{drop-drop, drop_more}
+use Rattle.std.proofs.lemmas.Option.{slice_get_within, get_or_from_slice_get}
 use Rattle.std.proofs.Math.Seq.{drop-append_seam}
 use Rattle.facet_format.specs.Event.{Passed}
 use Rattle.facet_format.specs.Part.{Source}
@@ -15,6 +16,12 @@ drop-get [] zero p others e = cc
 drop-get [] (suc place) p others e = cc
 drop-get (q ∷ events) zero p others e = cc
 drop-get (q ∷ events) (suc place) p others e = drop-get events place p others e
+
+-- So it is the other way round.
+pub get-drop : (events : List Passed) (place : ℕ) (p : Passed) → slice_get events place ≡ Some p → drop place events ≡ p ∷ drop (place + 1) events
+get-drop events place p e =
+    drop_more events place p (slice_get_within events place p e)
+    ∙ ap (λ x. x ∷ drop (place + 1) events) (get_or_from_slice_get events place p p e)
 
 -- What comes from the next place on.
 pub drop-suc : (events : List Passed) (place : ℕ) (p : Passed) (others : List Passed) → drop place events ≡ p ∷ others →

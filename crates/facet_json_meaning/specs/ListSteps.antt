@@ -1,11 +1,9 @@
 -- What comes within a list.
-use Rattle.std.specs.Prelude.{◌≡◌, ℕ, Bool, true, false, List, slice_get, Option, Some, None}
+use Rattle.std.specs.Prelude.{◌≡◌, ℕ, Bool, true, false, List, Option, Some, None}
 use Rattle.facet_format.specs.Complaint.{Refusal}
-use Rattle.facet_format.specs.Cursor.{Cursor, at_spot, peeked_at}
-use Rattle.facet_format.specs.Part.{Source}
-use Rattle.facet_format.specs.Event.{Event, EventKind, sequence_start, sequence_end, Passed}
+use Rattle.facet_format.specs.Event.{Event, EventKind, sequence_start, sequence_end}
 use Rattle.facet_json_document.specs.Node.{Node, scalar, array, object, Nodes}
-use Rattle.facet_json_document.specs.Now.{Now, StandsAt}
+use Rattle.facet_json_document.specs.Now.{Now}
 use Rattle.facet_json_meaning.specs.Passing.{WalksPast}
 use Rattle.facet_json_meaning.specs.Reading.{IsUnread}
 
@@ -34,13 +32,3 @@ pub record BeginsList (old new : Now) : Type 0 where
 -- Before whatever node the parser stood, memory ran out, or the node is no array.
 abbrev pub IsNoList : Now → Refusal → Type 0
 IsNoList old refusal = IsUnread nodes_of old refusal
-
--- The answer is whether an array ends with this event, and the event stays the next one.
-pub record ShowsEnd (w : Source) (c : Cursor ℕ) (p : Passed) (found : Bool) (new : Now) : Type 0 where
-  pub shown : ends_list p.event.kind ≡ found
-  pub stands : StandsAt new w (at_spot c (peeked_at c.spot))
-
--- Wherever the parser stands before an event of a walk and is not refused, the answer is whether an array ends there.
-abbrev pub FindsEnd : Now → Bool → Now → Type 0
-FindsEnd old found new = (w : Source) (c : Cursor ℕ) (p : Passed) → StandsAt old w c → c.refusal ≡ None →
-    slice_get w.events c.spot.place ≡ Some p → ShowsEnd w c p found new

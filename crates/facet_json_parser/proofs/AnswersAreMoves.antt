@@ -82,16 +82,17 @@ next-answers made now o t e none one =
     step-moves made now _ next _ e (passes-step (on_input made.buffer made.language) made.cursor o t (none-made made now e none) one)
 
 -- An event that is passed at once is answered; else nothing changes.
-pub quick-answers : (input : List ℕ) (language read : Language) (s u : RustLookahead) (refusal : Option Refused) (points : List Point) (counter : ℕ)
-    (now : Now) (o : Option ParseEvent) → now_of input language s refusal points counter ≡ now → is_some refusal ≡ false → language ≡ read →
-    MatchOption o (u ≡ s) (λ e. PassesOne (on_input input (language_of read)) (spot_of (lookahead_of s)) (Ok (Some (event_of e))) (spot_of (lookahead_of u))) →
+pub quick-answers : {A : Type 0} (given : A → Event) (input : List ℕ) (language read : Language) (s u : RustLookahead) (refusal : Option Refused)
+    (points : List Point) (counter : ℕ) (now : Now) (o : Option A) → now_of input language s refusal points counter ≡ now → is_some refusal ≡ false →
+    language ≡ read →
+    MatchOption o (u ≡ s) (λ a. PassesOne (on_input input (language_of read)) (spot_of (lookahead_of s)) (Ok (Some (given a))) (spot_of (lookahead_of u))) →
     MatchOption o (now_of input language u refusal points counter ≡ now)
-    (λ e. Moves now next (event (Ok (Some (event_of e)))) (now_of input language u refusal points counter))
-quick-answers input language read s u refusal points counter now None view none is same =
+    (λ a. Moves now next (event (Ok (Some (given a)))) (now_of input language u refusal points counter))
+quick-answers given input language read s u refusal points counter now None view none is same =
     ap (λ (x : RustLookahead). now_of input language x refusal points counter) same ∙ view
-quick-answers input language read s u refusal points counter now (Some e) view none is one =
+quick-answers given input language read s u refusal points counter now (Some a) view none is one =
     let made = now_of input language s refusal points counter in
-    next-answers made now (Some (event_of e)) (spot_of (lookahead_of u)) view (none-made now made (sym view) (no_refusal refusal none))
+    next-answers made now (Some (given a)) (spot_of (lookahead_of u)) view (none-made now made (sym view) (no_refusal refusal none))
     (rw is one)
 
 pub next-refused : (made now new : Now) (r q : Refusal) (t : Spot Reader) → made ≡ now → now.cursor.refusal ≡ None →

@@ -119,16 +119,16 @@ module _ (buffer : List ℕ) (language : Language) where
 
   -- ---- an event that is passed at once, where none is held
 
-  pub passed-sound : (r t : RustReader) (held : Option Passed) (shown : Bool) (o : Option ParseEvent) → held ≡ None →
+  pub passed-sound : {A : Type 0} (given : A → Event) (r t : RustReader) (held : Option Passed) (shown : Bool) (o : Option A) → held ≡ None →
       IsSound buffer language (record { reader = reader_of r; held = held; shown = shown }) →
-      MatchOption o (t ≡ r) (λ e. PassesQuickly buffer language r (event_of e) t) →
+      MatchOption o (t ≡ r) (λ a. PassesQuickly buffer language r (given a) t) →
       IsSound buffer language (record { reader = reader_of t; held = held; shown = shown })
-  passed-sound r t held shown None none good same = rw same good
-  passed-sound r t None shown (Some e) none good is =
+  passed-sound given r t held shown None none good same = rw same good
+  passed-sound given r t None shown (Some a) none good is =
       let within = comes-within buffer language (reader_of r) is.p is.rest good.within is.comes in
       let new = is.new in
       rw new (record { within = within.2; filled = tt })
-  passed-sound r t (Some q) shown (Some e) none good is = cc
+  passed-sound given r t (Some q) shown (Some a) none good is = cc
 
   past-passes : (reader s : Reader) (held : Option Passed) (shown : Bool) (p : Passed) (rest : Future) → held ≡ None →
       future_at buffer language reader ≡ gives p rest → s ≡ past p reader →
@@ -137,12 +137,12 @@ module _ (buffer : List ℕ) (language : Language) where
   past-passes reader s None shown p rest none comes new = rw new (passes p (comes-first reader p rest comes))
   past-passes reader s (Some q) shown p rest none comes new = cc
 
-  pub passed-passes : (s : RustLookahead) (t : RustReader) (o : Option ParseEvent) → option_map passed_of s.held ≡ None →
-      MatchOption o (t ≡ s.reader) (λ e. PassesQuickly buffer language s.reader (event_of e) t) →
+  pub passed-passes : {A : Type 0} (given : A → Event) (s : RustLookahead) (t : RustReader) (o : Option A) → option_map passed_of s.held ≡ None →
+      MatchOption o (t ≡ s.reader) (λ a. PassesQuickly buffer language s.reader (given a) t) →
       MatchOption o (record s { reader = t } ≡ s)
-      (λ e. PassesOne w (spot_of (lookahead_of s)) (Ok (Some (event_of e))) (spot_of (lookahead_of (record s { reader = t }))))
-  passed-passes s t None none same = ap (λ (x : RustReader). record s { reader = x }) same
-  passed-passes s t (Some e) none is =
+      (λ a. PassesOne w (spot_of (lookahead_of s)) (Ok (Some (given a))) (spot_of (lookahead_of (record s { reader = t }))))
+  passed-passes given s t None none same = ap (λ (x : RustReader). record s { reader = x }) same
+  passed-passes given s t (Some a) none is =
       let event = is.event in
       rw event (past-passes (reader_of s.reader) (reader_of t) (option_map passed_of s.held) s.shown is.p is.rest none is.comes is.new)
 

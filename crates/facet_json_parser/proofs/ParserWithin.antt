@@ -1,6 +1,6 @@
 -- Of every parser: what it keeps lies within the input, and so does what its calls answer; and what its calls leave.
 use Rattle.std.proofs.Common.{◌≡◌, ◌+◌, ◌<◌, ◌≤◌, ℕ, zero, suc, List, [], ◌∷◌, map, Option, Some, None, true, refl, sym, ap, subst, ◌∙◌, arith}
-use Rattle.std.specs.Prelude.{Result, Ok, Err, IfOk, OnSome}
+use Rattle.std.specs.Prelude.{Result, Ok, Err, IfOk, OnSome, MatchOption}
 use Rattle.std.specs.List.{All}
 use Rattle.std.specs.Option.{option_map}
 use Rattle.std.proofs.lemmas.List.Elements.{All-cons, All-nil}
@@ -21,6 +21,8 @@ use Rattle.facet_json_document.proofs.StepLaws.{leaves_points}
 use Rattle.facet_json_document.specs.Within.{ReaderWithin, NowWithin, AnswerWithin, no_events}
 use Rattle.facet_json_document.specs.UnreadLaws.{RefusalWithin}
 use Rattle.facet_json_document.proofs.MoveIsStep.{move-steps}
+use Rattle.facet_json_document.proofs.MovesNext.{next-passes}
+use Rattle.facet_json_parser.specs.Wanted.{PassesWanted}
 use Rattle.facet_json_document.proofs.MoveLaws.{with_cursor, same_cursor-is}
 use Rattle.facet_json_document.proofs.Spans.AnswersWithin.{moves-within, current-within}
 use Rattle.facet_json_document.proofs.Spans.BytesAhead.{moves-onward, moves-goes_on, next-lowers, events-lower}
@@ -100,6 +102,21 @@ pub result-lowers : (old new : Now) (r : Result (Option ParseEvent) ParseError) 
     IfOk r (λ o. OnSome o (ahead new < ahead old))
 result-lowers old new (Ok o) good move = event-lowers old new o good move
 result-lowers old new (Err e) good move = tt
+
+-- What is wanted is passed as an event is.
+pub wanted-passes : {A : Type 0} (given : A → Event) (old new : Now) (o : Option A) → NowWithin old →
+    MatchOption o (new ≡ old) (λ a. Moves old next (event (Ok (Some (given a)))) new) → MatchOption o (new ≡ old) (λ a. PassesWanted old (given a) new)
+wanted-passes given old new None known same = same
+wanted-passes given old new (Some a) known move =
+    let is = moved old new known refl move in
+    record {
+      moves = move;
+      steps = is.steps;
+      next = next-passes old new (given a) move;
+      onward = is.onward;
+      shorter = next-lowers old known new (given a) move;
+      within = is.within;
+    }
 
 -- The current span lies within the input.
 pub told-within : (made now : Now) (s : Span) → made ≡ now → NowWithin now → s ≡ current_span_of made → AnswerWithin now.buffer (spans (Some s))

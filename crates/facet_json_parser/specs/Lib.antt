@@ -5,3 +5,4 @@ pub mod Ready
 pub mod RunViews
 pub mod Steps
 pub mod Views
+pub mod Wanted

@@ -10,5 +10,5 @@ mod points;
 mod quiet;
 mod run;
 
-pub use parser::JsonParser;
+pub use parser::{JsonParser, comes_other, next_wanted};
 pub use run::{pass_container, pass_run};

@@ -1,6 +1,6 @@
 //! Where a parser stands: after the last token that was passed, with an event that is read but not passed.
 
-ghost use Rattle.std.specs.Prelude.{◌≡◌, ◌≤◌, ℕ, List, None, length, IfOk, IfErr, OnOk, MatchOption, MatchResult, Ok, Err, Some, OnSome, IsUtf8, ◌<◌};
+ghost use Rattle.std.specs.Prelude.{◌≡◌, ◌≤◌, ℕ, true, List, None, length, IfOk, IfErr, OnOk, MatchOption, MatchResult, Ok, Err, Some, OnSome, IsUtf8, ◌<◌};
 ghost use Rattle.std.specs.Option.{option_map};
 ghost use Rattle.std.specs.VecDeque.{deque_len, deque_capacity};
 ghost use Rattle.facet_json_parser.specs.Ready.{IsSound};
@@ -17,11 +17,13 @@ ghost use Rattle.facet_json_reader.specs.Views.{passed_of, IsRefusedBefore};
 ghost use Rattle.facet_json_parser.specs.PartViews.{after_part};
 ghost use Rattle.facet_json_parser.specs.Lookahead.{lookahead_at, lookahead_with, first_lookahead, reader_before, spot_of, HoldsWhatComes, TakesHeld, Lends, Withholds};
 ghost use Rattle.facet_json_parser.specs.Views.{lookahead_of};
+ghost use Rattle.facet_json_parser.specs.Wanted.{NeverGives};
+ghost use Rattle.facet_json_reader.specs.Soughts.{event_of_sought};
 
 use crate::part::{Part, find};
 use crate::passing::{capture, leave, pass};
 use facet_format::{ParseEvent, ParseEventKind, Span};
-use facet_json_reader::{Held, Language, Reader, Refused};
+use facet_json_reader::{Held, Language, Reader, Refused, Sought, Wanted};
 use facet_json_token::Trust;
 use std::alloc::{AllocError, Global};
 use std::collections::VecDeque;
@@ -105,6 +107,36 @@ impl<'de> Lookahead<'de> {
             return None;
         }
         self.reader.pass_quickly(input, language, trust)
+    }
+
+    /// Passes what is wanted and answers it with its span, where no event is held and a few bytes decide that it comes. Else nothing changes.
+    #[inline(always)]
+    pub fn next_wanted<W: Wanted<'de>>(
+        &mut self,
+        input: &'de [u8],
+        language: Language,
+        trust: Trust,
+    ) -> Option<(W, Span)>
+        requires utf8 { trust ≡ Trust.Utf8 → IsUtf8 input.now }
+        requires sound { IsSound input.now (language_of language) (lookahead_of self.old) }
+        ensures sound { IsSound input.now (language_of language) (lookahead_of self.new) }
+        ensures passed { MatchOption result (self.new ≡ self.old)
+            (λ r. PassesOne (on_input input.now (language_of language)) (spot_of (lookahead_of self.old))
+            (Ok (Some (record { kind = W.kind r.0; span = span_of r.1 }))) (spot_of (lookahead_of self.new))) }
+    {
+        if self.held.is_some() {
+            return None;
+        }
+        W::pass(&mut self.reader, input, language, trust)
+    }
+
+    /// Whether something else comes next, where no event is held and its first byte tells. Where it does not tell, the answer is no.
+    #[inline(always)]
+    pub fn comes_other(&self, input: &[u8], language: Language, sought: Sought) -> bool
+        requires sound { IsSound input.now (language_of language) (lookahead_of self.now) }
+        ensures { result ≡ true → NeverGives (event_of_sought sought) (future_at input.now (language_of language) (reader_before (lookahead_of self.now))) }
+    {
+        self.held.is_none() && self.reader.comes_other(input, language, sought)
     }
 
     /// Answers a copy of the next event, which stays the next one, or `None` after the document's last one.

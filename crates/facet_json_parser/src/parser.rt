@@ -1,13 +1,13 @@
 //! Reads a document event by event, with a look ahead and points to go back to.
 
-ghost use Rattle.std.specs.Prelude.{◌≡◌, ◌≤◌, ◌+◌, suc, List, Some, None, Ok, Err, ◌<◌, length, ◌++◌, OnSome, IfOk, IfErr, IfSome, IfNone, IsSome, IsUtf8, map, codes, MatchOption, MatchResult};
+ghost use Rattle.std.specs.Prelude.{◌≡◌, ◌≤◌, ◌+◌, suc, true, List, Some, None, Ok, Err, ◌<◌, length, ◌++◌, OnSome, IfOk, IfErr, IfSome, IfNone, IsSome, IsUtf8, map, codes, MatchOption, MatchResult};
 ghost use Rattle.std.specs.Option.{option_map};
 ghost use Rattle.std.specs.VecDeque.{deque_len, deque_capacity};
 ghost use Rattle.facet_format.specs.declared.event.ParseEvent.{ParseEvent as RustEvent};
-ghost use Rattle.facet_format.specs.Cursor.{next, peek, events, skip, capture, save, restore, restored, span, spans, refused_at};
+ghost use Rattle.facet_format.specs.Cursor.{event, next, peek, events, skip, capture, save, restore, restored, span, spans, refused_at};
 ghost use Rattle.facet_format.specs.Kept.{found, without};
 ghost use Rattle.facet_format.specs.Steps.{IsStep};
-ghost use Rattle.facet_format.specs.Views.{event_of, parse_refusal, answer_of_event, answer_of_events, answer_of_skip, answer_of_capture, answer_of_save, answer_of_span};
+ghost use Rattle.facet_format.specs.Views.{event_of, span_of, parse_refusal, answer_of_event, answer_of_events, answer_of_skip, answer_of_capture, answer_of_save, answer_of_span};
 ghost use Rattle.facet_json_token.specs.Gap.{plain, jsonc};
 ghost use Rattle.facet_json_document.specs.Language.{strict};
 ghost use Rattle.facet_json_document.specs.Future.{finished};
@@ -15,6 +15,8 @@ ghost use Rattle.facet_json_reader.specs.PlaceViews.{language_of, refused_of};
 ghost use Rattle.facet_json_document.specs.Now.{fresh, fresh_in, current_span_of, ahead, future_of, SameInput, GoesOn, StandsAt};
 ghost use Rattle.facet_json_document.specs.Move.{Moves, with_kept};
 ghost use Rattle.facet_json_document.specs.Next.{PassesNext, ShowsNext, PassesAll, IsOver};
+ghost use Rattle.facet_json_parser.specs.Wanted.{PassesWanted, NeverGives};
+ghost use Rattle.facet_json_reader.specs.Soughts.{event_of_sought};
 ghost use Rattle.facet_json_document.specs.UnreadLaws.{RefusalWithin};
 ghost use Rattle.facet_json_document.specs.Within.{NowWithin, AnswerWithin};
 ghost use Rattle.facet_json_parser.specs.Steps.{QueuesNow};
@@ -22,7 +24,7 @@ ghost use Rattle.facet_json_parser.specs.Steps.{QueuesNow};
 use crate::lookahead::Lookahead;
 use crate::points::{Point, bring_back, keep};
 use facet_format::{FormatParser, ParseError, ParseEvent, SavePoint, Span};
-use facet_json_reader::{Language, Refused};
+use facet_json_reader::{Language, Refused, Sought, Wanted};
 use facet_json_token::{Mode, Trust};
 use std::alloc::Global;
 use std::collections::VecDeque;
@@ -204,6 +206,29 @@ impl<'de> JsonParser<'de> {
         }
     }
 
+    /// Passes what is wanted, where a few bytes decide that it comes. Else nothing changes.
+    #[inline(always)]
+    fn wanted<W: Wanted<'de>>(&mut self) -> Option<(W, Span)>
+        ensures passed { MatchOption result (self.new ≡ self.old)
+            (λ r. Moves self.old next (event (Ok (Some (record { kind = W.kind r.0; span = span_of r.1 })))) self.new) }
+        ensures within { NowWithin self.old }
+    {
+        if self.refusal.is_some() {
+            return None;
+        }
+        self.lookahead
+            .next_wanted(self.input, self.language, self.trust)
+    }
+
+    /// Whether something else comes next, as its first byte tells.
+    #[inline(always)]
+    fn finds_other(&self, sought: Sought) -> bool
+        ensures { result ≡ true → NeverGives (event_of_sought sought) (future_of self.now) }
+    {
+        self.lookahead
+            .comes_other(self.input, self.language, sought)
+    }
+
     /// The next event, token by token, as a value of its own: so an event that is passed at once, which never goes through this,
     /// needs no memory.
     #[inline(always)]
@@ -247,6 +272,24 @@ impl<'de> JsonParser<'de> {
             Err(refused) => Err(self.refuse(refused)),
         }
     }
+}
+
+/// Passes what is wanted and answers it with its event's span, where a few bytes decide that it comes. Else nothing changes. It does not
+/// allocate, but for an open container.
+#[inline(always)]
+pub fn next_wanted<'de, W: Wanted<'de>>(parser: &mut JsonParser<'de>) -> Option<(W, Span)>
+    ensures { MatchOption result (parser.new ≡ parser.old)
+        (λ r. PassesWanted parser.old (record { kind = W.kind r.0; span = span_of r.1 }) parser.new) }
+{
+    parser.wanted()
+}
+
+/// Whether something else comes next, as its first byte tells. Where it does not tell, the answer is no. Nothing is read.
+#[inline(always)]
+pub fn comes_other(parser: &JsonParser<'_>, sought: Sought) -> bool
+    ensures { result ≡ true → NeverGives (event_of_sought sought) (future_of parser.now) }
+{
+    parser.finds_other(sought)
 }
 
 impl<'de> FormatParser<'de> for JsonParser<'de> {

@@ -7,6 +7,7 @@ pub mod DigitSlices
 pub mod DigitWords
 pub mod EightDigits
 pub mod EventsAtTurns
+pub mod FirstBytesOfEvents
 pub mod InsideTexts
 pub mod Judged
 pub mod MeaninglessTokens

@@ -2,6 +2,8 @@ pub mod Inner
 pub mod Packed
 pub mod PlaceViews
 pub mod Quick
+pub mod Soughts
 pub mod TokenViews
 pub mod Values
 pub mod Views
+pub mod Wholes

@@ -1,5 +1,5 @@
 -- What a reader passes at once, where a few bytes decide it.
-use Rattle.std.specs.Prelude.{◌≡◌, ◌≤◌, ℕ, true, false, List, length, codes}
+use Rattle.std.specs.Prelude.{◌≡◌, ◌≢◌, ◌≤◌, ℕ, true, false, List, length, codes}
 use Rattle.facet_format.specs.Bytes.{lower_n, lower_t, lower_f}
 use Rattle.facet_json_reader.specs.declared.reader.Reader.{Reader}
 use Rattle.facet_format.specs.Event.{EventKind, Scalar, Event, Passed}
@@ -51,3 +51,7 @@ pub record PassesQuickly (buffer : List ℕ) (language : Language) (r : Reader) 
   pub comes : coming buffer language r ≡ gives p rest
   pub event : e ≡ p.event
   pub new : reader_of t ≡ past p (reader_of r)
+
+-- No event of this kind comes next where the reader stands.
+abbrev pub ComesNo : EventKind → List ℕ → Language → Reader → Type 0
+ComesNo kind buffer language r = (p : Passed) (rest : Future) → coming buffer language r ≡ gives p rest → p.event.kind ≢ kind

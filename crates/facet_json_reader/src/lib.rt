@@ -11,12 +11,15 @@ mod quick;
 mod reader;
 mod refusal;
 mod text;
+mod wanted;
 
 pub use contexts::Contexts;
 pub use language::Language;
 pub use materialized::{MaterializedToken, TokenKind};
-pub use number::{short_number, short_number_strict};
+pub use number::{Whole, short_number, short_number_strict};
 pub use place::{Place, Turn};
+pub use quick::Sought;
 pub use reader::{Held, Reader, Stage};
 pub use refusal::{Expected, Inside, Name, NoRaw, Refused, Why};
 pub use text::{checked_text_at, quoted_text_at};
+pub use wanted::{ListEnd, Null, Wanted};

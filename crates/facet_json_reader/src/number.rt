@@ -13,11 +13,16 @@ ghost use Rattle.facet_json_document.specs.Walk.{scalar_by};
 ghost use Rattle.facet_json_token.specs.RfcNumber.{SomeDigits, IsRfcNumber};
 ghost use Rattle.facet_json_reader.specs.Inner.Whole.{digits_from, OpensNumber, IsWholeNumber};
 ghost use Rattle.facet_json_reader.specs.Values.{IsScalarThere};
+ghost use Rattle.facet_json_reader.specs.Wholes.{whole_scalar};
+ghost use Rattle.facet_format.specs.Span.{span_at};
+ghost use Rattle.facet_json_document.specs.StrictTokens.{Allows};
+ghost use Rattle.facet_json_reader.specs.PlaceViews.{language_of};
 ghost use Rattle.facet_json_reader.specs.Inner.Digits.{word};
 ghost use Rattle.std.specs.Simd.Lanes.{mask_l};
 ghost use Rattle.facet_format.specs.Bytes.{minus, dot, is_exponent_mark};
 ghost use Rattle.facet_format.specs.Inner.Window.{is_no_digit};
 
+use crate::language::Language;
 use facet_format::ScalarValue;
 use facet_format::numeral::{Parts, parts_at};
 use facet_json_token::{ParsedNumber, has_rfc_parts, parse_measured};
@@ -51,6 +56,72 @@ pub fn short_number_strict<'de>(input: &'de [u8], at: usize, first: u8) -> Optio
         Some((len, value)) if leads_by_no_zero(input, at, first, len) => Some((len, value)),
         Some(_) => None,
         None => measured_number_strict(input, at, first),
+    }
+}
+
+/// A whole number of at most fifteen digits.
+#[derive(Debug, Clone, Copy, PartialEq, Eq)]
+pub enum Whole {
+    /// One without a minus.
+    Unsigned(u64),
+    /// One with a minus.
+    Signed(i64),
+}
+
+/// The length and the value of the whole number at `at`, of which this is the first byte, where it is short and enough bytes stand there.
+#[inline(always)]
+fn short_whole(input: &[u8], at: usize, first: u8) -> Option<(usize, Whole)>
+    requires here { slice_get input.now at ≡ Some first }
+    requires number { start_of first ≡ opens_number }
+    ensures { IfSome result (λ r. IsScalarThere input.now at r.0 (whole_scalar r.1)) }
+{
+    let (len, value) = whole_number(input, at, first)?;
+    Some((len, whole_of(value)?))
+}
+
+/// The same, where it is a number of RFC 8259.
+#[inline(always)]
+fn short_whole_strict(input: &[u8], at: usize, first: u8) -> Option<(usize, Whole)>
+    requires here { slice_get input.now at ≡ Some first }
+    requires number { start_of first ≡ opens_number }
+    ensures there { IfSome result (λ r. IsScalarThere input.now at r.0 (whole_scalar r.1)) }
+    ensures strict { IfSome result (λ r. IsRfcNumber (slice_range input.now at (at + r.0))) }
+{
+    let (len, value) = whole_number(input, at, first)?;
+    if !leads_by_no_zero(input, at, first, len) {
+        return None;
+    }
+    Some((len, whole_of(value)?))
+}
+
+/// The same, where the language allows it.
+#[inline(always)]
+pub(crate) fn short_whole_in(
+    input: &[u8],
+    language: Language,
+    at: usize,
+    first: u8,
+) -> Option<(usize, Whole)>
+    requires here { slice_get input.now at ≡ Some first }
+    requires number { start_of first ≡ opens_number }
+    ensures { IfSome result (λ r. (there : IsScalarThere input.now at r.0 (whole_scalar r.1))
+        × Allows (language_of language) input.now (record { kind = there.kind; span = span_at at r.0 })) }
+{
+    match language {
+        Language::Lenient(_) => short_whole(input, at, first),
+        Language::Strict(_) => short_whole_strict(input, at, first),
+    }
+}
+
+/// The whole number of 64 bits that a scalar is.
+#[inline(always)]
+fn whole_of(value: ScalarValue<'_>) -> Option<Whole>
+    ensures { IfSome result (λ w. scalar_value_of value.entry ≡ whole_scalar w) }
+{
+    match value {
+        ScalarValue::U64(n) => Some(Whole::Unsigned(n)),
+        ScalarValue::I64(n) => Some(Whole::Signed(n)),
+        _ => None,
     }
 }
 

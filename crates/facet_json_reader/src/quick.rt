@@ -3,7 +3,7 @@
 
 ghost use Rattle.std.specs.Prelude.{◌≡◌, ◌≤◌, ◌<◌, Bool, ◌+◌, ◌-◌, ℕ, List, Some, length, slice_get, slice_range, true, false, IfSome, IsUtf8, MatchOption};
 ghost use Rattle.facet_format.specs.Bytes.{quote};
-ghost use Rattle.facet_format.specs.Event.{scalar, field_key, borrowed};
+ghost use Rattle.facet_format.specs.Event.{Scalar, scalar, field_key, borrowed};
 ghost use Rattle.facet_format.specs.Span.{Span as SpecSpan, stop, span_at};
 ghost use Rattle.facet_format.specs.Views.{span_of, event_of, scalar_value_of};
 ghost use Rattle.facet_json_token.specs.Cut.{start_of, opens_number};
@@ -15,7 +15,8 @@ ghost use Rattle.facet_json_token.specs.Gap.{Mode as SpecMode};
 ghost use Rattle.facet_json_document.specs.StrictTokens.{Allows};
 ghost use Rattle.facet_json_reader.specs.PlaceViews.{language_of, least_of, place_of, opening_event, closing_event, closing_token, closing_bracket};
 ghost use Rattle.facet_json_reader.specs.Values.{AreUnescaped, IsPlainText};
-ghost use Rattle.facet_json_reader.specs.Quick.{MayBeKey, MayBeValue, Reaches, IsWord, Leaves, PassesQuickly};
+ghost use Rattle.facet_json_reader.specs.Quick.{MayBeKey, MayBeValue, Reaches, IsWord, Leaves, PassesQuickly, ComesNo};
+ghost use Rattle.facet_json_reader.specs.Soughts.{event_of_sought, byte_of_sought};
 ghost use Rattle.facet_json_reader.specs.Views.{stage_of};
 
 use crate::language::Language;
@@ -30,6 +31,28 @@ use facet_json_token::Trust;
 use facet_json_token::cutting::common_len;
 use facet_json_token::quick::gap_end;
 use std::borrow::CowStr;
+
+/// What a caller looks for before a value.
+#[derive(Debug, Clone, Copy, PartialEq, Eq)]
+pub enum Sought {
+    /// The end of a list.
+    ListEnd,
+    /// Null.
+    Null,
+}
+
+impl Sought {
+    /// The byte that it begins with.
+    #[inline(always)]
+    fn first_byte(self) -> u8
+        ensures { result ≡ byte_of_sought self }
+    {
+        match self {
+            Sought::ListEnd => b']',
+            Sought::Null => b'n',
+        }
+    }
+}
 
 impl Reader {
     /// Passes the next event and answers it, where a few bytes decide it: a bracket, a text or a key without an escape, a number
@@ -61,7 +84,12 @@ impl Reader {
 
     /// Where the next token stands that is no separator, and the place before it.
     #[inline(always)]
-    fn past_separators(&self, input: &[u8], language: Language, place: Place) -> (Place, usize)
+    pub(crate) fn past_separators(
+        &self,
+        input: &[u8],
+        language: Language,
+        place: Place,
+    ) -> (Place, usize)
         requires within { stop (span_of self.now.last) ≤ length input.now }
         requires place { stage_of self.now.stage ≡ within (place_of place) }
         ensures { Reaches input.now (language_of language) self.now (place_of result.0) result.1 }
@@ -74,6 +102,36 @@ impl Reader {
                 None => (place, at),
             },
             _ => (place, at),
+        }
+    }
+
+    /// Where the next value begins and its first byte, where a value may stand.
+    #[inline(always)]
+    pub(crate) fn value_start(&self, input: &[u8], language: Language) -> Option<(usize, u8)>
+        requires within { stop (span_of self.now.last) ≤ length input.now }
+        ensures reaches { IfSome result (λ r. (place : SpecPlace) × MayBeValue place × Reaches input.now (language_of language) self.now place r.0) }
+        ensures here { IfSome result (λ r. slice_get input.now r.0 ≡ Some r.1) }
+    {
+        let Stage::Within(place) = self.stage else {
+            return None;
+        };
+        let (place, at) = self.past_separators(input, language, place);
+        if !takes_value(place) {
+            return None;
+        }
+        let first = *input.get(at)?;
+        Some((at, first))
+    }
+
+    /// Whether something else comes next, as its first byte tells. Where it does not tell, the answer is no.
+    #[inline(always)]
+    pub fn comes_other(&self, input: &[u8], language: Language, sought: Sought) -> bool
+        requires within { stop (span_of self.now.last) ≤ length input.now }
+        ensures { result ≡ true → ComesNo (event_of_sought sought) input.now (language_of language) self.now }
+    {
+        match self.value_start(input, language) {
+            Some((_, first)) => first != sought.first_byte(),
+            None => false,
         }
     }
 
@@ -117,8 +175,24 @@ impl Reader {
             → Reaches buffer language self.old (place_of place) at → MatchOption result (self.new ≡ self.old)
             (λ e. PassesQuickly buffer language self.old (event_of e) self.new) }
     {
+        let span = self.move_past_closing(kind, place, at)?;
+        Some(ParseEvent::new(closing(kind), span))
+    }
+
+    /// Passes the bracket that closes a container of this kind, of which no event is made.
+    #[inline(always)]
+    pub(crate) fn move_past_closing(
+        &mut self,
+        kind: ContainerKind,
+        place: Place,
+        at: usize,
+    ) -> Option<Span>
+        ensures { (buffer : List ℕ) (language : SpecLanguage) → slice_get buffer at ≡ Some (closing_bracket kind)
+            → Reaches buffer language self.old (place_of place) at → MatchOption result (self.new ≡ self.old)
+            (λ s. PassesQuickly buffer language self.old (record { kind = closing_event kind; span = span_of s }) self.new) }
+    {
         if closes_at(kind, place) {
-            Some(self.pass_end(kind, at))
+            Some(self.move_past_end(kind, at))
         } else {
             None
         }
@@ -192,9 +266,24 @@ impl Reader {
             → MayBeValue place → Reaches input.now language self.old place at
             → MatchOption result (self.new ≡ self.old) (λ e. PassesQuickly input.now language self.old (event_of e) self.new) }
     {
+        let span = self.move_past_word(input, at, word)?;
+        Some(ParseEvent::new(ParseEventKind::Scalar(value), span))
+    }
+
+    /// Passes the literal of these letters, of which no event is made.
+    #[inline(always)]
+    pub(crate) fn move_past_word(&mut self, input: &[u8], at: usize, word: &[u8]) -> Option<Span>
+        requires { at ≤ length input.now }
+        ensures { (language : SpecLanguage) (place : SpecPlace) (first : ℕ) (value : Scalar) → IsWord first word.now value
+            → slice_get input.now at ≡ Some first → MayBeValue place → Reaches input.now language self.old place at
+            → MatchOption result (self.new ≡ self.old)
+            (λ s. PassesQuickly input.now language self.old (record { kind = scalar value; span = span_of s }) self.new) }
+    {
         let len = word.len();
         if common_len(input, at, word) == len {
-            Some(self.pass_scalar(value, Span::new(at, len)))
+            let span = Span::new(at, len);
+            self.move_past(span);
+            Some(span)
         } else {
             None
         }
@@ -279,12 +368,12 @@ impl Reader {
 
     /// Passes a bracket that closes a container.
     #[inline(always)]
-    fn pass_end<'de>(&mut self, kind: ContainerKind, at: usize) -> ParseEvent<'de>
-        ensures { Leaves self.old (closing_event kind) (span_at at 1) (span_at at 1) (event_of result) self.new }
+    fn move_past_end(&mut self, _kind: ContainerKind, at: usize) -> Span
+        ensures { Leaves self.old (closing_event _kind) (span_at at 1) (span_at at 1) (record { kind = closing_event _kind; span = span_of result }) self.new }
     {
         self.close();
         self.last = Span::new(at, 1);
-        ParseEvent::new(closing(kind), self.last)
+        self.last
     }
 
     /// Passes a scalar that takes these bytes.
@@ -292,9 +381,18 @@ impl Reader {
     fn pass_scalar<'de>(&mut self, value: ScalarValue<'de>, span: Span) -> ParseEvent<'de>
         ensures { Leaves self.old (scalar (scalar_value_of value.entry)) (span_of span) (span_of span) (event_of result) self.new }
     {
+        self.move_past(span);
+        ParseEvent::new(ParseEventKind::Scalar(value), span)
+    }
+
+    /// Passes a scalar that takes these bytes, of which no event is made.
+    #[inline(always)]
+    pub(crate) fn move_past(&mut self, span: Span)
+        ensures { (value : Scalar) → Leaves self.old (scalar value) (span_of span) (span_of span)
+            (record { kind = scalar value; span = span_of span }) self.new }
+    {
         self.stage = Stage::after_value(&self.contexts);
         self.last = span;
-        ParseEvent::new(ParseEventKind::Scalar(value), span)
     }
 
     /// Passes a key whose string takes these bytes, and its colon.
@@ -346,7 +444,7 @@ fn takes_value(place: Place) -> bool
 
 /// The text of the string whose quote is at `at`, where it holds no escape and the language allows it, and the offset of the quote that closes it.
 #[inline(always)]
-fn text_at<'de>(
+pub(crate) fn text_at<'de>(
     input: &'de [u8],
     language: Language,
     trust: Trust,

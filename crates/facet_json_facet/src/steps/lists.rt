@@ -6,14 +6,18 @@ ghost use Rattle.facet_format.specs.Views.{event_of, refusal_of};
 ghost use Rattle.facet_json_document.specs.Now.{ahead, GoesOn};
 ghost use Rattle.facet_json_document.specs.UnreadLaws.{RefusalWithin};
 ghost use Rattle.facet_json_core.specs.Refusing.{mismatch_of, TellsRefusal};
-ghost use Rattle.facet_json_meaning.specs.ListSteps.{begins_list, ends_list, BeginsList, IsNoList, FindsEnd};
+ghost use Rattle.facet_json_meaning.specs.ListSteps.{begins_list, ends_list, BeginsList, IsNoList};
+ghost use Rattle.facet_json_meaning.specs.Peeking.{Finds};
+ghost use Rattle.facet_json_meaning.specs.Inner.Taking.{StaysBefore};
+ghost use Rattle.facet_json_facet.specs.Inner.Taking.{TakesEnd};
 ghost use Rattle.facet_json_meaning.specs.OneValue.{IsInside, LooksAhead};
 ghost use Rattle.facet_json_meaning.specs.Passing.{LacksAlone};
 
-use crate::steps::next::next_of_value;
+use crate::steps::next::{next_of_value, take_next};
 use facet_format::{DeserializeError, FormatParser, ParseEvent, ParseEventKind};
 use facet_json_core::mismatch;
-use facet_json_parser::JsonParser;
+use facet_json_parser::{JsonParser, comes_other};
+use facet_json_reader::{ListEnd, Sought};
 
 /// Passes the event with which an array begins.
 ///
@@ -56,7 +60,7 @@ fn array_in<'t>(event: ParseEvent<'_>) -> Result<(), DeserializeError<'t>>
 /// As the parser's `peek_event`.
 pub fn end_comes<'t>(parser: &mut JsonParser<'_>) -> Result<bool, DeserializeError<'t>>
     ensures onward { GoesOn parser.old parser.new }
-    ensures finds { IfOk result (λ found. FindsEnd parser.old found parser.new) }
+    ensures finds { IfOk result (λ found. Finds ends_list parser.old found parser.new) }
     ensures looks { IfOk result (λ found. LooksAhead ends_list parser.old found parser.new) }
     ensures lacks { IfErr result (λ e. LacksAlone parser.old (refusal_of e)) }
     ensures within { IfErr result (λ e. RefusalWithin parser.new.buffer (refusal_of e)) }
@@ -73,4 +77,44 @@ fn is_end(event: &ParseEvent<'_>) -> bool
     ensures { result ≡ ends_list (event_of event.now).kind }
 {
     matches!(event.kind, ParseEventKind::SequenceEnd)
+}
+
+/// Whether the array's end came, and is passed. Else the parser stands where it stood.
+///
+/// # Errors
+///
+/// As the parser's `peek_event` and `next_event`.
+#[inline(always)]
+pub(crate) fn take_end<'t>(parser: &mut JsonParser<'_>) -> Result<bool, DeserializeError<'t>>
+    ensures onward { GoesOn parser.old parser.new }
+    ensures taken { IfOk result (λ ended. ended ≡ true → TakesEnd parser.old parser.new) }
+    ensures stays { IfOk result (λ ended. ended ≡ false → StaysBefore ends_list parser.old parser.new) }
+    ensures lacks { IfErr result (λ e. LacksAlone parser.old (refusal_of e)) }
+    ensures within { IfErr result (λ e. RefusalWithin parser.new.buffer (refusal_of e)) }
+    ensures tells { IfErr result (λ e. TellsRefusal parser.old parser.new (refusal_of e)) }
+{
+    if comes_other(parser, Sought::ListEnd) {
+        return Ok(false);
+    }
+    match take_next(parser) {
+        Some((ListEnd, _)) => Ok(true),
+        None => take_end_slowly(parser),
+    }
+}
+
+/// The same by a peek.
+#[inline(never)]
+fn take_end_slowly<'t>(parser: &mut JsonParser<'_>) -> Result<bool, DeserializeError<'t>>
+    ensures onward { GoesOn parser.old parser.new }
+    ensures taken { IfOk result (λ ended. ended ≡ true → TakesEnd parser.old parser.new) }
+    ensures stays { IfOk result (λ ended. ended ≡ false → StaysBefore ends_list parser.old parser.new) }
+    ensures lacks { IfErr result (λ e. LacksAlone parser.old (refusal_of e)) }
+    ensures within { IfErr result (λ e. RefusalWithin parser.new.buffer (refusal_of e)) }
+    ensures tells { IfErr result (λ e. TellsRefusal parser.old parser.new (refusal_of e)) }
+{
+    let ended = end_comes(parser)?;
+    if ended {
+        let _end = next_of_value(parser)?;
+    }
+    Ok(ended)
 }

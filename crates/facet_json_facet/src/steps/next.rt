@@ -1,8 +1,9 @@
 //! The next event of a value that is read.
 
-ghost use Rattle.std.specs.Prelude.{◌≡◌, ◌≤◌, ◌<◌, ◌+◌, true, false, None, Some, length, codes, IfOk, IfErr, OnOk};
+ghost use Rattle.std.specs.Prelude.{◌≡◌, ◌≤◌, ◌<◌, ◌+◌, true, false, None, Some, length, codes, IfOk, IfErr, OnOk, MatchOption};
 ghost use Rattle.facet_format.specs.Span.{stop};
-ghost use Rattle.facet_format.specs.Views.{event_of, refusal_of};
+ghost use Rattle.facet_format.specs.Views.{event_of, refusal_of, span_of};
+ghost use Rattle.facet_json_facet.specs.Inner.Taking.{TakesNext, TakesNull};
 ghost use Rattle.facet_json_document.specs.Now.{ahead, GoesOn};
 ghost use Rattle.facet_json_document.specs.Next.{PassesNext};
 ghost use Rattle.facet_json_document.specs.UnreadLaws.{RefusalWithin};
@@ -10,11 +11,15 @@ ghost use Rattle.facet_json_core.specs.Refusing.{TellsRefusal, mismatch_of};
 ghost use Rattle.facet_json_meaning.specs.Passing.{WalksPast, LacksAlone, PassesNull, LacksNull};
 ghost use Rattle.facet_json_meaning.specs.OneValue.{PassesValue, PassesByKind, LooksAhead};
 ghost use Rattle.facet_json_meaning.specs.Optional.{is_null_event};
-ghost use Rattle.facet_json_meaning.specs.Peeking.{FindsNull};
+ghost use Rattle.facet_json_meaning.specs.Peeking.{Finds};
+ghost use Rattle.facet_json_meaning.specs.Inner.Taking.{StaysBefore};
 
-use facet_format::{DeserializeError, FormatParser, ParseEvent, ParseEventKind, ScalarValue};
+use facet_format::{
+    DeserializeError, FormatParser, ParseEvent, ParseEventKind, ScalarValue, Span,
+};
 use facet_json_core::{ended, mismatch};
-use facet_json_parser::JsonParser;
+use facet_json_parser::{JsonParser, comes_other, next_wanted};
+use facet_json_reader::{Null, Sought, Wanted};
 
 /// The next event, where a value is to come.
 ///
@@ -40,6 +45,15 @@ pub fn next_of_value<'t, 'de>(
     }
 }
 
+/// Passes what is wanted and answers it with its event's span, where a few bytes decide that it comes. Else nothing changes.
+#[inline(always)]
+pub(crate) fn take_next<'de, W: Wanted<'de>>(parser: &mut JsonParser<'de>) -> Option<(W, Span)>
+    ensures { MatchOption result (parser.new ≡ parser.old)
+        (λ r. TakesNext parser.old (record { kind = W.kind r.0; span = span_of r.1 }) parser.new) }
+{
+    next_wanted(parser)
+}
+
 /// Whether null comes, where a value is to come. It stays the next event.
 ///
 /// # Errors
@@ -47,7 +61,7 @@ pub fn next_of_value<'t, 'de>(
 /// As the parser's `peek_event`.
 pub fn null_comes<'t>(parser: &mut JsonParser<'_>) -> Result<bool, DeserializeError<'t>>
     ensures onward { GoesOn parser.old parser.new }
-    ensures finds { IfOk result (λ found. FindsNull parser.old found parser.new) }
+    ensures finds { IfOk result (λ found. Finds is_null_event parser.old found parser.new) }
     ensures looks { IfOk result (λ found. LooksAhead is_null_event parser.old found parser.new) }
     ensures lacks { IfErr result (λ e. LacksAlone parser.old (refusal_of e)) }
     ensures within { IfErr result (λ e. RefusalWithin parser.new.buffer (refusal_of e)) }
@@ -64,6 +78,46 @@ fn is_null(event: &ParseEvent<'_>) -> bool
     ensures { result ≡ is_null_event (event_of event.now).kind }
 {
     matches!(event.kind, ParseEventKind::Scalar(ScalarValue::Null))
+}
+
+/// Whether null came, and is passed. Else the parser stands where it stood.
+///
+/// # Errors
+///
+/// As the parser's `peek_event` and `next_event`.
+#[inline(always)]
+pub(crate) fn take_null<'t>(parser: &mut JsonParser<'_>) -> Result<bool, DeserializeError<'t>>
+    ensures onward { GoesOn parser.old parser.new }
+    ensures taken { IfOk result (λ is. is ≡ true → TakesNull parser.old parser.new) }
+    ensures stays { IfOk result (λ is. is ≡ false → StaysBefore is_null_event parser.old parser.new) }
+    ensures lacks { IfErr result (λ e. LacksAlone parser.old (refusal_of e)) }
+    ensures within { IfErr result (λ e. RefusalWithin parser.new.buffer (refusal_of e)) }
+    ensures tells { IfErr result (λ e. TellsRefusal parser.old parser.new (refusal_of e)) }
+{
+    if comes_other(parser, Sought::Null) {
+        return Ok(false);
+    }
+    match take_next(parser) {
+        Some((Null, _)) => Ok(true),
+        None => take_null_slowly(parser),
+    }
+}
+
+/// The same by a peek.
+#[inline(never)]
+fn take_null_slowly<'t>(parser: &mut JsonParser<'_>) -> Result<bool, DeserializeError<'t>>
+    ensures onward { GoesOn parser.old parser.new }
+    ensures taken { IfOk result (λ is. is ≡ true → TakesNull parser.old parser.new) }
+    ensures stays { IfOk result (λ is. is ≡ false → StaysBefore is_null_event parser.old parser.new) }
+    ensures lacks { IfErr result (λ e. LacksAlone parser.old (refusal_of e)) }
+    ensures within { IfErr result (λ e. RefusalWithin parser.new.buffer (refusal_of e)) }
+    ensures tells { IfErr result (λ e. TellsRefusal parser.old parser.new (refusal_of e)) }
+{
+    let is = null_comes(parser)?;
+    if is {
+        let _null = next_of_value(parser)?;
+    }
+    Ok(is)
 }
 
 /// Passes null.

@@ -22,7 +22,8 @@ use Rattle.facet_json_meaning.specs.Nodes.{StandsBefore, StandsAfter}
 use Rattle.facet_json_meaning.specs.Passing.{WalksPast, LacksAlone}
 use Rattle.facet_json_meaning.specs.Reading.{IsRead, IsUnread}
 use Rattle.facet_json_meaning.specs.Lists.{put_value, items_of, list_of}
-use Rattle.facet_json_meaning.specs.ListSteps.{nodes_of, begins_list, ends_list, BeginsList, IsNoList, ShowsEnd, FindsEnd}
+use Rattle.facet_json_meaning.specs.ListSteps.{nodes_of, begins_list, ends_list, BeginsList, IsNoList}
+use Rattle.facet_json_meaning.specs.Inner.Taking.{Takes, StaysThere, StaysBefore}
 use Rattle.facet_json_meaning.proofs.Walks.FirstEvents.{first_event, first-passed}
 use Rattle.facet_json_meaning.proofs.Walks.PeekOnWalk.{step-no_end}
 use Rattle.facet_json_meaning.proofs.WalkPlaces.{drop-get, drop-suc, drop-node}
@@ -125,11 +126,6 @@ module _ {V : Type 0} (reading : List ℕ → Node → Option V) where
     pub left : (w : Source) (c : Cursor ℕ) (n : Node) → StandsBefore old w c n →
         (l : LeftItems values now w c n) × IsItem l.nodes
 
-  -- The same, where the closing bracket comes next.
-  pub record BeforeEnd (old : Now) (values : List V) (now : Now) : Type 0 where
-    pub left : (w : Source) (c : Cursor ℕ) (n : Node) → StandsBefore old w c n →
-        (l : LeftItems values now w c n) × (l.nodes ≡ no_nodes)
-
   -- ---- the first event
 
   begun : (old new : Now) (given : Event) (w : Source) (c : Cursor ℕ) (n : Node) → begins_list given.kind ≡ true → WalksPast old given new →
@@ -176,43 +172,30 @@ module _ {V : Type 0} (reading : List ℕ → Node → Option V) where
 
   -- ---- a look at what comes
 
-  -- A peek changes nothing.
-  at-peeked : (now new : Now) (w : Source) (c : Cursor ℕ) (n : Node) (nodes : Nodes) (f : Bool) (at : AtItems now w c n nodes) (p : Passed) →
-      ShowsEnd w at.cursor p f new → AtItems new w c n nodes
-  at-peeked now new w c n nodes f at p shows = record {
-    cursor = _;
-    stands = shows.stands;
+  -- Where the parser stays, the same comes.
+  at-spot : (now new : Now) (w : Source) (c : Cursor ℕ) (n : Node) (nodes : Nodes) (at : AtItems now w c n nodes) (p : Passed) →
+      StaysThere ends_list w at.cursor p new → AtItems new w c n nodes
+  at-spot now new w c n nodes at p stays = record {
+    cursor = at_spot at.cursor stays.spot;
+    stands = stays.stands;
     free = at.free;
     last = at.last;
     others = at.others;
-    comes = at.comes;
+    comes = ap (λ (k : ℕ). drop k w.events) stays.place ∙ at.comes;
     values = at.values;
     meant = at.meant;
-    counts = at.counts;
+    counts = ap (λ (k : ℕ). k + length (walk_items w.bytes nodes) + 1) stays.place ∙ at.counts;
     kept = at.kept;
   }
 
-  pub list-goes_on : (old now new : Now) (values : List V) (f : Bool) → f ≡ false → ReadSoFar old values now → FindsEnd now f new →
-      BeforeItem old values new
-  list-goes_on old now new values f is so finds = record {
+  pub list-goes_on : (old now new : Now) (values : List V) → ReadSoFar old values now → StaysBefore ends_list now new → BeforeItem old values new
+  list-goes_on old now new values so stays = record {
     left = λ w c n before.
         let l = so.left w c n before in
         let there = at-event now w c n l.nodes l.at in
-        let shows = finds w l.at.cursor there.0 l.at.stands l.at.free there.1 in (
-          record { nodes = l.nodes; is = l.is; at = at-peeked now new w c n l.nodes f l.at there.0 shows },
-          goes-on now w c n l.nodes l.at there.0 there.1 (shows.shown ∙ is),
-        );
-  }
-
-  pub list-stops : (old now new : Now) (values : List V) (f : Bool) → f ≡ true → ReadSoFar old values now → FindsEnd now f new →
-      BeforeEnd old values new
-  list-stops old now new values f is so finds = record {
-    left = λ w c n before.
-        let l = so.left w c n before in
-        let there = at-event now w c n l.nodes l.at in
-        let shows = finds w l.at.cursor there.0 l.at.stands l.at.free there.1 in (
-          record { nodes = l.nodes; is = l.is; at = at-peeked now new w c n l.nodes f l.at there.0 shows },
-          ends-after now w c n l.nodes l.at there.0 there.1 (shows.shown ∙ is),
+        let is = stays.finds w l.at.cursor there.0 l.at.stands l.at.free there.1 in (
+          record { nodes = l.nodes; is = l.is; at = at-spot now new w c n l.nodes l.at there.0 is },
+          goes-on now w c n l.nodes l.at there.0 there.1 is.other,
         );
   }
 
@@ -295,28 +278,29 @@ module _ {V : Type 0} (reading : List ℕ → Node → Option V) where
 
   -- ---- the end
 
-  closed : (now new : Now) (given : Event) (values : List V) (w : Source) (c : Cursor ℕ) (n : Node) (nodes : Nodes) →
-      list_of reading w.bytes n ≡ option_map (λ vs. values ++ vs) (items_of reading w.bytes nodes) → AtItems now w c n nodes → nodes ≡ no_nodes →
-      WalksPast now given new → (list_of reading w.bytes n ≡ Some values) × StandsAfter new w c n
+  closed : (now new : Now) (values : List V) (w : Source) (c : Cursor ℕ) (n : Node) (nodes : Nodes) →
+      list_of reading w.bytes n ≡ option_map (λ vs. values ++ vs) (items_of reading w.bytes nodes) → (at : AtItems now w c n nodes) → nodes ≡ no_nodes →
+      StandsAt new w (at_spot at.cursor (unpeeked (suc at.cursor.spot.place))) → (list_of reading w.bytes n ≡ Some values) × StandsAfter new w c n
   unfolding walk_items
-  closed now new given values w c n (item first rest) is at none walks = cc
-  closed now new given values w c n no_nodes is at none walks =
-      let passed = walks w at.cursor at.stands at.free in (
-        is ∙ ap Some (append-nil values),
-        record {
-          cursor = at_spot at.cursor (unpeeked (suc at.cursor.spot.place));
-          stands = passed.stands;
-          free = at.free;
-          there = ap unpeeked (omega (arith, at.counts));
-          kept = at.kept;
-        },
-      )
+  closed now new values w c n (item first rest) is at none stands = cc
+  closed now new values w c n no_nodes is at none stands = (
+    is ∙ ap Some (append-nil values),
+    record {
+      cursor = at_spot at.cursor (unpeeked (suc at.cursor.spot.place));
+      stands = stands;
+      free = at.free;
+      there = ap unpeeked (omega (arith, at.counts));
+      kept = at.kept;
+    },
+  )
 
   -- The closing bracket is passed.
-  pub list-ends : (old now new : Now) (given : Event) (values : List V) → BeforeEnd old values now → WalksPast now given new →
-      IsRead (list_of reading) old values new
-  list-ends old now new given values b walks w c n before =
-      let l = b.left w c n before in closed now new given values w c n l.0.nodes l.0.is l.0.at l.1 walks
+  pub list-ends : (old now new : Now) (values : List V) → ReadSoFar old values now → Takes ends_list now new → IsRead (list_of reading) old values new
+  list-ends old now new values so takes w c n before =
+      let l = so.left w c n before in
+      let there = at-event now w c n l.nodes l.at in
+      let is = takes w l.at.cursor there.0 l.at.stands l.at.free there.1 in
+      closed now new values w c n l.nodes l.is l.at (ends-after now w c n l.nodes l.at there.0 there.1 is.so) is.stands
 
   -- ---- no event
 
@@ -331,40 +315,6 @@ module _ {V : Type 0} (reading : List ℕ → Node → Option V) where
   list-unseen old now values r so lacks w c n before =
       let l = so.left w c n before in inl (at-lacks now r w c n l.nodes l.at lacks)
 
-  -- The closing bracket can't be passed.
-  pub list-open : (old now : Now) (values : List V) (r : Refusal) → BeforeEnd old values now → LacksAlone now r →
-      IsUnread (list_of reading) old r
-  list-open old now values r b lacks w c n before =
-      let l = b.left w c n before in inl (at-lacks now r w c n l.0.nodes l.0.at lacks)
-
 -- Memory ran out.
 pub lacks-unread : {V : Type 0} (reading : List ℕ → Node → Option V) (old : Now) (r : Refusal) → LacksMemory r → IsUnread reading old r
 lacks-unread reading old r lacks w c n before = inl lacks
-
--- ---- the parser's answer for a look at what comes
-
-step-shows : (w : Source) (c d : Cursor ℕ) (p : Passed) (shown : Event) (new : Now) (answer : Answer) → c.refusal ≡ None →
-    slice_get w.events c.spot.place ≡ Some p → answer ≡ event (Ok (Some shown)) → Step (on_walk w) c peek answer d → StandsAt new w d →
-    ShowsEnd w c p (ends_list shown.kind) new
-step-shows w c d p shown new answer free at is (repeats s call _ f a) stands = cc
-step-shows w c d p shown new answer free at is (peeks q none up) stands =
-    let both : an_event p ≡ an_event q = sym (ap event_or_end at) ∙ up in
-    let same : p.event ≡ shown = cc in
-    record { shown = ap (λ (x : Event). ends_list x.kind) same; stands = stands }
-step-shows w c d p shown new answer free at is (peeks_without_memory q none up takes) stands = cc
-step-shows w c d p shown new answer free at is (peeks_at_the_end none up) stands = cc
-step-shows w c d p shown new answer free at is (peeks_at_nothing q none up so) stands = cc
-
--- The event that is answered is the next one.
-pub peek-finds_end : (old new : Now) (shown : Event) (f : Bool) (answer : Answer) → f ≡ ends_list shown.kind →
-    answer ≡ event (Ok (Some shown)) → IsStep StandsAt old peek answer new → FindsEnd old f new
-peek-finds_end old new shown f answer so is step w c p stands free at =
-    let s = step w c stands in
-    let shows = step-shows w c s.0 p shown new answer free at is s.1 s.2 in
-    record { shown = shows.shown ∙ sym so; stands = shows.stands }
-
--- Before an event of the walk, the end is not answered.
-pub peek-no_event : (old new : Now) (f : Bool) (answer : Answer) → answer ≡ event (Ok None) → IsStep StandsAt old peek answer new →
-    FindsEnd old f new
-peek-no_event old new f answer is step w c p stands free at =
-    let s = step w c stands in absurd (step-no_end w c s.0 p answer free at is s.1)

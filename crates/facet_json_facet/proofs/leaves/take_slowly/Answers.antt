@@ -3,7 +3,7 @@ use Rattle.facet_format.specs.Views.{refusal_of}
 use Rattle.facet_json_core.proofs.Refusing.{lacks-tells}
 use Rattle.facet_json_meaning.specs.Readings.{leaf}
 use Rattle.facet_json_meaning.proofs.Leaves.LeafReadings.{leaf-read, leaf-refused, leaf-document, leaf-strict, none-unread}
-use Rattle.facet_json_facet.proofs.leaves.AnyFacet.read_owned.Goals as goal
+use Rattle.facet_json_facet.proofs.leaves.take_slowly.Goals as goal
 
 pub returns-in_err-next_of_value-clause-unread : goal.returns-in_err-next_of_value-clause-unread
 returns-in_err-next_of_value-clause-unread g c =
@@ -19,11 +19,11 @@ returns-clause-unread g c =
     IfErr-weaker c.take.result _ _ (λ e why. leaf-refused g.T.Leaf.takes _ _ _ (refusal_of e) c.in_ok-next_of_value.ensures.walks why) c.take.ensures.refused
 
 pub returns-clause-document : goal.returns-clause-document
-returns-clause-document g c whole =
+returns-clause-document g c =
     IfOk-weaker c.take.result _ _ (λ v taken. leaf-document g.T.Leaf.takes _ _ _ (g.T.Leaf.view v) c.in_ok-next_of_value.ensures.passed taken) c.take.ensures.taken
 
 pub returns-clause-strict : goal.returns-clause-strict
-returns-clause-strict g c whole =
+returns-clause-strict g c =
     IfOk-weaker c.take.result _ _ (λ v taken. leaf-strict g.T.Leaf.takes _ _ _ (g.T.Leaf.view v) c.in_ok-next_of_value.ensures.passed taken) c.take.ensures.taken
 
 pub returns-clause-tells : goal.returns-clause-tells

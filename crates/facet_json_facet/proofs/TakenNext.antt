@@ -1,0 +1,22 @@
+-- What is wanted and passed is passed as an event is.
+use Rattle.std.proofs.Common.{◌≡◌, Option, Some, None, Ok, refl}
+use Rattle.std.specs.Prelude.{MatchOption}
+use Rattle.facet_format.specs.Cursor.{event}
+use Rattle.facet_format.specs.Event.{Event}
+use Rattle.facet_json_document.specs.Now.{Now}
+use Rattle.facet_json_parser.specs.Wanted.{PassesWanted}
+use Rattle.facet_json_meaning.proofs.OneValue.EventsPassed.{next-passes_by_kind}
+use Rattle.facet_json_meaning.proofs.Walks.NextOnWalk.{answer-walks}
+use Rattle.facet_json_facet.specs.Inner.Taking.{TakesNext}
+
+pub wanted-takes : {A : Type 0} (given : A → Event) (old new : Now) (o : Option A) →
+    MatchOption o (new ≡ old) (λ a. PassesWanted old (given a) new) → MatchOption o (new ≡ old) (λ a. TakesNext old (given a) new)
+wanted-takes given old new None same = same
+wanted-takes given old new (Some a) is = record {
+  onward = is.onward;
+  shorter = is.shorter;
+  passed = is.next;
+  walks = answer-walks old new (given a) (event (Ok (Some (given a)))) refl is.steps;
+  by_kind = next-passes_by_kind old new (given a) is.moves;
+  within = is.within;
+}

@@ -1,0 +1,60 @@
+-- A look ahead on a walk: what it looked for is passed, or the parser stands where it stood.
+use Rattle.std.proofs.Common.{◌≡◌, ℕ, suc, Bool, true, false, List, ◌∷◌, drop, slice_get, Some, None, refl, sym, ap, ◌∙◌}
+use Rattle.facet_format.specs.Event.{Event, EventKind, Passed}
+use Rattle.facet_format.specs.Cursor.{Cursor, at_spot, peeked_at}
+use Rattle.facet_format.specs.Part.{Source}
+use Rattle.facet_json_document.specs.Future.{Future, gives, finished, events_before}
+use Rattle.facet_json_document.specs.Now.{Now, StandsAt, future_of}
+use Rattle.facet_json_parser.specs.Wanted.{NeverGives}
+use Rattle.facet_json_meaning.specs.Inner.Taking.{Takes, StaysBefore}
+use Rattle.facet_json_meaning.specs.OneValue.{LooksAhead}
+use Rattle.facet_json_meaning.specs.Passing.{WalksPast}
+use Rattle.facet_json_meaning.specs.Peeking.{Finds}
+use Rattle.facet_json_meaning.proofs.WalkPlaces.{get-drop}
+
+module _ (is : EventKind → Bool) where
+  -- A peek that did not find it.
+  pub finds-stays : (old new : Now) (found : Bool) → found ≡ false → Finds is old found new → LooksAhead is old found new → StaysBefore is old new
+  finds-stays old new found no finds looks = record {
+    there = looks.there;
+    finds = λ w c p stands free at.
+        let shows = finds w c p stands free at in record { other = shows.shown ∙ no; spot = peeked_at c.spot; place = refl; stands = shows.stands };
+  }
+
+  -- An event that is passed is one.
+  pub walks-takes : (old new : Now) (given : Event) → is given.kind ≡ true → WalksPast old given new → Takes is old new
+  walks-takes old new given so walks w c p stands free at =
+      let passed = walks w c stands free in
+      let same : passed.passed ≡ p = cc (passed.at_place, at) in
+      record {
+        so = ap (λ (x : Passed). is x.event.kind) (sym same) ∙ ap (λ (e : Event). is e.kind) passed.same ∙ so;
+        stands = passed.stands;
+      }
+
+  -- So it is after a peek that found it.
+  pub finds-takes : (old between new : Now) (given : Event) (found : Bool) → found ≡ true → Finds is old found between → WalksPast between given new →
+      Takes is old new
+  finds-takes old between new given found yes finds walks w c p stands free at =
+      let shows = finds w c p stands free at in
+      let passed = walks w (at_spot c (peeked_at c.spot)) shows.stands free in
+      record { so = shows.shown ∙ yes; stands = passed.stands }
+
+  other-kind : (kind : EventKind) (k : EventKind) (b : Bool) → ((x : EventKind) → is x ≡ true → x ≡ kind) → is k ≡ b → (k ≡ kind → ⊥) → b ≡ false
+  other-kind kind k true only e never = absurd (never (only k e))
+  other-kind kind k false only e never = refl
+
+  -- Where none comes, the parser stays.
+  pub never-stays : (now : Now) (kind : EventKind) → ((x : EventKind) → is x ≡ true → x ≡ kind) → NeverGives kind (future_of now) →
+      StaysBefore is now now
+  never-stays now kind only never = record {
+    there = refl;
+    finds = λ w c p stands free at.
+        let place = c.spot.place in
+        let comes = stands.spot.place.comes ∙ ap (λ (ps : List Passed). events_before ps finished) (get-drop w.events place p at) in
+        record {
+          other = other-kind kind p.event.kind (is p.event.kind) only refl (never p _ comes);
+          spot = c.spot;
+          place = refl;
+          stands = stands;
+        };
+  }

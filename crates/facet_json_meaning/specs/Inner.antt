@@ -1,0 +1,2 @@
+-- Definitions that the contracts of private functions cite.
+pub mod Taking

@@ -1,0 +1,23 @@
+-- What a caller wants next, or looks for.
+use Rattle.std.specs.Prelude.{◌≡◌, ◌≢◌, ◌<◌, Some, Ok}
+use Rattle.facet_format.specs.Cursor.{event, next}
+use Rattle.facet_format.specs.Event.{Event, EventKind, Passed}
+use Rattle.facet_format.specs.Steps.{IsStep}
+use Rattle.facet_json_document.specs.Future.{Future, gives}
+use Rattle.facet_json_document.specs.Move.{Moves}
+use Rattle.facet_json_document.specs.Next.{PassesNext}
+use Rattle.facet_json_document.specs.Now.{Now, StandsAt, ahead, GoesOn}
+use Rattle.facet_json_document.specs.Within.{AnswerWithin}
+
+-- The event came next and is passed, as `next_event` passes it.
+pub record PassesWanted (old : Now) (given : Event) (new : Now) : Type 0 where
+  pub moves : Moves old next (event (Ok (Some given))) new
+  pub steps : IsStep StandsAt old next (event (Ok (Some given))) new
+  pub next : PassesNext old given new
+  pub onward : GoesOn old new
+  pub shorter : ahead new < ahead old
+  pub within : AnswerWithin new.buffer (event (Ok (Some given)))
+
+-- No event of this kind comes first.
+abbrev pub NeverGives : EventKind → Future → Type 0
+NeverGives kind future = (p : Passed) (rest : Future) → future ≡ gives p rest → p.event.kind ≢ kind

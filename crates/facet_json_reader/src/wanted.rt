@@ -1,0 +1,167 @@
+//! What a caller wants next, passed without its event being made: the payload alone is answered. Where a few bytes do not decide that it comes,
+//! nothing is done.
+
+ghost use Rattle.std.specs.Prelude.{◌≡◌, ◌≤◌, length, IsUtf8, MatchOption};
+ghost use Rattle.facet_format.specs.Span.{stop};
+ghost use Rattle.facet_format.specs.Views.{span_of};
+ghost use Rattle.facet_json_reader.specs.PlaceViews.{language_of};
+ghost use Rattle.facet_json_reader.specs.Quick.{PassesQuickly};
+
+use crate::language::Language;
+use crate::number::{Whole, short_whole_in};
+use crate::quick::text_at;
+use crate::reader::{Reader, Stage};
+use facet_format::{ContainerKind, Span};
+use facet_json_token::Trust;
+
+/// What a caller may want next.
+pub trait Wanted<'de>: Sized + Drop {
+    ghost use Rattle.facet_format.specs.Event.{EventKind};
+
+    /// The event that it stands for.
+    ghost kind: { Self → EventKind };
+
+    /// Passes it and answers it with its event's span, where a few bytes decide that it comes. Else nothing changes.
+    fn pass(
+        reader: &mut Reader,
+        input: &'de [u8],
+        language: Language,
+        trust: Trust,
+    ) -> Option<(Self, Span)>
+        requires within { stop (span_of reader.old.last) ≤ length input.now }
+        requires utf8 { trust ≡ Trust.Utf8 → IsUtf8 input.now }
+        ensures { MatchOption result (reader.new ≡ reader.old)
+            (λ r. PassesQuickly input.now (language_of language) reader.old (record { kind = kind r.0; span = span_of r.1 }) reader.new) };
+}
+
+/// A text without an escape.
+impl<'de> Wanted<'de> for &'de str {
+    ghost use Rattle.facet_format.specs.Event.{scalar, text, borrowed};
+
+    ghost kind = { λ s. scalar (text (borrowed s.now)) };
+
+    #[inline(always)]
+    fn pass(
+        reader: &mut Reader,
+        input: &'de [u8],
+        language: Language,
+        trust: Trust,
+    ) -> Option<(&'de str, Span)> {
+        let (at, first) = reader.value_start(input, language)?;
+        if first != b'"' {
+            return None;
+        }
+        let (end, text) = text_at(input, language, trust, at)?;
+        let span = Span::new(at, end + 1 - at);
+        reader.move_past(span);
+        Some((text, span))
+    }
+}
+
+/// A truth value.
+impl<'de> Wanted<'de> for bool {
+    ghost use Rattle.facet_format.specs.Event.{scalar, bool};
+
+    ghost kind = { λ b. scalar (bool b) };
+
+    #[inline(always)]
+    fn pass(
+        reader: &mut Reader,
+        input: &'de [u8],
+        language: Language,
+        _trust: Trust,
+    ) -> Option<(bool, Span)> {
+        let (at, first) = reader.value_start(input, language)?;
+        match first {
+            b't' => {
+                let span = reader.move_past_word(input, at, b"true")?;
+                Some((true, span))
+            }
+            b'f' => {
+                let span = reader.move_past_word(input, at, b"false")?;
+                Some((false, span))
+            }
+            _ => None,
+        }
+    }
+}
+
+/// A short whole number, perhaps after a minus.
+impl<'de> Wanted<'de> for Whole {
+    ghost use Rattle.facet_format.specs.Event.{scalar};
+    ghost use Rattle.facet_json_reader.specs.Wholes.{whole_scalar};
+
+    ghost kind = { λ w. scalar (whole_scalar w) };
+
+    #[inline(always)]
+    fn pass(
+        reader: &mut Reader,
+        input: &'de [u8],
+        language: Language,
+        _trust: Trust,
+    ) -> Option<(Whole, Span)> {
+        let (at, first) = reader.value_start(input, language)?;
+        match first {
+            b'-' | b'0'..=b'9' => {
+                let (len, whole) = short_whole_in(input, language, at, first)?;
+                let span = Span::new(at, len);
+                reader.move_past(span);
+                Some((whole, span))
+            }
+            _ => None,
+        }
+    }
+}
+
+/// Null.
+#[derive(Debug, Clone, Copy, PartialEq, Eq)]
+pub struct Null;
+
+impl<'de> Wanted<'de> for Null {
+    ghost use Rattle.facet_format.specs.Event.{scalar, null};
+
+    ghost kind = { λ _. scalar null };
+
+    #[inline(always)]
+    fn pass(
+        reader: &mut Reader,
+        input: &'de [u8],
+        language: Language,
+        _trust: Trust,
+    ) -> Option<(Null, Span)> {
+        let (at, first) = reader.value_start(input, language)?;
+        if first != b'n' {
+            return None;
+        }
+        let span = reader.move_past_word(input, at, b"null")?;
+        Some((Null, span))
+    }
+}
+
+/// The end of a list.
+#[derive(Debug, Clone, Copy, PartialEq, Eq)]
+pub struct ListEnd;
+
+impl<'de> Wanted<'de> for ListEnd {
+    ghost use Rattle.facet_format.specs.Event.{sequence_end};
+
+    ghost kind = { λ _. sequence_end };
+
+    #[inline(always)]
+    fn pass(
+        reader: &mut Reader,
+        input: &'de [u8],
+        language: Language,
+        _trust: Trust,
+    ) -> Option<(ListEnd, Span)> {
+        let Stage::Within(place) = reader.stage else {
+            return None;
+        };
+        let (place, at) = reader.past_separators(input, language, place);
+        if *input.get(at)? != b']' {
+            return None;
+        }
+        let span = reader.move_past_closing(ContainerKind::Array, place, at)?;
+        Some((ListEnd, span))
+    }
+}
