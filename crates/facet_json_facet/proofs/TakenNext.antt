@@ -1,9 +1,9 @@
 -- What is wanted and passed is passed as an event is.
-use Rattle.std.proofs.Common.{◌≡◌, Option, Some, None, Ok, refl}
+use Rattle.std.proofs.Common.{◌≡◌, Option, Some, None, Ok, refl, arith}
 use Rattle.std.specs.Prelude.{MatchOption}
 use Rattle.facet_format.specs.Cursor.{event}
 use Rattle.facet_format.specs.Event.{Event}
-use Rattle.facet_json_document.specs.Now.{Now}
+use Rattle.facet_json_document.specs.Now.{Now, GoesOn}
 use Rattle.facet_json_parser.specs.Wanted.{PassesWanted}
 use Rattle.facet_json_meaning.proofs.OneValue.EventsPassed.{next-passes_by_kind}
 use Rattle.facet_json_meaning.proofs.Walks.NextOnWalk.{answer-walks}
@@ -19,4 +19,13 @@ wanted-takes given old new (Some a) is = record {
   walks = answer-walks old new (given a) (event (Ok (Some (given a)))) refl is.steps;
   by_kind = next-passes_by_kind old new (given a) is.moves;
   within = is.within;
+}
+
+-- A parser that stands where it stood goes on.
+pub stays-put : (now : Now) → GoesOn now now
+stays-put now = record {
+  input = record { buffer = refl; language = refl };
+  points = record { kept = refl; counter = refl };
+  onward = omega arith;
+  by_calls = λ first led. led;
 }

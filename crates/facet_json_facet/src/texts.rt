@@ -1,9 +1,15 @@
 //! Texts: `String`, which owns its text, and `&str`, whose text stands in the input.
 
-ghost use Rattle.std.specs.Prelude.{◌≡◌, IfOk, IfErr, None, Some, string_bytes};
+ghost use Rattle.std.specs.Prelude.{◌≡◌, ◌<◌, IfOk, IfErr, OnOk, None, Some, string_bytes};
 ghost use Rattle.facet_format.specs.Complaint.{no_memory, refusal_at};
 ghost use Rattle.facet_format.specs.Views.{event_of, refusal_of, span_of};
-ghost use Rattle.facet_json_meaning.specs.Borrowed.{lent, made_text, IsNotLent};
+ghost use Rattle.facet_json_document.specs.Now.{ahead};
+ghost use Rattle.facet_json_document.specs.UnreadLaws.{RefusalWithin};
+ghost use Rattle.facet_json_core.specs.Refusing.{TellsRefusal};
+ghost use Rattle.facet_json_meaning.specs.Borrowed.{borrowed_text, lent, made_text, IsNotLent};
+ghost use Rattle.facet_json_meaning.specs.Nodes.{KeepsOn};
+ghost use Rattle.facet_json_meaning.specs.OneValue.{PassesValue};
+ghost use Rattle.facet_json_meaning.specs.Reading.{IsRead, IsUnread, HasDocument, EndsStrictly};
 
 use crate::facet::Facet;
 use crate::leaves::Leaf;
@@ -106,10 +112,10 @@ impl<'de> Facet<'de> for &'de str {
         _alloc: Global,
         parser: &mut JsonParser<'de>,
     ) -> Result<&'de str, DeserializeError<'t>> {
-        if let Some((text, _)) = take_next(parser) {
-            return Ok(text);
+        match take_next(parser) {
+            Some((text, _)) => Ok(text),
+            None => lent_slowly(parser),
         }
-        lent_in(next_of_value(parser)?)
     }
 
     fn write(&self, serializer: &mut JsonSerializer<'_>) -> Result<(), JsonSerializeError> {
@@ -134,6 +140,27 @@ fn owned_text<'t>(alloc: Global, text: &str) -> Result<String, DeserializeError<
     ensures memory { IfErr result (λ e. (refusal_of e ≡ no_memory) × (e.span ≡ None)) }
 {
     Ok(String::from_str(alloc, text)?)
+}
+
+/// Reads the next event, and takes the text of the input that it is.
+///
+/// # Errors
+///
+/// No event comes, or it is no such text.
+#[inline(never)]
+fn lent_slowly<'t, 'de>(parser: &mut JsonParser<'de>) -> Result<&'de str, DeserializeError<'t>>
+    ensures read { IfOk result (λ s. IsRead borrowed_text parser.old s.now parser.new) }
+    ensures unread { IfErr result (λ e. IsUnread borrowed_text parser.old (refusal_of e)) }
+    ensures document { OnOk result (HasDocument parser.old) }
+    ensures strict { OnOk result (EndsStrictly parser.old parser.new) }
+    ensures keeps { KeepsOn parser.old parser.new }
+    ensures shorter { OnOk result (ahead parser.new < ahead parser.old) }
+    ensures one_value { OnOk result (PassesValue parser.old parser.new) }
+    ensures within { IfErr result (λ e. RefusalWithin parser.new.buffer (refusal_of e)) }
+    ensures free { OnOk result (parser.new.cursor.refusal ≡ None) }
+    ensures tells { IfErr result (λ e. TellsRefusal parser.old parser.new (refusal_of e)) }
+{
+    lent_in(next_of_value(parser)?)
 }
 
 /// The text of the input that an event is.

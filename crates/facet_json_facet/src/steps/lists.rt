@@ -112,9 +112,9 @@ fn take_end_slowly<'t>(parser: &mut JsonParser<'_>) -> Result<bool, DeserializeE
     ensures within { IfErr result (λ e. RefusalWithin parser.new.buffer (refusal_of e)) }
     ensures tells { IfErr result (λ e. TellsRefusal parser.old parser.new (refusal_of e)) }
 {
-    let ended = end_comes(parser)?;
-    if ended {
+    if end_comes(parser)? {
         let _end = next_of_value(parser)?;
+        return Ok(true);
     }
-    Ok(ended)
+    Ok(false)
 }

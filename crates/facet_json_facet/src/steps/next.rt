@@ -14,9 +14,7 @@ ghost use Rattle.facet_json_meaning.specs.Optional.{is_null_event};
 ghost use Rattle.facet_json_meaning.specs.Peeking.{Finds};
 ghost use Rattle.facet_json_meaning.specs.Inner.Taking.{StaysBefore};
 
-use facet_format::{
-    DeserializeError, FormatParser, ParseEvent, ParseEventKind, ScalarValue, Span,
-};
+use facet_format::{DeserializeError, FormatParser, ParseEvent, ParseEventKind, ScalarValue, Span};
 use facet_json_core::{ended, mismatch};
 use facet_json_parser::{JsonParser, comes_other, next_wanted};
 use facet_json_reader::{Null, Sought, Wanted};
@@ -113,11 +111,11 @@ fn take_null_slowly<'t>(parser: &mut JsonParser<'_>) -> Result<bool, Deserialize
     ensures within { IfErr result (λ e. RefusalWithin parser.new.buffer (refusal_of e)) }
     ensures tells { IfErr result (λ e. TellsRefusal parser.old parser.new (refusal_of e)) }
 {
-    let is = null_comes(parser)?;
-    if is {
+    if null_comes(parser)? {
         let _null = next_of_value(parser)?;
+        return Ok(true);
     }
-    Ok(is)
+    Ok(false)
 }
 
 /// Passes null.

@@ -1,24 +1,27 @@
 -- A look ahead on a walk: what it looked for is passed, or the parser stands where it stood.
 use Rattle.std.proofs.Common.{◌≡◌, ℕ, suc, Bool, true, false, List, ◌∷◌, drop, slice_get, Some, None, refl, sym, ap, ◌∙◌}
-use Rattle.facet_format.specs.Event.{Event, EventKind, Passed}
+use Rattle.facet_format.specs.Complaint.{Refusal}
+use Rattle.facet_format.specs.Event.{Event, EventKind, Passed, sequence_end, scalar, null}
 use Rattle.facet_format.specs.Cursor.{Cursor, at_spot, peeked_at}
 use Rattle.facet_format.specs.Part.{Source}
 use Rattle.facet_json_document.specs.Future.{Future, gives, finished, events_before}
 use Rattle.facet_json_document.specs.Now.{Now, StandsAt, future_of}
 use Rattle.facet_json_parser.specs.Wanted.{NeverGives}
 use Rattle.facet_json_meaning.specs.Inner.Taking.{Takes, StaysBefore}
+use Rattle.facet_json_meaning.specs.ListSteps.{ends_list}
 use Rattle.facet_json_meaning.specs.OneValue.{LooksAhead}
-use Rattle.facet_json_meaning.specs.Passing.{WalksPast}
+use Rattle.facet_json_meaning.specs.Optional.{is_null_event}
+use Rattle.facet_json_meaning.specs.Passing.{WalksPast, LacksAlone}
 use Rattle.facet_json_meaning.specs.Peeking.{Finds}
 use Rattle.facet_json_meaning.proofs.WalkPlaces.{get-drop}
 
 module _ (is : EventKind → Bool) where
   -- A peek that did not find it.
   pub finds-stays : (old new : Now) (found : Bool) → found ≡ false → Finds is old found new → LooksAhead is old found new → StaysBefore is old new
-  finds-stays old new found no finds looks = record {
+  finds-stays old new found not_found finds looks = record {
     there = looks.there;
     finds = λ w c p stands free at.
-        let shows = finds w c p stands free at in record { other = shows.shown ∙ no; spot = peeked_at c.spot; place = refl; stands = shows.stands };
+        let shows = finds w c p stands free at in record { other = shows.shown ∙ not_found; spot = peeked_at c.spot; place = refl; stands = shows.stands };
   }
 
   -- An event that is passed is one.
@@ -34,10 +37,17 @@ module _ (is : EventKind → Bool) where
   -- So it is after a peek that found it.
   pub finds-takes : (old between new : Now) (given : Event) (found : Bool) → found ≡ true → Finds is old found between → WalksPast between given new →
       Takes is old new
-  finds-takes old between new given found yes finds walks w c p stands free at =
+  finds-takes old between new given found was_found finds walks w c p stands free at =
       let shows = finds w c p stands free at in
       let passed = walks w (at_spot c (peeked_at c.spot)) shows.stands free in
-      record { so = shows.shown ∙ yes; stands = passed.stands }
+      record { so = shows.shown ∙ was_found; stands = passed.stands }
+
+  -- Where what comes after a peek lacks memory alone, so does what came before it.
+  pub finds-lacks : (old between : Now) (found : Bool) (r : Refusal) → Finds is old found between → LacksAlone between r → LacksAlone old r
+  finds-lacks old between found r finds lacks = record {
+    lacks = λ w c p stands free at.
+        let shows = finds w c p stands free at in lacks.lacks w (at_spot c (peeked_at c.spot)) p shows.stands free at;
+  }
 
   other-kind : (kind : EventKind) (k : EventKind) (b : Bool) → ((x : EventKind) → is x ≡ true → x ≡ kind) → is k ≡ b → (k ≡ kind → ⊥) → b ≡ false
   other-kind kind k true only e never = absurd (never (only k e))
@@ -58,3 +68,13 @@ module _ (is : EventKind → Bool) where
           stands = stands;
         };
   }
+
+-- The end of a list is one event, and so is null.
+pub end-alone : (x : EventKind) → ends_list x ≡ true → x ≡ sequence_end
+end-alone sequence_end e = refl
+end-alone _ e = cc
+
+pub null-alone : (x : EventKind) → is_null_event x ≡ true → x ≡ scalar null
+null-alone (scalar null) e = refl
+null-alone (scalar _) e = cc
+null-alone _ e = cc

@@ -1,8 +1,7 @@
 use Rattle.std.proofs.Common.{refl, sym, rules}
 use Rattle.std.proofs.lemmas.Result.{err_from_is_err_and}
 use Rattle.facet_format.specs.Views.{event_of}
-use Rattle.facet_json_meaning.proofs.Sequences.ListSteps.{peek-finds_end, peek-no_event}
-use Rattle.facet_json_meaning.proofs.Walks.PeekOnWalk.{peek-lacks}
+use Rattle.facet_json_meaning.proofs.Walks.PeekOnWalk.{peek-finds, peek-lacks, peek-no_end}
 use Rattle.facet_format.specs.Cursor.{peek}
 use Rattle.facet_json_core.proofs.Refusing.{call-tells}
 use Rattle.facet_json_meaning.specs.ListSteps.{ends_list}
@@ -17,12 +16,12 @@ returns-in_err-event-clause-lacks c =
 pub returns-in-Some-clause-finds : goal.returns-in-Some-clause-finds
 returns-in-Some-clause-finds c =
     let steps = rw c.in-Some.is at c.in_ok-event.ensures.steps in
-    peek-finds_end _ _ (event_of c.in-Some.event) c.is_end.result _ c.is_end.ensures refl steps
+    peek-finds ends_list _ _ (event_of c.in-Some.event) c.is_end.result _ (sym c.is_end.ensures) refl steps
 
 pub returns-in-None-clause-finds : goal.returns-in-None-clause-finds
 returns-in-None-clause-finds c =
     let steps = rw c.in-None.is at c.in_ok-event.ensures.steps in
-    peek-no_event _ _ _ _ refl steps
+    peek-no_end ends_list _ _ _ _ refl steps
 
 pub returns-in_err-event-clause-onward : goal.returns-in_err-event-clause-onward
 returns-in_err-event-clause-onward c = search rules

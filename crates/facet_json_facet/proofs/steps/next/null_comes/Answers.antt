@@ -16,12 +16,12 @@ returns-in_err-event-clause-lacks c =
 pub returns-in-Some-clause-finds : goal.returns-in-Some-clause-finds
 returns-in-Some-clause-finds c =
     let steps = rw c.in-Some.is at c.in_ok-event.ensures.steps in
-    peek-finds _ _ (event_of c.in-Some.event) c.is_null.result _ (sym c.is_null.ensures) refl steps
+    peek-finds is_null_event _ _ (event_of c.in-Some.event) c.is_null.result _ (sym c.is_null.ensures) refl steps
 
 pub returns-in-None-clause-finds : goal.returns-in-None-clause-finds
 returns-in-None-clause-finds c =
     let steps = rw c.in-None.is at c.in_ok-event.ensures.steps in
-    peek-no_end _ _ _ _ refl steps
+    peek-no_end is_null_event _ _ _ _ refl steps
 
 pub returns-in_err-event-clause-onward : goal.returns-in_err-event-clause-onward
 returns-in_err-event-clause-onward c = search rules
