@@ -188,12 +188,13 @@ module _ (buffer : List ℕ) (language : Language) (r : Reader) (place : Place) 
   }
 
   -- A bracket that opens a container gives its event, where there is memory for it.
-  pub start-passes : (kind : RustContainerKind) (o : Option ParseEvent) (t : Reader) → MayBeValue place → Reaches buffer language r place at →
-      slice_get buffer at ≡ Some (opening_bracket kind) → MatchOption o (t ≡ r) (λ e. Leaves r (opening_event kind) (span_at at 1) (span_at at 1) (event_of e) t) →
-      MatchOption o (t ≡ r) (λ e. PassesQuickly buffer language r (event_of e) t)
-  start-passes kind None t may is here left = left
-  start-passes kind (Some e) t may is here left =
-      bracket-passes (opening_token kind) (opening_event kind) (event_of e) t is (opening-cut (gaps language) buffer at kind here) (opens-here place kind may) left
+  pub start-passes : {A : Type 0} (given : A → Event) (kind : RustContainerKind) (o : Option A) (t : Reader) → MayBeValue place →
+      Reaches buffer language r place at → slice_get buffer at ≡ Some (opening_bracket kind) →
+      MatchOption o (t ≡ r) (λ a. Leaves r (opening_event kind) (span_at at 1) (span_at at 1) (given a) t) →
+      MatchOption o (t ≡ r) (λ a. PassesQuickly buffer language r (given a) t)
+  start-passes given kind None t may is here left = left
+  start-passes given kind (Some a) t may is here left =
+      bracket-passes (opening_token kind) (opening_event kind) (given a) t is (opening-cut (gaps language) buffer at kind here) (opens-here place kind may) left
 
   -- A scalar gives its event.
   pub scalar-passes : (len : ℕ) (value : Scalar) (e : Event) (t : Reader) → MayBeValue place → Reaches buffer language r place at →

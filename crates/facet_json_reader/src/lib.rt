@@ -22,4 +22,4 @@ pub use quick::Sought;
 pub use reader::{Held, Reader, Stage};
 pub use refusal::{Expected, Inside, Name, NoRaw, Refused, Why};
 pub use text::{checked_text_at, quoted_text_at};
-pub use wanted::{ListEnd, Null, Wanted};
+pub use wanted::{ListEnd, ListStart, Member, Null, ObjectStart, Wanted};

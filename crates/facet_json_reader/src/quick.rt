@@ -3,7 +3,7 @@
 
 ghost use Rattle.std.specs.Prelude.{◌≡◌, ◌≤◌, ◌<◌, Bool, ◌+◌, ◌-◌, ℕ, List, Some, length, slice_get, slice_range, true, false, IfSome, IsUtf8, MatchOption};
 ghost use Rattle.facet_format.specs.Bytes.{quote};
-ghost use Rattle.facet_format.specs.Event.{Scalar, scalar, field_key, borrowed};
+ghost use Rattle.facet_format.specs.Event.{Scalar, Text, scalar, field_key, borrowed};
 ghost use Rattle.facet_format.specs.Span.{Span as SpecSpan, stop, span_at};
 ghost use Rattle.facet_format.specs.Views.{span_of, event_of, scalar_value_of};
 ghost use Rattle.facet_json_token.specs.Cut.{start_of, opens_number};
@@ -13,7 +13,7 @@ ghost use Rattle.facet_json_document.specs.Place.{Place as SpecPlace, led, passe
 ghost use Rattle.facet_json_document.specs.Language.{Language as SpecLanguage, lenient, strict, rules};
 ghost use Rattle.facet_json_token.specs.Gap.{Mode as SpecMode};
 ghost use Rattle.facet_json_document.specs.StrictTokens.{Allows};
-ghost use Rattle.facet_json_reader.specs.PlaceViews.{language_of, least_of, place_of, opening_event, closing_event, closing_token, closing_bracket};
+ghost use Rattle.facet_json_reader.specs.PlaceViews.{language_of, least_of, place_of, opening_event, closing_event, closing_token, closing_bracket, opening_bracket};
 ghost use Rattle.facet_json_reader.specs.Values.{AreUnescaped, IsPlainText};
 ghost use Rattle.facet_json_reader.specs.Quick.{MayBeKey, MayBeValue, Reaches, IsWord, Leaves, PassesQuickly, ComesNo};
 ghost use Rattle.facet_json_reader.specs.Soughts.{event_of_sought, byte_of_sought};
@@ -252,6 +252,36 @@ impl Reader {
         }
     }
 
+    /// Passes a key that holds no escape, whose quote stands here, and its colon; of which no event is made.
+    #[inline(always)]
+    pub(crate) fn move_past_key<'de>(
+        &mut self,
+        input: &'de [u8],
+        language: Language,
+        trust: Trust,
+        place: Place,
+        at: usize,
+    ) -> Option<(&'de str, Span)>
+        requires here { slice_get input.now at ≡ Some quote }
+        requires utf8 { trust ≡ Trust.Utf8 → IsUtf8 input.now }
+        ensures { Reaches input.now (language_of language) self.old (place_of place) at → MatchOption result (self.new ≡ self.old)
+            (λ r. PassesQuickly input.now (language_of language) self.old (record { kind = field_key (borrowed r.0.now); span = span_of r.1 }) self.new) }
+    {
+        if !takes_key(place) {
+            return None;
+        }
+        let (end, name) = text_at(input, language, trust, at)?;
+        let colon = gap_end(input, end + 1, language.mode());
+        match input.get(colon) {
+            Some(b':') => {
+                let span = Span::new(at, end + 1 - at);
+                self.move_past_name(colon);
+                Some((name, span))
+            }
+            _ => None,
+        }
+    }
+
     /// Passes the literal of these letters, which is read as this value.
     #[inline(always)]
     fn pass_word<'de>(
@@ -356,11 +386,40 @@ impl Reader {
         ensures { MatchOption result (self.new ≡ self.old)
             (λ e. Leaves self.old (opening_event kind) (span_at at 1) (span_at at 1) (event_of e) self.new) }
     {
+        let span = self.move_past_start(kind, at)?;
+        Some(ParseEvent::new(opening(kind), span))
+    }
+
+    /// Passes the bracket that opens a container of this kind, where a value may stand and it does; of which no event is made.
+    #[inline(always)]
+    pub(crate) fn open_value(
+        &mut self,
+        input: &[u8],
+        language: Language,
+        kind: ContainerKind,
+    ) -> Option<Span>
+        requires within { stop (span_of self.old.last) ≤ length input.now }
+        ensures { MatchOption result (self.new ≡ self.old)
+            (λ s. PassesQuickly input.now (language_of language) self.old (record { kind = opening_event kind; span = span_of s }) self.new) }
+    {
+        let (at, first) = self.value_start(input, language)?;
+        if first != first_byte(kind) {
+            return None;
+        }
+        self.move_past_start(kind, at)
+    }
+
+    /// The same as `pass_start`, of which no event is made.
+    #[inline(always)]
+    fn move_past_start(&mut self, kind: ContainerKind, at: usize) -> Option<Span>
+        ensures { MatchOption result (self.new ≡ self.old)
+            (λ s. Leaves self.old (opening_event kind) (span_at at 1) (span_at at 1) (record { kind = opening_event kind; span = span_of s }) self.new) }
+    {
         match self.contexts.push(kind) {
             Ok(()) => {
                 self.stage = Stage::inside(kind);
                 self.last = Span::new(at, 1);
-                Some(ParseEvent::new(opening(kind), self.last))
+                Some(self.last)
             }
             Err(_) => None,
         }
@@ -401,9 +460,17 @@ impl Reader {
         ensures { Leaves self.old (field_key (borrowed name.now)) (span_of span) (span_at colon 1) (event_of result) self.new }
     {
         let key = FieldKey::new(CowStr::Borrowed(name), FieldLocationHint::KeyValue);
+        self.move_past_name(colon);
+        ParseEvent::new(ParseEventKind::FieldKey(key), span)
+    }
+
+    /// Passes a key and its colon, of which no event is made.
+    #[inline(always)]
+    fn move_past_name(&mut self, colon: usize)
+        ensures { (name : Text) (s : SpecSpan) → Leaves self.old (field_key name) s (span_at colon 1) (record { kind = field_key name; span = s }) self.new }
+    {
         self.stage = Stage::Within(Place::AfterColon);
         self.last = Span::new(colon, 1);
-        ParseEvent::new(ParseEventKind::FieldKey(key), span)
     }
 }
 
@@ -429,6 +496,25 @@ fn closes_at(kind: ContainerKind, place: Place) -> bool
         ContainerKind::Object => matches!(place, Place::BeforeKey | Place::AfterMember),
         ContainerKind::Array => matches!(place, Place::BeforeItem | Place::AfterItem),
     }
+}
+
+/// The bracket that opens a container of this kind.
+#[inline(always)]
+fn first_byte(kind: ContainerKind) -> u8
+    ensures { result ≡ opening_bracket kind }
+{
+    match kind {
+        ContainerKind::Object => b'{',
+        ContainerKind::Array => b'[',
+    }
+}
+
+/// Whether a key may stand at this place.
+#[inline(always)]
+fn takes_key(place: Place) -> bool
+    ensures { result ≡ true → MayBeKey (place_of place) }
+{
+    matches!(place, Place::BeforeKey | Place::NextKey)
 }
 
 /// Whether a value may stand at this place.

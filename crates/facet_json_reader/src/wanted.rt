@@ -165,3 +165,84 @@ impl<'de> Wanted<'de> for ListEnd {
         Some((ListEnd, span))
     }
 }
+
+/// The beginning of a list.
+#[derive(Debug, Clone, Copy, PartialEq, Eq)]
+pub struct ListStart;
+
+impl<'de> Wanted<'de> for ListStart {
+    ghost use Rattle.facet_format.specs.Event.{sequence_start, array};
+
+    ghost kind = { λ _. sequence_start array };
+
+    #[inline(always)]
+    fn pass(
+        reader: &mut Reader,
+        input: &'de [u8],
+        language: Language,
+        _trust: Trust,
+    ) -> Option<(ListStart, Span)> {
+        let span = reader.open_value(input, language, ContainerKind::Array)?;
+        Some((ListStart, span))
+    }
+}
+
+/// The beginning of an object.
+#[derive(Debug, Clone, Copy, PartialEq, Eq)]
+pub struct ObjectStart;
+
+impl<'de> Wanted<'de> for ObjectStart {
+    ghost use Rattle.facet_format.specs.Event.{struct_start, object};
+
+    ghost kind = { λ _. struct_start object };
+
+    #[inline(always)]
+    fn pass(
+        reader: &mut Reader,
+        input: &'de [u8],
+        language: Language,
+        _trust: Trust,
+    ) -> Option<(ObjectStart, Span)> {
+        let span = reader.open_value(input, language, ContainerKind::Object)?;
+        Some((ObjectStart, span))
+    }
+}
+
+/// A key of an object, or the object's end.
+#[derive(Debug, Clone, Copy, PartialEq, Eq)]
+pub enum Member<'de> {
+    /// A key without an escape.
+    Key(&'de str),
+    /// The end.
+    End,
+}
+
+impl<'de> Wanted<'de> for Member<'de> {
+    ghost use Rattle.facet_json_reader.specs.Soughts.{event_of_member};
+
+    ghost kind = { event_of_member };
+
+    #[inline(always)]
+    fn pass(
+        reader: &mut Reader,
+        input: &'de [u8],
+        language: Language,
+        trust: Trust,
+    ) -> Option<(Member<'de>, Span)> {
+        let Stage::Within(place) = reader.stage else {
+            return None;
+        };
+        let (place, at) = reader.past_separators(input, language, place);
+        match *input.get(at)? {
+            b'"' => {
+                let (name, span) = reader.move_past_key(input, language, trust, place, at)?;
+                Some((Member::Key(name), span))
+            }
+            b'}' => {
+                let span = reader.move_past_closing(ContainerKind::Object, place, at)?;
+                Some((Member::End, span))
+            }
+            _ => None,
+        }
+    }
+}

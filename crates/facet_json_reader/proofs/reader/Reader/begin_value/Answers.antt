@@ -2,6 +2,7 @@
 use Rattle.std.proofs.Common.{Some, ap, ◌∙◌, refl, arith}
 use Rattle.facet_format.specs.declared.event.ContainerKind.TheVariants as containers
 use Rattle.facet_format.specs.Bytes as byte
+use Rattle.facet_format.specs.Views.{event_of}
 use Rattle.facet_json_token.proofs.FirstBytes.{start_of-number_range}
 use Rattle.facet_json_reader.specs.PlaceViews.{language_of, place_of}
 use Rattle.facet_json_reader.specs.Quick.{null_stands, true_stands, false_stands}
@@ -14,13 +15,13 @@ pass_number_apart-requires-clause-number c = start_of-number_range c.args.first 
 pub returns-in-123 : goal.returns-in-123
 returns-in-123 c =
     λ reached.
-    start-passes c.args.input.now (language_of c.args.language) c.args.self.now (place_of c.args.place) c.args.at containers.Object c.pass_start.result c.pass_start.new.self
+    start-passes c.args.input.now (language_of c.args.language) c.args.self.now (place_of c.args.place) c.args.at event_of containers.Object c.pass_start.result c.pass_start.new.self
     (c.if-not-takes_value.ensures refl) reached (c.requires.here ∙ ap Some c.in-123.is) c.pass_start.ensures
 
 pub returns-in-91 : goal.returns-in-91
 returns-in-91 c =
     λ reached.
-    start-passes c.args.input.now (language_of c.args.language) c.args.self.now (place_of c.args.place) c.args.at containers.Array c.pass_start-in-91.result c.pass_start-in-91.new.self
+    start-passes c.args.input.now (language_of c.args.language) c.args.self.now (place_of c.args.place) c.args.at event_of containers.Array c.pass_start-in-91.result c.pass_start-in-91.new.self
     (c.if-not-takes_value.ensures refl) reached (c.requires.here ∙ ap Some c.in-91.is) c.pass_start-in-91.ensures
 
 pub returns-in-116 : goal.returns-in-116
