@@ -17,7 +17,7 @@ use crate::steps::next::{next_of_value, take_next};
 use facet_format::{DeserializeError, FormatParser, ParseEvent, ParseEventKind};
 use facet_json_core::mismatch;
 use facet_json_parser::{JsonParser, comes_other};
-use facet_json_reader::{ListEnd, Sought};
+use facet_json_reader::{ListEnd, ListStart, Sought};
 
 /// Passes the event with which an array begins.
 ///
@@ -33,7 +33,10 @@ pub fn begin_list<'t>(parser: &mut JsonParser<'_>) -> Result<(), DeserializeErro
     ensures within { IfErr result (λ e. RefusalWithin parser.new.buffer (refusal_of e)) }
     ensures tells { IfErr result (λ e. TellsRefusal parser.old parser.new (refusal_of e)) }
 {
-    array_in(next_of_value(parser)?)
+    match take_next(parser) {
+        Some((ListStart, _)) => Ok(()),
+        None => array_in(next_of_value(parser)?),
+    }
 }
 
 /// Whether an array begins with the event.

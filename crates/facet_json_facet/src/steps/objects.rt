@@ -11,10 +11,11 @@ ghost use Rattle.facet_json_core.specs.Refusing.{mismatch_of, TellsRefusal};
 ghost use Rattle.facet_json_meaning.specs.Objects.{begins_object, key_or_end, BeginsObject, IsNoObject, PassesKey, LacksKey};
 ghost use Rattle.facet_json_meaning.specs.OneValue.{IsInside, PassesMemberOrEnd};
 
-use crate::steps::next::next_of_value;
+use crate::steps::next::{next_of_value, take_next};
 use facet_format::{DeserializeError, ParseEvent, ParseEventKind};
 use facet_json_core::mismatch;
 use facet_json_parser::JsonParser;
+use facet_json_reader::{Member, ObjectStart};
 use std::alloc::Global;
 use std::borrow::CowStr;
 
@@ -32,7 +33,10 @@ pub fn begin_object<'t>(parser: &mut JsonParser<'_>) -> Result<(), DeserializeEr
     ensures within { IfErr result (λ e. RefusalWithin parser.new.buffer (refusal_of e)) }
     ensures tells { IfErr result (λ e. TellsRefusal parser.old parser.new (refusal_of e)) }
 {
-    object_in(next_of_value(parser)?)
+    match take_next(parser) {
+        Some((ObjectStart, _)) => Ok(()),
+        None => object_in(next_of_value(parser)?),
+    }
 }
 
 /// An event with which an object begins.
@@ -70,7 +74,11 @@ pub fn next_name<'t, 'de>(
     ensures free { OnOk result (parser.new.cursor.refusal ≡ None) }
     ensures tells { IfErr result (λ e. TellsRefusal parser.old parser.new (refusal_of e)) }
 {
-    name_in(next_of_value(parser)?)
+    match take_next(parser) {
+        Some((Member::Key(name), _)) => Ok(Some(CowStr::Borrowed(name))),
+        Some((Member::End, _)) => Ok(None),
+        None => name_in(next_of_value(parser)?),
+    }
 }
 
 /// The key that an event is, or the end of an object, which is none.
