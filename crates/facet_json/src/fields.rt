@@ -341,6 +341,7 @@ pub fn read_fields<'de, 't, F: Fields<'de>>(
 }
 
 /// Whether this is the first of the names.
+#[inline(always)]
 fn is_first(names: &[&str], key: &str) -> bool
     ensures { result ≡ begins_with (keys names.now) key.now }
 {
@@ -351,6 +352,7 @@ fn is_first(names: &[&str], key: &str) -> bool
 }
 
 /// The first of the names.
+#[inline(always)]
 pub(crate) fn first<'n, 't>(names: &'n [&'t str]) -> &'t str
     ensures { result.now ≡ first_name (keys names.now) }
 {
@@ -361,6 +363,7 @@ pub(crate) fn first<'n, 't>(names: &'n [&'t str]) -> &'t str
 }
 
 /// The names after the first.
+#[inline(always)]
 pub(crate) fn after_first<'n, 't>(names: &'n [&'t str]) -> &'n [&'t str]
     ensures { keys result.now ≡ other_names (keys names.now) }
 {

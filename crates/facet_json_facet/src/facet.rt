@@ -129,6 +129,7 @@ pub trait Facet<'de>: Sized + Drop {
 /// # Errors
 ///
 /// As `T` refuses.
+#[inline(always)]
 pub fn value_in<'t, 'de, T: Facet<'de>>(
     alloc: Global,
     parser: &mut JsonParser<'de>,

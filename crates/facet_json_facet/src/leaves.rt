@@ -113,6 +113,7 @@ impl<'de, T: Leaf> Facet<'de> for T {
 
     ghost whole = { true };
 
+    #[inline(always)]
     fn read_owned<'t>(
         alloc: Global,
         parser: &mut JsonParser<'de>,
@@ -123,6 +124,7 @@ impl<'de, T: Leaf> Facet<'de> for T {
         }
     }
 
+    #[inline(always)]
     fn read<'t>(alloc: Global, parser: &mut JsonParser<'de>) -> Result<T, DeserializeError<'t>> {
         T::read_owned(alloc, parser)
     }

@@ -108,6 +108,7 @@ impl<'de> Facet<'de> for &'de str {
         Err(not_lent(next_of_value(parser)?))
     }
 
+    #[inline(always)]
     fn read<'t>(
         _alloc: Global,
         parser: &mut JsonParser<'de>,

@@ -5,6 +5,7 @@
 mod contexts;
 mod language;
 mod materialized;
+mod moving;
 mod number;
 mod place;
 mod quick;
@@ -16,9 +17,9 @@ mod wanted;
 pub use contexts::Contexts;
 pub use language::Language;
 pub use materialized::{MaterializedToken, TokenKind};
+pub use moving::Sought;
 pub use number::{Whole, short_number, short_number_strict};
 pub use place::{Place, Turn};
-pub use quick::Sought;
 pub use reader::{Held, Reader, Stage};
 pub use refusal::{Expected, Inside, Name, NoRaw, Refused, Why};
 pub use text::{checked_text_at, quoted_text_at};

@@ -60,7 +60,7 @@ pub fn short_number_strict<'de>(input: &'de [u8], at: usize, first: u8) -> Optio
 }
 
 /// A whole number of at most fifteen digits.
-#[derive(Debug, Clone, Copy, PartialEq, Eq)]
+#[derive(Clone, Copy)]
 pub enum Whole {
     /// One without a minus.
     Unsigned(u64),

@@ -114,7 +114,7 @@ impl<'de> Wanted<'de> for Whole {
 }
 
 /// Null.
-#[derive(Debug, Clone, Copy, PartialEq, Eq)]
+#[derive(Clone, Copy)]
 pub struct Null;
 
 impl<'de> Wanted<'de> for Null {
@@ -139,7 +139,7 @@ impl<'de> Wanted<'de> for Null {
 }
 
 /// The end of a list.
-#[derive(Debug, Clone, Copy, PartialEq, Eq)]
+#[derive(Clone, Copy)]
 pub struct ListEnd;
 
 impl<'de> Wanted<'de> for ListEnd {
@@ -167,7 +167,7 @@ impl<'de> Wanted<'de> for ListEnd {
 }
 
 /// The beginning of a list.
-#[derive(Debug, Clone, Copy, PartialEq, Eq)]
+#[derive(Clone, Copy)]
 pub struct ListStart;
 
 impl<'de> Wanted<'de> for ListStart {
@@ -188,7 +188,7 @@ impl<'de> Wanted<'de> for ListStart {
 }
 
 /// The beginning of an object.
-#[derive(Debug, Clone, Copy, PartialEq, Eq)]
+#[derive(Clone, Copy)]
 pub struct ObjectStart;
 
 impl<'de> Wanted<'de> for ObjectStart {
@@ -209,7 +209,7 @@ impl<'de> Wanted<'de> for ObjectStart {
 }
 
 /// A key of an object, or the object's end.
-#[derive(Debug, Clone, Copy, PartialEq, Eq)]
+#[derive(Clone, Copy)]
 pub enum Member<'de> {
     /// A key without an escape.
     Key(&'de str),

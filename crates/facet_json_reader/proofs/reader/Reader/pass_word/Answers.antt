@@ -1,11 +1,14 @@
--- The event says what was passed.
-use Rattle.facet_format.specs.Views.{scalar_value_of}
+-- The literal gives its event.
+use Rattle.std.proofs.Common.{sym, ◌∙◌, length}
+use Rattle.facet_format.specs.Views.{event_of, scalar_value_of}
+use Rattle.facet_json_document.proofs.TokensIn.{allowed-plain}
+use Rattle.facet_json_reader.proofs.QuickEvents.{word-there, word-plain, scalar-passes}
 use Rattle.facet_json_reader.proofs.reader.Reader.pass_word.Goals as goal
 
-pub returns-in_err-span : goal.returns-in_err-span
-returns-in_err-span c = λ language place first is here may reached. rw c.from_residual.ensures (c.in_err-span.ensures language place first _ is here may reached)
-
-pub returns : goal.returns
-returns c =
+pub returns-then-common_len-len : goal.returns-then-common_len-len
+returns-then-common_len-len c =
     λ language place first is here may reached.
-    rw (c.new.ensures.kind, c.new.ensures.span) (c.in_ok-span.ensures language place first (scalar_value_of c.args.value) is here may reached)
+    let all = sym c.common_len.ensures.len ∙ c.if-common_len-len.true in
+    let there = word-there c.args.input.now c.args.at first c.args.word.now (scalar_value_of c.args.value) is here all in
+    let plain = word-plain c.args.input.now c.args.at first c.args.word.now (scalar_value_of c.args.value) is here all in
+    scalar-passes c.args.input.now language c.args.self.now place c.args.at (length c.args.word.now) (scalar_value_of c.args.value) (event_of c.pass_scalar.result) c.pass_scalar.new.self may reached there (allowed-plain language c.args.input.now _ plain) (rw (c.new.ensures.offset, c.new.ensures.len) at c.pass_scalar.ensures)
