@@ -193,17 +193,8 @@ impl<'de> JsonParser<'de> {
         if self.refusal.is_some() {
             return None;
         }
-        // Each language has its own copy of the code in line, so that neither pays for the other.
-        match self.language {
-            Language::Lenient(mode) => {
-                self.lookahead
-                    .next_quickly(self.input, Language::Lenient(mode), self.trust)
-            }
-            Language::Strict(mode) => {
-                self.lookahead
-                    .next_quickly(self.input, Language::Strict(mode), self.trust)
-            }
-        }
+        self.lookahead
+            .next_quickly(self.input, self.language, self.trust)
     }
 
     /// Passes what is wanted, where a few bytes decide that it comes. Else nothing changes.

@@ -328,7 +328,6 @@ fn after_comma(language: Language, place: Place) -> Option<Place>
 }
 
 /// Whether a container of this kind may end at this place.
-#[inline(always)]
 pub(crate) fn closes_at(kind: ContainerKind, place: Place) -> bool
     ensures { result ≡ true → place_turn (place_of place) (closing_token kind) ≡ says (closing_event kind) }
 {
@@ -339,7 +338,6 @@ pub(crate) fn closes_at(kind: ContainerKind, place: Place) -> bool
 }
 
 /// Whether a value may stand at this place.
-#[inline(always)]
 pub(crate) fn takes_value(place: Place) -> bool
     ensures { result ≡ true → MayBeValue (place_of place) }
 {

@@ -45,8 +45,10 @@ pub fn quoted_text_at<'de>(input: &'de [u8], at: usize, least: u8) -> Option<(us
     ensures unescaped { IfSome result (λ r. AreUnescaped least (slice_range input.now (at + 1) r.0)) }
     ensures within { IfSome result (λ r. (at < r.0) × (r.0 < length input.now)) }
 {
-    let end = closing_quote::<Unescaped>(input, at, least)?;
-    Some((end, quoted_text(input, at + 1, end)))
+    match closing_quote::<Unescaped>(input, at, least) {
+        Some(end) => Some((end, quoted_text(input, at + 1, end))),
+        None => None,
+    }
 }
 
 /// The offset of the quote that closes the string whose quote is at `at`, where no other byte ends the run of its text before.

@@ -1,27 +1,18 @@
--- What the lookahead passes at once is a move, in each language.
+-- What the lookahead passes at once is a move.
 use Rattle.std.proofs.Common.{◌∙◌, refl, sym}
 use Rattle.facet_format.specs.Views.{event_of}
 use Rattle.facet_json_parser.proofs.AnswersAreMoves.{quick-answers}
 use Rattle.facet_json_parser.proofs.ParserWithin.{ready-within}
 use Rattle.facet_json_parser.proofs.parser.JsonParser.next_quickly.Goals as goal
 
-pub returns-in-Lenient-clause-event : goal.returns-in-Lenient-clause-event
-returns-in-Lenient-clause-event c =
+pub returns-clause-event : goal.returns-clause-event
+returns-clause-event c =
     let p = c.self.inside in
-    quick-answers event_of p.input.now p.language _ p.lookahead c.next_quickly.new.self p.refusal p.points.items p.counter c.args.self.now
-    c.next_quickly.result c.self.view_is (sym c.is_some.ensures ∙ c.if-is_some.false) c.in-Lenient.is c.next_quickly.ensures.passed
+    quick-answers event_of p.input.now p.language p.language p.lookahead c.next_quickly.new.self p.refusal p.points.items p.counter c.args.self.now
+    c.next_quickly.result c.self.view_is (sym c.is_some.ensures ∙ c.if-is_some.false) refl c.next_quickly.ensures.passed
 
-pub returns-in-Lenient-clause-within : goal.returns-in-Lenient-clause-within
-returns-in-Lenient-clause-within c = ready-within _ _ _ _ _ _ _ c.args.self.now c.self.invariant.0 refl c.self.view_is
-
-pub returns-in-Strict-clause-event : goal.returns-in-Strict-clause-event
-returns-in-Strict-clause-event c =
-    let p = c.self.inside in
-    quick-answers event_of p.input.now p.language _ p.lookahead c.next_quickly-in-Strict.new.self p.refusal p.points.items p.counter c.args.self.now
-    c.next_quickly-in-Strict.result c.self.view_is (sym c.is_some.ensures ∙ c.if-is_some.false) c.in-Strict.is c.next_quickly-in-Strict.ensures.passed
-
-pub returns-in-Strict-clause-within : goal.returns-in-Strict-clause-within
-returns-in-Strict-clause-within c = ready-within _ _ _ _ _ _ _ c.args.self.now c.self.invariant.0 refl c.self.view_is
+pub returns-clause-within : goal.returns-clause-within
+returns-clause-within c = ready-within _ _ _ _ _ _ _ c.args.self.now c.self.invariant.0 refl c.self.view_is
 
 pub returns-then-is_some-clause-within : goal.returns-then-is_some-clause-within
 returns-then-is_some-clause-within c = ready-within _ _ _ _ _ _ _ c.args.self.now c.self.invariant.0 refl c.self.view_is
