@@ -1,5 +1,5 @@
 -- What the first byte of the next token says of the event that comes.
-use Rattle.std.proofs.Common.{◌≡◌, ◌≢◌, ◌⊎◌, inl, inr, ℕ, suc, ◌+◌, ◌≤◌, Bool, true, false, cond, ◌==◌, List, [], ◌∷◌, length, drop, slice_get, slice_range, Option, Some, None, refl, sym, ap, ◌∙◌}
+use Rattle.std.proofs.Common.{◌≡◌, ◌≢◌, ◌⊎◌, inl, inr, ℕ, suc, ◌+◌, Bool, true, false, cond, ◌==◌, List, [], ◌∷◌, length, drop, slice_get, slice_range, Option, Some, None, refl, sym, ap, ◌∙◌}
 use Rattle.std.specs.Prelude.{is_none, ◌&&◌, codes}
 use Rattle.std.specs.Option.{option_map}
 use Rattle.facet_format.specs.Event.{EventKind, Passed, ContainerKind, object, array}
@@ -7,10 +7,10 @@ use Rattle.facet_format.specs.NumberValue.{Number}
 use Rattle.facet_format.specs.NumberValue as numbers
 use Rattle.facet_format.specs.Event as event
 use Rattle.facet_format.specs.Number.{Hint}
-use Rattle.facet_format.specs.NumberParts.{parts, parts_len, parts_hint, is_bare, starts_number}
-use Rattle.facet_format.specs.Bytes.{quote, backslash, slash, star, left_brace, right_brace, left_bracket, right_bracket, lower_f, lower_n, lower_t}
+use Rattle.facet_format.specs.NumberParts.{parts, parts_len, parts_hint, is_bare}
+use Rattle.facet_format.specs.Bytes.{slash, star}
 use Rattle.facet_json_token.specs.Gap.{Mode, plain, jsonc}
-use Rattle.facet_json_token.specs.Cut.{Cut, nothing_left, token as a_token, fault, Start, punctuation, letter, opens_text, opens_number, opens_comment, opens_nothing, start_of, cut_here, cut_by, cut_word, cut_text, cut_number, cut_slash, common_len, content_len, token_at, fault_at, past_gap, cut}
+use Rattle.facet_json_token.specs.Cut.{Cut, nothing_left, token as a_token, fault, Start, punctuation, letter, opens_text, opens_number, opens_comment, opens_nothing, start_of, cut_here, cut_by, cut_text, cut_number, cut_slash, common_len, content_len, token_at, fault_at, past_gap, cut}
 use Rattle.facet_json_token.specs.Token.{Kind, Token, unexpected_char, unexpected_eof, in_literal, in_block_comment}
 use Rattle.facet_json_token.specs.Token as token
 use Rattle.facet_json_token.specs.Tokens.{Tokens, ended, refused, next}

@@ -2,7 +2,6 @@
 use Rattle.std.proofs.Common.{◌≡◌, ℕ, ◌+◌, ◌-◌, ◌≤◌, ◌<◌, Bool, true, false, List, [], ◌∷◌, Option, Some, None, length, drop, slice_get, refl, sym, ap, ap₂, ◌∙◌, arith}
 use Rattle.std.specs.Prelude.{codes, MatchOption}
 use Rattle.std.specs.Option.{option_map}
-use Rattle.facet_format.specs.declared.event.ParseEvent.{ParseEvent}
 use Rattle.facet_json_reader.specs.declared.reader.Reader.{Reader}
 use Rattle.facet_format.specs.declared.event.ContainerKind.{ContainerKind as RustContainerKind}
 use Rattle.facet_format.specs.declared.event.ContainerKind.TheVariants as containers
@@ -11,7 +10,7 @@ use Rattle.facet_format.specs.Bytes as mark_byte
 use Rattle.facet_format.specs.Event.{ContainerKind, EventKind, Event, Passed, Scalar, borrowed}
 use Rattle.facet_format.specs.Event as event
 use Rattle.facet_format.specs.Span.{stop, span_at}
-use Rattle.facet_format.specs.Views.{span_of, event_of}
+use Rattle.facet_format.specs.Views.{span_of}
 use Rattle.facet_format.specs.Number.{Hint}
 use Rattle.facet_format.specs.NumberParts.{parts, parts_len, parts_hint, is_bare}
 use Rattle.facet_json_token.specs.Gap.{Mode, plain}

@@ -1,5 +1,5 @@
 -- A value that is taken of the next event, or of what a few bytes said of it.
-use Rattle.std.specs.Prelude.{◌≡◌, ◌≤◌, ◌<◌, ◌⊎◌, length, List, Option, Some, None, Result, IfOk, IfErr, IfSome}
+use Rattle.std.specs.Prelude.{◌≡◌, ◌≤◌, ◌<◌, ◌⊎◌, length, Option, Some, None, Result, IfOk, IfErr, IfSome}
 use Rattle.facet_format.specs.declared.error.DeserializeError.{DeserializeError}
 use Rattle.facet_format.specs.Complaint.{Refusal, no_memory}
 use Rattle.facet_format.specs.Event.{Event, array}

@@ -2,7 +2,7 @@
 use Rattle.std.specs.Prelude.{ℕ, IsUtf8, nat_le, nat_lt}
 use Rattle.std.specs.Char.{encode_utf8, digit_value, IsScalar}
 use Rattle.std.specs.Str.{is_utf8}
-use Rattle.std.proofs.Common.{◌≡◌, ◌+◌, ◌-◌, ◌*◌, ◌<◌, ◌≤◌, inl, inr, Bool, true, false, cond, ◌&&◌, List, Option, Some, None, refl, sym, ap, ◌∙◌, subst, arith, ltb-true, leb-true}
+use Rattle.std.proofs.Common.{◌≡◌, ◌+◌, ◌*◌, ◌<◌, ◌≤◌, inl, inr, Bool, true, false, cond, ◌&&◌, List, Option, Some, None, refl, sym, ap, ◌∙◌, subst, arith, ltb-true, leb-true}
 use Rattle.std.proofs.lemmas.Bool.{and_parts, cases_lt, agree_below, agree_below_at}
 use Rattle.std.proofs.lemmas.Bool.Decides.{nat_tests}
 use Rattle.std.proofs.lemmas.Str.{IsUtf8-nil, IsUtf8-append, IsUtf8-encode, is_utf8-from_IsUtf8}

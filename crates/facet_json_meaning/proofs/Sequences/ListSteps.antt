@@ -1,14 +1,13 @@
 -- How a list is read: the first event of an array, its items one by one, and its closing bracket.
 use Rattle.std.specs.Prelude.{ℕ, List, drop, slice_get, length}
 use Rattle.std.specs.Option.{option_map}
-use Rattle.std.proofs.Common.{◌≡◌, ◌+◌, ◌⊎◌, inl, inr, ℕ, suc, Bool, true, false, List, [], ◌∷◌, ◌++◌, Option, None, Some, Ok, refl, sym, ap, ◌∙◌, arith, append_assoc, append-nil, length-append}
+use Rattle.std.proofs.Common.{◌≡◌, ◌+◌, ◌⊎◌, inl, inr, ℕ, suc, true, false, List, [], ◌∷◌, ◌++◌, Option, None, Some, refl, sym, ap, ◌∙◌, arith, append_assoc, append-nil, length-append}
 use Rattle.facet_format.specs.Complaint.{Refusal}
 use Rattle.facet_format.specs.Event.{Event, Passed, array, sequence_start, sequence_end, struct_start}
 use Rattle.facet_format.specs.Event as events
-use Rattle.facet_format.specs.Cursor.{Cursor, Spot, event, on_walk, event_or_end, an_event, at_spot, unpeeked, peek, Answer, Step, repeats, peeks, peeks_without_memory, peeks_at_the_end, peeks_at_nothing}
+use Rattle.facet_format.specs.Cursor.{Cursor, Spot, at_spot, unpeeked}
 use Rattle.facet_format.specs.Part.{Source}
 use Rattle.facet_format.specs.Kept.{found}
-use Rattle.facet_format.specs.Steps.{IsStep}
 use Rattle.facet_json_token.specs.Token.{Token}
 use Rattle.facet_json_document.specs.Node.{Node, scalar, Nodes, no_nodes, item}
 use Rattle.facet_json_document.specs.Node as node
@@ -25,7 +24,6 @@ use Rattle.facet_json_meaning.specs.Lists.{put_value, items_of, list_of}
 use Rattle.facet_json_meaning.specs.ListSteps.{nodes_of, begins_list, ends_list, BeginsList, IsNoList}
 use Rattle.facet_json_meaning.specs.Inner.Taking.{Takes, StaysThere, StaysBefore}
 use Rattle.facet_json_meaning.proofs.Walks.FirstEvents.{first_event, first-passed}
-use Rattle.facet_json_meaning.proofs.Walks.PeekOnWalk.{step-no_end}
 use Rattle.facet_json_meaning.proofs.WalkPlaces.{drop-get, drop-suc, drop-node}
 
 -- ---- within an array

@@ -1,11 +1,10 @@
 -- A look ahead on a walk: what it looked for is passed, or the parser stands where it stood.
-use Rattle.std.proofs.Common.{◌≡◌, ℕ, suc, Bool, true, false, List, ◌∷◌, drop, slice_get, Some, None, refl, sym, ap, ◌∙◌}
+use Rattle.std.proofs.Common.{◌≡◌, Bool, true, false, List, refl, sym, ap, ◌∙◌}
 use Rattle.facet_format.specs.Complaint.{Refusal}
 use Rattle.facet_format.specs.Event.{Event, EventKind, Passed, sequence_end, scalar, null}
-use Rattle.facet_format.specs.Cursor.{Cursor, at_spot, peeked_at}
-use Rattle.facet_format.specs.Part.{Source}
-use Rattle.facet_json_document.specs.Future.{Future, gives, finished, events_before}
-use Rattle.facet_json_document.specs.Now.{Now, StandsAt, future_of}
+use Rattle.facet_format.specs.Cursor.{at_spot, peeked_at}
+use Rattle.facet_json_document.specs.Future.{finished, events_before}
+use Rattle.facet_json_document.specs.Now.{Now, future_of}
 use Rattle.facet_json_parser.specs.Wanted.{NeverGives}
 use Rattle.facet_json_meaning.specs.Inner.Taking.{Takes, StaysBefore}
 use Rattle.facet_json_meaning.specs.ListSteps.{ends_list}

@@ -1,5 +1,4 @@
 -- The bracket gives the end of the list.
-use Rattle.std.proofs.Common.{◌≡◌, slice_get, Some}
 use Rattle.facet_format.specs.Bytes.{right_bracket}
 use Rattle.facet_json_token.proofs.Offsets.{slice_get-from_read}
 use Rattle.facet_json_reader.specs.PlaceViews.{language_of}
