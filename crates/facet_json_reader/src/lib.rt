@@ -22,5 +22,4 @@ pub use number::{Whole, short_number, short_number_strict};
 pub use place::{Place, Turn};
 pub use reader::{Held, Reader, Stage};
 pub use refusal::{Expected, Inside, Name, NoRaw, Refused, Why};
-pub use text::{checked_text_at, quoted_text_at};
 pub use wanted::{ListEnd, ListStart, Member, Null, ObjectStart, Wanted};

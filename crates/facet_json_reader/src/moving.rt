@@ -13,8 +13,9 @@ ghost use Rattle.facet_json_reader.specs.Soughts.{event_of_sought, byte_of_sough
 
 use crate::language::Language;
 use crate::place::Place;
-use crate::quick::{closes_at, takes_value, text_at};
+use crate::quick::{closes_at, takes_value};
 use crate::reader::{Reader, Stage};
+use crate::text::text_at;
 use facet_format::{ContainerKind, Span};
 use facet_json_token::Trust;
 use facet_json_token::cutting::common_len;

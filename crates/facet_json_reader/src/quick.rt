@@ -22,7 +22,7 @@ use crate::language::Language;
 use crate::number::{short_number, short_number_strict};
 use crate::place::Place;
 use crate::reader::{Reader, Stage, closing, opening};
-use crate::text::{checked_text_at, quoted_text_at};
+use crate::text::text_at;
 use facet_format::{
     ContainerKind, FieldKey, FieldLocationHint, ParseEvent, ParseEventKind, ScalarValue, Span,
 };
@@ -345,25 +345,4 @@ pub(crate) fn takes_value(place: Place) -> bool
         place,
         Place::Root | Place::AfterColon | Place::BeforeItem | Place::NextItem
     )
-}
-
-/// The text of the string whose quote is at `at`, where it holds no escape and the language allows it, and the offset of the quote that closes it.
-#[inline(always)]
-pub(crate) fn text_at<'de>(
-    input: &'de [u8],
-    language: Language,
-    trust: Trust,
-    at: usize,
-) -> Option<(usize, &'de str)>
-    requires here { slice_get input.now at ≡ Some quote }
-    requires utf8 { trust ≡ Trust.Utf8 → IsUtf8 input.now }
-    ensures text { IfSome result (λ r. IsPlainText input.now at r.0 r.1.now) }
-    ensures unescaped { IfSome result (λ r. AreUnescaped (least_of (language_of language)) (slice_range input.now (at + 1) r.0)) }
-    ensures within { IfSome result (λ r. (at < r.0) × (r.0 < length input.now)) }
-{
-    let least = language.least();
-    match trust {
-        Trust::Nothing => checked_text_at(input, at, least),
-        Trust::Utf8 => quoted_text_at(input, at, least),
-    }
 }

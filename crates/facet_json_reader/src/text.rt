@@ -1,19 +1,69 @@
 //! Texts without an escape, from their bytes, sixteen at a time.
 
 ghost use Rattle.std.specs.Prelude.{◌≡◌, ◌<◌, ◌+◌, ℕ, Bool, true, not, length, Some, slice_get, slice_range, IfSome, IsUtf8, ◌≤◌, drop, map};
-ghost use Rattle.facet_format.specs.Bytes.{quote};
+ghost use Rattle.facet_format.specs.Bytes.{quote, space};
+ghost use Rattle.facet_json_reader.specs.PlaceViews.{language_of, least_of};
 ghost use Rattle.facet_json_reader.specs.Values.{AreUnescaped, IsClosedAt, IsPlainText};
 ghost use Rattle.std.specs.List.{prefix_len};
 ghost use Rattle.std.specs.Simd.Lanes.{mask_l};
 ghost use Rattle.facet_json_reader.specs.Inner.Window.{is_stop_from, is_unescaped, is_mark, ordinary-unescaped};
 
-use facet_json_token::{plain_text, plain_text_unchecked, quoted_text};
+use crate::language::Language;
+use facet_json_token::{Trust, plain_text, plain_text_unchecked, quoted_text};
 use std::simd::prelude::*;
+
+/// The text of the string whose quote is at `at`, where it holds no escape and the language allows it, and the offset of the quote
+/// that closes it.
+#[inline(always)]
+pub(crate) fn text_at<'de>(
+    input: &'de [u8],
+    language: Language,
+    trust: Trust,
+    at: usize,
+) -> Option<(usize, &'de str)>
+    requires here { slice_get input.now at ≡ Some quote }
+    requires utf8 { trust ≡ Trust.Utf8 → IsUtf8 input.now }
+    ensures text { IfSome result (λ r. IsPlainText input.now at r.0 r.1.now) }
+    ensures unescaped { IfSome result (λ r. AreUnescaped (least_of (language_of language)) (slice_range input.now (at + 1) r.0)) }
+    ensures within { IfSome result (λ r. (at < r.0) × (r.0 < length input.now)) }
+{
+    match language {
+        Language::Lenient(_) => text_from(input, trust, at, 0),
+        Language::Strict(_) => strict_text_at(input, trust, at),
+    }
+}
+
+/// The same where RFC 8259 alone is read. It is a function of its own, so that lenient texts are compared with no bound.
+#[inline(never)]
+fn strict_text_at<'de>(input: &'de [u8], trust: Trust, at: usize) -> Option<(usize, &'de str)>
+    requires here { slice_get input.now at ≡ Some quote }
+    requires utf8 { trust ≡ Trust.Utf8 → IsUtf8 input.now }
+    ensures text { IfSome result (λ r. IsPlainText input.now at r.0 r.1.now) }
+    ensures unescaped { IfSome result (λ r. AreUnescaped space (slice_range input.now (at + 1) r.0)) }
+    ensures within { IfSome result (λ r. (at < r.0) × (r.0 < length input.now)) }
+{
+    text_from(input, trust, at, b' ')
+}
+
+/// The same where no byte below `least` stands in it.
+#[inline(always)]
+fn text_from<'de>(input: &'de [u8], trust: Trust, at: usize, least: u8) -> Option<(usize, &'de str)>
+    requires here { slice_get input.now at ≡ Some quote }
+    requires utf8 { trust ≡ Trust.Utf8 → IsUtf8 input.now }
+    ensures text { IfSome result (λ r. IsPlainText input.now at r.0 r.1.now) }
+    ensures unescaped { IfSome result (λ r. AreUnescaped least (slice_range input.now (at + 1) r.0)) }
+    ensures within { IfSome result (λ r. (at < r.0) × (r.0 < length input.now)) }
+{
+    match trust {
+        Trust::Nothing => checked_text_at(input, at, least),
+        Trust::Utf8 => quoted_text_at(input, at, least),
+    }
+}
 
 /// The text of the string whose quote is at `at`, where no escape and no byte below `least` stands in it and it is UTF-8, and the
 /// offset of the quote that closes it.
 #[inline(always)]
-pub fn checked_text_at<'de>(input: &'de [u8], at: usize, least: u8) -> Option<(usize, &'de str)>
+fn checked_text_at<'de>(input: &'de [u8], at: usize, least: u8) -> Option<(usize, &'de str)>
     requires here { slice_get input.now at ≡ Some quote }
     ensures text { IfSome result (λ r. IsPlainText input.now at r.0 r.1.now) }
     ensures unescaped { IfSome result (λ r. AreUnescaped least (slice_range input.now (at + 1) r.0)) }
@@ -38,7 +88,7 @@ fn other_text_at<'de>(input: &'de [u8], at: usize, least: u8) -> Option<(usize, 
 
 /// As `checked_text_at`, of an input that is UTF-8: nothing is checked.
 #[inline(always)]
-pub fn quoted_text_at<'de>(input: &'de [u8], at: usize, least: u8) -> Option<(usize, &'de str)>
+fn quoted_text_at<'de>(input: &'de [u8], at: usize, least: u8) -> Option<(usize, &'de str)>
     requires here { slice_get input.now at ≡ Some quote }
     requires utf8 { IsUtf8 input.now }
     ensures text { IfSome result (λ r. IsPlainText input.now at r.0 r.1.now) }

@@ -9,8 +9,8 @@ ghost use Rattle.facet_json_reader.specs.Quick.{PassesQuickly};
 
 use crate::language::Language;
 use crate::number::{Whole, short_whole_in};
-use crate::quick::text_at;
 use crate::reader::{Reader, Stage};
+use crate::text::text_at;
 use facet_format::{ContainerKind, Span};
 use facet_json_token::Trust;
 
