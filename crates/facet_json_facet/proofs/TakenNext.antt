@@ -4,7 +4,7 @@ use Rattle.std.specs.Prelude.{MatchOption}
 use Rattle.facet_format.specs.Cursor.{event}
 use Rattle.facet_format.specs.Event.{Event}
 use Rattle.facet_json_document.specs.Now.{Now, GoesOn}
-use Rattle.facet_json_parser.specs.Wanted.{PassesWanted}
+use Rattle.facet_json_parser.specs.Inner.Wanted.{PassesWanted}
 use Rattle.facet_json_meaning.proofs.OneValue.EventsPassed.{next-passes_by_kind}
 use Rattle.facet_json_meaning.proofs.Walks.NextOnWalk.{answer-walks}
 use Rattle.facet_json_facet.specs.Inner.Taking.{TakesNext}

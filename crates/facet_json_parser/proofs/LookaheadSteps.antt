@@ -16,7 +16,7 @@ use Rattle.facet_json_document.specs.Now.{first_of, on_input}
 use Rattle.facet_json_document.specs.Within.{ReaderWithin}
 use Rattle.facet_json_reader.specs.declared.reader.Held.{Held}
 use Rattle.facet_json_reader.specs.declared.reader.Reader.{Reader as RustReader}
-use Rattle.facet_json_reader.specs.Quick.{PassesQuickly}
+use Rattle.facet_json_reader.specs.Inner.Quick.{PassesQuickly}
 use Rattle.facet_json_parser.specs.declared.lookahead.Lookahead.{Lookahead as RustLookahead}
 use Rattle.facet_json_reader.specs.Views.{passed_of, reader_of, IsRefusedBefore, without_memory, at_a_stop}
 use Rattle.facet_json_parser.specs.Lookahead.{Lookahead, lookahead_with, reader_before, spot_of, HoldsNext, HoldsWhatComes, lookahead_past, TakesHeld, Lends, Withholds}

@@ -22,7 +22,7 @@ use Rattle.facet_json_document.specs.Within.{ReaderWithin, NowWithin, AnswerWith
 use Rattle.facet_json_document.specs.UnreadLaws.{RefusalWithin}
 use Rattle.facet_json_document.proofs.MoveIsStep.{move-steps}
 use Rattle.facet_json_document.proofs.MovesNext.{next-passes}
-use Rattle.facet_json_parser.specs.Wanted.{PassesWanted}
+use Rattle.facet_json_parser.specs.Inner.Wanted.{PassesWanted}
 use Rattle.facet_json_document.proofs.MoveLaws.{with_cursor, same_cursor-is}
 use Rattle.facet_json_document.proofs.Spans.AnswersWithin.{moves-within, current-within}
 use Rattle.facet_json_document.proofs.Spans.BytesAhead.{moves-onward, moves-goes_on, next-lowers, events-lower}

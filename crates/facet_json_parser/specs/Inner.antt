@@ -1,2 +1,3 @@
 -- Definitions that serve private contracts alone.
 pub mod Quiet
+pub mod Wanted

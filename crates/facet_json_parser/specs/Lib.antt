@@ -5,4 +5,3 @@ pub mod Ready
 pub mod RunViews
 pub mod Steps
 pub mod Views
-pub mod Wanted

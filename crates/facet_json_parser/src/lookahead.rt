@@ -17,8 +17,8 @@ ghost use Rattle.facet_json_reader.specs.Views.{passed_of, IsRefusedBefore};
 ghost use Rattle.facet_json_parser.specs.PartViews.{after_part};
 ghost use Rattle.facet_json_parser.specs.Lookahead.{lookahead_at, lookahead_with, first_lookahead, reader_before, spot_of, HoldsWhatComes, TakesHeld, Lends, Withholds};
 ghost use Rattle.facet_json_parser.specs.Views.{lookahead_of};
-ghost use Rattle.facet_json_parser.specs.Wanted.{NeverGives};
-ghost use Rattle.facet_json_reader.specs.Soughts.{event_of_sought};
+ghost use Rattle.facet_json_parser.specs.Inner.Wanted.{NeverGives};
+ghost use Rattle.facet_json_reader.specs.Inner.Soughts.{event_of_sought};
 
 use crate::part::{Part, find};
 use crate::passing::{capture, leave, pass};
@@ -130,13 +130,13 @@ impl<'de> Lookahead<'de> {
         W::pass(&mut self.reader, input, language, trust)
     }
 
-    /// Whether something else comes next, where no event is held and its first byte tells. Where it does not tell, the answer is no.
+    /// Whether something else comes next, where its first byte tells. Where it does not tell, the answer is no.
     #[inline(always)]
     pub fn comes_other(&self, input: &[u8], language: Language, sought: Sought) -> bool
         requires sound { IsSound input.now (language_of language) (lookahead_of self.now) }
         ensures { result ≡ true → NeverGives (event_of_sought sought) (future_at input.now (language_of language) (reader_before (lookahead_of self.now))) }
     {
-        self.held.is_none() && self.reader.comes_other(input, language, sought)
+        self.reader.comes_other(input, language, sought)
     }
 
     /// Answers a copy of the next event, which stays the next one, or `None` after the document's last one.

@@ -35,7 +35,7 @@ use Rattle.facet_json_reader.proofs.TokensThere.{mark-cut, tokens_in-past_gap, w
 use Rattle.facet_json_reader.proofs.TurnsAtPlaces.{is_mark, mark-plain}
 use Rattle.facet_json_reader.specs.PlaceViews.{opening_bracket, closing_bracket, opening_token, closing_token, opening_event}
 use Rattle.facet_json_reader.specs.Values.{IsPlainText, IsScalarThere}
-use Rattle.facet_json_reader.specs.Quick.{MayBeKey, MayBeValue, Reaches, IsWord, null_stands, true_stands, false_stands, Leaves, PassesQuickly}
+use Rattle.facet_json_reader.specs.Inner.Quick.{MayBeKey, MayBeValue, Reaches, IsWord, null_stands, true_stands, false_stands, Leaves, PassesQuickly}
 use Rattle.facet_json_reader.specs.Views.{stage_of, comes_at, coming}
 
 -- The places where a value may stand.

@@ -5,7 +5,6 @@ use Rattle.std.specs.declared.alloc.Global.{Global}
 use Rattle.std.specs.declared.borrow.CowStr.{CowStr}
 use Rattle.facet_json_reader.specs.declared.materialized.TokenKind.{TokenKind}
 use Rattle.facet_json_reader.specs.declared.materialized.TokenKind.TheVariants as kinds
-use Rattle.facet_json_reader.specs.declared.materialized.MaterializedToken.{MaterializedToken}
 use Rattle.facet_json_reader.specs.declared.refusal.Name.{Name}
 use Rattle.facet_json_reader.specs.declared.refusal.Expected.{Expected}
 use Rattle.facet_format.specs.Complaint.{refusal_at, unexpected_token}
@@ -18,7 +17,7 @@ use Rattle.facet_json_document.specs.Meaning.{meaning_of}
 use Rattle.facet_json_document.specs.Place.{Place, kind_name, expected_at, goes_on}
 use Rattle.facet_json_document.specs.Refusal.{needs_meaning, misplaced}
 use Rattle.facet_json_reader.specs.PlaceViews.{name_text, expected_text}
-use Rattle.facet_json_reader.specs.TokenViews.{number_at, number_in, holds_made_text, IsReadAs, IsReadOrUnmade, IsUnmade}
+use Rattle.facet_json_reader.specs.TokenViews.{number_at, number_in, holds_made_text, IsReadAs, IsUnmade}
 use Rattle.facet_json_reader.specs.Views.{IsNamed, IsNameOf, StopsAt}
 
 -- A number of the buffer is read as itself.
@@ -44,13 +43,11 @@ read_means buffer _ kinds.Eof r n = absurd r
 read_means buffer _ _ r n = cc
 
 -- A token that is read is called so.
-pub read-named : (buffer : List ℕ) (o : Option Kind) (found : Option MaterializedToken) (read : MaterializedToken)
-    (name : Name) → found ≡ Some read → IfSome o (λ k. IsReadOrUnmade buffer k found) →
-    ((b : List ℕ) (k : Kind) → IsReadAs b k read.kind → name_text name ≡ kind_name b k) →
+pub read-named : (buffer : List ℕ) (o : Option Kind) (read : TokenKind) (name : Name) → IfSome o (λ k. IsReadAs buffer k read) →
+    ((b : List ℕ) (k : Kind) → IsReadAs b k read → name_text name ≡ kind_name b k) →
     IfSome o (λ k. IsNamed buffer k name)
-read-named buffer None found read name e r called = tt
-read-named buffer (Some k) found read name e r called =
-    let is = rw e at r in record { name_is = called buffer k is; has_meaning = read_means buffer k read.kind is }
+read-named buffer None read name r called = tt
+read-named buffer (Some k) read name r called = record { name_is = called buffer k r; has_meaning = read_means buffer k read r }
 
 -- A token that is called so, at a place where no document goes on with it.
 pub named-stops : (buffer : List ℕ) (place : Place) (kind : Kind) (s : Span) (rest : Tokens) (name : Name)

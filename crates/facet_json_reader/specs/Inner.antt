@@ -1,4 +1,6 @@
 -- Definitions that serve private contracts alone.
 pub mod Digits
+pub mod Quick
+pub mod Soughts
 pub mod Whole
 pub mod Window

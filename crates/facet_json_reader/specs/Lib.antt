@@ -1,9 +1,6 @@
 pub mod Inner
 pub mod Packed
 pub mod PlaceViews
-pub mod Quick
-pub mod Soughts
 pub mod TokenViews
 pub mod Values
 pub mod Views
-pub mod Wholes

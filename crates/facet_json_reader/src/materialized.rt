@@ -1,6 +1,6 @@
 //! Tokens with what they stand for.
 
-ghost use Rattle.std.specs.Prelude.{◌≡◌, true, false, List, ℕ, Some, IfOk, IfErr, IfSome, MatchOption, MatchResult, string_bytes};
+ghost use Rattle.std.specs.Prelude.{◌≡◌, true, false, List, ℕ, Some, IsSome, IfOk, IfErr, IfSome, MatchOption, MatchResult, string_bytes};
 ghost use Rattle.facet_format.specs.Event.{is_made};
 ghost use Rattle.facet_format.specs.HeldText.{text_of};
 ghost use Rattle.facet_format.specs.Views.{span_of, scalar_value_of};
@@ -10,7 +10,7 @@ ghost use Rattle.facet_json_token.specs.Token.{Kind, string};
 ghost use Rattle.facet_json_document.specs.Meaning.{meaning_of};
 ghost use Rattle.facet_json_document.specs.Place.{kind_name};
 ghost use Rattle.facet_json_document.specs.Walk.{scalar_of};
-ghost use Rattle.facet_json_reader.specs.PlaceViews.{refused_of, name_text};
+ghost use Rattle.facet_json_reader.specs.PlaceViews.{refused_of, name_text, is_string_token};
 ghost use Rattle.facet_json_reader.specs.TokenViews.{number_in, holds_made_text, CanBeRead, IsContent, IsReadAs, IsReadOrUnmade, IsTextOf, IsUnmade, IsMeaningless};
 
 use crate::refusal::{Name, Refused, Why};
@@ -173,15 +173,6 @@ fn read_kind<'a>(
         (λ k. IsMeaningless buffer.now k (span_of token.now.span) (refused_of r))) }
 {
     match token.token {
-        Token::ObjectStart => Ok(Some(TokenKind::ObjectStart)),
-        Token::ObjectEnd => Ok(Some(TokenKind::ObjectEnd)),
-        Token::ArrayStart => Ok(Some(TokenKind::ArrayStart)),
-        Token::ArrayEnd => Ok(Some(TokenKind::ArrayEnd)),
-        Token::Colon => Ok(Some(TokenKind::Colon)),
-        Token::Comma => Ok(Some(TokenKind::Comma)),
-        Token::Null => Ok(Some(TokenKind::Null)),
-        Token::True => Ok(Some(TokenKind::True)),
-        Token::False => Ok(Some(TokenKind::False)),
         Token::String {
             start,
             end,
@@ -190,12 +181,63 @@ fn read_kind<'a>(
             Some(text) => Ok(Some(TokenKind::String(text))),
             None => Ok(None),
         },
+        _ => Ok(Some(read_other(buffer, token)?)),
+    }
+}
+
+/// The same of a token that is no string: nothing allocates.
+#[inline(always)]
+pub(crate) fn read_other<'a>(
+    buffer: &'a [u8],
+    token: &SpannedToken,
+) -> Result<TokenKind<'a>, Refused>
+    requires token { CanBeRead buffer.now token.now.span token.now.token }
+    requires no_string { is_string_token token.now.token ≡ false }
+    ensures read { IfOk result (λ kind. IfSome (kind_of token.now.token) (λ k. IsReadAs buffer.now k kind)) }
+    ensures refused { IfErr result (λ r. IfSome (kind_of token.now.token)
+        (λ k. IsMeaningless buffer.now k (span_of token.now.span) (refused_of r))) }
+{
+    match token.token {
+        Token::ObjectStart => Ok(TokenKind::ObjectStart),
+        Token::ObjectEnd => Ok(TokenKind::ObjectEnd),
+        Token::ArrayStart => Ok(TokenKind::ArrayStart),
+        Token::ArrayEnd => Ok(TokenKind::ArrayEnd),
+        Token::Colon => Ok(TokenKind::Colon),
+        Token::Comma => Ok(TokenKind::Comma),
+        Token::Null => Ok(TokenKind::Null),
+        Token::True => Ok(TokenKind::True),
+        Token::False => Ok(TokenKind::False),
         Token::Number { start, end, hint } => {
             let number = parse_measured(buffer, start, end, hint)?;
-            Ok(Some(TokenKind::from(number)))
+            Ok(TokenKind::from(number))
         }
-        Token::Eof => Ok(Some(TokenKind::Eof)),
-        Token::NeedMore { .. } => unreachable!(),
+        Token::Eof => Ok(TokenKind::Eof),
+        Token::String { .. } | Token::NeedMore { .. } => unreachable!(),
+    }
+}
+
+/// Whether the string whose content is `buffer[start..end]` has a text, which is not decoded. It is refused as in `string_text`.
+pub(crate) fn check_text(
+    buffer: &[u8],
+    start: usize,
+    end: usize,
+    has_escapes: bool,
+    span: Span,
+) -> Result<(), Refused>
+    requires { IsContent buffer.now span start end has_escapes }
+    ensures text { IfOk result (λ _. IsSome (meaning_of buffer.now (string start end has_escapes))) }
+    ensures refused { IfErr result (λ r. IsMeaningless buffer.now (string start end has_escapes) (span_of span) (refused_of r)) }
+{
+    if has_escapes {
+        check_content(buffer, start, end)?;
+        return Ok(());
+    }
+    match plain_text(buffer, start, end) {
+        Some(_) => Ok(()),
+        None => Err(Refused {
+            why: Why::InvalidUtf8,
+            span,
+        }),
     }
 }
 

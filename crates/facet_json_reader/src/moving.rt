@@ -8,8 +8,8 @@ ghost use Rattle.facet_format.specs.Views.{span_of};
 ghost use Rattle.facet_json_document.specs.Language.{Language as SpecLanguage};
 ghost use Rattle.facet_json_document.specs.Place.{Place as SpecPlace};
 ghost use Rattle.facet_json_reader.specs.PlaceViews.{language_of, place_of, opening_event, closing_event, opening_bracket, closing_bracket};
-ghost use Rattle.facet_json_reader.specs.Quick.{MayBeKey, MayBeValue, Reaches, IsWord, Leaves, PassesQuickly, ComesNo};
-ghost use Rattle.facet_json_reader.specs.Soughts.{event_of_sought, byte_of_sought};
+ghost use Rattle.facet_json_reader.specs.Inner.Quick.{MayBeKey, MayBeValue, Reaches, IsWord, Leaves, PassesQuickly, ComesNo};
+ghost use Rattle.facet_json_reader.specs.Inner.Soughts.{event_of_sought, byte_of_sought};
 
 use crate::language::Language;
 use crate::place::Place;

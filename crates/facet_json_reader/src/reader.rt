@@ -18,7 +18,7 @@ ghost use Rattle.facet_json_reader.specs.Views.{stage_of, passed_of, reader_of, 
 
 use crate::contexts::Contexts;
 use crate::language::Language;
-use crate::materialized::{materialize, string_text};
+use crate::materialized::{check_text, materialize, read_other, string_text};
 use crate::place::{Place, Turn};
 use crate::refusal::{Expected, Name, Refused, Why};
 use facet_format::{
@@ -129,14 +129,14 @@ impl Reader {
         ensures { IsUpcoming input.now (language_of language) self.now result }
     {
         let Stage::Within(mut place) = self.stage else {
-            end(alloc, input, language, self.last)?;
+            end(input, language, self.last)?;
             return Ok(None);
         };
         let mut position = self.last.end();
         loop {
             let token = language.cut(input, position)?;
             match place.turn(&token.token) {
-                Turn::Stops => return Err(stopped(alloc, input, place, &token)),
+                Turn::Stops => return Err(stopped(input, place, &token)),
                 Turn::Passes(next) => {
                     position = token.span.end();
                     place = language.led(next);
@@ -228,7 +228,7 @@ fn event<'de>(kind: ParseEventKind<'de>, span: Span, last: Span) -> Held<'de>
 
 /// Whether the input may end behind the root, whose last token takes these bytes: where RFC 8259 alone is read, nothing is left there.
 #[inline(always)]
-fn end(alloc: Global, input: &[u8], language: Language, last: Span) -> Result<(), Refused>
+fn end(input: &[u8], language: Language, last: Span) -> Result<(), Refused>
     requires { stop (span_of last) ≤ length input.now }
     ensures { let behind = behind_root (rules (language_of language)) (tokens_in (language_of language) input.now (stop (span_of last))) in MatchResult result
         (λ _. behind ≡ finished)
@@ -236,13 +236,13 @@ fn end(alloc: Global, input: &[u8], language: Language, last: Span) -> Result<()
 {
     match language {
         Language::Lenient(_) => Ok(()),
-        Language::Strict(mode) => end_strict(alloc, input, mode, last),
+        Language::Strict(mode) => end_strict(input, mode, last),
     }
 }
 
 /// The same where RFC 8259 alone is read.
 #[inline(never)]
-fn end_strict(alloc: Global, input: &[u8], mode: Mode, last: Span) -> Result<(), Refused>
+fn end_strict(input: &[u8], mode: Mode, last: Span) -> Result<(), Refused>
     requires { stop (span_of last) ≤ length input.now }
     ensures { let behind = behind_root strict_rules (tokens_in (strict (mode_of mode)) input.now (stop (span_of last))) in MatchResult result
         (λ _. behind ≡ finished)
@@ -251,7 +251,7 @@ fn end_strict(alloc: Global, input: &[u8], mode: Mode, last: Span) -> Result<(),
     let token = Language::Strict(mode).cut(input, last.end())?;
     match token.token {
         Token::Eof => Ok(()),
-        _ => Err(stopped(alloc, input, Place::AfterRoot, &token)),
+        _ => Err(stopped(input, Place::AfterRoot, &token)),
     }
 }
 
@@ -287,7 +287,7 @@ fn key<'de>(
         → Answers input.now (span_of last) (comes_at input.now (language_of language) stack (within place) position) result }
 {
     let name = name_of_key(alloc, input, token)?;
-    let mark = colon(alloc, input, token.span.end(), language)?;
+    let mark = colon(input, token.span.end(), language)?;
     let Some(name) = name else {
         return Err(Refused::out_of_memory(last));
     };
@@ -336,7 +336,7 @@ fn name_of_key<'de>(
 }
 
 /// The bytes of the colon that is the next token.
-fn colon(alloc: Global, input: &[u8], position: usize, language: Language) -> Result<Span, Refused>
+fn colon(input: &[u8], position: usize, language: Language) -> Result<Span, Refused>
     requires { position ≤ length input.now }
     ensures { IsColonAt input.now (language_of language) position result }
 {
@@ -350,12 +350,12 @@ fn colon(alloc: Global, input: &[u8], position: usize, language: Language) -> Re
             },
             span: token.span,
         }),
-        _ => Err(misplaced(alloc, input, &token, Expected::Colon)),
+        _ => Err(misplaced(input, &token, Expected::Colon)),
     }
 }
 
 /// The refusal of a token, or of the end of the input, with which no document goes on at the place.
-fn stopped(alloc: Global, input: &[u8], place: Place, token: &SpannedToken) -> Refused
+fn stopped(input: &[u8], place: Place, token: &SpannedToken) -> Refused
     requires { CanBeRead input.now token.now.span token.now.token }
     ensures end { token.now.token ≡ Token.Eof → span_of token.now.span ≡ span_at (length input.now) 0
         → StopsAt input.now (place_of place) ended (refused_of result) }
@@ -368,19 +368,19 @@ fn stopped(alloc: Global, input: &[u8], place: Place, token: &SpannedToken) -> R
             why: place.why_at_end(),
             span: token.span,
         },
-        _ => misplaced(alloc, input, token, place.expected(&token.token)),
+        _ => misplaced(input, token, place.expected(&token.token)),
     }
 }
 
 /// The refusal of a token at a place where something else is expected. A string or number without a meaning has one of its
 /// own.
-fn misplaced(alloc: Global, input: &[u8], token: &SpannedToken, expected: Expected) -> Refused
+fn misplaced(input: &[u8], token: &SpannedToken, expected: Expected) -> Refused
     requires { CanBeRead input.now token.now.span token.now.token }
     ensures { (kind : Kind) (place : SpecPlace) (rest : Tokens) → kind_of token.now.token ≡ Some kind
         → expected_text expected ≡ expected_at place kind → goes_on place kind ≡ false
         → StopsAt input.now place (next (record { kind = kind; span = span_of token.now.span }) rest) (refused_of result) }
 {
-    match name(alloc, input, token) {
+    match name(input, token) {
         Ok(got) => Refused {
             why: Why::Token { got, expected },
             span: token.span,
@@ -389,15 +389,22 @@ fn misplaced(alloc: Global, input: &[u8], token: &SpannedToken, expected: Expect
     }
 }
 
-/// How a token is called in a refusal.
-fn name(alloc: Global, input: &[u8], token: &SpannedToken) -> Result<Name, Refused>
+/// How a token is called in a refusal. The text of a string is checked, and not decoded.
+fn name(input: &[u8], token: &SpannedToken) -> Result<Name, Refused>
     requires { CanBeRead input.now token.now.span token.now.token }
     ensures named { IfOk result (λ name. IfSome (kind_of token.now.token) (λ k. IsNamed input.now k name)) }
     ensures refused { IfErr result (λ r. IfSome (kind_of token.now.token)
         (λ k. IsMeaningless input.now k (span_of token.now.span) (refused_of r))) }
 {
-    match materialize(alloc, input, token)? {
-        Some(read) => Ok(read.kind.name()),
-        None => Ok(Name::String),
+    match token.token {
+        Token::String {
+            start,
+            end,
+            has_escapes,
+        } => {
+            check_text(input, start, end, has_escapes, token.span)?;
+            Ok(Name::String)
+        }
+        _ => Ok(read_other(input, token)?.name()),
     }
 }

@@ -5,7 +5,7 @@ ghost use Rattle.std.specs.Prelude.{◌≡◌, ◌≤◌, length, IsUtf8, MatchO
 ghost use Rattle.facet_format.specs.Span.{stop};
 ghost use Rattle.facet_format.specs.Views.{span_of};
 ghost use Rattle.facet_json_reader.specs.PlaceViews.{language_of};
-ghost use Rattle.facet_json_reader.specs.Quick.{PassesQuickly};
+ghost use Rattle.facet_json_reader.specs.Inner.Quick.{PassesQuickly};
 
 use crate::language::Language;
 use crate::number::{Whole, short_whole_in};
@@ -89,7 +89,7 @@ impl<'de> Wanted<'de> for bool {
 /// A short whole number, perhaps after a minus.
 impl<'de> Wanted<'de> for Whole {
     ghost use Rattle.facet_format.specs.Event.{scalar};
-    ghost use Rattle.facet_json_reader.specs.Wholes.{whole_scalar};
+    ghost use Rattle.facet_json_reader.specs.Inner.Whole.{whole_scalar};
 
     ghost kind = { λ w. scalar (whole_scalar w) };
 
@@ -218,7 +218,7 @@ pub enum Member<'de> {
 }
 
 impl<'de> Wanted<'de> for Member<'de> {
-    ghost use Rattle.facet_json_reader.specs.Soughts.{event_of_member};
+    ghost use Rattle.facet_json_reader.specs.Inner.Soughts.{event_of_member};
 
     ghost kind = { event_of_member };
 

@@ -10,7 +10,7 @@ use Rattle.facet_json_token.specs.Token.{Kind}
 use Rattle.facet_json_token.specs.Cut.{Start, letter, start_of, common_len, content_len}
 use Rattle.facet_json_token.specs.Shape.{ArePieces, IsLiteral, null_stands, true_stands, false_stands}
 use Rattle.facet_json_token.specs.Open.{IsBeginning}
-use Rattle.facet_json_token.specs.Inner.OpenTest.{is_prefix_by, is_open_comment, is_beginning_by, is_beginning, is_open, OpenIsTested}
+use Rattle.facet_json_token.specs.OpenTest.{is_prefix_by, is_open_comment, is_beginning_by, is_beginning, is_open, OpenIsTested}
 use Rattle.facet_format.proofs.NumberLaws.{parts_len-is, begins_number-is}
 use Rattle.facet_json_token.proofs.Starts.{Begins, a_mark, a_word, a_text, a_number, a_comment, no_token, start_of-begins, start_of-number}
 use Rattle.facet_json_scan.proofs.Growth.GrowthOfGap.{opens_block, opens_line}

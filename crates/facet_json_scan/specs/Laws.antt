@@ -5,10 +5,10 @@ use Rattle.facet_json_token.specs.Cut.{nothing_left, cut}
 use Rattle.facet_json_token.specs.Gap.{Mode, whole, IsGap}
 use Rattle.facet_json_scan.specs.Scanner.{Scanner, GoesOnFrom, needs_more, Gives}
 pub use Rattle.facet_json_token.specs.Laws.{GapIsLongest, ShapeIsCut, ShapeIsUnique, FaultIsCut, FaultIsUnique, TokensAreCuts, CutStays}
-pub use Rattle.facet_json_token.specs.Inner.OpenTest.{OpenIsTested}
+pub use Rattle.facet_json_token.specs.OpenTest.{OpenIsTested}
 pub use Rattle.facet_json_scan.specs.ScannerLaws.{ScanRefusalRepeats, RefusalAtEnd, PendingAgain}
 pub use Rattle.facet_json_token.specs.DecodeLaws.{DecodedIsDecodes, HasTextOrFault, TextOrFault}
-pub use Rattle.facet_json_token.specs.Inner.FirstFault.{FirstFaultIsFound}
+pub use Rattle.facet_json_token.specs.FirstFault.{FirstFaultIsFound}
 
 -- Nothing is left at a position exactly where what is left is one gap.
 abbrev pub EndIsGap : Type 0

@@ -11,7 +11,7 @@ use Rattle.facet_format.specs.Views.{span_of}
 use Rattle.facet_json_token.specs.Decode.{short_escape, code_unit, is_high_surrogate, is_low_surrogate}
 use Rattle.facet_json_token.specs.Decoded.{low_at, unit_of, unit_at, short_of, escape_at, piece_at}
 use Rattle.facet_json_token.specs.Fault.{DecodeFault, decode_fault_at, ends_in_escape, ends_in_digits, not_digits, no_character}
-use Rattle.facet_json_token.specs.Inner.FirstFault.{fault_of, digits_fault, pair_fault, unit_fault}
+use Rattle.facet_json_token.specs.FirstFault.{fault_of, digits_fault, pair_fault, unit_fault}
 use Rattle.facet_json_token.proofs.DecodeLaws.{escape_at-short_of, escape_at-unit_of}
 
 -- this is found at the start of the bytes, and this is their fault where nothing is found

@@ -10,7 +10,7 @@ use Rattle.facet_format.specs.Bytes.{backslash, lower_u}
 use Rattle.facet_json_token.specs.Decode.{short_escape, code_unit, is_high_surrogate, is_low_surrogate, surrogate_pair, Piece, Decodes, empty, piece}
 use Rattle.facet_json_token.specs.Decoded.{utf8_at, pair_of, low_at, unit_of, unit_at, short_of, escape_at, piece_at, decoded}
 use Rattle.facet_json_token.specs.Fault.{DecodeFault, decode_fault_at, fault_after, no_character, not_digits, ends_in_digits, ends_in_escape, goes_on_unit, FaultHere, lone_backslash, few_digits, other_digits, high_alone, second_digits, second_other, low_first, escaped_other, not_utf8, FirstFault, here, after}
-use Rattle.facet_json_token.specs.Inner.FirstFault.{second_fault, pair_fault, digits_fault, unit_fault, escape_fault, fault_of, fault_past, first_fault, FirstFaultIsFound}
+use Rattle.facet_json_token.specs.FirstFault.{second_fault, pair_fault, digits_fault, unit_fault, escape_fault, fault_of, fault_past, first_fault, FirstFaultIsFound}
 use Rattle.facet_json_token.specs.DecodeLaws.{TextOrFault}
 use Rattle.facet_json_token.proofs.CharAt.{found, utf8_at-encoded, utf8_at-leads}
 use Rattle.facet_json_token.proofs.DecodeLaws.{BeginsWithPiece, piece_at-begins, escape_at-short_of, escape_at-unit_of, piece_at-piece, decodes-decoded}

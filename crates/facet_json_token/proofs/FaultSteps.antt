@@ -16,7 +16,7 @@ use Rattle.facet_json_token.specs.Views.{scan_refusal}
 use Rattle.facet_json_token.specs.Decode.{Decodes, empty, piece}
 use Rattle.facet_json_token.specs.Decoded.{piece_at, decoded}
 use Rattle.facet_json_token.specs.Fault.{DecodeFault, decode_fault_at, fault_after, no_character, not_utf8, FirstFault, here, after, fault_complaint, fault_refusal}
-use Rattle.facet_json_token.specs.Inner.FirstFault.{fault_of}
+use Rattle.facet_json_token.specs.FirstFault.{fault_of}
 use Rattle.facet_json_token.specs.Inner.Run.{StopsBeingText}
 use Rattle.facet_json_token.specs.DecodeViews.{TellsFirstFault}
 use Rattle.facet_json_token.proofs.DecodeLaws.{decodes-decoded}

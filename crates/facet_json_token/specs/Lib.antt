@@ -7,12 +7,14 @@ pub mod DecodeLaws
 pub mod DecodeViews
 pub mod Fault
 pub mod Faults
+pub mod FirstFault
 pub mod Gap
 pub mod GapLen
 pub mod Inner
 pub mod Laws
 pub mod NumberViews
 pub mod Open
+pub mod OpenTest
 pub mod Quoted
 pub mod RfcNumber
 pub mod RfcNumberTest

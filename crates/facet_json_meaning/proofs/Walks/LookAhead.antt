@@ -5,7 +5,7 @@ use Rattle.facet_format.specs.Event.{Event, EventKind, Passed, sequence_end, sca
 use Rattle.facet_format.specs.Cursor.{at_spot, peeked_at}
 use Rattle.facet_json_document.specs.Future.{finished, events_before}
 use Rattle.facet_json_document.specs.Now.{Now, future_of}
-use Rattle.facet_json_parser.specs.Wanted.{NeverGives}
+use Rattle.facet_json_parser.specs.Inner.Wanted.{NeverGives}
 use Rattle.facet_json_meaning.specs.Inner.Taking.{Takes, StaysBefore}
 use Rattle.facet_json_meaning.specs.ListSteps.{ends_list}
 use Rattle.facet_json_meaning.specs.OneValue.{LooksAhead}

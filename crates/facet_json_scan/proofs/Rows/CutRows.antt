@@ -13,7 +13,7 @@ use Rattle.facet_format.specs.Span.{span_at}
 use Rattle.facet_json_token.specs.Tokens.{ended, refused, next, AreCuts}
 use Rattle.facet_json_token.specs.TokenList.{tokens_past, tokens}
 use Rattle.facet_json_token.specs.Open.{IsBeginning, IsOpen}
-use Rattle.facet_json_token.specs.Inner.OpenTest.{is_beginning, is_open}
+use Rattle.facet_json_token.specs.OpenTest.{is_beginning, is_open}
 use Rattle.facet_format.proofs.NumberLaws.{is_number-sound}
 use Rattle.facet_json_token.specs.Faults.{IsFault}
 use Rattle.facet_json_scan.proofs.OpenIsTested.{open_is_tested}

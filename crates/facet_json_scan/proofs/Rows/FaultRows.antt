@@ -5,7 +5,7 @@ use Rattle.std.specs.Char.{encode_utf8}
 use Rattle.facet_json_token.specs.Decode.{short_escape, code_unit}
 use Rattle.facet_json_token.specs.Decoded.{utf8_at, unit_at, escape_at, piece_at}
 use Rattle.facet_json_token.specs.Fault.{decode_fault_at, ends_in_escape, ends_in_digits, not_digits, no_character}
-use Rattle.facet_json_token.specs.Inner.FirstFault.{fault_of, fault_past, first_fault}
+use Rattle.facet_json_token.specs.FirstFault.{fault_of, fault_past, first_fault}
 
 first_faults :
     -- lone backslash

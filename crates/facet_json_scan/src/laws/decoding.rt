@@ -1,7 +1,7 @@
 //! The laws of strings' contents: what they stand for, and what is wrong with those that stand for nothing.
 
 ghost use Rattle.facet_json_token.specs.DecodeLaws.{DecodedIsDecodes, TextOrFault};
-ghost use Rattle.facet_json_token.specs.Inner.FirstFault.{FirstFaultIsFound};
+ghost use Rattle.facet_json_token.specs.FirstFault.{FirstFaultIsFound};
 
 /// The text that is computed for a string's content is the one text that it stands for, piece by piece
 /// (RFC 8259, section 7).

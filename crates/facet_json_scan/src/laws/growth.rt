@@ -1,7 +1,7 @@
 //! What more bytes leave of what was cut, and of a scanner that needs them.
 
 ghost use Rattle.facet_json_token.specs.Laws.{CutStays};
-ghost use Rattle.facet_json_token.specs.Inner.OpenTest.{OpenIsTested};
+ghost use Rattle.facet_json_token.specs.OpenTest.{OpenIsTested};
 ghost use Rattle.facet_json_scan.specs.Laws.{NeedMoreGoesOn};
 
 /// What is cut where the buffer isn't open, a token or a fault, is cut alike from every longer buffer with that prefix:

@@ -8,7 +8,7 @@ ghost use Rattle.facet_format.specs.Span.{span_at};
 ghost use Rattle.facet_json_token.specs.Decode.{short_escape as short_escape_of, code_unit as code_unit_of, is_high_surrogate as is_high_surrogate_of, is_low_surrogate as is_low_surrogate_of};
 ghost use Rattle.facet_json_token.specs.Decoded.{piece_at, short_of, low_at};
 ghost use Rattle.facet_json_token.specs.Fault.{decode_fault_at, fault_refusal, no_character, not_digits};
-ghost use Rattle.facet_json_token.specs.Inner.FirstFault.{fault_of, pair_fault};
+ghost use Rattle.facet_json_token.specs.FirstFault.{fault_of, pair_fault};
 ghost use Rattle.facet_json_token.specs.Views.{scan_refusal};
 
 use crate::token::{ScanError, ScanErrorKind};

@@ -9,7 +9,7 @@ use Rattle.facet_json_token.specs.Gap.{Mode}
 use Rattle.facet_json_token.specs.Views.{mode_of}
 use Rattle.facet_json_reader.specs.declared.number.Whole.{Whole}
 use Rattle.facet_json_reader.specs.Values.{IsScalarThere}
-use Rattle.facet_json_reader.specs.Wholes.{whole_scalar}
+use Rattle.facet_json_reader.specs.Inner.Whole.{whole_scalar}
 use Rattle.facet_json_reader.proofs.AllowedTexts.{rfc_number-allowed}
 use Rattle.facet_json_reader.proofs.QuickEvents.{number-kind}
 use Rattle.facet_json_reader.proofs.number.short_whole_in.Goals as goal

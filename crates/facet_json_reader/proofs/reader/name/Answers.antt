@@ -1,6 +1,8 @@
 use Rattle.facet_json_reader.proofs.TokenMeanings.{read-named}
 use Rattle.facet_json_reader.proofs.reader.name.Goals as goal
 
-pub returns-in-Some-clause-named : goal.returns-in-Some-clause-named
-returns-in-Some-clause-named c =
-    read-named c.args.input.now _ _ c.in-Some.read c.name.result c.in-Some.is c.in_ok-read.ensures.read c.name.ensures
+pub returns-in_ok-read_other-in_default : goal.returns-in_ok-read_other-in_default
+returns-in_ok-read_other-in_default c = record {
+  named = read-named c.args.input.now _ _ c.name.result c.in_ok-read_other-in_default.ensures.read c.name.ensures;
+  refused = tt;
+}

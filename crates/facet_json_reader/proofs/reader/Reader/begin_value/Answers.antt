@@ -5,7 +5,7 @@ use Rattle.facet_format.specs.Bytes as byte
 use Rattle.facet_format.specs.Views.{event_of}
 use Rattle.facet_json_token.proofs.FirstBytes.{start_of-number_range}
 use Rattle.facet_json_reader.specs.PlaceViews.{language_of, place_of}
-use Rattle.facet_json_reader.specs.Quick.{null_stands, true_stands, false_stands}
+use Rattle.facet_json_reader.specs.Inner.Quick.{null_stands, true_stands, false_stands}
 use Rattle.facet_json_reader.proofs.QuickEvents.{start-passes}
 use Rattle.facet_json_reader.proofs.reader.Reader.begin_value.Goals as goal
 

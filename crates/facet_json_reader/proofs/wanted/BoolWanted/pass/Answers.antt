@@ -3,7 +3,7 @@ use Rattle.std.proofs.Common.{Some, ap, ◌∙◌, arith}
 use Rattle.std.proofs.lemmas.Option.{slice_get_within}
 use Rattle.facet_format.specs.Bytes as byte
 use Rattle.facet_json_reader.specs.PlaceViews.{language_of}
-use Rattle.facet_json_reader.specs.Quick.{true_stands, false_stands}
+use Rattle.facet_json_reader.specs.Inner.Quick.{true_stands, false_stands}
 use Rattle.facet_json_reader.proofs.wanted.BoolWanted.pass.Goals as goal
 
 pub returns-in_err-span-in-116 : goal.returns-in_err-span-in-116

@@ -2,7 +2,7 @@
 use Rattle.std.proofs.Common.{Some, ap, ◌∙◌}
 use Rattle.facet_format.specs.Bytes as byte
 use Rattle.facet_json_reader.specs.PlaceViews.{language_of}
-use Rattle.facet_json_reader.specs.Quick.{null_stands}
+use Rattle.facet_json_reader.specs.Inner.Quick.{null_stands}
 use Rattle.facet_json_reader.proofs.wanted.NullWanted.pass.Goals as goal
 
 pub returns-in_err-span : goal.returns-in_err-span

@@ -2,7 +2,7 @@
 use Rattle.std.proofs.Common.{arith}
 use Rattle.facet_json_token.proofs.FirstBytes.{start_of-number_range}
 use Rattle.facet_json_reader.specs.PlaceViews.{language_of}
-use Rattle.facet_json_reader.specs.Wholes.{whole_scalar}
+use Rattle.facet_json_reader.specs.Inner.Whole.{whole_scalar}
 use Rattle.facet_json_reader.proofs.QuickEvents.{scalar-passes}
 use Rattle.facet_json_reader.proofs.wanted.WholeWanted.pass.Goals as goal
 

@@ -4,7 +4,7 @@ use Rattle.std.proofs.lemmas.Result.{err_from_is_err_and}
 use Rattle.facet_format.specs.Complaint.{unexpected_eof}
 use Rattle.facet_json_token.specs.Decoded.{low_at}
 use Rattle.facet_json_token.specs.Fault.{decode_fault_at, no_character}
-use Rattle.facet_json_token.specs.Inner.FirstFault.{pair_fault}
+use Rattle.facet_json_token.specs.FirstFault.{pair_fault}
 use Rattle.facet_json_token.proofs.EscapeSteps.{Finds, unit-cut, unit-no_digits, unit-scalar, unit-low, unit-high, told-over}
 use Rattle.facet_json_token.proofs.decode.escape.unit_at.Goals as goal
 

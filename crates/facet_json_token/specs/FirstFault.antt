@@ -1,4 +1,4 @@
--- The first fault of a string's content, as rows and private contracts compute it.
+-- The first fault of a string's content, as rows compute it: the test that a law holds to be the definition.
 use Rattle.std.specs.Prelude.{◌≡◌, ℕ, zero, suc, ◌+◌, ◌-◌, cond, ◌==◌, ◌&&◌, List, [], ◌∷◌, length, Option, Some, None, ◌↔◌}
 use Rattle.facet_format.specs.Bytes.{backslash, lower_u}
 use Rattle.facet_json_token.specs.Decode.{code_unit, is_high_surrogate}

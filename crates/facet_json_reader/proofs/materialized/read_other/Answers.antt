@@ -2,7 +2,7 @@ use Rattle.std.proofs.Common.{◌∙◌}
 use Rattle.facet_format.specs.Views.{hint_of}
 use Rattle.facet_json_token.specs.Token.{number}
 use Rattle.facet_json_reader.proofs.TokenMeanings.{number_read}
-use Rattle.facet_json_reader.proofs.materialized.read_kind.Goals as goal
+use Rattle.facet_json_reader.proofs.materialized.read_other.Goals as goal
 
 pub returns-in_ok-number-in-Number-clause-read : goal.returns-in_ok-number-in-Number-clause-read
 returns-in_ok-number-in-Number-clause-read c =
