@@ -1,11 +1,12 @@
 //! What can be done with a text, and the names of it.
 
-use crate::accounts::typed;
+use crate::accounts::{accounts_of, typed, typed_text};
 use crate::passes::{events, scanned, skip, strict_events, strict_trusted, tokens, trusted};
 use crate::seen::Seen;
 use crate::trees::{text, tree, tree_of};
 use facet_json::Tree;
 use facet_json::scanner::Mode;
+use facet_json_examples::accounts::Account;
 use std::alloc::Global;
 
 /// A work.
@@ -31,6 +32,8 @@ pub enum Work {
     Text,
     /// A list of accounts is read and dropped.
     Typed,
+    /// A list of accounts is written.
+    TypedText,
 }
 
 /// The works that any document is passed by, and their names.
@@ -55,6 +58,7 @@ pub fn work_of(name: &str) -> Option<Work> {
         "tree" => Some(Work::Tree),
         "text" => Some(Work::Text),
         "typed" => Some(Work::Typed),
+        "typed-text" => Some(Work::TypedText),
         _ => None,
     }
 }
@@ -79,13 +83,19 @@ pub struct Order<'i> {
     pub input: &'i str,
     /// Its tree, where that is to be written.
     pub tree: Option<Tree>,
+    /// Its accounts, where these are to be written.
+    pub accounts: Option<Vec<Account>>,
 }
 
 impl<'i> Order<'i> {
-    /// The order to do this with this input: a tree that is to be written is read here.
+    /// The order to do this with this input: what is to be written is read here.
     pub fn new(alloc: Global, work: Work, mode: Mode, input: &'i str) -> Order<'i> {
         let tree = match work {
             Work::Text => tree_of(alloc, input.as_bytes(), mode),
+            _ => None,
+        };
+        let accounts = match work {
+            Work::TypedText => accounts_of(alloc, input.as_bytes(), mode),
             _ => None,
         };
         Order {
@@ -93,6 +103,7 @@ impl<'i> Order<'i> {
             mode,
             input,
             tree,
+            accounts,
         }
     }
 
@@ -111,6 +122,10 @@ impl<'i> Order<'i> {
             Work::Typed => typed(alloc, input, self.mode),
             Work::Text => match &self.tree {
                 Some(tree) => text(alloc, tree),
+                None => None,
+            },
+            Work::TypedText => match &self.accounts {
+                Some(accounts) => typed_text(alloc, accounts),
                 None => None,
             },
         }
