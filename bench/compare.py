@@ -23,11 +23,13 @@ WORKS = {
     "trusted": {"ours": "trusted", "serde_json": "trusted"},
     "tree": {"ours": "tree", "serde_json": "tree", "simdjson": "tape", "before": "tree"},
     "text": {"ours": "text", "serde_json": "text", "before": "text"},
-    "typed": {"ours": "typed"},
+    "typed": {"ours": "typed", "serde_json": "typed", "before": "typed"},
+    "typed-text": {"ours": "typed-text", "serde_json": "typed-text"},
 }
 # The inputs of which the program has a typed reader, and the one that is too short for all but it and the tree.
 ONE = "one-account.json"
 TYPED = ("accounts.json", ONE)
+OF_TYPES = ("typed", "typed-text")
 PROGRAMS = {"ours": "facet_json_bench", "serde_json": "serde_peer", "simdjson": "simdjson_peer"}
 PROCESSES = {"ours": ["facet_json_tool", "fmt"], "serde_json": ["fmt_tree"], "serde_json, sorted": ["fmt_sorted"], "serde_json, no tree": ["fmt_pass"]}
 
@@ -55,6 +57,8 @@ RATIOS = [
     Ratio("tree / serde_json's Value", "tree", "tree", "serde_json", 1.5),
     Ratio("tree / simdjson's tape", "tree", "tree", "simdjson"),
     Ratio("typed / our tree", "typed", "tree", "ours", 1.0, TYPED),
+    Ratio("typed / serde's derive", "typed", "typed", "serde_json", 1.4, ("accounts.json",)),
+    Ratio("typed to_vec / serde's derive", "typed-text", "typed-text", "serde_json", 1.3, ("accounts.json",)),
     Ratio("to_vec / serde_json's", "text", "text", "serde_json", 1.2),
     Ratio("fmt / serde_json by a Value", "fmt", "fmt", "serde_json", 2.0),
     Ratio("fmt / the same, members sorted", "fmt", "fmt", "serde_json, sorted"),
@@ -65,6 +69,7 @@ SINCE = [
     Ratio("events / before", "events", "events", "before"),
     Ratio("tree / before", "tree", "tree", "before"),
     Ratio("to_vec / before", "text", "text", "before"),
+    Ratio("typed / before", "typed", "typed", "before"),
 ]
 
 
@@ -97,7 +102,7 @@ class Bench:
     def works(self, path):
         """What each side does with the input: a work, a side and its name for the work."""
         for work, names in WORKS.items():
-            if (work == "typed" and path.name not in TYPED) or (work not in ("typed", "tree") and path.name == ONE):
+            if (work in OF_TYPES and path.name not in TYPED) or (work not in (*OF_TYPES, "tree") and path.name == ONE):
                 continue
             for side, name in names.items():
                 if side in self.programs and (path.suffix != ".jsonc" or side in ("ours", "before")):
@@ -119,7 +124,7 @@ class Bench:
 
     def agree(self, path, seen):
         """Stops where two sides did not pass the same."""
-        for work in ("events", "trusted", "text"):
+        for work in ("events", "trusted", "text", "typed-text"):
             passed = {side: what for (done, side), what in seen.items() if done == work}
             if len(set(passed.values())) > 1:
                 sys.exit(f"bench: {path.name}: the sides do not agree on {work}: {passed}")

@@ -11,13 +11,15 @@ import sys
 
 # a work that is drawn, and what it is called in two lines
 WORKS = {
+    "typed": ("typed", "structs read"),
+    "typed-text": ("typed-text", "structs written"),
     "events": ("events", "each value visited"),
     "tree": ("tree", "simdjson: its tape"),
     "text": ("text", "a tree written"),
     "fmt": ("fmt", "a whole process"),
 }
 # the works of the table
-LINES = ("skip", "events", "trusted", "tree", "text", "fmt")
+LINES = ("typed", "typed-text", "skip", "events", "trusted", "tree", "text", "fmt")
 SIDES = {"ours": "facet_json", "serde_json": "serde_json", "simdjson": "simdjson"}
 # measured for one work alone, so it is no part of a mean
 LEFT_OUT = "one-account.json"

@@ -1,6 +1,7 @@
 //! Does the work that its first argument names over the standard input, as often as the second says, and prints the shortest time in
 //! nanoseconds of the thread's processor time, how many events or values there were, and the sum of what they hold.
 use serde::de::{DeserializeSeed, Deserializer, Error, IgnoredAny, MapAccess, SeqAccess, Visitor};
+use serde::{Deserialize, Serialize};
 use serde_json::Value;
 use std::fmt;
 use std::hint::black_box;
@@ -120,6 +121,32 @@ fn text(value: &Value) -> Done {
     Ok(Seen { count: 1, sum: text.len() as u64 })
 }
 
+/// A struct of ten fields, as this library's program has it.
+#[derive(Deserialize, Serialize)]
+struct Account {
+    id: u64,
+    name: String,
+    email: String,
+    active: bool,
+    age: u8,
+    score: i32,
+    visits: u32,
+    city: Option<String>,
+    tags: Vec<String>,
+    parent: Option<u64>,
+}
+
+/// Reads a list of accounts and drops it.
+fn typed(input: &[u8]) -> Done {
+    black_box(serde_json::from_slice::<Vec<Account>>(input)?);
+    Ok(Seen { count: 1, sum: 0 })
+}
+
+fn typed_text(accounts: &[Account]) -> Done {
+    let text = black_box(serde_json::to_vec(accounts)?);
+    Ok(Seen { count: 1, sum: text.len() as u64 })
+}
+
 /// The processor time of this thread in nanoseconds.
 fn now() -> u64 {
     let mut time = libc::timespec { tv_sec: 0, tv_nsec: 0 };
@@ -156,6 +183,11 @@ fn main() {
         "text" => {
             let value: Value = serde_json::from_slice(input).expect("a document");
             best(rounds, || text(black_box(&value)));
+        }
+        "typed" => best(rounds, || typed(black_box(input))),
+        "typed-text" => {
+            let accounts: Vec<Account> = serde_json::from_slice(input).expect("a list of accounts");
+            best(rounds, || typed_text(black_box(&accounts)));
         }
         _ => std::process::exit(2),
     }
