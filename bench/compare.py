@@ -11,6 +11,7 @@ import datetime
 import os
 import pathlib
 import platform
+import shutil
 import subprocess
 import sys
 
@@ -19,10 +20,10 @@ WORKS = {
     "tokens": {"ours": "tokens", "before": "tokens"},
     "scanner": {"ours": "scanner"},
     "skip": {"ours": "skip", "serde_json": "skip"},
-    "events": {"ours": "events", "serde_json": "events", "simdjson": "walk", "before": "events"},
+    "events": {"ours": "events", "serde_json": "events", "simdjson": "walk", "rapidjson": "sax", "before": "events"},
     "trusted": {"ours": "trusted", "serde_json": "trusted"},
-    "tree": {"ours": "tree", "serde_json": "tree", "simdjson": "tape", "before": "tree"},
-    "text": {"ours": "text", "serde_json": "text", "before": "text"},
+    "tree": {"ours": "tree", "serde_json": "tree", "simdjson": "tape", "rapidjson": "dom", "before": "tree"},
+    "text": {"ours": "text", "serde_json": "text", "rapidjson": "write", "before": "text"},
     "typed": {"ours": "typed", "serde_json": "typed", "before": "typed"},
     "typed-text": {"ours": "typed-text", "serde_json": "typed-text"},
 }
@@ -30,8 +31,10 @@ WORKS = {
 ONE = "one-account.json"
 TYPED = ("accounts.json", ONE)
 OF_TYPES = ("typed", "typed-text")
-PROGRAMS = {"ours": "facet_json_bench", "serde_json": "serde_peer", "simdjson": "simdjson_peer"}
+PROGRAMS = {"ours": "facet_json_bench", "serde_json": "serde_peer", "simdjson": "simdjson_peer", "rapidjson": "rapidjson_peer"}
 PROCESSES = {"ours": ["facet_json_tool", "fmt"], "serde_json": ["fmt_tree"], "serde_json, sorted": ["fmt_sorted"], "serde_json, no tree": ["fmt_pass"]}
+# Programs of the machine that format a document, each in its own way, and so are run once a turn.
+FORMATTERS = {"jq": ["jq", "-c", "."], "json.tool": ["python3", "-m", "json.tool", "--compact"]}
 
 
 @dataclasses.dataclass
@@ -53,16 +56,21 @@ RATIOS = [
     Ratio("skip / serde_json's", "skip", "skip", "serde_json"),
     Ratio("events / simdjson's walk", "events", "events", "simdjson", 0.6),
     Ratio("events / serde_json's", "events", "events", "serde_json"),
+    Ratio("events / RapidJSON's SAX", "events", "events", "rapidjson"),
     Ratio("trusted / checking", "trusted", "events", "ours", 1.2, ("posts-unicode.json",)),
     Ratio("tree / serde_json's Value", "tree", "tree", "serde_json", 1.5),
     Ratio("tree / simdjson's tape", "tree", "tree", "simdjson"),
+    Ratio("tree / RapidJSON's DOM", "tree", "tree", "rapidjson"),
     Ratio("typed / our tree", "typed", "tree", "ours", 1.0, TYPED),
     Ratio("typed / serde's derive", "typed", "typed", "serde_json", 1.4, ("accounts.json",)),
     Ratio("typed to_vec / serde's derive", "typed-text", "typed-text", "serde_json", 1.3, ("accounts.json",)),
     Ratio("to_vec / serde_json's", "text", "text", "serde_json", 1.2),
+    Ratio("to_vec / RapidJSON's writer", "text", "text", "rapidjson"),
     Ratio("fmt / serde_json by a Value", "fmt", "fmt", "serde_json", 2.0),
     Ratio("fmt / the same, members sorted", "fmt", "fmt", "serde_json, sorted"),
     Ratio("fmt / serde_json without a Value", "fmt", "fmt", "serde_json, no tree"),
+    Ratio("fmt / jq -c", "fmt", "fmt", "jq"),
+    Ratio("fmt / python3 -m json.tool", "fmt", "fmt", "json.tool"),
 ]
 SINCE = [
     Ratio("tokens / before", "tokens", "tokens", "before"),
@@ -85,9 +93,10 @@ class Bench:
         if before:
             self.programs["before"] = pathlib.Path(before).resolve()
         self.processes = {side: [out / words[0], *words[1:]] for side, words in PROCESSES.items() if (out / words[0]).exists()}
+        self.formatters = {side: words for side, words in FORMATTERS.items() if shutil.which(words[0])}
         if "ours" not in self.processes:
             print("bench: no facet_json_tool: without fmt", file=sys.stderr)
-            self.processes = {}
+            self.processes = self.formatters = {}
 
     def words(self, side, name, rounds, path):
         """The program that does the work so many times, and its arguments."""
@@ -125,7 +134,8 @@ class Bench:
     def agree(self, path, seen):
         """Stops where two sides did not pass the same."""
         for work in ("events", "trusted", "text", "typed-text"):
-            passed = {side: what for (done, side), what in seen.items() if done == work}
+            # RapidJSON writes doubles in a form of its own.
+            passed = {side: what for (done, side), what in seen.items() if done == work and (work, side) != ("text", "rapidjson")}
             if len(set(passed.values())) > 1:
                 sys.exit(f"bench: {path.name}: the sides do not agree on {work}: {passed}")
         if seen.get(("tokens", "ours")) != seen.get(("scanner", "ours")) or seen.get(("events", "ours")) != seen.get(("trusted", "ours")):
@@ -138,18 +148,25 @@ class Bench:
         written = {}
         for _ in range(3):
             for side, words in self.processes.items():
-                target = self.out / "written"
-                with open(path, "rb") as given, open(target, "wb") as into:
-                    ran = subprocess.Popen(words, stdin=given, stdout=into)
-                    _, status, used = os.wait4(ran.pid, 0)
-                if status:
-                    sys.exit(f"bench: {words[0].name} ended with {status} on {path.name}")
+                text = self.process(side, words, path, least)
                 if side != "serde_json, sorted":
-                    written[side] = target.read_bytes()
-                spent = int((used.ru_utime + used.ru_stime) * 1e9)
-                least["fmt", side] = min(spent, least.get(("fmt", side), spent))
+                    written[side] = text
         if len(set(written.values())) > 1:
             sys.exit(f"bench: {path.name}: the sides wrote different texts")
+        for side, words in self.formatters.items():
+            self.process(side, words, path, least)
+
+    def process(self, side, words, path, least):
+        """Runs a process once, notes its time if it is the shortest, and answers what it wrote."""
+        target = self.out / "written"
+        with open(path, "rb") as given, open(target, "wb") as into:
+            ran = subprocess.Popen(words, stdin=given, stdout=into)
+            _, status, used = os.wait4(ran.pid, 0)
+        if status:
+            sys.exit(f"bench: {pathlib.Path(words[0]).name} ended with {status} on {path.name}")
+        spent = int((used.ru_utime + used.ru_stime) * 1e9)
+        least["fmt", side] = min(spent, least.get(("fmt", side), spent))
+        return target.read_bytes()
 
 
 def said(*words):
@@ -189,6 +206,10 @@ def circumstances(bench):
         yield f"serde_json: {package('librust-serde-json-dev')} of Debian, by {said('rustc', '--version')}, `opt-level=3`, fat LTO, one codegen unit, `target-cpu={target}`."
     if "simdjson" in bench.programs:
         yield f"simdjson: {package('libsimdjson-dev')} of Debian, by {said(compiler, '--version')}, `-O3 -march={target}`, kernels {said(str(bench.programs['simdjson']), 'kernel')}."
+    if "rapidjson" in bench.programs:
+        yield f"RapidJSON: {package('rapidjson-dev')} of Debian, by {said(compiler, '--version')}, `-O3 -march={target}`, its SSE kernels on, the encoding checked."
+    if "jq" in bench.formatters:
+        yield f"jq: {said('jq', '--version')}; json.tool: {said('python3', '--version')}."
     yield f"iso-codes: {package('iso-codes') or 'missing'}. The other inputs are made by `bench/corpora.py`."
     yield f"Each figure: the shortest of {bench.turns} turns of some {int(bench.seconds * 1000)} ms of the thread's processor time."
     if bench.processes:
@@ -273,7 +294,7 @@ def speeds_table(side, sizes, figures):
 
 def table(bench, sizes, figures):
     """The whole page."""
-    yield "# This library beside serde_json and simdjson"
+    yield "# This library beside serde_json, simdjson and RapidJSON"
     yield ""
     yield from (f"- {line}" for line in circumstances(bench))
     yield ""

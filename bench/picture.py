@@ -20,7 +20,7 @@ WORKS = {
 }
 # the works of the table
 LINES = ("typed", "typed-text", "skip", "events", "trusted", "tree", "text", "fmt")
-SIDES = {"ours": "facet_json", "serde_json": "serde_json", "simdjson": "simdjson"}
+SIDES = {"ours": "facet_json", "serde_json": "serde_json", "simdjson": "simdjson", "rapidjson": "RapidJSON"}
 # measured for one work alone, so it is no part of a mean
 LEFT_OUT = "one-account.json"
 
@@ -32,14 +32,14 @@ text { font: 13px system-ui, sans-serif; fill: #1f2328 }
 .value { stroke: #ffffff; stroke-width: 4px; paint-order: stroke }
 .ground { fill: #ffffff; stroke: #d0d7de }
 .grid { stroke: #d8dee4 }
-.ours { fill: #2f6fb0 } .serde_json { fill: #c8691e } .simdjson { fill: #5f8a3a }
+.ours { fill: #2f6fb0 } .serde_json { fill: #c8691e } .simdjson { fill: #5f8a3a } .rapidjson { fill: #8a5fa8 }
 @media (prefers-color-scheme: dark) {
 text { fill: #e6edf3 }
 .small, .value { fill: #9aa4ae }
 .value { stroke: #14181d }
 .ground { fill: #14181d; stroke: #3d444d }
 .grid { stroke: #343b43 }
-.ours { fill: #6cb0f2 } .serde_json { fill: #f0a35e } .simdjson { fill: #a5cc78 }
+.ours { fill: #6cb0f2 } .serde_json { fill: #f0a35e } .simdjson { fill: #a5cc78 } .rapidjson { fill: #c8a0e6 }
 }
 """
 
