@@ -134,17 +134,19 @@ def between(by_side, other):
         return ""
     ratios = sorted((by_side["ours"][name] / by_side[other][name], name.removesuffix(".json")) for name in shared_inputs(by_side))
     (least, slowest), (most, fastest) = ratios[0], ratios[-1]
+    if len(ratios) == 1:
+        return f"{least:.2f} (`{slowest}`)"
     return f"{least:.2f} (`{slowest}`) to {most:.2f} (`{fastest}`)"
 
 
 def table(speeds):
     """The lines of the table."""
-    yield "| Work | " + " | ".join(SIDES.values()) + " | times serde_json's | times simdjson's |"
-    yield "|---" * (len(SIDES) + 3) + "|"
+    yield "| Work | " + " | ".join(SIDES.values()) + " | times serde_json's |"
+    yield "|---" * (len(SIDES) + 2) + "|"
     for work in LINES:
         mean = means(speeds[work])
         cells = [f"{mean[side]:.0f}" if side in mean else "" for side in SIDES]
-        yield f"| {work} | " + " | ".join([*cells, between(speeds[work], "serde_json"), between(speeds[work], "simdjson")]) + " |"
+        yield f"| {work} | " + " | ".join([*cells, between(speeds[work], "serde_json")]) + " |"
 
 
 def main():
