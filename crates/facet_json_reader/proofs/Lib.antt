@@ -1,3 +1,4 @@
+pub mod AllowedNumbers
 pub mod AllowedTexts
 pub mod BehindRoot
 pub mod ColonAfterKey

@@ -58,6 +58,25 @@ pub fn short_number_strict<'de>(input: &'de [u8], at: usize, first: u8) -> Optio
     }
 }
 
+/// The same, where the language allows it.
+#[inline(always)]
+pub(crate) fn short_number_in<'de>(
+    input: &'de [u8],
+    language: Language,
+    at: usize,
+    first: u8,
+) -> Option<Measured<'de>>
+    requires here { slice_get input.now at ≡ Some first }
+    requires number { start_of first ≡ opens_number }
+    ensures { IfSome result (λ r. (there : IsScalarThere input.now at r.0 (scalar_value_of r.1))
+        × Allows (language_of language) input.now (record { kind = there.kind; span = span_at at r.0 })) }
+{
+    match language {
+        Language::Lenient(_) => short_number(input, at, first),
+        Language::Strict(_) => short_number_strict(input, at, first),
+    }
+}
+
 /// A whole number of at most fifteen digits.
 #[derive(Clone, Copy)]
 pub enum Whole {

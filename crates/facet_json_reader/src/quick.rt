@@ -10,8 +10,7 @@ ghost use Rattle.facet_json_token.specs.Cut.{start_of, opens_number};
 ghost use Rattle.facet_json_token.specs.Token.{comma, string};
 ghost use Rattle.facet_json_document.specs.Future.{within};
 ghost use Rattle.facet_json_document.specs.Place.{Place as SpecPlace, led, passes, says, place_turn};
-ghost use Rattle.facet_json_document.specs.Language.{Language as SpecLanguage, lenient, strict, rules};
-ghost use Rattle.facet_json_token.specs.Gap.{Mode as SpecMode};
+ghost use Rattle.facet_json_document.specs.Language.{Language as SpecLanguage, rules};
 ghost use Rattle.facet_json_document.specs.StrictTokens.{Allows};
 ghost use Rattle.facet_json_reader.specs.PlaceViews.{language_of, least_of, place_of, opening_event, closing_event, closing_token, closing_bracket};
 ghost use Rattle.facet_json_reader.specs.Values.{AreUnescaped, IsPlainText};
@@ -19,7 +18,7 @@ ghost use Rattle.facet_json_reader.specs.Inner.Quick.{MayBeKey, MayBeValue, Reac
 ghost use Rattle.facet_json_reader.specs.Views.{stage_of};
 
 use crate::language::Language;
-use crate::number::{short_number, short_number_strict};
+use crate::number::short_number_in;
 use crate::place::Place;
 use crate::reader::{Reader, Stage, closing, opening};
 use crate::text::text_at;
@@ -220,16 +219,8 @@ impl Reader {
         ensures { (place : SpecPlace) → MayBeValue place → Reaches input.now (language_of language) self.old place at
             → MatchOption result (self.new ≡ self.old) (λ e. PassesQuickly input.now (language_of language) self.old (event_of e) self.new) }
     {
-        match language {
-            Language::Lenient(_) => {
-                let event = self.pass_number(input, at, first);
-                event
-            }
-            Language::Strict(_) => {
-                let event = self.pass_number_strict(input, at, first);
-                event
-            }
-        }
+        let event = self.pass_number(input, language, at, first);
+        event
     }
 
     /// Passes a number that allocates nothing, of which this is the first byte.
@@ -237,32 +228,16 @@ impl Reader {
     fn pass_number<'de>(
         &mut self,
         input: &'de [u8],
+        language: Language,
         at: usize,
         first: u8,
     ) -> Option<ParseEvent<'de>>
         requires here { slice_get input.now at ≡ Some first }
         requires number { start_of first ≡ opens_number }
-        ensures { (mode : SpecMode) (place : SpecPlace) → MayBeValue place → Reaches input.now (lenient mode) self.old place at
-            → MatchOption result (self.new ≡ self.old) (λ e. PassesQuickly input.now (lenient mode) self.old (event_of e) self.new) }
+        ensures { (place : SpecPlace) → MayBeValue place → Reaches input.now (language_of language) self.old place at
+            → MatchOption result (self.new ≡ self.old) (λ e. PassesQuickly input.now (language_of language) self.old (event_of e) self.new) }
     {
-        let (len, value) = short_number(input, at, first)?;
-        Some(self.pass_scalar(value, Span::new(at, len)))
-    }
-
-    /// The same where RFC 8259 alone is read.
-    #[inline(never)]
-    fn pass_number_strict<'de>(
-        &mut self,
-        input: &'de [u8],
-        at: usize,
-        first: u8,
-    ) -> Option<ParseEvent<'de>>
-        requires here { slice_get input.now at ≡ Some first }
-        requires number { start_of first ≡ opens_number }
-        ensures { (mode : SpecMode) (place : SpecPlace) → MayBeValue place → Reaches input.now (strict mode) self.old place at
-            → MatchOption result (self.new ≡ self.old) (λ e. PassesQuickly input.now (strict mode) self.old (event_of e) self.new) }
-    {
-        let (len, value) = short_number_strict(input, at, first)?;
+        let (len, value) = short_number_in(input, language, at, first)?;
         Some(self.pass_scalar(value, Span::new(at, len)))
     }
 
