@@ -32,7 +32,7 @@ type Measured<'de> = (usize, ScalarValue<'de>);
 
 /// The length and the value of the number at `at`, of which this is the first byte, where it allocates nothing.
 #[inline(always)]
-pub fn short_number<'de>(input: &'de [u8], at: usize, first: u8) -> Option<Measured<'de>>
+fn short_number<'de>(input: &'de [u8], at: usize, first: u8) -> Option<Measured<'de>>
     requires here { slice_get input.now at ≡ Some first }
     requires number { start_of first ≡ opens_number }
     ensures { IfSome result (λ r. IsScalarThere input.now at r.0 (scalar_value_of r.1)) }
@@ -45,7 +45,7 @@ pub fn short_number<'de>(input: &'de [u8], at: usize, first: u8) -> Option<Measu
 
 /// The same, where it is a number of RFC 8259.
 #[inline(always)]
-pub fn short_number_strict<'de>(input: &'de [u8], at: usize, first: u8) -> Option<Measured<'de>>
+fn short_number_strict<'de>(input: &'de [u8], at: usize, first: u8) -> Option<Measured<'de>>
     requires here { slice_get input.now at ≡ Some first }
     requires number { start_of first ≡ opens_number }
     ensures there { IfSome result (λ r. IsScalarThere input.now at r.0 (scalar_value_of r.1)) }

@@ -6,7 +6,6 @@ ghost use Rattle.facet_format.specs.Bytes.{quote};
 ghost use Rattle.facet_format.specs.Event.{scalar, field_key, borrowed};
 ghost use Rattle.facet_format.specs.Span.{Span as SpecSpan, stop, span_at};
 ghost use Rattle.facet_format.specs.Views.{span_of, event_of, scalar_value_of};
-ghost use Rattle.facet_json_token.specs.Cut.{start_of, opens_number};
 ghost use Rattle.facet_json_token.specs.Token.{comma, string};
 ghost use Rattle.facet_json_document.specs.Future.{within};
 ghost use Rattle.facet_json_document.specs.Place.{Place as SpecPlace, led, passes, says, place_turn};
@@ -15,6 +14,7 @@ ghost use Rattle.facet_json_document.specs.StrictTokens.{Allows};
 ghost use Rattle.facet_json_reader.specs.PlaceViews.{language_of, least_of, place_of, opening_event, closing_event, closing_token, closing_bracket};
 ghost use Rattle.facet_json_reader.specs.Values.{AreUnescaped, IsPlainText};
 ghost use Rattle.facet_json_reader.specs.Inner.Quick.{MayBeKey, MayBeValue, Reaches, IsWord, Leaves, PassesQuickly};
+ghost use Rattle.facet_json_reader.specs.Inner.Whole.{OpensNumber};
 ghost use Rattle.facet_json_reader.specs.Views.{stage_of};
 
 use crate::language::Language;
@@ -151,7 +151,7 @@ impl Reader {
             b't' => self.pass_word(input, at, b"true", ScalarValue::Bool(true)),
             b'f' => self.pass_word(input, at, b"false", ScalarValue::Bool(false)),
             b'n' => self.pass_word(input, at, b"null", ScalarValue::Null),
-            b'-' | b'0'..=b'9' => self.pass_number_apart(input, language, at, first),
+            b'-' | b'0'..=b'9' => self.pass_number_apart(input, language, at),
             _ => None,
         }
     }
@@ -212,32 +212,30 @@ impl Reader {
         input: &'de [u8],
         language: Language,
         at: usize,
-        first: u8,
     ) -> Option<ParseEvent<'de>>
-        requires here { slice_get input.now at ≡ Some first }
-        requires number { start_of first ≡ opens_number }
+        requires { OpensNumber input.now at }
         ensures { (place : SpecPlace) → MayBeValue place → Reaches input.now (language_of language) self.old place at
             → MatchOption result (self.new ≡ self.old) (λ e. PassesQuickly input.now (language_of language) self.old (event_of e) self.new) }
     {
-        let event = self.pass_number(input, language, at, first);
+        let event = self.pass_number(input, &language, at);
         event
     }
 
-    /// Passes a number that allocates nothing, of which this is the first byte.
+    /// Passes a number that allocates nothing. The language goes by reference, and the first byte is read again: so all arguments go in
+    /// registers.
     #[inline(never)]
     fn pass_number<'de>(
         &mut self,
         input: &'de [u8],
-        language: Language,
+        language: &Language,
         at: usize,
-        first: u8,
     ) -> Option<ParseEvent<'de>>
-        requires here { slice_get input.now at ≡ Some first }
-        requires number { start_of first ≡ opens_number }
-        ensures { (place : SpecPlace) → MayBeValue place → Reaches input.now (language_of language) self.old place at
-            → MatchOption result (self.new ≡ self.old) (λ e. PassesQuickly input.now (language_of language) self.old (event_of e) self.new) }
+        requires { OpensNumber input.now at }
+        ensures { (place : SpecPlace) → MayBeValue place → Reaches input.now (language_of language.now) self.old place at
+            → MatchOption result (self.new ≡ self.old) (λ e. PassesQuickly input.now (language_of language.now) self.old (event_of e) self.new) }
     {
-        let (len, value) = short_number_in(input, language, at, first)?;
+        let first = *input.get(at)?;
+        let (len, value) = short_number_in(input, *language, at, first)?;
         Some(self.pass_scalar(value, Span::new(at, len)))
     }
 

@@ -1,5 +1,4 @@
 -- A number of RFC 8259 is allowed in each language.
-use Rattle.std.proofs.Common.{refl}
 use Rattle.facet_json_document.specs.Language.{lenient, strict}
 use Rattle.facet_json_token.specs.Views.{mode_of}
 use Rattle.facet_json_reader.specs.Inner.Whole.{whole_scalar}

@@ -8,4 +8,4 @@ pub returns : goal.returns
 returns c =
     λ place here reached.
     let n = c.in_ok-len in
-    scalar-passes c.args.input.now (language_of c.args.language) c.args.self.now place c.args.at n.len (scalar_value_of n.value) (event_of c.pass_scalar.result) c.pass_scalar.new.self here reached n.ensures.0 n.ensures.1 (rw (c.new.ensures.offset, c.new.ensures.len) at c.pass_scalar.ensures)
+    scalar-passes c.args.input.now (language_of c.args.language.now) c.args.self.now place c.args.at n.len (scalar_value_of n.value) (event_of c.pass_scalar.result) c.pass_scalar.new.self here reached n.ensures.0 n.ensures.1 (rw (c.new.ensures.offset, c.new.ensures.len) at c.pass_scalar.ensures)
