@@ -166,6 +166,27 @@ def one_account(chance, size):
     return compact([account(7)])
 
 
+def log(chance, size):
+    """Lines of a log of some 400 bytes, each an object of nine members."""
+
+    def line(number):
+        return compact(
+            {
+                "time": f"2026-11-{number % 28 + 1:02}T{number % 24:02}:{number % 60:02}:{number % 59:02}.{number % 1000:03}Z",
+                "host": f"node-{number % 40}.example.org",
+                "service": chance.choice(["search", "accounts", "checkout", "mail"]),
+                "method": chance.choice(["GET", "POST", "PUT"]),
+                "path": f"/{'/'.join(chance.choice(WORDS) for _ in range(4))}?page={number % 90}",
+                "agent": f"Mozilla/5.0 ({sentence(chance, WORDS, 14, 18)}) {chance.randrange(90, 130)}.0",
+                "client": {"address": f"10.0.{number % 256}.{number % 199}", "port": chance.randrange(1_024, 65_536)},
+                "status": chance.choice([200, 200, 200, 204, 301, 404, 500]),
+                "message": sentence(chance, WORDS, 10, 16),
+            }
+        )
+
+    return "\n".join(until(size, line)) + "\n"
+
+
 def settings(chance, size):
     """Settings with comments of both kinds."""
 
@@ -188,6 +209,7 @@ MADE = {
     "records.json": records,
     "accounts.json": accounts,
     "one-account.json": one_account,
+    "log.jsonl": log,
     "settings.jsonc": settings,
 }
 

@@ -92,6 +92,14 @@ static Seen tape(dom::parser &parser, const padded_string &input) {
     return seen;
 }
 
+// Finds the status of each line.
+static Seen lines(ondemand::parser &parser, const padded_string &input) {
+    Seen seen;
+    ondemand::document_stream stream = parser.iterate_many(input);
+    for (ondemand::document_reference document : stream) seen.add(document["status"].get_uint64());
+    return seen;
+}
+
 // The processor time of this thread in nanoseconds.
 static uint64_t now() {
     timespec time;
@@ -122,6 +130,9 @@ int main(int count, char **arguments) {
     if (way == "walk") {
         ondemand::parser parser;
         best(rounds, [&] { return walk(parser, input); });
+    } else if (way == "log") {
+        ondemand::parser parser;
+        best(rounds, [&] { return lines(parser, input); });
     } else if (way == "tape") {
         dom::parser parser;
         best(rounds, [&] { return tape(parser, input); });

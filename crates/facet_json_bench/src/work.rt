@@ -1,6 +1,7 @@
 //! What can be done with a text, and the names of it.
 
-use crate::accounts::{accounts_of, typed, typed_text};
+use crate::accounts::{accounts_of, typed, typed_lent, typed_text};
+use crate::lines::log;
 use crate::passes::{events, scanned, skip, strict_events, strict_trusted, tokens, trusted};
 use crate::seen::Seen;
 use crate::trees::{text, tree, tree_of};
@@ -32,8 +33,12 @@ pub enum Work {
     Text,
     /// A list of accounts is read and dropped.
     Typed,
+    /// A list of accounts whose texts stand in the input is read and dropped.
+    TypedLent,
     /// A list of accounts is written.
     TypedText,
+    /// One member of each line is found.
+    Log,
 }
 
 /// The works that any document is passed by, and their names.
@@ -58,7 +63,9 @@ pub fn work_of(name: &str) -> Option<Work> {
         "tree" => Some(Work::Tree),
         "text" => Some(Work::Text),
         "typed" => Some(Work::Typed),
+        "typed-lent" => Some(Work::TypedLent),
         "typed-text" => Some(Work::TypedText),
+        "log" => Some(Work::Log),
         _ => None,
     }
 }
@@ -84,7 +91,7 @@ pub struct Order<'i> {
     /// Its tree, where that is to be written.
     pub tree: Option<Tree>,
     /// Its accounts, where these are to be written.
-    pub accounts: Option<Vec<Account>>,
+    pub accounts: Option<Vec<Account<String>>>,
 }
 
 impl<'i> Order<'i> {
@@ -120,6 +127,8 @@ impl<'i> Order<'i> {
             Work::StrictTrusted => strict_trusted(alloc, self.input),
             Work::Tree => tree(alloc, input, self.mode),
             Work::Typed => typed(alloc, input, self.mode),
+            Work::TypedLent => typed_lent(alloc, input, self.mode),
+            Work::Log => log(alloc, input),
             Work::Text => match &self.tree {
                 Some(tree) => text(alloc, tree),
                 None => None,

@@ -136,10 +136,46 @@ struct Account {
     parent: Option<u64>,
 }
 
+/// The same, with texts that stand in the input.
+#[derive(Deserialize)]
+#[allow(dead_code)]
+struct LentAccount<'i> {
+    id: u64,
+    name: &'i str,
+    email: &'i str,
+    active: bool,
+    age: u8,
+    score: i32,
+    visits: u32,
+    city: Option<&'i str>,
+    tags: Vec<&'i str>,
+    parent: Option<u64>,
+}
+
+/// The one member of a line that is wanted.
+#[derive(Deserialize)]
+struct Line {
+    status: u64,
+}
+
 /// Reads a list of accounts and drops it.
 fn typed(input: &[u8]) -> Done {
     black_box(serde_json::from_slice::<Vec<Account>>(input)?);
     Ok(Seen { count: 1, sum: 0 })
+}
+
+fn typed_lent(input: &[u8]) -> Done {
+    black_box(serde_json::from_slice::<Vec<LentAccount>>(input)?);
+    Ok(Seen { count: 1, sum: 0 })
+}
+
+/// Reads the status of each line.
+fn log(input: &str) -> Done {
+    let mut seen = Seen::default();
+    for line in input.lines() {
+        seen.add(serde_json::from_slice::<Line>(line.as_bytes())?.status);
+    }
+    Ok(seen)
 }
 
 fn typed_text(accounts: &[Account]) -> Done {
@@ -185,6 +221,11 @@ fn main() {
             best(rounds, || text(black_box(&value)));
         }
         "typed" => best(rounds, || typed(black_box(input))),
+        "typed-lent" => best(rounds, || typed_lent(black_box(input))),
+        "log" => {
+            let input = std::str::from_utf8(input).expect("UTF-8");
+            best(rounds, || log(black_box(input)));
+        }
         "typed-text" => {
             let accounts: Vec<Account> = serde_json::from_slice(input).expect("a list of accounts");
             best(rounds, || typed_text(black_box(&accounts)));

@@ -1,0 +1,14 @@
+-- A byte above a space ends the gap.
+use Rattle.std.proofs.Common.{refl}
+use Rattle.std.proofs.lemmas.Bool.{ne_eqb}
+use Rattle.facet_format.specs.Bytes.{slash}
+use Rattle.facet_json_token.specs.Views.{mode_of}
+use Rattle.facet_json_token.proofs.InSight.{past_gap-here, above_space}
+use Rattle.facet_json_token.proofs.Offsets.{slice_get-from_read}
+use Rattle.facet_json_token.proofs.quick.empty_gap_end.Goals as goal
+
+pub returns-in-Some-clause-end : goal.returns-in-Some-clause-end
+returns-in-Some-clause-end c =
+    let b = c.in-Some.byte.now in
+    let here = slice_get-from_read c.args.buffer.now c.args.position b b c.in-Some.ensures.lookup.3 refl in
+    past_gap-here (mode_of c.args.mode) c.args.buffer.now c.args.position b here (above_space b c.if-byte-gt32.true) (ne_eqb b slash c.if-byte-ne47.true)
