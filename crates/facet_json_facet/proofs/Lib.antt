@@ -1,3 +1,4 @@
+pub mod KeysFound
 pub mod ListCalls
 pub mod MapCalls
 pub mod ScalarsOfRust

@@ -2,12 +2,14 @@
 //! object one by one, and a value that is passed unread. Each says what it does wherever the parser stands on a document's walk, and what
 //! it keeps on every input. The types of std and structs are read by them too.
 
+mod find;
 pub(crate) mod lists;
 pub(crate) mod next;
 pub(crate) mod objects;
 mod values;
 
 pub use facet_json_core::mismatch;
+pub use find::find_key;
 pub use lists::{begin_list, end_comes};
 pub use next::{next_of_value, null_comes, pass_null};
 pub use objects::{begin_object, next_key, next_name};

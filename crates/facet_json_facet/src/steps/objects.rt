@@ -10,6 +10,7 @@ ghost use Rattle.facet_json_document.specs.UnreadLaws.{RefusalWithin};
 ghost use Rattle.facet_json_core.specs.Refusing.{mismatch_of, TellsRefusal};
 ghost use Rattle.facet_json_meaning.specs.Objects.{begins_object, key_or_end, BeginsObject, IsNoObject, PassesKey, LacksKey};
 ghost use Rattle.facet_json_meaning.specs.OneValue.{IsInside, PassesMemberOrEnd};
+ghost use Rattle.facet_json_facet.specs.Finding.{PassesNextKey};
 
 use crate::steps::next::{next_of_value, take_next};
 use facet_format::{DeserializeError, ParseEvent, ParseEventKind};
@@ -66,6 +67,7 @@ pub fn next_name<'t, 'de>(
     parser: &mut JsonParser<'de>,
 ) -> Result<Option<CowStr<'de>>, DeserializeError<'t>>
     ensures passed { IfOk result (λ name. PassesKey parser.old (option_map (λ s. bytes_of (text_of s)) name) parser.new) }
+    ensures next { IfOk result (λ name. PassesNextKey parser.old (option_map (λ s. bytes_of (text_of s)) name) parser.new) }
     ensures member { IfOk result (λ name. PassesMemberOrEnd parser.old name parser.new) }
     ensures lacks { IfErr result (λ e. LacksKey parser.old (refusal_of e)) }
     ensures onward { GoesOn parser.old parser.new }
@@ -105,6 +107,7 @@ pub fn next_key<'t>(
     parser: &mut JsonParser<'_>,
 ) -> Result<Option<String>, DeserializeError<'t>>
     ensures passed { IfOk result (λ key. PassesKey parser.old (option_map string_bytes key) parser.new) }
+    ensures next { IfOk result (λ key. PassesNextKey parser.old (option_map string_bytes key) parser.new) }
     ensures member { IfOk result (λ key. PassesMemberOrEnd parser.old key parser.new) }
     ensures lacks { IfErr result (λ e. LacksKey parser.old (refusal_of e)) }
     ensures onward { GoesOn parser.old parser.new }
