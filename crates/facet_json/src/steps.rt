@@ -2,6 +2,6 @@
 
 pub use facet_json_core::mismatch;
 pub use facet_json_facet::steps::{
-    begin_list, begin_object, end_comes, next_key, next_name, next_of_value, null_comes, pass_null,
-    pass_value,
+    begin_list, begin_object, end_comes, find_key, next_key, next_name, next_of_value, null_comes,
+    pass_null, pass_value,
 };

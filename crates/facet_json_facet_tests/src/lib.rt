@@ -19,6 +19,8 @@ mod entries;
 #[cfg(test)]
 mod example_records;
 #[cfg(test)]
+mod finding;
+#[cfg(test)]
 mod lengths;
 #[cfg(test)]
 mod lent;
