@@ -1,7 +1,9 @@
 //! A search for a key among an object's members.
 
 ghost use Rattle.std.specs.Prelude.{◌≡◌, ◌<◌, None, Some, IfOk, IfErr, if◌then◌else◌, OnOk, MatchBool};
-ghost use Rattle.facet_format.specs.Event.{object};
+ghost use Rattle.std.specs.Str.{bytes_eq};
+ghost use Rattle.facet_format.specs.Event.{bytes_of, object};
+ghost use Rattle.facet_format.specs.HeldText.{text_of};
 ghost use Rattle.facet_format.specs.Views.{refusal_of};
 ghost use Rattle.facet_json_document.specs.Now.{ahead};
 ghost use Rattle.facet_json_document.specs.UnreadLaws.{RefusalWithin};
@@ -14,6 +16,7 @@ use crate::steps::objects::next_name;
 use crate::steps::values::pass_value;
 use facet_format::DeserializeError;
 use facet_json_parser::JsonParser;
+use std::borrow::CowStr;
 
 /// Passes members of the object that is being read, up to the first key of this text (RFC 8259, section 4), which it passes too, or up to the
 /// object's end. It answers whether such a key came: then its value comes next, and else the object is over. The values before it are passed
@@ -40,10 +43,18 @@ pub fn find_key<'t>(parser: &mut JsonParser<'_>, name: &str) -> Result<bool, Des
     ensures tells { IfErr result (λ e. TellsRefusal parser.old parser.new (refusal_of e)) }
 {
     while let Some(key) = next_name(parser)? {
-        if key.as_str() == name {
+        if is_named(key, name) {
             return Ok(true);
         }
         pass_value(parser)?;
     }
     Ok(false)
+}
+
+/// Whether the key has this text.
+#[inline(always)]
+fn is_named(key: CowStr<'_>, name: &str) -> bool
+    ensures { result ≡ bytes_eq (bytes_of (text_of key.entry)) name.now }
+{
+    key.as_str() == name
 }

@@ -4,7 +4,6 @@ use Rattle.std.proofs.lemmas.Result.{err_from_is_err_and}
 use Rattle.facet_format.specs.Event.{bytes_of}
 use Rattle.facet_format.specs.HeldText.{text_of}
 use Rattle.facet_format.specs.Views.{refusal_of}
-use Rattle.facet_format.proofs.HeldTexts.{held-bytes}
 use Rattle.facet_json_core.proofs.Refusing.{comes-then, goes-there, tells-later}
 use Rattle.facet_json_meaning.proofs.Refusals.{keeps-there}
 use Rattle.facet_json_facet.proofs.KeysFound.{search-begins, other-passed, key-found, none-found, no-key, no-value}
@@ -23,11 +22,10 @@ returns-in_err-key-clause-tells c =
     let p = err_from_is_err_and c.from_residual.result c.from_residual.ensures.1 in
     rw (p.1, p.2) (tells-later (keeps-there c.loop-key.invariant.keeps) c.in_err-key.ensures.tells)
 
-pub returns-then-eq-clause-finds : goal.returns-then-eq-clause-finds
-returns-then-eq-clause-finds c =
+pub returns-then-is_named-clause-finds : goal.returns-then-is_named-clause-finds
+returns-then-is_named-clause-finds c =
     let named = rw c.in-Some.is at c.in_ok-key.ensures.passed in
-    let same = rw (c.as_str.ensures.value ∙ held-bytes c.in-Some.key) at (sym c.eq.ensures ∙ c.if-eq.true) in
-    key-found c.args.name.now _ _ _ (bytes_of (text_of c.in-Some.key)) c.loop-key.invariant named same
+    key-found c.args.name.now _ _ _ (bytes_of (text_of c.in-Some.key)) c.loop-key.invariant named (sym c.is_named.ensures ∙ c.if-is_named.true)
 
 pub returns-in_err-pass_value-clause-lacks : goal.returns-in_err-pass_value-clause-lacks
 returns-in_err-pass_value-clause-lacks c =
@@ -41,20 +39,11 @@ returns-in_err-pass_value-clause-tells c =
     let came = comes-then (keeps-there c.loop-key.invariant.keeps) (goes-there c.next_name.ensures.onward) in
     rw (p.1, p.2) (tells-later came c.in_err-pass_value.ensures.tells)
 
-pub loop-key-preserved-in_ok-pass_value : goal.loop-key-preserved-in_ok-pass_value
-loop-key-preserved-in_ok-pass_value c =
-    let named = rw c.in-Some.is at c.in_ok-key.ensures.passed in
-    let next = rw c.in-Some.is at c.in_ok-key.ensures.next in
-    let other = rw (c.as_str.ensures.value ∙ held-bytes c.in-Some.key) at (sym c.eq.ensures ∙ c.if-eq.false) in
-    let at_value = MatchOption-at_some _ _ c.in-Some.key c.in-Some.is c.in_ok-key.ensures.member in
-    let value = c.in_ok-pass_value.ensures in
-    other-passed c.args.name.now _ _ _ _ (bytes_of (text_of c.in-Some.key)) c.loop-key.invariant named next other at_value c.in_ok-key.ensures.onward value.read value.keeps (value.one_value at_value.1)
-
 pub loop-key-preserved : goal.loop-key-preserved
 loop-key-preserved c =
     let named = rw c.in-Some.is at c.in_ok-key.ensures.passed in
     let next = rw c.in-Some.is at c.in_ok-key.ensures.next in
-    let other = rw (c.as_str.ensures.value ∙ held-bytes c.in-Some.key) at (sym c.eq.ensures ∙ c.if-eq.false) in
+    let other = sym c.is_named.ensures ∙ c.if-is_named.false in
     let at_value = MatchOption-at_some _ _ c.in-Some.key c.in-Some.is c.in_ok-key.ensures.member in
     let value = c.in_ok-pass_value.ensures in
     other-passed c.args.name.now _ _ _ _ (bytes_of (text_of c.in-Some.key)) c.loop-key.invariant named next other at_value c.in_ok-key.ensures.onward value.read value.keeps (value.one_value at_value.1)
