@@ -9,6 +9,12 @@ pub mod Lookups
 pub mod MembersRead
 pub mod MovingOn
 pub mod OfRust
+pub mod PointerIndex
+pub mod PointerRefusals
+pub mod PointerSplit
+pub mod PointerSteps
+pub mod PointerTokens
+pub mod Pointers
 pub mod ReadBack
 pub mod ReadingValues
 pub mod ReadingWithin

@@ -3,5 +3,6 @@
 -- Definitions that serve private contracts alone.
 pub mod Beyond
 pub mod LastNamed
+pub mod PointerParts
 pub mod Reading
 pub mod SameLaws

@@ -3,6 +3,8 @@ pub mod Depth
 pub mod Inner
 pub mod Lookup
 pub mod OutputViews
+pub mod Pointer
+pub mod PointerViews
 pub mod Same
 pub mod Views
 pub mod Write

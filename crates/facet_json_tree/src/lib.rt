@@ -9,6 +9,8 @@ mod error;
 mod from;
 pub mod laws;
 mod lookup;
+mod pointer;
+mod pointer_error;
 mod reader;
 mod strict;
 mod tree;
@@ -17,6 +19,7 @@ mod within;
 mod writers;
 
 pub use error::WriteError;
+pub use pointer_error::PointerError;
 pub use reader::{read_tree, tree_from_slice, tree_from_slice_jsonc};
 pub use strict::{tree_from_slice_strict, tree_from_slice_within_strict};
 pub use tree::Tree;

@@ -1,4 +1,4 @@
-//! Tests of `facet_json_tree` with ample memory: what is looked up, what values are, copies, values from what they hold, and trees that are read within a depth;
+//! Tests of `facet_json_tree` with ample memory: what is looked up, what JSON pointers name, what values are, copies, values from what they hold, and trees that are read within a depth;
 //! and how a value is refused that is passed without a tree.
 #![tactic(auto)]
 
@@ -12,6 +12,8 @@ mod copies;
 mod depth;
 #[cfg(test)]
 mod lookups;
+#[cfg(test)]
+mod pointers;
 #[cfg(test)]
 mod samples;
 #[cfg(test)]

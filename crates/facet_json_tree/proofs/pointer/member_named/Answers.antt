@@ -1,0 +1,9 @@
+use Rattle.std.proofs.Common.{sym}
+use Rattle.facet_json_tree.specs.Inner.PointerParts.{unescaped}
+use Rattle.facet_json_tree.proofs.Lookups.{last_member-at}
+use Rattle.facet_json_tree.proofs.pointer.member_named.Goals as goal
+
+pub returns : goal.returns
+returns c =
+    let told = c.in_ok-index.ensures in
+    sym (last_member-at (unescaped c.args.token.now) c.args.members.now c.in_ok-index.index c.index-members-index.result told.within told.found)

@@ -1,0 +1,127 @@
+//! What a JSON pointer names, with the document and the pointers of RFC 6901, section 5.
+
+use facet_json_tree::{PointerError, Tree, tree_from_slice};
+use std::alloc::Global;
+
+/// Whether the pointer names this value of the document, or nothing where nothing is wanted.
+fn names(alloc: Global, document: &str, pointer: &str, wanted: Option<&str>) -> bool {
+    let Ok(tree) = tree_from_slice(alloc, document.as_bytes()) else {
+        return false;
+    };
+    match (tree.pointer(pointer), wanted) {
+        (Ok(Some(found)), Some(wanted)) => match tree_from_slice(alloc, wanted.as_bytes()) {
+            Ok(wanted) => found.is_same(&wanted),
+            Err(_) => false,
+        },
+        (Ok(None), None) => true,
+        _ => false,
+    }
+}
+
+/// The document of RFC 6901, section 5.
+const DOCUMENT: &str =
+    r#"{"foo":["bar","baz"],"":0,"a/b":1,"c%d":2,"e^f":3,"g|h":4,"i\\j":5,"k\"l":6," ":7,"m~n":8}"#;
+
+/// The pointers of that section, and what each names.
+const NAMED: [(&str, &str); 12] = [
+    ("", DOCUMENT),
+    ("/foo", r#"["bar","baz"]"#),
+    ("/foo/0", r#""bar""#),
+    ("/", "0"),
+    ("/a~1b", "1"),
+    ("/c%d", "2"),
+    ("/e^f", "3"),
+    ("/g|h", "4"),
+    (r"/i\j", "5"),
+    (r#"/k"l"#, "6"),
+    ("/ ", "7"),
+    ("/m~0n", "8"),
+];
+
+#[test]
+fn the_pointers_of_the_rfc_name_their_values(rt: HostRuntime) {
+    let alloc = rt.alloc();
+    for (pointer, wanted) in &NAMED {
+        assert!(rt; names(alloc, DOCUMENT, *pointer, Some(*wanted)));
+    }
+}
+
+/// Pointers that name nothing in that document: no such name, no index, past the end, past 64 bits, or within a scalar.
+const UNNAMED: [&str; 16] = [
+    "/bar",
+    "/FOO",
+    "/foo ",
+    "/a",
+    "//",
+    "/foo/2",
+    "/foo/00",
+    "/foo/01",
+    "/foo/-",
+    "/foo/",
+    "/foo/+1",
+    "/foo/1e0",
+    "/foo/~01",
+    "/foo/18446744073709551616",
+    "/foo/184467440737095516160",
+    "/foo/0/0",
+];
+
+#[test]
+fn other_pointers_name_nothing(rt: HostRuntime) {
+    let alloc = rt.alloc();
+    for pointer in &UNNAMED {
+        assert!(rt; names(alloc, DOCUMENT, *pointer, None));
+    }
+}
+
+/// Documents with nested values, with names that look like escapes or indices, and with a name that comes twice.
+const WITHIN: [(&str, &str, Option<&str>); 10] = [
+    (r#"{"a":[0,{"b":[1,2]}]}"#, "/a/1/b/1", Some("2")),
+    ("[0,1,2,3,4,5,6,7,8,9,10,11,12,13]", "/12", Some("12")),
+    (r#"{"~1":1,"/":2}"#, "/~01", Some("1")),
+    (r#"{"~1":1,"/":2}"#, "/~1", Some("2")),
+    (r#"{"01":1}"#, "/01", Some("1")),
+    (r#"{"é":1}"#, "/é", Some("1")),
+    (r#"{"a":{"":1}}"#, "/a/", Some("1")),
+    (r#"{"a":1,"a":{"b":2}}"#, "/a/b", Some("2")),
+    (r#"{"a":{"b":2},"a":1}"#, "/a/b", None),
+    ("null", "", Some("null")),
+];
+
+#[test]
+fn tokens_lead_into_a_value(rt: HostRuntime) {
+    let alloc = rt.alloc();
+    for (document, pointer, wanted) in &WITHIN {
+        assert!(rt; names(alloc, *document, *pointer, *wanted));
+    }
+}
+
+/// Texts that are no pointers, and why.
+const REFUSED: [(&str, PointerError); 9] = [
+    ("foo", PointerError::NoSlash),
+    ("~", PointerError::NoSlash),
+    ("#/foo", PointerError::NoSlash),
+    ("/~", PointerError::LoneTilde(1)),
+    ("/~2", PointerError::LoneTilde(1)),
+    ("/~~0", PointerError::LoneTilde(1)),
+    ("/a~/b", PointerError::LoneTilde(2)),
+    ("/~0~1~", PointerError::LoneTilde(5)),
+    ("/é~", PointerError::LoneTilde(3)),
+];
+
+#[test]
+fn what_is_no_pointer_is_refused_in_every_value(rt: HostRuntime) {
+    let alloc = rt.alloc();
+    for (text, wanted) in &REFUSED {
+        assert!(rt;
+            Tree::Null
+                .pointer(*text)
+                .is_err_and(|error| error == *wanted)
+        );
+        assert!(rt;
+            Tree::Pairs(Vec::new(alloc))
+                .pointer(*text)
+                .is_err_and(|error| error == *wanted)
+        );
+    }
+}
