@@ -1,5 +1,6 @@
 -- Which index a reference token is.
 use Rattle.std.proofs.Common.{◌≡◌, ◌≢◌, ℕ, ◌≤◌, ◌^◌, Bool, true, false, ◌==◌, ◌&&◌, not, List, [], ◌∷◌, length, Option, Some, None, refl, sym, ap, ◌∙◌, subst, ⊎_elim, arith, if◌then◌else◌}
+use Rattle.std.proofs.Math.Bool.{and-true, and-false}
 use Rattle.std.specs.List.{list_all}
 use Rattle.std.specs.Prelude.{IfSome, option_and_then}
 use Rattle.std.proofs.lemmas.Bool.{cases_eq, and_parts}
@@ -23,13 +24,16 @@ no_digit false false xs ys zs = refl
 list_all-unescaped : (token : List ℕ) → list_all is_digit (unescaped token) ≡ list_all is_digit token
 list_all-unescaped [] = refl
 list_all-unescaped (b ∷ []) = refl
-list_all-unescaped (b ∷ c ∷ token) =
-    ⊎_elim
-    (λ (is : b ≡ tilde). subst (λ (d : ℕ). list_all is_digit (unescaped (d ∷ c ∷ token)) ≡ list_all is_digit (d ∷ c ∷ token)) (sym is)
-    (no_digit (c == 0x30) (c == 0x31) (unescaped token) (unescaped token) (unescaped (c ∷ token))))
-    (λ (no_tilde : b ≢ tilde). ap (list_all is_digit) (unescaped-plain b (c ∷ token) no_tilde)
-    ∙ ap (λ rest. is_digit b && rest) (list_all-unescaped (c ∷ token)))
-    (cases_eq b tilde)
+list_all-unescaped (b ∷ c ∷ token) = ⊎_elim escape (other (list_all-unescaped (c ∷ token))) (cases_eq b tilde)
+  where
+    escape : b ≡ tilde → list_all is_digit (unescaped (b ∷ c ∷ token)) ≡ list_all is_digit (b ∷ c ∷ token)
+    escape is = subst (λ (d : ℕ). list_all is_digit (unescaped (d ∷ c ∷ token)) ≡ list_all is_digit (d ∷ c ∷ token)) (sym is)
+        (no_digit (c == 0x30) (c == 0x31) (unescaped token) (unescaped token) (unescaped (c ∷ token)))
+
+    other : list_all is_digit (unescaped (c ∷ token)) ≡ list_all is_digit (c ∷ token) → b ≢ tilde
+        → list_all is_digit (unescaped (b ∷ c ∷ token)) ≡ list_all is_digit (b ∷ c ∷ token)
+    other rest no_tilde = ap (list_all is_digit) (unescaped-plain b (c ∷ token) no_tilde)
+        ∙ ap (λ digits. is_digit b && digits) rest
 
 digit_no_tilde : (b : ℕ) → is_digit b ≡ true → b ≢ tilde
 digit_no_tilde b is e = let at : is_digit tilde ≡ true = subst (λ (d : ℕ). is_digit d ≡ true) e is in cc
@@ -42,18 +46,10 @@ digits-unescaped (b ∷ token) are =
 
 -- ---- so a token and what it stands for are the same index
 
-and_false : (b : Bool) → (b && false) ≡ false
-and_false true = refl
-and_false false = refl
-
-and_true : (b : Bool) → (b && true) ≡ b
-and_true true = refl
-and_true false = refl
-
 index-none : (text : List ℕ) → list_all is_digit text ≡ false → index text ≡ None
 index-none [] no_digits = refl
-index-none (b ∷ []) no_digits = rw (sym (and_true (is_digit b)) ∙ no_digits)
-index-none (b ∷ c ∷ text) no_digits = rw (no_digits, and_false (not (b == 0x30)))
+index-none (b ∷ []) no_digits = rw (sym (and-true (is_digit b)) ∙ no_digits)
+index-none (b ∷ c ∷ text) no_digits = rw (no_digits, and-false (not (b == 0x30)))
 
 pub index-unescaped : (token : List ℕ) → index (unescaped token) ≡ index token
 index-unescaped token = by (list_all is_digit token) refl

@@ -67,9 +67,9 @@ split-escape c text escape s =
     (or_cases (c == 0x30) (c == 0x31) escape)
 
 -- what a text without a lone tilde says of its first byte, and of the others
-pub record FirstPassed (b : ℕ) (behind : List ℕ) : Type 0 where
-  pub first : stands_alone b behind ≡ false
-  pub others : lone_tilde behind ≡ None
+record FirstPassed (b : ℕ) (behind : List ℕ) : Type 0 where
+  first : stands_alone b behind ≡ false
+  others : lone_tilde behind ≡ None
 
 by_test : (alone : Bool) (o : Option ℕ) → (if alone then Some 0 else option_map (λ k. suc k) o) ≡ None → (alone ≡ false) × (o ≡ None)
 by_test true o e = cc
@@ -89,28 +89,23 @@ escapes b behind is_tilde not_alone = by (zero_or_one behind) refl
     by true e = e
     by false e = let is_alone = alone b behind is_tilde e in cc
 
+-- A byte stands for itself, ends the token, or is a tilde.
+by_first : (b : ℕ) (behind : List ℕ) → Split behind → (b ≡ tilde → Split (b ∷ behind)) → Split (b ∷ behind)
+by_first b behind s escape =
+    let other = λ (no_slash : b ≢ slash). ⊎_elim escape (λ (no_tilde : b ≢ tilde). split-plain b behind no_slash no_tilde s) (cases_eq b tilde) in
+    ⊎_elim (λ (is : b ≡ slash). subst (λ (d : ℕ). Split (d ∷ behind)) (sym is) (split-slash behind s)) other (cases_eq b slash)
+
 split : (text : List ℕ) → lone_tilde text ≡ None → Split text
 split [] none = record { token = []; name = []; pointer = []; names = []; is_token = IsToken.empty; is_pointer = IsPointer.whole; whole = refl }
 split (b ∷ []) none =
     let passed = first_passed b [] none in
-    ⊎_elim
-    (λ (is : b ≡ slash). subst (λ (d : ℕ). Split (d ∷ [])) (sym is) (split-slash [] (split [] passed.others)))
-    (λ (no_slash : b ≢ slash). ⊎_elim
-    (λ (is : b ≡ tilde). absurd (let escape = escapes b [] is passed.first in cc))
-    (λ (no_tilde : b ≢ tilde). split-plain b [] no_slash no_tilde (split [] passed.others))
-    (cases_eq b tilde))
-    (cases_eq b slash)
+    by_first b [] (split [] passed.others) (λ is. absurd (let escape = escapes b [] is passed.first in cc))
 split (b ∷ c ∷ text) none =
     let passed = first_passed b (c ∷ text) none in
     let second = first_passed c text passed.others in
-    ⊎_elim
-    (λ (is : b ≡ slash). subst (λ (d : ℕ). Split (d ∷ c ∷ text)) (sym is) (split-slash (c ∷ text) (split (c ∷ text) passed.others)))
-    (λ (no_slash : b ≢ slash). ⊎_elim
-    (λ (is : b ≡ tilde). subst (λ (d : ℕ). Split (d ∷ c ∷ text)) (sym is)
-    (split-escape c text (escapes b (c ∷ text) is passed.first) (split text second.others)))
-    (λ (no_tilde : b ≢ tilde). split-plain b (c ∷ text) no_slash no_tilde (split (c ∷ text) passed.others))
-    (cases_eq b tilde))
-    (cases_eq b slash)
+    let escaped = split text second.others in
+    by_first b (c ∷ text) (split (c ∷ text) passed.others)
+    (λ is. subst (λ (d : ℕ). Split (d ∷ c ∷ text)) (sym is) (split-escape c text (escapes b (c ∷ text) is passed.first) escaped))
 
 -- the names that its tokens stand for
 pub is_pointer : (text : List ℕ) → begins text ≡ true → lone_tilde text ≡ None → (names : List (List ℕ)) × IsPointer text names

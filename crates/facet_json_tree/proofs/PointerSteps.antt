@@ -14,9 +14,6 @@ pub record Reached (rest : List ℕ) (found : Tree) (names : List (List ℕ)) (w
   pub pointer : IsPointer rest others
   pub same : named names whole ≡ named others found
 
-pub reached-none : (text : List ℕ) (names : List (List ℕ)) (whole : Tree) → IsPointer text names → Reached text whole names whole
-reached-none text names whole is = record { others = names; pointer = is; same = refl }
-
 -- With nothing left it is what the pointer names.
 only-whole : (text : List ℕ) (names : List (List ℕ)) → IsPointer text names → text ≡ [] → names ≡ []
 only-whole _ _ IsPointer.whole e = refl

@@ -1,5 +1,6 @@
 -- Which texts are pointers, by where a tilde stands alone.
 use Rattle.std.proofs.Common.{◌≡◌, ◌≢◌, ℕ, suc, ◌+◌, ◌<◌, Bool, true, false, ◌==◌, ◌&&◌, not, List, ◌∷◌, ◌++◌, length, get_or, drop, Option, Some, None, option_map, refl, ap, ◌∙◌, arith}
+use Rattle.std.proofs.Math.Bool.{and-false}
 use Rattle.std.proofs.lemmas.List.{drop_more}
 use Rattle.facet_json_tree.specs.Pointer.{tilde, IsToken, IsPointer, begins, zero_or_one, lone_tilde, IsNoPointer}
 
@@ -20,10 +21,6 @@ by_none (Some k) = ap Some (omega arith)
 by_one : (o : Option ℕ) (i : ℕ) → option_map (λ k. k + i) (option_map (λ k. suc k) o) ≡ option_map (λ k. k + (i + 1)) o
 by_one None i = refl
 by_one (Some k) i = ap Some (omega arith)
-
-never : (b : Bool) → (b && false) ≡ false
-never true = refl
-never false = refl
 
 pub found_from-none : (text : List ℕ) → IsFoundFrom text 0
 found_from-none text = by_none (lone_tilde text)
@@ -66,14 +63,16 @@ pub pointer-begins : (text : List ℕ) (names : List (List ℕ)) → IsPointer t
 pointer-begins _ _ IsPointer.whole = refl
 pointer-begins _ _ (IsPointer.within token name pointer names is others) = refl
 
--- so a text is none that begins otherwise, or in which one does
+-- So a text that begins otherwise is none,
 pub no_pointer-begins : (text : List ℕ) → begins text ≡ false → IsNoPointer text
 no_pointer-begins text not_begun names is = let begun = pointer-begins text names is in cc
 
+-- and one in which a tilde does.
 pub no_pointer-lone : (text : List ℕ) (i : ℕ) → lone_tilde text ≡ Some i → IsNoPointer text
 no_pointer-lone text i lone names is = let none = pointer-lone_tilde text names is in cc
 
--- whether a byte stands alone, by what the code tests
+-- ---- whether a byte is a tilde that stands alone, by what the code tests
+
 pub alone : (b : ℕ) (behind : List ℕ) → b ≡ tilde → zero_or_one behind ≡ false → stands_alone b behind ≡ true
 alone b behind is_tilde no_escape = rw (is_tilde, no_escape) refl
 
@@ -81,4 +80,4 @@ pub not_alone-byte : (b : ℕ) (behind : List ℕ) → b ≢ tilde → stands_al
 not_alone-byte b behind no_tilde = rw (other_byte b no_tilde)
 
 pub not_alone-escape : (b : ℕ) (behind : List ℕ) → zero_or_one behind ≡ true → stands_alone b behind ≡ false
-not_alone-escape b behind escape = rw escape (never (b == tilde))
+not_alone-escape b behind escape = rw escape (and-false (b == tilde))

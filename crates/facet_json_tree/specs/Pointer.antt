@@ -48,11 +48,11 @@ abbrev pub named : List (List ℕ) → Tree → Option Tree
 named [] t = Some t
 named (name ∷ names) t = option_and_then (named names) (child name t)
 
--- The text is a pointer, and this is what its names name in the value.
+-- The text is a pointer, and this is what it names in the value, however it is taken apart.
 pub record PointsTo (text : List ℕ) (t : Tree) (found : Option Tree) : Type 0 where
   pub names : List (List ℕ)
   pub pointer : IsPointer text names
-  pub named : (names : List (List ℕ)) → IsPointer text names → found ≡ named names t
+  pub named : (read : List (List ℕ)) → IsPointer text read → found ≡ named read t
 
 -- ---- where a text is no pointer
 

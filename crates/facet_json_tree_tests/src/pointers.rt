@@ -125,3 +125,9 @@ fn what_is_no_pointer_is_refused_in_every_value(rt: HostRuntime) {
         );
     }
 }
+
+#[test]
+fn a_refusal_tells_where_the_text_is_wrong(rt: HostRuntime) {
+    assert!(rt; PointerError::NoSlash.offset() == 0);
+    assert!(rt; PointerError::LoneTilde(3).offset() == 3);
+}
