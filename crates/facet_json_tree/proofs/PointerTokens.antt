@@ -1,5 +1,5 @@
 -- What a reference token stands for, and where it ends.
-use Rattle.std.proofs.Common.{◌≡◌, ◌≢◌, ℕ, false, ◌==◌, List, [], ◌∷◌, ◌++◌, take, drop, refl, ap, ◌∙◌, arith}
+use Rattle.std.proofs.Common.{◌≡◌, ◌≢◌, ◌≤◌, length, get_or, ℕ, false, ◌==◌, List, [], ◌∷◌, ◌++◌, take, drop, refl, ap, ◌∙◌, arith}
 use Rattle.facet_format.specs.Bytes.{slash}
 use Rattle.facet_json_tree.specs.Inner.PointerParts.{unescaped, before_slash}
 use Rattle.facet_json_tree.specs.Pointer.{tilde, IsToken, IsPointer}
@@ -17,6 +17,13 @@ token-unescaped _ _ (IsToken.plain b token name no_slash no_tilde is) =
     unescaped-plain b token no_tilde ∙ ap (λ xs. b ∷ xs) (token-unescaped token name is)
 token-unescaped _ _ (IsToken.tilde_zero token name is) = ap (λ xs. tilde ∷ xs) (token-unescaped token name is)
 token-unescaped _ _ (IsToken.tilde_one token name is) = ap (λ xs. slash ∷ xs) (token-unescaped token name is)
+
+-- ~1 stands for a slash.
+pub unescaped-one : (token : List ℕ) → 2 ≤ length token → get_or token 0 0 ≡ tilde → get_or token 1 0 ≡ 0x31
+    → unescaped token ≡ slash ∷ unescaped (drop 2 token)
+unescaped-one [] long is_tilde is_one = absurd (omega arith)
+unescaped-one (b ∷ []) long is_tilde is_one = absurd (omega arith)
+unescaped-one (b ∷ c ∷ token) long is_tilde is_one = rw (is_tilde, is_one)
 
 -- ---- the bytes before the first slash
 
