@@ -2,9 +2,7 @@
 
 use crate::seen::{Seen, wide};
 use facet_json::scanner::Mode;
-use facet_json::{
-    DeserializeError, from_slice, from_slice_borrowed, from_slice_borrowed_jsonc, from_slice_jsonc, to_vec,
-};
+use facet_json::{DeserializeError, from_slice, from_slice_jsonc, to_vec};
 use facet_json_examples::accounts::Account;
 use std::alloc::Global;
 use std::hint::black_box;
@@ -16,18 +14,12 @@ pub fn typed(alloc: Global, input: &[u8], mode: Mode) -> Option<Seen> {
 }
 
 /// The accounts of the document.
-pub fn accounts_of(alloc: Global, input: &[u8], mode: Mode) -> Option<Vec<Account<String>>> {
+pub fn accounts_of(alloc: Global, input: &[u8], mode: Mode) -> Option<Vec<Account>> {
     accounts(alloc, input, mode).ok()
 }
 
-/// A list of accounts whose texts stand in the input is read and dropped.
-pub fn typed_lent(alloc: Global, input: &[u8], mode: Mode) -> Option<Seen> {
-    let _accounts = black_box(lent_accounts(alloc, input, mode).ok()?);
-    Some(Seen::none().with(0))
-}
-
 /// The accounts are written.
-pub fn typed_text(alloc: Global, accounts: &Vec<Account<String>>) -> Option<Seen> {
+pub fn typed_text(alloc: Global, accounts: &Vec<Account>) -> Option<Seen> {
     let text = black_box(to_vec(alloc, accounts).ok()?);
     Some(Seen::none().with(wide(text.len())))
 }
@@ -36,20 +28,9 @@ fn accounts<'t>(
     alloc: Global,
     input: &[u8],
     mode: Mode,
-) -> Result<Vec<Account<String>>, DeserializeError<'t>> {
+) -> Result<Vec<Account>, DeserializeError<'t>> {
     match mode {
         Mode::Plain => from_slice(alloc, input),
         Mode::Jsonc => from_slice_jsonc(alloc, input),
-    }
-}
-
-fn lent_accounts<'t, 'de>(
-    alloc: Global,
-    input: &'de [u8],
-    mode: Mode,
-) -> Result<Vec<Account<&'de str>>, DeserializeError<'t>> {
-    match mode {
-        Mode::Plain => from_slice_borrowed(alloc, input),
-        Mode::Jsonc => from_slice_borrowed_jsonc(alloc, input),
     }
 }

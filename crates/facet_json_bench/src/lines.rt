@@ -1,7 +1,7 @@
 //! One member of each line of a log.
 
 use crate::seen::Seen;
-use facet_json::steps::{begin_object, next_name, pass_value};
+use facet_json::steps::{begin_object, find_key};
 use facet_json::{DeserializeError, Facet, JsonParser};
 use memchr::memchr;
 use std::alloc::Global;

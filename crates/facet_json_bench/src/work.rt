@@ -1,6 +1,6 @@
 //! What can be done with a text, and the names of it.
 
-use crate::accounts::{accounts_of, typed, typed_lent, typed_text};
+use crate::accounts::{accounts_of, typed, typed_text};
 use crate::lines::log;
 use crate::passes::{events, scanned, skip, strict_events, strict_trusted, tokens, trusted};
 use crate::seen::Seen;
@@ -33,8 +33,6 @@ pub enum Work {
     Text,
     /// A list of accounts is read and dropped.
     Typed,
-    /// A list of accounts whose texts stand in the input is read and dropped.
-    TypedLent,
     /// A list of accounts is written.
     TypedText,
     /// One member of each line is found.
@@ -63,7 +61,6 @@ pub fn work_of(name: &str) -> Option<Work> {
         "tree" => Some(Work::Tree),
         "text" => Some(Work::Text),
         "typed" => Some(Work::Typed),
-        "typed-lent" => Some(Work::TypedLent),
         "typed-text" => Some(Work::TypedText),
         "log" => Some(Work::Log),
         _ => None,
@@ -91,7 +88,7 @@ pub struct Order<'i> {
     /// Its tree, where that is to be written.
     pub tree: Option<Tree>,
     /// Its accounts, where these are to be written.
-    pub accounts: Option<Vec<Account<String>>>,
+    pub accounts: Option<Vec<Account>>,
 }
 
 impl<'i> Order<'i> {
@@ -127,7 +124,6 @@ impl<'i> Order<'i> {
             Work::StrictTrusted => strict_trusted(alloc, self.input),
             Work::Tree => tree(alloc, input, self.mode),
             Work::Typed => typed(alloc, input, self.mode),
-            Work::TypedLent => typed_lent(alloc, input, self.mode),
             Work::Log => log(alloc, input),
             Work::Text => match &self.tree {
                 Some(tree) => text(alloc, tree),

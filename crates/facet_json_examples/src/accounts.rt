@@ -10,37 +10,35 @@ use facet_json_serializer::{JsonSerializeError, JsonSerializer};
 use std::alloc::Global;
 
 /// An account, as `{"id":7,"name":"Ann","email":"a@b.example","active":true,"age":40,"score":-3,"visits":12,"tags":["new"]}`.
-/// The city and the parent may be missing. Its texts are of its own, as `String`, or lent by the input, as `&str`.
+/// The city and the parent may be missing.
 #[derive(PartialEq, Drop)]
-pub struct Account<S> {
+pub struct Account {
     pub id: u64,
-    pub name: S,
-    pub email: S,
+    pub name: String,
+    pub email: String,
     pub active: bool,
     pub age: u8,
     pub score: i32,
     pub visits: u32,
-    pub city: Option<S>,
-    pub tags: Vec<S>,
+    pub city: Option<String>,
+    pub tags: Vec<String>,
     pub parent: Option<u64>,
 }
 
-impl<'de, S: Facet<'de>> Facet<'de> for Account<S> {
-    ghost use Rattle.std.specs.Prelude.{ℕ, ℤ, Bool, List, Option, false, map};
+impl<'de> Facet<'de> for Account {
+    ghost use Rattle.std.specs.Prelude.{ℕ, ℤ, Bool, List, Option, false, map, string_bytes};
     ghost use Rattle.std.specs.Option.{option_map};
-    ghost use Rattle.facet_json.specs.Shapes.{shape};
-    ghost use Rattle.facet_json.proofs.StructLaws.{shape-laws};
     ghost use Rattle.facet_json_examples.specs.Accounts.{account};
     ghost use Rattle.facet_json_examples.specs.AccountLaws.{account-laws};
 
-    ghost View = { ℕ × (S.View × (S.View × (Bool × (ℕ × (ℤ × (ℕ × (Option S.View × (List S.View × (Option ℕ × Unit {0}))))))))) };
+    ghost View = { ℕ × (List ℕ × (List ℕ × (Bool × (ℕ × (ℤ × (ℕ × (Option (List ℕ) × (List (List ℕ) × (Option ℕ × Unit {0}))))))))) };
 
     ghost view = { λ a. (
       a.id,
       (
-        S.view a.name,
+        string_bytes a.name,
         (
-          S.view a.email,
+          string_bytes a.email,
           (
             a.active,
             (
@@ -49,7 +47,7 @@ impl<'de, S: Facet<'de>> Facet<'de> for Account<S> {
                 a.score,
                 (
                   a.visits,
-                  (option_map S.view a.city, (map S.view a.tags.items, (option_map (λ n. n) a.parent, tt))),
+                  (option_map string_bytes a.city, (map string_bytes a.tags.items, (option_map (λ n. n) a.parent, tt))),
                 ),
               ),
             ),
@@ -58,22 +56,22 @@ impl<'de, S: Facet<'de>> Facet<'de> for Account<S> {
       ),
     ) };
 
-    ghost reading = { (account (shape S.reading S.reading_borrowed S.tree_of S.always S.readable)).reading };
+    ghost reading = { account.reading };
 
-    ghost reading_borrowed = { (account (shape S.reading S.reading_borrowed S.tree_of S.always S.readable)).reading_borrowed };
+    ghost reading_borrowed = { account.reading_borrowed };
 
-    ghost tree_of = { (account (shape S.reading S.reading_borrowed S.tree_of S.always S.readable)).tree_of };
+    ghost tree_of = { account.tree_of };
 
-    ghost always = { (account (shape S.reading S.reading_borrowed S.tree_of S.always S.readable)).always };
+    ghost always = { account.always };
 
-    ghost readable = { (account (shape S.reading S.reading_borrowed S.tree_of S.always S.readable)).readable };
+    ghost readable = { account.readable };
 
     ghost whole = { false };
 
     fn read_owned<'t>(
         alloc: Global,
         parser: &mut JsonParser<'de>,
-    ) -> Result<Account<S>, DeserializeError<'t>> {
+    ) -> Result<Account, DeserializeError<'t>> {
         let Need(
             id,
             Need(
@@ -114,42 +112,8 @@ impl<'de, S: Facet<'de>> Facet<'de> for Account<S> {
     fn read<'t>(
         alloc: Global,
         parser: &mut JsonParser<'de>,
-    ) -> Result<Account<S>, DeserializeError<'t>> {
-        let Need(
-            id,
-            Need(
-                name,
-                Need(
-                    email,
-                    Need(
-                        active,
-                        Need(
-                            age,
-                            Need(score, Need(visits, Maybe(city, Need(tags, Maybe(parent, Done))))),
-                        ),
-                    ),
-                ),
-            ),
-        ) = read_fields(
-            alloc,
-            parser,
-            true,
-            &[
-                "id", "name", "email", "active", "age", "score", "visits", "city", "tags", "parent",
-            ],
-        )?;
-        Ok(Account {
-            id,
-            name,
-            email,
-            active,
-            age,
-            score,
-            visits,
-            city,
-            tags,
-            parent,
-        })
+    ) -> Result<Account, DeserializeError<'t>> {
+        Account::read_owned(alloc, parser)
     }
 
     fn write(&self, serializer: &mut JsonSerializer<'_>) -> Result<(), JsonSerializeError> {
@@ -184,9 +148,9 @@ impl<'de, S: Facet<'de>> Facet<'de> for Account<S> {
         )
     }
 
-    ghost same_reading = { (account-laws (shape-laws S.same_reading S.same_reading_borrowed S.reads_back)).same_reading };
+    ghost same_reading = { account-laws.same_reading };
 
-    ghost same_reading_borrowed = { (account-laws (shape-laws S.same_reading S.same_reading_borrowed S.reads_back)).same_reading_borrowed };
+    ghost same_reading_borrowed = { account-laws.same_reading_borrowed };
 
-    ghost reads_back = { (account-laws (shape-laws S.same_reading S.same_reading_borrowed S.reads_back)).reads_back };
+    ghost reads_back = { account-laws.reads_back };
 }

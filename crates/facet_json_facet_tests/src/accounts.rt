@@ -6,7 +6,7 @@ use facet_json_examples::accounts::Account;
 use std::alloc::{AllocError, Global};
 
 /// An account without a city and a parent.
-fn ann(alloc: Global, score: i32, age: u8) -> Result<Account<String>, AllocError> {
+fn ann(alloc: Global, score: i32, age: u8) -> Result<Account, AllocError> {
     Ok(Account {
         id: 7,
         name: String::from_str(alloc, "Ann")?,
@@ -54,7 +54,7 @@ fn ten_fields_are_read(rt: HostRuntime) {
 fn ten_fields_come_back(rt: HostRuntime) {
     let alloc = rt.alloc();
     assert!(rt;
-        comes_back::<Account<String>>(
+        comes_back::<Account>(
             alloc,
             "{\"id\":7,\"name\":\"Ann\",\"email\":\"\",\"active\":false,\"age\":0,\"score\":-2147483648,\"visits\":0,\"city\":\"Rome\",\"tags\":[\"a\",\"b\"],\"parent\":18446744073709551615}"
         )
@@ -65,12 +65,12 @@ fn ten_fields_come_back(rt: HostRuntime) {
 fn ten_fields_are_refused(rt: HostRuntime) {
     let alloc = rt.alloc();
     assert!(rt;
-        refuses::<Account<String>>(
+        refuses::<Account>(
             alloc,
             "{\"id\":7,\"name\":\"Ann\",\"active\":true,\"age\":40}",
             DeserializeErrorKind::MissingField { field: "email" },
             Span::new(43, 1)
         )
     );
-    assert!(rt; refuses::<Account<String>>(alloc, "{\"age\":300}", out_of_range("u8"), Span::new(7, 3)));
+    assert!(rt; refuses::<Account>(alloc, "{\"age\":300}", out_of_range("u8"), Span::new(7, 3)));
 }

@@ -617,7 +617,7 @@ fn a_growth_is_refused_in_a_container(rt: HostRuntime) {
     expect::<Vec<String>>(&rt, alloc, &LISTS_OF_TEXTS);
     expect::<BTreeMap<String, String>>(&rt, alloc, &MAPS);
     expect::<Tree>(&rt, alloc, &TREES);
-    expect::<Account<String>>(&rt, alloc, &ACCOUNTS);
+    expect::<Account>(&rt, alloc, &ACCOUNTS);
 }
 
 /// A struct of a name and an age.

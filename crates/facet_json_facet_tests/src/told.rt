@@ -233,7 +233,7 @@ fn other_types_tell_what_is_wrong(rt: HostRuntime) {
         assert!(rt; strict_too::<String>(alloc, row));
     }
     for row in &ACCOUNTS {
-        assert!(rt; strict_too::<Account<String>>(alloc, row));
+        assert!(rt; strict_too::<Account>(alloc, row));
     }
     for row in &RAW_TEXTS {
         assert!(rt; strict_too::<RawJson<'static>>(alloc, row));
