@@ -2,6 +2,7 @@
 
 ghost use Rattle.std.specs.Prelude.{◌≡◌, ◌≤◌, ◌<◌, false, cond, length, None, Some, IfOk, IfErr, OnOk};
 ghost use Rattle.std.specs.Option.{option_map, IfSome};
+ghost use Rattle.std.specs.Str.{bytes_eq};
 ghost use Rattle.facet_format.specs.Complaint.{missing_field, refusal_at};
 ghost use Rattle.facet_format.specs.Span.{stop};
 ghost use Rattle.facet_format.specs.Views.{refusal_of, span_of};
@@ -347,8 +348,16 @@ fn is_first(names: &[&str], key: &str) -> bool
 {
     match names {
         [] => false,
-        [first, ..] => *first == key,
+        [first, ..] => is_same(*first, key),
     }
+}
+
+/// Whether two texts are the same. Most names differ in their lengths already.
+#[inline(always)]
+fn is_same(a: &str, b: &str) -> bool
+    ensures { result ≡ bytes_eq a.now b.now }
+{
+    a.len() == b.len() && a == b
 }
 
 /// The first of the names.
