@@ -12,7 +12,7 @@ import sys
 # a work that is drawn, and what it is called in two lines
 WORKS = {
     "typed": ("typed", "structs read"),
-    "typed-lent": ("typed-lent", "structs, texts lent"),
+    "typed-lent": ("typed-lent", "three fields, lent"),
     "typed-text": ("typed-text", "structs written"),
     "log": ("log", "a member of a line"),
     "events": ("events", "each value visited"),

@@ -2,8 +2,12 @@
 
 use crate::seen::{Seen, wide};
 use facet_json::scanner::Mode;
-use facet_json::{DeserializeError, from_slice, from_slice_jsonc, to_vec};
+use facet_json::{
+    DeserializeError, from_slice, from_slice_borrowed, from_slice_borrowed_jsonc, from_slice_jsonc,
+    to_vec,
+};
 use facet_json_examples::accounts::Account;
+use facet_json_examples::contacts::Contact;
 use std::alloc::Global;
 use std::hint::black_box;
 
@@ -16,6 +20,12 @@ pub fn typed(alloc: Global, input: &[u8], mode: Mode) -> Option<Seen> {
 /// The accounts of the document.
 pub fn accounts_of(alloc: Global, input: &[u8], mode: Mode) -> Option<Vec<Account>> {
     accounts(alloc, input, mode).ok()
+}
+
+/// Whom to write to of a list of accounts, by texts that stand in the input, is read and dropped.
+pub fn typed_lent(alloc: Global, input: &[u8], mode: Mode) -> Option<Seen> {
+    let _contacts = black_box(contacts(alloc, input, mode).ok()?);
+    Some(Seen::none().with(0))
 }
 
 /// The accounts are written.
@@ -32,5 +42,16 @@ fn accounts<'t>(
     match mode {
         Mode::Plain => from_slice(alloc, input),
         Mode::Jsonc => from_slice_jsonc(alloc, input),
+    }
+}
+
+fn contacts<'t, 'de>(
+    alloc: Global,
+    input: &'de [u8],
+    mode: Mode,
+) -> Result<Vec<Contact<'de>>, DeserializeError<'t>> {
+    match mode {
+        Mode::Plain => from_slice_borrowed(alloc, input),
+        Mode::Jsonc => from_slice_borrowed_jsonc(alloc, input),
     }
 }

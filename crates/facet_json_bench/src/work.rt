@@ -1,6 +1,6 @@
 //! What can be done with a text, and the names of it.
 
-use crate::accounts::{accounts_of, typed, typed_text};
+use crate::accounts::{accounts_of, typed, typed_lent, typed_text};
 use crate::lines::log;
 use crate::passes::{events, scanned, skip, strict_events, strict_trusted, tokens, trusted};
 use crate::seen::Seen;
@@ -33,6 +33,8 @@ pub enum Work {
     Text,
     /// A list of accounts is read and dropped.
     Typed,
+    /// Whom to write to of a list of accounts is read and dropped.
+    TypedLent,
     /// A list of accounts is written.
     TypedText,
     /// One member of each line is found.
@@ -61,6 +63,7 @@ pub fn work_of(name: &str) -> Option<Work> {
         "tree" => Some(Work::Tree),
         "text" => Some(Work::Text),
         "typed" => Some(Work::Typed),
+        "typed-lent" => Some(Work::TypedLent),
         "typed-text" => Some(Work::TypedText),
         "log" => Some(Work::Log),
         _ => None,
@@ -124,6 +127,7 @@ impl<'i> Order<'i> {
             Work::StrictTrusted => strict_trusted(alloc, self.input),
             Work::Tree => tree(alloc, input, self.mode),
             Work::Typed => typed(alloc, input, self.mode),
+            Work::TypedLent => typed_lent(alloc, input, self.mode),
             Work::Log => log(alloc, input),
             Work::Text => match &self.tree {
                 Some(tree) => text(alloc, tree),

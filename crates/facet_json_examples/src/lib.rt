@@ -2,6 +2,7 @@
 #![tactic(auto)]
 
 pub mod accounts;
+pub mod contacts;
 pub mod driving;
 pub mod events;
 pub mod log_filter;

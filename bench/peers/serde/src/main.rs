@@ -136,20 +136,13 @@ struct Account {
     parent: Option<u64>,
 }
 
-/// The same, with texts that stand in the input.
+/// Whom to write to of an account, by texts that stand in the input.
 #[derive(Deserialize)]
 #[allow(dead_code)]
-struct LentAccount<'i> {
+struct Contact<'i> {
     id: u64,
     name: &'i str,
     email: &'i str,
-    active: bool,
-    age: u8,
-    score: i32,
-    visits: u32,
-    city: Option<&'i str>,
-    tags: Vec<&'i str>,
-    parent: Option<u64>,
 }
 
 /// The one member of a line that is wanted.
@@ -165,7 +158,7 @@ fn typed(input: &[u8]) -> Done {
 }
 
 fn typed_lent(input: &[u8]) -> Done {
-    black_box(serde_json::from_slice::<Vec<LentAccount>>(input)?);
+    black_box(serde_json::from_slice::<Vec<Contact>>(input)?);
     Ok(Seen { count: 1, sum: 0 })
 }
 

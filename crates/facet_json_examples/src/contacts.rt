@@ -1,0 +1,78 @@
+//! A struct whose texts stand in the input: nothing is copied.
+
+use facet_json::{
+    DeserializeError, Done, Facet, JsonParser, JsonSerializeError, JsonSerializer, Need,
+    read_fields, write_fields,
+};
+use std::alloc::Global;
+
+/// Whom to write to, as `{"id":7,"name":"Ann","email":"a@b.example"}`. The input, which lends the texts, lives for `'de`:
+/// `from_slice_borrowed` reads it, where neither text holds an escape.
+#[derive(Debug, PartialEq, Drop)]
+pub struct Contact<'de> {
+    /// The number of the account.
+    pub id: u64,
+    /// What the person is called.
+    pub name: &'de str,
+    /// Where the person is reached.
+    pub email: &'de str,
+}
+
+impl<'de> Facet<'de> for Contact<'de> {
+    ghost use Rattle.std.specs.Prelude.{ℕ, List, false};
+    ghost use Rattle.facet_json_examples.specs.Contacts.{contact};
+    ghost use Rattle.facet_json_examples.specs.ContactLaws.{contact-laws};
+
+    ghost View = { ℕ × (List ℕ × (List ℕ × Unit {0})) };
+
+    ghost view = { λ c. (c.id, (c.name.now, (c.email.now, tt))) };
+
+    ghost reading = { contact.reading };
+
+    ghost reading_borrowed = { contact.reading_borrowed };
+
+    ghost tree_of = { contact.tree_of };
+
+    ghost always = { contact.always };
+
+    ghost readable = { contact.readable };
+
+    ghost whole = { false };
+
+    fn read_owned<'t>(
+        alloc: Global,
+        parser: &mut JsonParser<'de>,
+    ) -> Result<Contact<'de>, DeserializeError<'t>> {
+        let Need(id, Need(name, Need(email, Done))) = read_fields(
+            alloc,
+            parser,
+            false,
+            &["id", "name", "email"],
+        )?;
+        Ok(Contact { id, name, email })
+    }
+
+    fn read<'t>(
+        alloc: Global,
+        parser: &mut JsonParser<'de>,
+    ) -> Result<Contact<'de>, DeserializeError<'t>> {
+        let Need(id, Need(name, Need(email, Done))) = read_fields(
+            alloc,
+            parser,
+            true,
+            &["id", "name", "email"],
+        )?;
+        Ok(Contact { id, name, email })
+    }
+
+    fn write(&self, serializer: &mut JsonSerializer<'_>) -> Result<(), JsonSerializeError> {
+        let fields = Need(&self.id, Need(&self.name, Need(&self.email, Done)));
+        write_fields(serializer, &["id", "name", "email"], &fields)
+    }
+
+    ghost same_reading = { contact-laws.same_reading };
+
+    ghost same_reading_borrowed = { contact-laws.same_reading_borrowed };
+
+    ghost reads_back = { contact-laws.reads_back };
+}
