@@ -1,4 +1,3 @@
-pub mod AllowedNumbers
 pub mod AllowedTexts
 pub mod BehindRoot
 pub mod ColonAfterKey

@@ -32,7 +32,7 @@ type Measured<'de> = (usize, ScalarValue<'de>);
 
 /// The length and the value of the number at `at`, of which this is the first byte, where it allocates nothing.
 #[inline(always)]
-fn short_number<'de>(input: &'de [u8], at: usize, first: u8) -> Option<Measured<'de>>
+pub fn short_number<'de>(input: &'de [u8], at: usize, first: u8) -> Option<Measured<'de>>
     requires here { slice_get input.now at ≡ Some first }
     requires number { start_of first ≡ opens_number }
     ensures { IfSome result (λ r. IsScalarThere input.now at r.0 (scalar_value_of r.1)) }
@@ -45,7 +45,7 @@ fn short_number<'de>(input: &'de [u8], at: usize, first: u8) -> Option<Measured<
 
 /// The same, where it is a number of RFC 8259.
 #[inline(always)]
-fn short_number_strict<'de>(input: &'de [u8], at: usize, first: u8) -> Option<Measured<'de>>
+pub fn short_number_strict<'de>(input: &'de [u8], at: usize, first: u8) -> Option<Measured<'de>>
     requires here { slice_get input.now at ≡ Some first }
     requires number { start_of first ≡ opens_number }
     ensures there { IfSome result (λ r. IsScalarThere input.now at r.0 (scalar_value_of r.1)) }
@@ -55,25 +55,6 @@ fn short_number_strict<'de>(input: &'de [u8], at: usize, first: u8) -> Option<Me
         Some((len, value)) if leads_by_no_zero(input, at, first, len) => Some((len, value)),
         Some(_) => None,
         None => measured_number_strict(input, at, first),
-    }
-}
-
-/// The same, where the language allows it.
-#[inline(always)]
-pub(crate) fn short_number_in<'de>(
-    input: &'de [u8],
-    language: Language,
-    at: usize,
-    first: u8,
-) -> Option<Measured<'de>>
-    requires here { slice_get input.now at ≡ Some first }
-    requires number { start_of first ≡ opens_number }
-    ensures { IfSome result (λ r. (there : IsScalarThere input.now at r.0 (scalar_value_of r.1))
-        × Allows (language_of language) input.now (record { kind = there.kind; span = span_at at r.0 })) }
-{
-    match language {
-        Language::Lenient(_) => short_number(input, at, first),
-        Language::Strict(_) => short_number_strict(input, at, first),
     }
 }
 

@@ -6,19 +6,20 @@ ghost use Rattle.facet_format.specs.Bytes.{quote};
 ghost use Rattle.facet_format.specs.Event.{scalar, field_key, borrowed};
 ghost use Rattle.facet_format.specs.Span.{Span as SpecSpan, stop, span_at};
 ghost use Rattle.facet_format.specs.Views.{span_of, event_of, scalar_value_of};
+ghost use Rattle.facet_json_token.specs.Cut.{start_of, opens_number};
 ghost use Rattle.facet_json_token.specs.Token.{comma, string};
 ghost use Rattle.facet_json_document.specs.Future.{within};
 ghost use Rattle.facet_json_document.specs.Place.{Place as SpecPlace, led, passes, says, place_turn};
-ghost use Rattle.facet_json_document.specs.Language.{Language as SpecLanguage, rules};
+ghost use Rattle.facet_json_document.specs.Language.{Language as SpecLanguage, lenient, strict, rules};
+ghost use Rattle.facet_json_token.specs.Gap.{Mode as SpecMode};
 ghost use Rattle.facet_json_document.specs.StrictTokens.{Allows};
 ghost use Rattle.facet_json_reader.specs.PlaceViews.{language_of, least_of, place_of, opening_event, closing_event, closing_token, closing_bracket};
 ghost use Rattle.facet_json_reader.specs.Values.{AreUnescaped, IsPlainText};
 ghost use Rattle.facet_json_reader.specs.Inner.Quick.{MayBeKey, MayBeValue, Reaches, IsWord, Leaves, PassesQuickly};
-ghost use Rattle.facet_json_reader.specs.Inner.Whole.{OpensNumber};
 ghost use Rattle.facet_json_reader.specs.Views.{stage_of};
 
 use crate::language::Language;
-use crate::number::short_number_in;
+use crate::number::{short_number, short_number_strict};
 use crate::place::Place;
 use crate::reader::{Reader, Stage, closing, opening};
 use crate::text::text_at;
@@ -27,7 +28,7 @@ use facet_format::{
 };
 use facet_json_token::Trust;
 use facet_json_token::cutting::common_len;
-use facet_json_token::quick::{empty_gap_end, gap_end};
+use facet_json_token::quick::gap_end;
 use std::borrow::CowStr;
 
 impl Reader {
@@ -151,7 +152,7 @@ impl Reader {
             b't' => self.pass_word(input, at, b"true", ScalarValue::Bool(true)),
             b'f' => self.pass_word(input, at, b"false", ScalarValue::Bool(false)),
             b'n' => self.pass_word(input, at, b"null", ScalarValue::Null),
-            b'-' | b'0'..=b'9' => self.pass_number_apart(input, language, at),
+            b'-' | b'0'..=b'9' => self.pass_number_apart(input, language, at, first),
             _ => None,
         }
     }
@@ -175,7 +176,7 @@ impl Reader {
             (λ e. PassesQuickly input.now (language_of language) self.old (event_of e) self.new) }
     {
         let mode = language.mode();
-        let colon = empty_gap_end(input, end + 1, mode);
+        let colon = gap_end(input, end + 1, mode);
         match input.get(colon) {
             Some(b':') => Some(self.pass_name(name, Span::new(at, end + 1 - at), colon)),
             _ => None,
@@ -212,30 +213,56 @@ impl Reader {
         input: &'de [u8],
         language: Language,
         at: usize,
+        first: u8,
     ) -> Option<ParseEvent<'de>>
-        requires { OpensNumber input.now at }
+        requires here { slice_get input.now at ≡ Some first }
+        requires number { start_of first ≡ opens_number }
         ensures { (place : SpecPlace) → MayBeValue place → Reaches input.now (language_of language) self.old place at
             → MatchOption result (self.new ≡ self.old) (λ e. PassesQuickly input.now (language_of language) self.old (event_of e) self.new) }
     {
-        let event = self.pass_number(input, &language, at);
-        event
+        match language {
+            Language::Lenient(_) => {
+                let event = self.pass_number(input, at, first);
+                event
+            }
+            Language::Strict(_) => {
+                let event = self.pass_number_strict(input, at, first);
+                event
+            }
+        }
     }
 
-    /// Passes a number that allocates nothing. The language goes by reference, and the first byte is read again: so all arguments go in
-    /// registers.
+    /// Passes a number that allocates nothing, of which this is the first byte.
     #[inline(never)]
     fn pass_number<'de>(
         &mut self,
         input: &'de [u8],
-        language: &Language,
         at: usize,
+        first: u8,
     ) -> Option<ParseEvent<'de>>
-        requires { OpensNumber input.now at }
-        ensures { (place : SpecPlace) → MayBeValue place → Reaches input.now (language_of language.now) self.old place at
-            → MatchOption result (self.new ≡ self.old) (λ e. PassesQuickly input.now (language_of language.now) self.old (event_of e) self.new) }
+        requires here { slice_get input.now at ≡ Some first }
+        requires number { start_of first ≡ opens_number }
+        ensures { (mode : SpecMode) (place : SpecPlace) → MayBeValue place → Reaches input.now (lenient mode) self.old place at
+            → MatchOption result (self.new ≡ self.old) (λ e. PassesQuickly input.now (lenient mode) self.old (event_of e) self.new) }
     {
-        let first = *input.get(at)?;
-        let (len, value) = short_number_in(input, *language, at, first)?;
+        let (len, value) = short_number(input, at, first)?;
+        Some(self.pass_scalar(value, Span::new(at, len)))
+    }
+
+    /// The same where RFC 8259 alone is read.
+    #[inline(never)]
+    fn pass_number_strict<'de>(
+        &mut self,
+        input: &'de [u8],
+        at: usize,
+        first: u8,
+    ) -> Option<ParseEvent<'de>>
+        requires here { slice_get input.now at ≡ Some first }
+        requires number { start_of first ≡ opens_number }
+        ensures { (mode : SpecMode) (place : SpecPlace) → MayBeValue place → Reaches input.now (strict mode) self.old place at
+            → MatchOption result (self.new ≡ self.old) (λ e. PassesQuickly input.now (strict mode) self.old (event_of e) self.new) }
+    {
+        let (len, value) = short_number_strict(input, at, first)?;
         Some(self.pass_scalar(value, Span::new(at, len)))
     }
 

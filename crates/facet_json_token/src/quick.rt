@@ -40,43 +40,7 @@ pub fn gap_end(buffer: &[u8], position: usize, mode: Mode) -> usize
     ensures end { result ≡ past_gap buffer.now position (mode_of mode) }
     ensures within { result ≤ length buffer.now }
 {
-    match buffer.get(position) {
-        Some(byte) if *byte > b' ' && *byte != b'/' => position,
-        _ => blank_end(buffer, position, mode),
-    }
-}
-
-/// The same where nearly all gaps are empty: another one is passed by a call.
-#[inline(always)]
-pub fn empty_gap_end(buffer: &[u8], position: usize, mode: Mode) -> usize
-    requires { position ≤ length buffer.now }
-    ensures end { result ≡ past_gap buffer.now position (mode_of mode) }
-    ensures within { result ≤ length buffer.now }
-{
-    match buffer.get(position) {
-        Some(byte) if *byte > b' ' && *byte != b'/' => position,
-        _ => blank_end_apart(buffer, position, mode),
-    }
-}
-
-/// The same by a call.
-#[inline(never)]
-fn blank_end_apart(buffer: &[u8], position: usize, mode: Mode) -> usize
-    requires { position ≤ length buffer.now }
-    ensures end { result ≡ past_gap buffer.now position (mode_of mode) }
-    ensures within { result ≤ length buffer.now }
-{
-    blank_end(buffer, position, mode)
-}
-
-/// The same where a gap stands, most likely of white space alone.
-#[inline(always)]
-fn blank_end(buffer: &[u8], position: usize, mode: Mode) -> usize
-    requires { position ≤ length buffer.now }
-    ensures end { result ≡ past_gap buffer.now position (mode_of mode) }
-    ensures within { result ≤ length buffer.now }
-{
-    let at = past_blank(buffer, position);
+    let at = past_space(buffer, position);
     match buffer.get(at) {
         Some(byte) if *byte > b' ' && *byte != b'/' => at,
         _ => skip_gap(buffer, at, mode),
@@ -90,23 +54,16 @@ pub(crate) fn past_space(buffer: &[u8], position: usize) -> usize
     ensures same { (mode : SpecMode) → past_gap buffer.now result mode ≡ past_gap buffer.now position mode }
     ensures within { result ≤ length buffer.now }
 {
-    match buffer.get(position) {
-        Some(byte) if *byte > b' ' => position,
-        _ => past_blank(buffer, position),
+    let Some(byte) = buffer.get(position) else {
+        return position;
+    };
+    if *byte > b' ' {
+        return position;
     }
-}
-
-/// The same where some stands, most likely.
-#[inline(always)]
-fn past_blank(buffer: &[u8], position: usize) -> usize
-    requires { position ≤ length buffer.now }
-    ensures same { (mode : SpecMode) → past_gap buffer.now result mode ≡ past_gap buffer.now position mode }
-    ensures within { result ≤ length buffer.now }
-{
-    match buffer.get(position) {
-        Some(b' ') if is_above_space(buffer, position + 1) => position + 1,
-        _ => run_end::<Blank>(buffer, position),
+    if *byte == b' ' && is_above_space(buffer, position + 1) {
+        return position + 1;
     }
+    run_end::<Blank>(buffer, position)
 }
 
 /// Whether a byte above a space stands there, which is never white space.

@@ -9,8 +9,8 @@ use Rattle.facet_json_reader.specs.Inner.Quick.{null_stands, true_stands, false_
 use Rattle.facet_json_reader.proofs.QuickEvents.{start-passes}
 use Rattle.facet_json_reader.proofs.reader.Reader.begin_value.Goals as goal
 
-pub pass_number_apart-requires : goal.pass_number_apart-requires
-pass_number_apart-requires c = record { first = c.args.first; here = c.requires.here; begins = start_of-number_range c.args.first (grind arith) (grind arith) (grind arith) (grind arith) }
+pub pass_number_apart-requires-clause-number : goal.pass_number_apart-requires-clause-number
+pass_number_apart-requires-clause-number c = start_of-number_range c.args.first (grind arith) (grind arith) (grind arith) (grind arith)
 
 pub returns-in-123 : goal.returns-in-123
 returns-in-123 c =
