@@ -19,7 +19,7 @@ use crate::text::text_at;
 use facet_format::{ContainerKind, Span};
 use facet_json_token::Trust;
 use facet_json_token::cutting::common_len;
-use facet_json_token::quick::gap_end;
+use facet_json_token::quick::empty_gap_end;
 
 /// What a caller looks for before a value.
 #[derive(Clone, Copy)]
@@ -176,7 +176,7 @@ impl Reader {
             return None;
         }
         let (end, name) = text_at(input, language, trust, at)?;
-        let colon = gap_end(input, end + 1, language.mode());
+        let colon = empty_gap_end(input, end + 1, language.mode());
         match input.get(colon) {
             Some(b':') => {
                 let span = Span::new(at, end + 1 - at);

@@ -28,7 +28,7 @@ use facet_format::{
 };
 use facet_json_token::Trust;
 use facet_json_token::cutting::common_len;
-use facet_json_token::quick::gap_end;
+use facet_json_token::quick::{empty_gap_end, gap_end};
 use std::borrow::CowStr;
 
 impl Reader {
@@ -176,7 +176,7 @@ impl Reader {
             (λ e. PassesQuickly input.now (language_of language) self.old (event_of e) self.new) }
     {
         let mode = language.mode();
-        let colon = gap_end(input, end + 1, mode);
+        let colon = empty_gap_end(input, end + 1, mode);
         match input.get(colon) {
             Some(b':') => Some(self.pass_name(name, Span::new(at, end + 1 - at), colon)),
             _ => None,

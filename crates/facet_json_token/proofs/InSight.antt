@@ -1,7 +1,7 @@
 -- What stands in sight: white space leaves the end of the gap where it is, and a byte that begins no piece of a gap ends it.
 use Rattle.std.proofs.Common.{◌≡◌, ◌≢◌, ℕ, suc, ◌+◌, ◌-◌, ◌<◌, ◌≤◌, Bool, true, false, not, cond, eqb, List, [], ◌∷◌, length, take, drop, get_or, slice_get, Option, Some, None, Ok, IfSome, refl, ap, sym, ◌∙◌, arith}
 use Rattle.std.proofs.lemmas.List.{drop-drop, take_rest}
-use Rattle.std.proofs.lemmas.Bool.{ne_eqb, eq-eqb, eqb-true, and_parts}
+use Rattle.std.proofs.lemmas.Bool.{ne_eqb, eq-eqb, eqb-true, and_parts, not-true, not-false}
 use Rattle.std.proofs.lemmas.Option.{slice_get_within}
 use Rattle.std.specs.List.{prefix_len, starts_with}
 use Rattle.facet_format.specs.Bytes.{is_space, slash, space, tab, line_feed, carriage_return, minus}
@@ -23,6 +23,7 @@ use Rattle.facet_json_token.proofs.FirstBytes.{cut_here-by, cut_here-word, cut_h
 use Rattle.facet_json_token.proofs.NumberCuts.{number_at}
 use Rattle.facet_json_token.proofs.Gaps.{piece_len-blank, gap_len-none, gap_len-piece}
 use Rattle.facet_json_token.proofs.GapSteps.{past_gap-piece}
+use Rattle.facet_json_token.proofs.RunEnds.{ends-run}
 
 -- ---- white space
 
@@ -49,6 +50,11 @@ past_gap-blanks mode buffer at end e =
     ap (λ n. past_gap buffer n mode) e
     ∙ omega (arith, gap_len-blanks mode (drop at buffer), ap (gap_len mode whole) (drop-drop k at buffer))
 
+-- and no white space stands there
+pub stop-after_blanks : (buffer : List ℕ) (at end b : ℕ) → end ≡ at + prefix_len is_blank (drop at buffer) → slice_get buffer end ≡ Some b →
+    is_space b ≡ false
+stop-after_blanks buffer at end b e h = not-true (is_space b) (not-false (not (is_space b)) (ends-run is_blank buffer at end b e h))
+
 -- and after one space
 pub past_gap-space : (mode : Mode) (buffer : List ℕ) (at : ℕ) → slice_get buffer at ≡ Some space →
     past_gap buffer (at + 1) mode ≡ past_gap buffer at mode
@@ -72,10 +78,13 @@ past_gap-here mode buffer at b h s e =
     (ap (piece_len mode whole) (drop-at_byte buffer at b h) ∙ no_piece mode b (drop (at + 1) buffer) s e) in
     omega (arith, none)
 
--- a byte above a space is no white space
+-- a byte that is none of the four is no white space
+pub no_space : (b : ℕ) → (b ≡ space → ⊥) → (b ≡ tab → ⊥) → (b ≡ line_feed → ⊥) → (b ≡ carriage_return → ⊥) → is_space b ≡ false
+no_space b s t l r = rw (ne_eqb b space s, ne_eqb b tab t, ne_eqb b line_feed l, ne_eqb b carriage_return r) refl
+
+-- such is a byte above a space
 pub above_space : (b : ℕ) → space < b → is_space b ≡ false
-above_space b above =
-    rw (ne_eqb b space (omega arith), ne_eqb b tab (omega arith), ne_eqb b line_feed (omega arith), ne_eqb b carriage_return (omega arith)) refl
+above_space b above = no_space b (omega arith) (omega arith) (omega arith) (omega arith)
 
 -- what is cut there is what stands there
 pub cut-here : (mode : Mode) (buffer : List ℕ) (at b : ℕ) → slice_get buffer at ≡ Some b → is_space b ≡ false →

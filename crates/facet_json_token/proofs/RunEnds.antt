@@ -1,9 +1,10 @@
 -- Where a run ends, of the bytes that do not pass p, seen sixteen bytes at a time.
-use Rattle.std.proofs.Common.{◌≡◌, ℕ, ◌+◌, ◌<◌, ◌≤◌, Bool, not, inl, inr, List, length, map, drop, ap, ◌∙◌, sym, arith}
+use Rattle.std.proofs.Common.{◌≡◌, ℕ, ◌+◌, ◌<◌, ◌≤◌, Bool, false, not, inl, inr, List, length, map, drop, get_or, slice_get, Some, ap, ◌∙◌, sym, arith}
 use Rattle.std.specs.List.{prefix_len}
 use Rattle.std.proofs.lemmas.Bool.{cases_order}
-use Rattle.std.proofs.lemmas.List.{length-drop}
-use Rattle.std.proofs.lemmas.List.Sums.{prefix_len-le-length}
+use Rattle.std.proofs.lemmas.List.{get_or-drop, length-drop}
+use Rattle.std.proofs.lemmas.List.Sums.{prefix_len-le-length, prefix_len_stops}
+use Rattle.std.proofs.lemmas.Option.{slice_get_within, get_or_from_slice_get}
 use Rattle.facet_format.proofs.Windows.{mask_through, mask_stops, mask_within}
 use lib.Lanes.{chunk, mask_l}
 use lib.Count.{count_trailing_zeros}
@@ -45,3 +46,14 @@ end-of_run p bytes at stop room within run stops =
       | inr (inl l) ↦ stops l
       | inr (inr g) ↦ absurd (omega (arith, g, within))
     ]
+
+-- The byte at which a run ends does not go on with it.
+pub ends-run : (p : ℕ → Bool) (buffer : List ℕ) (from end b : ℕ) → end ≡ from + prefix_len p (drop from buffer) →
+    slice_get buffer end ≡ Some b → p b ≡ false
+ends-run p buffer from end b e h =
+    let rest = drop from buffer in
+    let k = prefix_len p rest in
+    let room = slice_get_within buffer end b h in
+    let here : get_or rest k b ≡ b =
+    get_or-drop from buffer k b ∙ ap (λ n. get_or buffer n b) (sym e) ∙ get_or_from_slice_get buffer end b b h in
+    ap p (sym here) ∙ prefix_len_stops p rest b (omega (arith, length-drop from buffer, e))

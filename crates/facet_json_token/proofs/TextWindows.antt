@@ -1,9 +1,8 @@
 -- The content of a string after a run of bytes that neither end it nor escape the next one.
 use Rattle.std.proofs.Common.{◌≡◌, ℕ, zero, suc, ◌+◌, ◌-◌, ◌<◌, ◌≤◌, Bool, true, false, not, ◌||◌, cond, eqb, List, [], ◌∷◌, length, get_or, take, drop, slice_get, Option, Some, None, refl, ap, ap₂, sym, ◌∙◌, arith}
-use Rattle.std.proofs.lemmas.List.{drop-drop, drop_all, get_or-drop, length-drop}
-use Rattle.std.proofs.lemmas.List.Sums.{prefix_len_stops}
+use Rattle.std.proofs.lemmas.List.{drop-drop, drop_all}
 use Rattle.std.proofs.lemmas.Bool.{and_right, or_right, ne_eqb, eqb-true, not-false}
-use Rattle.std.proofs.lemmas.Option.{slice_get_within, slice_get-get_or, get_or_from_slice_get}
+use Rattle.std.proofs.lemmas.Option.{slice_get-get_or}
 use Rattle.std.specs.List.{list_any, prefix_len}
 use Rattle.std.specs.Option.{option_map}
 use Rattle.facet_format.specs.Bytes.{quote, backslash}
@@ -11,6 +10,7 @@ use Rattle.facet_json_token.specs.GapLen.{one_more}
 use Rattle.facet_json_token.specs.Cut.{content_len}
 use Rattle.facet_json_token.specs.Inner.Window.{is_stop, is_plain}
 use Rattle.facet_json_token.proofs.Offsets.{drop-at_byte}
+use Rattle.facet_json_token.proofs.RunEnds.{ends-run}
 use Rattle.facet_json_token.proofs.TextSteps.{content-more, escapes-more}
 
 none_ahead : (o : Option ℕ) → o ≡ option_map (λ n. 0 + n) o
@@ -77,14 +77,7 @@ marks-of_run buffer start end e =
 -- what stands where the run ends is no plain byte
 pub stop-after_run : (buffer : List ℕ) (from end b : ℕ) → end ≡ from + prefix_len is_plain (drop from buffer) →
     slice_get buffer end ≡ Some b → is_stop b ≡ true
-stop-after_run buffer from end b e h =
-    let rest = drop from buffer in
-    let k = prefix_len is_plain rest in
-    let room = slice_get_within buffer end b h in
-    let here : get_or rest k b ≡ b =
-    get_or-drop from buffer k b ∙ ap (λ n. get_or buffer n b) (sym e) ∙ get_or_from_slice_get buffer end b b h in
-    let fails = prefix_len_stops is_plain rest b (omega (arith, length-drop from buffer, e)) in
-    not-false (is_stop b) (ap is_plain (sym here) ∙ fails)
+stop-after_run buffer from end b e h = not-false (is_stop b) (ends-run is_plain buffer from end b e h)
 
 -- a backslash and the byte after it, where there is one, are passed
 pub content-after_escape : (buffer : List ℕ) (at : ℕ) → slice_get buffer at ≡ Some backslash → at + 2 ≤ length buffer →

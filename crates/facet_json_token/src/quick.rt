@@ -1,8 +1,8 @@
 //! What a few bytes decide: tokens that the bytes after an offset show whole (all but faults, strings with escapes, and what stands after
 //! comments or at the end), and the ends of gaps and texts, for readers that make no token of them. Everything else is left to `cutting`.
 
-ghost use Rattle.std.specs.Prelude.{◌≡◌, ◌+◌, ◌-◌, ◌<◌, ◌≤◌, false, length, drop, Some, slice_get, IfSome, true};
-ghost use Rattle.facet_format.specs.Bytes.{quote};
+ghost use Rattle.std.specs.Prelude.{◌≡◌, ℕ, ◌+◌, ◌-◌, ◌<◌, ◌≤◌, false, length, drop, Some, slice_get, IfSome, true};
+ghost use Rattle.facet_format.specs.Bytes.{quote, space, is_space};
 ghost use Rattle.facet_json_token.specs.Gap.{Mode as SpecMode};
 ghost use Rattle.facet_json_token.specs.Token.{string, Kind};
 ghost use Rattle.facet_json_token.specs.Cut.{cut_here, past_gap, token_at, content_len};
@@ -40,10 +40,49 @@ pub fn gap_end(buffer: &[u8], position: usize, mode: Mode) -> usize
     ensures end { result ≡ past_gap buffer.now position (mode_of mode) }
     ensures within { result ≤ length buffer.now }
 {
-    let at = past_space(buffer, position);
+    match buffer.get(position) {
+        Some(b' ' | b'\t' | b'\n' | b'\r' | b'/') => blank_end(buffer, position, mode),
+        Some(_) => position,
+        None => skip_gap(buffer, position, mode),
+    }
+}
+
+/// The same where nearly all gaps are empty: another one is passed by a call.
+#[inline(always)]
+pub fn empty_gap_end(buffer: &[u8], position: usize, mode: Mode) -> usize
+    requires { position ≤ length buffer.now }
+    ensures end { result ≡ past_gap buffer.now position (mode_of mode) }
+    ensures within { result ≤ length buffer.now }
+{
+    match buffer.get(position) {
+        Some(b' ' | b'\t' | b'\n' | b'\r' | b'/') => blank_end_apart(buffer, position, mode),
+        Some(_) => position,
+        None => skip_gap(buffer, position, mode),
+    }
+}
+
+/// The same by a call.
+#[inline(never)]
+fn blank_end_apart(buffer: &[u8], position: usize, mode: Mode) -> usize
+    requires { position ≤ length buffer.now }
+    ensures end { result ≡ past_gap buffer.now position (mode_of mode) }
+    ensures within { result ≤ length buffer.now }
+{
+    blank_end(buffer, position, mode)
+}
+
+/// The same where a gap stands, most likely of white space alone.
+#[inline(always)]
+fn blank_end(buffer: &[u8], position: usize, mode: Mode) -> usize
+    requires { position ≤ length buffer.now }
+    ensures end { result ≡ past_gap buffer.now position (mode_of mode) }
+    ensures within { result ≤ length buffer.now }
+{
+    let at = past_blank(buffer, position);
     match buffer.get(at) {
-        Some(byte) if *byte > b' ' && *byte != b'/' => at,
-        _ => skip_gap(buffer, at, mode),
+        Some(b'/') => skip_gap(buffer, at, mode),
+        Some(_) => at,
+        None => skip_gap(buffer, at, mode),
     }
 }
 
@@ -54,22 +93,31 @@ pub(crate) fn past_space(buffer: &[u8], position: usize) -> usize
     ensures same { (mode : SpecMode) → past_gap buffer.now result mode ≡ past_gap buffer.now position mode }
     ensures within { result ≤ length buffer.now }
 {
-    let Some(byte) = buffer.get(position) else {
-        return position;
-    };
-    if *byte > b' ' {
-        return position;
+    match buffer.get(position) {
+        Some(byte) if *byte > b' ' => position,
+        _ => past_blank(buffer, position),
     }
-    if *byte == b' ' && is_above_space(buffer, position + 1) {
-        return position + 1;
+}
+
+/// The same where some stands, most likely: no white space stands after it.
+#[inline(always)]
+fn past_blank(buffer: &[u8], position: usize) -> usize
+    requires { position ≤ length buffer.now }
+    ensures same { (mode : SpecMode) → past_gap buffer.now result mode ≡ past_gap buffer.now position mode }
+    ensures stops { (b : ℕ) → slice_get buffer.now result ≡ Some b → is_space b ≡ false }
+    ensures within { result ≤ length buffer.now }
+{
+    match buffer.get(position) {
+        Some(b' ') if is_above_space(buffer, position + 1) => position + 1,
+        _ => run_end::<Blank>(buffer, position),
     }
-    run_end::<Blank>(buffer, position)
 }
 
 /// Whether a byte above a space stands there, which is never white space.
 #[inline(always)]
 fn is_above_space(buffer: &[u8], at: usize) -> bool
-    ensures { result ≡ true → at < length buffer.now }
+    ensures within { result ≡ true → at < length buffer.now }
+    ensures above { result ≡ true → (b : ℕ) → slice_get buffer.now at ≡ Some b → space < b }
 {
     match buffer.get(at) {
         Some(byte) => *byte > b' ',

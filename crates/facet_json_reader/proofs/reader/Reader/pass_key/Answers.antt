@@ -13,6 +13,6 @@ returns-in-Some-eq58 c =
     let buffer = c.args.input.now in
     let language = language_of c.args.language in
     let w = c.in-Some-eq58 in
-    let here = slice_get-from_read buffer c.gap_end-colon.result w.field-0.now colon_byte w.ensures.lookup.3 w.field-0-test in
-    key-passes buffer language c.args.self.now (place_of c.args.place) c.args.at c.args.end c.gap_end-colon.result c.args.name.now (event_of c.pass_name.result) c.pass_name.new.self c.requires.key (c.requires.allowed _ false) reached
-    c.requires.text c.requires.within.0 c.requires.within.1 (rw c.mode-mode.ensures at c.gap_end-colon.ensures.end) here (rw (c.new.ensures.offset, c.new.ensures.len) at c.pass_name.ensures)
+    let here = slice_get-from_read buffer c.empty_gap_end-colon.result w.field-0.now colon_byte w.ensures.lookup.3 w.field-0-test in
+    key-passes buffer language c.args.self.now (place_of c.args.place) c.args.at c.args.end c.empty_gap_end-colon.result c.args.name.now (event_of c.pass_name.result) c.pass_name.new.self c.requires.key (c.requires.allowed _ false) reached
+    c.requires.text c.requires.within.0 c.requires.within.1 (rw c.mode-mode.ensures at c.empty_gap_end-colon.ensures.end) here (rw (c.new.ensures.offset, c.new.ensures.len) at c.pass_name.ensures)
