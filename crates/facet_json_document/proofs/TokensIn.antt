@@ -122,6 +122,14 @@ tokens_in-others (strict mode) buffer from t ts e =
     let b = strict-begins buffer (tokens_from buffer mode from) t ts e in
     ap (strict_tokens buffer) (tokens_from-others buffer mode from t b.rest b.first) ∙ b.same
 
+-- Where a token of the language stands, that token stands, whatever the other tokens' texts are.
+pub plain-first : (language : Language) (buffer : List ℕ) (from : ℕ) (t : Token) (ts : Tokens) → tokens_in language buffer from ≡ next t ts →
+    tokens_from buffer (gaps language) from ≡ next t (tokens_from buffer (gaps language) (stop t.span))
+plain-first (lenient mode) buffer from t ts e = e ∙ ap (next t) (sym (tokens_from-others buffer mode from t ts e))
+plain-first (strict mode) buffer from t ts e =
+    let b = strict-begins buffer (tokens_from buffer mode from) t ts e in
+    b.first ∙ ap (next t) (sym (tokens_from-others buffer mode from t b.rest b.first))
+
 -- The tokens from a position on lie after it.
 pub tokens_in-in_order : (language : Language) (buffer : List ℕ) (position : ℕ) → position ≤ length buffer →
     InOrder buffer position (tokens_in language buffer position)

@@ -5,6 +5,7 @@
 use facet_format::{
     DeserializeError, DeserializeErrorKind, FormatParser, ParseError, ParseEvent, Span,
 };
+use facet_json::steps::{begin_object, find_key};
 use facet_json::{
     Done, Need, from_slice, from_slice_borrowed, from_slice_borrowed_jsonc, from_slice_jsonc,
     from_slice_strict, from_str, from_str_borrowed, from_str_borrowed_jsonc, from_str_jsonc,
@@ -704,5 +705,62 @@ fn a_growth_is_refused_in_a_struct(rt: HostRuntime) {
             _ => reads_person::<String>(alloc, row),
         };
         assert!(rt; holds, "{}", row.input);
+    }
+}
+
+/// Objects in which the number at the key `ab` is searched.
+static SEARCHES: [Row<'static>; 3] = [
+    Row {
+        by: By::Owned,
+        input: "{\"\\u0062\":1,\"\\u0061b\":2}",
+        answer: Ok("2"),
+        wants: &[(0, 0), (0, 1), (10, 1)],
+        grows: false,
+    },
+    Row {
+        by: By::Owned,
+        input: "{\"a\":[[[[[[[[[[[[[[[[[[[[[[[[[[[[[[[[[[[[[[[[[[[[[[[[[[[[[[[[[[[[[[[[[]]]]]]]]]]]]]]]]]]]]]]]]]]]]]]]]]]]]]]]]]]]]]]]]]]]]]]]]]]]]]]]]],\"ab\":2}",
+        answer: Ok("2"),
+        wants: &[(0, 0), (4, 1)],
+        grows: false,
+    },
+    Row {
+        by: By::Owned,
+        input: "{\"\\n\":1}",
+        answer: Ok("null"),
+        wants: &[(0, 0), (0, 1)],
+        grows: false,
+    },
+];
+
+/// The number at the key `ab` of an object.
+fn number_at_ab<'t>(
+    alloc: Global,
+    parser: &mut JsonParser<'_>,
+) -> Result<Option<u64>, DeserializeError<'t>> {
+    begin_object(parser)?;
+    if find_key(parser, "ab")? {
+        return Ok(Some(u64::read_owned(alloc, parser)?));
+    }
+    Ok(None)
+}
+
+/// Whether the search in the row's input gives its answer, and leaves the parser as it should.
+fn searches(alloc: Global, row: &Row<'_>) -> Option<bool> {
+    let mut parser = JsonParser::new(alloc, row.input.as_bytes());
+    let answer = number_at_ab(alloc, &mut parser);
+    if leaves(&answer, &mut parser) {
+        is_answer(alloc, answer, row)
+    } else {
+        Some(false)
+    }
+}
+
+#[test]
+fn a_growth_is_refused_in_a_search(rt: HostRuntime) {
+    let alloc = rt.alloc();
+    for row in &SEARCHES {
+        let first = searches(alloc, row);
+        assert!(rt; but_once(first, searches(alloc, row)), "{}", row.input);
     }
 }

@@ -1,7 +1,7 @@
 -- Texts without an escape and numbers that a language has: what is told of their bytes is what RFC 8259 asks of them.
 use Rattle.std.proofs.Common.{◌≡◌, ℕ, Bool, true, false, not, ◌==◌, ◌&&◌, nat_le, List, [], ◌∷◌, None, slice_range, refl}
 use Rattle.std.specs.List.{list_all}
-use Rattle.std.proofs.lemmas.Bool.{and_parts}
+use Rattle.std.proofs.lemmas.Bool.{and_parts, not-true}
 use Rattle.facet_format.specs.Bytes.{backslash}
 use Rattle.facet_format.specs.Number.{Hint}
 use Rattle.facet_format.specs.Span.{Span}
@@ -18,10 +18,6 @@ use Rattle.facet_json_reader.specs.Values.{AreUnescaped}
 right-byte : (b : ℕ) (bytes : List ℕ) → (b == backslash) ≡ false → nat_le 0x20 b ≡ true → wrong_at false bytes ≡ None →
     wrong_at false (b ∷ bytes) ≡ None
 right-byte b bytes plain least more = rw (least, plain, more) refl
-
-not-true : (b : Bool) → not b ≡ true → b ≡ false
-not-true false e = refl
-not-true true e = cc
 
 -- Unescaped bytes from 0x20 on may all stand there.
 unescaped-right : (bytes : List ℕ) → AreUnescaped 0x20 bytes → wrong_at false bytes ≡ None

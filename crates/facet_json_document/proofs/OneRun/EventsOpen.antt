@@ -14,7 +14,7 @@ use Rattle.facet_json_document.specs.StrictTokens.{tokens_in}
 use Rattle.facet_json_document.specs.Walk.{event_at, scalar_event, key_event}
 use Rattle.facet_json_document.proofs.Parts.BracketsOnWalk.{a_colon}
 use Rattle.facet_json_document.proofs.PastEvents.{nothing-behind}
-use Rattle.facet_json_document.proofs.TokensIn.{strict-begins, tokens_in-others}
+use Rattle.facet_json_document.proofs.TokensIn.{plain-first, strict-begins, tokens_in-others}
 use Rattle.facet_json_document.proofs.WalkComes.{follows, reads-turn, colon-ended, colon-refused, colon-missing, colon-stands}
 use Rattle.facet_json_document.proofs.OneRun.OpenBrackets.{Opens, container_of, innermost, StageOpen, StandsOpen, separator-passed}
 use Rattle.facet_json_document.proofs.OneRun.BracketTurns.{TurnsTo, turns, sensible-turns, says-open, separator-open, scalar-open, key-open}
@@ -26,17 +26,6 @@ module _ (language : Language) (buffer : List ℕ) where
 
   abbrev left : ℕ → Tokens
   left position = tokens_from buffer (gaps language) position
-
-  -- Where a token of the language stands, that token stands.
-  plain-first : (from : ℕ) (t : Token) (ts : Tokens) → tokens_in language buffer from ≡ next t ts → left from ≡ next t (left (stop t.span))
-  plain-first from t ts e = by language e
-    where
-      by : (l : Language) → tokens_in l buffer from ≡ next t ts →
-          tokens_from buffer (gaps l) from ≡ next t (tokens_from buffer (gaps l) (stop t.span))
-      by (lenient mode) f = f ∙ ap (next t) (sym (tokens_from-others buffer mode from t ts f))
-      by (strict mode) f =
-          let b = strict-begins buffer (tokens_from buffer mode from) t ts f in
-          b.first ∙ ap (next t) (sym (tokens_from-others buffer mode from t b.rest b.first))
 
   -- After an event of these tokens the brackets are open that are remembered then.
   abbrev OpenPast : List ContainerKind → Passed → Type 0
@@ -84,7 +73,7 @@ module _ (language : Language) (buffer : List ℕ) where
   colon-open (refused f) stack key from p rest inside at opened e = let none = colon-refused (rules language) buffer stack key f in cc
   colon-open (next mark ts) stack key from p rest inside at opened e =
       mark-open stack key mark ts (goes_on after_key mark.kind) p rest inside refl
-      (subst (Opens all stack) (plain-first from mark ts at) opened) e
+      (subst (Opens all stack) (plain-first language buffer from mark ts at) opened) e
 
   -- and from all tokens on.
   tokens-open : (ts : Tokens) → PastTokens ts
@@ -93,7 +82,7 @@ module _ (language : Language) (buffer : List ℕ) where
   tokens-open ended stack (within place) from p rest at opened e = cc
   tokens-open (refused f) stack (within place) from p rest at opened e = cc
   tokens-open (next t ts) stack (within place) from p rest at opened e =
-      let here = subst (Opens all stack) (plain-first from t ts at) opened.0 in
+      let here = subst (Opens all stack) (plain-first language buffer from t ts at) opened.0 in
       let others = tokens_in-others language buffer from t ts at in
       turn-open stack place t ts (turn buffer place t) p rest (tokens-open ts) opened.1 here others
       (λ w. colon-open ts stack t (stop t.span) p rest (w.1 ∙ opened.1) others (key-open all stack place t _ opened.1 here w))

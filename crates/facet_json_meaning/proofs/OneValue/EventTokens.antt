@@ -11,7 +11,7 @@ use Rattle.facet_json_document.specs.Language.{Language, lenient, strict, gaps, 
 use Rattle.facet_json_document.specs.Place.{Place, after_key, Turn, stops, passes, says, says_scalar, names, place_turn, goes_on, leads_on, led}
 use Rattle.facet_json_document.specs.StrictTokens.{tokens_in}
 use Rattle.facet_json_document.specs.Walk.{event_at, scalar_event, key_event}
-use Rattle.facet_json_document.proofs.TokensIn.{strict-begins, tokens_in-others}
+use Rattle.facet_json_document.proofs.TokensIn.{plain-first, strict-begins, tokens_in-others}
 use Rattle.facet_json_document.proofs.WalkComes.{follows, reads-turn, colon-ended, colon-refused, colon-missing, colon-stands}
 
 -- By these rules the tokens lead from a place over separators to another place, and these are left there.
@@ -45,17 +45,6 @@ module _ (language : Language) (buffer : List ℕ) where
   -- the tokens from a position on, whatever their texts are
   abbrev left : ℕ → Tokens
   left position = tokens_from buffer (gaps language) position
-
-  -- Where a token of the language stands, that token stands.
-  plain-first : (from : ℕ) (t : Token) (ts : Tokens) → tokens_in language buffer from ≡ next t ts → left from ≡ next t (left (stop t.span))
-  plain-first from t ts e = by language e
-    where
-      by : (l : Language) → tokens_in l buffer from ≡ next t ts →
-          tokens_from buffer (gaps l) from ≡ next t (tokens_from buffer (gaps l) (stop t.span))
-      by (lenient mode) f = f ∙ ap (next t) (sym (tokens_from-others buffer mode from t ts f))
-      by (strict mode) f =
-          let b = strict-begins buffer (tokens_from buffer mode from) t ts f in
-          b.first ∙ ap (next t) (sym (tokens_from-others buffer mode from t b.rest b.first))
 
   -- The tokens from a position on give the event, and those from its end on follow it.
   abbrev GivesFrom : Place → Tokens → Passed → Type 0
@@ -97,7 +86,7 @@ module _ (language : Language) (buffer : List ℕ) where
   colon-gives ended place stack key from p rest n at e = let stands = colon-ended (rules language) buffer stack key in cc
   colon-gives (refused f) place stack key from p rest n at e = let stands = colon-refused (rules language) buffer stack key f in cc
   colon-gives (next mark ts) place stack key from p rest n at e =
-      rw (plain-first from mark ts at) (mark-gives place stack key mark ts (goes_on after_key mark.kind) p rest n refl e)
+      rw (plain-first language buffer from mark ts at) (mark-gives place stack key mark ts (goes_on after_key mark.kind) p rest n refl e)
 
   -- Whatever the turn of the first token, so it is.
   turn-gives : (stack : List ContainerKind) (place : Place) (t : Token) (ts : Tokens) (way : Turn) (p : Passed) (rest : Future) → AllGive ts →
@@ -122,6 +111,6 @@ module _ (language : Language) (buffer : List ℕ) where
   tokens-give ended stack place from p rest at e = cc
   tokens-give (refused f) stack place from p rest at e = cc
   tokens-give (next t ts) stack place from p rest at e =
-      rw (plain-first from t ts at)
+      rw (plain-first language buffer from t ts at)
       (turn-gives stack place t ts (turn buffer place t) p rest (tokens-give ts) refl (tokens_in-others language buffer from t ts at)
       (sym (reads-turn (rules language) buffer stack place t ts _ refl) ∙ e))
