@@ -1,7 +1,8 @@
 -- What a call does to a parser on any input, whether a document stands there or not: one step of a cursor over the input's places. That
 -- on a document it is a cursor on the walk follows.
-use Rattle.std.specs.Prelude.{List}
+use Rattle.std.specs.Prelude.{ℕ, List}
 use Rattle.facet_format.specs.Cursor.{Call, Answer, Step, Run, kept_here}
+use Rattle.facet_format.specs.Kept.{without}
 use Rattle.facet_json_document.specs.Now.{Now, SameInput, on_input}
 
 -- The call may be answered so, and leaves the parser so.
@@ -17,3 +18,7 @@ pub record MovesAll (old : Now) (calls : List Call) (answers : List Answer) (new
 -- with one more point
 abbrev pub with_kept : Now → Now
 with_kept now = record now { cursor = kept_here now.cursor }
+
+-- without the point of this number
+abbrev pub without_point : ℕ → Now → Now
+without_point point now = record now { cursor = record now.cursor { kept = without point now.cursor.kept } }

@@ -12,7 +12,7 @@ use Rattle.facet_format.specs.Cursor.{Call, Answer, event, saved, restored, span
 use Rattle.facet_format.specs.Cursor as cursor
 use Rattle.facet_json_document.specs.Reader.{Reader}
 use Rattle.facet_json_document.specs.Now.{Now, on_input, current_span_of}
-use Rattle.facet_json_document.specs.Move.{Moves}
+use Rattle.facet_json_document.specs.Move.{Moves, without_point}
 use Rattle.facet_json_document.specs.Next.{PassesNext, ShowsNext, IsOver}
 use Rattle.facet_json_document.proofs.MoveLaws.{with_cursor}
 use Rattle.facet_json_document.proofs.MovesNext.{next-passes, next-over, peek-shows, peek-over}
@@ -137,6 +137,10 @@ pub restore-brings : (made now : Now) (kept : List (ℕ × Spot Reader)) (number
     Moves now (restore number) restored (with_cursor made (record made.cursor { spot = s; refusal = None; kept = kept }))
 restore-brings made now kept number s e here list =
     rw list (step-moves made now _ (restore number) restored e (restores number s here))
+
+pub point-dropped : (made now : Now) (number : ℕ) (kept : List (ℕ × Spot Reader)) → made ≡ now → kept ≡ without number made.cursor.kept →
+    with_cursor made (record made.cursor { kept = kept }) ≡ without_point number now
+point-dropped made now number kept e list = ap (λ ps. with_cursor made (record made.cursor { kept = ps })) list ∙ ap (without_point number) e
 
 pub restore-leaves : (made now new : Now) (number : ℕ) → made ≡ now → new ≡ made → found number made.cursor.kept ≡ None →
     Moves now (restore number) restored new

@@ -1,6 +1,6 @@
 -- Points that are kept: one more, and one taken out, by its place in the list.
 use Rattle.std.proofs.Common.{◌≡◌, ◌≢◌, ℕ, zero, suc, ◌+◌, ◌<◌, ◌≤◌, Bool, true, false, cond, ◌==◌, List, [], ◌∷◌, map, length, Option, Some, None, refl, sym, ap, subst, ◌∙◌, arith}
-use Rattle.std.specs.Prelude.{slice_index_or}
+use Rattle.std.specs.Prelude.{slice_index_or, MatchOption}
 use Rattle.std.specs.List.{All, remove}
 use Rattle.std.proofs.lemmas.List.Elements.{All-head, All-tail}
 use Rattle.facet_json_parser.specs.declared.points.Point.{Point}
@@ -103,6 +103,17 @@ module _ (buffer : List ℕ) (language : Language) where
         counter_fits = r.counter_fits;
       })
 
+  -- A parser that dropped a point is ready.
+  pub dropped-ready : (f : Lookahead) (refusal : Option Refusal) (points kept : List (ℕ × Lookahead)) (counter number : ℕ) →
+      IsReady buffer language f refusal points counter → kept ≡ without number points → IsReady buffer language f refusal kept counter
+  dropped-ready f refusal points kept counter number r list =
+      rw list (record {
+        stands = r.stands;
+        refused = r.refused;
+        keeps = points-without counter number points r.keeps;
+        counter_fits = r.counter_fits;
+      })
+
 missing_by : {S : Type 0} (same : Bool) (number : ℕ) (point : ℕ × S) (points : List (ℕ × S)) →
     (found number points ≡ None → without number points ≡ points) → cond same (Some point.1) (found number points) ≡ None →
     cond same (without number points) (point ∷ without number points) ≡ point ∷ points
@@ -114,6 +125,11 @@ pub without-missing : {S : Type 0} (number : ℕ) (points : List (ℕ × S)) →
 without-missing number [] e = refl
 without-missing number (point ∷ points) e =
     missing_by (point.0 == number) number point points (without-missing number points) e
+
+-- What follows whether a point was taken out or none is kept.
+pub either_way : {A G : Type 0} (N : Type 0) (P : A → Type 0) (o : Option A) → (N → G) → ((a : A) → P a → G) → MatchOption o N P → G
+either_way N P None none some is = none is
+either_way N P (Some a) none some is = some a is
 
 -- ---- points of the code
 

@@ -13,7 +13,7 @@ ghost use Rattle.facet_json_document.specs.Language.{strict};
 ghost use Rattle.facet_json_document.specs.Future.{finished};
 ghost use Rattle.facet_json_reader.specs.PlaceViews.{language_of, refused_of};
 ghost use Rattle.facet_json_document.specs.Now.{fresh, fresh_in, current_span_of, ahead, future_of, SameInput, GoesOn, StandsAt};
-ghost use Rattle.facet_json_document.specs.Move.{Moves, with_kept};
+ghost use Rattle.facet_json_document.specs.Move.{Moves, with_kept, without_point};
 ghost use Rattle.facet_json_document.specs.Next.{PassesNext, ShowsNext, PassesAll, IsOver};
 ghost use Rattle.facet_json_parser.specs.Inner.Wanted.{PassesWanted, NeverGives};
 ghost use Rattle.facet_json_reader.specs.Inner.Soughts.{event_of_sought};
@@ -22,7 +22,7 @@ ghost use Rattle.facet_json_document.specs.Within.{NowWithin, AnswerWithin};
 ghost use Rattle.facet_json_parser.specs.Steps.{QueuesNow};
 
 use crate::lookahead::Lookahead;
-use crate::points::{Point, bring_back, keep};
+use crate::points::{Point, bring_back, drop_point, keep};
 use facet_format::{FormatParser, ParseError, ParseEvent, SavePoint, Span};
 use facet_json_reader::{Language, Refused, Sought, Wanted};
 use facet_json_token::{Mode, Trust};
@@ -134,6 +134,14 @@ impl<'de> JsonParser<'de> {
         ensures { result ≡ fresh_in input.now (strict plain) }
     {
         JsonParser::in_language(alloc, input, Language::Strict(Mode::Plain), Trust::Utf8)
+    }
+
+    /// Drops a point that is kept, as `restore` does, and stays where it stands, refused or not. A point that is not kept changes nothing.
+    /// It does not allocate.
+    pub fn forget(&mut self, point: SavePoint)
+        ensures { self.new ≡ without_point point.0 self.old }
+    {
+        drop_point(&mut self.points, point.0);
     }
 
     /// A parser before the input.

@@ -55,3 +55,11 @@ pub fn bring_back<'de>(points: &mut Vec<Point<'de>>, number: u64) -> Option<Look
     let at = place_of(points, number)?;
     Some(points.remove(at).lookahead)
 }
+
+/// Drops the point of this number, if one is kept.
+pub fn drop_point(points: &mut Vec<Point<'_>>, number: u64)
+    ensures { (buffer : List ℕ) (language : Language) (counter : ℕ) → ArePoints buffer language counter (map point_of points.old.items)
+        → map point_of points.new.items ≡ without number (map point_of points.old.items) }
+{
+    bring_back(points, number);
+}
