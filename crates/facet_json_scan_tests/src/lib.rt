@@ -11,6 +11,8 @@ mod decoding_allocations;
 #[cfg(test)]
 mod events;
 #[cfg(test)]
+mod forgetting;
+#[cfg(test)]
 mod parsers;
 #[cfg(test)]
 mod pieces;
