@@ -1,0 +1,3 @@
+pub mod BegunCalls
+pub mod BegunSteps
+pub mod ByteLists

@@ -1,0 +1,3 @@
+pub mod Begun
+pub mod OneValue
+pub mod Within

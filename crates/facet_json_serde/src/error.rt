@@ -1,0 +1,185 @@
+//! Why a value was not read or written, and where.
+
+ghost use Rattle.std.specs.Prelude.{length};
+ghost use Rattle.facet_json_serde.specs.Within.{LiesWithin};
+
+use crate::fault::{Detail, Fault, FaultKind, Sort};
+use facet_format::{DeserializeErrorKind, ParseError, Span};
+use facet_json_core::{JsonErrorKind, Place};
+use std::fmt;
+
+/// What is wrong. Displayed, it is a message of one line for a person.
+#[derive(Debug, Clone, Copy, Drop)]
+pub enum ErrorKind<'t> {
+    /// The input is no JSON, it ends too soon, a value is of another type or too great, or an allocation failed: what this library's readers say.
+    Read(DeserializeErrorKind<'t>),
+    /// More than white space stands after the document.
+    TrailingCharacters,
+    /// The field of this name has no value.
+    MissingField(Detail),
+    /// The field of this name comes twice.
+    DuplicateField(Detail),
+    /// A field that the type does not have.
+    UnknownField,
+    /// A variant that the type does not have.
+    UnknownVariant,
+    /// A list of another length.
+    InvalidLength,
+    /// A value that the type does not have.
+    InvalidValue,
+    /// A key that is no string.
+    KeyMustBeAString,
+    /// What a type sent to be written is not one value: a value without a key, a key without a value, two roots, a container that stays open.
+    NotOneValue,
+    /// What a reader or a writer of a type says.
+    Custom(Detail),
+}
+
+/// Why a value was not read or written. Displayed, it is the message of its kind; `report` shows it with its place in the source.
+#[derive(Debug, Clone, Copy, Drop)]
+pub struct Error<'t> {
+    /// What is wrong.
+    pub kind: ErrorKind<'t>,
+    /// The bytes of the input that it is about: an offset and a length. A writer's error has none, nor has a failed allocation of a value.
+    pub span: Option<Span>,
+}
+
+impl<'t> From<ParseError<'t>> for Error<'t> {
+    fn from(refused: ParseError<'t>) -> Error<'t> {
+        Error {
+            kind: ErrorKind::Read(refused.kind),
+            span: Some(refused.span),
+        }
+    }
+}
+
+impl<'t> From<Fault> for Error<'t> {
+    fn from(fault: Fault) -> Error<'t> {
+        Error {
+            kind: kind_of(&fault),
+            span: fault.span,
+        }
+    }
+}
+
+impl<'t> Error<'t> {
+    /// The same error, without a span that does not lie within the input.
+    #[cold]
+    #[inline(never)]
+    pub(crate) fn within(self, input: &[u8]) -> Error<'t>
+        ensures { LiesWithin (length input.now) result.span }
+    {
+        let Some(span) = self.span else {
+            return self;
+        };
+        if span.offset <= input.len() && span.len <= input.len() - span.offset {
+            self
+        } else {
+            Error { span: None, ..self }
+        }
+    }
+}
+
+/// What a fault is called.
+fn kind_of<'t>(fault: &Fault) -> ErrorKind<'t> {
+    match fault.kind {
+        FaultKind::Parser | FaultKind::Ended => {
+            ErrorKind::Read(DeserializeErrorKind::UnexpectedEof { expected: "value" })
+        }
+        FaultKind::Mismatch(wanted, found) => mismatch_of(wanted, found),
+        FaultKind::OutOfRange(wanted) => ErrorKind::Read(DeserializeErrorKind::NumberOutOfRange {
+            target_type: wanted.name(),
+        }),
+        FaultKind::Memory => ErrorKind::Read(DeserializeErrorKind::OutOfMemory),
+        FaultKind::Trailing => ErrorKind::TrailingCharacters,
+        FaultKind::MissingField => ErrorKind::MissingField(fault.detail),
+        FaultKind::DuplicateField => ErrorKind::DuplicateField(fault.detail),
+        FaultKind::UnknownField => ErrorKind::UnknownField,
+        FaultKind::UnknownVariant => ErrorKind::UnknownVariant,
+        FaultKind::InvalidLength => ErrorKind::InvalidLength,
+        FaultKind::InvalidValue => ErrorKind::InvalidValue,
+        FaultKind::KeyMustBeAString => ErrorKind::KeyMustBeAString,
+        FaultKind::NotOneValue => ErrorKind::NotOneValue,
+        FaultKind::Custom => ErrorKind::Custom(fault.detail),
+    }
+}
+
+/// What a value of another type is called.
+fn mismatch_of<'t>(wanted: Sort, found: Sort) -> ErrorKind<'t> {
+    ErrorKind::Read(DeserializeErrorKind::TypeMismatch {
+        expected: wanted.name(),
+        got: found.name(),
+    })
+}
+
+impl Error<'static> {
+    /// The error with its place in the source, which is the input as a text.
+    ///
+    /// ```text
+    /// let error = from_str::<Point>(alloc, text).err()?;
+    /// format!(in alloc; "{}", error.report(text))?
+    ///
+    /// type mismatch: expected i64, got string at line 2, column 8
+    ///   "x": "a"}
+    ///        ^^^
+    /// ```
+    pub fn report<'a>(&self, source: &'a str) -> Report<'a> {
+        Report {
+            error: *self,
+            source,
+        }
+    }
+}
+
+/// An error with the source that its span is of. Displayed, it is the message, the line and the column, then the line itself, and carets below
+/// what is meant. An error without a span is its message alone.
+#[derive(Debug, Clone, Copy, Drop)]
+pub struct Report<'a> {
+    /// The error.
+    pub error: Error<'static>,
+    /// The source.
+    pub source: &'a str,
+}
+
+impl fmt::Display for ErrorKind<'static> {
+    fn fmt<W: fmt::Write>(&self, f: &mut fmt::Formatter<W>) -> fmt::Result {
+        match self {
+            ErrorKind::Read(refused) => write!(f, "{}", JsonErrorKind::Read(*refused)),
+            ErrorKind::TrailingCharacters => f.write_str("trailing characters"),
+            ErrorKind::MissingField(name) => {
+                write!(f, "missing required field `{}`", name.as_str())
+            }
+            ErrorKind::DuplicateField(name) => write!(f, "duplicate field `{}`", name.as_str()),
+            ErrorKind::UnknownField => f.write_str("unknown field"),
+            ErrorKind::UnknownVariant => f.write_str("unknown variant"),
+            ErrorKind::InvalidLength => f.write_str("invalid length"),
+            ErrorKind::InvalidValue => f.write_str("invalid value"),
+            ErrorKind::KeyMustBeAString => f.write_str("key must be a string"),
+            ErrorKind::NotOneValue => f.write_str("not one value"),
+            ErrorKind::Custom(message) => f.write_str(message.as_str()),
+        }
+    }
+}
+
+impl fmt::Display for Error<'static> {
+    fn fmt<W: fmt::Write>(&self, f: &mut fmt::Formatter<W>) -> fmt::Result {
+        fmt::Display::fmt(&self.kind, f)
+    }
+}
+
+impl fmt::Display for Report<'_> {
+    fn fmt<W: fmt::Write>(&self, f: &mut fmt::Formatter<W>) -> fmt::Result {
+        match self.error.span {
+            None => write!(f, "{}", self.error.kind),
+            Some(span) => {
+                let place = Place {
+                    source: self.source,
+                    span,
+                };
+                write!(f, "{} at {place}", self.error.kind)
+            }
+        }
+    }
+}
+
+impl std::error::Error for Error<'static> {}

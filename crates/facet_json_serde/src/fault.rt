@@ -1,0 +1,177 @@
+//! What is wrong, without borrowed texts, so that generic code can hold it.
+
+use facet_format::Span;
+use std::fmt;
+use std::fmt::InlineText;
+
+/// The first bytes of a name or of a message, at most 32, cut between characters.
+#[derive(Clone, Copy, Drop)]
+pub struct Detail(InlineText<32>);
+
+impl Detail {
+    /// What of the text has room.
+    fn of(text: &str) -> Detail {
+        Detail(InlineText::of(text))
+    }
+
+    /// The text.
+    pub fn as_str(&self) -> &str {
+        self.0.as_str()
+    }
+}
+
+impl fmt::Debug for Detail {
+    fn fmt<W: fmt::Write>(&self, f: &mut fmt::Formatter<W>) -> fmt::Result {
+        fmt::Debug::fmt(self.as_str(), f)
+    }
+}
+
+/// What a step was to read, or what came in its place.
+#[derive(Debug, Clone, Copy, Drop, PartialEq, Eq)]
+pub enum Sort {
+    /// `true` or `false`.
+    Bool,
+    /// A number that a `u8` holds.
+    U8,
+    /// A number that an `i64` holds.
+    I64,
+    /// A number that a `u64` holds.
+    U64,
+    /// A number that an `i128` holds.
+    I128,
+    /// A number that a `u128` holds.
+    U128,
+    /// A number that is read as an `f32`.
+    F32,
+    /// A number that is read as an `f64`.
+    F64,
+    /// A whole number.
+    Integer,
+    /// A number with a fraction or an exponent.
+    Decimal,
+    /// `null`.
+    Null,
+    /// A string.
+    String,
+    /// A list.
+    Array,
+    /// A map.
+    Object,
+    /// A key of a map.
+    Key,
+    /// The end of a list or a map.
+    End,
+    /// A value.
+    Value,
+    /// Nothing more.
+    EndOfInput,
+}
+
+impl Sort {
+    /// Its name.
+    pub(crate) fn name<'t>(self) -> &'t str {
+        match self {
+            Sort::Bool => "bool",
+            Sort::U8 => "u8",
+            Sort::I64 => "i64",
+            Sort::U64 => "u64",
+            Sort::I128 => "i128",
+            Sort::U128 => "u128",
+            Sort::F32 => "f32",
+            Sort::F64 => "f64",
+            Sort::Integer => "integer",
+            Sort::Decimal => "decimal",
+            Sort::Null => "null",
+            Sort::String => "string",
+            Sort::Array => "array",
+            Sort::Object => "object",
+            Sort::Key => "key",
+            Sort::End => "end",
+            Sort::Value => "value",
+            Sort::EndOfInput => "end of input",
+        }
+    }
+}
+
+/// What is wrong.
+#[derive(Debug, Clone, Copy, Drop, PartialEq, Eq)]
+pub enum FaultKind {
+    /// The parser refused, and repeats it when it is asked.
+    Parser,
+    /// The document is over.
+    Ended,
+    /// This was wanted, and that came.
+    Mismatch(Sort, Sort),
+    /// A number that this cannot hold.
+    OutOfRange(Sort),
+    /// More than white space stands after the document.
+    Trailing,
+    /// A field has no value.
+    MissingField,
+    /// A field comes twice.
+    DuplicateField,
+    /// A field that the type does not have.
+    UnknownField,
+    /// A variant that the type does not have.
+    UnknownVariant,
+    /// A list of another length.
+    InvalidLength,
+    /// A value that the type does not have.
+    InvalidValue,
+    /// A key that is no string.
+    KeyMustBeAString,
+    /// What was sent to be written is not one value.
+    NotOneValue,
+    /// What a reader or a writer of a type says.
+    Custom,
+    /// An allocation failed.
+    Memory,
+}
+
+/// What is wrong, and where. `Error` is the same with its words: `Json::told` and `Error::from` give it.
+#[derive(Debug, Clone, Copy, Drop)]
+pub struct Fault {
+    pub(crate) kind: FaultKind,
+    pub(crate) span: Option<Span>,
+    pub(crate) detail: Detail,
+}
+
+impl Fault {
+    /// The fault at these bytes of the input.
+    #[cold]
+    #[inline(never)]
+    pub(crate) fn at(kind: FaultKind, span: Span) -> Fault {
+        Fault {
+            kind,
+            span: Some(span),
+            detail: Detail::of(""),
+        }
+    }
+
+    /// The fault that is about no bytes of an input.
+    #[cold]
+    #[inline(never)]
+    pub(crate) fn of(kind: FaultKind) -> Fault {
+        Fault {
+            kind,
+            span: None,
+            detail: Detail::of(""),
+        }
+    }
+
+    /// The same fault, about this.
+    pub(crate) fn about(self, detail: &str) -> Fault {
+        Fault {
+            detail: Detail::of(detail),
+            ..self
+        }
+    }
+
+    /// Whether no other reading of the same input can succeed.
+    pub(crate) fn is_final(&self) -> bool {
+        matches!(
+            self.kind,
+            FaultKind::Parser | FaultKind::Ended | FaultKind::Memory
+        )
+    }
+}

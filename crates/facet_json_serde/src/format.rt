@@ -1,0 +1,382 @@
+//! The steps of a `Format`, over the events of a parser.
+
+use crate::fault::{Fault, FaultKind, Sort};
+use crate::found::{is_quoted, kind_of, number_in, number_key};
+use crate::json::{Ahead, Json, mismatch};
+use facet_format::{ParseEvent, ParseEventKind, ScalarValue, Span};
+use serde::{Format, Kind, Name};
+use std::alloc::Global;
+use std::borrow::CowStr;
+
+/// A number that the type cannot hold.
+#[cold]
+#[inline(never)]
+fn out_of_range(wanted: Sort, span: Span) -> Fault {
+    Fault::at(FaultKind::OutOfRange(wanted), span)
+}
+
+impl<'de> Json<'de> {
+    /// A key as a whole number.
+    fn signed_key(&mut self, input: &[u8]) -> Result<i64, Fault> {
+        let text = self.text(input)?;
+        let number = number_key(text.as_str()).ok_or(self.error(FaultKind::InvalidValue))?;
+        match fast_float::parse_i64(number) {
+            Ok(n) => Ok(n),
+            Err(_) => Err(self.error(FaultKind::InvalidValue)),
+        }
+    }
+
+    /// A key as a whole number without a sign.
+    fn unsigned_key(&mut self, input: &[u8]) -> Result<u64, Fault> {
+        let text = self.text(input)?;
+        let number = number_key(text.as_str()).ok_or(self.error(FaultKind::InvalidValue))?;
+        match fast_float::parse_u64(number) {
+            Ok(n) => Ok(n),
+            Err(_) => Err(self.error(FaultKind::InvalidValue)),
+        }
+    }
+
+    /// The next byte of a list of bytes, or `None` at its end, which it takes.
+    fn next_byte(&mut self, input: &[u8]) -> Result<Option<u8>, Fault> {
+        if !self.next_item(input)? {
+            return Ok(None);
+        }
+        match u8::try_from(self.u64(input)?) {
+            Ok(byte) => Ok(Some(byte)),
+            Err(_) => Err(out_of_range(Sort::U8, self.last)),
+        }
+    }
+
+    /// A list of bytes.
+    fn byte_list(&mut self, alloc: Global, input: &[u8]) -> Result<Vec<u8>, Fault> {
+        self.begin_seq(input)?;
+        let mut bytes = Vec::new(alloc);
+        for _ in 0..u64::MAX {
+            let Some(byte) = self.next_byte(input)? else {
+                break;
+            };
+            if bytes.push(byte).is_err() {
+                return Err(Fault::of(FaultKind::Memory));
+            }
+        }
+        Ok(bytes)
+    }
+}
+
+impl<'de> Format for Json<'de> {
+    type Error = Fault;
+
+    type Mark = usize;
+
+    #[inline(always)]
+    fn bool(&mut self, input: &[u8]) -> Result<bool, Fault> {
+        if self.at_key {
+            return match self.text(input)?.as_str() {
+                "true" => Ok(true),
+                "false" => Ok(false),
+                _ => Err(self.error(FaultKind::InvalidValue)),
+            };
+        }
+        let ParseEvent { kind, span } = self.take()?;
+        match kind {
+            ParseEventKind::Scalar(ScalarValue::Bool(b)) => Ok(b),
+            kind => Err(mismatch(Sort::Bool, &kind, span)),
+        }
+    }
+
+    #[inline(always)]
+    fn i64(&mut self, input: &[u8]) -> Result<i64, Fault> {
+        if self.at_key {
+            return self.signed_key(input);
+        }
+        let ParseEvent { kind, span } = self.take()?;
+        match kind {
+            ParseEventKind::Scalar(ScalarValue::I64(n)) => Ok(n),
+            ParseEventKind::Scalar(ScalarValue::U64(n)) => match i64::try_from(n) {
+                Ok(n) => Ok(n),
+                Err(_) => Err(out_of_range(Sort::I64, span)),
+            },
+            kind => Err(mismatch(Sort::I64, &kind, span)),
+        }
+    }
+
+    #[inline(always)]
+    fn u64(&mut self, input: &[u8]) -> Result<u64, Fault> {
+        if self.at_key {
+            return self.unsigned_key(input);
+        }
+        let ParseEvent { kind, span } = self.take()?;
+        match kind {
+            ParseEventKind::Scalar(ScalarValue::U64(n)) => Ok(n),
+            ParseEventKind::Scalar(ScalarValue::I64(n)) => match u64::try_from(n) {
+                Ok(n) => Ok(n),
+                Err(_) => Err(out_of_range(Sort::U64, span)),
+            },
+            kind => Err(mismatch(Sort::U64, &kind, span)),
+        }
+    }
+
+    fn i128(&mut self, input: &[u8]) -> Result<i128, Fault> {
+        let at_key = self.at_key;
+        self.at_key = false;
+        let event = self.take()?;
+        let parsed = match &event.kind {
+            ParseEventKind::Scalar(ScalarValue::U64(n)) => return Ok(i128::from(*n)),
+            ParseEventKind::Scalar(ScalarValue::I64(n)) => return Ok(i128::from(*n)),
+            ParseEventKind::Scalar(ScalarValue::Str(text)) if !is_quoted(input, event.span) => {
+                text.as_str().parse::<i128>()
+            }
+            ParseEventKind::FieldKey(key) if at_key && number_key(key.name.as_str()).is_some() => {
+                key.name.as_str().parse::<i128>()
+            }
+            _ => return Err(mismatch(Sort::I128, &event.kind, event.span)),
+        };
+        match parsed {
+            Ok(n) => Ok(n),
+            Err(_) => Err(out_of_range(Sort::I128, event.span)),
+        }
+    }
+
+    fn u128(&mut self, input: &[u8]) -> Result<u128, Fault> {
+        let at_key = self.at_key;
+        self.at_key = false;
+        let event = self.take()?;
+        let parsed = match &event.kind {
+            ParseEventKind::Scalar(ScalarValue::U64(n)) => return Ok(u128::from(*n)),
+            ParseEventKind::Scalar(ScalarValue::I64(_)) => {
+                return Err(out_of_range(Sort::U128, event.span));
+            }
+            ParseEventKind::Scalar(ScalarValue::Str(text)) if !is_quoted(input, event.span) => {
+                text.as_str().parse::<u128>()
+            }
+            ParseEventKind::FieldKey(key) if at_key && number_key(key.name.as_str()).is_some() => {
+                key.name.as_str().parse::<u128>()
+            }
+            _ => return Err(mismatch(Sort::U128, &event.kind, event.span)),
+        };
+        match parsed {
+            Ok(n) => Ok(n),
+            Err(_) => Err(out_of_range(Sort::U128, event.span)),
+        }
+    }
+
+    fn f32(&mut self, input: &[u8]) -> Result<f32, Fault> {
+        let at_key = self.at_key;
+        self.at_key = false;
+        let event = self.take()?;
+        let Some(text) = number_in(&event, at_key, input) else {
+            return Err(mismatch(Sort::F32, &event.kind, event.span));
+        };
+        match fast_float::parse::<f32, _>(text) {
+            Ok(x) if x.is_finite() => Ok(x),
+            _ => Err(out_of_range(Sort::F32, event.span)),
+        }
+    }
+
+    fn f64(&mut self, input: &[u8]) -> Result<f64, Fault> {
+        let at_key = self.at_key;
+        self.at_key = false;
+        let event = self.take()?;
+        let Some(text) = number_in(&event, at_key, input) else {
+            return Err(mismatch(Sort::F64, &event.kind, event.span));
+        };
+        match fast_float::parse::<f64, _>(text) {
+            Ok(x) if x.is_finite() => Ok(x),
+            _ => Err(out_of_range(Sort::F64, event.span)),
+        }
+    }
+
+    fn char(&mut self, input: &[u8]) -> Result<char, Fault> {
+        match self.text(input)?.as_str().parse::<char>() {
+            Ok(c) => Ok(c),
+            Err(_) => Err(self.error(FaultKind::InvalidValue)),
+        }
+    }
+
+    #[inline(always)]
+    fn plain_str(&mut self, input: &[u8]) -> Result<(usize, usize), Fault> {
+        match self.text(input)? {
+            CowStr::Borrowed(text) => {
+                let start = self.last.offset.saturating_add(1);
+                Ok((start, start.saturating_add(text.len())))
+            }
+            CowStr::Owned(_) => Err(self.error(FaultKind::InvalidValue)),
+        }
+    }
+
+    fn plain_bytes(&mut self, input: &[u8]) -> Result<(usize, usize), Fault> {
+        self.plain_str(input)
+    }
+
+    #[inline(always)]
+    fn string(&mut self, alloc: Global, input: &[u8]) -> Result<String, Fault> {
+        match self.text(input)?.into_owned(alloc) {
+            Ok(text) => Ok(text),
+            Err(_) => Err(Fault::of(FaultKind::Memory)),
+        }
+    }
+
+    fn byte_buf(&mut self, alloc: Global, input: &[u8]) -> Result<Vec<u8>, Fault> {
+        if let Kind::Str = self.peek(input)? {
+            return Ok(self.string(alloc, input)?.into_bytes());
+        }
+        self.byte_list(alloc, input)
+    }
+
+    fn peek(&mut self, input: &[u8]) -> Result<Kind, Fault> {
+        self.look()?;
+        let found = match &self.ahead {
+            Ahead::Event(event) => kind_of(event, self.at_key, input),
+            Ahead::Stopped(fault) => return Err(*fault),
+            Ahead::Nothing => None,
+        };
+        match found {
+            Some(kind) => Ok(kind),
+            None => Err(self.error(FaultKind::InvalidValue)),
+        }
+    }
+
+    #[inline(always)]
+    fn take_unit(&mut self, _input: &[u8]) -> Result<bool, Fault> {
+        self.passes_null()
+    }
+
+    #[inline(always)]
+    fn take_none(&mut self, _input: &[u8]) -> Result<bool, Fault> {
+        self.passes_null()
+    }
+
+    #[inline(always)]
+    fn begin_seq(&mut self, _input: &[u8]) -> Result<(), Fault> {
+        let ParseEvent { kind, span } = self.take()?;
+        match kind {
+            ParseEventKind::SequenceStart(_) => Ok(()),
+            kind => Err(mismatch(Sort::Array, &kind, span)),
+        }
+    }
+
+    #[inline(always)]
+    fn next_item(&mut self, _input: &[u8]) -> Result<bool, Fault> {
+        let event = self.take()?;
+        if let ParseEventKind::SequenceEnd = event.kind {
+            return Ok(false);
+        }
+        self.ahead = Ahead::Event(event);
+        Ok(true)
+    }
+
+    #[inline(always)]
+    fn begin_map(&mut self, _input: &[u8]) -> Result<(), Fault> {
+        let ParseEvent { kind, span } = self.take()?;
+        match kind {
+            ParseEventKind::StructStart(_) => Ok(()),
+            kind => Err(mismatch(Sort::Object, &kind, span)),
+        }
+    }
+
+    #[inline(always)]
+    fn begin_struct(&mut self, _input: &[u8]) -> Result<bool, Fault> {
+        let ParseEvent { kind, span } = self.take()?;
+        match kind {
+            ParseEventKind::StructStart(_) => Ok(false),
+            ParseEventKind::SequenceStart(_) => Ok(true),
+            kind => Err(mismatch(Sort::Object, &kind, span)),
+        }
+    }
+
+    #[inline(always)]
+    fn next_key(&mut self, _input: &[u8], names: &[Name<'_>]) -> Result<Option<usize>, Fault> {
+        match self.key()? {
+            Some(key) => Ok(Some(serde::find(names, key.as_str()))),
+            None => Ok(None),
+        }
+    }
+
+    fn next_entry(&mut self, _input: &[u8]) -> Result<bool, Fault> {
+        let event = self.take()?;
+        match &event.kind {
+            ParseEventKind::FieldKey(_) => {
+                self.ahead = Ahead::Event(event);
+                self.at_key = true;
+                Ok(true)
+            }
+            ParseEventKind::StructEnd => Ok(false),
+            _ => Err(mismatch(Sort::Key, &event.kind, event.span)),
+        }
+    }
+
+    fn variant(&mut self, input: &[u8], names: &[Name<'_>]) -> Result<usize, Fault> {
+        Ok(serde::find(names, self.text(input)?.as_str()))
+    }
+
+    #[inline(always)]
+    fn skip(&mut self, _input: &[u8]) -> Result<(), Fault> {
+        if let Ahead::Nothing = &self.ahead {
+            return self.pass();
+        }
+        self.skip_ahead()
+    }
+
+    fn mark(&mut self) -> usize {
+        let mark = self.marks();
+        if !self.has_stopped() {
+            self.keep();
+        }
+        mark
+    }
+
+    /// After a refusal of the parser's, or a failed allocation, nothing is rewound: so each later step, and the caller, is told that one.
+    fn rewind(&mut self, mark: usize) {
+        if self.has_stopped() {
+            return;
+        }
+        self.forget(mark.saturating_add(1));
+        if self.has_stopped() {
+            return;
+        }
+        self.go_back();
+        self.keep();
+    }
+
+    fn release(&mut self, mark: usize) {
+        if !self.has_stopped() {
+            self.forget(mark);
+        }
+    }
+
+    fn is_fatal(&self, error: &Fault) -> bool {
+        error.is_final()
+    }
+
+    fn missing(&self, name: &str) -> Fault {
+        self.error(FaultKind::MissingField).about(name)
+    }
+
+    fn duplicate(&self, name: &str) -> Fault {
+        self.error(FaultKind::DuplicateField).about(name)
+    }
+
+    fn unknown_key(&self) -> Fault {
+        self.error(FaultKind::UnknownField)
+    }
+
+    fn unknown_variant(&self) -> Fault {
+        self.error(FaultKind::UnknownVariant)
+    }
+
+    fn wrong_len(&self) -> Fault {
+        self.error(FaultKind::InvalidLength)
+    }
+
+    fn invalid(&self) -> Fault {
+        self.error(FaultKind::InvalidValue)
+    }
+
+    fn no_memory(&self) -> Fault {
+        Fault::of(FaultKind::Memory)
+    }
+
+    fn custom(&self, message: &str) -> Fault {
+        self.error(FaultKind::Custom).about(message)
+    }
+}

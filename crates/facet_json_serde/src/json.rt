@@ -1,0 +1,355 @@
+//! JSON as a `Format` of `serde`'s: the events of a parser, and a look ahead of one. Here is what the steps of `format` stand on.
+
+use crate::error::Error;
+use crate::fault::{Fault, FaultKind, Sort};
+use crate::found::{found_in, is_quoted};
+use facet_format::{FormatParser, ParseEvent, ParseEventKind, SavePoint, ScalarValue, Span};
+use facet_json_parser::JsonParser;
+use std::alloc::Global;
+use std::borrow::CowStr;
+
+/// What stands before the parser's next event.
+#[derive(Drop)]
+pub(crate) enum Ahead<'de> {
+    /// Nothing: the parser's next event comes.
+    Nothing,
+    /// This event, which the parser has passed.
+    Event(ParseEvent<'de>),
+    /// No event ever: reading failed so, and no rewind brings it back.
+    Stopped(Fault),
+}
+
+/// A place to come back to.
+#[derive(Drop)]
+struct Marked<'de> {
+    point: SavePoint,
+    ahead: Option<ParseEvent<'de>>,
+    last: Span,
+    at_key: bool,
+}
+
+/// JSON as a `Format` of `serde`'s, for a caller who has a parser. `from_slice` and its kin make one.
+///
+/// ```text
+/// let mut json = Json::new(alloc, JsonParser::new(alloc, input));
+/// let read = T::deserialize(alloc, &mut Deserializer::new(input, &mut json));
+/// match read {
+///     Ok(value) => ..,
+///     Err(fault) => Err(json.told(fault)),
+/// }
+/// ```
+#[derive(Drop)]
+pub struct Json<'de> {
+    alloc: Global,
+    parser: JsonParser<'de>,
+    pub(crate) ahead: Ahead<'de>,
+    /// The bytes of the last event that was taken.
+    pub(crate) last: Span,
+    /// The next value is the key of a map's entry.
+    pub(crate) at_key: bool,
+    marks: Vec<Marked<'de>>,
+}
+
+/// What was wanted, and is not there.
+#[cold]
+#[inline(never)]
+pub(crate) fn mismatch(wanted: Sort, kind: &ParseEventKind<'_>, span: Span) -> Fault {
+    Fault::at(FaultKind::Mismatch(wanted, found_in(kind)), span)
+}
+
+/// The text, unless it is the digits of a number that is too long for 64 bits.
+#[inline(always)]
+fn quoted<'de>(text: CowStr<'de>, input: &[u8], span: Span) -> Result<CowStr<'de>, Fault> {
+    match text {
+        CowStr::Borrowed(text) => Ok(CowStr::Borrowed(text)),
+        CowStr::Owned(text) => {
+            if is_quoted(input, span) {
+                Ok(CowStr::Owned(text))
+            } else {
+                Err(Fault::at(FaultKind::Mismatch(Sort::String, Sort::Integer), span))
+            }
+        }
+    }
+}
+
+impl<'de> Json<'de> {
+    /// The format before the parser's next event. It does not allocate.
+    pub fn new(alloc: Global, parser: JsonParser<'de>) -> Json<'de> {
+        Json {
+            alloc,
+            parser,
+            ahead: Ahead::Nothing,
+            last: Span::new(0, 0),
+            at_key: false,
+            marks: Vec::new(alloc),
+        }
+    }
+
+    /// Checks that the document is over, which a reader of a type leaves to its caller. A strict parser looks at all that follows.
+    ///
+    /// # Errors
+    ///
+    /// `Mismatch`, wanted `EndOfInput`, where more of the document comes; what the parser refuses; or the fault for which reading stopped.
+    pub fn finish(&mut self) -> Result<(), Fault> {
+        match &self.ahead {
+            Ahead::Nothing => {}
+            Ahead::Event(event) => return Err(mismatch(Sort::EndOfInput, &event.kind, event.span)),
+            Ahead::Stopped(fault) => return Err(*fault),
+        }
+        match self.parser.next_event() {
+            Ok(None) => Ok(()),
+            Ok(Some(event)) => Err(mismatch(Sort::EndOfInput, &event.kind, event.span)),
+            Err(refused) => Err(self.stop(FaultKind::Parser, refused.span)),
+        }
+    }
+
+    /// Checks that the document is over, and that nothing but white space follows it.
+    ///
+    /// # Errors
+    ///
+    /// As `finish`, and `Trailing` at what follows.
+    pub fn finish_whole(&mut self) -> Result<(), Fault> {
+        self.finish()?;
+        let end = self.parser.current_span().unwrap_or(self.last).end();
+        let rest = self.parser.input().unwrap_or(&[]).get(end..).unwrap_or(&[]);
+        for (at, byte) in rest.iter().enumerate() {
+            if !matches!(byte, b' ' | b'\t' | b'\n' | b'\r') {
+                let span = Span::new(end.saturating_add(at), rest.len().saturating_sub(at));
+                return Err(Fault::at(FaultKind::Trailing, span));
+            }
+        }
+        Ok(())
+    }
+
+    /// What a fault is, in words: where the parser refused, its own.
+    #[cold]
+    #[inline(never)]
+    pub fn told<'t>(&mut self, fault: Fault) -> Error<'t> {
+        if let FaultKind::Parser = fault.kind {
+            if let Err(refused) = self.parser.next_event() {
+                return Error::from(refused);
+            }
+        }
+        Error::from(fault)
+    }
+
+    /// The fault at the last event that was taken.
+    #[cold]
+    #[inline(never)]
+    pub(crate) fn error(&self, kind: FaultKind) -> Fault {
+        Fault::at(kind, self.last)
+    }
+
+    /// Stops reading for good.
+    #[cold]
+    #[inline(never)]
+    fn stop(&mut self, kind: FaultKind, span: Span) -> Fault {
+        let fault = Fault::at(kind, span);
+        self.ahead = Ahead::Stopped(fault);
+        fault
+    }
+
+    /// Whether reading stopped for good.
+    pub(crate) fn has_stopped(&self) -> bool {
+        matches!(&self.ahead, Ahead::Stopped(_))
+    }
+
+    /// The parser's next event.
+    #[inline(always)]
+    fn read(&mut self) -> Result<ParseEvent<'de>, Fault> {
+        match self.parser.next_event() {
+            Ok(Some(event)) => {
+                self.last = event.span;
+                Ok(event)
+            }
+            Ok(None) => Err(self.stop(FaultKind::Ended, Span::new(self.last.end(), 0))),
+            Err(refused) => Err(self.stop(FaultKind::Parser, refused.span)),
+        }
+    }
+
+    /// Takes the next event.
+    #[inline(always)]
+    pub(crate) fn take(&mut self) -> Result<ParseEvent<'de>, Fault> {
+        if let Ahead::Nothing = &self.ahead {
+            return self.read();
+        }
+        self.take_ahead()
+    }
+
+    /// Takes the event that is ahead.
+    fn take_ahead(&mut self) -> Result<ParseEvent<'de>, Fault> {
+        match std::mem::replace(&mut self.ahead, Ahead::Nothing) {
+            Ahead::Event(event) => {
+                self.last = event.span;
+                Ok(event)
+            }
+            Ahead::Nothing => self.read(),
+            Ahead::Stopped(fault) => {
+                self.ahead = Ahead::Stopped(fault);
+                Err(fault)
+            }
+        }
+    }
+
+    /// Reads the next event, which stays the next one.
+    #[inline(always)]
+    pub(crate) fn look(&mut self) -> Result<(), Fault> {
+        if let Ahead::Nothing = &self.ahead {
+            let event = self.read()?;
+            self.ahead = Ahead::Event(event);
+        }
+        Ok(())
+    }
+
+    /// Passes null, if it comes.
+    #[inline(always)]
+    pub(crate) fn passes_null(&mut self) -> Result<bool, Fault> {
+        self.look()?;
+        if let Ahead::Event(event) = &self.ahead {
+            if !matches!(event.kind, ParseEventKind::Scalar(ScalarValue::Null)) {
+                return Ok(false);
+            }
+        }
+        self.take()?;
+        Ok(true)
+    }
+
+    /// A text, as a value or as a key.
+    #[inline(always)]
+    pub(crate) fn text(&mut self, input: &[u8]) -> Result<CowStr<'de>, Fault> {
+        let at_key = self.at_key;
+        self.at_key = false;
+        let ParseEvent { kind, span } = self.take()?;
+        match kind {
+            ParseEventKind::Scalar(ScalarValue::Str(text)) if !at_key => quoted(text, input, span),
+            ParseEventKind::FieldKey(key) if at_key => Ok(key.name),
+            kind => Err(mismatch(Sort::String, &kind, span)),
+        }
+    }
+
+    /// A key, or `None` at the end of the map, which it takes.
+    #[inline(never)]
+    pub(crate) fn key(&mut self) -> Result<Option<CowStr<'de>>, Fault> {
+        let ParseEvent { kind, span } = self.take()?;
+        match kind {
+            ParseEventKind::FieldKey(key) => Ok(Some(key.name)),
+            ParseEventKind::StructEnd => Ok(None),
+            kind => Err(mismatch(Sort::Key, &kind, span)),
+        }
+    }
+
+    /// Passes a value, of which one event is ahead.
+    #[inline(never)]
+    pub(crate) fn skip_ahead(&mut self) -> Result<(), Fault> {
+        let ParseEvent { kind, span } = self.take()?;
+        self.at_key = false;
+        match kind {
+            ParseEventKind::Scalar(_) | ParseEventKind::FieldKey(_) => Ok(()),
+            ParseEventKind::StructStart(_) | ParseEventKind::SequenceStart(_) => self.skip_rest(),
+            kind => Err(mismatch(Sort::Value, &kind, span)),
+        }
+    }
+
+    /// Passes the rest of a container: of a map's members the values unread.
+    fn skip_rest(&mut self) -> Result<(), Fault> {
+        let mut depth = 1u64;
+        for _ in 0..u64::MAX {
+            match self.read()?.kind {
+                ParseEventKind::StructStart(_) | ParseEventKind::SequenceStart(_) => {
+                    depth = depth.saturating_add(1);
+                }
+                ParseEventKind::StructEnd | ParseEventKind::SequenceEnd => {
+                    depth = depth.saturating_sub(1);
+                    if depth == 0 {
+                        break;
+                    }
+                }
+                ParseEventKind::FieldKey(_) => self.pass()?,
+                ParseEventKind::Scalar(_) => {}
+            }
+        }
+        Ok(())
+    }
+
+    /// Passes a value, unread.
+    #[inline(always)]
+    pub(crate) fn pass(&mut self) -> Result<(), Fault> {
+        match self.parser.skip_value() {
+            Ok(()) => Ok(()),
+            Err(refused) => Err(self.stop(FaultKind::Parser, refused.span)),
+        }
+    }
+
+    /// A copy of where it stands, or `None` where there is no memory for it.
+    fn kept(&mut self) -> Option<Marked<'de>> {
+        let ahead = match &self.ahead {
+            Ahead::Event(event) => Some(event.clone(self.alloc).ok()?),
+            _ => None,
+        };
+        let point = self.parser.save().ok()?;
+        Some(Marked {
+            point,
+            ahead,
+            last: self.last,
+            at_key: self.at_key,
+        })
+    }
+
+    /// Keeps where it stands as the last mark, or stops where there is no memory for it.
+    pub(crate) fn keep(&mut self) {
+        let is_kept = match self.kept() {
+            Some(marked) => self.marks.push(marked).is_ok(),
+            None => false,
+        };
+        if !is_kept {
+            self.stop(FaultKind::Memory, self.last);
+        }
+    }
+
+    /// How many marks are kept.
+    pub(crate) fn marks(&self) -> usize {
+        self.marks.len()
+    }
+
+    /// Goes back to the last mark, which is dropped.
+    pub(crate) fn go_back(&mut self) {
+        let Some(marked) = self.marks.pop() else {
+            return;
+        };
+        let Marked {
+            point,
+            ahead,
+            last,
+            at_key,
+        } = marked;
+        self.parser.restore(point);
+        self.ahead = match ahead {
+            Some(event) => Ahead::Event(event),
+            None => Ahead::Nothing,
+        };
+        self.last = last;
+        self.at_key = at_key;
+    }
+
+    /// Drops the marks from this one on, or stops where there is no memory to do it.
+    pub(crate) fn forget(&mut self, mark: usize) {
+        for _ in mark..self.marks.len() {
+            if let Some(marked) = self.marks.pop() {
+                self.drop_point(marked.point);
+            }
+        }
+    }
+
+    /// Drops a point of the parser's, which stays where it is.
+    fn drop_point(&mut self, point: SavePoint) {
+        match self.parser.save() {
+            Ok(here) => {
+                self.parser.restore(point);
+                self.parser.restore(here);
+            }
+            Err(_) => {
+                self.stop(FaultKind::Memory, self.last);
+            }
+        }
+    }
+}

@@ -1,0 +1,163 @@
+//! Writes the calls of one value, and no others: so what is written is the text of a tree, whatever is asked.
+
+ghost use Rattle.std.specs.Prelude.{◌≡◌, true, IfOk};
+ghost use Rattle.facet_format.specs.Views.{scalar_value_of};
+ghost use Rattle.facet_json_serializer.specs.OptionsViews.{options_of};
+ghost use Rattle.facet_json_serde.specs.OneValue.{IsBegun, IsTextOfTree, IsTree};
+
+use crate::stage::Stage;
+use facet_format::{FormatSerializer, ScalarValue};
+use facet_json_serializer::{JsonSerializer, SerializeOptions};
+use std::alloc::Global;
+
+/// Why a call was refused.
+#[derive(Debug, Clone, Copy)]
+pub(crate) enum Misplaced {
+    /// No value goes on with it. Nothing changed.
+    Call,
+    /// An allocation failed.
+    Memory,
+}
+
+/// A serializer that takes only calls of one value, and refuses the others.
+#[derive(Drop)]
+pub(crate) struct OneValue<'i> {
+    options: SerializeOptions<'i>,
+    calls: JsonSerializer<'i>,
+    stage: Stage,
+    around: Vec<Stage>,
+    ghost begun: { IsBegun (options_of options) calls stage around.items },
+}
+
+impl<'i> OneValue<'i> {
+    /// Nothing is written.
+    pub(crate) fn new(alloc: Global, options: SerializeOptions<'i>) -> OneValue<'i> {
+        OneValue {
+            options,
+            calls: JsonSerializer::with_options(alloc, options),
+            stage: Stage::Value,
+            around: Vec::new(alloc),
+        }
+    }
+
+    /// Writes a value that holds no others.
+    #[inline(always)]
+    pub(crate) fn scalar(&mut self, value: ScalarValue<'_>) -> Result<(), Misplaced>
+        requires { IsTree (scalar_value_of value) }
+    {
+        if !self.stage.takes_value() {
+            return Err(Misplaced::Call);
+        }
+        match self.calls.scalar(value) {
+            Ok(()) => {
+                self.stage = self.stage.after_value();
+                Ok(())
+            }
+            Err(_) => Err(Misplaced::Memory),
+        }
+    }
+
+    /// Writes a key.
+    #[inline(always)]
+    pub(crate) fn key(&mut self, key: &str) -> Result<(), Misplaced> {
+        let Stage::Key = self.stage else {
+            return Err(Misplaced::Call);
+        };
+        match self.calls.field_key(key) {
+            Ok(()) => {
+                self.stage = Stage::Named;
+                Ok(())
+            }
+            Err(_) => Err(Misplaced::Memory),
+        }
+    }
+
+    /// Begins a list.
+    pub(crate) fn begin_list(&mut self) -> Result<(), Misplaced> {
+        if !self.stage.takes_value() {
+            return Err(Misplaced::Call);
+        }
+        if self.around.reserve(1).is_err() {
+            return Err(Misplaced::Memory);
+        }
+        match self.calls.begin_seq() {
+            Ok(()) => {
+                self.around.push_reserved(self.stage);
+                self.stage = Stage::Item;
+                Ok(())
+            }
+            Err(_) => Err(Misplaced::Memory),
+        }
+    }
+
+    /// Begins a struct.
+    pub(crate) fn begin_struct(&mut self) -> Result<(), Misplaced> {
+        if !self.stage.takes_value() {
+            return Err(Misplaced::Call);
+        }
+        if self.around.reserve(1).is_err() {
+            return Err(Misplaced::Memory);
+        }
+        match self.calls.begin_struct() {
+            Ok(()) => {
+                self.around.push_reserved(self.stage);
+                self.stage = Stage::Key;
+                Ok(())
+            }
+            Err(_) => Err(Misplaced::Memory),
+        }
+    }
+
+    /// Ends the innermost list.
+    pub(crate) fn end_list(&mut self) -> Result<(), Misplaced> {
+        let Stage::Item = self.stage else {
+            return Err(Misplaced::Call);
+        };
+        match self.calls.end_seq() {
+            Ok(()) => {
+                let outer = self.around.pop().unwrap_or(Stage::Value);
+                self.stage = outer.after_value();
+                Ok(())
+            }
+            Err(_) => Err(Misplaced::Memory),
+        }
+    }
+
+    /// Ends the innermost struct.
+    pub(crate) fn end_struct(&mut self) -> Result<(), Misplaced> {
+        let Stage::Key = self.stage else {
+            return Err(Misplaced::Call);
+        };
+        match self.calls.end_struct() {
+            Ok(()) => {
+                let outer = self.around.pop().unwrap_or(Stage::Value);
+                self.stage = outer.after_value();
+                Ok(())
+            }
+            Err(_) => Err(Misplaced::Memory),
+        }
+    }
+
+    /// Whether it writes by these options.
+    pub(crate) fn has_options(&self, options: &SerializeOptions<'_>) -> bool
+        ensures { result ≡ true → options_of self.now.options ≡ options_of options.now }
+    {
+        self.options.pretty == options.pretty
+            && self.options.indent == options.indent
+            && self.options.bytes_format == options.bytes_format
+    }
+
+    /// The text of the value, which has to be whole.
+    pub(crate) fn finish(self) -> Result<Vec<u8>, Misplaced>
+        ensures { IfOk result (λ v. IsTextOfTree (options_of self.entry.options) v.items) }
+    {
+        let OneValue { calls, stage, .. } = self;
+        let Stage::Whole = stage else {
+            return Err(Misplaced::Call);
+        };
+        match calls.finish() {
+            Ok(text) => Ok(text),
+            Err(_) => Err(Misplaced::Memory),
+        }
+    }
+}

@@ -1,0 +1,44 @@
+//! What may come next of a value that is written.
+
+ghost use Rattle.std.specs.Prelude.{◌≡◌};
+ghost use Rattle.facet_json_serde.specs.OneValue.{takes_value, after_value};
+
+/// What may come next, in the innermost container that is open.
+#[derive(Debug, Clone, Copy)]
+pub(crate) enum Stage {
+    /// The value itself.
+    Value,
+    /// Nothing: the value is whole.
+    Whole,
+    /// An item of a list, or its end.
+    Item,
+    /// A key of a struct, or its end.
+    Key,
+    /// The value of the key.
+    Named,
+}
+
+impl Stage {
+    /// Whether a value may come.
+    #[inline(always)]
+    pub(crate) fn takes_value(self) -> bool
+        ensures { result ≡ takes_value self }
+    {
+        match self {
+            Stage::Value | Stage::Item | Stage::Named => true,
+            Stage::Whole | Stage::Key => false,
+        }
+    }
+
+    /// What may come once a value has come.
+    #[inline(always)]
+    pub(crate) fn after_value(self) -> Stage
+        ensures { result ≡ after_value self }
+    {
+        match self {
+            Stage::Value | Stage::Whole => Stage::Whole,
+            Stage::Item => Stage::Item,
+            Stage::Key | Stage::Named => Stage::Key,
+        }
+    }
+}

@@ -1,0 +1,132 @@
+//! Values from a reader of bytes, and their text to a writer.
+
+ghost use Rattle.std.specs.Prelude.{List, ℕ, length, IfErr, OnOk};
+ghost use Rattle.std.specs.Io.KnownBytes.{Appends};
+ghost use Rattle.facet_json_document.specs.Text.{default_options};
+ghost use Rattle.facet_json_serializer.specs.OptionsViews.{options_of};
+ghost use Rattle.facet_json_serde.specs.OneValue.{IsTextOfTree};
+ghost use Rattle.facet_json_serde.specs.Within.{LiesWithin};
+
+use crate::error::Error;
+use crate::fault::Fault;
+use crate::json::Json;
+use crate::writing::to_vec_with_options;
+use facet_json_parser::JsonParser;
+use facet_json_serializer::SerializeOptions;
+use serde::{DeserializeOwned, Deserializer, Serialize};
+use std::alloc::Global;
+use std::io::{Read, Write};
+use std::{fmt, io};
+
+/// Why a value was not read from a reader, or not written to a writer.
+#[derive(Debug, Drop)]
+pub enum StreamError<'t> {
+    /// The value was refused. A writer has got nothing.
+    Json(Error<'t>),
+    /// The reader or the writer failed, and this is its error. How much a writer has got is not known.
+    Io(io::Error),
+}
+
+impl<'t> From<Error<'t>> for StreamError<'t> {
+    fn from(refused: Error<'t>) -> StreamError<'t> {
+        StreamError::Json(refused)
+    }
+}
+
+impl From<io::Error> for StreamError<'_> {
+    fn from(failed: io::Error) -> Self {
+        Self::Io(failed)
+    }
+}
+
+/// The message: a line for a person, without its line feed.
+impl fmt::Display for StreamError<'static> {
+    fn fmt<W: fmt::Write>(&self, f: &mut fmt::Formatter<W>) -> fmt::Result {
+        match self {
+            StreamError::Json(refused) => write!(f, "{refused}"),
+            StreamError::Io(failed) => write!(f, "I/O error: {failed}"),
+        }
+    }
+}
+
+impl std::error::Error for StreamError<'static> {}
+
+/// Reads all that the reader has, and then the value of the document that it begins with, as `from_slice`. The value borrows nothing.
+///
+/// # Errors
+///
+/// `Io` where the reader fails, or `Json` as `from_slice`.
+pub fn from_reader<'t, R: Read, T: DeserializeOwned>(
+    alloc: Global,
+    reader: &mut R,
+) -> Result<T, StreamError<'t>> {
+    let mut input = Vec::new(alloc);
+    reader.read_to_end(&mut input)?;
+    Ok(owned_value(alloc, input.as_slice())?)
+}
+
+/// Reads the value of the document that the input begins with, which borrows nothing of it.
+fn owned_value<'t, T: DeserializeOwned>(alloc: Global, input: &[u8]) -> Result<T, Error<'t>>
+    ensures { IfErr result (λ e. LiesWithin (length input.now) e.span) }
+{
+    let mut json = Json::new(alloc, JsonParser::new(alloc, input));
+    match first_owned(alloc, input, &mut json) {
+        Ok(value) => Ok(value),
+        Err(fault) => Err(json.told(fault).within(input)),
+    }
+}
+
+/// Reads a value, and the end of the document.
+fn first_owned<T: DeserializeOwned>(
+    alloc: Global,
+    input: &[u8],
+    json: &mut Json<'_>,
+) -> Result<T, Fault> {
+    let value = one_owned(alloc, input, json)?;
+    json.finish()?;
+    Ok(value)
+}
+
+/// Reads a value.
+fn one_owned<T: DeserializeOwned>(
+    alloc: Global,
+    input: &[u8],
+    json: &mut Json<'_>,
+) -> Result<T, Fault> {
+    T::deserialize_owned(alloc, &mut Deserializer::new(input, json))
+}
+
+/// Writes the compact text of a value to the writer, which is not flushed: what `to_vec` gives.
+///
+/// # Errors
+///
+/// `Json` as `to_vec`: then nothing was written. `Io` where the writer fails.
+pub fn to_writer<'t, W: Write, T: Serialize>(
+    alloc: Global,
+    writer: &mut W,
+    value: &T,
+) -> Result<(), StreamError<'t>>
+    ensures { OnOk result ∥ (bytes : List ℕ) × IsTextOfTree default_options bytes
+        × Appends (W.contents writer.old) (W.contents writer.new) bytes ∥₁ }
+{
+    to_writer_with_options(alloc, writer, value, &SerializeOptions::new())
+}
+
+/// Writes the text of a value in the layout of these options to the writer, which is not flushed: what `to_vec_with_options` gives.
+///
+/// # Errors
+///
+/// As `to_writer`.
+pub fn to_writer_with_options<'t, W: Write, T: Serialize>(
+    alloc: Global,
+    writer: &mut W,
+    value: &T,
+    options: &SerializeOptions<'_>,
+) -> Result<(), StreamError<'t>>
+    ensures { OnOk result ∥ (bytes : List ℕ) × IsTextOfTree (options_of options.now) bytes
+        × Appends (W.contents writer.old) (W.contents writer.new) bytes ∥₁ }
+{
+    let text = to_vec_with_options(alloc, value, options)?;
+    writer.write_all(text.as_slice())?;
+    Ok(())
+}

@@ -1,0 +1,373 @@
+//! JSON as a `Serializer` of `serde`'s: each event is a call of one value's, so all that is written is one value.
+
+ghost use Rattle.std.specs.Prelude.{IfOk};
+ghost use Rattle.facet_json_serializer.specs.OptionsViews.{options_of};
+ghost use Rattle.facet_format.specs.Views.{scalar_value_of};
+ghost use Rattle.facet_json_serde.specs.OneValue.{IsTextOfTree, IsTree};
+
+use crate::fault::{Fault, FaultKind};
+use crate::one_value::{Misplaced, OneValue};
+use facet_format::{Decimal, ScalarValue};
+use facet_json_serializer::SerializeOptions;
+use serde::{Case, NameKind, Serializer};
+use std::alloc::Global;
+use std::borrow::CowStr;
+use std::fmt;
+use std::fmt::Write;
+
+/// JSON as a `Serializer` of `serde`'s, in the layout of options, which are lent for `'i`. `to_vec` and its kin make one.
+///
+/// ```text
+/// let options = SerializeOptions::new();
+/// let mut writer = JsonWriter::new(alloc, options);
+/// value.serialize(&mut writer)?;
+/// writer.finish(&options)
+/// ```
+///
+/// # Errors
+///
+/// A call that no value goes on with is refused as `NotOneValue`, and a container or null as a key as `KeyMustBeAString`: so a value stands after a
+/// key or in a list, and one root alone. Out of memory is `Memory`, from then on.
+#[derive(Drop)]
+pub struct JsonWriter<'i> {
+    value: OneValue<'i>,
+    /// Room for a name in another case, and for printed text.
+    room: String,
+    /// The next value is the key of a map's entry.
+    at_key: bool,
+    /// How many maps are open.
+    depth: usize,
+    /// Those of them whose members stand in the map around them.
+    flat: Vec<usize>,
+    /// The next map is such a one.
+    flattens: bool,
+    /// The first fault, for which nothing is given out.
+    failed: Option<Fault>,
+}
+
+/// What a refusal is called.
+fn fault_of(why: Misplaced) -> Fault {
+    match why {
+        Misplaced::Memory => Fault::of(FaultKind::Memory),
+        Misplaced::Call => Fault::of(FaultKind::NotOneValue),
+    }
+}
+
+impl<'i> JsonWriter<'i> {
+    /// Nothing is written. It does not allocate.
+    pub fn new(alloc: Global, options: SerializeOptions<'i>) -> JsonWriter<'i> {
+        JsonWriter {
+            value: OneValue::new(alloc, options),
+            room: String::new(alloc),
+            at_key: false,
+            depth: 0,
+            flat: Vec::new(alloc),
+            flattens: false,
+            failed: None,
+        }
+    }
+
+    /// The text of the value, in the layout of these options, which have to be those that it began with: that it still has them is compared,
+    /// since no contract says what a type does to its writer.
+    ///
+    /// # Errors
+    ///
+    /// The first fault that a call was refused with, even if the type passed over it. `NotOneValue`, where nothing was written or a container is open,
+    /// or where the options are others.
+    pub fn finish(self, options: &SerializeOptions<'_>) -> Result<Vec<u8>, Fault>
+        ensures { IfOk result (λ v. IsTextOfTree (options_of options.now) v.items) }
+    {
+        let JsonWriter { value, failed, .. } = self;
+        if let Some(fault) = failed {
+            return Err(fault);
+        }
+        if !value.has_options(options) {
+            return Err(Fault::of(FaultKind::NotOneValue));
+        }
+        match value.finish() {
+            Ok(text) => Ok(text),
+            Err(why) => Err(fault_of(why)),
+        }
+    }
+
+    /// Nothing is given out from now on.
+    #[cold]
+    #[inline(never)]
+    fn fail(&mut self, fault: Fault) -> Fault {
+        let first = self.failed.unwrap_or(fault);
+        self.failed = Some(first);
+        fault
+    }
+
+    /// What an answer becomes.
+    #[inline(always)]
+    fn settle(&mut self, answer: Result<(), Misplaced>) -> Result<(), Fault> {
+        match answer {
+            Ok(()) => Ok(()),
+            Err(why) => Err(self.fail(fault_of(why))),
+        }
+    }
+
+    /// A map alone can lose its braces.
+    #[inline(always)]
+    fn not_flat(&mut self) -> Result<(), Fault> {
+        if self.flattens {
+            Err(self.fail(Fault::of(FaultKind::InvalidValue)))
+        } else {
+            Ok(())
+        }
+    }
+
+    /// A container or null is no key.
+    #[inline(always)]
+    fn no_key(&mut self) -> Result<(), Fault> {
+        if self.at_key {
+            Err(self.fail(Fault::of(FaultKind::KeyMustBeAString)))
+        } else {
+            Ok(())
+        }
+    }
+
+    /// Writes a value that holds no others, and is no key.
+    #[inline(always)]
+    fn scalar(&mut self, value: ScalarValue<'_>) -> Result<(), Fault>
+        requires { IsTree (scalar_value_of value) }
+    {
+        let answer = self.value.scalar(value);
+        self.settle(answer)
+    }
+
+    /// Writes the room's text, as a key or as a value.
+    fn room_text(&mut self, is_key: bool) -> Result<(), Fault> {
+        let text = self.room.as_str();
+        let answer = if is_key {
+            self.value.key(text)
+        } else {
+            self.value.scalar(ScalarValue::Str(CowStr::Borrowed(text)))
+        };
+        self.settle(answer)
+    }
+
+    /// Writes what is printed, as a key or as a value.
+    fn printed<T: fmt::Display>(&mut self, shown: &T) -> Result<(), Fault> {
+        self.room.clear();
+        if write!(self.room, "{shown}").is_err() {
+            return Err(self.fail(Fault::of(FaultKind::Memory)));
+        }
+        self.room_text(self.at_key)
+    }
+
+    /// Writes a key.
+    #[inline(always)]
+    fn key_text(&mut self, key: &str) -> Result<(), Fault> {
+        let answer = self.value.key(key);
+        self.settle(answer)
+    }
+
+    /// Writes a text, as a key or as a value.
+    #[inline(always)]
+    fn text(&mut self, text: &str, is_key: bool) -> Result<(), Fault> {
+        if is_key {
+            return self.key_text(text);
+        }
+        self.scalar(ScalarValue::Str(CowStr::Borrowed(text)))
+    }
+
+    /// Writes a name, as a key or as a value.
+    #[inline(always)]
+    fn name(&mut self, name: &str, case: Case, kind: NameKind, is_key: bool) -> Result<(), Fault> {
+        if let Case::AsIs = case {
+            return self.text(name, is_key);
+        }
+        self.room.clear();
+        if case.append(kind, name, &mut self.room).is_err() {
+            return Err(self.fail(Fault::of(FaultKind::Memory)));
+        }
+        self.room_text(is_key)
+    }
+
+    /// Writes the text of a number with a fraction or an exponent.
+    #[inline(always)]
+    fn number(&mut self, text: &str) -> Result<(), Fault> {
+        if self.at_key {
+            return self.key_text(text);
+        }
+        match Decimal::new(text) {
+            Some(decimal) => self.scalar(ScalarValue::Decimal(decimal)),
+            None => Err(self.fail(Fault::of(FaultKind::InvalidValue))),
+        }
+    }
+}
+
+impl<'i> Serializer for JsonWriter<'i> {
+    type Error = Fault;
+
+    #[inline(always)]
+    fn bool(&mut self, v: bool) -> Result<(), Fault> {
+        self.not_flat()?;
+        if self.at_key {
+            return self.printed(&v);
+        }
+        self.scalar(ScalarValue::Bool(v))
+    }
+
+    #[inline(always)]
+    fn i64(&mut self, v: i64) -> Result<(), Fault> {
+        self.not_flat()?;
+        if self.at_key {
+            return self.printed(&v);
+        }
+        self.scalar(ScalarValue::I64(v))
+    }
+
+    #[inline(always)]
+    fn u64(&mut self, v: u64) -> Result<(), Fault> {
+        self.not_flat()?;
+        if self.at_key {
+            return self.printed(&v);
+        }
+        self.scalar(ScalarValue::U64(v))
+    }
+
+    fn i128(&mut self, v: i128) -> Result<(), Fault> {
+        self.not_flat()?;
+        if self.at_key {
+            return self.printed(&v);
+        }
+        self.scalar(ScalarValue::I128(v))
+    }
+
+    fn u128(&mut self, v: u128) -> Result<(), Fault> {
+        self.not_flat()?;
+        if self.at_key {
+            return self.printed(&v);
+        }
+        self.scalar(ScalarValue::U128(v))
+    }
+
+    fn f32(&mut self, v: f32) -> Result<(), Fault> {
+        self.not_flat()?;
+        if !v.is_finite() {
+            return self.unit();
+        }
+        self.number(ryu::Buffer::new().format_finite(v))
+    }
+
+    #[inline(always)]
+    fn f64(&mut self, v: f64) -> Result<(), Fault> {
+        self.not_flat()?;
+        if !v.is_finite() {
+            return self.unit();
+        }
+        self.number(ryu::Buffer::new().format_finite(v))
+    }
+
+    fn char(&mut self, v: char) -> Result<(), Fault> {
+        self.not_flat()?;
+        if self.at_key {
+            return self.printed(&v);
+        }
+        self.scalar(ScalarValue::Char(v))
+    }
+
+    #[inline(always)]
+    fn str(&mut self, v: &str) -> Result<(), Fault> {
+        self.not_flat()?;
+        self.text(v, self.at_key)
+    }
+
+    fn bytes(&mut self, v: &[u8]) -> Result<(), Fault> {
+        self.not_flat()?;
+        self.no_key()?;
+        self.scalar(ScalarValue::Bytes(v))
+    }
+
+    #[inline(always)]
+    fn unit(&mut self) -> Result<(), Fault> {
+        self.no_key()?;
+        if self.flattens {
+            self.flattens = false;
+            return Ok(());
+        }
+        self.scalar(ScalarValue::Null)
+    }
+
+    fn str_cased(&mut self, name: &str, case: Case) -> Result<(), Fault> {
+        self.not_flat()?;
+        self.name(name, case, NameKind::Variant, self.at_key)
+    }
+
+    #[inline(always)]
+    fn begin_seq(&mut self, _len: Option<usize>) -> Result<(), Fault> {
+        self.not_flat()?;
+        self.no_key()?;
+        let answer = self.value.begin_list();
+        self.settle(answer)
+    }
+
+    #[inline(always)]
+    fn end_seq(&mut self) -> Result<(), Fault> {
+        let answer = self.value.end_list();
+        self.settle(answer)
+    }
+
+    #[inline(always)]
+    fn begin_map(&mut self, _len: Option<usize>) -> Result<(), Fault> {
+        self.no_key()?;
+        let level = self.depth;
+        self.depth = level.saturating_add(1);
+        if self.flattens {
+            self.flattens = false;
+            return match self.flat.push(level) {
+                Ok(()) => Ok(()),
+                Err(_) => Err(self.fail(Fault::of(FaultKind::Memory))),
+            };
+        }
+        let answer = self.value.begin_struct();
+        self.settle(answer)
+    }
+
+    #[inline(always)]
+    fn end_map(&mut self) -> Result<(), Fault> {
+        self.depth = self.depth.saturating_sub(1);
+        if self.flat.last() == Some(&self.depth) {
+            self.flat.pop();
+            return Ok(());
+        }
+        let answer = self.value.end_struct();
+        self.settle(answer)
+    }
+
+    #[inline(always)]
+    fn key_cased(&mut self, name: &str, case: Case) -> Result<(), Fault> {
+        self.name(name, case, NameKind::Field, true)
+    }
+
+    fn variant_key(&mut self, name: &str, case: Case) -> Result<(), Fault> {
+        self.name(name, case, NameKind::Variant, true)
+    }
+
+    fn begin_key(&mut self) -> Result<(), Fault> {
+        self.at_key = true;
+        Ok(())
+    }
+
+    fn end_key(&mut self) -> Result<(), Fault> {
+        self.at_key = false;
+        Ok(())
+    }
+
+    fn flatten_next(&mut self) -> Result<(), Fault> {
+        self.flattens = true;
+        Ok(())
+    }
+
+    fn collect_str<T: fmt::Display>(&mut self, value: &T) -> Result<(), Fault> {
+        self.not_flat()?;
+        self.printed(value)
+    }
+
+    fn custom(&self, message: &str) -> Fault {
+        Fault::of(FaultKind::Custom).about(message)
+    }
+}

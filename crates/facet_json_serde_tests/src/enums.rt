@@ -1,0 +1,130 @@
+//! The four forms of enum, and a broken text within each: it is told as the parser does, also after a rewind.
+
+use crate::again::again;
+use serde::{Deserialize, Serialize};
+use std::test::Fail;
+
+#[derive(Debug, Drop, PartialEq, Serialize, Deserialize)]
+enum Shape {
+    Unknown,
+    Sphere(f32),
+    Box { wide: i16, high: i16 },
+    Pair(u8, char),
+}
+
+#[derive(Debug, Drop, PartialEq, Serialize, Deserialize)]
+#[serde(tag = "kind", rename_all = "snake_case")]
+enum Command {
+    MoveTo { x: i32, y: i32 },
+    Stop,
+}
+
+#[derive(Debug, Drop, PartialEq, Serialize, Deserialize)]
+#[serde(tag = "t", content = "c")]
+enum Adjacent {
+    One(u8),
+    Two(u8, u8),
+    Nothing,
+}
+
+#[derive(Debug, Drop, PartialEq, Serialize, Deserialize)]
+#[serde(untagged)]
+enum Any {
+    Number(f64),
+    Text(String),
+    List(Vec<u8>),
+    Map { a: u8 },
+}
+
+/// By the variant's name: a text without data, else a map of one member.
+const SHAPES: [(&str, &str); 4] = [
+    (
+        r#"["Unknown",{"Sphere":1.5},{"Box":{"wide":1,"high":-2}},{"Pair":[7,"c"]}]"#,
+        r#"["Unknown",{"Sphere":1.5},{"Box":{"wide":1,"high":-2}},{"Pair":[7,"c"]}]"#,
+    ),
+    (
+        r#"["Other"]"#,
+        "unknown variant at line 1, column 2\n[\"Other\"]\n ^^^^^^^",
+    ),
+    (
+        r#"[{"Sphere":1e39}]"#,
+        "number out of range for f32 at line 1, column 12\n[{\"Sphere\":1e39}]\n           ^^^^",
+    ),
+    (
+        r#"[{"Sphere":x}]"#,
+        "unexpected character 'x', expected valid JSON token at line 1, column 12\n[{\"Sphere\":x}]\n           ^",
+    ),
+];
+
+/// By a member of its own, which may stand anywhere.
+const COMMANDS: [(&str, &str); 4] = [
+    (
+        r#"[{"kind":"move_to","x":1,"y":-2},{"kind":"stop"}]"#,
+        r#"[{"kind":"move_to","x":1,"y":-2},{"kind":"stop"}]"#,
+    ),
+    (
+        r#"[{"x":1,"skipped":[{"a":1}],"kind":"move_to","y":-2}]"#,
+        r#"[{"kind":"move_to","x":1,"y":-2}]"#,
+    ),
+    (
+        r#"[{"x":1,"y":2}]"#,
+        "missing required field `kind` at line 1, column 14\n[{\"x\":1,\"y\":2}]\n             ^",
+    ),
+    (
+        r#"[{"x":1,"kind" "stop"}]"#,
+        "unexpected token: got String, expected ':' at line 1, column 16\n[{\"x\":1,\"kind\" \"stop\"}]\n               ^^^^^^",
+    ),
+];
+
+/// By a member, beside one of the data.
+const ADJACENT: [(&str, &str); 3] = [
+    (
+        r#"[{"t":"One","c":1},{"t":"Two","c":[1,2]},{"t":"Nothing"}]"#,
+        r#"[{"t":"One","c":1},{"t":"Two","c":[1,2]},{"t":"Nothing"}]"#,
+    ),
+    (r#"[{"c":[1,2],"t":"Two"}]"#, r#"[{"t":"Two","c":[1,2]}]"#),
+    (
+        "[{\"c\":[1,\n2}]",
+        "unexpected token: got '}', expected ']' at line 2, column 2\n2}]\n ^",
+    ),
+];
+
+/// By the first variant that fits.
+const UNTAGGED: [(&str, &str); 3] = [
+    (
+        r#"[1.5,"a",[1,2],{"a":1},"\u00e9",7]"#,
+        "[1.5,\"a\",[1,2],{\"a\":1},\"\u{e9}\",7.0]",
+    ),
+    (
+        r#"[[1,2,"x"]]"#,
+        "invalid value at line 1, column 2\n[[1,2,\"x\"]]\n ^",
+    ),
+    (
+        "[[1,\n tru]]",
+        "unexpected character ']', expected valid JSON token at line 2, column 5\n tru]]\n    ^",
+    ),
+];
+
+#[test]
+fn enums_are_read_and_written(rt: HostRuntime) -> Result<(), Fail> {
+    let alloc = rt.alloc();
+    for (input, expected) in SHAPES {
+        assert_eq!(rt; again::<Vec<Shape>>(alloc, input)?.as_str(), expected);
+    }
+    for (input, expected) in COMMANDS {
+        assert_eq!(rt; again::<Vec<Command>>(alloc, input)?.as_str(), expected);
+    }
+    Ok(())
+}
+
+#[test]
+fn enums_with_data_apart_are_read_and_written(rt: HostRuntime) -> Result<(), Fail> {
+    let alloc = rt.alloc();
+    for (input, expected) in ADJACENT {
+        assert_eq!(rt; again::<Vec<Adjacent>>(alloc, input)?.as_str(), expected);
+    }
+    for (input, expected) in UNTAGGED {
+        assert_eq!(rt; again::<Vec<Any>>(alloc, input)?.as_str(), expected);
+    }
+    Ok(())
+}
