@@ -1,5 +1,6 @@
 -- What a serializer of one value knows of the value that is begun.
 use Rattle.std.specs.Prelude.{◌≡◌, ◌<◌, ◌^◌, nat_lt, ◌⊎◌, ℕ, Bool, true, false, List, [], ◌∷◌, ◌++◌, Option, Some, None, ⊤}
+use Rattle.std.specs.Io.KnownBytes.{Appends}
 use Rattle.std.specs.Char.{IsScalar}
 use Rattle.std.specs.List.{list_all}
 use Rattle.std.specs.Str.{is_utf8}
@@ -87,3 +88,7 @@ IsTree (event.bytes b) = list_all (λ x. nat_lt x 0x100) b ≡ true
 -- grammar as this library reads it, whose tree is what the tree reads as.
 abbrev pub IsTextOfTree : Options → List ℕ → Type 0
 IsTextOfTree o bytes = ∥ ((t : Tree) × (bytes ≡ text o 0 t) × (IsBlankIndent o → IsReadBack o t bytes)) ∥₁
+
+-- Such bytes were appended to what a writer has, as far as it is known.
+abbrev pub WritesTree : Options → Option (List ℕ) → Option (List ℕ) → Type 0
+WritesTree o old new = (bytes : List ℕ) × IsTextOfTree o bytes × Appends old new bytes

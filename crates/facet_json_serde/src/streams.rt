@@ -1,10 +1,9 @@
 //! Values from a reader of bytes, and their text to a writer.
 
-ghost use Rattle.std.specs.Prelude.{List, ℕ, length, IfErr, OnOk};
-ghost use Rattle.std.specs.Io.KnownBytes.{Appends};
+ghost use Rattle.std.specs.Prelude.{length, IfErr, OnOk};
 ghost use Rattle.facet_json_document.specs.Text.{default_options};
 ghost use Rattle.facet_json_serializer.specs.OptionsViews.{options_of};
-ghost use Rattle.facet_json_serde.specs.OneValue.{IsTextOfTree};
+ghost use Rattle.facet_json_serde.specs.OneValue.{WritesTree};
 ghost use Rattle.facet_json_serde.specs.Within.{LiesWithin};
 
 use crate::error::Error;
@@ -106,8 +105,7 @@ pub fn to_writer<'t, W: Write, T: Serialize>(
     writer: &mut W,
     value: &T,
 ) -> Result<(), StreamError<'t>>
-    ensures { OnOk result ∥ (bytes : List ℕ) × IsTextOfTree default_options bytes
-        × Appends (W.contents writer.old) (W.contents writer.new) bytes ∥₁ }
+    ensures { OnOk result (WritesTree default_options (W.contents writer.old) (W.contents writer.new)) }
 {
     to_writer_with_options(alloc, writer, value, &SerializeOptions::new())
 }
@@ -123,8 +121,7 @@ pub fn to_writer_with_options<'t, W: Write, T: Serialize>(
     value: &T,
     options: &SerializeOptions<'_>,
 ) -> Result<(), StreamError<'t>>
-    ensures { OnOk result ∥ (bytes : List ℕ) × IsTextOfTree (options_of options.now) bytes
-        × Appends (W.contents writer.old) (W.contents writer.new) bytes ∥₁ }
+    ensures { OnOk result (WritesTree (options_of options.now) (W.contents writer.old) (W.contents writer.new)) }
 {
     let text = to_vec_with_options(alloc, value, options)?;
     writer.write_all(text.as_slice())?;
