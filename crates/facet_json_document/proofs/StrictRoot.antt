@@ -9,7 +9,7 @@ use Rattle.facet_json_token.specs.Token as token
 use Rattle.facet_json_token.specs.Tokens.{Tokens, ended, refused, next}
 use Rattle.facet_json_token.specs.TokenList.{tokens}
 use Rattle.facet_json_document.specs.Document.{IsDocument}
-use Rattle.facet_json_document.specs.Future.{Future, gives, finished, stuck, events_before, Stage, within, over, after_value, around, behind_root, stage_after, is_meaningless, turn, reads, reads_by, reads_colon, reads_colon_by}
+use Rattle.facet_json_document.specs.Future.{Future, gives, finished, stuck, events_before, Stage, within, over, after_value, around, behind_root, stage_after, is_meaningless, reads, reads_by, reads_colon, reads_colon_by}
 use Rattle.facet_json_document.specs.Language.{strict, lenient_rules, strict_rules}
 use Rattle.facet_json_document.specs.Node.{Node, Spells}
 use Rattle.facet_json_document.specs.Place.{Place, root, before_key, after_key, after_colon, after_member, before_item, after_item, next_key, next_item, after_root, Turn, stops, passes, says, says_scalar, names, place_turn, leads_on, goes_on, led}

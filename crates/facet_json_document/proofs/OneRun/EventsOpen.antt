@@ -1,20 +1,19 @@
 -- After an event that comes those brackets are open that the tokens up to its end leave open.
-use Rattle.std.proofs.Common.{◌≡◌, ℕ, Bool, true, false, List, Some, refl, sym, ap, ◌∙◌, subst}
+use Rattle.std.proofs.Common.{◌≡◌, ℕ, Bool, true, false, List, Some, refl, sym, ◌∙◌, subst}
 use Rattle.facet_format.specs.Event.{ContainerKind, object, Passed}
 use Rattle.facet_format.specs.Span.{stop}
 use Rattle.facet_json_token.specs.Token.{Token}
 use Rattle.facet_json_token.specs.Tokens.{Tokens, ended, refused, next}
 use Rattle.facet_json_token.specs.TokenList.{tokens, tokens_from}
-use Rattle.facet_json_token.proofs.TokensSteps.{tokens_from-others}
 use Rattle.facet_json_document.specs.Future.{Future, gives, Stage, within, over, stack_after, stage_after, is_meaningless, turn, reads_by, reads_colon_by}
 use Rattle.facet_json_document.specs.Reader.{Reader, past, future_at}
-use Rattle.facet_json_document.specs.Language.{Language, lenient, strict, gaps, rules}
+use Rattle.facet_json_document.specs.Language.{Language, gaps, rules}
 use Rattle.facet_json_document.specs.Place.{Place, after_key, Turn, stops, passes, says, says_scalar, names, goes_on, led}
 use Rattle.facet_json_document.specs.StrictTokens.{tokens_in}
 use Rattle.facet_json_document.specs.Walk.{event_at, scalar_event, key_event}
 use Rattle.facet_json_document.proofs.Parts.BracketsOnWalk.{a_colon}
 use Rattle.facet_json_document.proofs.PastEvents.{nothing-behind}
-use Rattle.facet_json_document.proofs.TokensIn.{plain-first, strict-begins, tokens_in-others}
+use Rattle.facet_json_document.proofs.TokensIn.{plain-first, tokens_in-others}
 use Rattle.facet_json_document.proofs.WalkComes.{follows, reads-turn, colon-ended, colon-refused, colon-missing, colon-stands}
 use Rattle.facet_json_document.proofs.OneRun.OpenBrackets.{Opens, container_of, innermost, StageOpen, StandsOpen, separator-passed}
 use Rattle.facet_json_document.proofs.OneRun.BracketTurns.{TurnsTo, turns, sensible-turns, says-open, separator-open, scalar-open, key-open}

@@ -11,7 +11,7 @@ use Rattle.facet_format.specs.NumberParts.{parts}
 use Rattle.facet_json_token.specs.Cut.{start_of, cut_here, cut}
 use Rattle.facet_format.specs.Span.{span_at}
 use Rattle.facet_json_token.specs.Tokens.{Tokens}
-use Rattle.facet_json_token.specs.TokenList.{tokens_past, tokens}
+use Rattle.facet_json_token.specs.TokenList.{tokens_past}
 use Rattle.facet_json_token.specs.Tokens as tokens
 use Rattle.facet_json_token.specs.Token as token
 use Rattle.facet_json_token.specs.Decode.{short_escape, code_unit}

@@ -10,7 +10,7 @@ use Rattle.std.proofs.lemmas.Str.Parse.{IsNumeralModel, tells_digits, numerals_b
 use Rattle.facet_format.specs.Bytes.{minus, is_digit}
 use Rattle.facet_format.specs.Number.{unsigned, signed, float, AreDigits, IsMinus, IsFraction, IsExponent, IsNumber}
 use Rattle.facet_format.specs.NumberValue.{Number, digits_value, unsigned_number, negative_number, number}
-use Rattle.facet_format.specs.NumberParts.{parts, minus_len}
+use Rattle.facet_format.specs.NumberParts.{parts}
 use Rattle.facet_format.specs.NumberValue as numbers
 use Rattle.facet_format.proofs.NumberLaws.{is_number-complete}
 use Rattle.facet_format.proofs.NumberText.{number-unsigned, number-signed}
