@@ -1,3 +1,4 @@
+mod DecimalLengths
 mod Escapes
 mod Places
 mod PlainTexts

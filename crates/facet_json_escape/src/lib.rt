@@ -2,9 +2,12 @@
 //! time, and copied in runs.
 #![tactic(auto)]
 
+mod digits;
 mod place;
 mod plain;
 mod quote;
+mod sink;
 mod window;
 
 pub use quote::{hex_digit, push_framed, push_quoted};
+pub use sink::Sink;

@@ -1,6 +1,7 @@
 //! Writing bytes at a place of a buffer that has room. A short text is two copies of a fixed size that overlap.
 
-ghost use Rattle.std.specs.Prelude.{◌≡◌, ◌+◌, ◌<◌, ◌≤◌, [], ◌∷◌, length, take, cond};
+ghost use Rattle.std.specs.Prelude.{◌≡◌, ◌+◌, ◌<◌, ◌≤◌, [], ◌∷◌, ◌++◌, length, take, cond};
+ghost use Rattle.facet_format.specs.Bytes.{comma, colon, quote};
 ghost use Rattle.facet_json_escape.specs.Inner.Places.{Placed};
 
 use std::simd::Simd;
@@ -58,4 +59,36 @@ pub(crate) fn place_short(buffer: &mut [u8], at: usize, text: &[u8]) -> usize
     } else {
         at
     }
+}
+
+/// Writes bytes of any number.
+#[inline(always)]
+pub(crate) fn place_run(buffer: &mut [u8], at: usize, run: &[u8]) -> usize
+    requires { at + length run.now ≤ length buffer.old }
+    ensures { Placed buffer.old buffer.new at run.now result }
+{
+    let end = at + run.len();
+    buffer[at..end].copy_from_slice(run);
+    end
+}
+
+/// Writes a text of up to 32 bytes as it stands, between quotes, at a place of a buffer.
+#[inline(always)]
+pub(crate) fn place_framed(
+    buffer: &mut [u8],
+    at: usize,
+    after_comma: bool,
+    text: &[u8],
+    before_colon: bool,
+) -> usize
+    requires short { length text.now ≤ 32 }
+    requires fits { at + 36 ≤ length buffer.old }
+    ensures { Placed buffer.old buffer.new at
+        (cond after_comma (comma ∷ []) [] ++ (quote ∷ text.now ++ quote ∷ [] ++ cond before_colon (colon ∷ []) [])) result }
+{
+    let at = place_byte(buffer, at, b',', after_comma);
+    let at = place_byte(buffer, at, b'"', true);
+    let at = place_short(buffer, at, text);
+    let at = place_byte(buffer, at, b'"', true);
+    place_byte(buffer, at, b':', before_colon)
 }

@@ -4,12 +4,11 @@ ghost use Rattle.std.specs.Prelude.{◌≡◌, ◌+◌, ◌≤◌, [], ◌∷◌
 ghost use Rattle.std.specs.List.{flat_map};
 ghost use Rattle.facet_format.specs.Bytes.{comma, colon, quote};
 ghost use Rattle.facet_json_document.specs.Quoted.{escaped, quoted, hex_byte};
-ghost use Rattle.facet_json_escape.specs.Inner.Places.{Placed};
 ghost use Rattle.facet_json_document.specs.Quoted as spelled;
 ghost use Rattle.facet_json_escape.specs.Inner.Window as window;
 
-use crate::place::{place_byte, place_short};
 use crate::plain::plain_short;
+use crate::sink::Sink;
 use crate::window::verbatim_end;
 use std::alloc::AllocError;
 
@@ -24,8 +23,8 @@ use std::alloc::AllocError;
 /// # Errors
 ///
 /// `AllocError` alone, where an allocation for `out` fails: `out` may then end in a part of the text.
-pub fn push_quoted(out: &mut Vec<u8>, text: &str) -> Result<(), AllocError>
-    ensures { OnOk result (out.new.items ≡ out.old.items ++ quoted text.now) }
+pub fn push_quoted(out: &mut Sink, text: &str) -> Result<(), AllocError>
+    ensures { OnOk result (out.new ≡ out.old ++ quoted text.now) }
 {
     push_framed(out, false, text, false)
 }
@@ -43,75 +42,30 @@ pub fn push_quoted(out: &mut Vec<u8>, text: &str) -> Result<(), AllocError>
 /// `AllocError` alone, where an allocation for `out` fails: `out` may then end in a part of this.
 #[inline(never)]
 pub fn push_framed(
-    out: &mut Vec<u8>,
+    out: &mut Sink,
     after_comma: bool,
     text: &str,
     before_colon: bool,
 ) -> Result<(), AllocError>
-    ensures { OnOk result (out.new.items ≡ out.old.items
+    ensures { OnOk result (out.new ≡ out.old
         ++ (cond after_comma (comma ∷ []) [] ++ (quoted text.now ++ cond before_colon (colon ∷ []) []))) }
 {
     let bytes = text.as_bytes();
-    // Where room is there nothing grows, and so no register is saved for a call.
-    let has_room = out.capacity() - out.len() >= ROOM.len();
-    if has_room && bytes.len() <= 32 && plain_short(bytes) {
-        return push_short(out, after_comma, bytes, before_colon);
+    if bytes.len() <= 32 && plain_short(bytes) {
+        return out.push_short(after_comma, bytes, before_colon);
     }
     push_long(out, after_comma, bytes, before_colon)
-}
-
-/// Room for a short text, two quotes, a comma and a colon.
-static ROOM: [u8; 36] = [0; 36];
-
-/// The same of a text of up to 32 bytes as it stands, written in room that is appended for it.
-#[inline(always)]
-fn push_short(
-    out: &mut Vec<u8>,
-    after_comma: bool,
-    text: &[u8],
-    before_colon: bool,
-) -> Result<(), AllocError>
-    requires { length text.now ≤ 32 }
-    ensures { OnOk result (out.new.items ≡ out.old.items
-        ++ (cond after_comma (comma ∷ []) [] ++ (quote ∷ text.now ++ quote ∷ [] ++ cond before_colon (colon ∷ []) []))) }
-{
-    let start = out.len();
-    out.extend_from_slice(&ROOM)?;
-    let end = place_framed(out.as_mut_slice(), start, after_comma, text, before_colon);
-    out.truncate(end);
-    Ok(())
-}
-
-/// Writes a text of up to 32 bytes as it stands, between quotes, at a place of a buffer.
-#[inline(always)]
-fn place_framed(
-    buffer: &mut [u8],
-    at: usize,
-    after_comma: bool,
-    text: &[u8],
-    before_colon: bool,
-) -> usize
-    requires short { length text.now ≤ 32 }
-    requires fits { at + 36 ≤ length buffer.old }
-    ensures { Placed buffer.old buffer.new at
-        (cond after_comma (comma ∷ []) [] ++ (quote ∷ text.now ++ quote ∷ [] ++ cond before_colon (colon ∷ []) [])) result }
-{
-    let at = place_byte(buffer, at, b',', after_comma);
-    let at = place_byte(buffer, at, b'"', true);
-    let at = place_short(buffer, at, text);
-    let at = place_byte(buffer, at, b'"', true);
-    place_byte(buffer, at, b':', before_colon)
 }
 
 /// The same of any text, piece by piece.
 #[inline(never)]
 fn push_long(
-    out: &mut Vec<u8>,
+    out: &mut Sink,
     after_comma: bool,
     text: &[u8],
     before_colon: bool,
 ) -> Result<(), AllocError>
-    ensures { OnOk result (out.new.items ≡ out.old.items
+    ensures { OnOk result (out.new ≡ out.old
         ++ (cond after_comma (comma ∷ []) [] ++ (quoted text.now ++ cond before_colon (colon ∷ []) []))) }
 {
     if after_comma {
@@ -130,8 +84,8 @@ fn push_long(
 /// windows while the text has one more, and the last bytes, fewer than a window, go one by one.
 ///
 /// Windows needn't begin at a character: each byte of a character above U+007F stands for itself.
-fn push_content(out: &mut Vec<u8>, bytes: &[u8]) -> Result<(), AllocError>
-    ensures { OnOk result (out.new.items ≡ out.old.items ++ flat_map escaped bytes.now) }
+fn push_content(out: &mut Sink, bytes: &[u8]) -> Result<(), AllocError>
+    ensures { OnOk result (out.new ≡ out.old ++ flat_map escaped bytes.now) }
 {
     let mut at = 0;
     while bytes.len() - at >= 16 {
@@ -148,8 +102,8 @@ fn push_content(out: &mut Vec<u8>, bytes: &[u8]) -> Result<(), AllocError>
 
 /// The same, byte by byte.
 #[inline(always)]
-fn push_content_bytewise(out: &mut Vec<u8>, bytes: &[u8]) -> Result<(), AllocError>
-    ensures { OnOk result (out.new.items ≡ out.old.items ++ flat_map escaped bytes.now) }
+fn push_content_bytewise(out: &mut Sink, bytes: &[u8]) -> Result<(), AllocError>
+    ensures { OnOk result (out.new ≡ out.old ++ flat_map escaped bytes.now) }
 {
     let mut start = 0;
     for (i, byte) in bytes.iter().enumerate() {
@@ -164,8 +118,8 @@ fn push_content_bytewise(out: &mut Vec<u8>, bytes: &[u8]) -> Result<(), AllocErr
 
 /// Appends bytes as they stand. Where escapes follow one another there are none between them, and no call is spent on that.
 #[inline(always)]
-fn push_run(out: &mut Vec<u8>, run: &[u8]) -> Result<(), AllocError>
-    ensures { OnOk result (out.new.items ≡ out.old.items ++ run.now) }
+fn push_run(out: &mut Sink, run: &[u8]) -> Result<(), AllocError>
+    ensures { OnOk result (out.new ≡ out.old ++ run.now) }
 {
     if run.is_empty() {
         return Ok(());
@@ -184,8 +138,8 @@ pub(crate) fn needs_escape(byte: u8) -> bool
 /// Appends what stands between the quotes for one byte of a text in UTF-8 (RFC 8259, section 7): an escape of an ASCII character, or
 /// the byte.
 #[tactic(auto, using(crate::proofs::Escapes::long_escape), unfolding(facet_json_document::specs::Quoted::escaped))]
-pub(crate) fn push_escaped(out: &mut Vec<u8>, byte: u8) -> Result<(), AllocError>
-    ensures { OnOk result (out.new.items ≡ out.old.items ++ escaped byte) }
+pub(crate) fn push_escaped(out: &mut Sink, byte: u8) -> Result<(), AllocError>
+    ensures { OnOk result (out.new ≡ out.old ++ escaped byte) }
 {
     match byte {
         b'"' => out.extend_from_slice(b"\\\""),

@@ -28,7 +28,7 @@ call_of (call.Bytes bytes) = byte_sequence bytes.now
 
 -- a serializer that has not run out of memory
 abbrev pub writing_of : RustWriting → Writing
-writing_of w = record { options = options_of w.options; stack = w.stack; written = w.out.items }
+writing_of w = record { options = options_of w.options; stack = w.stack; written = w.out }
 
 -- what a call answers
 abbrev pub call_answer_of : Result (Unit {0}) JsonSerializeError → Result (Unit {0}) WriteRefusal

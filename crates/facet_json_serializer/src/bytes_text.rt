@@ -6,18 +6,18 @@ ghost use Rattle.facet_json_document.specs.Quoted.{hex_byte};
 ghost use Rattle.facet_json_document.specs.Text.{bytes_text, numbers, shortened, hex};
 ghost use Rattle.facet_json_serializer.specs.OptionsViews.{bytes_format_of};
 
-use crate::digits::{push_bytes, push_number};
+use crate::append::{push_bytes, push_number};
 use crate::options::{BytesFormat, HexBytesOptions, push_separator};
-use facet_json_escape::hex_digit;
+use facet_json_escape::{Sink, hex_digit};
 use std::alloc::AllocError;
 
 /// Appends bytes in this format.
 pub(crate) fn push_bytes_text(
-    out: &mut Vec<u8>,
+    out: &mut Sink,
     format: BytesFormat,
     bytes: &[u8],
 ) -> Result<(), AllocError>
-    ensures { OnOk result (out.new.items ≡ out.old.items ++ bytes_text (bytes_format_of format) bytes.now) }
+    ensures { OnOk result (out.new ≡ out.old ++ bytes_text (bytes_format_of format) bytes.now) }
 {
     match format {
         BytesFormat::Array => {
@@ -34,8 +34,8 @@ pub(crate) fn push_bytes_text(
 }
 
 /// Appends the bytes as numbers, a comma between them.
-fn push_numbers(out: &mut Vec<u8>, bytes: &[u8]) -> Result<(), AllocError>
-    ensures { OnOk result (out.new.items ≡ out.old.items ++ numbers bytes.now) }
+fn push_numbers(out: &mut Sink, bytes: &[u8]) -> Result<(), AllocError>
+    ensures { OnOk result (out.new ≡ out.old ++ numbers bytes.now) }
 {
     let mut first = true;
     for byte in bytes {
@@ -47,9 +47,9 @@ fn push_numbers(out: &mut Vec<u8>, bytes: &[u8]) -> Result<(), AllocError>
 }
 
 /// Appends the hexadecimal text of the bytes.
-fn push_hex(out: &mut Vec<u8>, options: HexBytesOptions, bytes: &[u8]) -> Result<(), AllocError>
-    ensures { OnOk result (out.new.items
-        ≡ out.old.items ++ hex bytes.now options.truncate_above options.head options.tail) }
+fn push_hex(out: &mut Sink, options: HexBytesOptions, bytes: &[u8]) -> Result<(), AllocError>
+    ensures { OnOk result (out.new
+        ≡ out.old ++ hex bytes.now options.truncate_above options.head options.tail) }
 {
     match options.truncate_above {
         Some(limit) if bytes.len() > limit => {
@@ -60,13 +60,8 @@ fn push_hex(out: &mut Vec<u8>, options: HexBytesOptions, bytes: &[u8]) -> Result
 }
 
 /// Appends the digits of the first bytes, how many are left out, and the digits of the last.
-fn push_shortened(
-    out: &mut Vec<u8>,
-    bytes: &[u8],
-    head: usize,
-    tail: usize,
-) -> Result<(), AllocError>
-    ensures { OnOk result (out.new.items ≡ out.old.items ++ shortened bytes.now head tail) }
+fn push_shortened(out: &mut Sink, bytes: &[u8], head: usize, tail: usize) -> Result<(), AllocError>
+    ensures { OnOk result (out.new ≡ out.old ++ shortened bytes.now head tail) }
 {
     let front = head.min(bytes.len());
     let back = tail.min(bytes.len() - front);
@@ -79,8 +74,8 @@ fn push_shortened(
 }
 
 /// Appends two hexadecimal digits a byte.
-fn push_digits(out: &mut Vec<u8>, bytes: &[u8]) -> Result<(), AllocError>
-    ensures { OnOk result (out.new.items ≡ out.old.items ++ flat_map hex_byte bytes.now) }
+fn push_digits(out: &mut Sink, bytes: &[u8]) -> Result<(), AllocError>
+    ensures { OnOk result (out.new ≡ out.old ++ flat_map hex_byte bytes.now) }
 {
     for byte in bytes {
         push_bytes(out, &[hex_digit(*byte / 16), hex_digit(*byte % 16)])?;

@@ -2,8 +2,8 @@
 //! is refused (`JsonSerializeError`). The texts themselves are defined in `facet_json_document`.
 #![tactic(auto)]
 
+mod append;
 mod bytes_text;
-mod digits;
 mod error;
 pub mod laws;
 mod options;

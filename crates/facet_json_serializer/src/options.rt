@@ -6,8 +6,8 @@ ghost use Rattle.facet_json_serializer.specs.OptionsViews.{bytes_format_of, opti
 ghost use Rattle.facet_format.specs.Bytes.{line_feed};
 ghost use Rattle.facet_json_document.specs.Quoted.{quoted};
 
-use crate::digits::push_bytes;
-use facet_json_escape::{push_framed, push_quoted};
+use crate::append::push_bytes;
+use facet_json_escape::{Sink, push_framed, push_quoted};
 use std::alloc::AllocError;
 
 /// Hexadecimal text of bytes, of which only some at either end stand where there are more than a limit.
@@ -167,11 +167,11 @@ impl<'i> Default for SerializeOptions<'i> {
 /// A new line, and the indent once for each open container, where the text is indented.
 #[inline(always)]
 pub(crate) fn push_line(
-    out: &mut Vec<u8>,
+    out: &mut Sink,
     options: &SerializeOptions<'_>,
     depth: usize,
 ) -> Result<(), AllocError>
-    ensures { OnOk result (out.new.items ≡ out.old.items ++ new_line (options_of options.now) depth) }
+    ensures { OnOk result (out.new ≡ out.old ++ new_line (options_of options.now) depth) }
 {
     if !options.pretty {
         return Ok(());
@@ -180,8 +180,8 @@ pub(crate) fn push_line(
 }
 
 /// A new line, and the indent once for each open container.
-fn push_indented_line(out: &mut Vec<u8>, indent: &str, depth: usize) -> Result<(), AllocError>
-    ensures { OnOk result (out.new.items ≡ out.old.items ++ line_feed ∷ indents depth indent.now) }
+fn push_indented_line(out: &mut Sink, indent: &str, depth: usize) -> Result<(), AllocError>
+    ensures { OnOk result (out.new ≡ out.old ++ line_feed ∷ indents depth indent.now) }
 {
     let indent = indent.as_bytes();
     out.push(b'\n')?;
@@ -193,8 +193,8 @@ fn push_indented_line(out: &mut Vec<u8>, indent: &str, depth: usize) -> Result<(
 
 /// Nothing before the first, a comma before each other.
 #[inline(always)]
-pub(crate) fn push_separator(out: &mut Vec<u8>, first: bool) -> Result<(), AllocError>
-    ensures { OnOk result (out.new.items ≡ out.old.items ++ separator first) }
+pub(crate) fn push_separator(out: &mut Sink, first: bool) -> Result<(), AllocError>
+    ensures { OnOk result (out.new ≡ out.old ++ separator first) }
 {
     if first {
         return Ok(());
@@ -205,12 +205,12 @@ pub(crate) fn push_separator(out: &mut Vec<u8>, first: bool) -> Result<(), Alloc
 
 /// What stands before a closing bracket: a new line where the container is not empty.
 pub(crate) fn push_line_at_end(
-    out: &mut Vec<u8>,
+    out: &mut Sink,
     options: &SerializeOptions<'_>,
     depth: usize,
     first: bool,
 ) -> Result<(), AllocError>
-    ensures { OnOk result (out.new.items ≡ out.old.items ++ line_at_end (options_of options.now) depth first) }
+    ensures { OnOk result (out.new ≡ out.old ++ line_at_end (options_of options.now) depth first) }
 {
     if first {
         return Ok(());
@@ -221,13 +221,13 @@ pub(crate) fn push_line_at_end(
 /// A key, with what stands before it and after it.
 #[inline(always)]
 pub(crate) fn push_key(
-    out: &mut Vec<u8>,
+    out: &mut Sink,
     options: &SerializeOptions<'_>,
     depth: usize,
     first: bool,
     key: &str,
 ) -> Result<(), AllocError>
-    ensures { OnOk result (out.new.items ≡ out.old.items
+    ensures { OnOk result (out.new ≡ out.old
         ++ (separator first ++ new_line (options_of options.now) depth ++ quoted key.now ++ colon_text (options_of options.now))) }
 {
     if options.pretty {
@@ -239,13 +239,13 @@ pub(crate) fn push_key(
 /// The same in any layout, piece by piece.
 #[inline(never)]
 fn push_indented_key(
-    out: &mut Vec<u8>,
+    out: &mut Sink,
     options: &SerializeOptions<'_>,
     depth: usize,
     first: bool,
     key: &str,
 ) -> Result<(), AllocError>
-    ensures { OnOk result (out.new.items ≡ out.old.items
+    ensures { OnOk result (out.new ≡ out.old
         ++ (separator first ++ new_line (options_of options.now) depth ++ quoted key.now ++ colon_text (options_of options.now))) }
 {
     push_separator(out, first)?;
@@ -255,8 +255,8 @@ fn push_indented_key(
 }
 
 /// What stands between a key and its value.
-fn push_colon(out: &mut Vec<u8>, options: &SerializeOptions<'_>) -> Result<(), AllocError>
-    ensures { OnOk result (out.new.items ≡ out.old.items ++ colon_text (options_of options.now)) }
+fn push_colon(out: &mut Sink, options: &SerializeOptions<'_>) -> Result<(), AllocError>
+    ensures { OnOk result (out.new ≡ out.old ++ colon_text (options_of options.now)) }
 {
     if options.pretty {
         push_bytes(out, b": ")

@@ -8,22 +8,22 @@ ghost use Rattle.facet_json_document.specs.Text.{bool_text};
 ghost use Rattle.facet_json_serializer.specs.Serializer.{scalar_text};
 ghost use Rattle.facet_json_serializer.specs.OptionsViews.{options_of};
 
+use crate::append::{push_bytes, push_number};
 use crate::bytes_text::push_bytes_text;
-use crate::digits::{push_bytes, push_number};
 use crate::options::SerializeOptions;
 use facet_format::ScalarValue;
-use facet_json_escape::push_quoted;
+use facet_json_escape::{Sink, push_quoted};
 use std::alloc::AllocError;
 
 /// Appends the text of a value.
 #[tactic(auto, unfolding(facet_json_document::specs::Text::text))]
 pub(crate) fn push_scalar(
-    out: &mut Vec<u8>,
+    out: &mut Sink,
     options: &SerializeOptions<'_>,
     value: &ScalarValue<'_>,
 ) -> Result<(), AllocError>
-    ensures { OnOk result (out.new.items
-        ≡ out.old.items ++ scalar_text (options_of options.now) (scalar_value_of value.now)) }
+    ensures { OnOk result (out.new
+        ≡ out.old ++ scalar_text (options_of options.now) (scalar_value_of value.now)) }
 {
     match value {
         ScalarValue::Null => push_bytes(out, b"null"),
@@ -41,8 +41,8 @@ pub(crate) fn push_scalar(
 }
 
 /// Appends a truth value.
-fn push_bool(out: &mut Vec<u8>, b: bool) -> Result<(), AllocError>
-    ensures { OnOk result (out.new.items ≡ out.old.items ++ bool_text b) }
+fn push_bool(out: &mut Sink, b: bool) -> Result<(), AllocError>
+    ensures { OnOk result (out.new ≡ out.old ++ bool_text b) }
 {
     if b {
         push_bytes(out, b"true")
@@ -52,8 +52,8 @@ fn push_bool(out: &mut Vec<u8>, b: bool) -> Result<(), AllocError>
 }
 
 /// Appends the text of one character, between quotes.
-fn push_char(out: &mut Vec<u8>, c: char) -> Result<(), AllocError>
-    ensures { OnOk result (out.new.items ≡ out.old.items ++ quoted (encode_utf8 c)) }
+fn push_char(out: &mut Sink, c: char) -> Result<(), AllocError>
+    ensures { OnOk result (out.new ≡ out.old ++ quoted (encode_utf8 c)) }
 {
     let mut buffer = [0; 4];
     push_quoted(out, c.encode_utf8(&mut buffer))

@@ -84,7 +84,7 @@ impl<'i> JsonSerializer<'i> {
         if self.failed {
             return Err(JsonSerializeError::OutOfMemory);
         }
-        Ok(self.writing.out)
+        Ok(self.writing.out.into_vec())
     }
 
     /// Makes a call, unless an allocation failed before.

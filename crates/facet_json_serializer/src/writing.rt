@@ -12,15 +12,13 @@ ghost use Rattle.facet_json_serializer.specs.Views.{call_of, writing_of, call_an
 ghost use Rattle.facet_json_serializer.specs.Inner.Writes.{Adds, Writes, innermost_ended, value_begun, with_text};
 ghost use Rattle.facet_json_serializer.specs.Inner.Open.{opened_of, struct_mark, list_mark, around_innermost, with_first_passed};
 
+use crate::append::push_bytes;
 use crate::bytes_text::push_bytes_text;
-use crate::digits::{
-    push_bytes, push_comma_signed, push_comma_unsigned, push_signed, push_unsigned,
-};
 use crate::error::JsonSerializeError;
 use crate::options::{SerializeOptions, push_key, push_line, push_line_at_end, push_separator};
 use crate::scalar_text::push_scalar;
 use facet_format::ScalarValue;
-use facet_json_escape::push_framed;
+use facet_json_escape::{Sink, push_framed};
 use std::alloc::{AllocError, Global};
 use std::borrow::CowStr;
 use std::marker::Model;
@@ -51,7 +49,7 @@ pub(crate) enum Call<'a> {
 pub(crate) struct Writing<'i> {
     pub(crate) options: SerializeOptions<'i>,
     pub(crate) stack: Containers,
-    pub(crate) out: Vec<u8>,
+    pub(crate) out: Sink,
 }
 
 impl<'i> Writing<'i> {
@@ -62,7 +60,7 @@ impl<'i> Writing<'i> {
         Writing {
             options,
             stack: Containers::new(alloc),
-            out: Vec::new(alloc),
+            out: Sink::new(alloc),
         }
     }
 
@@ -225,7 +223,7 @@ impl<'i> Writing<'i> {
         ensures { Writes (writing_of self.old) (calls.scalar (event.u64 n)) (call_answer_of result) (writing_of self.new) }
     {
         if self.follows_a_comma() {
-            push_comma_unsigned(&mut self.out, n)?;
+            self.out.push_unsigned(true, n)?;
             return Ok(());
         }
         self.unsigned_apart(n)
@@ -238,7 +236,7 @@ impl<'i> Writing<'i> {
         ensures { Writes (writing_of self.old) (calls.scalar (event.u64 n)) (call_answer_of result) (writing_of self.new) }
     {
         self.begin_value()?;
-        push_unsigned(&mut self.out, n)?;
+        self.out.push_unsigned(false, n)?;
         Ok(())
     }
 
@@ -249,7 +247,7 @@ impl<'i> Writing<'i> {
         ensures { Writes (writing_of self.old) (calls.scalar (event.i64 n)) (call_answer_of result) (writing_of self.new) }
     {
         if self.follows_a_comma() {
-            push_comma_signed(&mut self.out, n)?;
+            self.out.push_signed(true, n)?;
             return Ok(());
         }
         self.signed_apart(n)
@@ -262,7 +260,7 @@ impl<'i> Writing<'i> {
         ensures { Writes (writing_of self.old) (calls.scalar (event.i64 n)) (call_answer_of result) (writing_of self.new) }
     {
         self.begin_value()?;
-        push_signed(&mut self.out, n)?;
+        self.out.push_signed(false, n)?;
         Ok(())
     }
 

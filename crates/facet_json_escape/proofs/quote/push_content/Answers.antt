@@ -12,7 +12,7 @@ returns-then-stop-bytes c =
     let bytes = c.args.bytes.now in
     let stop = c.verbatim_end-stop.result in
     let run = put_out _ _ _ _ _ _ c.in_ok-push_run.ensures (escaped-to bytes c.loop-at.at stop c.verbatim_end-stop.ensures.value) c.loop-at.invariant.same in
-    let now = c.push_run.new.out.items in
+    let now = c.push_run.new.out in
     sym (append-nil now) ∙ ap (λ l. now ++ flat_map escaped l) (sym (drop_all stop bytes (omega arith))) ∙ run
 
 pub loop-at-preserved : goal.loop-at-preserved

@@ -8,7 +8,7 @@ abbrev pub invariant-loop-at : goal.invariant-loop-at
 invariant-loop-at l =
     record {
       within : l.at ≤ length l.bytes;
-      same : l.out.items ++ flat_map escaped (drop l.at l.bytes) ≡ l.fn.out.items ++ flat_map escaped l.bytes;
+      same : l.out ++ flat_map escaped (drop l.at l.bytes) ≡ l.fn.out ++ flat_map escaped l.bytes;
     }
 
 abbrev pub decreases-loop-at : goal.decreases-loop-at

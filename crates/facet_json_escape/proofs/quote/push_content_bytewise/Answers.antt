@@ -7,12 +7,12 @@ pub loop-i-preserved : goal.loop-i-preserved
 loop-i-preserved c =
     let l = c.loop-i in
     let bytes = c.args.bytes.now in
-    let before = c.args.out.now.items in
+    let before = c.args.out.now in
     elim c.if-needs_escape.branch [
       | then-needs_escape+in_ok-push_run+in_ok-push_escaped w ↦
           rw (w.start-is, w.out-is, w.in_ok-push_escaped.ensures, w.in_ok-push_run.ensures)
-          (IsWritten-escape bytes before l.out.items l.start l.i c.loop-i-test.true l.invariant)
+          (IsWritten-escape bytes before l.out l.start l.i c.loop-i-test.true l.invariant)
       | else-needs_escape w ↦
           let plain = plain_escape _ (sym w.if-needs_escape.ensures) in
-          rw (w.start-is, w.out-is) (IsWritten-plain bytes before l.out.items l.start l.i c.loop-i-test.true plain l.invariant)
+          rw (w.start-is, w.out-is) (IsWritten-plain bytes before l.out l.start l.i c.loop-i-test.true plain l.invariant)
     ]

@@ -4,4 +4,4 @@ use Rattle.facet_json_document.specs.Quoted.{hex_byte}
 use Rattle.facet_json_serializer.proofs.bytes_text.push_digits.Given as goal
 
 abbrev pub invariant-loop-byte : goal.invariant-loop-byte
-invariant-loop-byte l = l.out.items ≡ l.initial.out.items ++ flat_map hex_byte (take l.byte-index l.bytes)
+invariant-loop-byte l = l.out ≡ l.initial.out ++ flat_map hex_byte (take l.byte-index l.bytes)

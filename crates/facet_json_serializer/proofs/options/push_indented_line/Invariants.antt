@@ -3,4 +3,4 @@ use Rattle.facet_json_document.specs.Text.{indents}
 use Rattle.facet_json_serializer.proofs.options.push_indented_line.Given as goal
 
 abbrev pub invariant-loop : goal.invariant-loop
-invariant-loop l = l.out.items ≡ l.initial.out.items ++ indents l.counter l.indent
+invariant-loop l = l.out ≡ l.initial.out ++ indents l.counter l.indent

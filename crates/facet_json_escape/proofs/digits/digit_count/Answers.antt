@@ -1,7 +1,7 @@
 use Rattle.std.proofs.Common.{sym, arith, rules, ◌<◌}
 use Rattle.std.specs.Prelude.{◌^◌}
-use Rattle.facet_json_serializer.proofs.DecimalLengths.{digits_between_powers, one_digit}
-use Rattle.facet_json_serializer.proofs.digits.digit_count.Goals as goal
+use Rattle.facet_json_escape.proofs.DecimalLengths.{digits_between_powers, one_digit}
+use Rattle.facet_json_escape.proofs.digits.digit_count.Goals as goal
 
 pub returns-then-n-lt10-clause-count : goal.returns-then-n-lt10-clause-count
 returns-then-n-lt10-clause-count c = sym (one_digit c.args.n c.if-n-lt10.true)

@@ -1,0 +1,197 @@
+//! Bytes that are appended piece by piece, with room made ready ahead: a short piece is stored after one test, and no call.
+
+ghost use Rattle.std.specs.Prelude.{◌≡◌, ◌+◌, ◌≤◌, [], ◌∷◌, ◌++◌, length, take, cond, unsigned_abs, vec_len, OnOk};
+ghost use Rattle.std.specs.Fmt.{decimal, signed_decimal};
+ghost use Rattle.facet_format.specs.Bytes.{comma, colon, quote, minus};
+
+use crate::digits::{is_negative, place_number};
+use crate::place::{place_byte, place_framed, place_run, place_short};
+use std::alloc::{AllocError, Global};
+use std::marker::Model;
+
+/// The least room that is made ready at once, and the most that is asked for.
+const LEAST_AHEAD: usize = 128;
+
+/// The most room that is made ready at once.
+const MOST_AHEAD: usize = 1024;
+
+/// What stands in the room.
+static ZEROS: [u8; MOST_AHEAD] = [0; MOST_AHEAD];
+
+/// Bytes that are appended. It serves the crates of this library alone.
+///
+/// ```text
+/// let mut out = Sink::new(alloc);
+/// out.push(b'[')?;
+/// out.push_unsigned(false, 7)?;
+/// out.push_unsigned(true, 12)?;
+/// out.extend_from_slice(b"]")?;
+/// out.into_vec()                    [7,12]
+/// ```
+///
+/// # Errors
+///
+/// Each call that appends is refused with `AllocError` alone, where an allocation fails.
+#[derive(Debug, Drop)]
+pub struct Sink {
+    /// What was appended, and the room after it.
+    bytes: Vec<u8>,
+    /// How many of the bytes were appended.
+    len: usize,
+}
+
+impl Model for Sink {
+    ghost use Rattle.std.specs.Prelude.{◌≤◌, ℕ, List, length, take};
+
+    ghost Value = { List ℕ };
+
+    ghost view = { λ s. take s.len s.bytes.items };
+
+    ghost invariant = { λ s. s.len ≤ length s.bytes.items };
+}
+
+impl Sink {
+    /// Nothing yet. It does not allocate.
+    pub fn new(alloc: Global) -> Sink
+        ensures { result ≡ [] }
+    {
+        Sink {
+            bytes: Vec::new(alloc),
+            len: 0,
+        }
+    }
+
+    /// The bytes that were appended, without the room. It does not allocate.
+    pub fn into_vec(self) -> Vec<u8>
+        ensures { result.items ≡ self }
+    {
+        let Sink { mut bytes, len } = self;
+        bytes.truncate(len);
+        bytes
+    }
+
+    /// Appends a byte.
+    #[inline(always)]
+    pub fn push(&mut self, byte: u8) -> Result<(), AllocError>
+        ensures { OnOk result (self.new ≡ self.old ++ byte ∷ []) }
+    {
+        make_room(&mut self.bytes, self.len, 1)?;
+        self.len = place_byte(self.bytes.as_mut_slice(), self.len, byte, true);
+        Ok(())
+    }
+
+    /// Appends bytes.
+    #[inline(always)]
+    pub fn extend_from_slice(&mut self, run: &[u8]) -> Result<(), AllocError>
+        ensures { OnOk result (self.new ≡ self.old ++ run.now) }
+    {
+        if run.len() > 32 {
+            return self.extend_long(run);
+        }
+        make_room(&mut self.bytes, self.len, run.len())?;
+        self.len = place_short(self.bytes.as_mut_slice(), self.len, run);
+        Ok(())
+    }
+
+    /// Appends bytes: into the room where it takes them all, and else in place of it.
+    #[inline(never)]
+    fn extend_long(&mut self, run: &[u8]) -> Result<(), AllocError>
+        ensures { OnOk result (self.new ≡ self.old ++ run.now) }
+    {
+        if run.len() <= self.bytes.len() - self.len {
+            self.len = place_run(self.bytes.as_mut_slice(), self.len, run);
+            return Ok(());
+        }
+        self.bytes.truncate(self.len);
+        self.bytes.extend_from_slice(run)?;
+        self.len = self.bytes.len();
+        Ok(())
+    }
+
+    /// Appends a text of up to 32 bytes as it stands, between quotes, after a comma and before a colon where these are wanted.
+    #[inline(always)]
+    pub(crate) fn push_short(
+        &mut self,
+        after_comma: bool,
+        text: &[u8],
+        before_colon: bool,
+    ) -> Result<(), AllocError>
+        requires { length text.now ≤ 32 }
+        ensures { OnOk result (self.new ≡ self.old
+            ++ (cond after_comma (comma ∷ []) [] ++ (quote ∷ text.now ++ quote ∷ [] ++ cond before_colon (colon ∷ []) []))) }
+    {
+        make_room(&mut self.bytes, self.len, 36)?;
+        self.len = place_framed(
+            self.bytes.as_mut_slice(),
+            self.len,
+            after_comma,
+            text,
+            before_colon,
+        );
+        Ok(())
+    }
+
+    /// Appends a number's decimal digits, after a comma where it is wanted.
+    #[inline(always)]
+    pub fn push_unsigned(&mut self, after_comma: bool, n: u64) -> Result<(), AllocError>
+        ensures { OnOk result (self.new ≡ self.old ++ (cond after_comma (comma ∷ []) [] ++ decimal n)) }
+    {
+        self.push_number(after_comma, false, n)
+    }
+
+    /// Appends a number's decimal digits, after a minus where it is negative, and a comma where it is wanted.
+    #[inline(always)]
+    pub fn push_signed(&mut self, after_comma: bool, n: i64) -> Result<(), AllocError>
+        ensures { OnOk result (self.new ≡ self.old ++ (cond after_comma (comma ∷ []) [] ++ signed_decimal n)) }
+    {
+        self.push_number(after_comma, is_negative(n), n.unsigned_abs())
+    }
+
+    /// Appends a number's decimal digits, after a comma and a minus where these are wanted.
+    #[inline(always)]
+    fn push_number(
+        &mut self,
+        after_comma: bool,
+        after_minus: bool,
+        n: u64,
+    ) -> Result<(), AllocError>
+        ensures { OnOk result (self.new ≡ self.old
+            ++ (cond after_comma (comma ∷ []) [] ++ (cond after_minus (minus ∷ []) [] ++ decimal n))) }
+    {
+        make_room(&mut self.bytes, self.len, 24)?;
+        self.len = place_number(
+            self.bytes.as_mut_slice(),
+            self.len,
+            after_comma,
+            after_minus,
+            n,
+        );
+        Ok(())
+    }
+}
+
+/// Makes room for so many bytes after the first `len`, which stay.
+#[inline(always)]
+fn make_room(bytes: &mut Vec<u8>, len: usize, more: usize) -> Result<(), AllocError>
+    requires within { len ≤ vec_len bytes.old }
+    requires short { more ≤ 128 }
+    ensures kept { take len bytes.new.items ≡ take len bytes.old.items }
+    ensures within { len ≤ vec_len bytes.new }
+    ensures room { OnOk result (len + more ≤ vec_len bytes.new) }
+{
+    if more <= bytes.len() - len {
+        return Ok(());
+    }
+    grow(bytes)
+}
+
+/// Appends room: as much as there are bytes, within bounds.
+#[cold]
+#[inline(never)]
+fn grow(bytes: &mut Vec<u8>) -> Result<(), AllocError>
+    ensures kept { take (vec_len bytes.old) bytes.new.items ≡ bytes.old.items }
+    ensures room { OnOk result (vec_len bytes.old + 128 ≤ vec_len bytes.new) }
+{
+    let ahead = bytes.len().clamp(LEAST_AHEAD, MOST_AHEAD);
+    bytes.extend_from_slice(&ZEROS[..ahead])
+}
