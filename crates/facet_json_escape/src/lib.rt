@@ -9,5 +9,5 @@ mod quote;
 mod sink;
 mod window;
 
-pub use quote::{hex_digit, push_framed, push_quoted};
+pub use quote::{hex_digit, push_framed, push_framed_here, push_quoted};
 pub use sink::Sink;

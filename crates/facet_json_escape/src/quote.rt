@@ -50,6 +50,24 @@ pub fn push_framed(
     ensures { OnOk result (out.new ≡ out.old
         ++ (cond after_comma (comma ∷ []) [] ++ (quoted text.now ++ cond before_colon (colon ∷ []) []))) }
 {
+    push_framed_here(out, after_comma, text, before_colon)
+}
+
+/// The same, compiled in line: of a text that is known when the program is compiled some stores are left.
+///
+/// # Errors
+///
+/// As `push_framed`.
+#[inline(always)]
+pub fn push_framed_here(
+    out: &mut Sink,
+    after_comma: bool,
+    text: &str,
+    before_colon: bool,
+) -> Result<(), AllocError>
+    ensures { OnOk result (out.new ≡ out.old
+        ++ (cond after_comma (comma ∷ []) [] ++ (quoted text.now ++ cond before_colon (colon ∷ []) []))) }
+{
     let bytes = text.as_bytes();
     if bytes.len() <= 32 && plain_short(bytes) {
         return out.push_short(after_comma, bytes, before_colon);

@@ -81,7 +81,7 @@ impl Sink {
     }
 
     /// Appends bytes.
-    #[inline(always)]
+    #[inline]
     pub fn extend_from_slice(&mut self, run: &[u8]) -> Result<(), AllocError>
         ensures { OnOk result (self.new ≡ self.old ++ run.now) }
     {

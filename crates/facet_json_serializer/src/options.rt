@@ -7,7 +7,7 @@ ghost use Rattle.facet_format.specs.Bytes.{line_feed};
 ghost use Rattle.facet_json_document.specs.Quoted.{quoted};
 
 use crate::append::push_bytes;
-use facet_json_escape::{Sink, push_framed, push_quoted};
+use facet_json_escape::{Sink, push_framed_here, push_quoted};
 use std::alloc::AllocError;
 
 /// Hexadecimal text of bytes, of which only some at either end stand where there are more than a limit.
@@ -233,7 +233,7 @@ pub(crate) fn push_key(
     if options.pretty {
         return push_indented_key(out, options, depth, first, key);
     }
-    push_framed(out, !first, key, true)
+    push_framed_here(out, !first, key, true)
 }
 
 /// The same in any layout, piece by piece.

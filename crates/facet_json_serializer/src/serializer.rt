@@ -137,11 +137,16 @@ impl<'i> FormatSerializer for JsonSerializer<'i> {
     /// # Errors
     ///
     /// `KeyOutsideStruct`, where the innermost open container is a list, or none is open. `OutOfMemory`.
+    #[inline(always)]
     fn field_key(&mut self, key: &str) -> Result<(), JsonSerializeError>
         ensures serves { IsServed Takes IsSpent self.old (field_key key.now) result self.new }
         ensures appends { Appends self.old (field_key key.now) (call_answer_of result) self.new }
     {
-        self.make(Call::FieldKey(key))
+        if self.failed {
+            return Err(JsonSerializeError::OutOfMemory);
+        }
+        let answer = self.writing.field_key(key);
+        self.settle(answer)
     }
 
     /// Ends the innermost open struct.

@@ -23,13 +23,11 @@ use std::alloc::{AllocError, Global};
 use std::borrow::CowStr;
 use std::marker::Model;
 
-/// A call that writes.
+/// A call that writes something else than a key.
 #[derive(Clone, Copy)]
 pub(crate) enum Call<'a> {
     /// Begins a struct.
     BeginStruct,
-    /// Writes a key of the innermost struct.
-    FieldKey(&'a str),
     /// Ends the innermost struct.
     EndStruct,
     /// Begins a list.
@@ -123,7 +121,6 @@ impl<'i> Writing<'i> {
     {
         match call {
             Call::BeginStruct => self.begin(Container::Struct { first: true }, b"{"),
-            Call::FieldKey(key) => self.field_key(key),
             Call::EndStruct => self.end_struct(),
             Call::BeginSeq => self.begin(Container::List { first: true }, b"["),
             Call::EndSeq => self.end_seq(),
@@ -147,6 +144,7 @@ impl<'i> Writing<'i> {
     }
 
     /// Writes a key of the innermost struct.
+    #[inline(always)]
     pub(crate) fn field_key(&mut self, key: &str) -> Result<(), JsonSerializeError>
         ensures { Writes (writing_of self.old) (calls.field_key key.now) (call_answer_of result) (writing_of self.new) }
     {

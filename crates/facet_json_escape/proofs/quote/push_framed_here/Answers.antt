@@ -1,6 +1,6 @@
 -- A short text that needs no escape stands for itself.
 use Rattle.facet_json_escape.proofs.PlainTexts.{plain_text}
-use Rattle.facet_json_escape.proofs.quote.push_framed.Goals as goal
+use Rattle.facet_json_escape.proofs.quote.push_framed_here.Goals as goal
 
 pub returns-then-plain_short : goal.returns-then-plain_short
 returns-then-plain_short c =
