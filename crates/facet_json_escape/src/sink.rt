@@ -75,8 +75,12 @@ impl Sink {
     pub fn push(&mut self, byte: u8) -> Result<(), AllocError>
         ensures { OnOk result (self.new ≡ self.old ++ byte ∷ []) }
     {
-        make_room(&mut self.bytes, self.len, 1)?;
-        self.len = place_byte(self.bytes.as_mut_slice(), self.len, byte, true);
+        if self.len < self.bytes.len() {
+            self.len = place_byte(self.bytes.as_mut_slice(), self.len, byte, true);
+            return Ok(());
+        }
+        self.bytes.push(byte)?;
+        self.len = self.bytes.len();
         Ok(())
     }
 

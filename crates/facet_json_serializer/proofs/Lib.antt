@@ -2,3 +2,4 @@ pub mod ByteTexts
 pub mod CallsTaken
 pub mod Settled
 pub mod TreesByCalls
+pub mod ValuesBegun

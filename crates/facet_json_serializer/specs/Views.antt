@@ -5,8 +5,7 @@ use Rattle.facet_json_serializer.specs.declared.error.JsonSerializeError.TheVari
 use Rattle.facet_json_serializer.specs.declared.writing.Call.{Call}
 use Rattle.facet_json_serializer.specs.declared.writing.Call.TheVariants as call
 use Rattle.facet_json_serializer.specs.declared.writing.Writing.{Writing as RustWriting}
-use Rattle.facet_format.specs.SerializerCall.{SerializerCall, begin_struct, end_struct, begin_seq, end_seq, scalar, raw_scalar, byte_sequence}
-use Rattle.facet_format.specs.Views.{scalar_value_of}
+use Rattle.facet_format.specs.SerializerCall.{SerializerCall, begin_struct, end_struct, begin_seq, end_seq, raw_scalar, byte_sequence}
 use Rattle.facet_json_serializer.specs.OptionsViews.{options_of}
 use Rattle.facet_json_serializer.specs.Serializer.{Writing, WriteRefusal, misfits, key_outside_struct, no_struct_to_end, no_list_to_end, out_of_memory}
 
@@ -21,7 +20,6 @@ call_of call.BeginStruct = begin_struct
 call_of call.EndStruct = end_struct
 call_of call.BeginSeq = begin_seq
 call_of call.EndSeq = end_seq
-call_of (call.Scalar value) = scalar (scalar_value_of value.now)
 call_of (call.RawScalar json) = raw_scalar json.now
 call_of (call.Bytes bytes) = byte_sequence bytes.now
 

@@ -195,7 +195,11 @@ impl<'i> FormatSerializer for JsonSerializer<'i> {
         ensures serves { IsServed Takes IsSpent self.old (scalar (scalar_value_of value.entry)) result self.new }
         ensures appends { Appends self.old (scalar (scalar_value_of value.entry)) (call_answer_of result) self.new }
     {
-        self.make(Call::Scalar(&value))
+        if self.failed {
+            return Err(JsonSerializeError::OutOfMemory);
+        }
+        let answer = self.writing.scalar(&value);
+        self.settle(answer)
     }
 
     /// Writes a value by its JSON text, as it stands.

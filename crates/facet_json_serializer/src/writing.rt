@@ -34,8 +34,6 @@ pub(crate) enum Call<'a> {
     BeginSeq,
     /// Ends the innermost list.
     EndSeq,
-    /// Writes a value that holds no others.
-    Scalar(&'a ScalarValue<'a>),
     /// Writes a value whose JSON text is given.
     RawScalar(&'a str),
     /// Writes bytes by their format.
@@ -120,11 +118,10 @@ impl<'i> Writing<'i> {
         ensures { Writes (writing_of self.old) (call_of call.entry) (call_answer_of result) (writing_of self.new) }
     {
         match call {
-            Call::BeginStruct => self.begin(Container::Struct { first: true }, b"{"),
+            Call::BeginStruct => self.begin(Container::Struct { first: true }, b'{'),
             Call::EndStruct => self.end_struct(),
-            Call::BeginSeq => self.begin(Container::List { first: true }, b"["),
+            Call::BeginSeq => self.begin(Container::List { first: true }, b'['),
             Call::EndSeq => self.end_seq(),
-            Call::Scalar(value) => self.scalar(value),
             Call::RawScalar(json) => self.raw_scalar(json),
             Call::Bytes(bytes) => self.bytes(bytes),
         }
@@ -132,14 +129,14 @@ impl<'i> Writing<'i> {
 
     /// Begins a container by its bracket.
     #[inline(always)]
-    fn begin(&mut self, container: Container, bracket: &[u8]) -> Result<(), JsonSerializeError>
+    fn begin(&mut self, container: Container, bracket: u8) -> Result<(), JsonSerializeError>
         ensures { Adds (writing_of self.old)
-            (container_added (options_of self.old.options) self.old.stack (opened_of container) bracket.now)
+            (container_added (options_of self.old.options) self.old.stack (opened_of container) (bracket ∷ []))
             (call_answer_of result) (writing_of self.new) }
     {
         self.begin_value()?;
         self.stack.push(container)?;
-        push_bytes(&mut self.out, bracket)?;
+        self.out.push(bracket)?;
         Ok(())
     }
 
@@ -164,7 +161,7 @@ impl<'i> Writing<'i> {
         let Some(first) = self.stack.struct_mark() else {
             return Err(JsonSerializeError::NoStructToEnd);
         };
-        self.end(first, b"}")
+        self.end(first, b'}')
     }
 
     /// Ends the innermost list.
@@ -174,19 +171,19 @@ impl<'i> Writing<'i> {
         let Some(first) = self.stack.list_mark() else {
             return Err(JsonSerializeError::NoListToEnd);
         };
-        self.end(first, b"]")
+        self.end(first, b']')
     }
 
     /// Ends the innermost container by its bracket.
     #[inline(always)]
-    fn end(&mut self, first: bool, bracket: &[u8]) -> Result<(), JsonSerializeError>
+    fn end(&mut self, first: bool, bracket: u8) -> Result<(), JsonSerializeError>
         ensures { Adds (writing_of self.old)
-            (Ok (innermost_ended (options_of self.old.options) self.old.stack first bracket.now))
+            (Ok (innermost_ended (options_of self.old.options) self.old.stack first (bracket ∷ [])))
             (call_answer_of result) (writing_of self.new) }
     {
         let depth = self.stack.around();
         push_line_at_end(&mut self.out, &self.options, depth, first)?;
-        push_bytes(&mut self.out, bracket)?;
+        self.out.push(bracket)?;
         self.stack.pop();
         Ok(())
     }
@@ -220,21 +217,8 @@ impl<'i> Writing<'i> {
     fn unsigned(&mut self, n: u64) -> Result<(), JsonSerializeError>
         ensures { Writes (writing_of self.old) (calls.scalar (event.u64 n)) (call_answer_of result) (writing_of self.new) }
     {
-        if self.follows_a_comma() {
-            self.out.push_unsigned(true, n)?;
-            return Ok(());
-        }
-        self.unsigned_apart(n)
-    }
-
-    /// The same, out of line: where no comma alone stands before it.
-    #[tactic(auto, unfolding(facet_json_document::specs::Text::text))]
-    #[inline(never)]
-    fn unsigned_apart(&mut self, n: u64) -> Result<(), JsonSerializeError>
-        ensures { Writes (writing_of self.old) (calls.scalar (event.u64 n)) (call_answer_of result) (writing_of self.new) }
-    {
-        self.begin_value()?;
-        self.out.push_unsigned(false, n)?;
+        let after_comma = self.begin_before_comma()?;
+        self.out.push_unsigned(after_comma, n)?;
         Ok(())
     }
 
@@ -244,21 +228,8 @@ impl<'i> Writing<'i> {
     fn signed(&mut self, n: i64) -> Result<(), JsonSerializeError>
         ensures { Writes (writing_of self.old) (calls.scalar (event.i64 n)) (call_answer_of result) (writing_of self.new) }
     {
-        if self.follows_a_comma() {
-            self.out.push_signed(true, n)?;
-            return Ok(());
-        }
-        self.signed_apart(n)
-    }
-
-    /// The same, out of line: where no comma alone stands before it.
-    #[tactic(auto, unfolding(facet_json_document::specs::Text::text))]
-    #[inline(never)]
-    fn signed_apart(&mut self, n: i64) -> Result<(), JsonSerializeError>
-        ensures { Writes (writing_of self.old) (calls.scalar (event.i64 n)) (call_answer_of result) (writing_of self.new) }
-    {
-        self.begin_value()?;
-        self.out.push_signed(false, n)?;
+        let after_comma = self.begin_before_comma()?;
+        self.out.push_signed(after_comma, n)?;
         Ok(())
     }
 

@@ -1,0 +1,9 @@
+use Rattle.std.specs.Fmt.{decimal}
+use Rattle.facet_json_document.specs.Text.{text}
+use Rattle.facet_json_serializer.specs.Views.{writing_of}
+use Rattle.facet_json_serializer.proofs.ValuesBegun.{written_after}
+use Rattle.facet_json_serializer.proofs.writing.Writing.unsigned.Goals as goal
+
+pub returns : goal.returns
+unfolding text
+returns c = written_after _ (writing_of c.begin_before_comma.new.self) _ (decimal c.args.n) _ c.in_ok-after_comma.ensures c.in_ok-push_unsigned.ensures
