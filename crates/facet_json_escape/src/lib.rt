@@ -1,5 +1,5 @@
-//! A text between quotes, as JSON writes it (RFC 8259, section 7): `push_quoted`. What needs no escape is found sixteen bytes at a
-//! time, and copied in runs.
+//! The bytes that a text in JSON is appended to, `Sink`, and a text between quotes, as JSON writes it (RFC 8259, section 7):
+//! `push_quoted`. What needs no escape is found sixteen bytes at a time, and copied in runs.
 #![tactic(auto)]
 
 mod digits;

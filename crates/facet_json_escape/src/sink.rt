@@ -1,4 +1,5 @@
-//! Bytes that are appended piece by piece, with room made ready ahead: a short piece is stored after one test, and no call.
+//! Bytes that are appended piece by piece, with room made ready ahead: a short piece is stored after one test, and without a call. The room
+//! holds zeros, and grows by bounded steps, so that few bytes are written twice; a long text takes none.
 
 ghost use Rattle.std.specs.Prelude.{◌≡◌, ◌+◌, ◌≤◌, [], ◌∷◌, ◌++◌, length, take, cond, unsigned_abs, vec_len, OnOk};
 ghost use Rattle.std.specs.Fmt.{decimal, signed_decimal};
@@ -9,7 +10,7 @@ use crate::place::{place_byte, place_framed, place_run, place_short};
 use std::alloc::{AllocError, Global};
 use std::marker::Model;
 
-/// The least room that is made ready at once, and the most that is asked for.
+/// The least room that is made ready at once: any short piece fits.
 const LEAST_AHEAD: usize = 128;
 
 /// The most room that is made ready at once.

@@ -132,7 +132,7 @@ impl<'i> FormatSerializer for JsonSerializer<'i> {
         self.make(Call::BeginStruct)
     }
 
-    /// Writes a key of the innermost open struct.
+    /// Writes a key of the innermost open struct. It is compiled in line: where the key is known then, it is written by a few stores.
     ///
     /// # Errors
     ///

@@ -23,7 +23,7 @@ use std::alloc::{AllocError, Global};
 use std::borrow::CowStr;
 use std::marker::Model;
 
-/// A call that writes something else than a key.
+/// A call that is compiled out of line: any but a key, and a value that holds no others.
 #[derive(Clone, Copy)]
 pub(crate) enum Call<'a> {
     /// Begins a struct.
@@ -212,7 +212,6 @@ impl<'i> Writing<'i> {
     }
 
     /// Writes a whole number without a sign.
-    #[tactic(auto, unfolding(facet_json_document::specs::Text::text))]
     #[inline(always)]
     fn unsigned(&mut self, n: u64) -> Result<(), JsonSerializeError>
         ensures { Writes (writing_of self.old) (calls.scalar (event.u64 n)) (call_answer_of result) (writing_of self.new) }
@@ -223,7 +222,6 @@ impl<'i> Writing<'i> {
     }
 
     /// Writes a whole number that may have a sign.
-    #[tactic(auto, unfolding(facet_json_document::specs::Text::text))]
     #[inline(always)]
     fn signed(&mut self, n: i64) -> Result<(), JsonSerializeError>
         ensures { Writes (writing_of self.old) (calls.scalar (event.i64 n)) (call_answer_of result) (writing_of self.new) }
