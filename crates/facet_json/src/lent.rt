@@ -60,7 +60,6 @@ impl<'de, 'a, T: Facet<'de>, R: LentFields<'de>> LentFields<'de> for Need<&'a T,
 
     ghost always = { λ fields. T.always (T.view fields.0.now) × R.always fields.1 };
 
-    #[inline(always)]
     fn write_members(
         &self,
         names: &[&str],
@@ -86,7 +85,6 @@ impl<'de, 'a, T: Facet<'de>, R: LentFields<'de>> LentFields<'de> for Need<&'a T,
 /// # Errors
 ///
 /// `OutOfMemory` alone; the serializer is then out of memory for good.
-#[inline(always)]
 pub fn write_fields<'de, F: LentFields<'de>>(
     serializer: &mut JsonSerializer<'_>,
     names: &[&str],

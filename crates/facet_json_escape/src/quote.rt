@@ -1,8 +1,8 @@
 //! A text between quotes: runs of bytes that stand for themselves, and the escapes between them.
 
-ghost use Rattle.std.specs.Prelude.{◌≡◌, ◌+◌, ◌≤◌, [], ◌∷◌, ◌++◌, length, cond, OnOk, ◌<◌, codes};
+ghost use Rattle.std.specs.Prelude.{◌≡◌, ◌<◌, [], ◌∷◌, ◌++◌, cond, OnOk, codes};
 ghost use Rattle.std.specs.List.{flat_map};
-ghost use Rattle.facet_format.specs.Bytes.{comma, colon, quote};
+ghost use Rattle.facet_format.specs.Bytes.{comma, colon};
 ghost use Rattle.facet_json_document.specs.Quoted.{escaped, quoted, hex_byte};
 ghost use Rattle.facet_json_document.specs.Quoted as spelled;
 ghost use Rattle.facet_json_escape.specs.Inner.Window as window;

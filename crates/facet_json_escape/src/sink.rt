@@ -1,7 +1,7 @@
 //! Bytes that are appended piece by piece, with room made ready ahead: a short piece is stored after one test, and without a call. The room
 //! holds zeros, and grows by bounded steps, so that few bytes are written twice; a long text takes none.
 
-ghost use Rattle.std.specs.Prelude.{◌≡◌, ◌+◌, ◌≤◌, [], ◌∷◌, ◌++◌, length, take, cond, unsigned_abs, vec_len, OnOk};
+ghost use Rattle.std.specs.Prelude.{◌≡◌, ◌+◌, ◌≤◌, [], ◌∷◌, ◌++◌, length, take, cond, vec_len, OnOk};
 ghost use Rattle.std.specs.Fmt.{decimal, signed_decimal};
 ghost use Rattle.facet_format.specs.Bytes.{comma, colon, quote, minus};
 
