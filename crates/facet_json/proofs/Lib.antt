@@ -3,7 +3,10 @@ pub mod FieldCells
 pub mod FieldLaws
 pub mod FieldSteps
 pub mod FieldsBack
+pub mod ItemsPassed
 pub mod MemberCalls
+pub mod NodesPointed
+pub mod PointersFollowed
 pub mod RootComes
 pub mod RunBegins
 pub mod StrictRootComes

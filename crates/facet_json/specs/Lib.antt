@@ -54,6 +54,8 @@ pub use Rattle.facet_json_document.specs.Text
 pub use Rattle.facet_json_document.specs.TextLaws
 pub use Rattle.facet_json_tree.specs.Content
 pub use Rattle.facet_json_tree.specs.Lookup
+pub use Rattle.facet_json_tree.specs.Pointer
+pub use Rattle.facet_json_tree.specs.PointerViews
 pub use Rattle.facet_json_tree.specs.Same
 pub use Rattle.facet_json_tree.specs.Views
 pub use Rattle.facet_format.specs.SerializerCall
@@ -109,13 +111,17 @@ pub use Rattle.facet_json_meaning.specs.Objects
 pub use Rattle.facet_json_meaning.specs.Maps
 pub use Rattle.facet_json_meaning.specs.Trees as TypedTrees
 pub use Rattle.facet_json_tree.specs.Depth
+pub use Rattle.facet_json_facet.specs.Finding
 pub use Rattle.facet_format.specs.Views as FormatViews
 pub use Rattle.facet_format.specs.Laws as FormatLaws
 pub use Rattle.facet_json_scan.specs.Views as ScanViews
 pub use Rattle.facet_json_scan.specs.Laws as ScanLaws
 pub use Rattle.facet_json_document.specs.Laws as DocumentLaws
 pub mod Fields
+pub mod Inner
 pub mod Inputs
+pub mod Pointed
+pub mod PointedViews
 pub mod Shapes
 pub mod Types
 pub mod Written

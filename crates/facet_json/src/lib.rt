@@ -7,8 +7,10 @@
 #![tactic(auto)]
 
 mod fields;
+mod find_error;
 pub mod laws;
 mod lent;
+mod pointer;
 mod reading;
 pub mod scanner;
 pub mod steps;

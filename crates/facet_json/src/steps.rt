@@ -1,5 +1,7 @@
 //! The steps of a reader that is written by hand over a `JsonParser`.
 
+pub use crate::find_error::FindError;
+pub use crate::pointer::find_pointer;
 pub use facet_json_core::mismatch;
 pub use facet_json_facet::steps::{
     begin_list, begin_object, end_comes, find_key, next_key, next_name, next_of_value, null_comes,

@@ -10,7 +10,7 @@ mod values;
 
 pub use facet_json_core::mismatch;
 pub use find::find_key;
-pub use lists::{begin_list, end_comes};
+pub use lists::{begin_list, end_comes, take_end};
 pub use next::{next_of_value, null_comes, pass_null};
 pub use objects::{begin_object, next_key, next_name};
 pub use values::pass_value;

@@ -29,6 +29,8 @@ mod numbers;
 #[cfg(test)]
 mod own;
 #[cfg(test)]
+mod pointers;
+#[cfg(test)]
 mod raws;
 #[cfg(test)]
 mod records;

@@ -15,7 +15,7 @@ pub record Reached (rest : List ℕ) (found : Tree) (names : List (List ℕ)) (w
   pub same : named names whole ≡ named others found
 
 -- With nothing left it is what the pointer names.
-only-whole : (text : List ℕ) (names : List (List ℕ)) → IsPointer text names → text ≡ [] → names ≡ []
+pub only-whole : (text : List ℕ) (names : List (List ℕ)) → IsPointer text names → text ≡ [] → names ≡ []
 only-whole _ _ IsPointer.whole e = refl
 only-whole _ _ (IsPointer.within token name pointer names is others) e = cc
 
@@ -48,6 +48,31 @@ begun _ _ b behind (IsPointer.within token name pointer names is others) e = rec
   names_are = refl;
 }
 
+-- The first token that is left of a pointer, and the pointer behind it.
+pub record FirstLeft (text : List ℕ) (start : ℕ) (names : List (List ℕ)) : Type 0 where
+  pub others : List (List ℕ)
+  pub are : names ≡ unescaped (before_slash (drop (start + 1) text)) ∷ others
+  pub pointer : IsPointer (drop (start + (1 + length (before_slash (drop (start + 1) text)))) text) others
+
+pub first-left : (text : List ℕ) (start : ℕ) (names : List (List ℕ)) → start < length text → IsPointer (drop start text) names →
+    FirstLeft text start names
+first-left text start names h pointer =
+    let behind = drop (start + 1) text in
+    let first = begun (drop start text) names (get_or text start 0) behind pointer (drop_more text start 0 h) in
+    let is : before_slash behind ≡ first.token = ap before_slash first.text_is
+    ∙ before_slash-token first.token first.name first.pointer first.others first.is_token first.is_pointer in
+    let stands : unescaped (before_slash behind) ≡ first.name = ap unescaped is ∙ token-unescaped first.token first.name first.is_token in
+    let left : drop (start + (1 + length (before_slash behind))) text ≡ first.pointer =
+    let k = length (before_slash behind) in
+    let same_start : start + (1 + k) ≡ start + 1 + k = omega arith in
+    ap (λ n. drop n text) same_start ∙ sym (drop-drop k (start + 1) text) ∙ ap (drop k) first.text_is
+    ∙ drop_at first.token first.pointer k (sym (ap length is)) in
+    record {
+      others = first.others;
+      are = first.names_are ∙ ap (λ n. n ∷ first.others) (sym stands);
+      pointer = subst (λ (xs : List ℕ). IsPointer xs first.others) (sym left) first.is_pointer;
+    }
+
 -- What the next token names, or nothing; and the rest behind it.
 pub record Next (text : List ℕ) (start : ℕ) (found : Tree) (names : List (List ℕ)) (whole : Tree) : Type 0 where
   pub none : child (unescaped (before_slash (drop (start + 1) text))) found ≡ None → named names whole ≡ None
@@ -57,25 +82,11 @@ pub record Next (text : List ℕ) (start : ℕ) (found : Tree) (names : List (Li
 pub next : (text : List ℕ) (start : ℕ) (found : Tree) (names : List (List ℕ)) (whole : Tree) → start < length text
     → Reached (drop start text) found names whole → Next text start found names whole
 next text start found names whole h at =
-    let behind = drop (start + 1) text in
-    let first = begun (drop start text) at.others (get_or text start 0) behind at.pointer (drop_more text start 0 h) in
-    let is : before_slash behind ≡ first.token = ap before_slash first.text_is
-    ∙ before_slash-token first.token first.name first.pointer first.others first.is_token first.is_pointer in
-    let stands : unescaped (before_slash behind) ≡ first.name = ap unescaped is ∙ token-unescaped first.token first.name first.is_token in
-    let same : named names whole ≡ option_and_then (named first.others) (child (unescaped (before_slash behind)) found) =
-    at.same ∙ ap (λ ns. named ns found) first.names_are ∙ ap (λ n. option_and_then (named first.others) (child n found)) (sym stands) in
-    let left : drop (start + (1 + length (before_slash behind))) text ≡ first.pointer =
-    let k = length (before_slash behind) in
-    let same_start : start + (1 + k) ≡ start + 1 + k = omega arith in
-    ap (λ n. drop n text) same_start ∙ sym (drop-drop k (start + 1) text) ∙ ap (drop k) first.text_is
-    ∙ drop_at first.token first.pointer k (sym (ap length is)) in
+    let first = first-left text start at.others h at.pointer in
+    let same = at.same ∙ ap (λ ns. named ns found) first.are in
     record {
       none = λ e. same ∙ ap (option_and_then (named first.others)) e;
-      some = λ t e. record {
-        others = first.others;
-        pointer = subst (λ (xs : List ℕ). IsPointer xs first.others) (sym left) first.is_pointer;
-        same = same ∙ ap (option_and_then (named first.others)) e;
-      };
+      some = λ t e. record { others = first.others; pointer = first.pointer; same = same ∙ ap (option_and_then (named first.others)) e };
     }
 
 by_stop : (b : ℕ) (text : List ℕ) (stops : Bool) → length (before_slash text) ≤ length text

@@ -9,7 +9,7 @@ mod error;
 mod from;
 pub mod laws;
 mod lookup;
-mod pointer;
+pub mod pointer;
 mod pointer_error;
 mod reader;
 mod strict;

@@ -44,7 +44,7 @@ impl Tree {
 }
 
 /// Refuses a text that is no pointer.
-fn check(text: &[u8]) -> Result<(), PointerError>
+pub fn check(text: &[u8]) -> Result<(), PointerError>
     ensures ok { OnOk result ((begins text.now ≡ true) × (lone_tilde text.now ≡ None)) }
     ensures err { IfErr result (λ error. IsWrongAt text.now error) }
 {
@@ -95,7 +95,7 @@ fn named<'t>(tree: &'t Tree, pointer: &[u8]) -> Option<&'t Tree>
 }
 
 /// The bytes before the first slash, or all.
-fn first_token(text: &[u8]) -> &[u8]
+pub fn first_token(text: &[u8]) -> &[u8]
     ensures { result.now ≡ before_slash text.now }
 {
     for (i, byte) in text.iter().enumerate() {
@@ -141,7 +141,7 @@ fn last_with_name(members: &[(String, Tree)], token: &[u8]) -> Option<usize>
 }
 
 /// Whether the token stands for this name.
-fn stands_for(token: &[u8], name: &[u8]) -> bool
+pub fn stands_for(token: &[u8], name: &[u8]) -> bool
     ensures { result ≡ same_bytes name.now (unescaped token.now) }
 {
     let mut rest = token;
@@ -186,7 +186,7 @@ fn item_named<'t>(items: &'t [Tree], token: &[u8]) -> Option<&'t Tree>
 }
 
 /// The index that a token is, where it fits.
-fn index_of(token: &[u8]) -> Option<usize>
+pub fn index_of(token: &[u8]) -> Option<usize>
     ensures { MatchOption result
         (IfSome (index token.now) (λ i. 2 ^ 64 ≤ i))
         (λ i. index token.now ≡ Some i) }

@@ -88,7 +88,7 @@ fn is_end(event: &ParseEvent<'_>) -> bool
 ///
 /// As the parser's `peek_event` and `next_event`.
 #[inline(always)]
-pub(crate) fn take_end<'t>(parser: &mut JsonParser<'_>) -> Result<bool, DeserializeError<'t>>
+pub fn take_end<'t>(parser: &mut JsonParser<'_>) -> Result<bool, DeserializeError<'t>>
     ensures onward { GoesOn parser.old parser.new }
     ensures taken { IfOk result (λ ended. ended ≡ true → TakesEnd parser.old parser.new) }
     ensures stays { IfOk result (λ ended. ended ≡ false → StaysBefore ends_list parser.old parser.new) }

@@ -1,7 +1,8 @@
 //! A value that is passed unread.
 
-ghost use Rattle.std.specs.Prelude.{◌≡◌, None, IfErr, OnOk};
+ghost use Rattle.std.specs.Prelude.{◌≡◌, ◌<◌, None, IfErr, OnOk};
 ghost use Rattle.facet_format.specs.Views.{refusal_of};
+ghost use Rattle.facet_json_document.specs.Now.{ahead};
 ghost use Rattle.facet_json_document.specs.UnreadLaws.{RefusalWithin};
 ghost use Rattle.facet_json_core.specs.Refusing.{TellsRefusal};
 ghost use Rattle.facet_json_meaning.specs.Nodes.{KeepsOn};
@@ -21,6 +22,7 @@ pub fn pass_value<'t>(parser: &mut JsonParser<'_>) -> Result<(), DeserializeErro
     ensures read { OnOk result (IsRead anything parser.old tt parser.new) }
     ensures unread { IfErr result (λ e. IsUnread anything parser.old (refusal_of e)) }
     ensures keeps { KeepsOn parser.old parser.new }
+    ensures shorter { OnOk result (ahead parser.new < ahead parser.old) }
     ensures one_value { IsAfterKey parser.old → OnOk result (PassesValue parser.old parser.new) }
     ensures within { IfErr result (λ e. RefusalWithin parser.new.buffer (refusal_of e)) }
     ensures free { OnOk result (parser.new.cursor.refusal ≡ None) }

@@ -42,7 +42,7 @@ pub record AtItems (now : Now) (w : Source) (c : Cursor ℕ) (n : Node) (nodes :
   pub kept : (point : ℕ) (spot : Spot ℕ) → found point c.kept ≡ Some spot → found point cursor.kept ≡ Some spot
 
 -- An event is there.
-at-event : (now : Now) (w : Source) (c : Cursor ℕ) (n : Node) (nodes : Nodes) (at : AtItems now w c n nodes) →
+pub at-event : (now : Now) (w : Source) (c : Cursor ℕ) (n : Node) (nodes : Nodes) (at : AtItems now w c n nodes) →
     (p : Passed) × (slice_get w.events at.cursor.spot.place ≡ Some p)
 unfolding walk_items walk
 at-event now w c n no_nodes at = (_, drop-get w.events at.cursor.spot.place _ _ at.comes)
@@ -57,7 +57,7 @@ pub record IsItem (nodes : Nodes) : Type 0 where
   pub are : nodes ≡ item first rest
 
 -- An array ends only after its items.
-ends-after : (now : Now) (w : Source) (c : Cursor ℕ) (n : Node) (nodes : Nodes) (at : AtItems now w c n nodes) (p : Passed) →
+pub ends-after : (now : Now) (w : Source) (c : Cursor ℕ) (n : Node) (nodes : Nodes) (at : AtItems now w c n nodes) (p : Passed) →
     slice_get w.events at.cursor.spot.place ≡ Some p → ends_list p.event.kind ≡ true → nodes ≡ no_nodes
 unfolding walk_items walk
 ends-after now w c n no_nodes at p there is = refl
@@ -74,7 +74,7 @@ ends-after now w c n (item (node.object first last inside) nodes) at p there is 
     let same : event_at (struct_start events.object) first ≡ p = cc in
     let kind = ap (λ (x : Passed). ends_list x.event.kind) same ∙ is in cc
 
-goes-on : (now : Now) (w : Source) (c : Cursor ℕ) (n : Node) (nodes : Nodes) (at : AtItems now w c n nodes) (p : Passed) →
+pub goes-on : (now : Now) (w : Source) (c : Cursor ℕ) (n : Node) (nodes : Nodes) (at : AtItems now w c n nodes) (p : Passed) →
     slice_get w.events at.cursor.spot.place ≡ Some p → ends_list p.event.kind ≡ false → IsItem nodes
 unfolding walk_items
 goes-on now w c n no_nodes at p there is =
@@ -82,6 +82,119 @@ goes-on now w c n no_nodes at p there is =
     let same : event_at sequence_end at.last ≡ p = cc in
     let kind = ap (λ (x : Passed). ends_list x.event.kind) same ∙ is in cc
 goes-on now w c n (item first rest) at p there is = record { first = first; rest = rest; are = refl }
+
+-- ---- an array's first event
+
+-- The items of the node before which the parser stood come next.
+pub record IsBegunList (new : Now) (w : Source) (c : Cursor ℕ) (n : Node) : Type 0 where
+  pub nodes : Nodes
+  pub is : nodes_of w.bytes n ≡ Some nodes
+  pub at : AtItems new w c n nodes
+
+pub array-begins : (old new : Now) (given : Event) (w : Source) (c : Cursor ℕ) (n : Node) → begins_list given.kind ≡ true → WalksPast old given new →
+    StandsBefore old w c n → IsBegunList new w c n
+unfolding walk tree_of
+array-begins old new given w c (scalar t) is walks before =
+    let kind = ap (λ (e : Event). begins_list e.kind) (first-passed old new given w c (scalar t) walks before) ∙ is in cc
+array-begins old new given w c (node.object first last inside) is walks before =
+    let kind = ap (λ (e : Event). begins_list e.kind) (first-passed old new given w c (node.object first last inside) walks before) ∙ is in cc
+array-begins old new given w c (node.array first last nodes) is walks before =
+    let passed = walks w c before.stands before.free in
+    let values = list_meant (trees_of w.bytes nodes) before.value before.meant in
+    record {
+      nodes = nodes;
+      is = refl;
+      at = record {
+        cursor = at_spot c (unpeeked (suc c.spot.place));
+        stands = passed.stands;
+        free = before.free;
+        last = last;
+        others = before.others;
+        comes =
+            drop-suc w.events c.spot.place _ _ before.comes
+            ∙ append_assoc (walk_items w.bytes nodes) (event_at sequence_end last ∷ []) before.others;
+        values = values.0;
+        meant = values.1;
+        counts = omega (arith, length-append (walk_items w.bytes nodes) (event_at sequence_end last ∷ []));
+        kept = λ point spot e. e;
+      };
+    }
+
+-- ---- a look at what comes, and an item
+
+-- Where the parser stays, the same comes.
+pub at-spot : (now new : Now) (w : Source) (c : Cursor ℕ) (n : Node) (nodes : Nodes) (at : AtItems now w c n nodes) (p : Passed) →
+    StaysThere ends_list w at.cursor p new → AtItems new w c n nodes
+at-spot now new w c n nodes at p stays = record {
+  cursor = at_spot at.cursor stays.spot;
+  stands = stays.stands;
+  free = at.free;
+  last = at.last;
+  others = at.others;
+  comes = ap (λ (k : ℕ). drop k w.events) stays.place ∙ at.comes;
+  values = at.values;
+  meant = at.meant;
+  counts = ap (λ (k : ℕ). k + length (walk_items w.bytes nodes) + 1) stays.place ∙ at.counts;
+  kept = at.kept;
+}
+
+-- What stands before an item.
+pub item-before : (now : Now) (w : Source) (c : Cursor ℕ) (n first : Node) (rest : Nodes) (at : AtItems now w c n (item first rest)) →
+    StandsBefore now w at.cursor first
+unfolding walk_items
+item-before now w c n first rest at =
+    let meant = item_meant w.bytes first rest at.values at.meant in
+    record {
+      stands = at.stands;
+      free = at.free;
+      others = walk_items w.bytes rest ++ event_at sequence_end at.last ∷ at.others;
+      comes = at.comes ∙ append_assoc (walk w.bytes first) (walk_items w.bytes rest) (event_at sequence_end at.last ∷ at.others);
+      value = meant.0;
+      meant = meant.2;
+    }
+
+-- What comes after an item.
+pub item-after : (now new : Now) (w : Source) (c : Cursor ℕ) (n first : Node) (rest : Nodes) (at : AtItems now w c n (item first rest)) →
+    StandsAfter new w at.cursor first → AtItems new w c n rest
+unfolding walk_items item-before
+item-after now new w c n first rest at after =
+    let meant = item_meant w.bytes first rest at.values at.meant in
+    let before = item-before now w c n first rest at in
+    record {
+      cursor = after.cursor;
+      stands = after.stands;
+      free = after.free;
+      last = at.last;
+      others = at.others;
+      comes =
+          ap (λ (s : Spot ℕ). drop s.place w.events) after.there
+          ∙ drop-node w at.cursor.spot.place first (walk_items w.bytes rest ++ event_at sequence_end at.last ∷ at.others) before.comes;
+      values = meant.1;
+      meant = meant.3;
+      counts =
+          let there : after.cursor.spot.place ≡ at.cursor.spot.place + length (walk w.bytes first) = ap (λ (s : Spot ℕ). s.place) after.there in
+          omega (arith, there, at.counts, length-append (walk w.bytes first) (walk_items w.bytes rest));
+      kept = λ point spot e. after.kept point spot (at.kept point spot e);
+    }
+
+-- After the closing bracket the parser stands after the node.
+pub items-closed : (now new : Now) (w : Source) (c : Cursor ℕ) (n : Node) (nodes : Nodes) (at : AtItems now w c n nodes) → nodes ≡ no_nodes →
+    StandsAt new w (at_spot at.cursor (unpeeked (suc at.cursor.spot.place))) → StandsAfter new w c n
+unfolding walk_items
+items-closed now new w c n (item first rest) at none stands = cc
+items-closed now new w c n no_nodes at none stands = record {
+  cursor = at_spot at.cursor (unpeeked (suc at.cursor.spot.place));
+  stands = stands;
+  free = at.free;
+  there = ap unpeeked (omega (arith, at.counts));
+  kept = at.kept;
+}
+
+-- What comes can't be looked at: memory ran out.
+pub at-lacks : (now : Now) (r : Refusal) (w : Source) (c : Cursor ℕ) (n : Node) (nodes : Nodes) → AtItems now w c n nodes → LacksAlone now r →
+    LacksMemory r
+at-lacks now r w c n nodes at lacks =
+    let there = at-event now w c n nodes at in lacks.lacks w at.cursor there.0 at.stands at.free there.1
 
 -- ---- what is read so far
 
@@ -126,38 +239,18 @@ module _ {V : Type 0} (reading : List ℕ → Node → Option V) where
 
   -- ---- the first event
 
-  begun : (old new : Now) (given : Event) (w : Source) (c : Cursor ℕ) (n : Node) → begins_list given.kind ≡ true → WalksPast old given new →
-      StandsBefore old w c n → LeftItems [] new w c n
-  unfolding walk tree_of
-  begun old new given w c (scalar t) is walks before =
-      let kind = ap (λ (e : Event). begins_list e.kind) (first-passed old new given w c (scalar t) walks before) ∙ is in cc
-  begun old new given w c (node.object first last inside) is walks before =
-      let kind = ap (λ (e : Event). begins_list e.kind) (first-passed old new given w c (node.object first last inside) walks before) ∙ is in cc
-  begun old new given w c (node.array first last nodes) is walks before =
-      let passed = walks w c before.stands before.free in
-      let values = list_meant (trees_of w.bytes nodes) before.value before.meant in
-      record {
-        nodes = nodes;
-        is = none-first (items_of reading w.bytes nodes);
-        at = record {
-          cursor = at_spot c (unpeeked (suc c.spot.place));
-          stands = passed.stands;
-          free = before.free;
-          last = last;
-          others = before.others;
-          comes =
-              drop-suc w.events c.spot.place _ _ before.comes
-              ∙ append_assoc (walk_items w.bytes nodes) (event_at sequence_end last ∷ []) before.others;
-          values = values.0;
-          meant = values.1;
-          counts = omega (arith, length-append (walk_items w.bytes nodes) (event_at sequence_end last ∷ []));
-          kept = λ point spot e. e;
-        };
-      }
+  all_items : (buffer : List ℕ) (n : Node) (nodes : Nodes) → nodes_of buffer n ≡ Some nodes → list_of reading buffer n ≡ items_of reading buffer nodes
+  all_items buffer (scalar t) nodes e = cc
+  all_items buffer (node.array first last inside) nodes e = let same : inside ≡ nodes = cc in ap (items_of reading buffer) same
+  all_items buffer (node.object first last inside) nodes e = cc
 
   -- An array begins, and nothing of it is read yet.
   pub list-begins : (old new : Now) → BeginsList old new → ReadSoFar old [] new
-  list-begins old new b = record { left = λ w c n before. begun old new b.given w c n b.begins b.walks before }
+  list-begins old new b = record {
+    left = λ w c n before.
+        let s = array-begins old new b.given w c n b.begins b.walks before in
+        record { nodes = s.nodes; is = all_items w.bytes n s.nodes s.is ∙ none-first (items_of reading w.bytes s.nodes); at = s.at };
+  }
 
   no_list : (buffer : List ℕ) (n : Node) → nodes_of buffer n ≡ None → list_of reading buffer n ≡ None
   no_list buffer (scalar t) e = refl
@@ -169,22 +262,6 @@ module _ {V : Type 0} (reading : List ℕ → Node → Option V) where
   list-none old r h w c n before = elim (h w c n before) [ inl lacks ↦ inl lacks | inr none ↦ inr (no_list w.bytes n none) ]
 
   -- ---- a look at what comes
-
-  -- Where the parser stays, the same comes.
-  at-spot : (now new : Now) (w : Source) (c : Cursor ℕ) (n : Node) (nodes : Nodes) (at : AtItems now w c n nodes) (p : Passed) →
-      StaysThere ends_list w at.cursor p new → AtItems new w c n nodes
-  at-spot now new w c n nodes at p stays = record {
-    cursor = at_spot at.cursor stays.spot;
-    stands = stays.stands;
-    free = at.free;
-    last = at.last;
-    others = at.others;
-    comes = ap (λ (k : ℕ). drop k w.events) stays.place ∙ at.comes;
-    values = at.values;
-    meant = at.meant;
-    counts = ap (λ (k : ℕ). k + length (walk_items w.bytes nodes) + 1) stays.place ∙ at.counts;
-    kept = at.kept;
-  }
 
   pub list-goes_on : (old now new : Now) (values : List V) → ReadSoFar old values now → StaysBefore ends_list now new → BeforeItem old values new
   list-goes_on old now new values so stays = record {
@@ -198,45 +275,6 @@ module _ {V : Type 0} (reading : List ℕ → Node → Option V) where
   }
 
   -- ---- an item
-
-  -- What stands before an item.
-  item-before : (now : Now) (w : Source) (c : Cursor ℕ) (n first : Node) (rest : Nodes) (at : AtItems now w c n (item first rest)) →
-      StandsBefore now w at.cursor first
-  unfolding walk_items
-  item-before now w c n first rest at =
-      let meant = item_meant w.bytes first rest at.values at.meant in
-      record {
-        stands = at.stands;
-        free = at.free;
-        others = walk_items w.bytes rest ++ event_at sequence_end at.last ∷ at.others;
-        comes = at.comes ∙ append_assoc (walk w.bytes first) (walk_items w.bytes rest) (event_at sequence_end at.last ∷ at.others);
-        value = meant.0;
-        meant = meant.2;
-      }
-
-  -- What comes after an item.
-  item-after : (now new : Now) (w : Source) (c : Cursor ℕ) (n first : Node) (rest : Nodes) (at : AtItems now w c n (item first rest)) →
-      StandsAfter new w at.cursor first → AtItems new w c n rest
-  unfolding walk_items item-before
-  item-after now new w c n first rest at after =
-      let meant = item_meant w.bytes first rest at.values at.meant in
-      let before = item-before now w c n first rest at in
-      record {
-        cursor = after.cursor;
-        stands = after.stands;
-        free = after.free;
-        last = at.last;
-        others = at.others;
-        comes =
-            ap (λ (s : Spot ℕ). drop s.place w.events) after.there
-            ∙ drop-node w at.cursor.spot.place first (walk_items w.bytes rest ++ event_at sequence_end at.last ∷ at.others) before.comes;
-        values = meant.1;
-        meant = meant.3;
-        counts =
-            let there : after.cursor.spot.place ≡ at.cursor.spot.place + length (walk w.bytes first) = ap (λ (s : Spot ℕ). s.place) after.there in
-            omega (arith, there, at.counts, length-append (walk w.bytes first) (walk_items w.bytes rest));
-        kept = λ point spot e. after.kept point spot (at.kept point spot e);
-      }
 
   more-read : (now new : Now) (values : List V) (v : V) (w : Source) (c : Cursor ℕ) (n : Node) (nodes : Nodes) →
       list_of reading w.bytes n ≡ option_map (λ vs. values ++ vs) (items_of reading w.bytes nodes) → AtItems now w c n nodes → IsItem nodes →
@@ -279,18 +317,8 @@ module _ {V : Type 0} (reading : List ℕ → Node → Option V) where
   closed : (now new : Now) (values : List V) (w : Source) (c : Cursor ℕ) (n : Node) (nodes : Nodes) →
       list_of reading w.bytes n ≡ option_map (λ vs. values ++ vs) (items_of reading w.bytes nodes) → (at : AtItems now w c n nodes) → nodes ≡ no_nodes →
       StandsAt new w (at_spot at.cursor (unpeeked (suc at.cursor.spot.place))) → (list_of reading w.bytes n ≡ Some values) × StandsAfter new w c n
-  unfolding walk_items
   closed now new values w c n (item first rest) is at none stands = cc
-  closed now new values w c n no_nodes is at none stands = (
-    is ∙ ap Some (append-nil values),
-    record {
-      cursor = at_spot at.cursor (unpeeked (suc at.cursor.spot.place));
-      stands = stands;
-      free = at.free;
-      there = ap unpeeked (omega (arith, at.counts));
-      kept = at.kept;
-    },
-  )
+  closed now new values w c n no_nodes is at none stands = (is ∙ ap Some (append-nil values), items-closed now new w c n no_nodes at none stands)
 
   -- The closing bracket is passed.
   pub list-ends : (old now new : Now) (values : List V) → ReadSoFar old values now → Takes ends_list now new → IsRead (list_of reading) old values new
@@ -301,11 +329,6 @@ module _ {V : Type 0} (reading : List ℕ → Node → Option V) where
       closed now new values w c n l.nodes l.is l.at (ends-after now w c n l.nodes l.at there.0 there.1 is.so) is.stands
 
   -- ---- no event
-
-  at-lacks : (now : Now) (r : Refusal) (w : Source) (c : Cursor ℕ) (n : Node) (nodes : Nodes) → AtItems now w c n nodes → LacksAlone now r →
-      LacksMemory r
-  at-lacks now r w c n nodes at lacks =
-      let there = at-event now w c n nodes at in lacks.lacks w at.cursor there.0 at.stands at.free there.1
 
   -- What comes can't be looked at.
   pub list-unseen : (old now : Now) (values : List V) (r : Refusal) → ReadSoFar old values now → LacksAlone now r →

@@ -1,0 +1,147 @@
+-- A search for an item by its index, item by item.
+use Rattle.std.specs.Prelude.{ℕ, List, MatchBool, MatchOption, IfSome, option_and_then}
+use Rattle.std.proofs.Common.{◌≡◌, ◌+◌, ◌<◌, ◌≤◌, zero, suc, Bool, true, false, Option, None, Some, inl, inr, refl, sym, ap, ◌∙◌, arith}
+use Rattle.facet_format.specs.Complaint.{Refusal}
+use Rattle.facet_format.specs.Cursor.{Cursor}
+use Rattle.facet_format.specs.Part.{Source}
+use Rattle.facet_json_document.specs.Node.{Node, Nodes, no_nodes, item}
+use Rattle.facet_json_document.specs.Now.{Now, ahead}
+use Rattle.facet_json_meaning.specs.ListSteps.{ends_list}
+use Rattle.facet_json_meaning.specs.Passing.{anything, LacksAlone}
+use Rattle.facet_json_meaning.specs.Inner.Taking.{Takes, StaysBefore}
+use Rattle.facet_json_meaning.specs.Reading.{IsRead, IsUnread}
+use Rattle.facet_json_meaning.proofs.Sequences.ListSteps.{AtItems, IsItem, at-event, ends-after, goes-on, at-spot, item-before, item-after, items-closed, at-lacks}
+use Rattle.facet_json.specs.Pointed.{item_node, StandsBeforeIt}
+use Rattle.facet_json.specs.Inner.Pointing.{FindsIt, FindsItem, LacksItems, less_one}
+
+-- The item at this index, where there is an index.
+abbrev wanted_of : Option ℕ → Nodes → Option Node
+wanted_of o nodes = option_and_then (λ i. item_node i nodes) o
+
+-- The number is this index, or none where there is none or it is at least so large.
+abbrev pub Counts : ℕ → Option ℕ → Option ℕ → Type 0
+Counts most left o = MatchOption left (IfSome o (λ i. most ≤ i)) (λ i. o ≡ Some i)
+
+-- Items before the wanted one were passed: the same item is wanted of those that are left.
+pub record IsLeft (o : Option ℕ) (now : Now) (left : Option ℕ) (w : Source) (c : Cursor ℕ) (n : Node) (nodes : Nodes) : Type 0 where
+  pub rest : Nodes
+  pub at : AtItems now w c n rest
+  pub wanted : Option ℕ
+  pub counts : Counts (ahead now) left wanted
+  pub same : wanted_of o nodes ≡ wanted_of wanted rest
+
+abbrev pub AreLeft : Option ℕ → Now → Now → Option ℕ → Type 0
+AreLeft o old now left = (w : Source) (c : Cursor ℕ) (n : Node) (nodes : Nodes) → AtItems old w c n nodes → IsLeft o now left w c n nodes
+
+pub left-all : (o : Option ℕ) (old : Now) (left : Option ℕ) → Counts (ahead old) left o → AreLeft o old old left
+left-all o old left counts w c n nodes at = record { rest = nodes; at = at; wanted = o; counts = counts; same = refl }
+
+-- ---- what comes next
+
+-- The parser stands where it stood.
+pub record IsNextLeft (o : Option ℕ) (now : Now) (left : Option ℕ) (most : ℕ) (w : Source) (c : Cursor ℕ) (n : Node) (nodes : Nodes) : Type 0 where
+  pub first : Node
+  pub rest : Nodes
+  pub at : AtItems now w c n (item first rest)
+  pub wanted : Option ℕ
+  pub counts : Counts most left wanted
+  pub same : wanted_of o nodes ≡ wanted_of wanted (item first rest)
+
+next-left : (o : Option ℕ) (now mid : Now) (left : Option ℕ) (w : Source) (c : Cursor ℕ) (n : Node) (nodes : Nodes) → IsLeft o now left w c n nodes →
+    StaysBefore ends_list now mid → IsNextLeft o mid left (ahead now) w c n nodes
+next-left o now mid left w c n nodes l stays =
+    let there = at-event now w c n l.rest l.at in
+    let is = stays.finds w l.at.cursor there.0 l.at.stands l.at.free there.1 in
+    let first = goes-on now w c n l.rest l.at there.0 there.1 is.other in
+    record {
+      first = first.first;
+      rest = first.rest;
+      at = rw first.are at (at-spot now mid w c n l.rest l.at there.0 is);
+      wanted = l.wanted;
+      counts = l.counts;
+      same = l.same ∙ ap (wanted_of l.wanted) first.are;
+    }
+
+-- ---- one item less
+
+less-first : (wanted : Option ℕ) (first : Node) (rest : Nodes) → (wanted ≡ Some 0 → ⊥) →
+    wanted_of wanted (item first rest) ≡ wanted_of (option_and_then less_one wanted) rest
+less-first None first rest other = refl
+less-first (Some zero) first rest other = absurd (other refl)
+less-first (Some (suc i)) first rest other = refl
+
+less-other : (most : ℕ) (left wanted : Option ℕ) → Counts most left wanted → (left ≡ Some 0 → ⊥) → 0 < most → wanted ≡ Some 0 → ⊥
+less-other most None wanted counts other some is = let h : most ≤ 0 = rw is at counts in omega arith
+less-other most (Some i) wanted counts other some is = other (cc)
+
+less-counts : (most fewer : ℕ) (left wanted : Option ℕ) → Counts most left wanted → fewer < most →
+    Counts fewer (option_and_then less_one left) (option_and_then less_one wanted)
+less-counts most fewer None None counts less = tt
+less-counts most fewer None (Some zero) counts less = absurd (omega arith)
+less-counts most fewer None (Some (suc i)) counts less = omega arith
+less-counts most fewer (Some zero) wanted counts less = rw counts tt
+less-counts most fewer (Some (suc i)) wanted counts less = rw counts refl
+
+-- An item that is not the wanted one is passed.
+pub left-less : (o : Option ℕ) (old now mid new : Now) (left : Option ℕ) → AreLeft o old now left → StaysBefore ends_list now mid →
+    (left ≡ Some 0 → ⊥) → IsRead anything mid tt new → ahead mid ≤ ahead now → ahead new < ahead mid →
+    AreLeft o old new (option_and_then less_one left)
+left-less o old now mid new left so_far stays other read lowers shorter w c n nodes at =
+    let l = next-left o now mid left w c n nodes (so_far w c n nodes at) stays in
+    let after = (read w l.at.cursor l.first (item-before mid w c n l.first l.rest l.at)).1 in
+    record {
+      rest = l.rest;
+      at = item-after mid new w c n l.first l.rest l.at after;
+      wanted = option_and_then less_one l.wanted;
+      counts = less-counts (ahead now) (ahead new) left l.wanted l.counts (omega arith);
+      same = l.same ∙ less-first l.wanted l.first l.rest (less-other (ahead now) left l.wanted l.counts other (omega arith));
+    }
+
+-- ---- how it ends
+
+-- The wanted item comes next.
+pub left-found : (o : Option ℕ) (old now mid : Now) (left : Option ℕ) → AreLeft o old now left → StaysBefore ends_list now mid → left ≡ Some 0 →
+    FindsItem o old true mid
+left-found o old now mid left so_far stays is w c n nodes at =
+    let l = next-left o now mid left w c n nodes (so_far w c n nodes at) stays in
+    let first : l.wanted ≡ Some 0 = rw is at l.counts in
+    record {
+      node = l.first;
+      is = l.same ∙ ap (λ wanted. wanted_of wanted (item l.first l.rest)) first;
+      cursor = l.at.cursor;
+      before = item-before mid w c n l.first l.rest l.at;
+      kept = l.at.kept;
+    }
+
+none-wanted : (wanted : Option ℕ) → wanted_of wanted no_nodes ≡ None
+none-wanted None = refl
+none-wanted (Some zero) = refl
+none-wanted (Some (suc i)) = refl
+
+-- The list's end is passed.
+pub left-none : (o : Option ℕ) (old now new : Now) (left : Option ℕ) → AreLeft o old now left → Takes ends_list now new → FindsItem o old false new
+left-none o old now new left so_far takes w c n nodes at =
+    let l = so_far w c n nodes at in
+    let there = at-event now w c n l.rest l.at in
+    let is = takes w l.at.cursor there.0 l.at.stands l.at.free there.1 in
+    let none = ends-after now w c n l.rest l.at there.0 there.1 is.so in (
+      l.same ∙ ap (wanted_of l.wanted) none ∙ none-wanted l.wanted,
+      items-closed now new w c n l.rest l.at none is.stands,
+    )
+
+-- ---- where it is refused
+
+-- What comes can't be looked at.
+pub left-unseen : (o : Option ℕ) (old now : Now) (left : Option ℕ) (r : Refusal) → AreLeft o old now left → LacksAlone now r → LacksItems old r
+left-unseen o old now left r so_far lacks w c n nodes at =
+    let l = so_far w c n nodes at in at-lacks now r w c n l.rest l.at lacks
+
+-- An item was not passed.
+pub left-unpassed : (o : Option ℕ) (old now mid : Now) (left : Option ℕ) (r : Refusal) → AreLeft o old now left → StaysBefore ends_list now mid →
+    IsUnread anything mid r → LacksItems old r
+left-unpassed o old now mid left r so_far stays unread w c n nodes at =
+    let l = next-left o now mid left w c n nodes (so_far w c n nodes at) stays in
+    elim (unread w l.at.cursor l.first (item-before mid w c n l.first l.rest l.at)) [
+      | inl lacks ↦ lacks
+      | inr none ↦ cc
+    ]

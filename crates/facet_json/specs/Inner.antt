@@ -1,0 +1,2 @@
+-- Definitions that serve private contracts alone.
+pub mod Pointing

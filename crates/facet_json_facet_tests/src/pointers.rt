@@ -1,0 +1,253 @@
+//! A search by a JSON pointer, with the document and the pointers of RFC 6901, section 5, and with others.
+
+use facet_format::FormatParser;
+use facet_json::steps::{FindError, find_pointer};
+use facet_json::{PointerError, read_tree, tree_from_slice};
+use facet_json_parser::JsonParser;
+use std::alloc::Global;
+
+/// Whether the pointer names this value of the input, which is read from where the search ends.
+fn names(alloc: Global, input: &str, pointer: &str, wanted: &str) -> bool {
+    let mut parser = JsonParser::new(alloc, input.as_bytes());
+    let Ok(true) = find_pointer(&mut parser, pointer) else {
+        return false;
+    };
+    match (
+        read_tree(alloc, &mut parser),
+        tree_from_slice(alloc, wanted.as_bytes()),
+    ) {
+        (Ok(found), Ok(wanted)) => found.is_same(&wanted),
+        _ => false,
+    }
+}
+
+/// Whether the pointer names nothing in the input, of which so many bytes are passed.
+fn lacks(alloc: Global, input: &str, pointer: &str, passed: usize) -> bool {
+    let mut parser = JsonParser::new(alloc, input.as_bytes());
+    matches!(find_pointer(&mut parser, pointer), Ok(false))
+        && parser
+            .current_span()
+            .is_some_and(|span| span.end() == passed)
+}
+
+/// The document of RFC 6901, section 5.
+const DOCUMENT: &str =
+    r#"{"foo":["bar","baz"],"":0,"a/b":1,"c%d":2,"e^f":3,"g|h":4,"i\\j":5,"k\"l":6," ":7,"m~n":8}"#;
+
+#[test]
+fn the_pointers_of_the_rfc_name_their_values(rt: HostRuntime) {
+    let rows = [
+        ("", DOCUMENT),
+        ("/foo", r#"["bar","baz"]"#),
+        ("/foo/0", r#""bar""#),
+        ("/", "0"),
+        ("/a~1b", "1"),
+        ("/c%d", "2"),
+        ("/e^f", "3"),
+        ("/g|h", "4"),
+        (r"/i\j", "5"),
+        (r#"/k"l"#, "6"),
+        ("/ ", "7"),
+        ("/m~0n", "8"),
+    ];
+    for (pointer, wanted) in rows {
+        assert!(rt; names(rt.alloc(), DOCUMENT, pointer, wanted), "at {pointer}");
+    }
+}
+
+#[test]
+fn tokens_lead_into_a_value(rt: HostRuntime) {
+    let rows = [
+        (r#"{"a":[0,{"b":[1,2]}]}"#, "/a/1/b/1", "2"),
+        ("[0,1,2,3,4,5,6,7,8,9,10,11,12,13]", "/12", "12"),
+        ("[0,1]", "/0", "0"),
+        ("[[],[[7]]]", "/1/0/0", "7"),
+        (r#"[{"a":1},{"a":2}]"#, "/1/a", "2"),
+        (r#"{"~1":1,"/":2}"#, "/~01", "1"),
+        (r#"{"~1":1,"/":2}"#, "/~1", "2"),
+        (r#"{"~":1}"#, "/~0", "1"),
+        (r#"{"a/~b":1}"#, "/a~1~0b", "1"),
+        (r#"{"01":1}"#, "/01", "1"),
+        (r#"{"0":1}"#, "/0", "1"),
+        (r#"{"é":1}"#, "/é", "1"),
+        (r#"{"a":{"":1}}"#, "/a/", "1"),
+        (r#"{"":{"":1}}"#, "//", "1"),
+        (r#"{"b":{"a":1},"a":2}"#, "/a", "2"),
+        (r#"{"ab":1,"a":2}"#, "/a", "2"),
+        (r#"{"b":"a","a":2}"#, "/a", "2"),
+        ("null", "", "null"),
+        (" [ 1 , 2 ] ", "/1", "2"),
+    ];
+    for (input, pointer, wanted) in rows {
+        assert!(rt; names(rt.alloc(), input, pointer, wanted), "{pointer} of {input}");
+    }
+}
+
+#[test]
+fn escaped_keys_are_found_by_their_text(rt: HostRuntime) {
+    let rows = [
+        (r#"{"\u0061":1}"#, "/a", "1"),
+        (r#"{"\u0061b":1,"a":2}"#, "/a", "2"),
+        (r#"{"a\/b":1}"#, "/a~1b", "1"),
+        (r#"{"m\u007en":1}"#, "/m~0n", "1"),
+        (r#"{"\n":1}"#, "/\n", "1"),
+        (r#"{"\ud83d\ude00":1}"#, "/😀", "1"),
+    ];
+    for (input, pointer, wanted) in rows {
+        assert!(rt; names(rt.alloc(), input, pointer, wanted), "{pointer} of {input}");
+    }
+}
+
+#[test]
+fn the_first_member_of_a_key_counts(rt: HostRuntime) {
+    let rows = [
+        (r#"{"a":1,"a":2}"#, "/a", "1"),
+        (r#"{"a":{"b":1},"a":{"b":2}}"#, "/a/b", "1"),
+        (r#"{"\u0061":1,"a":2}"#, "/a", "1"),
+    ];
+    for (input, pointer, wanted) in rows {
+        assert!(rt; names(rt.alloc(), input, pointer, wanted), "{pointer} of {input}");
+    }
+    assert!(rt; lacks(rt.alloc(), r#"{"a":{"b":1},"a":{"c":2}}"#, "/a/c", 12));
+}
+
+/// The whole object is passed where the first token names nothing, and the value of `foo`, which ends at 20, where the second does.
+#[test]
+fn other_pointers_name_nothing(rt: HostRuntime) {
+    let rows = [
+        ("/bar", 90),
+        ("/FOO", 90),
+        ("/foo ", 90),
+        ("/fo", 90),
+        ("/a", 90),
+        ("/0", 90),
+        ("/foo/2", 20),
+        ("/foo/00", 20),
+        ("/foo/01", 20),
+        ("/foo/-", 20),
+        ("/foo/", 20),
+        ("/foo/+1", 20),
+        ("/foo/1e0", 20),
+        ("/foo/~01", 20),
+        ("/foo/bar", 20),
+        ("/foo/18446744073709551615", 20),
+        ("/foo/18446744073709551616", 20),
+        ("/foo/184467440737095516160", 20),
+        ("/foo/0/0", 13),
+        ("//0", 25),
+    ];
+    for (pointer, passed) in rows {
+        assert!(rt; lacks(rt.alloc(), DOCUMENT, pointer, passed), "at {pointer}");
+    }
+}
+
+#[test]
+fn the_value_in_which_nothing_is_named_is_passed(rt: HostRuntime) {
+    let rows = [
+        ("{}", "/a", 2),
+        ("[]", "/0", 2),
+        ("[1,2] ", "/2", 5),
+        ("1", "/0", 1),
+        ("\"ab\" ", "/0", 4),
+        (r#"{"a":{"b":1},"b":2}"#, "/a/c", 12),
+        (r#"{"a":[[1]],"b":2}"#, "/a/0/1", 9),
+        (r#"[{"a":{"b":1}}]"#, "/0/b", 14),
+        ("[1,]", "/1", 4),
+        ("[[0,1],2]", "/0/2", 6),
+        (r#"{"\u0061":1}"#, r"/\u0061", 12),
+    ];
+    for (input, pointer, passed) in rows {
+        assert!(rt; lacks(rt.alloc(), input, pointer, passed), "{pointer} of {input}");
+    }
+}
+
+/// Whether the text is refused so, and the input is read from its start then.
+fn refuses(alloc: Global, text: &str, wanted: PointerError) -> bool {
+    let mut parser = JsonParser::new(alloc, b"[7]");
+    let refused = match find_pointer(&mut parser, text) {
+        Err(FindError::Pointer(error)) => error == wanted,
+        _ => false,
+    };
+    refused
+        && matches!(find_pointer(&mut parser, "/0"), Ok(true))
+        && parser.current_span().is_some_and(|span| span.end() == 1)
+}
+
+#[test]
+fn what_is_no_pointer_is_refused(rt: HostRuntime) {
+    let rows = [
+        ("foo", PointerError::NoSlash),
+        ("0", PointerError::NoSlash),
+        ("~", PointerError::NoSlash),
+        ("#/foo", PointerError::NoSlash),
+        ("/~", PointerError::LoneTilde(1)),
+        ("/~2", PointerError::LoneTilde(1)),
+        ("/~~0", PointerError::LoneTilde(1)),
+        ("/a~/b", PointerError::LoneTilde(2)),
+        ("/~0~1~", PointerError::LoneTilde(5)),
+        ("/é~", PointerError::LoneTilde(3)),
+    ];
+    for (text, wanted) in rows {
+        assert!(rt; refuses(rt.alloc(), text, wanted), "of {text}");
+    }
+}
+
+/// Whether the parser refuses what the search passes, with this span.
+fn stops(alloc: Global, input: &str, pointer: &str, start: usize, length: usize) -> bool {
+    let mut parser = JsonParser::new(alloc, input.as_bytes());
+    match find_pointer(&mut parser, pointer) {
+        Err(FindError::Read(error)) => error
+            .span
+            .is_some_and(|span| span.offset == start && span.len == length),
+        _ => false,
+    }
+}
+
+#[test]
+fn what_is_refused_before_the_value_is_told(rt: HostRuntime) {
+    let rows = [
+        ("", "/a", 0, 0),
+        ("{\"a\":1", "/b", 6, 0),
+        ("{\"a\":1,", "/b", 7, 0),
+        ("{\"a\":[1}", "/b", 7, 1),
+        ("{", "/b", 1, 0),
+        ("{\"a\" 1,\"b\":2}", "/b", 5, 1),
+        ("[1", "/1", 2, 0),
+        ("[1 2]", "/1", 3, 1),
+        ("]", "/0", 0, 1),
+    ];
+    for (input, pointer, start, length) in rows {
+        assert!(rt; stops(rt.alloc(), input, pointer, start, length), "{pointer} of {input}");
+    }
+}
+
+/// What stands behind the value is not looked at, and before it no text is decoded but of keys.
+#[test]
+fn what_is_not_passed_is_not_refused(rt: HostRuntime) {
+    let rows = [
+        ("{\"a\":1", "/a", "1"),
+        ("{\"a\":[7", "/a/0", "7"),
+        ("[1,2", "/1", "2"),
+        (r#"["\ud800",2]"#, "/1", "2"),
+        (r#"{"b":"\ud800","a":2}"#, "/a", "2"),
+        (r#"{"b":{"\ud800":1},"a":2}"#, "/a", "2"),
+    ];
+    for (input, pointer, wanted) in rows {
+        assert!(rt; names(rt.alloc(), input, pointer, wanted), "{pointer} of {input}");
+    }
+}
+
+/// Whether a value that comes after a member was read is found from there.
+fn finds_later(alloc: Global, input: &str) -> bool {
+    let mut parser = JsonParser::new(alloc, input.as_bytes());
+    matches!(find_pointer(&mut parser, "/a"), Ok(true))
+        && matches!(find_pointer(&mut parser, "/0/b"), Ok(true))
+        && matches!(find_pointer(&mut parser, ""), Ok(true))
+        && read_tree(alloc, &mut parser).is_ok()
+        && parser.current_span().is_some_and(|span| span.end() == 13)
+}
+
+#[test]
+fn a_search_begins_where_the_last_one_ended(rt: HostRuntime) {
+    assert!(rt; finds_later(rt.alloc(), r#"{"a":[{"b":12},3]}"#));
+}
