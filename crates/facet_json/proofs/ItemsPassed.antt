@@ -1,6 +1,6 @@
 -- A search for an item by its index, item by item.
-use Rattle.std.specs.Prelude.{ℕ, List, MatchBool, MatchOption, IfSome, option_and_then}
-use Rattle.std.proofs.Common.{◌≡◌, ◌+◌, ◌<◌, ◌≤◌, zero, suc, Bool, true, false, Option, None, Some, inl, inr, refl, sym, ap, ◌∙◌, arith}
+use Rattle.std.specs.Prelude.{ℕ, List, length, MatchBool, MatchOption, IfSome, option_and_then}
+use Rattle.std.proofs.Common.{◌≡◌, ◌+◌, ◌<◌, ◌≤◌, zero, suc, Bool, true, false, Option, None, Some, inl, inr, refl, sym, ap, ◌∙◌, subst, arith}
 use Rattle.facet_format.specs.Complaint.{Refusal}
 use Rattle.facet_format.specs.Cursor.{Cursor}
 use Rattle.facet_format.specs.Part.{Source}
@@ -15,12 +15,21 @@ use Rattle.facet_json.specs.Pointed.{item_node, StandsBeforeIt}
 use Rattle.facet_json.specs.Inner.Pointing.{FindsIt, FindsItem, LacksItems, less_one}
 
 -- The item at this index, where there is an index.
-abbrev wanted_of : Option ℕ → Nodes → Option Node
+abbrev pub wanted_of : Option ℕ → Nodes → Option Node
 wanted_of o nodes = option_and_then (λ i. item_node i nodes) o
 
 -- The number is this index, or none where there is none or it is at least so large.
 abbrev pub Counts : ℕ → Option ℕ → Option ℕ → Type 0
 Counts most left o = MatchOption left (IfSome o (λ i. most ≤ i)) (λ i. o ≡ Some i)
+
+fewer-counts : (most fewer : ℕ) (left o : Option ℕ) → fewer ≤ most → Counts most left o → Counts fewer left o
+fewer-counts most fewer None None less counts = tt
+fewer-counts most fewer None (Some i) less counts = omega arith
+fewer-counts most fewer (Some i) o less counts = counts
+
+-- An index that is as large as the input is larger than what is ahead.
+pub input-counts : (now : Now) (left o : Option ℕ) → Counts (length now.buffer) left o → Counts (ahead now) left o
+input-counts now left o counts = fewer-counts (length now.buffer) (ahead now) left o (omega arith) counts
 
 -- Items before the wanted one were passed: the same item is wanted of those that are left.
 pub record IsLeft (o : Option ℕ) (now : Now) (left : Option ℕ) (w : Source) (c : Cursor ℕ) (n : Node) (nodes : Nodes) : Type 0 where
@@ -56,7 +65,7 @@ next-left o now mid left w c n nodes l stays =
     record {
       first = first.first;
       rest = first.rest;
-      at = rw first.are at (at-spot now mid w c n l.rest l.at there.0 is);
+      at = subst (λ (ns : Nodes). AtItems mid w c n ns) first.are (at-spot now mid w c n l.rest l.at there.0 is);
       wanted = l.wanted;
       counts = l.counts;
       same = l.same ∙ ap (wanted_of l.wanted) first.are;
@@ -71,8 +80,10 @@ less-first (Some zero) first rest other = absurd (other refl)
 less-first (Some (suc i)) first rest other = refl
 
 less-other : (most : ℕ) (left wanted : Option ℕ) → Counts most left wanted → (left ≡ Some 0 → ⊥) → 0 < most → wanted ≡ Some 0 → ⊥
-less-other most None wanted counts other some is = let h : most ≤ 0 = rw is at counts in omega arith
-less-other most (Some i) wanted counts other some is = other (cc)
+less-other most None None counts other some is = cc
+less-other most None (Some zero) counts other some is = omega arith
+less-other most None (Some (suc i)) counts other some is = cc
+less-other most (Some i) wanted counts other some is = other (sym counts ∙ is)
 
 less-counts : (most fewer : ℕ) (left wanted : Option ℕ) → Counts most left wanted → fewer < most →
     Counts fewer (option_and_then less_one left) (option_and_then less_one wanted)

@@ -5,7 +5,7 @@
 use facet_format::{
     DeserializeError, DeserializeErrorKind, FormatParser, ParseError, ParseEvent, Span,
 };
-use facet_json::steps::{begin_object, find_key};
+use facet_json::steps::{FindError, begin_object, find_key, find_pointer};
 use facet_json::{
     Done, Need, from_slice, from_slice_borrowed, from_slice_borrowed_jsonc, from_slice_jsonc,
     from_slice_strict, from_str, from_str_borrowed, from_str_borrowed_jsonc, from_str_jsonc,
@@ -762,5 +762,55 @@ fn a_growth_is_refused_in_a_search(rt: HostRuntime) {
     for row in &SEARCHES {
         let first = searches(alloc, row);
         assert!(rt; but_once(first, searches(alloc, row)), "{}", row.input);
+    }
+}
+
+/// Inputs in which the number that `/a~1b/0/ab` names is searched.
+static POINTED: [Row<'static>; 2] = [
+    Row {
+        by: By::Owned,
+        input: "{\"a/b\":[{\"\\u0062\":1,\"\\u0061b\":2}]}",
+        answer: Ok("2"),
+        wants: &[(0, 0), (6, 1), (7, 1), (8, 1), (18, 1)],
+        grows: false,
+    },
+    Row {
+        by: By::Owned,
+        input: "{\"\\u0061/b\":[[]]}",
+        answer: Ok("null"),
+        wants: &[(0, 0), (0, 1), (11, 1), (12, 1)],
+        grows: false,
+    },
+];
+
+/// The number that the pointer names.
+fn number_pointed<'t>(
+    alloc: Global,
+    parser: &mut JsonParser<'_>,
+) -> Result<Option<u64>, DeserializeError<'t>> {
+    match find_pointer(parser, "/a~1b/0/ab") {
+        Ok(true) => Ok(Some(u64::read_owned(alloc, parser)?)),
+        Ok(false) | Err(FindError::Pointer(_)) => Ok(None),
+        Err(FindError::Read(error)) => Err(error),
+    }
+}
+
+/// Whether the search in the row's input gives its answer, and leaves the parser as it should.
+fn points(alloc: Global, row: &Row<'_>) -> Option<bool> {
+    let mut parser = JsonParser::new(alloc, row.input.as_bytes());
+    let answer = number_pointed(alloc, &mut parser);
+    if leaves(&answer, &mut parser) {
+        is_answer(alloc, answer, row)
+    } else {
+        Some(false)
+    }
+}
+
+#[test]
+fn a_growth_is_refused_in_a_search_by_a_pointer(rt: HostRuntime) {
+    let alloc = rt.alloc();
+    for row in &POINTED {
+        let first = points(alloc, row);
+        assert!(rt; but_once(first, points(alloc, row)), "{}", row.input);
     }
 }
