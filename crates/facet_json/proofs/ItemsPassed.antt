@@ -1,6 +1,7 @@
 -- A search for an item by its index, item by item.
 use Rattle.std.specs.Prelude.{ℕ, List, length, MatchBool, MatchOption, IfSome, option_and_then}
 use Rattle.std.proofs.Common.{◌≡◌, ◌+◌, ◌<◌, ◌≤◌, zero, suc, Bool, true, false, Option, None, Some, inl, inr, refl, sym, ap, ◌∙◌, subst, arith}
+use Rattle.std.proofs.lemmas.Bool.{eqb-true}
 use Rattle.facet_format.specs.Complaint.{Refusal}
 use Rattle.facet_format.specs.Cursor.{Cursor}
 use Rattle.facet_format.specs.Part.{Source}
@@ -12,7 +13,7 @@ use Rattle.facet_json_meaning.specs.Inner.Taking.{Takes, StaysBefore}
 use Rattle.facet_json_meaning.specs.Reading.{IsRead, IsUnread}
 use Rattle.facet_json_meaning.proofs.Sequences.ListSteps.{AtItems, IsItem, at-event, ends-after, goes-on, at-spot, item-before, item-after, items-closed, at-lacks}
 use Rattle.facet_json.specs.Pointed.{item_node, StandsBeforeIt}
-use Rattle.facet_json.specs.Inner.Pointing.{FindsIt, FindsItem, LacksItems, less_one}
+use Rattle.facet_json.specs.Inner.Pointing.{FindsIt, FindsItem, LacksItems, less_one, zero_is}
 
 -- The item at this index, where there is an index.
 abbrev pub wanted_of : Option ℕ → Nodes → Option Node
@@ -93,9 +94,16 @@ less-counts most fewer None (Some (suc i)) counts less = omega arith
 less-counts most fewer (Some zero) wanted counts less = rw counts tt
 less-counts most fewer (Some (suc i)) wanted counts less = rw counts refl
 
+is-zero : (left : Option ℕ) → zero_is left ≡ true → left ≡ Some 0
+is-zero None is = cc
+is-zero (Some n) is = ap Some (eqb-true n 0 is)
+
+no-zero : (left : Option ℕ) → zero_is left ≡ false → left ≡ Some 0 → ⊥
+no-zero left other e = let is : zero_is left ≡ true = ap zero_is e in cc
+
 -- An item that is not the wanted one is passed.
 pub left-less : (o : Option ℕ) (old now mid new : Now) (left : Option ℕ) → AreLeft o old now left → StaysBefore ends_list now mid →
-    (left ≡ Some 0 → ⊥) → IsRead anything mid tt new → ahead mid ≤ ahead now → ahead new < ahead mid →
+    zero_is left ≡ false → IsRead anything mid tt new → ahead mid ≤ ahead now → ahead new < ahead mid →
     AreLeft o old new (option_and_then less_one left)
 left-less o old now mid new left so_far stays other read lowers shorter w c n nodes at =
     let l = next-left o now mid left w c n nodes (so_far w c n nodes at) stays in
@@ -105,17 +113,21 @@ left-less o old now mid new left so_far stays other read lowers shorter w c n no
       at = item-after mid new w c n l.first l.rest l.at after;
       wanted = option_and_then less_one l.wanted;
       counts = less-counts (ahead now) (ahead new) left l.wanted l.counts (omega arith);
-      same = l.same ∙ less-first l.wanted l.first l.rest (less-other (ahead now) left l.wanted l.counts other (omega arith));
+      same = l.same ∙ less-first l.wanted l.first l.rest (less-other (ahead now) left l.wanted l.counts (no-zero left other) (omega arith));
     }
 
 -- ---- how it ends
 
+first-counts : (most : ℕ) (left wanted : Option ℕ) → Counts most left wanted → left ≡ Some 0 → wanted ≡ Some 0
+first-counts most None wanted counts is = cc
+first-counts most (Some i) wanted counts is = counts ∙ is
+
 -- The wanted item comes next.
-pub left-found : (o : Option ℕ) (old now mid : Now) (left : Option ℕ) → AreLeft o old now left → StaysBefore ends_list now mid → left ≡ Some 0 →
+pub left-found : (o : Option ℕ) (old now mid : Now) (left : Option ℕ) → AreLeft o old now left → StaysBefore ends_list now mid → zero_is left ≡ true →
     FindsItem o old true mid
 left-found o old now mid left so_far stays is w c n nodes at =
     let l = next-left o now mid left w c n nodes (so_far w c n nodes at) stays in
-    let first : l.wanted ≡ Some 0 = rw is at l.counts in
+    let first = first-counts (ahead now) left l.wanted l.counts (is-zero left is) in
     record {
       node = l.first;
       is = l.same ∙ ap (λ wanted. wanted_of wanted (item l.first l.rest)) first;

@@ -43,16 +43,16 @@ begins-list (event.scalar value) e = cc
 
 -- ---- an object
 
-child-member : (name buffer : List ℕ) (n : Node) (members : Members) → members_of buffer n ≡ Some members →
-    child_node name buffer n ≡ first_value (from_key name buffer members)
-child-member name buffer (scalar t) members e = cc
-child-member name buffer (array first last nodes) members e = cc
-child-member name buffer (object first last inside) members e =
-    let same : inside ≡ members = cc in ap (λ ms. first_value (from_key name buffer ms)) same
+child-member : (name buffer : List ℕ) (n : Node) (inner : Members) → members_of buffer n ≡ Some inner →
+    child_node name buffer n ≡ first_value (from_key name buffer inner)
+child-member name buffer (scalar t) inner e = cc
+child-member name buffer (array first last nodes) inner e = cc
+child-member name buffer (object first last inside) inner e =
+    let same : inside ≡ inner = cc in ap (λ ms. first_value (from_key name buffer ms)) same
 
-among : (now : Now) (w : Source) (c : Cursor ℕ) (n : Node) (members : Members) (at : AtMembers now w c n members) →
-    StandsAmong now w at.cursor members at.last at.others
-among now w c n members at =
+among : (now : Now) (w : Source) (c : Cursor ℕ) (n : Node) (inner : Members) (at : AtMembers now w c n inner) →
+    StandsAmong now w at.cursor inner at.last at.others
+among now w c n inner at =
     record { stands = at.stands; free = at.free; comes = at.comes; values = at.values; meant = at.meant }
 
 -- A member is found among those of the node, or none.
@@ -120,10 +120,10 @@ in-list-lacks old mid given r begins walks lacks w c n before =
 
 pub in-scalar : (name : List ℕ) (old new : Now) (given : Event) → begun_by given.kind ≡ Some begun.Scalar → WalksPast old given new →
     FindsChild name old false new
+unfolding walk
 in-scalar name old new given begins walks w c n before = by n before
   where
     by : (m : Node) → StandsBefore old w c m → FindsIt (child_node name w.bytes m) false new w c m
-    unfolding walk
     by (scalar t) before = (refl, after-one old new given w c (scalar t) walks before refl)
     by (array first last nodes) before =
         let kind = ap (λ (e : Event). begun_by e.kind) (first-passed old new given w c (array first last nodes) walks before) ∙ begins in cc

@@ -13,16 +13,17 @@ use Rattle.facet_json_tree.proofs.PointerSteps.{first-left, only-whole}
 use Rattle.facet_json.specs.Pointed.{child_node, node_named, StandsBeforeIt, StandsPast, FindsNamed, LacksNode}
 use Rattle.facet_json.specs.Inner.Pointing.{FindsIt, FindsChild}
 
+behind_child : (names others : List (List ℕ)) (buffer : List ℕ) (o : Option Node) →
+    ((m : Node) → node_named (names ++ others) buffer m ≡ option_and_then (node_named others buffer) (node_named names buffer m)) →
+    option_and_then (node_named (names ++ others) buffer) o ≡ option_and_then (node_named others buffer) (option_and_then (node_named names buffer) o)
+behind_child names others buffer None within = refl
+behind_child names others buffer (Some m) within = within m
+
 -- Names behind others name what they name within what those name.
 named-behind : (names others : List (List ℕ)) (buffer : List ℕ) (n : Node) →
     node_named (names ++ others) buffer n ≡ option_and_then (node_named others buffer) (node_named names buffer n)
 named-behind [] others buffer n = refl
-named-behind (name ∷ names) others buffer n = by (child_node name buffer n)
-  where
-    by : (o : Option Node) → option_and_then (node_named (names ++ others) buffer) o
-        ≡ option_and_then (node_named others buffer) (option_and_then (node_named names buffer) o)
-    by None = refl
-    by (Some m) = named-behind names others buffer m
+named-behind (name ∷ names) others buffer n = behind_child names others buffer (child_node name buffer n) (λ m. named-behind names others buffer m)
 
 -- The names before the rest of a pointer were followed.
 pub record AreFollowed (old now : Now) (rest : List ℕ) (names : List (List ℕ)) : Type 0 where
@@ -42,6 +43,12 @@ followed-none old text names is = record {
 }
 
 -- ---- one name more
+
+-- The same search, of the same token.
+pub finds-same : (now new : Now) (token other : List ℕ) (is was : Bool) → token ≡ other → is ≡ was → FindsChild (unescaped token) now is new →
+    FindsChild (unescaped other) now was new
+finds-same now new token other is was same answer finds =
+    subst (λ (t : List ℕ). FindsChild (unescaped t) now was new) same (subst (λ (b : Bool). FindsChild (unescaped token) now b new) answer finds)
 
 module _ (old now new : Now) (text : List ℕ) (start : ℕ) (within : start < length text) (names : List (List ℕ))
     (so_far : AreFollowed old now (drop start text) names) where

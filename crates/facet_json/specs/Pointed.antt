@@ -18,7 +18,7 @@ use Rattle.facet_json_facet.specs.Finding.{from_key}
 -- the value of the first one of the members
 abbrev pub first_value : Members → Option Node
 first_value no_members = None
-first_value (member key mark value members) = Some value
+first_value (member key mark value rest) = Some value
 
 -- the item at this index, the first at 0
 abbrev pub item_node : ℕ → Nodes → Option Node

@@ -14,7 +14,7 @@ ghost use Rattle.facet_json_tree.specs.Pointer.{IsPointer, index};
 ghost use Rattle.facet_json_tree.specs.PointerViews.{Refuses};
 ghost use Rattle.facet_json_tree.specs.Same.{same_bytes};
 ghost use Rattle.facet_json_facet.specs.Finding.{FindsKey, LacksMembers};
-ghost use Rattle.facet_json.specs.Inner.Pointing.{begun_by, FindsChild, FindsItem, LacksItems, less_one};
+ghost use Rattle.facet_json.specs.Inner.Pointing.{begun_by, FindsChild, FindsItem, LacksItems, less_one, zero_is};
 ghost use Rattle.facet_json.specs.Pointed.{FindsNamed, FindsPointed, LacksNode, LacksPointed};
 ghost use Rattle.facet_json.specs.PointedViews.{IfPointer, IfRead};
 
@@ -169,7 +169,7 @@ fn find_item<'t>(
 {
     let mut left = index_within(parser, token);
     while !take_end(parser)? {
-        if matches!(left, Some(0)) {
+        if is_zero(left) {
             return Ok(true);
         }
         pass_value(parser)?;
@@ -187,6 +187,16 @@ fn index_within(parser: &JsonParser<'_>, token: &[u8]) -> Option<usize>
     let bytes = parser.input().unwrap().len();
     let index = index_of(token)?;
     if index < bytes { Some(index) } else { None }
+}
+
+/// Whether no item is left to pass before the wanted one.
+fn is_zero(left: Option<usize>) -> bool
+    ensures { result ≡ zero_is left }
+{
+    match left {
+        Some(items) => items == 0,
+        None => false,
+    }
 }
 
 /// How many items are left to pass, after one.

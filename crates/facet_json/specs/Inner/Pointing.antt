@@ -1,5 +1,5 @@
 -- One token of a pointer: what it names directly within a node.
-use Rattle.std.specs.Prelude.{◌≡◌, ℕ, zero, suc, Bool, List, Option, Some, None, MatchBool, option_and_then}
+use Rattle.std.specs.Prelude.{◌≡◌, ℕ, zero, suc, Bool, List, ◌==◌, false, Option, Some, None, MatchBool, option_and_then}
 use Rattle.facet_format.specs.Complaint.{Refusal}
 use Rattle.facet_format.specs.Cursor.{Cursor}
 use Rattle.facet_format.specs.Event.{EventKind, struct_start, sequence_start, scalar}
@@ -42,3 +42,8 @@ LacksItems old refusal = (w : Source) (c : Cursor ℕ) (node : Node) (nodes : No
 abbrev pub less_one : ℕ → Option ℕ
 less_one zero = None
 less_one (suc n) = Some n
+
+-- whether it is there, and 0
+abbrev pub zero_is : Option ℕ → Bool
+zero_is None = false
+zero_is (Some n) = n == 0

@@ -28,3 +28,11 @@ returns-clause-finds c =
       pointer = subst (λ (text : List ℕ). IsPointer text is.0) text is.1;
       finds = λ read pointer. c.in_ok-found.ensures.finds read (rw text pointer);
     }
+
+pub returns-in_err-found-clause-lacks : goal.returns-in_err-found-clause-lacks
+returns-in_err-found-clause-lacks c =
+    let p = err_from_is_err_and c.from_residual-in_err-found.result c.from_residual-in_err-found.ensures.1 in
+    let told = c.in_ok-check.ensures.ok in
+    let is = is_pointer c.as_bytes-bytes.result.now told.0 told.1 in
+    let pointer = subst (λ (text : List ℕ). IsPointer text is.0) c.as_bytes-bytes.ensures.value is.1 in
+    rw (p.1, p.2) (record { names = is.0; pointer = pointer; lacks = c.in_err-found.ensures.lacks is.0 is.1 })
