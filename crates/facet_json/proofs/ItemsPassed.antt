@@ -1,6 +1,6 @@
 -- A search for an item by its index, item by item.
-use Rattle.std.specs.Prelude.{ℕ, List, length, MatchBool, MatchOption, IfSome, option_and_then}
-use Rattle.std.proofs.Common.{◌≡◌, ◌+◌, ◌<◌, ◌≤◌, zero, suc, Bool, true, false, Option, None, Some, inl, inr, refl, sym, ap, ◌∙◌, subst, arith}
+use Rattle.std.specs.Prelude.{ℕ, length, MatchOption, IfSome, option_and_then}
+use Rattle.std.proofs.Common.{◌≡◌, ◌<◌, ◌≤◌, zero, suc, true, false, Option, None, Some, inl, inr, refl, sym, ap, ◌∙◌, subst, arith}
 use Rattle.std.proofs.lemmas.Bool.{eqb-true}
 use Rattle.facet_format.specs.Complaint.{Refusal}
 use Rattle.facet_format.specs.Cursor.{Cursor}
@@ -11,9 +11,9 @@ use Rattle.facet_json_meaning.specs.ListSteps.{ends_list}
 use Rattle.facet_json_meaning.specs.Passing.{anything, LacksAlone}
 use Rattle.facet_json_meaning.specs.Inner.Taking.{Takes, StaysBefore}
 use Rattle.facet_json_meaning.specs.Reading.{IsRead, IsUnread}
-use Rattle.facet_json_meaning.proofs.Sequences.ListSteps.{AtItems, IsItem, at-event, ends-after, goes-on, at-spot, item-before, item-after, items-closed, at-lacks}
-use Rattle.facet_json.specs.Pointed.{item_node, StandsBeforeIt}
-use Rattle.facet_json.specs.Inner.Pointing.{FindsIt, FindsItem, LacksItems, less_one, zero_is}
+use Rattle.facet_json_meaning.proofs.Sequences.ListSteps.{AtItems, at-event, ends-after, goes-on, at-spot, item-before, item-after, items-closed, at-lacks}
+use Rattle.facet_json.specs.Pointed.{item_node}
+use Rattle.facet_json.specs.Inner.Pointing.{FindsItem, LacksItems, less_one, zero_is}
 
 -- The item at this index, where there is an index.
 abbrev pub wanted_of : Option ℕ → Nodes → Option Node

@@ -1,6 +1,6 @@
 -- What one token of a pointer names within the node that comes next: a member's value, an item, or nothing.
 use Rattle.std.specs.Prelude.{ℕ, List, MatchBool, option_and_then}
-use Rattle.std.proofs.Common.{◌≡◌, ◌+◌, Bool, true, false, inl, inr, Option, None, Some, refl, sym, ap, ◌∙◌}
+use Rattle.std.proofs.Common.{◌≡◌, Bool, true, false, Option, None, Some, refl, ap, ◌∙◌}
 use Rattle.facet_format.specs.Complaint.{Refusal}
 use Rattle.facet_format.specs.Cursor.{Cursor, unpeeked}
 use Rattle.facet_format.specs.Event.{Event, EventKind, struct_start, sequence_start}
@@ -10,7 +10,7 @@ use Rattle.facet_json_document.specs.Node.{Node, scalar, array, object, Nodes, M
 use Rattle.facet_json_document.specs.Now.{Now}
 use Rattle.facet_json_document.specs.Walk.{walk}
 use Rattle.facet_json_meaning.specs.ListSteps.{nodes_of, begins_list}
-use Rattle.facet_json_meaning.specs.Nodes.{StandsBefore, StandsAfter}
+use Rattle.facet_json_meaning.specs.Nodes.{StandsBefore}
 use Rattle.facet_json_meaning.specs.Objects.{members_of, begins_object}
 use Rattle.facet_json_meaning.specs.Passing.{WalksPast, LacksAlone}
 use Rattle.facet_json_meaning.proofs.Objects.MembersOnWalk.{AtMembers, object-begins}
@@ -20,7 +20,6 @@ use Rattle.facet_json_tree.specs.Pointer.{index}
 use Rattle.facet_json_facet.specs.Finding.{from_key, StandsAmong, FindsKey, FindsFirst, FindsNone, LacksMembers}
 use Rattle.facet_json.specs.Pointed.{first_value, item_node, child_node, LacksNode}
 use Rattle.facet_json.specs.Inner.Pointing.{begun_by, FindsIt, FindsChild, FindsItem, LacksItems}
-use Rattle.facet_json.specs.declared.pointer.Begun.{Begun}
 use Rattle.facet_json.specs.declared.pointer.Begun.TheVariants as begun
 
 -- ---- what begins

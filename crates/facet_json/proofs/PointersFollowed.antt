@@ -1,5 +1,5 @@
 -- Along the names of a pointer, from node to node.
-use Rattle.std.specs.Prelude.{ℕ, List, MatchBool, option_and_then}
+use Rattle.std.specs.Prelude.{ℕ, List, option_and_then}
 use Rattle.std.proofs.Common.{◌≡◌, ◌+◌, ◌<◌, Bool, true, false, Option, None, Some, [], ◌∷◌, ◌++◌, length, drop, refl, sym, ap, ◌∙◌, subst, append_assoc, append-nil}
 use Rattle.facet_format.specs.Complaint.{Refusal}
 use Rattle.facet_format.specs.Cursor.{Cursor}
@@ -10,8 +10,8 @@ use Rattle.facet_json_meaning.specs.Nodes.{StandsBefore}
 use Rattle.facet_json_tree.specs.Inner.PointerParts.{unescaped, before_slash}
 use Rattle.facet_json_tree.specs.Pointer.{IsPointer}
 use Rattle.facet_json_tree.proofs.PointerSteps.{first-left, only-whole}
-use Rattle.facet_json.specs.Pointed.{child_node, node_named, StandsBeforeIt, StandsPast, FindsNamed, LacksNode}
-use Rattle.facet_json.specs.Inner.Pointing.{FindsIt, FindsChild}
+use Rattle.facet_json.specs.Pointed.{child_node, node_named, StandsBeforeIt, FindsNamed, LacksNode}
+use Rattle.facet_json.specs.Inner.Pointing.{FindsChild}
 
 behind_child : (names others : List (List ℕ)) (buffer : List ℕ) (o : Option Node) →
     ((m : Node) → node_named (names ++ others) buffer m ≡ option_and_then (node_named others buffer) (node_named names buffer m)) →

@@ -26,12 +26,16 @@ use facet_json_parser::JsonParser;
 use facet_json_tree::pointer::{check, first_token, index_of, stands_for};
 use std::borrow::CowStr;
 
-/// Goes to the value that a JSON pointer names (RFC 6901) within the value before which the parser stands. Each token of the pointer names a
-/// member of an object, or an item of a list by its index. It answers whether there is such a value. Then the parser stands right before it,
-/// and it is read or passed as any value. Else the value in which a token names nothing, a scalar too, is passed to its end.
+/// Goes to the value that a JSON pointer names (RFC 6901) within the value before which the parser stands, and answers whether there is one. Then
+/// the parser stands right before it, and it is read or passed as any value. The empty pointer names the value that comes next; each token
+/// behind a `/` names a member of an object, or an item of a list by its index, which is `0` or digits that do not begin with `0`. In a token
+/// `~1` stands for `/` and `~0` for `~`. A parser does not go back: of several members with one key the first one counts, unlike for
+/// `Tree::pointer`.
 ///
-/// What stands before the value is passed undecoded, but for keys with an escape. A parser does not go back: of several members with one key
-/// the first one counts, unlike for `Tree::pointer`.
+/// Where nothing has that name, the value in which a token names nothing is passed: an object or a list to its end, or a scalar.
+///
+/// What stands before the value that is named is passed as `pass_value` does. Only keys with an escape are decoded, and a scalar that is an item
+/// behind a comment or in which a token is sought.
 ///
 /// ```text
 /// of {"log":[{"ms":5},{"ms":7,"a/b":null}]}
@@ -45,10 +49,7 @@ use std::borrow::CowStr;
 ///
 /// - `Pointer`: the text is no pointer, whatever the input is. Nothing was read.
 /// - `Read`: as `next_of_value`, `next_name` and `pass_value`; and where no value comes, a mismatch.
-pub fn find_pointer<'t>(
-    parser: &mut JsonParser<'_>,
-    pointer: &str,
-) -> Result<bool, FindError<'t>>
+pub fn find_pointer<'t>(parser: &mut JsonParser<'_>, pointer: &str) -> Result<bool, FindError<'t>>
     ensures finds { IfOk result (λ is. FindsPointed pointer.now parser.old is parser.new) }
     ensures refuses { IfErr result (λ e. IfPointer e (λ p. Refuses pointer.now p × (parser.new ≡ parser.old))) }
     ensures lacks { IfErr result (λ e. IfRead e (LacksPointed pointer.now parser.old)) }
@@ -63,10 +64,7 @@ pub fn find_pointer<'t>(
 }
 
 /// Goes along the tokens of a text that is a pointer.
-fn follow<'t>(
-    parser: &mut JsonParser<'_>,
-    pointer: &[u8],
-) -> Result<bool, DeserializeError<'t>>
+fn follow<'t>(parser: &mut JsonParser<'_>, pointer: &[u8]) -> Result<bool, DeserializeError<'t>>
     ensures finds { IfOk result (λ is. (names : List (List ℕ)) → IsPointer pointer.now names → FindsNamed names parser.old is parser.new) }
     ensures lacks { IfErr result (λ e. (names : List (List ℕ)) → IsPointer pointer.now names → LacksNode parser.old (refusal_of e)) }
     ensures keeps { KeepsOn parser.old parser.new }
@@ -85,10 +83,7 @@ fn follow<'t>(
 }
 
 /// Goes to what a token names directly within the value that comes next, or passes this value.
-fn find_child<'t>(
-    parser: &mut JsonParser<'_>,
-    token: &[u8],
-) -> Result<bool, DeserializeError<'t>>
+fn find_child<'t>(parser: &mut JsonParser<'_>, token: &[u8]) -> Result<bool, DeserializeError<'t>>
     ensures finds { IfOk result (λ is. FindsChild (unescaped token.now) parser.old is parser.new) }
     ensures lacks { IfErr result (λ e. LacksNode parser.old (refusal_of e)) }
     ensures keeps { KeepsOn parser.old parser.new }
@@ -130,10 +125,7 @@ fn what_begins<'t>(event: ParseEvent<'_>) -> Result<Begun, DeserializeError<'t>>
 }
 
 /// Passes members of the object that is being read, up to the first key that the token stands for, which it passes too, or up to the end.
-fn find_named<'t>(
-    parser: &mut JsonParser<'_>,
-    token: &[u8],
-) -> Result<bool, DeserializeError<'t>>
+fn find_named<'t>(parser: &mut JsonParser<'_>, token: &[u8]) -> Result<bool, DeserializeError<'t>>
     ensures finds { IfOk result (λ is. FindsKey (unescaped token.now) parser.old is parser.new) }
     ensures lacks { IfErr result (λ e. LacksMembers parser.old (refusal_of e)) }
     ensures keeps { KeepsOn parser.old parser.new }
@@ -157,10 +149,7 @@ fn is_named(key: CowStr<'_>, token: &[u8]) -> bool
 }
 
 /// Passes items of the list that is being read, up to the one whose index the token is, or up to the end.
-fn find_item<'t>(
-    parser: &mut JsonParser<'_>,
-    token: &[u8],
-) -> Result<bool, DeserializeError<'t>>
+fn find_item<'t>(parser: &mut JsonParser<'_>, token: &[u8]) -> Result<bool, DeserializeError<'t>>
     ensures finds { IfOk result (λ is. FindsItem (index token.now) parser.old is parser.new) }
     ensures lacks { IfErr result (λ e. LacksItems parser.old (refusal_of e)) }
     ensures keeps { KeepsOn parser.old parser.new }

@@ -51,7 +51,10 @@ fn the_pointers_of_the_rfc_name_their_values(rt: HostRuntime) {
         ("/m~0n", "8"),
     ];
     for (pointer, wanted) in rows {
-        assert!(rt; names(rt.alloc(), DOCUMENT, pointer, wanted), "at {pointer}");
+        assert!(rt;
+            names(rt.alloc(), DOCUMENT, pointer, wanted),
+            "at {pointer}"
+        );
     }
 }
 
@@ -79,7 +82,10 @@ fn tokens_lead_into_a_value(rt: HostRuntime) {
         (" [ 1 , 2 ] ", "/1", "2"),
     ];
     for (input, pointer, wanted) in rows {
-        assert!(rt; names(rt.alloc(), input, pointer, wanted), "{pointer} of {input}");
+        assert!(rt;
+            names(rt.alloc(), input, pointer, wanted),
+            "{pointer} of {input}"
+        );
     }
 }
 
@@ -94,7 +100,10 @@ fn escaped_keys_are_found_by_their_text(rt: HostRuntime) {
         (r#"{"\ud83d\ude00":1}"#, "/😀", "1"),
     ];
     for (input, pointer, wanted) in rows {
-        assert!(rt; names(rt.alloc(), input, pointer, wanted), "{pointer} of {input}");
+        assert!(rt;
+            names(rt.alloc(), input, pointer, wanted),
+            "{pointer} of {input}"
+        );
     }
 }
 
@@ -106,7 +115,10 @@ fn the_first_member_of_a_key_counts(rt: HostRuntime) {
         (r#"{"\u0061":1,"a":2}"#, "/a", "1"),
     ];
     for (input, pointer, wanted) in rows {
-        assert!(rt; names(rt.alloc(), input, pointer, wanted), "{pointer} of {input}");
+        assert!(rt;
+            names(rt.alloc(), input, pointer, wanted),
+            "{pointer} of {input}"
+        );
     }
     assert!(rt; lacks(rt.alloc(), r#"{"a":{"b":1},"a":{"c":2}}"#, "/a/c", 12));
 }
@@ -137,7 +149,10 @@ fn other_pointers_name_nothing(rt: HostRuntime) {
         ("//0", 25),
     ];
     for (pointer, passed) in rows {
-        assert!(rt; lacks(rt.alloc(), DOCUMENT, pointer, passed), "at {pointer}");
+        assert!(rt;
+            lacks(rt.alloc(), DOCUMENT, pointer, passed),
+            "at {pointer}"
+        );
     }
 }
 
@@ -155,9 +170,18 @@ fn the_value_in_which_nothing_is_named_is_passed(rt: HostRuntime) {
         ("[1,]", "/1", 4),
         ("[[0,1],2]", "/0/2", 6),
         (r#"{"\u0061":1}"#, r"/\u0061", 12),
+        (r#"{"log":[{"ms":5},{"ms":7,"a/b":null}]}"#, "/log/2", 37),
+        (
+            r#"{"log":[{"ms":5},{"ms":7,"a/b":null}]}"#,
+            "/log/0/ms/0",
+            15,
+        ),
     ];
     for (input, pointer, passed) in rows {
-        assert!(rt; lacks(rt.alloc(), input, pointer, passed), "{pointer} of {input}");
+        assert!(rt;
+            lacks(rt.alloc(), input, pointer, passed),
+            "{pointer} of {input}"
+        );
     }
 }
 
@@ -217,7 +241,10 @@ fn what_is_refused_before_the_value_is_told(rt: HostRuntime) {
         ("]", "/0", 0, 1),
     ];
     for (input, pointer, start, length) in rows {
-        assert!(rt; stops(rt.alloc(), input, pointer, start, length), "{pointer} of {input}");
+        assert!(rt;
+            stops(rt.alloc(), input, pointer, start, length),
+            "{pointer} of {input}"
+        );
     }
 }
 
@@ -233,7 +260,10 @@ fn what_is_not_passed_is_not_refused(rt: HostRuntime) {
         (r#"{"b":{"\ud800":1},"a":2}"#, "/a", "2"),
     ];
     for (input, pointer, wanted) in rows {
-        assert!(rt; names(rt.alloc(), input, pointer, wanted), "{pointer} of {input}");
+        assert!(rt;
+            names(rt.alloc(), input, pointer, wanted),
+            "{pointer} of {input}"
+        );
     }
 }
 

@@ -1,4 +1,4 @@
-use Rattle.std.proofs.Common.{◌≡◌, ℕ, List, ◌+◌, length, drop, ap, sym, subst, ◌∙◌, true, false, rules, arith}
+use Rattle.std.proofs.Common.{◌≡◌, ℕ, ◌+◌, length, drop, ap, sym, subst, ◌∙◌, true, false, rules, arith}
 use Rattle.std.proofs.lemmas.List.{take_rest, drop_all}
 use Rattle.std.proofs.lemmas.Result.{err_from_is_err_and}
 use Rattle.facet_format.specs.Views.{refusal_of}
@@ -6,7 +6,7 @@ use Rattle.facet_json_core.proofs.Refusing.{tells-later}
 use Rattle.facet_json_meaning.proofs.Keeping.{keeps-then}
 use Rattle.facet_json_meaning.proofs.Refusals.{keeps-there}
 use Rattle.facet_json_meaning.proofs.Walks.NextOnWalk.{goes-keeps}
-use Rattle.facet_json_tree.specs.Inner.PointerParts.{unescaped, before_slash}
+use Rattle.facet_json_tree.specs.Inner.PointerParts.{before_slash}
 use Rattle.facet_json_tree.proofs.PointerSteps.{next-within}
 use Rattle.facet_json_facet.proofs.TakenNext.{stays-put}
 use Rattle.facet_json.proofs.PointersFollowed.{AreFollowed, finds-same, followed-none, followed-more, followed-past, followed-lacks, followed-all}
