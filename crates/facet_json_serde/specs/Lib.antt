@@ -1,3 +1,4 @@
 pub mod Begun
+pub mod Messages
 pub mod OneValue
 pub mod Within

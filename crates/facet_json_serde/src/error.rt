@@ -1,6 +1,10 @@
 //! Why a value was not read or written, and where.
 
-ghost use Rattle.std.specs.Prelude.{length};
+ghost use Rattle.std.specs.Prelude.{◌≡◌, length};
+ghost use Rattle.std.specs.Option.{option_map};
+ghost use Rattle.facet_format.specs.Views.{span_of};
+ghost use Rattle.facet_json_core.specs.Report.{report_text};
+ghost use Rattle.facet_json_serde.specs.Messages.{message};
 ghost use Rattle.facet_json_serde.specs.Within.{LiesWithin};
 
 use crate::fault::{Detail, Fault, FaultKind, Sort};
@@ -123,7 +127,10 @@ impl Error<'static> {
     ///   "x": "a"}
     ///        ^^^
     /// ```
-    pub fn report<'a>(&self, source: &'a str) -> Report<'a> {
+    pub fn report<'a>(&self, source: &'a str) -> Report<'a>
+        ensures error { result.error ≡ self.now }
+        ensures source { result.source.now ≡ source.now }
+    {
         Report {
             error: *self,
             source,
@@ -142,6 +149,8 @@ pub struct Report<'a> {
 }
 
 impl fmt::Display for ErrorKind<'static> {
+    ghost output = { message };
+
     fn fmt<W: fmt::Write>(&self, f: &mut fmt::Formatter<W>) -> fmt::Result {
         match self {
             ErrorKind::Read(refused) => write!(f, "{}", JsonErrorKind::Read(*refused)),
@@ -162,12 +171,16 @@ impl fmt::Display for ErrorKind<'static> {
 }
 
 impl fmt::Display for Error<'static> {
+    ghost output = { λ error. message error.kind };
+
     fn fmt<W: fmt::Write>(&self, f: &mut fmt::Formatter<W>) -> fmt::Result {
         fmt::Display::fmt(&self.kind, f)
     }
 }
 
 impl fmt::Display for Report<'_> {
+    ghost output = { λ report. report_text (message report.error.kind) report.source.now (option_map span_of report.error.span) };
+
     fn fmt<W: fmt::Write>(&self, f: &mut fmt::Formatter<W>) -> fmt::Result {
         match self.error.span {
             None => write!(f, "{}", self.error.kind),

@@ -1,10 +1,13 @@
 //! What is wrong, without borrowed texts, so that generic code can hold it.
 
+ghost use Rattle.std.specs.Prelude.{◌≡◌};
+ghost use Rattle.facet_json_serde.specs.Messages.{detail_text};
+
 use facet_format::Span;
 use std::fmt;
 use std::fmt::InlineText;
 
-/// The first bytes of a name or of a message, at most 32, cut between characters.
+/// The first bytes of a name or of a message, at most 32: where it is longer, cut between characters, with dots in place of the last ones.
 #[derive(Clone, Copy, Drop)]
 pub struct Detail(InlineText<32>);
 
@@ -15,7 +18,9 @@ impl Detail {
     }
 
     /// The text.
-    pub fn as_str(&self) -> &str {
+    pub fn as_str(&self) -> &str
+        ensures { result.now ≡ detail_text self.now }
+    {
         self.0.as_str()
     }
 }
@@ -27,8 +32,8 @@ impl fmt::Debug for Detail {
 }
 
 /// What a step was to read, or what came in its place.
-#[derive(Debug, Clone, Copy, Drop, PartialEq, Eq)]
-pub enum Sort {
+#[derive(Debug, Clone, Copy, Drop)]
+pub(crate) enum Sort {
     /// `true` or `false`.
     Bool,
     /// A number that a `u8` holds.
@@ -94,8 +99,8 @@ impl Sort {
 }
 
 /// What is wrong.
-#[derive(Debug, Clone, Copy, Drop, PartialEq, Eq)]
-pub enum FaultKind {
+#[derive(Debug, Clone, Copy, Drop)]
+pub(crate) enum FaultKind {
     /// The parser refused, and repeats it when it is asked.
     Parser,
     /// The document is over.
@@ -128,7 +133,8 @@ pub enum FaultKind {
     Memory,
 }
 
-/// What is wrong, and where. `Error` is the same with its words: `Json::told` and `Error::from` give it.
+/// What is wrong, and where: the error of `Json`'s steps and of `JsonWriter`'s. `Error` is the same with its words: `Json::told` gives it for a
+/// reader's fault, and `Error::from` for a writer's.
 #[derive(Debug, Clone, Copy, Drop)]
 pub struct Fault {
     pub(crate) kind: FaultKind,

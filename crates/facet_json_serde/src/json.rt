@@ -89,7 +89,7 @@ impl<'de> Json<'de> {
     ///
     /// # Errors
     ///
-    /// `Mismatch`, wanted `EndOfInput`, where more of the document comes; what the parser refuses; or the fault for which reading stopped.
+    /// Another type, where `end of input` is expected, if more of the document comes; what the parser refuses; or the fault for which reading stopped.
     pub fn finish(&mut self) -> Result<(), Fault> {
         match &self.ahead {
             Ahead::Nothing => {}
@@ -107,7 +107,7 @@ impl<'de> Json<'de> {
     ///
     /// # Errors
     ///
-    /// As `finish`, and `Trailing` at what follows.
+    /// As `finish`, and trailing characters at what follows. A comment is no white space.
     pub fn finish_whole(&mut self) -> Result<(), Fault> {
         self.finish()?;
         let end = self.parser.current_span().unwrap_or(self.last).end();

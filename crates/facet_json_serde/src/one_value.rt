@@ -11,7 +11,7 @@ use facet_json_serializer::{JsonSerializer, SerializeOptions};
 use std::alloc::Global;
 
 /// Why a call was refused.
-#[derive(Debug, Clone, Copy)]
+#[derive(Clone, Copy)]
 pub(crate) enum Misplaced {
     /// No value goes on with it. Nothing changed.
     Call,

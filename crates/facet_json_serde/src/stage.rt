@@ -4,7 +4,7 @@ ghost use Rattle.std.specs.Prelude.{◌≡◌};
 ghost use Rattle.facet_json_serde.specs.OneValue.{takes_value, after_value};
 
 /// What may come next, in the innermost container that is open.
-#[derive(Debug, Clone, Copy)]
+#[derive(Clone, Copy)]
 pub(crate) enum Stage {
     /// The value itself.
     Value,

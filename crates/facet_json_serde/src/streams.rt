@@ -1,10 +1,12 @@
 //! Values from a reader of bytes, and their text to a writer.
 
-ghost use Rattle.std.specs.Prelude.{length, IfErr, OnOk};
+ghost use Rattle.std.specs.Prelude.{◌≡◌, length, IfErr, IfSome, OnOk};
 ghost use Rattle.facet_json_document.specs.Text.{default_options};
 ghost use Rattle.facet_json_serializer.specs.OptionsViews.{options_of};
+ghost use Rattle.facet_json_serde.specs.declared.streams.StreamError.TheVariants as stream;
+ghost use Rattle.facet_json_serde.specs.Messages.{stream_message};
 ghost use Rattle.facet_json_serde.specs.OneValue.{WritesTree};
-ghost use Rattle.facet_json_serde.specs.Within.{LiesWithin};
+ghost use Rattle.facet_json_serde.specs.Within.{IsRefused, LiesWithin, TellsWithin};
 
 use crate::error::Error;
 use crate::fault::Fault;
@@ -27,12 +29,16 @@ pub enum StreamError<'t> {
 }
 
 impl<'t> From<Error<'t>> for StreamError<'t> {
+    ghost from_gives = { λ refused e. e ≡ stream.Json refused };
+
     fn from(refused: Error<'t>) -> StreamError<'t> {
         StreamError::Json(refused)
     }
 }
 
 impl From<io::Error> for StreamError<'_> {
+    ghost from_gives = { λ failed e. e ≡ stream.Io failed };
+
     fn from(failed: io::Error) -> Self {
         Self::Io(failed)
     }
@@ -40,6 +46,8 @@ impl From<io::Error> for StreamError<'_> {
 
 /// The message: a line for a person, without its line feed.
 impl fmt::Display for StreamError<'static> {
+    ghost output = { stream_message };
+
     fn fmt<W: fmt::Write>(&self, f: &mut fmt::Formatter<W>) -> fmt::Result {
         match self {
             StreamError::Json(refused) => write!(f, "{refused}"),
@@ -58,7 +66,9 @@ impl std::error::Error for StreamError<'static> {}
 pub fn from_reader<'t, R: Read, T: DeserializeOwned>(
     alloc: Global,
     reader: &mut R,
-) -> Result<T, StreamError<'t>> {
+) -> Result<T, StreamError<'t>>
+    ensures within { IfSome (R.remaining reader.old) (λ input. IfErr result (TellsWithin (length input))) }
+{
     let mut input = Vec::new(alloc);
     reader.read_to_end(&mut input)?;
     Ok(owned_value(alloc, input.as_slice())?)
@@ -105,7 +115,8 @@ pub fn to_writer<'t, W: Write, T: Serialize>(
     writer: &mut W,
     value: &T,
 ) -> Result<(), StreamError<'t>>
-    ensures { OnOk result (WritesTree default_options (W.contents writer.old) (W.contents writer.new)) }
+    ensures written { OnOk result (WritesTree default_options (W.contents writer.old) (W.contents writer.new)) }
+    ensures refused { IfErr result (λ e. IsRefused e → writer.new ≡ writer.old) }
 {
     to_writer_with_options(alloc, writer, value, &SerializeOptions::new())
 }
@@ -121,7 +132,8 @@ pub fn to_writer_with_options<'t, W: Write, T: Serialize>(
     value: &T,
     options: &SerializeOptions<'_>,
 ) -> Result<(), StreamError<'t>>
-    ensures { OnOk result (WritesTree (options_of options.now) (W.contents writer.old) (W.contents writer.new)) }
+    ensures written { OnOk result (WritesTree (options_of options.now) (W.contents writer.old) (W.contents writer.new)) }
+    ensures refused { IfErr result (λ e. IsRefused e → writer.new ≡ writer.old) }
 {
     let text = to_vec_with_options(alloc, value, options)?;
     writer.write_all(text.as_slice())?;

@@ -26,8 +26,8 @@ use std::fmt::Write;
 ///
 /// # Errors
 ///
-/// A call that no value goes on with is refused as `NotOneValue`, and a container or null as a key as `KeyMustBeAString`: so a value stands after a
-/// key or in a list, and one root alone. Out of memory is `Memory`, from then on.
+/// A call that no value goes on with is refused as not one value, and a container or null as a key: so a value stands after a key or in a list,
+/// and there is one root alone. After a refusal, out of memory too, nothing is given out.
 #[derive(Drop)]
 pub struct JsonWriter<'i> {
     value: OneValue<'i>,
@@ -72,8 +72,8 @@ impl<'i> JsonWriter<'i> {
     ///
     /// # Errors
     ///
-    /// The first fault that a call was refused with, even if the type passed over it. `NotOneValue`, where nothing was written or a container is open,
-    /// or where the options are others.
+    /// The first fault that a call was refused with, even if the type passed over it. Not one value, where nothing was written or a container is
+    /// open, or where the options are others.
     pub fn finish(self, options: &SerializeOptions<'_>) -> Result<Vec<u8>, Fault>
         ensures { IfOk result (λ v. IsTextOfTree (options_of options.now) v.items) }
     {

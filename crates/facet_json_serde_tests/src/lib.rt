@@ -9,6 +9,8 @@ mod entries;
 #[cfg(test)]
 mod enums;
 #[cfg(test)]
+mod held;
+#[cfg(test)]
 mod plain;
 #[cfg(test)]
 mod structs;

@@ -69,6 +69,15 @@ const COUNTS: [(&str, &str); 4] = [
     ),
 ];
 
+/// Options in a list, and tuples in one.
+const OPTIONS: [(&str, &str); 2] = [
+    (r#"[null,[true,"\u00e9"],]"#, "[null,[true,\"\u{e9}\"]]"),
+    (
+        r#"[[true,"ab"]]"#,
+        "invalid value at line 1, column 8\n[[true,\"ab\"]]\n       ^^^^",
+    ),
+];
+
 /// Texts and maps of them, with escapes.
 const WORDS: [(&str, &str); 2] = [
     (r#"{"a\n":"x\ty","b":"c"}"#, r#"{"a\n":"x\ty","b":"c"}"#),
@@ -96,6 +105,12 @@ fn maps_are_read_and_written(rt: HostRuntime) -> Result<(), Fail> {
     for (input, expected) in COUNTS {
         assert_eq!(rt;
             again::<BTreeMap<i64, bool>>(alloc, input)?.as_str(),
+            expected
+        );
+    }
+    for (input, expected) in OPTIONS {
+        assert_eq!(rt;
+            again::<Vec<Option<(bool, char)>>>(alloc, input)?.as_str(),
             expected
         );
     }

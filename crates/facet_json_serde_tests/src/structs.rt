@@ -163,3 +163,21 @@ fn structs_in_structs_are_read_and_written(rt: HostRuntime) -> Result<(), Fail> 
     }
     Ok(())
 }
+
+#[test]
+fn deep_values_are_passed(rt: HostRuntime) -> Result<(), Fail> {
+    let alloc = rt.alloc();
+    let mut input = String::from_str(alloc, r#"{"name":"Io","deep":"#)?;
+    for _ in 0..100_000 {
+        input.push_str("[")?;
+    }
+    for _ in 0..100_000 {
+        input.push_str("]")?;
+    }
+    input.push_str(r#","longNote":"a"}"#)?;
+    assert_eq!(rt;
+        again::<Moon<'_>>(alloc, input.as_str())?.as_str(),
+        r#"{"name":"Io","longNote":"a","orbitDays":0.0}"#
+    );
+    Ok(())
+}

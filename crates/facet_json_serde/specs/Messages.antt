@@ -1,0 +1,32 @@
+-- How errors are displayed.
+use Rattle.std.specs.Prelude.{ℕ, List, ◌++◌, Option, Some, None, codes}
+use Rattle.std.specs.Fmt.InlineText.{inline_text}
+use Rattle.facet_format.specs.Views.{complaint_of}
+use Rattle.facet_json_core.specs.ErrorKind.{read_text}
+use Rattle.facet_json_serde.specs.declared.fault.Detail.{Detail}
+use Rattle.facet_json_serde.specs.declared.error.ErrorKind.{ErrorKind}
+use Rattle.facet_json_serde.specs.declared.error.ErrorKind.TheVariants.{Read, TrailingCharacters, MissingField, DuplicateField, UnknownField, UnknownVariant, InvalidLength, InvalidValue, KeyMustBeAString, NotOneValue, Custom}
+use Rattle.facet_json_serde.specs.declared.streams.StreamError.{StreamError}
+use Rattle.facet_json_serde.specs.declared.streams.StreamError.TheVariants.{Json, Io}
+
+abbrev pub detail_text : Detail → List ℕ
+detail_text d = inline_text d.0
+
+-- The message of a kind: the reader's own, or one of this crate's.
+abbrev pub message : ErrorKind → Option (List ℕ)
+message (Read refused) = read_text (complaint_of refused)
+message TrailingCharacters = Some (codes "trailing characters")
+message (MissingField name) = Some (codes "missing required field `" ++ (detail_text name ++ codes "`"))
+message (DuplicateField name) = Some (codes "duplicate field `" ++ (detail_text name ++ codes "`"))
+message UnknownField = Some (codes "unknown field")
+message UnknownVariant = Some (codes "unknown variant")
+message InvalidLength = Some (codes "invalid length")
+message InvalidValue = Some (codes "invalid value")
+message KeyMustBeAString = Some (codes "key must be a string")
+message NotOneValue = Some (codes "not one value")
+message (Custom text) = Some (detail_text text)
+
+-- Of a stream's, where it does not hang on what the stream's own error says.
+abbrev pub stream_message : StreamError → Option (List ℕ)
+stream_message (Json refused) = message refused.kind
+stream_message (Io failed) = None

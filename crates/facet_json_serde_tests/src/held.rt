@@ -1,0 +1,44 @@
+//! A parser and a writer that the caller holds.
+
+use facet_json_serde::{Error, Fault, Json, JsonParser, JsonWriter, SerializeOptions};
+use serde::{Deserialize, Deserializer, Serialize};
+use std::alloc::Global;
+use std::test::Fail;
+
+/// A pair of bytes, with comments between them, and the end of the input.
+fn pair(alloc: Global, input: &[u8], json: &mut Json<'_>) -> Result<(u8, u8), Fault> {
+    let pair = <(u8, u8)>::deserialize(alloc, &mut Deserializer::new(input, json))?;
+    json.finish_whole()?;
+    Ok(pair)
+}
+
+#[test]
+fn a_parser_is_held(rt: HostRuntime) -> Result<(), Fail> {
+    let alloc = rt.alloc();
+    let input = b"/* two */ [1, 2]\n".as_slice();
+    let mut json = Json::new(alloc, JsonParser::new_jsonc(alloc, input));
+    let read = pair(alloc, input, &mut json).ok().ok_or("a pair")?;
+    assert_eq!(rt; read, (1, 2));
+    let input = b"[1, 2] [".as_slice();
+    let mut json = Json::new(alloc, JsonParser::new_jsonc(alloc, input));
+    let fault = pair(alloc, input, &mut json).err().ok_or("a fault")?;
+    let error: Error<'static> = json.told(fault);
+    let shown = format!(in alloc; "{error}")?;
+    assert_eq!(rt; shown.as_str(), "trailing characters");
+    Ok(())
+}
+
+#[test]
+fn a_writer_is_held(rt: HostRuntime) -> Result<(), Fail> {
+    let alloc = rt.alloc();
+    let options = SerializeOptions::new().bytes_as_hex();
+    let mut writer = JsonWriter::new(alloc, options);
+    (1u8, "x").serialize(&mut writer).ok().ok_or("a pair")?;
+    assert!(rt; 7u8.serialize(&mut writer).is_err());
+    assert!(rt; writer.finish(&options).is_err());
+    let mut writer = JsonWriter::new(alloc, options);
+    (1u8, "x").serialize(&mut writer).ok().ok_or("a pair")?;
+    let text = writer.finish(&options).ok().ok_or("a text")?;
+    assert_eq!(rt; text.as_slice(), br#"[1,"x"]"#.as_slice());
+    Ok(())
+}
