@@ -8,6 +8,7 @@
 
 mod fields;
 mod find_error;
+pub mod float;
 pub mod laws;
 mod lent;
 mod pointer;

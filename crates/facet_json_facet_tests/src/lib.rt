@@ -21,6 +21,8 @@ mod example_records;
 #[cfg(test)]
 mod finding;
 #[cfg(test)]
+mod floats;
+#[cfg(test)]
 mod lengths;
 #[cfg(test)]
 mod lent;
