@@ -2,7 +2,7 @@
 
 use crate::fault::{Fault, FaultKind, Sort};
 use crate::found::{is_quoted, kind_of, number_in, number_key};
-use crate::json::{Ahead, Json, mismatch};
+use crate::json::{Ahead, Json};
 use facet_format::{ParseEvent, ParseEventKind, ScalarValue, Span};
 use serde::{Format, Kind, Name};
 use std::alloc::Global;
@@ -80,7 +80,7 @@ impl<'de> Format for Json<'de> {
         let ParseEvent { kind, span } = self.take()?;
         match kind {
             ParseEventKind::Scalar(ScalarValue::Bool(b)) => Ok(b),
-            kind => Err(mismatch(Sort::Bool, &kind, span)),
+            kind => Err(self.mismatch(Sort::Bool, &kind, span)),
         }
     }
 
@@ -96,7 +96,7 @@ impl<'de> Format for Json<'de> {
                 Ok(n) => Ok(n),
                 Err(_) => Err(out_of_range(Sort::I64, span)),
             },
-            kind => Err(mismatch(Sort::I64, &kind, span)),
+            kind => Err(self.no_number(Sort::I64, &kind, span)),
         }
     }
 
@@ -112,7 +112,7 @@ impl<'de> Format for Json<'de> {
                 Ok(n) => Ok(n),
                 Err(_) => Err(out_of_range(Sort::U64, span)),
             },
-            kind => Err(mismatch(Sort::U64, &kind, span)),
+            kind => Err(self.no_number(Sort::U64, &kind, span)),
         }
     }
 
@@ -129,7 +129,7 @@ impl<'de> Format for Json<'de> {
             ParseEventKind::FieldKey(key) if at_key && number_key(key.name.as_str()).is_some() => {
                 key.name.as_str().parse::<i128>()
             }
-            _ => return Err(mismatch(Sort::I128, &event.kind, event.span)),
+            _ => return Err(self.mismatch(Sort::I128, &event.kind, event.span)),
         };
         match parsed {
             Ok(n) => Ok(n),
@@ -152,7 +152,7 @@ impl<'de> Format for Json<'de> {
             ParseEventKind::FieldKey(key) if at_key && number_key(key.name.as_str()).is_some() => {
                 key.name.as_str().parse::<u128>()
             }
-            _ => return Err(mismatch(Sort::U128, &event.kind, event.span)),
+            _ => return Err(self.mismatch(Sort::U128, &event.kind, event.span)),
         };
         match parsed {
             Ok(n) => Ok(n),
@@ -165,7 +165,7 @@ impl<'de> Format for Json<'de> {
         self.at_key = false;
         let event = self.take()?;
         let Some(text) = number_in(&event, at_key, input) else {
-            return Err(mismatch(Sort::F32, &event.kind, event.span));
+            return Err(self.mismatch(Sort::F32, &event.kind, event.span));
         };
         match fast_float::parse::<f32, _>(text) {
             Ok(x) if x.is_finite() => Ok(x),
@@ -178,7 +178,7 @@ impl<'de> Format for Json<'de> {
         self.at_key = false;
         let event = self.take()?;
         let Some(text) = number_in(&event, at_key, input) else {
-            return Err(mismatch(Sort::F64, &event.kind, event.span));
+            return Err(self.mismatch(Sort::F64, &event.kind, event.span));
         };
         match fast_float::parse::<f64, _>(text) {
             Ok(x) if x.is_finite() => Ok(x),
@@ -251,7 +251,7 @@ impl<'de> Format for Json<'de> {
         let ParseEvent { kind, span } = self.take()?;
         match kind {
             ParseEventKind::SequenceStart(_) => Ok(()),
-            kind => Err(mismatch(Sort::Array, &kind, span)),
+            kind => Err(self.mismatch(Sort::Array, &kind, span)),
         }
     }
 
@@ -270,7 +270,7 @@ impl<'de> Format for Json<'de> {
         let ParseEvent { kind, span } = self.take()?;
         match kind {
             ParseEventKind::StructStart(_) => Ok(()),
-            kind => Err(mismatch(Sort::Object, &kind, span)),
+            kind => Err(self.mismatch(Sort::Object, &kind, span)),
         }
     }
 
@@ -280,7 +280,7 @@ impl<'de> Format for Json<'de> {
         match kind {
             ParseEventKind::StructStart(_) => Ok(false),
             ParseEventKind::SequenceStart(_) => Ok(true),
-            kind => Err(mismatch(Sort::Object, &kind, span)),
+            kind => Err(self.mismatch(Sort::Object, &kind, span)),
         }
     }
 
@@ -301,7 +301,7 @@ impl<'de> Format for Json<'de> {
                 Ok(true)
             }
             ParseEventKind::StructEnd => Ok(false),
-            _ => Err(mismatch(Sort::Key, &event.kind, event.span)),
+            _ => Err(self.mismatch(Sort::Key, &event.kind, event.span)),
         }
     }
 

@@ -6,19 +6,19 @@ use facet_json_token::check_number_strict;
 use serde::Kind;
 use std::borrow::CowStr;
 
-/// What an event of this kind is called.
-pub(crate) fn found_in(kind: &ParseEventKind<'_>) -> Sort {
+/// What an event of this kind is called, at whose span a string stands or not.
+pub(crate) fn found_in(kind: &ParseEventKind<'_>, is_quoted: bool) -> Sort {
     match kind {
         ParseEventKind::StructStart(_) => Sort::Object,
         ParseEventKind::SequenceStart(_) => Sort::Array,
         ParseEventKind::StructEnd | ParseEventKind::SequenceEnd => Sort::End,
         ParseEventKind::FieldKey(_) => Sort::Key,
-        ParseEventKind::Scalar(value) => scalar_found(value),
+        ParseEventKind::Scalar(value) => scalar_found(value, is_quoted),
     }
 }
 
 /// What a scalar is called.
-fn scalar_found(value: &ScalarValue<'_>) -> Sort {
+fn scalar_found(value: &ScalarValue<'_>, is_quoted: bool) -> Sort {
     match value {
         ScalarValue::Null | ScalarValue::Unit => Sort::Null,
         ScalarValue::Bool(_) => Sort::Bool,
@@ -26,6 +26,7 @@ fn scalar_found(value: &ScalarValue<'_>) -> Sort {
             Sort::Integer
         }
         ScalarValue::Decimal(_) => Sort::Decimal,
+        ScalarValue::Str(CowStr::Owned(_)) if !is_quoted => Sort::Integer,
         ScalarValue::Char(_) | ScalarValue::Str(_) | ScalarValue::Bytes(_) => Sort::String,
     }
 }

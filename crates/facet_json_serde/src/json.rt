@@ -50,13 +50,6 @@ pub struct Json<'de> {
     marks: Vec<Marked<'de>>,
 }
 
-/// What was wanted, and is not there.
-#[cold]
-#[inline(never)]
-pub(crate) fn mismatch(wanted: Sort, kind: &ParseEventKind<'_>, span: Span) -> Fault {
-    Fault::at(FaultKind::Mismatch(wanted, found_in(kind)), span)
-}
-
 /// The text, unless it is the digits of a number that is too long for 64 bits.
 #[inline(always)]
 fn quoted<'de>(text: CowStr<'de>, input: &[u8], span: Span) -> Result<CowStr<'de>, Fault> {
@@ -93,12 +86,16 @@ impl<'de> Json<'de> {
     pub fn finish(&mut self) -> Result<(), Fault> {
         match &self.ahead {
             Ahead::Nothing => {}
-            Ahead::Event(event) => return Err(mismatch(Sort::EndOfInput, &event.kind, event.span)),
+            Ahead::Event(event) => return Err(self.mismatch(
+                Sort::EndOfInput,
+                &event.kind,
+                event.span,
+            )),
             Ahead::Stopped(fault) => return Err(*fault),
         }
         match self.parser.next_event() {
             Ok(None) => Ok(()),
-            Ok(Some(event)) => Err(mismatch(Sort::EndOfInput, &event.kind, event.span)),
+            Ok(Some(event)) => Err(self.mismatch(Sort::EndOfInput, &event.kind, event.span)),
             Err(refused) => Err(self.stop(FaultKind::Parser, refused.span)),
         }
     }
@@ -131,6 +128,25 @@ impl<'de> Json<'de> {
             }
         }
         Error::from(fault)
+    }
+
+    /// What was wanted, and is not there.
+    #[cold]
+    #[inline(never)]
+    pub(crate) fn mismatch(&self, wanted: Sort, kind: &ParseEventKind<'_>, span: Span) -> Fault {
+        let is_quoted = is_quoted(self.parser.input().unwrap_or(&[]), span);
+        Fault::at(FaultKind::Mismatch(wanted, found_in(kind, is_quoted)), span)
+    }
+
+    /// What was wanted, and is not there: where a whole number stands there, it is too great.
+    #[cold]
+    #[inline(never)]
+    pub(crate) fn no_number(&self, wanted: Sort, kind: &ParseEventKind<'_>, span: Span) -> Fault {
+        let fault = self.mismatch(wanted, kind, span);
+        match fault.kind {
+            FaultKind::Mismatch(_, Sort::Integer) => Fault::at(FaultKind::OutOfRange(wanted), span),
+            _ => fault,
+        }
     }
 
     /// The fault at the last event that was taken.
@@ -223,7 +239,7 @@ impl<'de> Json<'de> {
         match kind {
             ParseEventKind::Scalar(ScalarValue::Str(text)) if !at_key => quoted(text, input, span),
             ParseEventKind::FieldKey(key) if at_key => Ok(key.name),
-            kind => Err(mismatch(Sort::String, &kind, span)),
+            kind => Err(self.mismatch(Sort::String, &kind, span)),
         }
     }
 
@@ -234,7 +250,7 @@ impl<'de> Json<'de> {
         match kind {
             ParseEventKind::FieldKey(key) => Ok(Some(key.name)),
             ParseEventKind::StructEnd => Ok(None),
-            kind => Err(mismatch(Sort::Key, &kind, span)),
+            kind => Err(self.mismatch(Sort::Key, &kind, span)),
         }
     }
 
@@ -246,7 +262,7 @@ impl<'de> Json<'de> {
         match kind {
             ParseEventKind::Scalar(_) | ParseEventKind::FieldKey(_) => Ok(()),
             ParseEventKind::StructStart(_) | ParseEventKind::SequenceStart(_) => self.skip_rest(),
-            kind => Err(mismatch(Sort::Value, &kind, span)),
+            kind => Err(self.mismatch(Sort::Value, &kind, span)),
         }
     }
 

@@ -53,7 +53,7 @@ const ROWS: [(&str, &str); 4] = [
 ];
 
 /// Maps: keys that are whole numbers stand between quotes, as numbers of RFC 8259.
-const COUNTS: [(&str, &str); 4] = [
+const COUNTS: [(&str, &str); 5] = [
     (r#"{"2":true,"-1":false,}"#, r#"{"-1":false,"2":true}"#),
     (
         r#"{"+1":true}"#,
@@ -62,6 +62,10 @@ const COUNTS: [(&str, &str); 4] = [
     (
         r#"{"01":true}"#,
         "invalid value at line 1, column 2\n{\"01\":true}\n ^^^^",
+    ),
+    (
+        r#"{"1":18446744073709551616}"#,
+        "type mismatch: expected bool, got integer at line 1, column 6\n{\"1\":18446744073709551616}\n     ^^^^^^^^^^^^^^^^^^^^",
     ),
     (
         r#"{"x":true}"#,

@@ -79,7 +79,7 @@ const MOONS: [(&str, &str); 6] = [
 ];
 
 /// An alias, a field that is left out, one that is skipped both ways, and no unknown fields. A duplicate is told by the name in Rust.
-const ACCOUNTS: [(&str, &str); 9] = [
+const ACCOUNTS: [(&str, &str); 10] = [
     (r#"{"ID":-7,"note":"x"}"#, r#"{"ID":-7,"note":"x"}"#),
     (r#"{"id":7,"note":null}"#, r#"{"ID":7}"#),
     (
@@ -101,6 +101,10 @@ const ACCOUNTS: [(&str, &str); 9] = [
     (
         r#"{"id":9223372036854775808}"#,
         "number out of range for i64 at line 1, column 7\n{\"id\":9223372036854775808}\n      ^^^^^^^^^^^^^^^^^^^",
+    ),
+    (
+        r#"{"id":18446744073709551616}"#,
+        "number out of range for i64 at line 1, column 7\n{\"id\":18446744073709551616}\n      ^^^^^^^^^^^^^^^^^^^^",
     ),
     (
         "{\"id\":1",
