@@ -331,17 +331,12 @@ impl<'de> Format for Json<'de> {
             return;
         }
         self.forget(mark.saturating_add(1));
-        if self.has_stopped() {
-            return;
-        }
         self.go_back();
         self.keep();
     }
 
     fn release(&mut self, mark: usize) {
-        if !self.has_stopped() {
-            self.forget(mark);
-        }
+        self.forget(mark);
     }
 
     fn is_fatal(&self, error: &Fault) -> bool {

@@ -347,24 +347,11 @@ impl<'de> Json<'de> {
         self.at_key = at_key;
     }
 
-    /// Drops the marks from this one on, or stops where there is no memory to do it.
+    /// Drops the marks from this one on.
     pub(crate) fn forget(&mut self, mark: usize) {
         for _ in mark..self.marks.len() {
             if let Some(marked) = self.marks.pop() {
-                self.drop_point(marked.point);
-            }
-        }
-    }
-
-    /// Drops a point of the parser's, which stays where it is.
-    fn drop_point(&mut self, point: SavePoint) {
-        match self.parser.save() {
-            Ok(here) => {
-                self.parser.restore(point);
-                self.parser.restore(here);
-            }
-            Err(_) => {
-                self.stop(FaultKind::Memory, self.last);
+                self.parser.forget(marked.point);
             }
         }
     }

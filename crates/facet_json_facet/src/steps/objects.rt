@@ -25,6 +25,7 @@ use std::borrow::CowStr;
 /// # Errors
 ///
 /// As `next_of_value`; and `TypeMismatch`, where another value stands there.
+#[inline(always)]
 pub fn begin_object<'t>(parser: &mut JsonParser<'_>) -> Result<(), DeserializeError<'t>>
     ensures begun { OnOk result (BeginsObject parser.old parser.new) }
     ensures inside { OnOk result (IsInside object parser.old parser.new) }
@@ -63,6 +64,7 @@ fn object_in<'t>(event: ParseEvent<'_>) -> Result<(), DeserializeError<'t>>
 /// # Errors
 ///
 /// As `next_of_value`.
+#[inline(always)]
 pub fn next_name<'t, 'de>(
     parser: &mut JsonParser<'de>,
 ) -> Result<Option<CowStr<'de>>, DeserializeError<'t>>
