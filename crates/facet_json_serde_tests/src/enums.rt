@@ -14,7 +14,7 @@ enum Shape {
 
 #[derive(Debug, Drop, PartialEq, Serialize, Deserialize)]
 #[serde(tag = "kind", rename_all = "snake_case")]
-enum Command {
+pub(crate) enum Command {
     MoveTo { x: i32, y: i32 },
     Stop,
 }

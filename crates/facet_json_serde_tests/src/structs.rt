@@ -17,7 +17,7 @@ struct Moon<'a> {
 
 #[derive(Debug, Drop, PartialEq, Serialize, Deserialize)]
 #[serde(deny_unknown_fields)]
-struct Account {
+pub(crate) struct Account {
     #[serde(rename = "ID", alias = "id")]
     id: i64,
     #[serde(default, skip_serializing_if = "Option::is_none")]

@@ -1,0 +1,55 @@
+//! Failed allocations. With ample memory this test passes as any other does. `checks/allocations` runs it once more for each of its requests for
+//! memory, which is refused, and it has to pass in every such run. Each text is tried twice: as one request is refused in a run, memory runs out
+//! in one of the two at most, and the other gives the whole answer.
+
+use crate::enums::Command;
+use crate::structs::Account;
+use facet_json_serde::{DeserializeErrorKind, Error, ErrorKind, from_str, to_string};
+use serde::{Deserialize, Serialize};
+use std::alloc::Global;
+
+/// No answer where an allocation failed, and else a wrong one.
+fn refused(error: &Error<'_>) -> Option<bool> {
+    match error.kind {
+        ErrorKind::Read(DeserializeErrorKind::OutOfMemory) => None,
+        _ => Some(false),
+    }
+}
+
+/// Whether the value that the text is read as is written so.
+fn comes_back<'de, T: Deserialize<'de> + Serialize>(
+    alloc: Global,
+    text: &'de str,
+    written: &str,
+) -> Option<bool> {
+    let value: T = match from_str(alloc, text) {
+        Ok(value) => value,
+        Err(error) => return refused(&error),
+    };
+    match to_string(alloc, &value) {
+        Ok(again) => Some(again.as_str() == written),
+        Err(error) => refused(&error),
+    }
+}
+
+/// The same twice, but for one time at most in which memory ran out.
+fn comes_back_but_once<'de, T: Deserialize<'de> + Serialize>(
+    alloc: Global,
+    text: &'de str,
+    written: &str,
+) -> bool {
+    let first = comes_back::<T>(alloc, text, written);
+    let again = comes_back::<T>(alloc, text, written);
+    first.unwrap_or(true) && again.unwrap_or(true) && (first.is_some() || again.is_some())
+}
+
+#[test]
+fn a_growth_is_refused(rt: HostRuntime) {
+    let alloc = rt.alloc();
+    let text = r#"{"note":"a\nb","id":7}"#;
+    let written = r#"{"ID":7,"note":"a\nb"}"#;
+    assert!(rt; comes_back_but_once::<Account>(alloc, text, written));
+    let text = r#"[{"x":1,"kind":"move_to","y":-2},{"kind":"stop"}]"#;
+    let written = r#"[{"kind":"move_to","x":1,"y":-2},{"kind":"stop"}]"#;
+    assert!(rt; comes_back_but_once::<Vec<Command>>(alloc, text, written));
+}
