@@ -17,6 +17,8 @@ mod held;
 #[cfg(test)]
 mod plain;
 #[cfg(test)]
+mod streams;
+#[cfg(test)]
 mod structs;
 #[cfg(test)]
 mod writers;

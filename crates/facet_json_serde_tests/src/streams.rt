@@ -1,0 +1,113 @@
+//! Readers and writers that give and take a few bytes at a time, and fail at each call in turn.
+
+use facet_json_serde::{StreamError, from_reader, to_writer};
+use std::alloc::Global;
+use std::io;
+use std::io::{ErrorKind, Read, Write};
+
+/// The text that is read and written, three bytes at a time.
+const TEXT: &str = "[1,20,3]";
+
+/// What is left to be read, and at which read, counted from 0, it fails.
+#[derive(Drop)]
+struct Pieces {
+    left: &'static [u8],
+    reads: usize,
+    fails_at: usize,
+}
+
+impl Read for Pieces {
+    fn read(&mut self, buf: &mut [u8]) -> io::Result<usize> {
+        let at = self.reads;
+        self.reads = at.saturating_add(1);
+        if at == self.fails_at {
+            return Err(io::Error::from(ErrorKind::TimedOut));
+        }
+        let n = self.left.len().min(buf.len()).min(3);
+        let (now, later) = self.left.split_at(n);
+        buf[..n].copy_from_slice(now);
+        self.left = later;
+        Ok(n)
+    }
+}
+
+/// What was written, and at which write, counted from 0, it fails.
+#[derive(Drop)]
+struct Taken {
+    bytes: Vec<u8>,
+    writes: usize,
+    fails_at: usize,
+}
+
+impl Write for Taken {
+    fn write(&mut self, buf: &[u8]) -> io::Result<usize> {
+        let at = self.writes;
+        self.writes = at.saturating_add(1);
+        if at == self.fails_at {
+            return Err(io::Error::from(ErrorKind::TimedOut));
+        }
+        let n = buf.len().min(3);
+        self.bytes.extend_from_slice(&buf[..n])?;
+        Ok(n)
+    }
+
+    fn flush(&mut self) -> io::Result<()> {
+        Ok(())
+    }
+}
+
+/// Whether the stream's own error is told.
+fn has_failed<T: Drop>(answer: Result<T, StreamError<'_>>) -> bool {
+    match answer {
+        Err(StreamError::Io(error)) => error.kind() == ErrorKind::TimedOut,
+        _ => false,
+    }
+}
+
+/// What is read where this read fails.
+fn read(alloc: Global, fails_at: usize) -> Result<Vec<u8>, StreamError<'static>> {
+    let mut pieces = Pieces {
+        left: TEXT.as_bytes(),
+        reads: 0,
+        fails_at,
+    };
+    from_reader(alloc, &mut pieces)
+}
+
+/// How a list is written where this write fails, and what was taken.
+fn write(alloc: Global, fails_at: usize) -> (Result<(), StreamError<'static>>, Vec<u8>) {
+    let mut taken = Taken {
+        bytes: Vec::new(alloc),
+        writes: 0,
+        fails_at,
+    };
+    let answer = to_writer(alloc, &mut taken, &(1u8, 20u8, 3u8));
+    let Taken { bytes, .. } = taken;
+    (answer, bytes)
+}
+
+#[test]
+fn a_read_fails_in_turn(rt: HostRuntime) {
+    let alloc = rt.alloc();
+    for at in 0..4 {
+        assert!(rt; has_failed(read(alloc, at)), "at {at}");
+    }
+    match read(alloc, 4) {
+        Ok(list) => assert_eq!(rt; list.as_slice(), [1u8, 20, 3].as_slice()),
+        Err(_) => assert!(rt; false),
+    }
+}
+
+#[test]
+fn a_write_fails_in_turn(rt: HostRuntime) {
+    let alloc = rt.alloc();
+    for at in 0..3 {
+        let (answer, taken) = write(alloc, at);
+        assert!(rt;
+            has_failed(answer) && taken.as_slice() == &TEXT.as_bytes()[..3 * at],
+            "at {at}"
+        );
+    }
+    let (answer, taken) = write(alloc, 3);
+    assert!(rt; answer.is_ok() && taken.as_slice() == TEXT.as_bytes());
+}
