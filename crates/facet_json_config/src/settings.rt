@@ -1,6 +1,7 @@
 //! What a server is told by its configuration file.
 
-use facet_json_serde::{Deserialize, Error, Serialize, from_str_jsonc};
+use facet_json_serde::{Error, from_str_jsonc};
+use serde::{Deserialize, Serialize};
 use std::alloc::Global;
 
 /// The settings of a server.
