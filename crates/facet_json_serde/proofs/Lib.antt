@@ -1,3 +1,4 @@
 pub mod BegunCalls
 pub mod BegunSteps
 pub mod ByteLists
+pub mod StepsRead

@@ -1,3 +1,4 @@
+pub mod Ahead
 pub mod Begun
 pub mod Messages
 pub mod OneValue

@@ -1,7 +1,11 @@
 //! The steps of a `Format`, over the events of a parser.
 
+ghost use Rattle.std.specs.Prelude.{◌≡◌, true, IfOk, slice_range};
+ghost use Rattle.serde.specs.Event.{boolean, signed, unsigned};
+ghost use Rattle.facet_json_serde.specs.Ahead.{Gives, Picks, Stays};
+
 use crate::fault::{Fault, FaultKind, Sort};
-use crate::found::{is_quoted, kind_of, number_in, number_key};
+use crate::found::{digits_in, kind_of, number_in, number_key};
 use crate::json::{Ahead, Json};
 use facet_format::{ParseEvent, ParseEventKind, ScalarValue, Span};
 use serde::{Format, Kind, Name};
@@ -16,8 +20,23 @@ fn out_of_range(wanted: Sort, span: Span) -> Fault {
 }
 
 impl<'de> Json<'de> {
+    /// A key as a bool.
+    fn bool_key(&mut self, input: &[u8]) -> Result<bool, Fault>
+        requires { self.now.at_key ≡ true }
+        ensures { IfOk result (λ v. Gives self.old input.now (boolean v) self.new) }
+    {
+        let text = self.text(input)?;
+        match text.as_str().parse::<bool>() {
+            Ok(b) => Ok(b),
+            Err(_) => Err(self.error(FaultKind::InvalidValue)),
+        }
+    }
+
     /// A key as a whole number.
-    fn signed_key(&mut self, input: &[u8]) -> Result<i64, Fault> {
+    fn signed_key(&mut self, input: &[u8]) -> Result<i64, Fault>
+        requires { self.now.at_key ≡ true }
+        ensures { IfOk result (λ v. Gives self.old input.now (signed v) self.new) }
+    {
         let text = self.text(input)?;
         let number = number_key(text.as_str()).ok_or(self.error(FaultKind::InvalidValue))?;
         match fast_float::parse_i64(number) {
@@ -27,12 +46,28 @@ impl<'de> Json<'de> {
     }
 
     /// A key as a whole number without a sign.
-    fn unsigned_key(&mut self, input: &[u8]) -> Result<u64, Fault> {
+    fn unsigned_key(&mut self, input: &[u8]) -> Result<u64, Fault>
+        requires { self.now.at_key ≡ true }
+        ensures { IfOk result (λ v. Gives self.old input.now (unsigned v) self.new) }
+    {
         let text = self.text(input)?;
         let number = number_key(text.as_str()).ok_or(self.error(FaultKind::InvalidValue))?;
         match fast_float::parse_u64(number) {
             Ok(n) => Ok(n),
             Err(_) => Err(self.error(FaultKind::InvalidValue)),
+        }
+    }
+
+    /// Where the text of the last event stands in the input, after its quote. In an input that is not the parser's it may stand nowhere.
+    #[inline(always)]
+    fn place_of(&self, text: &str, input: &[u8]) -> Result<(usize, usize), Fault>
+        ensures { IfOk result (λ r. slice_range input.now r.0 r.1 ≡ text.now) }
+    {
+        let start = self.last.offset.saturating_add(1);
+        let end = start.saturating_add(text.len());
+        match input.get(start..end) {
+            Some(bytes) if bytes == text.as_bytes() => Ok((start, end)),
+            _ => Err(self.error(FaultKind::InvalidValue)),
         }
     }
 
@@ -68,14 +103,16 @@ impl<'de> Format for Json<'de> {
 
     type Mark = usize;
 
+    ghost gives = { Gives };
+
+    ghost picks = { Picks };
+
+    ghost stays = { Stays };
+
     #[inline(always)]
     fn bool(&mut self, input: &[u8]) -> Result<bool, Fault> {
         if self.at_key {
-            return match self.text(input)?.as_str() {
-                "true" => Ok(true),
-                "false" => Ok(false),
-                _ => Err(self.error(FaultKind::InvalidValue)),
-            };
+            return self.bool_key(input);
         }
         let ParseEvent { kind, span } = self.take()?;
         match kind {
@@ -120,18 +157,15 @@ impl<'de> Format for Json<'de> {
         let at_key = self.at_key;
         self.at_key = false;
         let event = self.take()?;
-        let parsed = match &event.kind {
+        match &event.kind {
             ParseEventKind::Scalar(ScalarValue::U64(n)) => return Ok(i128::from(*n)),
             ParseEventKind::Scalar(ScalarValue::I64(n)) => return Ok(i128::from(*n)),
-            ParseEventKind::Scalar(ScalarValue::Str(text)) if !is_quoted(input, event.span) => {
-                text.as_str().parse::<i128>()
-            }
-            ParseEventKind::FieldKey(key) if at_key && number_key(key.name.as_str()).is_some() => {
-                key.name.as_str().parse::<i128>()
-            }
-            _ => return Err(self.mismatch(Sort::I128, &event.kind, event.span)),
+            _ => {}
+        }
+        let Some(text) = digits_in(&event, at_key, input) else {
+            return Err(self.mismatch(Sort::I128, &event.kind, event.span));
         };
-        match parsed {
+        match text.parse::<i128>() {
             Ok(n) => Ok(n),
             Err(_) => Err(out_of_range(Sort::I128, event.span)),
         }
@@ -141,20 +175,17 @@ impl<'de> Format for Json<'de> {
         let at_key = self.at_key;
         self.at_key = false;
         let event = self.take()?;
-        let parsed = match &event.kind {
+        match &event.kind {
             ParseEventKind::Scalar(ScalarValue::U64(n)) => return Ok(u128::from(*n)),
             ParseEventKind::Scalar(ScalarValue::I64(_)) => {
                 return Err(out_of_range(Sort::U128, event.span));
             }
-            ParseEventKind::Scalar(ScalarValue::Str(text)) if !is_quoted(input, event.span) => {
-                text.as_str().parse::<u128>()
-            }
-            ParseEventKind::FieldKey(key) if at_key && number_key(key.name.as_str()).is_some() => {
-                key.name.as_str().parse::<u128>()
-            }
-            _ => return Err(self.mismatch(Sort::U128, &event.kind, event.span)),
+            _ => {}
+        }
+        let Some(text) = digits_in(&event, at_key, input) else {
+            return Err(self.mismatch(Sort::U128, &event.kind, event.span));
         };
-        match parsed {
+        match text.parse::<u128>() {
             Ok(n) => Ok(n),
             Err(_) => Err(out_of_range(Sort::U128, event.span)),
         }
@@ -196,10 +227,7 @@ impl<'de> Format for Json<'de> {
     #[inline(always)]
     fn plain_str(&mut self, input: &[u8]) -> Result<(usize, usize), Fault> {
         match self.text(input)? {
-            CowStr::Borrowed(text) => {
-                let start = self.last.offset.saturating_add(1);
-                Ok((start, start.saturating_add(text.len())))
-            }
+            CowStr::Borrowed(text) => self.place_of(text, input),
             CowStr::Owned(_) => Err(self.error(FaultKind::InvalidValue)),
         }
     }

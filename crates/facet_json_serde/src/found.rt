@@ -1,5 +1,9 @@
 //! What an event is: its name in an error, the kind of value that it begins, and the text of its number.
 
+ghost use Rattle.std.specs.Prelude.{◌≡◌, IfSome};
+ghost use Rattle.facet_format.specs.Views.{event_kind_of, span_of};
+ghost use Rattle.facet_json_serde.specs.Ahead.{IsText, IsNumberText, bytes_at};
+
 use crate::fault::Sort;
 use facet_format::{ParseEvent, ParseEventKind, ScalarValue, Span};
 use facet_json_token::check_number_strict;
@@ -68,7 +72,10 @@ pub(crate) fn number_in<'a>(
     event: &'a ParseEvent<'_>,
     at_key: bool,
     input: &'a [u8],
-) -> Option<&'a [u8]> {
+) -> Option<&'a [u8]>
+    ensures { IfSome result (λ t. IsNumberText (event_kind_of event.now.kind)
+        (bytes_at input.now (span_of event.now.span)) t.now) }
+{
     match &event.kind {
         ParseEventKind::Scalar(ScalarValue::Decimal(decimal)) => Some(decimal.as_str().as_bytes()),
         ParseEventKind::Scalar(ScalarValue::U64(_) | ScalarValue::I64(_) | ScalarValue::Str(_))
@@ -78,8 +85,29 @@ pub(crate) fn number_in<'a>(
     }
 }
 
+/// The digits of a whole number past 64 bits, or of a key that is a number of RFC 8259.
+pub(crate) fn digits_in<'a>(
+    event: &'a ParseEvent<'_>,
+    at_key: bool,
+    input: &[u8],
+) -> Option<&'a str>
+    ensures { IfSome result (λ t. IsText (event_kind_of event.now.kind) t.now) }
+{
+    match &event.kind {
+        ParseEventKind::Scalar(ScalarValue::Str(text)) if !is_quoted(input, event.span) => {
+            Some(text.as_str())
+        }
+        ParseEventKind::FieldKey(key) if at_key && number_key(key.name.as_str()).is_some() => {
+            Some(key.name.as_str())
+        }
+        _ => None,
+    }
+}
+
 /// The text of a key that is a number of RFC 8259.
-pub(crate) fn number_key(key: &str) -> Option<&[u8]> {
+pub(crate) fn number_key(key: &str) -> Option<&[u8]>
+    ensures { IfSome result (λ t. t.now ≡ key.now) }
+{
     let bytes = key.as_bytes();
     check_number_strict(bytes, 0, bytes.len()).ok()?;
     Some(bytes)

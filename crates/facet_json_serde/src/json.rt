@@ -1,5 +1,12 @@
 //! JSON as a `Format` of `serde`'s: the events of a parser, and a look ahead of one. Here is what the steps of `format` stand on.
 
+ghost use Rattle.std.specs.Prelude.{◌≡◌, true, [], IfOk, OnOk, MatchBool, MatchOption};
+ghost use Rattle.std.specs.Cow.{cow_str_bytes};
+ghost use Rattle.facet_format.specs.Views.{event_of};
+ghost use Rattle.facet_json_document.specs.Next.{PassesNext};
+ghost use Rattle.serde.specs.Event.{nothing, map_ends};
+ghost use Rattle.facet_json_serde.specs.Ahead.{Stands, Stays, Reads, Passes, Gives, IsText, IsKey};
+
 use crate::error::Error;
 use crate::fault::{Fault, FaultKind, Sort};
 use crate::found::{found_in, is_quoted};
@@ -52,7 +59,9 @@ pub struct Json<'de> {
 
 /// The text, unless it is the digits of a number that is too long for 64 bits.
 #[inline(always)]
-fn quoted<'de>(text: CowStr<'de>, input: &[u8], span: Span) -> Result<CowStr<'de>, Fault> {
+fn quoted<'de>(text: CowStr<'de>, input: &[u8], span: Span) -> Result<CowStr<'de>, Fault>
+    ensures { IfOk result (λ t. t ≡ text.entry) }
+{
     match text {
         CowStr::Borrowed(text) => Ok(CowStr::Borrowed(text)),
         CowStr::Owned(text) => {
@@ -67,7 +76,9 @@ fn quoted<'de>(text: CowStr<'de>, input: &[u8], span: Span) -> Result<CowStr<'de
 
 impl<'de> Json<'de> {
     /// The format before the parser's next event. It does not allocate.
-    pub fn new(alloc: Global, parser: JsonParser<'de>) -> Json<'de> {
+    pub fn new(alloc: Global, parser: JsonParser<'de>) -> Json<'de>
+        ensures { Stands result parser.entry }
+    {
         Json {
             alloc,
             parser,
@@ -172,7 +183,10 @@ impl<'de> Json<'de> {
 
     /// The parser's next event.
     #[inline(always)]
-    fn read(&mut self) -> Result<ParseEvent<'de>, Fault> {
+    fn read(&mut self) -> Result<ParseEvent<'de>, Fault>
+        ensures passes { IfOk result (λ e. PassesNext self.old.parser (event_of e) self.new.parser) }
+        ensures ahead { OnOk result (self.new.ahead ≡ self.old.ahead) }
+    {
         match self.parser.next_event() {
             Ok(Some(event)) => {
                 self.last = event.span;
@@ -185,7 +199,10 @@ impl<'de> Json<'de> {
 
     /// Takes the next event.
     #[inline(always)]
-    pub(crate) fn take(&mut self) -> Result<ParseEvent<'de>, Fault> {
+    pub(crate) fn take(&mut self) -> Result<ParseEvent<'de>, Fault>
+        ensures passes { IfOk result (λ e. Passes self.old (event_of e) self.new) }
+        ensures free { OnOk result (self.new.ahead ≡ Ahead.Nothing) }
+    {
         if let Ahead::Nothing = &self.ahead {
             return self.read();
         }
@@ -193,7 +210,10 @@ impl<'de> Json<'de> {
     }
 
     /// Takes the event that is ahead.
-    fn take_ahead(&mut self) -> Result<ParseEvent<'de>, Fault> {
+    fn take_ahead(&mut self) -> Result<ParseEvent<'de>, Fault>
+        ensures passes { IfOk result (λ e. Passes self.old (event_of e) self.new) }
+        ensures free { OnOk result (self.new.ahead ≡ Ahead.Nothing) }
+    {
         match std::mem::replace(&mut self.ahead, Ahead::Nothing) {
             Ahead::Event(event) => {
                 self.last = event.span;
@@ -209,7 +229,9 @@ impl<'de> Json<'de> {
 
     /// Reads the next event, which stays the next one.
     #[inline(always)]
-    pub(crate) fn look(&mut self) -> Result<(), Fault> {
+    pub(crate) fn look(&mut self) -> Result<(), Fault>
+        ensures { OnOk result (Stays self.old self.new) }
+    {
         if let Ahead::Nothing = &self.ahead {
             let event = self.read()?;
             self.ahead = Ahead::Event(event);
@@ -219,20 +241,32 @@ impl<'de> Json<'de> {
 
     /// Passes null, if it comes.
     #[inline(always)]
-    pub(crate) fn passes_null(&mut self) -> Result<bool, Fault> {
+    pub(crate) fn passes_null(&mut self) -> Result<bool, Fault>
+        ensures { IfOk result (λ b. MatchBool b (Gives self.old [] nothing self.new)
+            (Stays self.old self.new)) }
+    {
         self.look()?;
-        if let Ahead::Event(event) = &self.ahead {
-            if !matches!(event.kind, ParseEventKind::Scalar(ScalarValue::Null)) {
-                return Ok(false);
+        match &self.ahead {
+            Ahead::Event(event) => {
+                if !matches!(event.kind, ParseEventKind::Scalar(ScalarValue::Null)) {
+                    return Ok(false);
+                }
             }
+            Ahead::Nothing => return Ok(false),
+            Ahead::Stopped(fault) => return Err(*fault),
         }
-        self.take()?;
+        self.ahead = Ahead::Nothing;
         Ok(true)
     }
 
     /// A text, as a value or as a key.
     #[inline(always)]
-    pub(crate) fn text(&mut self, input: &[u8]) -> Result<CowStr<'de>, Fault> {
+    pub(crate) fn text(&mut self, input: &[u8]) -> Result<CowStr<'de>, Fault>
+        ensures text { IfOk result
+            (λ t. Reads self.old (λ given. IsText given.kind (cow_str_bytes t)) self.new) }
+        ensures key { self.old.at_key ≡ true → IfOk result
+            (λ t. Reads self.old (λ given. IsKey given.kind (cow_str_bytes t)) self.new) }
+    {
         let at_key = self.at_key;
         self.at_key = false;
         let ParseEvent { kind, span } = self.take()?;
@@ -245,7 +279,10 @@ impl<'de> Json<'de> {
 
     /// A key, or `None` at the end of the map, which it takes.
     #[inline(never)]
-    pub(crate) fn key(&mut self) -> Result<Option<CowStr<'de>>, Fault> {
+    pub(crate) fn key(&mut self) -> Result<Option<CowStr<'de>>, Fault>
+        ensures { IfOk result (λ o. MatchOption o (Gives self.old [] map_ends self.new)
+            (λ key. Reads self.old (λ given. IsKey given.kind (cow_str_bytes key)) self.new)) }
+    {
         let ParseEvent { kind, span } = self.take()?;
         match kind {
             ParseEventKind::FieldKey(key) => Ok(Some(key.name)),
