@@ -1,10 +1,10 @@
 -- Where a format with one event ahead stands, and what its steps read: serde's `gives`, `picks` and `stays`.
-use Rattle.std.specs.Prelude.{◌≡◌, ◌+◌, ℕ, ℤ, pos, Bool, true, false, List, Some, MatchBool, slice_range, ⊤}
+use Rattle.std.specs.Prelude.{◌≡◌, ℕ, ℤ, pos, Bool, true, false, List, Some, MatchBool, slice_range, ⊤}
 use Rattle.std.specs.Char.{encode_utf8}
 use Rattle.std.specs.Str.Parse.{true_text, false_text, IsNumeral, digits_value, signed_digits_value, without_leading_plus, without_leading_sign}
 use Rattle.std.specs.Float.Ieee.{Float, Format, binary32, binary64}
 use Rattle.std.specs.Float.Parse.{parse_float}
-use Rattle.facet_format.specs.Event.{Text, Event, EventKind, struct_start, struct_end, sequence_start, sequence_end, field_key, scalar, null, bool, i64, u64, decimal, text, bytes_of}
+use Rattle.facet_format.specs.Event.{Event, EventKind, struct_start, struct_end, sequence_start, sequence_end, field_key, scalar, null, bool, i64, u64, decimal, text, bytes_of}
 use Rattle.facet_format.specs.Span.{Span, stop}
 use Rattle.facet_format.specs.Views.{event_of}
 use Rattle.facet_json_document.specs.Now.{Now}

@@ -285,11 +285,11 @@ impl<'de> Format for Json<'de> {
 
     #[inline(always)]
     fn next_item(&mut self, _input: &[u8]) -> Result<bool, Fault> {
-        let event = self.take()?;
-        if let ParseEventKind::SequenceEnd = event.kind {
+        let item = self.take()?;
+        if let ParseEventKind::SequenceEnd = item.kind {
             return Ok(false);
         }
-        self.ahead = Ahead::Event(event);
+        self.ahead = Ahead::Event(item);
         Ok(true)
     }
 

@@ -1,5 +1,6 @@
 //! A parser and a writer that the caller holds.
 
+use crate::by_hand::{Percent, Range, percent, range};
 use facet_json_serde::{Error, Fault, Json, JsonParser, JsonWriter, SerializeOptions};
 use serde::{Deserialize, Deserializer, Serialize};
 use std::alloc::Global;
@@ -40,5 +41,22 @@ fn a_writer_is_held(rt: HostRuntime) -> Result<(), Fail> {
     (1u8, "x").serialize(&mut writer).ok().ok_or("a pair")?;
     let text = writer.finish(&options).ok().ok_or("a text")?;
     assert_eq!(rt; text.as_slice(), br#"[1,"x"]"#.as_slice());
+    Ok(())
+}
+
+#[test]
+fn types_are_read_by_hand(rt: HostRuntime) -> Result<(), Fail> {
+    let alloc = rt.alloc();
+    let input = b" 99 ".as_slice();
+    let read = percent(alloc, input, JsonParser::new(alloc, input)).ok().ok_or("a part")?;
+    assert_eq!(rt; read, Percent(99));
+    let input = b"101".as_slice();
+    assert!(rt; percent(alloc, input, JsonParser::new(alloc, input)).is_err());
+    let input = b"[2, 5]".as_slice();
+    let read = range(alloc, input, JsonParser::new(alloc, input)).ok().ok_or("a range")?;
+    assert_eq!(rt; read, Range { low: 2, high: 5 });
+    for input in [b"[5,2]".as_slice(), b"[2]", b"[2,5,7]", b"[-2,5]", b"{}"] {
+        assert!(rt; range(alloc, input, JsonParser::new(alloc, input)).is_err());
+    }
     Ok(())
 }

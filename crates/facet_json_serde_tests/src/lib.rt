@@ -2,6 +2,8 @@
 //! no value; readers and writers of bytes; failed allocations; generated values, exchanged with `serde_json`. What is expected is what serde's documents and `serde_json`'s say.
 #![tactic(auto)]
 
+mod by_hand;
+
 #[cfg(test)]
 mod again;
 #[cfg(test)]
@@ -22,3 +24,5 @@ mod streams;
 mod structs;
 #[cfg(test)]
 mod writers;
+
+pub use by_hand::{Percent, Range, percent, range};

@@ -1,0 +1,21 @@
+-- What is read by hand.
+use Rattle.std.specs.Prelude.{ℕ, List, None}
+use Rattle.facet_format.specs.Event.{Event as ParserEvent}
+use Rattle.facet_json_document.specs.Now.{Now}
+use Rattle.facet_json_document.specs.Next.{PassesNext}
+use Rattle.serde.specs.Event.{Event, unsigned, seq_begins, seq_ends}
+use Rattle.serde.specs.Steps.{Gives, Stays}
+use Rattle.serde.specs.declared.deserializer.Deserializer.{Deserializer}
+use Rattle.facet_json_serde.specs.Ahead.{BeginsList, IsUnsigned}
+
+-- A list of two whole numbers was read, in the words of any format.
+abbrev pub GivesPair : {F E M : Type 0} → (F → List ℕ → Event → F → Type 0) → (F → F → Type 0) → Deserializer F E M → ℕ → ℕ → Deserializer F E M → Type 0
+GivesPair {F} {E} {M} gives stays old low high new =
+    (begun first between second last : Deserializer F E M) × Gives gives old (seq_begins None) begun × Stays stays begun first × Gives gives first (unsigned low) between
+    × Stays stays between second × Gives gives second (unsigned high) last × Gives gives last seq_ends new
+
+-- The events of such a list came next, in a parser of JSON.
+abbrev pub PassesPair : Now → ℕ → ℕ → Type 0
+PassesPair now low high =
+    (begins first second ends : ParserEvent) × (begun between last after : Now) × PassesNext now begins begun × PassesNext begun first between
+    × PassesNext between second last × PassesNext last ends after × BeginsList begins.kind × IsUnsigned first.kind low × IsUnsigned second.kind high
