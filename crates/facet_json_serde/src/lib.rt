@@ -26,7 +26,6 @@ pub use reading::{
     from_slice, from_slice_jsonc, from_slice_strict, from_slice_whole, from_str, from_str_jsonc,
     from_str_strict,
 };
-pub use serde::{Deserialize, Serialize};
 pub use streams::{StreamError, from_reader, to_writer, to_writer_with_options};
 pub use writer::JsonWriter;
 pub use writing::{

@@ -79,11 +79,7 @@ pub fn percent<'de>(
 }
 
 /// The parser's next events are that list.
-pub fn range<'de>(
-    alloc: Global,
-    input: &'de [u8],
-    parser: JsonParser<'de>,
-) -> Result<Range, Fault>
+pub fn range<'de>(alloc: Global, input: &'de [u8], parser: JsonParser<'de>) -> Result<Range, Fault>
     ensures { IfOk result (λ r. PassesPair parser.entry r.low r.high) }
 {
     let mut json = Json::new(alloc, parser);

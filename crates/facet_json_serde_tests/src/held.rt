@@ -48,12 +48,16 @@ fn a_writer_is_held(rt: HostRuntime) -> Result<(), Fail> {
 fn types_are_read_by_hand(rt: HostRuntime) -> Result<(), Fail> {
     let alloc = rt.alloc();
     let input = b" 99 ".as_slice();
-    let read = percent(alloc, input, JsonParser::new(alloc, input)).ok().ok_or("a part")?;
+    let read = percent(alloc, input, JsonParser::new(alloc, input))
+        .ok()
+        .ok_or("a part")?;
     assert_eq!(rt; read, Percent(99));
     let input = b"101".as_slice();
     assert!(rt; percent(alloc, input, JsonParser::new(alloc, input)).is_err());
     let input = b"[2, 5]".as_slice();
-    let read = range(alloc, input, JsonParser::new(alloc, input)).ok().ok_or("a range")?;
+    let read = range(alloc, input, JsonParser::new(alloc, input))
+        .ok()
+        .ok_or("a range")?;
     assert_eq!(rt; read, Range { low: 2, high: 5 });
     for input in [b"[5,2]".as_slice(), b"[2]", b"[2,5,7]", b"[-2,5]", b"{}"] {
         assert!(rt; range(alloc, input, JsonParser::new(alloc, input)).is_err());
