@@ -7,7 +7,7 @@
 
 mod settings;
 
-use crate::settings::{Settings, settings};
+use crate::settings::{Settings, read_settings};
 use facet_json_serde::{Error, to_string_pretty};
 use std::process::ExitCode;
 use std::{env, fs, io};
@@ -50,7 +50,7 @@ fn run(rt: &HostRuntime) -> io::Result<u8> {
     }
     let name = file.as_ref().map(|name| name.as_str());
     let text = text_of(rt, name)?;
-    match settings(rt.alloc(), text.as_str()) {
+    match read_settings(rt.alloc(), text.as_str()) {
         Ok(settings) => show(rt, &settings),
         Err(error) => tell(rt, name.unwrap_or("<stdin>"), text.as_str(), &error),
     }

@@ -17,7 +17,7 @@ pub struct Settings {
 }
 
 /// Reads them from a text in which comments may stand.
-pub fn settings(alloc: Global, text: &str) -> Result<Settings, Error<'static>> {
+pub fn read_settings(alloc: Global, text: &str) -> Result<Settings, Error<'static>> {
     from_str_jsonc(alloc, text)
 }
 

@@ -25,4 +25,4 @@ mod structs;
 #[cfg(test)]
 mod writers;
 
-pub use by_hand::{Percent, Range, percent, range};
+pub use by_hand::{Percent, Range, read_percent, read_range};
