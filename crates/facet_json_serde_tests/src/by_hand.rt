@@ -79,15 +79,11 @@ pub fn read_percent<'de>(
 }
 
 /// The parser's next events are that list.
-<<<<<<< HEAD
-pub fn range<'de>(alloc: Global, input: &'de [u8], parser: JsonParser<'de>) -> Result<Range, Fault>
-=======
 pub fn read_range<'de>(
     alloc: Global,
     input: &'de [u8],
     parser: JsonParser<'de>,
 ) -> Result<Range, Fault>
->>>>>>> ada13c74 (facet_json_serde_tests: what types read by hand say of a JSON parser's events is proved)
     ensures { IfOk result (λ r. PassesPair parser.entry r.low r.high) }
 {
     let mut json = Json::new(alloc, parser);

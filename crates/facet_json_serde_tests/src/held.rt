@@ -48,22 +48,14 @@ fn a_writer_is_held(rt: HostRuntime) -> Result<(), Fail> {
 fn types_are_read_by_hand(rt: HostRuntime) -> Result<(), Fail> {
     let alloc = rt.alloc();
     let input = b" 99 ".as_slice();
-<<<<<<< HEAD
-    let read = percent(alloc, input, JsonParser::new(alloc, input))
-=======
     let read = read_percent(alloc, input, JsonParser::new(alloc, input))
->>>>>>> ada13c74 (facet_json_serde_tests: what types read by hand say of a JSON parser's events is proved)
         .ok()
         .ok_or("a part")?;
     assert_eq!(rt; read, Percent(99));
     let input = b"101".as_slice();
     assert!(rt; read_percent(alloc, input, JsonParser::new(alloc, input)).is_err());
     let input = b"[2, 5]".as_slice();
-<<<<<<< HEAD
-    let read = range(alloc, input, JsonParser::new(alloc, input))
-=======
     let read = read_range(alloc, input, JsonParser::new(alloc, input))
->>>>>>> ada13c74 (facet_json_serde_tests: what types read by hand say of a JSON parser's events is proved)
         .ok()
         .ok_or("a range")?;
     assert_eq!(rt; read, Range { low: 2, high: 5 });
