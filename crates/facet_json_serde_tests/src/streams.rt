@@ -103,10 +103,9 @@ fn a_write_fails_in_turn(rt: HostRuntime) {
     let alloc = rt.alloc();
     for at in 0..3 {
         let (answer, taken) = write(alloc, at);
-        assert!(rt;
-            has_failed(answer) && taken.as_slice() == &TEXT.as_bytes()[..3 * at],
-            "at {at}"
-        );
+        assert!(rt; has_failed(answer), "at {at}");
+        assert!(rt; taken.len() == at.saturating_mul(3), "at {at}");
+        assert!(rt; TEXT.as_bytes().starts_with(taken.as_slice()), "at {at}");
     }
     let (answer, taken) = write(alloc, 3);
     assert!(rt; answer.is_ok() && taken.as_slice() == TEXT.as_bytes());
