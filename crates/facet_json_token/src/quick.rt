@@ -40,10 +40,11 @@ pub fn gap_end(buffer: &[u8], position: usize, mode: Mode) -> usize
     ensures end { result ≡ past_gap buffer.now position (mode_of mode) }
     ensures within { result ≤ length buffer.now }
 {
-    if is_past_gap(buffer, position) {
-        return position;
+    match buffer.get(position) {
+        Some(b' ' | b'\t' | b'\n' | b'\r' | b'/') => blank_end(buffer, position, mode),
+        Some(_) => position,
+        None => skip_gap(buffer, position, mode),
     }
-    blank_end(buffer, position, mode)
 }
 
 /// The same where nearly all gaps are empty: another one is passed by a call.
@@ -53,21 +54,10 @@ pub fn empty_gap_end(buffer: &[u8], position: usize, mode: Mode) -> usize
     ensures end { result ≡ past_gap buffer.now position (mode_of mode) }
     ensures within { result ≤ length buffer.now }
 {
-    if is_past_gap(buffer, position) {
-        return position;
-    }
-    blank_end_apart(buffer, position, mode)
-}
-
-/// Whether a byte stands there with which no piece of a gap begins.
-#[inline(always)]
-fn is_past_gap(buffer: &[u8], position: usize) -> bool
-    ensures { result ≡ true → (mode : SpecMode) → position ≡ past_gap buffer.now position mode }
-{
     match buffer.get(position) {
-        Some(b' ' | b'\t' | b'\n' | b'\r' | b'/') => false,
-        Some(_) => true,
-        None => false,
+        Some(b' ' | b'\t' | b'\n' | b'\r' | b'/') => blank_end_apart(buffer, position, mode),
+        Some(_) => position,
+        None => skip_gap(buffer, position, mode),
     }
 }
 
