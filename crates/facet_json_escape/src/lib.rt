@@ -2,12 +2,8 @@
 //! `push_quoted`. What needs no escape is found sixteen bytes at a time, and copied in runs.
 #![tactic(auto)]
 
-mod digits;
-mod place;
-mod plain;
 mod quote;
 mod sink;
-mod window;
 
 pub use quote::{hex_digit, push_framed, push_framed_here, push_quoted};
 pub use sink::Sink;

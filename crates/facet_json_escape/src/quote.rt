@@ -1,16 +1,17 @@
 //! A text between quotes: runs of bytes that stand for themselves, and the escapes between them.
 
-ghost use Rattle.std.specs.Prelude.{◌≡◌, ◌<◌, [], ◌∷◌, ◌++◌, cond, OnOk, codes};
-ghost use Rattle.std.specs.List.{flat_map};
+ghost use Rattle.std.specs.Prelude.{◌≡◌, ◌+◌, ◌<◌, ◌≤◌, [], ◌∷◌, ◌++◌, cond, OnOk, codes, length, drop, map};
+ghost use Rattle.std.specs.Bool.{OnTrue};
+ghost use Rattle.std.specs.List.{flat_map, prefix_len};
+ghost use Rattle.std.specs.Simd.Lanes.{mask_l};
 ghost use Rattle.facet_format.specs.Bytes.{comma, colon};
 ghost use Rattle.facet_json_document.specs.Quoted.{escaped, quoted, hex_byte};
 ghost use Rattle.facet_json_document.specs.Quoted as spelled;
 ghost use Rattle.facet_json_escape.specs.Inner.Window as window;
 
-use crate::plain::plain_short;
 use crate::sink::Sink;
-use crate::window::verbatim_end;
 use std::alloc::AllocError;
+use std::simd::prelude::*;
 
 /// Appends a text between quotes (RFC 8259, section 7): an escape for each quote, backslash, DEL and character below U+0020, and each
 /// other character as its UTF-8.
@@ -147,7 +148,7 @@ fn push_run(out: &mut Sink, run: &[u8]) -> Result<(), AllocError>
 
 /// Whether a byte cannot stand for itself between the quotes.
 #[inline(always)]
-pub(crate) fn needs_escape(byte: u8) -> bool
+fn needs_escape(byte: u8) -> bool
     ensures { result ≡ window.needs_escape byte }
 {
     byte < b' ' || byte == b'"' || byte == b'\\' || byte == 0x7f
@@ -156,7 +157,7 @@ pub(crate) fn needs_escape(byte: u8) -> bool
 /// Appends what stands between the quotes for one byte of a text in UTF-8 (RFC 8259, section 7): an escape of an ASCII character, or
 /// the byte.
 #[tactic(auto, using(crate::proofs::Escapes::long_escape), unfolding(facet_json_document::specs::Quoted::escaped))]
-pub(crate) fn push_escaped(out: &mut Sink, byte: u8) -> Result<(), AllocError>
+fn push_escaped(out: &mut Sink, byte: u8) -> Result<(), AllocError>
     ensures { OnOk result (out.new ≡ out.old ++ escaped byte) }
 {
     match byte {
@@ -197,4 +198,122 @@ pub fn hex_digit(n: u8) -> u8
     ensures { result ≡ spelled.hex_digit n }
 {
     if n < 10 { n + b'0' } else { n - 10 + b'a' }
+}
+
+/// A bit for each of sixteen bytes that cannot stand for itself between the quotes: none where the whole window may be copied.
+#[inline(always)]
+fn escapes(bytes: u8x16) -> u64
+    ensures { result ≡ mask_l (map window.needs_escape bytes) }
+{
+    (bytes.simd_lt(u8x16::splat(b' '))
+        | bytes.simd_eq(u8x16::splat(b'"'))
+        | bytes.simd_eq(u8x16::splat(b'\\'))
+        | bytes.simd_eq(u8x16::splat(0x7f))).to_bitmask()
+}
+
+/// How many of sixteen bytes may be copied as they stand, up to the first that needs an escape: sixteen where all may.
+#[inline(always)]
+fn plain_lanes(bytes: u8x16) -> usize
+    ensures value { result ≡ prefix_len window.needs_no_escape bytes }
+    ensures within { result ≤ 16 }
+{
+    let found = escapes(bytes);
+    if found == 0 {
+        16
+    } else {
+        found.trailing_zeros() as usize
+    }
+}
+
+/// The first byte from `from` on that needs an escape, or the length. The last window is the text's last sixteen bytes, some of
+/// which the one before may have passed.
+#[inline(always)]
+fn verbatim_end(bytes: &[u8], from: usize) -> usize
+    requires { from + 16 ≤ length bytes.now }
+    ensures value { result ≡ from + prefix_len window.needs_no_escape (drop from bytes.now) }
+    ensures within { result ≤ length bytes.now }
+{
+    let mut at = from;
+    while bytes.len() - at > 16 {
+        let plain = plain_lanes(u8x16::from_slice(&bytes[at..]));
+        if plain < 16 {
+            return at + plain;
+        }
+        at += 16;
+    }
+    let last = bytes.len() - 16;
+    last + plain_lanes(u8x16::from_slice(&bytes[last..]))
+}
+
+/// Whether none of four bytes needs an escape.
+#[inline(always)]
+fn plain_4(text: &[u8], at: usize) -> bool
+    requires { at + 4 ≤ length text.now }
+    ensures { OnTrue result (window.PlainBetween text.now at (at + 4)) }
+{
+    let window = u8x4::from_slice(&text[at..]);
+    (window.simd_lt(u8x4::splat(b' '))
+        | window.simd_eq(u8x4::splat(b'"'))
+        | window.simd_eq(u8x4::splat(b'\\'))
+        | window.simd_eq(u8x4::splat(0x7f))).to_bitmask()
+        == 0
+}
+
+/// Whether none of eight bytes needs an escape.
+#[inline(always)]
+fn plain_8(text: &[u8], at: usize) -> bool
+    requires { at + 8 ≤ length text.now }
+    ensures { OnTrue result (window.PlainBetween text.now at (at + 8)) }
+{
+    let window = u8x8::from_slice(&text[at..]);
+    (window.simd_lt(u8x8::splat(b' '))
+        | window.simd_eq(u8x8::splat(b'"'))
+        | window.simd_eq(u8x8::splat(b'\\'))
+        | window.simd_eq(u8x8::splat(0x7f))).to_bitmask()
+        == 0
+}
+
+/// Whether none of sixteen bytes needs an escape.
+#[inline(always)]
+fn plain_16(text: &[u8], at: usize) -> bool
+    requires { at + 16 ≤ length text.now }
+    ensures { OnTrue result (window.PlainBetween text.now at (at + 16)) }
+{
+    let window = u8x16::from_slice(&text[at..]);
+    (window.simd_lt(u8x16::splat(b' '))
+        | window.simd_eq(u8x16::splat(b'"'))
+        | window.simd_eq(u8x16::splat(b'\\'))
+        | window.simd_eq(u8x16::splat(0x7f))).to_bitmask()
+        == 0
+}
+
+/// Whether none of a few bytes needs an escape.
+#[inline(always)]
+fn plain_few(text: &[u8]) -> bool
+    ensures { OnTrue result (window.PlainBetween text.now 0 (length text.now)) }
+{
+    for &byte in text {
+        if needs_escape(byte) {
+            return false;
+        }
+    }
+    true
+}
+
+/// Whether no byte of a text of up to 32 needs an escape.
+#[inline(always)]
+fn plain_short(text: &[u8]) -> bool
+    requires { length text.now ≤ 32 }
+    ensures { OnTrue result (window.PlainBetween text.now 0 (length text.now)) }
+{
+    let len = text.len();
+    if len >= 16 {
+        plain_16(text, 0) && plain_16(text, len - 16)
+    } else if len >= 8 {
+        plain_8(text, 0) && plain_8(text, len - 8)
+    } else if len >= 4 {
+        plain_4(text, 0) && plain_4(text, len - 4)
+    } else {
+        plain_few(text)
+    }
 }

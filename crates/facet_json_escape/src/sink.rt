@@ -1,14 +1,15 @@
 //! Bytes that are appended piece by piece, with room made ready ahead: a short piece is stored after one test, and without a call. The room
 //! holds zeros, and grows by bounded steps, so that few bytes are written twice; a long text takes none.
 
-ghost use Rattle.std.specs.Prelude.{◌≡◌, ◌+◌, ◌≤◌, [], ◌∷◌, ◌++◌, length, take, cond, vec_len, OnOk};
+ghost use Rattle.std.specs.Prelude.{◌≡◌, ◌+◌, ◌<◌, ◌≤◌, [], ◌∷◌, ◌++◌, length, take, cond, vec_len, OnOk, unsigned_abs};
 ghost use Rattle.std.specs.Fmt.{decimal, signed_decimal};
 ghost use Rattle.facet_format.specs.Bytes.{comma, colon, quote, minus};
+ghost use Rattle.facet_json_escape.specs.Inner.Places.{Placed};
 
-use crate::digits::{is_negative, place_number};
-use crate::place::{place_byte, place_framed, place_run, place_short};
+use itoa::write_digits;
 use std::alloc::{AllocError, Global};
 use std::marker::Model;
+use std::simd::Simd;
 
 /// The least room that is made ready at once: any short piece fits.
 const LEAST_AHEAD: usize = 128;
@@ -199,4 +200,134 @@ fn grow(bytes: &mut Vec<u8>) -> Result<(), AllocError>
 {
     let ahead = bytes.len().clamp(LEAST_AHEAD, MOST_AHEAD);
     bytes.extend_from_slice(&ZEROS[..ahead])
+}
+
+/// Writes a byte, which is always stored, and counts only where it is wanted.
+#[inline(always)]
+fn place_byte(buffer: &mut [u8], at: usize, byte: u8, wanted: bool) -> usize
+    requires { at < length buffer.old }
+    ensures { Placed buffer.old buffer.new at (cond wanted (byte ∷ []) []) result }
+{
+    buffer[at] = byte;
+    if wanted { at + 1 } else { at }
+}
+
+/// Writes the first bytes of a text by one load and one store.
+#[inline(always)]
+fn place_first<const N: usize>(buffer: &mut [u8], at: usize, text: &[u8]) -> usize
+    requires { (N ≤ length text.now) × (at + N ≤ length buffer.old) }
+    ensures { Placed buffer.old buffer.new at (take N text.now) result }
+{
+    Simd::<u8, N>::from_slice(text).copy_to_slice(&mut buffer[at..]);
+    at + N
+}
+
+/// Writes a text by its first bytes and its last, which may overlap.
+#[inline(always)]
+fn place_ends<const N: usize>(buffer: &mut [u8], at: usize, text: &[u8]) -> usize
+    requires fits { at + length text.now ≤ length buffer.old }
+    requires covers { (N ≤ length text.now) × (length text.now ≤ N + N) }
+    ensures { Placed buffer.old buffer.new at text.now result }
+{
+    let last = text.len() - N;
+    place_first::<N>(buffer, at, text);
+    place_first::<N>(buffer, at + last, &text[last..])
+}
+
+/// Writes a text of up to 32 bytes.
+#[inline(always)]
+fn place_short(buffer: &mut [u8], at: usize, text: &[u8]) -> usize
+    requires fits { at + length text.now ≤ length buffer.old }
+    requires short { length text.now ≤ 32 }
+    ensures { Placed buffer.old buffer.new at text.now result }
+{
+    let len = text.len();
+    if len >= 16 {
+        place_ends::<16>(buffer, at, text)
+    } else if len >= 8 {
+        place_ends::<8>(buffer, at, text)
+    } else if len >= 4 {
+        place_ends::<4>(buffer, at, text)
+    } else if len >= 2 {
+        place_ends::<2>(buffer, at, text)
+    } else if len == 1 {
+        place_first::<1>(buffer, at, text)
+    } else {
+        at
+    }
+}
+
+/// Writes bytes of any number.
+#[inline(always)]
+fn place_run(buffer: &mut [u8], at: usize, run: &[u8]) -> usize
+    requires { at + length run.now ≤ length buffer.old }
+    ensures { Placed buffer.old buffer.new at run.now result }
+{
+    let end = at + run.len();
+    buffer[at..end].copy_from_slice(run);
+    end
+}
+
+/// Writes a text of up to 32 bytes as it stands, between quotes, at a place of a buffer.
+#[inline(always)]
+fn place_framed(
+    buffer: &mut [u8],
+    at: usize,
+    after_comma: bool,
+    text: &[u8],
+    before_colon: bool,
+) -> usize
+    requires short { length text.now ≤ 32 }
+    requires fits { at + 36 ≤ length buffer.old }
+    ensures { Placed buffer.old buffer.new at
+        (cond after_comma (comma ∷ []) [] ++ (quote ∷ text.now ++ quote ∷ [] ++ cond before_colon (colon ∷ []) [])) result }
+{
+    let at = place_byte(buffer, at, b',', after_comma);
+    let at = place_byte(buffer, at, b'"', true);
+    let at = place_short(buffer, at, text);
+    let at = place_byte(buffer, at, b'"', true);
+    place_byte(buffer, at, b':', before_colon)
+}
+
+/// Whether a number has a minus before its digits.
+#[inline(always)]
+fn is_negative(n: i64) -> bool
+    ensures { cond result (minus ∷ []) [] ++ decimal (unsigned_abs n) ≡ signed_decimal n }
+{
+    n < 0
+}
+
+/// Writes a number's decimal digits, after a comma and a minus where these are wanted.
+#[inline(always)]
+fn place_number(buffer: &mut [u8], at: usize, after_comma: bool, after_minus: bool, n: u64) -> usize
+    requires { at + 24 ≤ length buffer.old }
+    ensures { Placed buffer.old buffer.new at
+        (cond after_comma (comma ∷ []) [] ++ (cond after_minus (minus ∷ []) [] ++ decimal n)) result }
+{
+    let at = place_byte(buffer, at, b',', after_comma);
+    let at = place_byte(buffer, at, b'-', after_minus);
+    place_digits(buffer, at, n)
+}
+
+/// Writes a number's decimal digits, which are twenty at most.
+#[inline(always)]
+fn place_digits(buffer: &mut [u8], at: usize, n: u64) -> usize
+    requires { at + 20 ≤ length buffer.old }
+    ensures { Placed buffer.old buffer.new at (decimal n) result }
+{
+    let end = at + digit_count(n);
+    write_digits(n, buffer, end);
+    end
+}
+
+/// How many decimal digits a number has.
+#[inline(always)]
+fn digit_count(n: u64) -> usize
+    ensures count { result ≡ length (decimal n) }
+    ensures small { result ≤ 20 }
+{
+    if n < 10 {
+        return 1;
+    }
+    n.ilog10() as usize + 1
 }
