@@ -20,6 +20,7 @@ use Rattle.facet_json_document.specs.Run.{opening, one_token}
 use Rattle.facet_json_document.specs.Inner.PassedRun.{leaves, crosses, passing, Outcome, closes, stops, passed}
 use Rattle.facet_json_document.proofs.Runs.RunsPassed.{passed-next}
 use Rattle.facet_json_document.proofs.Runs.PassedRuns.{is-outcome}
+use Rattle.facet_json_reader.specs.PlaceViews.{NamesInside}
 use Rattle.facet_json_reader.proofs.CutsAtPlaces.{IsCut, ends, stands, is_cut, Refuses, is_refused}
 use Rattle.facet_json_parser.specs.RunViews.{EndsRun, IsRunRefused, breaks_off, without_memory, value_expected}
 
@@ -94,11 +95,11 @@ module _ (buffer : List ℕ) (mode : Mode) where
 
     -- A fault breaks the run off.
     pub fault-stops : (e : ScanError) (refusal : Refusal) → stop s ≤ length buffer → scanned (Err e) ≡ Some (cut buffer (stop s) mode) →
-        refusal ≡ scan_refusal e → IsRunRefused buffer last (run_tokens kind first) refusal
+        (NamesInside e.kind → refusal ≡ scan_refusal e) → IsRunRefused buffer last (run_tokens kind first) refusal
     unfolding passed
     fault-stops e refusal within h p =
         let f : Refuses buffer (stop s) (lenient mode) e = is_refused buffer (stop s) (lenient mode) e within h in
-        stopped kind first last refusal (ap stops (p ∙ f.passed_on) ∙ by_tokens (refused f.what) f.tokens)
+        stopped kind first last refusal (ap stops (f.passed_on refusal p) ∙ by_tokens (refused f.what) f.tokens)
 
     -- So does the end.
     end-stops : (refusal : Refusal) → tokens_from buffer mode (stop s) ≡ ended → refusal ≡ value_expected (span_at (length buffer) 0) →

@@ -1,6 +1,6 @@
 -- Where tokens stop a reader that reads no text, and what stands after a key.
 use Rattle.std.specs.Prelude.{codes}
-use Rattle.std.proofs.Common.{◌≡◌, ◌∙◌, ◌≤◌, ℕ, false, List, length, Some, Ok, Err, refl}
+use Rattle.std.proofs.Common.{◌≡◌, ◌≤◌, ℕ, false, List, length, Some, Ok, Err, refl}
 use Rattle.facet_json_token.specs.declared.token.Token.TheVariants as code
 use Rattle.facet_json_token.specs.declared.token.SpannedToken.{SpannedToken}
 use Rattle.facet_json_token.specs.declared.token.ScanError.{ScanError}
@@ -19,7 +19,7 @@ use Rattle.facet_json_token.specs.Views.{kind_of, scanned, scan_refusal}
 use Rattle.facet_json_document.specs.Language.{lenient}
 use Rattle.facet_json_document.specs.Place.{Place, after_key, goes_on}
 use Rattle.facet_json_document.specs.Unread.{IsStuckUnread, at_end, at_fault, past_key, HasColon, colon_stands}
-use Rattle.facet_json_reader.specs.PlaceViews.{place_of, turn_of, turn_by}
+use Rattle.facet_json_reader.specs.PlaceViews.{NamesInside, place_of, turn_of, turn_by}
 use Rattle.facet_json_reader.proofs.CutsAtPlaces.{is_refused}
 use Rattle.facet_json_reader.proofs.StoppingTokens.{none-at_end, stopped-at_place, stopped-after_key}
 use Rattle.facet_json_reader.proofs.ColonAfterKey.{colon-stands}
@@ -28,10 +28,10 @@ use Rattle.facet_json_reader.proofs.ColonAfterKey.{colon-stands}
 
 -- A fault stops the reader wherever it stands.
 pub unread-fault : (buffer : List ℕ) (position : ℕ) (mode : Mode) (e : ScanError) (place : Place) (r : Refusal) → position ≤ length buffer →
-    scanned (Err e) ≡ Some (cut buffer position mode) → r ≡ scan_refusal e →
+    scanned (Err e) ≡ Some (cut buffer position mode) → (NamesInside e.kind → r ≡ scan_refusal e) →
     IsStuckUnread buffer place (tokens_from buffer mode position) r
 unread-fault buffer position mode e place r room h p =
-    let f = is_refused buffer position (lenient mode) e room h in rw (p ∙ f.passed_on, f.tokens) (at_fault place f.what)
+    let f = is_refused buffer position (lenient mode) e room h in rw (f.passed_on r p, f.tokens) (at_fault place f.what)
 
 -- A token without a turn, or the end, stops it.
 pub unread-stopped : (buffer : List ℕ) (mode : Mode) (p : RustPlace) (position : ℕ) (t : SpannedToken) (r : Refusal) → position ≤ length buffer →

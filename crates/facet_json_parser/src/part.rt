@@ -20,7 +20,7 @@ use facet_json_reader::{Expected, Language, Name, Place, Reader, Refused, Stage,
 use facet_json_token::{SpannedToken, Token, cut};
 
 /// What stands first, by its first token.
-#[derive(Debug, Drop)]
+#[derive(Drop)]
 pub enum Part {
     /// A value, which begins with this token.
     Value(SpannedToken),

@@ -1,5 +1,5 @@
 -- What stands behind the root, where RFC 8259 alone is read.
-use Rattle.std.proofs.Common.{◌≡◌, ◌∙◌, ◌≤◌, ℕ, false, List, length, Option, Some, None, Ok, Err, refl, ap}
+use Rattle.std.proofs.Common.{◌≡◌, ◌≤◌, ℕ, false, List, length, Option, Some, None, Ok, Err, refl, ap}
 use Rattle.facet_json_token.specs.declared.token.Token.TheVariants as code
 use Rattle.facet_json_token.specs.declared.token.SpannedToken.{SpannedToken}
 use Rattle.facet_json_token.specs.declared.token.ScanError.{ScanError}
@@ -17,7 +17,7 @@ use Rattle.facet_json_document.specs.Language.{strict, strict_rules}
 use Rattle.facet_json_document.specs.Place.{after_root, goes_on}
 use Rattle.facet_json_document.specs.Refusal.{at_fault}
 use Rattle.facet_json_document.specs.StrictTokens.{tokens_in, cut_in}
-use Rattle.facet_json_reader.specs.PlaceViews.{turn_of, turn_by}
+use Rattle.facet_json_reader.specs.PlaceViews.{NamesInside, turn_of, turn_by}
 use Rattle.facet_json_reader.proofs.CutsAtPlaces.{is_refused}
 use Rattle.facet_json_reader.proofs.StoppingTokens.{none-at_end, stopped-at_place}
 use Rattle.facet_json_reader.specs.Views.{StopsAt, IsRefusedBefore, at_a_stop}
@@ -34,10 +34,10 @@ module _ (buffer : List ℕ) (mode : Mode) (position : ℕ) (last : Span) (room 
 
   -- A fault.
   pub fault-behind : (e : ScanError) (r : Refusal) → scanned (Err e) ≡ Some (cut_in (strict mode) buffer position) →
-      r ≡ scan_refusal e → IsRefusedBefore buffer last (behind_root strict_rules (tokens_in (strict mode) buffer position)) r
+      (NamesInside e.kind → r ≡ scan_refusal e) → IsRefusedBefore buffer last (behind_root strict_rules (tokens_in (strict mode) buffer position)) r
   fault-behind e r h p =
       let f = is_refused buffer position (strict mode) e room h in
-      let told = p ∙ f.passed_on in
+      let told = f.passed_on r p in
       let there = f.tokens in
       rw (there, told) (at_a_stop after_root (refused f.what) _ (at_fault after_root f.what))
 

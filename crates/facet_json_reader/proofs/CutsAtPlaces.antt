@@ -21,6 +21,8 @@ use Rattle.facet_json_token.specs.Views.{kind_of, token_answer, fault_answer, sc
 use Rattle.facet_json_token.proofs.CutBounds.{TokenFits, KindFits, cut-token_fits}
 use Rattle.facet_json_document.proofs.TokensIn.{tokens_in-token, tokens_in-fault, tokens_in-nothing, strict_token-is}
 use Rattle.facet_json_document.specs.Place.{complaint_of_fault}
+use Rattle.facet_json_reader.specs.PlaceViews.{NamesInside}
+use Rattle.facet_json_reader.proofs.InsideTexts.{KindInside, cut_in-inside}
 
 -- What is cut of either language fits there.
 cut_in-token_fits : (language : Language) (buffer : List ℕ) (position : ℕ) (t : Token) → position ≤ length buffer →
@@ -86,6 +88,7 @@ is_cut buffer position language t p e = cut_by buffer position language t _ p re
 record FaultAnswer (e : ScanError) (c : Cut) : Type 0 where
   what : Fault
   is_fault : c ≡ fault what
+  named : KindInside what.kind → NamesInside e.kind
   passed_on : scan_refusal e ≡ refusal_at (complaint_of_fault what.kind) what.span
 
 fault_answer-is : (s : RustSpan) (kind : ScanErrorKind) (c : Cut) → fault_answer s kind ≡ Some c →
@@ -93,11 +96,13 @@ fault_answer-is : (s : RustSpan) (kind : ScanErrorKind) (c : Cut) → fault_answ
 fault_answer-is s (scan.UnexpectedChar ch) c e = record {
   what = record { kind = token.unexpected_char ch; span = span_of s };
   is_fault = sym (same_Some _ _ e);
+  named = λ _. tt;
   passed_on = refl;
 }
 fault_answer-is s (scan.UnexpectedEof text) c e = record {
   what = record { kind = token.unexpected_eof text.now; span = span_of s };
   is_fault = sym (same_Some _ _ e);
+  named = λ text. text;
   passed_on = refl;
 }
 fault_answer-is s scan.InvalidUtf8 c e = cc
@@ -105,11 +110,12 @@ fault_answer-is s scan.InvalidUtf8 c e = cc
 -- What is known of a fault that is cut: it ends the tokens, and is passed on so.
 pub record Refuses (buffer : List ℕ) (position : ℕ) (language : Language) (e : ScanError) : Type 0 where
   pub what : Fault
-  pub passed_on : scan_refusal e ≡ refusal_at (complaint_of_fault what.kind) what.span
+  pub passed_on : (r : Refusal) → (NamesInside e.kind → r ≡ scan_refusal e) → r ≡ refusal_at (complaint_of_fault what.kind) what.span
   pub tokens : tokens_in language buffer position ≡ refused what
 
 pub is_refused : (buffer : List ℕ) (position : ℕ) (language : Language) (e : ScanError) → position ≤ length buffer →
     scanned (Err e) ≡ Some (cut_in language buffer position) → Refuses buffer position language e
 is_refused buffer position language e p h =
     let a : FaultAnswer e (cut_in language buffer position) = fault_answer-is e.span e.kind _ h in
-    record { what = a.what; passed_on = a.passed_on; tokens = tokens_in-fault language buffer position a.what p a.is_fault }
+    let is_named = a.named (cut_in-inside language buffer position a.what a.is_fault) in
+    record { what = a.what; passed_on = λ r q. q is_named ∙ a.passed_on; tokens = tokens_in-fault language buffer position a.what p a.is_fault }

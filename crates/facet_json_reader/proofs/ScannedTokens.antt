@@ -1,5 +1,5 @@
 -- What an answer of the plain cut in code says of its own slices, and where it stops the reader.
-use Rattle.std.proofs.Common.{◌≡◌, ◌∙◌, ℕ, ◌≤◌, List, length, Some, Ok, Err, sym, subst, arith}
+use Rattle.std.proofs.Common.{◌≡◌, ℕ, ◌≤◌, List, length, Some, Ok, Err, sym, subst, arith}
 use Rattle.std.proofs.lemmas.Option.{same_Some}
 use Rattle.facet_format.specs.declared.span.Span.{Span as RustSpan}
 use Rattle.facet_json_token.specs.declared.token.Token.{Token as RustToken}
@@ -16,6 +16,7 @@ use Rattle.facet_json_token.specs.Views.{kind_of, scanned, scan_refusal}
 use Rattle.facet_json_token.proofs.CutBounds.{KindFits, StringFits, NumberFits}
 use Rattle.facet_json_document.specs.Place.{Place}
 use Rattle.facet_json_document.specs.Refusal.{at_fault}
+use Rattle.facet_json_reader.specs.PlaceViews.{NamesInside}
 use Rattle.facet_json_reader.proofs.CutsAtPlaces.{IsCut, ends, stands, is_cut, is_refused}
 use Rattle.facet_json_reader.specs.TokenViews.{CanBeRead}
 use Rattle.facet_json_reader.specs.Views.{StopsAt}
@@ -60,7 +61,7 @@ cut-readable buffer position language t p e = can_be buffer position language t 
 
 -- A fault stops the reader wherever it stands.
 pub fault-stops : (buffer : List ℕ) (position : ℕ) (language : Language) (e : ScanError) (place : Place) (r : Refusal) → position ≤ length buffer →
-    scanned (Err e) ≡ Some (cut_in language buffer position) → r ≡ scan_refusal e →
+    scanned (Err e) ≡ Some (cut_in language buffer position) → (NamesInside e.kind → r ≡ scan_refusal e) →
     StopsAt buffer place (tokens_in language buffer position) r
 fault-stops buffer position language e place r room h p =
-    let f = is_refused buffer position language e room h in rw (p ∙ f.passed_on, f.tokens) (at_fault place f.what)
+    let f = is_refused buffer position language e room h in rw (f.passed_on r p, f.tokens) (at_fault place f.what)

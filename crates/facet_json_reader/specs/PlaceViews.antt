@@ -4,12 +4,16 @@ use Rattle.facet_format.specs.declared.event.ContainerKind.{ContainerKind as Rus
 use Rattle.facet_format.specs.declared.event.ContainerKind.TheVariants as containers
 use Rattle.facet_json_token.specs.declared.token.Token.{Token as RustToken}
 use Rattle.facet_json_token.specs.declared.token.Token.TheVariants as code
+use Rattle.facet_json_token.specs.declared.token.ScanErrorKind.{ScanErrorKind}
+use Rattle.facet_json_token.specs.declared.token.ScanErrorKind.TheVariants as scan
 use Rattle.facet_json_reader.specs.declared.refusal.Expected.{Expected}
 use Rattle.facet_json_reader.specs.declared.refusal.Expected.TheVariants as expected
 use Rattle.facet_json_reader.specs.declared.refusal.Name.{Name}
 use Rattle.facet_json_reader.specs.declared.refusal.Name.TheVariants as names
 use Rattle.facet_json_reader.specs.declared.refusal.NoRaw.{NoRaw}
 use Rattle.facet_json_reader.specs.declared.refusal.NoRaw.TheVariants as no_raws
+use Rattle.facet_json_reader.specs.declared.refusal.Inside.{Inside}
+use Rattle.facet_json_reader.specs.declared.refusal.Inside.TheVariants as insides
 use Rattle.facet_json_reader.specs.declared.refusal.Why.{Why}
 use Rattle.facet_json_reader.specs.declared.refusal.Why.TheVariants as why
 use Rattle.facet_json_reader.specs.declared.refusal.Refused.{Refused}
@@ -29,7 +33,7 @@ use Rattle.facet_format.specs.declared.span.Span.{Span as RustSpan}
 use Rattle.facet_json_token.specs.declared.token.ScanError.{ScanError}
 use Rattle.facet_json_token.specs.Cut.{fault}
 use Rattle.facet_json_token.specs.Strict.{strict_fault}
-use Rattle.facet_json_token.specs.Token.{Token, Fault, Kind}
+use Rattle.facet_json_token.specs.Token.{Token, Fault, Kind, in_string, in_number, in_literal, in_block_comment}
 use Rattle.facet_json_token.specs.Token as token
 use Rattle.facet_json_token.specs.Views.{mode_of, fault_answer}
 use Rattle.facet_json_document.specs.Language.{Language, lenient, strict}
@@ -79,9 +83,27 @@ no_raw_text no_raws.Key = codes "unexpected field key in capture_raw"
 no_raw_text no_raws.End = codes "unexpected end event in capture_raw"
 no_raw_text no_raws.Text = codes "invalid UTF-8 in raw JSON"
 
+-- inside of what the input ends
+abbrev pub inside_text : Inside → List ℕ
+inside_text insides.String = in_string
+inside_text insides.Number = in_number
+inside_text insides.Literal = in_literal
+inside_text insides.BlockComment = in_block_comment
+inside_text insides.Escape = codes "in escape sequence"
+inside_text insides.UnicodeEscape = codes "in unicode escape"
+
+-- It is one of these texts.
+abbrev pub IsInsideText : List ℕ → Type 0
+IsInsideText text = (inside : Inside) × (inside_text inside ≡ text)
+
+-- Where a scan says inside of what its input ends, it says so by one of these texts.
+abbrev pub NamesInside : ScanErrorKind → Type 0
+NamesInside (scan.UnexpectedEof text) = IsInsideText text.now
+NamesInside _ = Unit {0}
+
 abbrev pub why_of : Why → Complaint
 why_of (why.Char c) = complaint.unexpected_char c (codes "valid JSON token")
-why_of (why.Inside text) = complaint.unexpected_eof text.now
+why_of (why.Inside inside) = complaint.unexpected_eof (inside_text inside)
 why_of (why.End e) = complaint.unexpected_eof (expected_text e)
 why_of (why.Token got e) = complaint.unexpected_token (name_text got) (expected_text e)
 why_of why.InvalidUtf8 = complaint.invalid_utf8

@@ -12,7 +12,7 @@ use facet_json_token::Token;
 
 /// Where no value has begun yet, or what stands before, within the innermost open container. After a key's string
 /// is no place of its own: its colon is taken with it.
-#[derive(Debug, Clone, Copy, PartialEq, Eq)]
+#[derive(Debug, Clone, Copy)]
 pub enum Place {
     /// Before the root.
     Root,
@@ -35,7 +35,7 @@ pub enum Place {
 }
 
 /// What follows from a token at a place.
-#[derive(Debug, Clone, Copy, PartialEq, Eq)]
+#[derive(Clone, Copy)]
 pub enum Turn {
     /// No document goes on with it.
     Stops,

@@ -29,7 +29,7 @@ use std::alloc::{AllocError, Global};
 use std::borrow::CowStr;
 
 /// A place within the root, or after its end.
-#[derive(Debug, Clone, Copy, PartialEq, Eq)]
+#[derive(Debug, Clone, Copy)]
 pub enum Stage {
     /// Within the root, or before it.
     Within(Place),

@@ -4,14 +4,14 @@ ghost use Rattle.std.specs.Prelude.{◌≡◌};
 ghost use Rattle.facet_format.specs.Complaint.{refusal_at, save_limit};
 ghost use Rattle.facet_format.specs.Cursor.{no_memory_at};
 ghost use Rattle.facet_format.specs.Views.{complaint_of, span_of, parse_refusal};
-ghost use Rattle.facet_json_reader.specs.PlaceViews.{expected_text, name_text, no_raw_text, why_of, refused_of};
+ghost use Rattle.facet_json_reader.specs.PlaceViews.{expected_text, name_text, no_raw_text, inside_text, IsInsideText, NamesInside, why_of, refused_of};
 ghost use Rattle.facet_json_token.specs.Views.{scan_complaint, scan_refusal};
 
 use facet_format::{DeserializeErrorKind, ParseError, Span};
 use facet_json_token::{ScanError, ScanErrorKind};
 
 /// What is expected where a document doesn't go on.
-#[derive(Debug, Clone, Copy, PartialEq, Eq)]
+#[derive(Debug, Clone, Copy)]
 pub enum Expected {
     /// A value.
     Value,
@@ -56,7 +56,7 @@ impl Expected {
 }
 
 /// How a token, or the end of the input, is called in a refusal.
-#[derive(Debug, Clone, Copy, PartialEq, Eq)]
+#[derive(Debug, Clone, Copy)]
 pub enum Name {
     /// `{`
     ObjectStart,
@@ -128,7 +128,7 @@ impl Name {
 }
 
 /// Why there is no raw text.
-#[derive(Debug, Clone, Copy, PartialEq, Eq)]
+#[derive(Debug, Clone, Copy)]
 pub enum NoRaw {
     /// A key stands there.
     Key,
@@ -151,13 +151,60 @@ impl NoRaw {
     }
 }
 
+/// What the input ends inside of.
+#[derive(Debug, Clone, Copy)]
+pub enum Inside {
+    /// A string.
+    String,
+    /// A number.
+    Number,
+    /// A literal.
+    Literal,
+    /// A block comment.
+    BlockComment,
+    /// An escape.
+    Escape,
+    /// The digits of an escape.
+    UnicodeEscape,
+}
+
+impl Inside {
+    /// The text that a refusal says.
+    fn text(self) -> &'static str
+        ensures { result.now ≡ inside_text self }
+    {
+        match self {
+            Inside::String => "in string",
+            Inside::Number => "in number",
+            Inside::Literal => "in literal",
+            Inside::BlockComment => "in block comment",
+            Inside::Escape => "in escape sequence",
+            Inside::UnicodeEscape => "in unicode escape",
+        }
+    }
+
+    /// What such a text says. A scan says no others.
+    fn of_text(text: &str) -> Inside
+        ensures { IsInsideText text.now → inside_text result ≡ text.now }
+    {
+        match text {
+            "in string" => Inside::String,
+            "in number" => Inside::Number,
+            "in literal" => Inside::Literal,
+            "in block comment" => Inside::BlockComment,
+            "in escape sequence" => Inside::Escape,
+            _ => Inside::UnicodeEscape,
+        }
+    }
+}
+
 /// Why a parser refused.
-#[derive(Debug, Clone, Copy, PartialEq, Eq)]
+#[derive(Debug, Clone, Copy)]
 pub enum Why {
     /// No token goes on with this character.
     Char(char),
-    /// The input ends inside of what this says.
-    Inside(&'static str),
+    /// The input ends inside of this.
+    Inside(Inside),
     /// The input ends, where this is expected.
     End(Expected),
     /// A token with which no document goes on.
@@ -187,7 +234,9 @@ impl Why {
                 ch,
                 expected: "valid JSON token",
             },
-            Why::Inside(expected) => DeserializeErrorKind::UnexpectedEof { expected },
+            Why::Inside(inside) => DeserializeErrorKind::UnexpectedEof {
+                expected: inside.text(),
+            },
             Why::End(expected) => DeserializeErrorKind::UnexpectedEof {
                 expected: expected.text(),
             },
@@ -206,7 +255,7 @@ impl Why {
 }
 
 /// Why a parser refused, and which bytes it is about.
-#[derive(Debug, Clone, Copy, PartialEq, Eq)]
+#[derive(Debug, Clone, Copy)]
 pub struct Refused {
     /// Why.
     pub why: Why,
@@ -248,19 +297,19 @@ impl From<Refused> for ParseError<'_> {
 }
 
 impl From<ScanErrorKind> for Why {
-    ghost from_gives = { λ scan why. why_of why ≡ scan_complaint scan };
+    ghost from_gives = { λ scan why. NamesInside scan → why_of why ≡ scan_complaint scan };
 
     fn from(kind: ScanErrorKind) -> Self {
         match kind {
             ScanErrorKind::UnexpectedChar(ch) => Why::Char(ch),
-            ScanErrorKind::UnexpectedEof(text) => Why::Inside(text),
+            ScanErrorKind::UnexpectedEof(text) => Why::Inside(Inside::of_text(text)),
             ScanErrorKind::InvalidUtf8 => Why::InvalidUtf8,
         }
     }
 }
 
 impl From<ScanError> for Refused {
-    ghost from_gives = { λ scan refused. refused_of refused ≡ scan_refusal scan };
+    ghost from_gives = { λ scan refused. NamesInside scan.kind → refused_of refused ≡ scan_refusal scan };
 
     fn from(error: ScanError) -> Self {
         Refused {

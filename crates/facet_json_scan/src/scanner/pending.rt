@@ -9,7 +9,7 @@ ghost use Rattle.facet_format.specs.Views.{hint_of};
 use facet_format::numeral::NumberHint;
 
 /// The part of a number (RFC 8259, section 6) in which its last byte stands.
-#[derive(Debug, Clone, Copy, PartialEq)]
+#[derive(Debug, Clone, Copy)]
 pub enum Part {
     /// The minus and the digits.
     Digits,
@@ -22,7 +22,7 @@ pub enum Part {
 }
 
 /// How an open token or comment goes on.
-#[derive(Debug, Clone, Copy, PartialEq)]
+#[derive(Debug, Clone, Copy)]
 pub enum State {
     /// In a string.
     Text {
@@ -47,7 +47,7 @@ pub enum State {
 }
 
 /// A token or comment that the end of the buffer cuts.
-#[derive(Debug, Clone, Copy, PartialEq)]
+#[derive(Debug, Clone, Copy)]
 pub struct Pending {
     /// Its first byte.
     pub start: usize,
