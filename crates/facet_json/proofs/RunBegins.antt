@@ -1,5 +1,7 @@
--- A value that is passed from the start of an input is the balanced run that the input begins with.
-use Rattle.std.proofs.Common.{◌≡◌, ℕ, List, subst}
+-- A value that is passed from the start of an input is the balanced run that the input begins with, and ends where the parser stands.
+use Rattle.std.proofs.Common.{◌≡◌, ℕ, List, ap, sym, subst}
+use Rattle.facet_format.specs.Cursor.{current_span}
+use Rattle.facet_format.specs.Span.{stop}
 use Rattle.facet_json_token.specs.Gap.{Mode}
 use Rattle.facet_json_token.specs.Token.{Kind, Token}
 use Rattle.facet_json_token.specs.Token as token
@@ -8,10 +10,10 @@ use Rattle.facet_json_token.specs.TokenList.{tokens}
 use Rattle.facet_json_document.specs.Language.{lenient_rules}
 use Rattle.facet_json_document.specs.Place.{Place, root, passes, place_turn}
 use Rattle.facet_json_document.specs.Run.{Run}
-use Rattle.facet_json_document.specs.Now.{Now, fresh}
+use Rattle.facet_json_document.specs.Now.{Now, fresh, on_input, current_span_of}
 use Rattle.facet_json_document.specs.SkipLaws.{GoesOnWith, with_value, after_separator}
 use Rattle.facet_json_meaning.specs.OneValue.{PassesValue}
-use Rattle.facet_json.specs.Inputs.{BeginsWithRun}
+use Rattle.facet_json.specs.Inputs.{BeginsWithRun, BeginsWithRunTo}
 
 -- No separator stands before the root.
 no-separator : (k : Kind) (other : Place) → place_turn root k ≡ passes other → ⊥
@@ -24,10 +26,16 @@ root-first : (ts : Tokens) (first last : Token) (others rest : Tokens) → GoesO
 root-first _ first last others rest (with_value _ _ _ b) run = run
 root-first _ first last others rest (after_separator _ other t _ ts _ e more) run = absurd (no-separator t.kind other e)
 
-pub begins-from : (input : List ℕ) (mode : Mode) (old new : Now) → old ≡ fresh input mode → PassesValue old new → BeginsWithRun input mode
-begins-from input mode old new is_new value =
+pub ends-from : (input : List ℕ) (mode : Mode) (old new : Now) → old ≡ fresh input mode → PassesValue old new →
+    BeginsWithRunTo input mode (stop (current_span_of new))
+ends-from input mode old new is_new value =
     let v = subst (λ now. PassesValue now new) is_new value in
     let stage = v.before.stage in
     let at_root : v.before.place ≡ root = cc in
     let goes = subst (λ place. GoesOnWith lenient_rules place (tokens input mode) v.first v.others) at_root v.before.value in
-    (v.passed.last, v.passed.rest, root-first (tokens input mode) v.first v.passed.last v.others v.passed.rest goes v.passed.run)
+    let ends : current_span_of new ≡ v.passed.last.span = ap (current_span (on_input new.buffer new.language)) v.passed.there in
+    (v.passed.last, v.passed.rest, root-first (tokens input mode) v.first v.passed.last v.others v.passed.rest goes v.passed.run, ap stop (sym ends))
+
+pub begins-from : (input : List ℕ) (mode : Mode) (old new : Now) → old ≡ fresh input mode → PassesValue old new → BeginsWithRun input mode
+begins-from input mode old new is_new value =
+    let run = ends-from input mode old new is_new value in (run.0, run.1, run.2)

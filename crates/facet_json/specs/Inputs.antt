@@ -1,6 +1,7 @@
 -- What it means that an input is read as a value of a type, and that a text comes back.
 use Rattle.std.specs.Prelude.{◌≡◌, ◌⊎◌, ℕ, List, Option, Some, None}
 use Rattle.facet_format.specs.Complaint.{Refusal}
+use Rattle.facet_format.specs.Span.{stop}
 use Rattle.facet_json_token.specs.Gap.{Mode, plain}
 use Rattle.facet_json_token.specs.Token.{Token}
 use Rattle.facet_json_token.specs.Tokens.{Tokens}
@@ -22,6 +23,10 @@ BeginsWithDocument input mode = (root : Node) × (tree : Tree) × IsDocument inp
 -- The input's tokens, with these gaps between them, begin with a balanced run.
 abbrev pub BeginsWithRun : List ℕ → Mode → Type 0
 BeginsWithRun input mode = (last : Token) × (rest : Tokens) × Run (tokens input mode) last rest
+
+-- The same, and the run ends at this offset.
+abbrev pub BeginsWithRunTo : List ℕ → Mode → ℕ → Type 0
+BeginsWithRunTo input mode end = (last : Token) × (rest : Tokens) × Run (tokens input mode) last rest × (stop last.span ≡ end)
 
 -- Where the input has a document, its reading is the value.
 abbrev pub IsReadFrom : {V : Type 0} → (List ℕ → Node → Option V) → List ℕ → Mode → V → Type 0

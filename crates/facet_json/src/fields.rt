@@ -404,7 +404,7 @@ fn missing<'t>(field: &'t str, bracket: Span) -> DeserializeError<'t>
 }
 
 /// The span of the last token that was passed.
-fn last_span(parser: &JsonParser<'_>) -> Span
+pub(crate) fn last_span(parser: &JsonParser<'_>) -> Span
     ensures within { stop (span_of result) ≤ length parser.now.buffer }
     ensures told { span_of result ≡ last_read parser.now }
 {

@@ -12,6 +12,7 @@ pub mod float;
 pub mod laws;
 mod lent;
 mod pointer;
+mod prefix;
 mod reading;
 pub mod scanner;
 pub mod steps;
@@ -41,6 +42,7 @@ pub use facet_json_tree::{
 };
 pub use fields::{Done, Fields, Maybe, Need, read_fields};
 pub use lent::{LentFields, write_fields};
+pub use prefix::{from_slice_prefix, from_str_prefix};
 pub use reading::{
     from_slice, from_slice_borrowed, from_slice_borrowed_jsonc, from_slice_jsonc, from_str,
     from_str_borrowed, from_str_borrowed_jsonc, from_str_jsonc,
