@@ -1,5 +1,5 @@
 -- Each byte goes on with what was read of the number, and where one doesn't the number is cut.
-use Rattle.std.proofs.Common.{◌≡◌, ◌≢◌, ◌+◌, ◌∷◌, ◌++◌, drop, slice_get, Some, get_or, refl, ap, sym, ◌∙◌, subst, arith, rules}
+use Rattle.std.proofs.Common.{◌≡◌, ◌≢◌, ◌+◌, ◌∷◌, ◌++◌, drop, slice_get, Some, get_or, refl, ap, sym, ◌∙◌, subst, arith}
 use Rattle.std.proofs.lemmas.Option.{slice_get-get_or}
 use Rattle.facet_format.specs.NumberParts.{parts}
 use Rattle.facet_json_token.specs.Cut.{nothing_left}
@@ -64,12 +64,3 @@ returns-clause-here c = λ i mode.
     let part = number_part_of c.loop-byte.part in
     let all = between-all buffer start end c.in_default.ensures.lookup.3 in
     (refl, Describes.number mode part (drop start buffer) (subst (EndsIn part) all (c.loop-byte.invariant.ends i)))
-
-pub returns-in_default-after-clause-within : goal.returns-in_default-after-clause-within
-returns-in_default-after-clause-within c = search rules
-
-pub returns-clause-within : goal.returns-clause-within
-returns-clause-within c = search rules
-
-pub returns-clause-refusal : goal.returns-clause-refusal
-returns-clause-refusal c = search rules
