@@ -1,4 +1,4 @@
-use Rattle.std.proofs.Common.{ap, ◌∙◌, rules}
+use Rattle.std.proofs.Common.{ap, ◌∙◌}
 use Rattle.std.proofs.lemmas.Result.{IfOk-weaker, IfErr-weaker}
 use Rattle.facet_format.specs.Views.{event_kind_of}
 use Rattle.facet_json_document.specs.Tree.{list, pairs}
@@ -24,18 +24,3 @@ pub returns-in-StructStart-clause-begun : goal.returns-in-StructStart-clause-beg
 returns-in-StructStart-clause-begun c =
     an_object _ (ap event_kind_of c.in-StructStart.is) (tree_view-Pairs _ ∙ ap (λ ps. pairs (pairs_view ps)) c.new-in-StructStart.ensures.items)
     c.in_ok-admit-in-StructStart.ensures.admits
-
-pub returns-in-SequenceStart-clause-refused : goal.returns-in-SequenceStart-clause-refused
-returns-in-SequenceStart-clause-refused c = search rules
-
-pub returns-in-SequenceStart-clause-span : goal.returns-in-SequenceStart-clause-span
-returns-in-SequenceStart-clause-span c = search rules
-
-pub returns-clause-begun : goal.returns-clause-begun
-returns-clause-begun c = search rules
-
-pub returns-clause-refused : goal.returns-clause-refused
-returns-clause-refused c = search rules
-
-pub returns-clause-span : goal.returns-clause-span
-returns-clause-span c = search rules

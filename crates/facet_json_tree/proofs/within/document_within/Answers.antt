@@ -6,6 +6,3 @@ returns-clause-read c = search rules
 
 pub returns-clause-refused : goal.returns-clause-refused
 returns-clause-refused c = search rules
-
-pub returns-clause-within : goal.returns-clause-within
-returns-clause-within c = search rules
