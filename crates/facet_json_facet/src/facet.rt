@@ -1,16 +1,10 @@
 //! The trait of types that are read from JSON and written as JSON.
 
 ghost use Rattle.std.specs.Prelude.{◌≡◌, ◌<◌, true, false, cond, None, OnOk, OnErr, IfOk, IfErr};
-ghost use Rattle.facet_format.specs.Views.{refusal_of};
-ghost use Rattle.facet_json_document.specs.Now.{ahead};
-ghost use Rattle.facet_json_document.specs.UnreadLaws.{RefusalWithin};
-ghost use Rattle.facet_json_core.specs.Refusing.{TellsRefusal};
 ghost use Rattle.facet_json_serializer.specs.Serializer.{out_of_memory};
 ghost use Rattle.facet_json_serializer.specs.Views.{write_refusal_of as writing_refusal_of};
 ghost use Rattle.facet_json_tree.specs.Write.{HasWritten, IsOfRust};
-ghost use Rattle.facet_json_meaning.specs.Nodes.{KeepsOn};
-ghost use Rattle.facet_json_meaning.specs.OneValue.{PassesValue};
-ghost use Rattle.facet_json_meaning.specs.Reading.{IsRead, IsUnread, HasDocument, EndsStrictly};
+ghost use Rattle.facet_json_facet.specs.Calls.{refusal_of, ahead, RefusalWithin, TellsRefusal, KeepsOn, PassesValue, IsRead, IsUnread, HasDocument, EndsStrictly};
 
 use facet_format::DeserializeError;
 use facet_json_parser::JsonParser;

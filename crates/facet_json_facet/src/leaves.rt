@@ -2,17 +2,12 @@
 
 ghost use Rattle.std.specs.Prelude.{◌≡◌, ◌⊎◌, ◌<◌, None, Some, IfOk, IfErr, IfSome, OnOk, MatchOption};
 ghost use Rattle.facet_format.specs.Complaint.{no_memory};
-ghost use Rattle.facet_format.specs.Views.{event_of, refusal_of, scalar_value_of};
+ghost use Rattle.facet_format.specs.Views.{event_of, scalar_value_of};
 ghost use Rattle.facet_json_serializer.specs.Serializer.{scalar_tree};
 ghost use Rattle.facet_json_tree.specs.Write.{IsOfRust};
 ghost use Rattle.facet_json_meaning.specs.Readings.{taken, leaf};
+ghost use Rattle.facet_json_facet.specs.Calls.{refusal_of, ahead, RefusalWithin, TellsRefusal, KeepsOn, PassesValue, IsRead, IsUnread, HasDocument, EndsStrictly};
 ghost use Rattle.facet_json_facet.specs.Inner.Taking.{TakesNext, IsTakenOf};
-ghost use Rattle.facet_json_document.specs.Now.{ahead};
-ghost use Rattle.facet_json_document.specs.UnreadLaws.{RefusalWithin};
-ghost use Rattle.facet_json_core.specs.Refusing.{TellsRefusal};
-ghost use Rattle.facet_json_meaning.specs.Nodes.{KeepsOn};
-ghost use Rattle.facet_json_meaning.specs.OneValue.{PassesValue};
-ghost use Rattle.facet_json_meaning.specs.Reading.{IsRead, IsUnread, HasDocument, EndsStrictly};
 
 use crate::facet::Facet;
 use crate::steps::next::next_of_value;

@@ -3,14 +3,8 @@
 ghost use Rattle.std.specs.Prelude.{◌≡◌, ◌<◌, true, false, None, IfOk, IfErr, OnOk};
 ghost use Rattle.facet_format.specs.Complaint.{no_memory};
 ghost use Rattle.facet_format.specs.Event.{bytes_of, owned, is_owned};
-ghost use Rattle.facet_format.specs.Views.{refusal_of};
-ghost use Rattle.facet_json_document.specs.Now.{ahead};
-ghost use Rattle.facet_json_document.specs.UnreadLaws.{RefusalWithin};
-ghost use Rattle.facet_json_core.specs.Refusing.{TellsRefusal};
-ghost use Rattle.facet_json_meaning.specs.Nodes.{KeepsOn};
-ghost use Rattle.facet_json_meaning.specs.Reading.{IsRead, IsUnread, HasDocument, EndsStrictly};
-ghost use Rattle.facet_json_meaning.specs.OneValue.{PassesValue};
 ghost use Rattle.facet_json_meaning.specs.Readings.{raw_of};
+ghost use Rattle.facet_json_facet.specs.Calls.{refusal_of, ahead, RefusalWithin, TellsRefusal, KeepsOn, PassesValue, IsRead, IsUnread, HasDocument, EndsStrictly};
 
 use crate::facet::Facet;
 use facet_format::{DeserializeError, FormatParser, FormatSerializer};

@@ -2,14 +2,9 @@
 
 ghost use Rattle.std.specs.Prelude.{◌≡◌, ◌<◌, IfOk, IfErr, OnOk, None, Some, string_bytes};
 ghost use Rattle.facet_format.specs.Complaint.{no_memory, refusal_at};
-ghost use Rattle.facet_format.specs.Views.{event_of, refusal_of, span_of};
-ghost use Rattle.facet_json_document.specs.Now.{ahead};
-ghost use Rattle.facet_json_document.specs.UnreadLaws.{RefusalWithin};
-ghost use Rattle.facet_json_core.specs.Refusing.{TellsRefusal};
+ghost use Rattle.facet_format.specs.Views.{event_of, span_of};
 ghost use Rattle.facet_json_meaning.specs.Borrowed.{borrowed_text, lent, made_text, IsNotLent};
-ghost use Rattle.facet_json_meaning.specs.Nodes.{KeepsOn};
-ghost use Rattle.facet_json_meaning.specs.OneValue.{PassesValue};
-ghost use Rattle.facet_json_meaning.specs.Reading.{IsRead, IsUnread, HasDocument, EndsStrictly};
+ghost use Rattle.facet_json_facet.specs.Calls.{refusal_of, ahead, RefusalWithin, TellsRefusal, KeepsOn, PassesValue, IsRead, IsUnread, HasDocument, EndsStrictly};
 
 use crate::facet::Facet;
 use crate::leaves::Leaf;

@@ -2,17 +2,17 @@
 
 ghost use Rattle.std.specs.Prelude.{◌≡◌, ◌≤◌, ◌<◌, ◌+◌, true, false, None, Some, length, codes, IfOk, IfErr, OnOk, MatchOption};
 ghost use Rattle.facet_format.specs.Span.{stop};
-ghost use Rattle.facet_format.specs.Views.{event_of, refusal_of, span_of};
+ghost use Rattle.facet_format.specs.Views.{event_of, span_of};
 ghost use Rattle.facet_json_facet.specs.Inner.Taking.{TakesNext, TakesNull};
-ghost use Rattle.facet_json_document.specs.Now.{ahead, GoesOn};
+ghost use Rattle.facet_json_document.specs.Now.{GoesOn};
 ghost use Rattle.facet_json_document.specs.Next.{PassesNext};
-ghost use Rattle.facet_json_document.specs.UnreadLaws.{RefusalWithin};
-ghost use Rattle.facet_json_core.specs.Refusing.{TellsRefusal, mismatch_of};
+ghost use Rattle.facet_json_core.specs.Refusing.{mismatch_of};
 ghost use Rattle.facet_json_meaning.specs.Passing.{WalksPast, LacksAlone, PassesNull, LacksNull};
-ghost use Rattle.facet_json_meaning.specs.OneValue.{PassesValue, PassesByKind, LooksAhead};
+ghost use Rattle.facet_json_meaning.specs.OneValue.{PassesByKind, LooksAhead};
 ghost use Rattle.facet_json_meaning.specs.Optional.{is_null_event};
 ghost use Rattle.facet_json_meaning.specs.Peeking.{Finds};
 ghost use Rattle.facet_json_meaning.specs.Inner.Taking.{StaysBefore};
+ghost use Rattle.facet_json_facet.specs.Calls.{refusal_of, ahead, RefusalWithin, TellsRefusal, PassesValue};
 
 use facet_format::{DeserializeError, FormatParser, ParseEvent, ParseEventKind, ScalarValue, Span};
 use facet_json_core::{ended, mismatch};

@@ -4,12 +4,12 @@ ghost use Rattle.std.specs.Prelude.{◌≡◌, ◌<◌, true, false, None, Some,
 ghost use Rattle.std.specs.Option.{option_map};
 ghost use Rattle.facet_format.specs.Event.{bytes_of, object};
 ghost use Rattle.facet_format.specs.HeldText.{text_of};
-ghost use Rattle.facet_format.specs.Views.{event_of, refusal_of};
-ghost use Rattle.facet_json_document.specs.Now.{ahead, GoesOn};
-ghost use Rattle.facet_json_document.specs.UnreadLaws.{RefusalWithin};
-ghost use Rattle.facet_json_core.specs.Refusing.{mismatch_of, TellsRefusal};
+ghost use Rattle.facet_format.specs.Views.{event_of};
+ghost use Rattle.facet_json_document.specs.Now.{GoesOn};
+ghost use Rattle.facet_json_core.specs.Refusing.{mismatch_of};
 ghost use Rattle.facet_json_meaning.specs.Objects.{begins_object, key_or_end, BeginsObject, IsNoObject, PassesKey, LacksKey};
 ghost use Rattle.facet_json_meaning.specs.OneValue.{IsInside, PassesMemberOrEnd};
+ghost use Rattle.facet_json_facet.specs.Calls.{refusal_of, ahead, RefusalWithin, TellsRefusal};
 ghost use Rattle.facet_json_facet.specs.Finding.{PassesNextKey};
 
 use crate::steps::next::{next_of_value, take_next};

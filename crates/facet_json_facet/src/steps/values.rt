@@ -1,14 +1,9 @@
 //! A value that is passed unread.
 
 ghost use Rattle.std.specs.Prelude.{◌≡◌, ◌<◌, None, IfErr, OnOk};
-ghost use Rattle.facet_format.specs.Views.{refusal_of};
-ghost use Rattle.facet_json_document.specs.Now.{ahead};
-ghost use Rattle.facet_json_document.specs.UnreadLaws.{RefusalWithin};
-ghost use Rattle.facet_json_core.specs.Refusing.{TellsRefusal};
-ghost use Rattle.facet_json_meaning.specs.Nodes.{KeepsOn};
-ghost use Rattle.facet_json_meaning.specs.OneValue.{PassesValue, IsAfterKey};
+ghost use Rattle.facet_json_meaning.specs.OneValue.{IsAfterKey};
 ghost use Rattle.facet_json_meaning.specs.Passing.{anything};
-ghost use Rattle.facet_json_meaning.specs.Reading.{IsRead, IsUnread};
+ghost use Rattle.facet_json_facet.specs.Calls.{refusal_of, ahead, RefusalWithin, TellsRefusal, KeepsOn, PassesValue, IsRead, IsUnread};
 
 use facet_format::{DeserializeError, FormatParser};
 use facet_json_parser::JsonParser;
