@@ -1,4 +1,4 @@
-use Rattle.std.proofs.Common.{refl, rules}
+use Rattle.std.proofs.Common.{refl}
 use Rattle.std.proofs.lemmas.Result.{err_from_is_err_and}
 use Rattle.facet_json_tree.proofs.CallsLeft.{left-refused, left-spent, last-answered, last-refused, last-spent}
 use Rattle.facet_json_tree.proofs.OfRust.{seen-of_rust}
@@ -52,18 +52,3 @@ returns-clause-always g c =
     let have = all-have g.T.Facet.view g.T.Facet.tree_of g.T.Facet.always _ _ _ _ c.loop-key.invariant c.in-None.ensures.steps.0 in
     on-ok _ c.end_struct.result
     (seen-map g.T.Facet.view g.T.Facet.always c.args.self.now.entries c.into_iter-key-iterator.ensures.into_iter_gives.5 have)
-
-pub returns-in_err-begin_struct-clause-written : goal.returns-in_err-begin_struct-clause-written
-returns-in_err-begin_struct-clause-written c = search rules
-
-pub returns-in_err-begin_struct-clause-refused : goal.returns-in_err-begin_struct-clause-refused
-returns-in_err-begin_struct-clause-refused c = search rules
-
-pub returns-in_err-begin_struct-clause-spent : goal.returns-in_err-begin_struct-clause-spent
-returns-in_err-begin_struct-clause-spent c = search rules
-
-pub returns-in_err-begin_struct-clause-of_rust : goal.returns-in_err-begin_struct-clause-of_rust
-returns-in_err-begin_struct-clause-of_rust c = search rules
-
-pub returns-in_err-begin_struct-clause-always : goal.returns-in_err-begin_struct-clause-always
-returns-in_err-begin_struct-clause-always c = search rules

@@ -1,4 +1,4 @@
-use Rattle.std.proofs.Common.{ap, rules}
+use Rattle.std.proofs.Common.{ap}
 use Rattle.std.specs.Option.{option_map}
 use Rattle.facet_json_meaning.specs.Optional.{optional_tree}
 use Rattle.facet_json_tree.proofs.ScalarCalls.{scalar-called}
@@ -13,27 +13,6 @@ returns-in-None-clause-written g c =
 
 pub returns-in-None-clause-of_rust : goal.returns-in-None-clause-of_rust
 returns-in-None-clause-of_rust g c = rw c.in-None.is (on-ok _ c.scalar.result null-of_rust)
-
-pub returns-in-Some-clause-written : goal.returns-in-Some-clause-written
-returns-in-Some-clause-written c = search rules
-
-pub returns-in-Some-clause-refused : goal.returns-in-Some-clause-refused
-returns-in-Some-clause-refused c = search rules
-
-pub returns-in-Some-clause-spent : goal.returns-in-Some-clause-spent
-returns-in-Some-clause-spent c = search rules
-
-pub returns-in-Some-clause-of_rust : goal.returns-in-Some-clause-of_rust
-returns-in-Some-clause-of_rust c = search rules
-
-pub returns-in-None-clause-refused : goal.returns-in-None-clause-refused
-returns-in-None-clause-refused c = search rules
-
-pub returns-in-None-clause-spent : goal.returns-in-None-clause-spent
-returns-in-None-clause-spent c = search rules
-
-pub returns-in-Some-clause-always : goal.returns-in-Some-clause-always
-returns-in-Some-clause-always c = search rules
 
 pub returns-in-None-clause-always : goal.returns-in-None-clause-always
 returns-in-None-clause-always g c =

@@ -1,4 +1,4 @@
-use Rattle.std.proofs.Common.{sym, ap, subst, rules}
+use Rattle.std.proofs.Common.{sym, ap, subst}
 use Rattle.std.proofs.lemmas.Result.{IfErr-weaker, IfOk-weaker}
 use Rattle.facet_format.specs.Event.{bytes_of, is_owned}
 use Rattle.facet_json_meaning.specs.Reading.{IsRead}
@@ -12,23 +12,8 @@ returns-clause-read c =
     (λ v is. subst (λ raw. IsRead raw_of c.args.parser.now (bytes_of raw) c.captured.new.parser) (sym is) c.in_ok-captured.ensures.read)
     c.copied.ensures.copied
 
-pub returns-in_err-captured-clause-read : goal.returns-in_err-captured-clause-read
-returns-in_err-captured-clause-read c = search rules
-
-pub returns-in_err-captured-clause-document : goal.returns-in_err-captured-clause-document
-returns-in_err-captured-clause-document c = search rules
-
-pub returns-in_err-captured-clause-strict : goal.returns-in_err-captured-clause-strict
-returns-in_err-captured-clause-strict c = search rules
-
-pub returns-in_err-captured-clause-keeps : goal.returns-in_err-captured-clause-keeps
-returns-in_err-captured-clause-keeps c = search rules
-
 pub returns-clause-owned : goal.returns-clause-owned
 returns-clause-owned c = IfOk-weaker c.copied.result _ _ (λ v is. ap is_owned is) c.copied.ensures.copied
-
-pub returns-in_err-captured-clause-owned : goal.returns-in_err-captured-clause-owned
-returns-in_err-captured-clause-owned c = search rules
 
 pub returns-clause-tells : goal.returns-clause-tells
 returns-clause-tells c =

@@ -1,4 +1,4 @@
-use Rattle.std.proofs.Common.{refl, sym, rules}
+use Rattle.std.proofs.Common.{refl, sym}
 use Rattle.std.proofs.lemmas.Result.{err_from_is_err_and}
 use Rattle.facet_format.specs.Views.{event_of}
 use Rattle.facet_json_meaning.proofs.Walks.PeekOnWalk.{peek-finds, peek-lacks, peek-no_end}
@@ -22,15 +22,6 @@ pub returns-in-None-clause-finds : goal.returns-in-None-clause-finds
 returns-in-None-clause-finds c =
     let steps = rw c.in-None.is at c.in_ok-event.ensures.steps in
     peek-no_end is_null_event _ _ _ _ refl steps
-
-pub returns-in_err-event-clause-onward : goal.returns-in_err-event-clause-onward
-returns-in_err-event-clause-onward c = search rules
-
-pub returns-in_err-event-clause-finds : goal.returns-in_err-event-clause-finds
-returns-in_err-event-clause-finds c = search rules
-
-pub returns-in_err-event-clause-within : goal.returns-in_err-event-clause-within
-returns-in_err-event-clause-within c = search rules
 
 pub returns-in_err-event-clause-tells : goal.returns-in_err-event-clause-tells
 returns-in_err-event-clause-tells c =

@@ -15,18 +15,6 @@ returns-in_err-skip_value-clause-unread c =
 pub returns-clause-read : goal.returns-clause-read
 returns-clause-read c = answer-skips _ _ _ refl c.in_ok-skip_value.ensures.steps
 
-pub returns-in_err-skip_value-clause-read : goal.returns-in_err-skip_value-clause-read
-returns-in_err-skip_value-clause-read c = search rules
-
-pub returns-in_err-skip_value-clause-keeps : goal.returns-in_err-skip_value-clause-keeps
-returns-in_err-skip_value-clause-keeps c = search rules
-
-pub returns-in_err-skip_value-clause-within : goal.returns-in_err-skip_value-clause-within
-returns-in_err-skip_value-clause-within c = search rules
-
-pub returns-clause-unread : goal.returns-clause-unread
-returns-clause-unread c = search rules
-
 pub returns-clause-keeps : goal.returns-clause-keeps
 returns-clause-keeps c = search rules
 
