@@ -1,3 +1,4 @@
+pub mod Answered
 pub mod BeyondEvents
 pub mod BeyondOnWalk
 pub mod CallsLeft

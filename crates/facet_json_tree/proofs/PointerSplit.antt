@@ -37,27 +37,23 @@ split-slash text s = record {
   whole = ap (λ xs. slash ∷ xs) s.whole;
 }
 
-split-zero : (text : List ℕ) → Split text → Split (tilde ∷ 0x30 ∷ text)
-split-zero text s = record {
-  token = tilde ∷ 0x30 ∷ s.token;
-  name = tilde ∷ s.name;
+-- an escape, which stands for one character of the name
+split-escaped : (code named : ℕ) (text : List ℕ) (s : Split text) → IsToken (tilde ∷ code ∷ s.token) (named ∷ s.name) → Split (tilde ∷ code ∷ text)
+split-escaped code named text s is = record {
+  token = tilde ∷ code ∷ s.token;
+  name = named ∷ s.name;
   pointer = s.pointer;
   names = s.names;
-  is_token = IsToken.tilde_zero s.token s.name s.is_token;
+  is_token = is;
   is_pointer = s.is_pointer;
-  whole = ap (λ xs. tilde ∷ 0x30 ∷ xs) s.whole;
+  whole = ap (λ xs. tilde ∷ code ∷ xs) s.whole;
 }
 
+split-zero : (text : List ℕ) → Split text → Split (tilde ∷ 0x30 ∷ text)
+split-zero text s = split-escaped 0x30 tilde text s (IsToken.tilde_zero s.token s.name s.is_token)
+
 split-one : (text : List ℕ) → Split text → Split (tilde ∷ 0x31 ∷ text)
-split-one text s = record {
-  token = tilde ∷ 0x31 ∷ s.token;
-  name = slash ∷ s.name;
-  pointer = s.pointer;
-  names = s.names;
-  is_token = IsToken.tilde_one s.token s.name s.is_token;
-  is_pointer = s.is_pointer;
-  whole = ap (λ xs. tilde ∷ 0x31 ∷ xs) s.whole;
-}
+split-one text s = split-escaped 0x31 slash text s (IsToken.tilde_one s.token s.name s.is_token)
 
 split-escape : (c : ℕ) (text : List ℕ) → zero_or_one (c ∷ text) ≡ true → Split text → Split (tilde ∷ c ∷ text)
 split-escape c text escape s =

@@ -1,7 +1,7 @@
-use Rattle.std.proofs.Common.{rules}
-use Rattle.std.proofs.lemmas.Result.{IfOk-weaker, IfErr-weaker, MatchResult-from_both}
+use Rattle.std.proofs.lemmas.Result.{IfOk-weaker, IfErr-weaker}
 use Rattle.facet_json_token.specs.Gap.{plain}
 use Rattle.facet_json_core.proofs.DocumentFromRoot.{read-document, read-only, unread-refused, unread-only}
+use Rattle.facet_json_tree.proofs.Answered.{either_way}
 use Rattle.facet_json_tree.proofs.reader.tree_from_slice.Goals as goal
 
 pub returns-clause-document : goal.returns-clause-document
@@ -15,13 +15,6 @@ returns-clause-refused c =
     IfErr-weaker c.document.result _ _ (λ e h. unread-refused c.args.input.now plain _ h) unread
 
 pub returns-clause-only : goal.returns-clause-only
-returns-clause-only c =
-    let read = rw c.new.ensures at c.document.ensures.read in
-    let unread = rw c.new.ensures at c.document.ensures.refused in
-    λ root value d.
-    MatchResult-from_both c.document.result _ _
-    (IfOk-weaker c.document.result _ _ (λ t h. read-only c.args.input.now plain _ h.0 h.1 root value d) read)
-    (IfErr-weaker c.document.result _ _ (λ e h. unread-only c.args.input.now plain _ h root value d) unread)
-
-pub returns-clause-within : goal.returns-clause-within
-returns-clause-within c = search rules
+returns-clause-only c root value d =
+    either_way c.document.result (rw c.new.ensures at c.document.ensures.read) (rw c.new.ensures at c.document.ensures.refused)
+    (λ t h. read-only c.args.input.now plain _ h.0 h.1 root value d) (λ e h. unread-only c.args.input.now plain _ h root value d)

@@ -1,7 +1,7 @@
-use Rattle.std.proofs.Common.{rules}
-use Rattle.std.proofs.lemmas.Result.{IfOk-weaker, IfErr-weaker, MatchResult-from_both}
+use Rattle.std.proofs.lemmas.Result.{IfOk-weaker, IfErr-weaker}
 use Rattle.facet_json_token.specs.Gap.{jsonc}
 use Rattle.facet_json_tree.proofs.DocumentWithin.{read-document-within, read-only-within, read-no_deeper, unread-only-within, unread-deeper, unread-refused-within}
+use Rattle.facet_json_tree.proofs.Answered.{either_way}
 use Rattle.facet_json_tree.proofs.within.tree_from_slice_within_jsonc.Goals as goal
 
 pub returns-clause-document : goal.returns-clause-document
@@ -10,27 +10,16 @@ returns-clause-document c =
     IfOk-weaker c.document_within.result _ _ (λ t h. read-document-within c.args.input.now jsonc c.args.depth _ h) read
 
 pub returns-clause-only : goal.returns-clause-only
-returns-clause-only c =
-    let read = rw c.new_jsonc.ensures at c.document_within.ensures.read in
-    let unread = rw c.new_jsonc.ensures at c.document_within.ensures.refused in
-    λ root value d shallow.
-    MatchResult-from_both c.document_within.result _ _
-    (IfOk-weaker c.document_within.result _ _ (λ t h. read-only-within c.args.input.now jsonc c.args.depth _ h root value d) read)
-    (IfErr-weaker c.document_within.result _ _ (λ e h. unread-only-within c.args.input.now jsonc c.args.depth _ h root value d shallow) unread)
+returns-clause-only c root value d shallow =
+    either_way c.document_within.result (rw c.new_jsonc.ensures at c.document_within.ensures.read) (rw c.new_jsonc.ensures at c.document_within.ensures.refused)
+    (λ t h. read-only-within c.args.input.now jsonc c.args.depth _ h root value d) (λ e h. unread-only-within c.args.input.now jsonc c.args.depth _ h root value d shallow)
 
 pub returns-clause-deeper : goal.returns-clause-deeper
-returns-clause-deeper c =
-    let read = rw c.new_jsonc.ensures at c.document_within.ensures.read in
-    let unread = rw c.new_jsonc.ensures at c.document_within.ensures.refused in
-    λ root value s d beyond.
-    MatchResult-from_both c.document_within.result _ _
-    (IfOk-weaker c.document_within.result _ _ (λ t h. read-no_deeper c.args.input.now jsonc c.args.depth _ h root value s d beyond) read)
-    (IfErr-weaker c.document_within.result _ _ (λ e h. unread-deeper c.args.input.now jsonc c.args.depth _ h root value s d beyond) unread)
+returns-clause-deeper c root value s d beyond =
+    either_way c.document_within.result (rw c.new_jsonc.ensures at c.document_within.ensures.read) (rw c.new_jsonc.ensures at c.document_within.ensures.refused)
+    (λ t h. read-no_deeper c.args.input.now jsonc c.args.depth _ h root value s d beyond) (λ e h. unread-deeper c.args.input.now jsonc c.args.depth _ h root value s d beyond)
 
 pub returns-clause-refused : goal.returns-clause-refused
 returns-clause-refused c =
     let unread = rw c.new_jsonc.ensures at c.document_within.ensures.refused in
     IfErr-weaker c.document_within.result _ _ (λ e h. unread-refused-within c.args.input.now jsonc c.args.depth _ h) unread
-
-pub returns-clause-within : goal.returns-clause-within
-returns-clause-within c = search rules
