@@ -1,13 +1,12 @@
 //! Values of a type from bytes or a text that has to be RFC 8259 alone, from its start to its end.
 
 ghost use Rattle.std.specs.Prelude.{◌≡◌, ℕ, List, true, IfOk, IfErr, OnOk};
-ghost use Rattle.facet_format.specs.Views.{refusal_of};
 ghost use Rattle.facet_json_token.specs.Gap.{plain};
 ghost use Rattle.facet_json_document.specs.Language.{strict};
 ghost use Rattle.facet_json_document.specs.StrictDocument.{IsStrict};
 ghost use Rattle.facet_json_document.specs.Now.{fresh_in};
 ghost use Rattle.facet_json_document.specs.OneRun.{IsOneRun};
-ghost use Rattle.facet_json_document.specs.UnreadLaws.{RefusalWithin};
+ghost use Rattle.facet_json_facet.specs.Calls.{refusal_of, RefusalWithin};
 ghost use Rattle.facet_json.specs.Inputs.{IsReadStrictly, IsToldOf, IsUnreadStrictly};
 
 use facet_format::DeserializeError;
