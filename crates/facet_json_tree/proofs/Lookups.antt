@@ -1,5 +1,5 @@
 -- What is looked up in a list of the code, and what its view has.
-use Rattle.std.proofs.Common.{◌≡◌, ℕ, zero, suc, ◌+◌, ◌<◌, ◌≤◌, false, List, [], ◌∷◌, length, get_or, drop, Some, None, String, Global, string_bytes, refl, ap, ◌∙◌, arith}
+use Rattle.std.proofs.Common.{◌≡◌, ℕ, zero, suc, ◌+◌, ◌<◌, ◌≤◌, false, List, [], ◌∷◌, length, get_or, drop, Some, None, String, Global, string_bytes, refl, sym, ap, ◌∙◌, arith}
 use Rattle.std.proofs.lemmas.List.{get_or_default}
 use Rattle.std.specs.Cmp.Lexicographic.{bytes_decides}
 use Rattle.facet_json_document.specs.Tree.{pair, Pairs}
@@ -39,10 +39,13 @@ last_member-at key ms i d h at =
     last_member-later key ms i (tree_view m.1) (ap (last_member key) (pairs_view-drop ms i m h is) ∙ here)
 
 -- an item within the list, and one past its end
-pub item_at-within : (xs : List Tree) (i : ℕ) (d : Tree) → i < length xs → item_at i (trees_view xs) ≡ Some (tree_view (get_or xs i d))
+item_at-within : (xs : List Tree) (i : ℕ) (d : Tree) → i < length xs → item_at i (trees_view xs) ≡ Some (tree_view (get_or xs i d))
 item_at-within [] i d h = absurd (omega arith)
 item_at-within (x ∷ xs) zero d h = refl
 item_at-within (x ∷ xs) (suc i) d h = item_at-within xs i d (omega arith)
+
+pub item_at-read : {x : Tree} (xs : List Tree) (i : ℕ) (d : Tree) → i < length xs → x ≡ get_or xs i d → Some (tree_view x) ≡ item_at i (trees_view xs)
+item_at-read xs i d h is = ap (λ y. Some (tree_view y)) is ∙ sym (item_at-within xs i d h)
 
 pub item_at-past : (xs : List Tree) (i : ℕ) → length xs ≤ i → item_at i (trees_view xs) ≡ None
 item_at-past [] i h = refl
