@@ -33,6 +33,8 @@ mod own;
 #[cfg(test)]
 mod pointers;
 #[cfg(test)]
+mod prefix;
+#[cfg(test)]
 mod raws;
 #[cfg(test)]
 mod records;

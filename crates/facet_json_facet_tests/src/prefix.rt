@@ -1,0 +1,95 @@
+//! Values with where their documents end, and documents one after another.
+
+use facet_format::{DeserializeError, DeserializeErrorKind, Span};
+use facet_json::{from_slice_prefix, from_str_prefix};
+use std::alloc::Global;
+
+/// Inputs that begin with a number, the number, and the offset at which it ends.
+const NUMBERS: [(&str, u8, usize); 7] = [
+    ("7", 7, 1),
+    (" 7 8", 7, 2),
+    ("7,8", 7, 1),
+    ("7 x", 7, 1),
+    ("7\n\n8", 7, 1),
+    ("\t255]", 255, 4),
+    ("0\"", 0, 1),
+];
+
+/// Whether the number of a row and its end are read from bytes and from a text.
+fn is_read(alloc: Global, row: (&str, u8, usize)) -> bool {
+    let (input, number, end) = row;
+    from_slice_prefix(alloc, input.as_bytes()) == Ok((number, end))
+        && from_str_prefix(alloc, input) == Ok((number, end))
+}
+
+#[test]
+fn numbers_end_where_their_digits_do(rt: HostRuntime) {
+    let alloc = rt.alloc();
+    for row in NUMBERS {
+        assert!(rt; is_read(alloc, row));
+    }
+}
+
+/// Lists, and the offset after their bracket.
+const LISTS: [(&str, usize); 5] = [
+    ("[]", 2),
+    ("[1,2,] [3]", 6),
+    (" [ 1 ] ", 6),
+    ("[1]]", 3),
+    ("[1][", 3),
+];
+
+/// The end of the list of numbers that the input begins with.
+fn list_end(alloc: Global, input: &str) -> Option<usize> {
+    match from_str_prefix::<Vec<u8>>(alloc, input) {
+        Ok((_, end)) => Some(end),
+        Err(_) => None,
+    }
+}
+
+#[test]
+fn lists_end_after_their_bracket(rt: HostRuntime) {
+    let alloc = rt.alloc();
+    for (input, end) in LISTS {
+        assert!(rt; list_end(alloc, input) == Some(end));
+    }
+}
+
+/// The texts that stand one after another up to the end, in one text.
+fn joined(alloc: Global, input: &str) -> Option<String> {
+    let bytes = input.as_bytes();
+    let mut texts = String::new(alloc);
+    let mut at = 0;
+    while at < bytes.len() {
+        let (text, len) = from_slice_prefix::<String>(alloc, &bytes[at..]).ok()?;
+        texts.push_str(text.as_str()).ok()?;
+        at += len;
+    }
+    Some(texts)
+}
+
+#[test]
+fn documents_stand_one_after_another(rt: HostRuntime) {
+    let all = joined(rt.alloc(), "\"a\"\"\" \"b\\u0063\"\n\"d\"").expect(&rt, "memory");
+    assert!(rt; all.as_str() == "abcd");
+}
+
+/// Whether both forms refuse the input so.
+fn is_refused(alloc: Global, input: &str, kind: DeserializeErrorKind<'_>, span: Span) -> bool {
+    let refusal = DeserializeError {
+        kind,
+        span: Some(span),
+    };
+    from_slice_prefix::<u8>(alloc, input.as_bytes()) == Err(refusal)
+        && from_str_prefix::<u8>(alloc, input) == Err(refusal)
+}
+
+#[test]
+fn what_begins_no_value_is_refused(rt: HostRuntime) {
+    let alloc = rt.alloc();
+    let none = DeserializeErrorKind::UnexpectedEof { expected: "value" };
+    assert!(rt; is_refused(alloc, "", none, Span::new(0, 0)));
+    assert!(rt; is_refused(alloc, " ", none, Span::new(1, 0)));
+    let large = DeserializeErrorKind::NumberOutOfRange { target_type: "u8" };
+    assert!(rt; is_refused(alloc, "300 1", large, Span::new(0, 3)));
+}
