@@ -8,8 +8,8 @@ use facet_format::{
 use facet_json::steps::{FindError, begin_object, find_key, find_pointer};
 use facet_json::{
     Done, Need, from_slice, from_slice_borrowed, from_slice_borrowed_jsonc, from_slice_jsonc,
-    from_slice_strict, from_str, from_str_borrowed, from_str_borrowed_jsonc, from_str_jsonc,
-    from_str_strict, read_fields, to_vec, write_fields,
+    from_slice_prefix, from_slice_strict, from_str, from_str_borrowed, from_str_borrowed_jsonc,
+    from_str_jsonc, from_str_prefix, from_str_strict, read_fields, to_vec, write_fields,
 };
 use facet_json_core::RawJson;
 use facet_json_examples::accounts::Account;
@@ -33,12 +33,16 @@ enum Entry {
     Slice,
     /// `from_slice_jsonc`
     SliceJsonc,
+    /// `from_slice_prefix`
+    SlicePrefix,
     /// `from_slice_strict`
     SliceStrict,
     /// `from_str`
     Str,
     /// `from_str_jsonc`
     StrJsonc,
+    /// `from_str_prefix`
+    StrPrefix,
     /// `from_str_strict`
     StrStrict,
     /// The type's own `read_owned`, by a parser
@@ -71,11 +75,13 @@ enum By {
 }
 
 /// All of them.
-static ENTRIES: [Entry; 12] = [
+static ENTRIES: [Entry; 14] = [
     Entry::Slice,
     Entry::SliceJsonc,
+    Entry::SlicePrefix,
     Entry::Str,
     Entry::StrJsonc,
+    Entry::StrPrefix,
     Entry::Owned,
     Entry::SliceStrict,
     Entry::StrStrict,
@@ -222,6 +228,14 @@ fn reads_itself<'de, T: Facet<'de>>(alloc: Global, borrows: bool, row: &Row<'de>
     reads_by::<T>(alloc, &mut JsonParser::new(alloc, input), borrows, row)
 }
 
+/// The value, without where its document ends.
+fn alone<'t, T: Drop>(
+    answer: Result<(T, usize), DeserializeError<'t>>,
+) -> Result<T, DeserializeError<'t>> {
+    let (value, _) = answer?;
+    Ok(value)
+}
+
 /// Whether the entry gives the row's answer.
 fn reads<'de, T: Facet<'de>>(alloc: Global, entry: Entry, row: &Row<'de>) -> Option<bool> {
     let text = row.input;
@@ -229,9 +243,11 @@ fn reads<'de, T: Facet<'de>>(alloc: Global, entry: Entry, row: &Row<'de>) -> Opt
     let answer = match entry {
         Entry::Slice => from_slice::<T>(alloc, bytes),
         Entry::SliceJsonc => from_slice_jsonc(alloc, bytes),
+        Entry::SlicePrefix => alone(from_slice_prefix(alloc, bytes)),
         Entry::SliceStrict => from_slice_strict(alloc, bytes),
         Entry::Str => from_str(alloc, text),
         Entry::StrJsonc => from_str_jsonc(alloc, text),
+        Entry::StrPrefix => alone(from_str_prefix(alloc, text)),
         Entry::StrStrict => from_str_strict(alloc, text),
         Entry::Owned => return reads_itself::<T>(alloc, false, row),
         Entry::SliceBorrowed => from_slice_borrowed(alloc, bytes),
