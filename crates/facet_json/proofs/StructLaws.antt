@@ -8,31 +8,16 @@ use Rattle.std.specs.Option.{option_map}
 use Rattle.std.specs.Str.{is_utf8}
 use Rattle.facet_json_document.specs.Node.{no_members}
 use Rattle.facet_json_document.specs.Text.{text, members_text, default_options}
-use Rattle.facet_json_document.specs.Tree.{Tree, pairs, no_pairs, pair}
+use Rattle.facet_json_document.specs.Tree.{pairs, no_pairs, pair}
 use Rattle.facet_json_document.specs.AsRead.{RawParts, RawMembers, IsDocumentText}
 use Rattle.facet_json_document.proofs.Rfc.Encoded.{ascii}
-use Rattle.facet_json_meaning.specs.Laws.{SameReading, ReadsBack}
-use Rattle.facet_json_meaning.proofs.Nullable.OptionalLaws.{optional-same, optional-reads_back}
+use Rattle.facet_json_meaning.proofs.TypeLaws.{nullable-laws}
 use Rattle.facet_json_meaning.proofs.Nodes.TextsWithin.{ReadsAnywhere, reads-anywhere, reads-alone, text-depth}
-use Rattle.facet_json.specs.Fields.{Reading, Table, table, need, maybe, field_step, need_ends, maybe_ends, fields_of}
-use Rattle.facet_json.specs.Shapes.{Shape, ShapeLaws, shape, nullable, FieldList, no_more, needs, may_have, struct_of, is_text, lacks, are_names}
+use Rattle.facet_json.specs.Fields.{Table, table, need, maybe, field_step, need_ends, maybe_ends, fields_of}
+use Rattle.facet_json.specs.Shapes.{Shape, ShapeLaws, nullable, FieldList, no_more, needs, may_have, struct_of, is_text, lacks, are_names}
 use Rattle.facet_json.proofs.FieldLaws.{SameSteps, none-same, need-same, maybe-same, fields-same}
 use Rattle.facet_json.proofs.FieldsBack.{FieldsAre, none-are, field-are}
 use Rattle.facet_json_meaning.proofs.Objects.ObjectTexts.{MembersAnywhere, members-none, members-join, object-whole}
-
--- ---- types
-
--- A type's laws, one by one.
-pub shape-laws : {V : Type 0} {reading reading_borrowed : Reading V} {tree_of : V → Tree} {always readable : V → Type 0} → SameReading reading →
-    SameReading reading_borrowed → ReadsBack reading tree_of always readable → ShapeLaws (shape reading reading_borrowed tree_of always readable)
-shape-laws same same_borrowed back = record { same_reading = same; same_reading_borrowed = same_borrowed; reads_back = back }
-
-pub nullable-laws : {V : Type 0} {s : Shape V} → ShapeLaws s → ShapeLaws (nullable s)
-nullable-laws {s = s} laws = record {
-  same_reading = optional-same s.reading laws.same_reading;
-  same_reading_borrowed = optional-same s.reading_borrowed laws.same_reading_borrowed;
-  reads_back = optional-reads_back s.reading s.tree_of s.always s.readable laws.reads_back;
-}
 
 -- ---- names
 

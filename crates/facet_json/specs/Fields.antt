@@ -9,10 +9,7 @@ use Rattle.facet_json_document.specs.Meaning.{text_in_tree, meaning}
 use Rattle.facet_json_document.specs.Node.{Node, scalar, array, object, Members, no_members, member}
 use Rattle.facet_json_meaning.specs.Optional.{optional}
 use Rattle.facet_json_meaning.specs.Passing.{anything}
-
--- as what a node of a buffer is read
-abbrev pub Reading : Type 0 → Type 0
-Reading V = List ℕ → Node → Option V
+pub use Rattle.facet_json_meaning.specs.Shapes.{Reading}
 
 -- ---- names
 

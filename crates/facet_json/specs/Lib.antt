@@ -110,6 +110,7 @@ pub use Rattle.facet_json_meaning.specs.ListSteps
 pub use Rattle.facet_json_meaning.specs.Objects
 pub use Rattle.facet_json_meaning.specs.Maps
 pub use Rattle.facet_json_meaning.specs.Trees as TypedTrees
+pub use Rattle.facet_json_meaning.specs.Types
 pub use Rattle.facet_json_tree.specs.Depth
 pub use Rattle.facet_json_facet.specs.Finding
 pub use Rattle.facet_format.specs.Views as FormatViews
@@ -123,5 +124,4 @@ pub mod Inputs
 pub mod Pointed
 pub mod PointedViews
 pub mod Shapes
-pub mod Types
 pub mod Written

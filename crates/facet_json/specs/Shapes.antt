@@ -1,39 +1,13 @@
--- How the values of a type are read and written, and how those of a struct are, field by field.
+-- How the values of a struct are read and written, field by field.
 use Rattle.std.specs.Prelude.{ℕ, Bool, true, false, cond, ◌&&◌, List, [], ◌∷◌, Option}
 use Rattle.std.specs.Char.{is_ascii}
 use Rattle.std.specs.List.{list_all}
 use Rattle.std.specs.Option.{IfSome}
 use Rattle.std.specs.Str.{bytes_eq, is_utf8}
-use Rattle.facet_json_document.specs.Tree.{Tree, pairs, Pairs, no_pairs, pair}
-use Rattle.facet_json_meaning.specs.Laws.{SameReading, ReadsBack}
-use Rattle.facet_json_meaning.specs.Optional.{optional, optional_tree, OptionalReadable}
-use Rattle.facet_json.specs.Fields.{Reading, Table, none, need, maybe, fields_of}
-
--- ---- a type
-
--- As what a node of a buffer is read, where nothing of the input is borrowed, and where it may be; as what tree a value is written; what
--- every value has; and which values come back.
-pub record Shape (V : Type 0) : Type 1 where
-  pub reading : Reading V
-  pub reading_borrowed : Reading V
-  pub tree_of : V → Tree
-  pub always : V → Type 0
-  pub readable : V → Type 0
-
--- Nodes of the same text are read alike, and what is written of a readable value is read as it.
-pub record ShapeLaws {V : Type 0} (s : Shape V) : Type 0 where
-  pub same_reading : SameReading s.reading
-  pub same_reading_borrowed : SameReading s.reading_borrowed
-  pub reads_back : ReadsBack s.reading s.tree_of s.always s.readable
-
-abbrev pub shape : {V : Type 0} → Reading V → Reading V → (V → Tree) → (V → Type 0) → (V → Type 0) → Shape V
-shape reading reading_borrowed tree_of always readable =
-    record { reading = reading; reading_borrowed = reading_borrowed; tree_of = tree_of; always = always; readable = readable }
-
--- a value that may be null
-abbrev pub nullable : {V : Type 0} → Shape V → Shape (Option V)
-nullable s =
-    shape (optional s.reading) (optional s.reading_borrowed) (optional_tree s.tree_of) (λ o. IfSome o s.always) (OptionalReadable s.tree_of s.readable)
+use Rattle.facet_json_document.specs.Tree.{pairs, Pairs, no_pairs, pair}
+pub use Rattle.facet_json_meaning.specs.Shapes.{Shape, ShapeLaws, shape, nullable}
+use Rattle.facet_json_meaning.specs.Optional.{optional_tree, OptionalReadable}
+use Rattle.facet_json.specs.Fields.{Table, none, need, maybe, fields_of}
 
 -- ---- a struct
 

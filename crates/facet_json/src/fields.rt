@@ -171,7 +171,7 @@ impl<'de, T: Facet<'de>, R: Fields<'de>> Fields<'de> for Need<T, R> {
 
     ghost view = { λ v. (T.view v.0, R.view v.1) };
 
-    ghost step = { λ b. field_step (cond b T.reading_borrowed T.reading) (R.step b) };
+    ghost step = { λ b. field_step (cond b T.shape.reading_borrowed T.shape.reading) (R.step b) };
 
     ghost ends = { need_ends R.ends };
 
@@ -227,7 +227,7 @@ impl<'de, T: Facet<'de>, R: Fields<'de>> Fields<'de> for Maybe<T, R> {
 
     ghost view = { λ v. (option_map T.view v.0, R.view v.1) };
 
-    ghost step = { λ b. field_step (cond b (optional T.reading_borrowed) (optional T.reading)) (R.step b) };
+    ghost step = { λ b. field_step (cond b (optional T.shape.reading_borrowed) (optional T.shape.reading)) (R.step b) };
 
     ghost ends = { maybe_ends R.ends };
 
@@ -273,10 +273,10 @@ fn put_first<'t, 'de, T: Facet<'de>, R: Fields<'de>>(
     borrows: bool,
 ) -> Result<(), DeserializeError<'t>>
     ensures read { OnOk result (IsRead
-        (field_step (cond borrows T.reading_borrowed T.reading) (R.step borrows) (keys names.now) key.now (option_map T.view slots.old.0, R.seen slots.old.1))
+        (field_step (cond borrows T.shape.reading_borrowed T.shape.reading) (R.step borrows) (keys names.now) key.now (option_map T.view slots.old.0, R.seen slots.old.1))
         parser.old (option_map T.view slots.new.0, R.seen slots.new.1) parser.new) }
     ensures unread { IfErr result (λ e. IsUnread
-        (field_step (cond borrows T.reading_borrowed T.reading) (R.step borrows) (keys names.now) key.now (option_map T.view slots.old.0, R.seen slots.old.1))
+        (field_step (cond borrows T.shape.reading_borrowed T.shape.reading) (R.step borrows) (keys names.now) key.now (option_map T.view slots.old.0, R.seen slots.old.1))
         parser.old (refusal_of e)) }
     ensures keeps { KeepsOn parser.old parser.new }
     ensures one_value { IsAfterKey parser.old → OnOk result (PassesValue parser.old parser.new) }

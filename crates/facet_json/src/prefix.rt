@@ -28,9 +28,9 @@ pub fn from_slice_prefix<'t, 'de, T: Facet<'de>>(
     alloc: Global,
     input: &'de [u8],
 ) -> Result<(T, usize), DeserializeError<'t>>
-    ensures read { IfOk result (λ r. IsReadFrom T.reading input.now plain (T.view r.0)) }
+    ensures read { IfOk result (λ r. IsReadFrom T.shape.reading input.now plain (T.view r.0)) }
     ensures owned { IfOk result (λ r. T.owned r.0) }
-    ensures unread { IfErr result (λ e. IsUnreadFrom T.reading input.now plain (refusal_of e)) }
+    ensures unread { IfErr result (λ e. IsUnreadFrom T.shape.reading input.now plain (refusal_of e)) }
     ensures document { T.whole ≡ true → OnOk result (BeginsWithDocument input.now plain) }
     ensures end { IfOk result (λ r. BeginsWithRunTo input.now plain r.1) }
     ensures within { IfErr result (λ e. RefusalWithin input.now (refusal_of e)) }
@@ -52,9 +52,9 @@ pub fn from_str_prefix<'t, 'de, T: Facet<'de>>(
     alloc: Global,
     input: &'de str,
 ) -> Result<(T, usize), DeserializeError<'t>>
-    ensures read { IfOk result (λ r. IsReadFrom T.reading input.now plain (T.view r.0)) }
+    ensures read { IfOk result (λ r. IsReadFrom T.shape.reading input.now plain (T.view r.0)) }
     ensures owned { IfOk result (λ r. T.owned r.0) }
-    ensures unread { IfErr result (λ e. IsUnreadFrom T.reading input.now plain (refusal_of e)) }
+    ensures unread { IfErr result (λ e. IsUnreadFrom T.shape.reading input.now plain (refusal_of e)) }
     ensures document { T.whole ≡ true → OnOk result (BeginsWithDocument input.now plain) }
     ensures end { IfOk result (λ r. BeginsWithRunTo input.now plain r.1) }
     ensures within { IfErr result (λ e. RefusalWithin input.now (refusal_of e)) }
@@ -70,10 +70,10 @@ fn value_and_end<'t, 'de, T: Facet<'de>>(
     parser: &mut JsonParser<'de>,
 ) -> Result<(T, usize), DeserializeError<'t>>
     ensures read { (input : List ℕ) (mode : Mode) → parser.old ≡ fresh input mode
-        → IfOk result (λ r. IsReadFrom T.reading input mode (T.view r.0)) }
+        → IfOk result (λ r. IsReadFrom T.shape.reading input mode (T.view r.0)) }
     ensures owned { IfOk result (λ r. T.owned r.0) }
     ensures unread { (input : List ℕ) (mode : Mode) → parser.old ≡ fresh input mode
-        → IfErr result (λ e. IsUnreadFrom T.reading input mode (refusal_of e)) }
+        → IfErr result (λ e. IsUnreadFrom T.shape.reading input mode (refusal_of e)) }
     ensures document { (input : List ℕ) (mode : Mode) → parser.old ≡ fresh input mode
         → T.whole ≡ true → OnOk result (BeginsWithDocument input mode) }
     ensures end { (input : List ℕ) (mode : Mode) → length input < 2 ^ 64 → parser.old ≡ fresh input mode

@@ -29,9 +29,9 @@ pub fn from_slice<'t, 'de, T: Facet<'de>>(
     alloc: Global,
     input: &'de [u8],
 ) -> Result<T, DeserializeError<'t>>
-    ensures read { IfOk result (λ v. IsReadFrom T.reading input.now plain (T.view v)) }
+    ensures read { IfOk result (λ v. IsReadFrom T.shape.reading input.now plain (T.view v)) }
     ensures owned { IfOk result T.owned }
-    ensures unread { IfErr result (λ e. IsUnreadFrom T.reading input.now plain (refusal_of e)) }
+    ensures unread { IfErr result (λ e. IsUnreadFrom T.shape.reading input.now plain (refusal_of e)) }
     ensures document { T.whole ≡ true → OnOk result (BeginsWithDocument input.now plain) }
     ensures one_value { OnOk result (BeginsWithRun input.now plain) }
     ensures within { IfErr result (λ e. RefusalWithin input.now (refusal_of e)) }
@@ -54,8 +54,8 @@ pub fn from_slice_borrowed<'t, 'de, T: Facet<'de>>(
     alloc: Global,
     input: &'de [u8],
 ) -> Result<T, DeserializeError<'t>>
-    ensures read { IfOk result (λ v. IsReadFrom T.reading_borrowed input.now plain (T.view v)) }
-    ensures unread { IfErr result (λ e. IsUnreadFrom T.reading_borrowed input.now plain (refusal_of e)) }
+    ensures read { IfOk result (λ v. IsReadFrom T.shape.reading_borrowed input.now plain (T.view v)) }
+    ensures unread { IfErr result (λ e. IsUnreadFrom T.shape.reading_borrowed input.now plain (refusal_of e)) }
     ensures document { T.whole ≡ true → OnOk result (BeginsWithDocument input.now plain) }
     ensures one_value { OnOk result (BeginsWithRun input.now plain) }
     ensures within { IfErr result (λ e. RefusalWithin input.now (refusal_of e)) }
@@ -77,9 +77,9 @@ pub fn from_slice_jsonc<'t, 'de, T: Facet<'de>>(
     alloc: Global,
     input: &'de [u8],
 ) -> Result<T, DeserializeError<'t>>
-    ensures read { IfOk result (λ v. IsReadFrom T.reading input.now jsonc (T.view v)) }
+    ensures read { IfOk result (λ v. IsReadFrom T.shape.reading input.now jsonc (T.view v)) }
     ensures owned { IfOk result T.owned }
-    ensures unread { IfErr result (λ e. IsUnreadFrom T.reading input.now jsonc (refusal_of e)) }
+    ensures unread { IfErr result (λ e. IsUnreadFrom T.shape.reading input.now jsonc (refusal_of e)) }
     ensures document { T.whole ≡ true → OnOk result (BeginsWithDocument input.now jsonc) }
     ensures one_value { OnOk result (BeginsWithRun input.now jsonc) }
     ensures within { IfErr result (λ e. RefusalWithin input.now (refusal_of e)) }
@@ -101,8 +101,8 @@ pub fn from_slice_borrowed_jsonc<'t, 'de, T: Facet<'de>>(
     alloc: Global,
     input: &'de [u8],
 ) -> Result<T, DeserializeError<'t>>
-    ensures read { IfOk result (λ v. IsReadFrom T.reading_borrowed input.now jsonc (T.view v)) }
-    ensures unread { IfErr result (λ e. IsUnreadFrom T.reading_borrowed input.now jsonc (refusal_of e)) }
+    ensures read { IfOk result (λ v. IsReadFrom T.shape.reading_borrowed input.now jsonc (T.view v)) }
+    ensures unread { IfErr result (λ e. IsUnreadFrom T.shape.reading_borrowed input.now jsonc (refusal_of e)) }
     ensures document { T.whole ≡ true → OnOk result (BeginsWithDocument input.now jsonc) }
     ensures one_value { OnOk result (BeginsWithRun input.now jsonc) }
     ensures within { IfErr result (λ e. RefusalWithin input.now (refusal_of e)) }
@@ -124,9 +124,9 @@ pub fn from_str<'t, 'de, T: Facet<'de>>(
     alloc: Global,
     input: &'de str,
 ) -> Result<T, DeserializeError<'t>>
-    ensures read { IfOk result (λ v. IsReadFrom T.reading input.now plain (T.view v)) }
+    ensures read { IfOk result (λ v. IsReadFrom T.shape.reading input.now plain (T.view v)) }
     ensures owned { IfOk result T.owned }
-    ensures unread { IfErr result (λ e. IsUnreadFrom T.reading input.now plain (refusal_of e)) }
+    ensures unread { IfErr result (λ e. IsUnreadFrom T.shape.reading input.now plain (refusal_of e)) }
     ensures document { T.whole ≡ true → OnOk result (BeginsWithDocument input.now plain) }
     ensures one_value { OnOk result (BeginsWithRun input.now plain) }
     ensures within { IfErr result (λ e. RefusalWithin input.now (refusal_of e)) }
@@ -152,8 +152,8 @@ pub fn from_str_borrowed<'t, 'de, T: Facet<'de>>(
     alloc: Global,
     input: &'de str,
 ) -> Result<T, DeserializeError<'t>>
-    ensures read { IfOk result (λ v. IsReadFrom T.reading_borrowed input.now plain (T.view v)) }
-    ensures unread { IfErr result (λ e. IsUnreadFrom T.reading_borrowed input.now plain (refusal_of e)) }
+    ensures read { IfOk result (λ v. IsReadFrom T.shape.reading_borrowed input.now plain (T.view v)) }
+    ensures unread { IfErr result (λ e. IsUnreadFrom T.shape.reading_borrowed input.now plain (refusal_of e)) }
     ensures document { T.whole ≡ true → OnOk result (BeginsWithDocument input.now plain) }
     ensures one_value { OnOk result (BeginsWithRun input.now plain) }
     ensures within { IfErr result (λ e. RefusalWithin input.now (refusal_of e)) }
@@ -179,9 +179,9 @@ pub fn from_str_jsonc<'t, 'de, T: Facet<'de>>(
     alloc: Global,
     input: &'de str,
 ) -> Result<T, DeserializeError<'t>>
-    ensures read { IfOk result (λ v. IsReadFrom T.reading input.now jsonc (T.view v)) }
+    ensures read { IfOk result (λ v. IsReadFrom T.shape.reading input.now jsonc (T.view v)) }
     ensures owned { IfOk result T.owned }
-    ensures unread { IfErr result (λ e. IsUnreadFrom T.reading input.now jsonc (refusal_of e)) }
+    ensures unread { IfErr result (λ e. IsUnreadFrom T.shape.reading input.now jsonc (refusal_of e)) }
     ensures document { T.whole ≡ true → OnOk result (BeginsWithDocument input.now jsonc) }
     ensures one_value { OnOk result (BeginsWithRun input.now jsonc) }
     ensures within { IfErr result (λ e. RefusalWithin input.now (refusal_of e)) }
@@ -208,8 +208,8 @@ pub fn from_str_borrowed_jsonc<'t, 'de, T: Facet<'de>>(
     alloc: Global,
     input: &'de str,
 ) -> Result<T, DeserializeError<'t>>
-    ensures read { IfOk result (λ v. IsReadFrom T.reading_borrowed input.now jsonc (T.view v)) }
-    ensures unread { IfErr result (λ e. IsUnreadFrom T.reading_borrowed input.now jsonc (refusal_of e)) }
+    ensures read { IfOk result (λ v. IsReadFrom T.shape.reading_borrowed input.now jsonc (T.view v)) }
+    ensures unread { IfErr result (λ e. IsUnreadFrom T.shape.reading_borrowed input.now jsonc (refusal_of e)) }
     ensures document { T.whole ≡ true → OnOk result (BeginsWithDocument input.now jsonc) }
     ensures one_value { OnOk result (BeginsWithRun input.now jsonc) }
     ensures within { IfErr result (λ e. RefusalWithin input.now (refusal_of e)) }
@@ -227,10 +227,10 @@ fn first_value<'t, 'de, T: Facet<'de>>(
     borrows: bool,
 ) -> Result<T, DeserializeError<'t>>
     ensures read { (input : List ℕ) (mode : Mode) → parser.old ≡ fresh input mode
-        → IfOk result (λ v. IsReadFrom (cond borrows T.reading_borrowed T.reading) input mode (T.view v)) }
+        → IfOk result (λ v. IsReadFrom (cond borrows T.shape.reading_borrowed T.shape.reading) input mode (T.view v)) }
     ensures owned { borrows ≡ false → IfOk result T.owned }
     ensures unread { (input : List ℕ) (mode : Mode) → parser.old ≡ fresh input mode
-        → IfErr result (λ e. IsUnreadFrom (cond borrows T.reading_borrowed T.reading) input mode (refusal_of e)) }
+        → IfErr result (λ e. IsUnreadFrom (cond borrows T.shape.reading_borrowed T.shape.reading) input mode (refusal_of e)) }
     ensures document { (input : List ℕ) (mode : Mode) → parser.old ≡ fresh input mode
         → T.whole ≡ true → OnOk result (BeginsWithDocument input mode) }
     ensures one_value { (input : List ℕ) (mode : Mode) → parser.old ≡ fresh input mode → OnOk result (BeginsWithRun input mode) }

@@ -34,9 +34,9 @@ pub fn from_slice_strict<'t, 'de, T: Facet<'de>>(
     alloc: Global,
     input: &'de [u8],
 ) -> Result<T, DeserializeError<'t>>
-    ensures read { IfOk result (λ v. IsReadStrictly T.reading input.now (T.view v)) }
+    ensures read { IfOk result (λ v. IsReadStrictly T.shape.reading input.now (T.view v)) }
     ensures owned { IfOk result T.owned }
-    ensures unread { IfErr result (λ e. IsUnreadStrictly T.reading input.now (refusal_of e)) }
+    ensures unread { IfErr result (λ e. IsUnreadStrictly T.shape.reading input.now (refusal_of e)) }
     ensures document { T.whole ≡ true → OnOk result (IsStrict input.now) }
     ensures one_run { OnOk result (IsOneRun input.now plain) }
     ensures within { IfErr result (λ e. RefusalWithin input.now (refusal_of e)) }
@@ -59,9 +59,9 @@ pub fn from_str_strict<'t, 'de, T: Facet<'de>>(
     alloc: Global,
     input: &'de str,
 ) -> Result<T, DeserializeError<'t>>
-    ensures read { IfOk result (λ v. IsReadStrictly T.reading input.now (T.view v)) }
+    ensures read { IfOk result (λ v. IsReadStrictly T.shape.reading input.now (T.view v)) }
     ensures owned { IfOk result T.owned }
-    ensures unread { IfErr result (λ e. IsUnreadStrictly T.reading input.now (refusal_of e)) }
+    ensures unread { IfErr result (λ e. IsUnreadStrictly T.shape.reading input.now (refusal_of e)) }
     ensures document { T.whole ≡ true → OnOk result (IsStrict input.now) }
     ensures one_run { OnOk result (IsOneRun input.now plain) }
     ensures within { IfErr result (λ e. RefusalWithin input.now (refusal_of e)) }
@@ -77,10 +77,10 @@ fn whole_value<'t, 'de, T: Facet<'de>>(
     parser: &mut JsonParser<'de>,
 ) -> Result<T, DeserializeError<'t>>
     ensures read { (input : List ℕ) → parser.old ≡ fresh_in input (strict plain)
-        → IfOk result (λ v. IsReadStrictly T.reading input (T.view v)) }
+        → IfOk result (λ v. IsReadStrictly T.shape.reading input (T.view v)) }
     ensures owned { IfOk result T.owned }
     ensures unread { (input : List ℕ) → parser.old ≡ fresh_in input (strict plain)
-        → IfErr result (λ e. IsUnreadStrictly T.reading input (refusal_of e)) }
+        → IfErr result (λ e. IsUnreadStrictly T.shape.reading input (refusal_of e)) }
     ensures document { (input : List ℕ) → parser.old ≡ fresh_in input (strict plain)
         → T.whole ≡ true → OnOk result (IsStrict input) }
     ensures one_run { (input : List ℕ) → parser.old ≡ fresh_in input (strict plain) → OnOk result (IsOneRun input plain) }

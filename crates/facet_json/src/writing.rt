@@ -25,10 +25,10 @@ use std::alloc::Global;
 ///
 /// `OutOfMemory` alone, where an allocation fails.
 pub fn to_vec<'de, T: Facet<'de>>(alloc: Global, value: &T) -> Result<Vec<u8>, JsonSerializeError>
-    ensures text { IfOk result (λ v. v.items ≡ text default_options 0 (T.tree_of (T.view value.now))) }
+    ensures text { IfOk result (λ v. v.items ≡ text default_options 0 (T.shape.tree_of (T.view value.now))) }
     ensures refused { IfErr result (λ e. write_refusal_of e ≡ out_of_memory) }
-    ensures read_back { IfOk result (λ v. IsReadable default_options (T.tree_of (T.view value.now)) v.items) }
-    ensures comes_back { IfOk result (λ v. T.readable (T.view value.now) → ComesBack T.reading v.items (T.view value.now)) }
+    ensures read_back { IfOk result (λ v. IsReadable default_options (T.shape.tree_of (T.view value.now)) v.items) }
+    ensures comes_back { IfOk result (λ v. T.shape.readable (T.view value.now) → ComesBack T.shape.reading v.items (T.view value.now)) }
 {
     to_vec_with_options(alloc, value, &SerializeOptions::new())
 }
@@ -46,9 +46,9 @@ pub fn to_vec_pretty<'de, T: Facet<'de>>(
     alloc: Global,
     value: &T,
 ) -> Result<Vec<u8>, JsonSerializeError>
-    ensures text { IfOk result (λ v. v.items ≡ text pretty_options 0 (T.tree_of (T.view value.now))) }
+    ensures text { IfOk result (λ v. v.items ≡ text pretty_options 0 (T.shape.tree_of (T.view value.now))) }
     ensures refused { IfErr result (λ e. write_refusal_of e ≡ out_of_memory) }
-    ensures read_back { IfOk result (λ v. IsReadable pretty_options (T.tree_of (T.view value.now)) v.items) }
+    ensures read_back { IfOk result (λ v. IsReadable pretty_options (T.shape.tree_of (T.view value.now)) v.items) }
 {
     to_vec_with_options(alloc, value, &SerializeOptions::new().pretty())
 }
@@ -67,11 +67,11 @@ pub fn to_vec_with_options<'de, T: Facet<'de>>(
     value: &T,
     options: &SerializeOptions<'_>,
 ) -> Result<Vec<u8>, JsonSerializeError>
-    ensures text { IfOk result (λ v. v.items ≡ text (options_of options.now) 0 (T.tree_of (T.view value.now))) }
+    ensures text { IfOk result (λ v. v.items ≡ text (options_of options.now) 0 (T.shape.tree_of (T.view value.now))) }
     ensures refused { IfErr result (λ e. write_refusal_of e ≡ out_of_memory) }
-    ensures read_back { IfOk result (λ v. IsReadable (options_of options.now) (T.tree_of (T.view value.now)) v.items) }
+    ensures read_back { IfOk result (λ v. IsReadable (options_of options.now) (T.shape.tree_of (T.view value.now)) v.items) }
     ensures comes_back { options_of options.now ≡ default_options
-        → IfOk result (λ v. T.readable (T.view value.now) → ComesBack T.reading v.items (T.view value.now)) }
+        → IfOk result (λ v. T.shape.readable (T.view value.now) → ComesBack T.shape.reading v.items (T.view value.now)) }
     ensures utf8 { IfOk result (λ v. is_utf8 v.items ≡ true) }
 {
     let mut serializer = JsonSerializer::with_options(alloc, *options);
@@ -89,10 +89,10 @@ pub fn to_vec_with_options<'de, T: Facet<'de>>(
 ///
 /// `OutOfMemory` alone, where an allocation fails.
 pub fn to_string<'de, T: Facet<'de>>(alloc: Global, value: &T) -> Result<String, JsonSerializeError>
-    ensures text { IfOk result (λ v. string_bytes v ≡ text default_options 0 (T.tree_of (T.view value.now))) }
+    ensures text { IfOk result (λ v. string_bytes v ≡ text default_options 0 (T.shape.tree_of (T.view value.now))) }
     ensures refused { IfErr result (λ e. write_refusal_of e ≡ out_of_memory) }
-    ensures read_back { IfOk result (λ v. IsReadable default_options (T.tree_of (T.view value.now)) (string_bytes v)) }
-    ensures comes_back { IfOk result (λ v. T.readable (T.view value.now) → ComesBack T.reading (string_bytes v) (T.view value.now)) }
+    ensures read_back { IfOk result (λ v. IsReadable default_options (T.shape.tree_of (T.view value.now)) (string_bytes v)) }
+    ensures comes_back { IfOk result (λ v. T.shape.readable (T.view value.now) → ComesBack T.shape.reading (string_bytes v) (T.view value.now)) }
 {
     to_string_with_options(alloc, value, &SerializeOptions::new())
 }
@@ -110,9 +110,9 @@ pub fn to_string_pretty<'de, T: Facet<'de>>(
     alloc: Global,
     value: &T,
 ) -> Result<String, JsonSerializeError>
-    ensures text { IfOk result (λ v. string_bytes v ≡ text pretty_options 0 (T.tree_of (T.view value.now))) }
+    ensures text { IfOk result (λ v. string_bytes v ≡ text pretty_options 0 (T.shape.tree_of (T.view value.now))) }
     ensures refused { IfErr result (λ e. write_refusal_of e ≡ out_of_memory) }
-    ensures read_back { IfOk result (λ v. IsReadable pretty_options (T.tree_of (T.view value.now)) (string_bytes v)) }
+    ensures read_back { IfOk result (λ v. IsReadable pretty_options (T.shape.tree_of (T.view value.now)) (string_bytes v)) }
 {
     to_string_with_options(alloc, value, &SerializeOptions::new().pretty())
 }
@@ -131,11 +131,11 @@ pub fn to_string_with_options<'de, T: Facet<'de>>(
     value: &T,
     options: &SerializeOptions<'_>,
 ) -> Result<String, JsonSerializeError>
-    ensures text { IfOk result (λ v. string_bytes v ≡ text (options_of options.now) 0 (T.tree_of (T.view value.now))) }
+    ensures text { IfOk result (λ v. string_bytes v ≡ text (options_of options.now) 0 (T.shape.tree_of (T.view value.now))) }
     ensures refused { IfErr result (λ e. write_refusal_of e ≡ out_of_memory) }
-    ensures read_back { IfOk result (λ v. IsReadable (options_of options.now) (T.tree_of (T.view value.now)) (string_bytes v)) }
+    ensures read_back { IfOk result (λ v. IsReadable (options_of options.now) (T.shape.tree_of (T.view value.now)) (string_bytes v)) }
     ensures comes_back { options_of options.now ≡ default_options
-        → IfOk result (λ v. T.readable (T.view value.now) → ComesBack T.reading (string_bytes v) (T.view value.now)) }
+        → IfOk result (λ v. T.shape.readable (T.view value.now) → ComesBack T.shape.reading (string_bytes v) (T.view value.now)) }
 {
     let bytes = to_vec_with_options(alloc, value, options)?;
     // The text is UTF-8, as its contract says, so it is not looked over again.

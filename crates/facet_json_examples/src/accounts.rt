@@ -26,7 +26,7 @@ pub struct Account {
 }
 
 impl<'de> Facet<'de> for Account {
-    ghost use Rattle.std.specs.Prelude.{ℕ, ℤ, Bool, List, Option, false, map, string_bytes};
+    ghost use Rattle.std.specs.Prelude.{ℕ, ℤ, Bool, List, Option, map, string_bytes};
     ghost use Rattle.std.specs.Option.{option_map};
     ghost use Rattle.facet_json_examples.specs.Accounts.{account};
     ghost use Rattle.facet_json_examples.specs.AccountLaws.{account-laws};
@@ -56,22 +56,12 @@ impl<'de> Facet<'de> for Account {
       ),
     ) };
 
-    ghost reading = { account.reading };
-
-    ghost reading_borrowed = { account.reading_borrowed };
-
-    ghost tree_of = { account.tree_of };
-
-    ghost always = { account.always };
-
-    ghost readable = { account.readable };
-
-    ghost whole = { false };
+    ghost shape = { account };
 
     fn read_owned<'t>(
         alloc: Global,
         parser: &mut JsonParser<'de>,
-    ) -> Result<Account, DeserializeError<'t>> {
+    ) -> Result<Self, DeserializeError<'t>> {
         let Need(
             id,
             Need(
@@ -109,10 +99,7 @@ impl<'de> Facet<'de> for Account {
         })
     }
 
-    fn read<'t>(
-        alloc: Global,
-        parser: &mut JsonParser<'de>,
-    ) -> Result<Account, DeserializeError<'t>> {
+    fn read<'t>(alloc: Global, parser: &mut JsonParser<'de>) -> Result<Self, DeserializeError<'t>> {
         Account::read_owned(alloc, parser)
     }
 
@@ -148,9 +135,5 @@ impl<'de> Facet<'de> for Account {
         )
     }
 
-    ghost same_reading = { account-laws.same_reading };
-
-    ghost same_reading_borrowed = { account-laws.same_reading_borrowed };
-
-    ghost reads_back = { account-laws.reads_back };
+    ghost laws = { account-laws };
 }

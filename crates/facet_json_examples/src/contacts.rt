@@ -19,7 +19,7 @@ pub struct Contact<'de> {
 }
 
 impl<'de> Facet<'de> for Contact<'de> {
-    ghost use Rattle.std.specs.Prelude.{ℕ, List, false};
+    ghost use Rattle.std.specs.Prelude.{ℕ, List};
     ghost use Rattle.facet_json_examples.specs.Contacts.{contact};
     ghost use Rattle.facet_json_examples.specs.ContactLaws.{contact-laws};
 
@@ -27,17 +27,7 @@ impl<'de> Facet<'de> for Contact<'de> {
 
     ghost view = { λ c. (c.id, (c.name.now, (c.email.now, tt))) };
 
-    ghost reading = { contact.reading };
-
-    ghost reading_borrowed = { contact.reading_borrowed };
-
-    ghost tree_of = { contact.tree_of };
-
-    ghost always = { contact.always };
-
-    ghost readable = { contact.readable };
-
-    ghost whole = { false };
+    ghost shape = { contact };
 
     fn read_owned<'t>(
         alloc: Global,
@@ -70,9 +60,5 @@ impl<'de> Facet<'de> for Contact<'de> {
         write_fields(serializer, &["id", "name", "email"], &fields)
     }
 
-    ghost same_reading = { contact-laws.same_reading };
-
-    ghost same_reading_borrowed = { contact-laws.same_reading_borrowed };
-
-    ghost reads_back = { contact-laws.reads_back };
+    ghost laws = { contact-laws };
 }

@@ -22,7 +22,7 @@ pub struct Person {
 }
 
 impl<'de> Facet<'de> for Person {
-    ghost use Rattle.std.specs.Prelude.{ℕ, List, false};
+    ghost use Rattle.std.specs.Prelude.{ℕ, List};
     ghost use Rattle.facet_json_examples.specs.Records.{person};
     ghost use Rattle.facet_json_examples.specs.RecordLaws.{person-laws};
 
@@ -30,30 +30,17 @@ impl<'de> Facet<'de> for Person {
 
     ghost view = { λ p. (string_bytes p.name, (p.age, tt)) };
 
-    ghost reading = { person.reading };
-
-    ghost reading_borrowed = { person.reading_borrowed };
-
-    ghost tree_of = { person.tree_of };
-
-    ghost always = { person.always };
-
-    ghost readable = { person.readable };
-
-    ghost whole = { false };
+    ghost shape = { person };
 
     fn read_owned<'t>(
         alloc: Global,
         parser: &mut JsonParser<'de>,
-    ) -> Result<Person, DeserializeError<'t>> {
+    ) -> Result<Self, DeserializeError<'t>> {
         let Need(name, Need(age, Done)) = read_fields(alloc, parser, false, &["name", "age"])?;
         Ok(Person { name, age })
     }
 
-    fn read<'t>(
-        alloc: Global,
-        parser: &mut JsonParser<'de>,
-    ) -> Result<Person, DeserializeError<'t>> {
+    fn read<'t>(alloc: Global, parser: &mut JsonParser<'de>) -> Result<Self, DeserializeError<'t>> {
         Person::read_owned(alloc, parser)
     }
 
@@ -62,11 +49,7 @@ impl<'de> Facet<'de> for Person {
         write_fields(serializer, &["name", "age"], &fields)
     }
 
-    ghost same_reading = { person-laws.same_reading };
-
-    ghost same_reading_borrowed = { person-laws.same_reading_borrowed };
-
-    ghost reads_back = { person-laws.reads_back };
+    ghost laws = { person-laws };
 }
 
 /// The person that a document is: of each of its object's members `name` and `age` the last one counts, and any other is passed.
@@ -87,9 +70,7 @@ pub struct Response<T> {
 }
 
 impl<'de, T: Facet<'de>> Facet<'de> for Response<T> {
-    ghost use Rattle.std.specs.Prelude.{ℕ, false};
-    ghost use Rattle.facet_json.specs.Shapes.{shape};
-    ghost use Rattle.facet_json.proofs.StructLaws.{shape-laws};
+    ghost use Rattle.std.specs.Prelude.{ℕ};
     ghost use Rattle.facet_json_examples.specs.Records.{response};
     ghost use Rattle.facet_json_examples.specs.RecordLaws.{response-laws};
 
@@ -97,17 +78,7 @@ impl<'de, T: Facet<'de>> Facet<'de> for Response<T> {
 
     ghost view = { λ r. (r.status, (T.view r.payload, tt)) };
 
-    ghost reading = { (response (shape T.reading T.reading_borrowed T.tree_of T.always T.readable)).reading };
-
-    ghost reading_borrowed = { (response (shape T.reading T.reading_borrowed T.tree_of T.always T.readable)).reading_borrowed };
-
-    ghost tree_of = { (response (shape T.reading T.reading_borrowed T.tree_of T.always T.readable)).tree_of };
-
-    ghost always = { (response (shape T.reading T.reading_borrowed T.tree_of T.always T.readable)).always };
-
-    ghost readable = { (response (shape T.reading T.reading_borrowed T.tree_of T.always T.readable)).readable };
-
-    ghost whole = { false };
+    ghost shape = { response T.shape };
 
     fn read_owned<'t>(
         alloc: Global,
@@ -140,11 +111,7 @@ impl<'de, T: Facet<'de>> Facet<'de> for Response<T> {
         write_fields(serializer, &["status", "data"], &fields)
     }
 
-    ghost same_reading = { (response-laws (shape-laws T.same_reading T.same_reading_borrowed T.reads_back)).same_reading };
-
-    ghost same_reading_borrowed = { (response-laws (shape-laws T.same_reading T.same_reading_borrowed T.reads_back)).same_reading_borrowed };
-
-    ghost reads_back = { (response-laws (shape-laws T.same_reading T.same_reading_borrowed T.reads_back)).reads_back };
+    ghost laws = { response-laws T.laws };
 }
 
 /// A response whose payload stays text, lent by the input.
@@ -165,7 +132,7 @@ pub struct Retry {
 }
 
 impl<'de> Facet<'de> for Retry {
-    ghost use Rattle.std.specs.Prelude.{ℕ, Option, false};
+    ghost use Rattle.std.specs.Prelude.{ℕ, Option};
     ghost use Rattle.std.specs.Option.{option_map};
     ghost use Rattle.facet_json_examples.specs.Records.{retry};
     ghost use Rattle.facet_json_examples.specs.RecordLaws.{retry-laws};
@@ -174,30 +141,17 @@ impl<'de> Facet<'de> for Retry {
 
     ghost view = { λ r. (r.times, (option_map (λ n. n) r.wait, tt)) };
 
-    ghost reading = { retry.reading };
-
-    ghost reading_borrowed = { retry.reading_borrowed };
-
-    ghost tree_of = { retry.tree_of };
-
-    ghost always = { retry.always };
-
-    ghost readable = { retry.readable };
-
-    ghost whole = { false };
+    ghost shape = { retry };
 
     fn read_owned<'t>(
         alloc: Global,
         parser: &mut JsonParser<'de>,
-    ) -> Result<Retry, DeserializeError<'t>> {
+    ) -> Result<Self, DeserializeError<'t>> {
         let Need(times, Maybe(wait, Done)) = read_fields(alloc, parser, false, &["times", "wait"])?;
         Ok(Retry { times, wait })
     }
 
-    fn read<'t>(
-        alloc: Global,
-        parser: &mut JsonParser<'de>,
-    ) -> Result<Retry, DeserializeError<'t>> {
+    fn read<'t>(alloc: Global, parser: &mut JsonParser<'de>) -> Result<Self, DeserializeError<'t>> {
         Retry::read_owned(alloc, parser)
     }
 
@@ -206,11 +160,7 @@ impl<'de> Facet<'de> for Retry {
         write_fields(serializer, &["times", "wait"], &fields)
     }
 
-    ghost same_reading = { retry-laws.same_reading };
-
-    ghost same_reading_borrowed = { retry-laws.same_reading_borrowed };
-
-    ghost reads_back = { retry-laws.reads_back };
+    ghost laws = { retry-laws };
 }
 
 /// A configuration, as `{"host":"a.example","tags":["new"],"retry":{"times":3}}`.
@@ -227,7 +177,7 @@ pub struct Config {
 }
 
 impl<'de> Facet<'de> for Config {
-    ghost use Rattle.std.specs.Prelude.{ℕ, List, Option, false, map};
+    ghost use Rattle.std.specs.Prelude.{ℕ, List, Option, map};
     ghost use Rattle.std.specs.Option.{option_map};
     ghost use Rattle.facet_json_examples.specs.Records.{config};
     ghost use Rattle.facet_json_examples.specs.RecordLaws.{config-laws};
@@ -236,22 +186,12 @@ impl<'de> Facet<'de> for Config {
 
     ghost view = { λ c. (string_bytes c.host, (option_map (λ n. n) c.port, (map string_bytes c.tags.items, (option_map (λ r. (r.times, (option_map (λ n. n) r.wait, tt))) c.retry, tt)))) };
 
-    ghost reading = { config.reading };
-
-    ghost reading_borrowed = { config.reading_borrowed };
-
-    ghost tree_of = { config.tree_of };
-
-    ghost always = { config.always };
-
-    ghost readable = { config.readable };
-
-    ghost whole = { false };
+    ghost shape = { config };
 
     fn read_owned<'t>(
         alloc: Global,
         parser: &mut JsonParser<'de>,
-    ) -> Result<Config, DeserializeError<'t>> {
+    ) -> Result<Self, DeserializeError<'t>> {
         let Need(host, Maybe(port, Need(tags, Maybe(retry, Done)))) = read_fields(
             alloc,
             parser,
@@ -266,10 +206,7 @@ impl<'de> Facet<'de> for Config {
         })
     }
 
-    fn read<'t>(
-        alloc: Global,
-        parser: &mut JsonParser<'de>,
-    ) -> Result<Config, DeserializeError<'t>> {
+    fn read<'t>(alloc: Global, parser: &mut JsonParser<'de>) -> Result<Self, DeserializeError<'t>> {
         Config::read_owned(alloc, parser)
     }
 
@@ -281,9 +218,5 @@ impl<'de> Facet<'de> for Config {
         write_fields(serializer, &["host", "port", "tags", "retry"], &fields)
     }
 
-    ghost same_reading = { config-laws.same_reading };
-
-    ghost same_reading_borrowed = { config-laws.same_reading_borrowed };
-
-    ghost reads_back = { config-laws.reads_back };
+    ghost laws = { config-laws };
 }

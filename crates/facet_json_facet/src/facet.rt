@@ -20,14 +20,11 @@ use std::alloc::Global;
 /// ```
 ///
 /// What a value means is said by the ghost members: `view`, what is seen of a value, since a `String` carries a capacity beside
-/// its text; `reading` and `reading_borrowed`, what a node of a buffer is read as, if as anything; `tree_of`, as what tree it is
-/// written; `always`, what every value of the type has, as Rust sees to it; `readable`, which values come back from their text; `owned`,
-/// which values borrow nothing of the input; and `whole`, whether an input is read only where it has a document.
+/// its text; `shape`, as what the type is read and written; `owned`, which values borrow nothing of the input; and `whole`, whether an
+/// input is read only where it has a document. `laws` are what the shape has to keep.
 pub trait Facet<'de>: Sized + Drop {
-    ghost use Rattle.std.specs.Prelude.{ℕ, Bool, List, Option};
-    ghost use Rattle.facet_json_document.specs.Node.{Node};
-    ghost use Rattle.facet_json_document.specs.Tree.{Tree};
-    ghost use Rattle.facet_json_meaning.specs.Laws.{SameReading, ReadsBack};
+    ghost use Rattle.std.specs.Prelude.{Bool, false};
+    ghost use Rattle.facet_json_meaning.specs.Shapes.{Shape, ShapeLaws};
 
     /// What is seen of values.
     ghost View: { Type 0 };
@@ -35,27 +32,15 @@ pub trait Facet<'de>: Sized + Drop {
     /// What is seen of a value.
     ghost view: { Self → View };
 
-    /// As what a node of a buffer is read, where nothing of the input is borrowed.
-    ghost reading: { List ℕ → Node → Option View };
-
-    /// As what a node of a buffer is read, where the input may be borrowed.
-    ghost reading_borrowed: { List ℕ → Node → Option View };
-
-    /// The tree as which a value is written.
-    ghost tree_of: { View → Tree };
-
-    /// What every value of the type has: a number lies within its bits, a `String` is UTF-8, a map's keys ascend.
-    ghost always: { View → Type 0 };
-
-    /// The value comes back from its text.
-    ghost readable: { View → Type 0 };
+    /// As what a value is read, and as what it is written.
+    ghost shape: { Shape View };
 
     /// The value borrows nothing of the input. A type whose values may borrow says of which this is so; of another nothing is said.
     ghost owned: { Self → Type 0 } = { λ _. Unit {0} };
 
     /// Reading at the start of an input succeeds only where the input has a document; and where the parser is strict, and then at the end,
-    /// only where the input is a strict document.
-    ghost whole: { Bool };
+    /// only where the input is a strict document. A type that keeps the default says nothing of it.
+    ghost whole: { Bool } = { false };
 
     /// Reads the value before which the parser stands, and borrows nothing of the input.
     ///
@@ -67,9 +52,9 @@ pub trait Facet<'de>: Sized + Drop {
         alloc: Global,
         parser: &mut JsonParser<'de>,
     ) -> Result<Self, DeserializeError<'t>>
-        ensures read { IfOk result (λ v. IsRead reading parser.old (view v) parser.new) }
+        ensures read { IfOk result (λ v. IsRead shape.reading parser.old (view v) parser.new) }
         ensures owned { IfOk result (λ v. owned v) }
-        ensures unread { IfErr result (λ e. IsUnread reading parser.old (refusal_of e)) }
+        ensures unread { IfErr result (λ e. IsUnread shape.reading parser.old (refusal_of e)) }
         ensures document { whole ≡ true → OnOk result (HasDocument parser.old) }
         ensures strict { whole ≡ true → OnOk result (EndsStrictly parser.old parser.new) }
         ensures keeps { KeepsOn parser.old parser.new }
@@ -85,8 +70,8 @@ pub trait Facet<'de>: Sized + Drop {
     ///
     /// As `read_owned`.
     fn read<'t>(alloc: Global, parser: &mut JsonParser<'de>) -> Result<Self, DeserializeError<'t>>
-        ensures read { IfOk result (λ v. IsRead reading_borrowed parser.old (view v) parser.new) }
-        ensures unread { IfErr result (λ e. IsUnread reading_borrowed parser.old (refusal_of e)) }
+        ensures read { IfOk result (λ v. IsRead shape.reading_borrowed parser.old (view v) parser.new) }
+        ensures unread { IfErr result (λ e. IsUnread shape.reading_borrowed parser.old (refusal_of e)) }
         ensures document { whole ≡ true → OnOk result (HasDocument parser.old) }
         ensures strict { whole ≡ true → OnOk result (EndsStrictly parser.old parser.new) }
         ensures keeps { KeepsOn parser.old parser.new }
@@ -102,20 +87,14 @@ pub trait Facet<'de>: Sized + Drop {
     ///
     /// `OutOfMemory` alone; the serializer is then out of memory for good.
     fn write(&self, serializer: &mut JsonSerializer<'_>) -> Result<(), JsonSerializeError>
-        ensures written { OnOk result (HasWritten serializer.old (tree_of (view self.now)) serializer.new) }
+        ensures written { OnOk result (HasWritten serializer.old (shape.tree_of (view self.now)) serializer.new) }
         ensures refused { IfErr result (λ e. writing_refusal_of e ≡ out_of_memory) }
         ensures spent { OnErr result (serializer.new ≡ None) }
-        ensures of_rust { OnOk result (IsOfRust (tree_of (view self.now))) }
-        ensures always { OnOk result (always (view self.now)) };
+        ensures of_rust { OnOk result (IsOfRust (shape.tree_of (view self.now))) }
+        ensures always { OnOk result (shape.always (view self.now)) };
 
-    /// Nodes that the same bytes spell have the same reading.
-    ghost same_reading: { SameReading reading };
-
-    /// The same where the input may be borrowed.
-    ghost same_reading_borrowed: { SameReading reading_borrowed };
-
-    /// The text of a readable value reads as the value.
-    ghost reads_back: { ReadsBack reading tree_of always readable };
+    /// Nodes that the same bytes spell are read alike, and the text of a readable value is read as the value.
+    ghost laws: { ShapeLaws shape };
 }
 
 /// Reads a value, which may borrow of the input where `borrows` says so: an element, or the value of a field.
@@ -129,9 +108,9 @@ pub fn value_in<'t, 'de, T: Facet<'de>>(
     parser: &mut JsonParser<'de>,
     borrows: bool,
 ) -> Result<T, DeserializeError<'t>>
-    ensures read { IfOk result (λ v. IsRead (cond borrows T.reading_borrowed T.reading) parser.old (T.view v) parser.new) }
+    ensures read { IfOk result (λ v. IsRead (cond borrows T.shape.reading_borrowed T.shape.reading) parser.old (T.view v) parser.new) }
     ensures owned { borrows ≡ false → IfOk result T.owned }
-    ensures unread { IfErr result (λ e. IsUnread (cond borrows T.reading_borrowed T.reading) parser.old (refusal_of e)) }
+    ensures unread { IfErr result (λ e. IsUnread (cond borrows T.shape.reading_borrowed T.shape.reading) parser.old (refusal_of e)) }
     ensures keeps { KeepsOn parser.old parser.new }
     ensures shorter { OnOk result (ahead parser.new < ahead parser.old) }
     ensures one_value { OnOk result (PassesValue parser.old parser.new) }

@@ -8,6 +8,6 @@ use crate::facet::Facet;
 /// captured, kept or sent on is read later as it would have been read in its place. With `facet_json_meaning::laws::document_nodes_are_spelled`
 /// this holds of all nodes of documents.
 pub fn same_bytes_read_alike<'de, T: Facet<'de>>()
-    ensures reading { ReadsBytesAlike T.reading }
-    ensures reading_borrowed { ReadsBytesAlike T.reading_borrowed }
+    ensures reading { ReadsBytesAlike T.shape.reading }
+    ensures reading_borrowed { ReadsBytesAlike T.shape.reading_borrowed }
 {}

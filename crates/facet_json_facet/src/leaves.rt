@@ -89,22 +89,14 @@ pub(crate) trait Leaf: Sized + Drop {
 /// ```
 impl<'de, T: Leaf> Facet<'de> for T {
     ghost use Rattle.std.specs.Prelude.{true};
-    ghost use Rattle.facet_json_meaning.specs.Readings.{leaf};
-    ghost use Rattle.facet_json_meaning.proofs.Leaves.LeafLaws.{leaf-same};
+    ghost use Rattle.facet_json_meaning.specs.Types.{scalar};
+    ghost use Rattle.facet_json_meaning.proofs.TypeLaws.{scalar-laws};
 
     ghost View = { T.View };
 
     ghost view = { T.view };
 
-    ghost reading = { leaf T.takes };
-
-    ghost reading_borrowed = { leaf T.takes };
-
-    ghost tree_of = { T.tree_of };
-
-    ghost always = { T.always };
-
-    ghost readable = { λ _. Unit {0} };
+    ghost shape = { scalar T.takes T.tree_of T.always };
 
     ghost whole = { true };
 
@@ -128,11 +120,7 @@ impl<'de, T: Leaf> Facet<'de> for T {
         serializer.scalar(self.to_scalar())
     }
 
-    ghost same_reading = { leaf-same T.takes };
-
-    ghost same_reading_borrowed = { leaf-same T.takes };
-
-    ghost reads_back = { T.reads_back };
+    ghost laws = { scalar-laws T.takes T.reads_back };
 }
 
 /// Reads the next event, and takes the value that it is.

@@ -25,28 +25,18 @@ use std::alloc::Global;
 /// `TypeMismatch` where no array begins, with its event's span, and what an element is refused with. Or out of memory, where the list
 /// can't grow.
 impl<'de, T: Facet<'de>> Facet<'de> for Vec<T> {
-    ghost use Rattle.std.specs.Prelude.{List, false, map};
+    ghost use Rattle.std.specs.Prelude.{List, map};
     ghost use Rattle.std.specs.List.{All};
-    ghost use Rattle.facet_json_meaning.specs.Lists.{list_of, list_by};
-    ghost use Rattle.facet_json_meaning.proofs.Sequences.ListLaws.{list-same, list-reads_back};
+    ghost use Rattle.facet_json_meaning.specs.Types.{list};
+    ghost use Rattle.facet_json_meaning.proofs.TypeLaws.{list-laws};
 
     ghost View = { List T.View };
 
     ghost view = { λ v. map T.view v.items };
 
-    ghost reading = { list_of T.reading };
-
-    ghost reading_borrowed = { list_of T.reading_borrowed };
-
-    ghost tree_of = { list_by T.tree_of };
-
-    ghost always = { λ vs. All T.always vs };
-
-    ghost readable = { λ vs. All T.readable vs };
+    ghost shape = { list T.shape };
 
     ghost owned = { λ v. All T.owned v.items };
-
-    ghost whole = { false };
 
     fn read_owned<'t>(
         alloc: Global,
@@ -70,11 +60,7 @@ impl<'de, T: Facet<'de>> Facet<'de> for Vec<T> {
         serializer.end_seq()
     }
 
-    ghost same_reading = { list-same T.reading T.same_reading };
-
-    ghost same_reading_borrowed = { list-same T.reading_borrowed T.same_reading_borrowed };
-
-    ghost reads_back = { list-reads_back T.reading T.tree_of T.always T.readable T.same_reading T.reads_back };
+    ghost laws = { list-laws T.laws };
 }
 
 /// Reads the list before which the parser stands. Its elements may borrow of the input where `borrows` says so.
@@ -87,9 +73,9 @@ fn list_in<'t, 'de, T: Facet<'de>>(
     parser: &mut JsonParser<'de>,
     borrows: bool,
 ) -> Result<Vec<T>, DeserializeError<'t>>
-    ensures read { IfOk result (λ v. IsRead (list_of (cond borrows T.reading_borrowed T.reading)) parser.old (map T.view v.items) parser.new) }
+    ensures read { IfOk result (λ v. IsRead (list_of (cond borrows T.shape.reading_borrowed T.shape.reading)) parser.old (map T.view v.items) parser.new) }
     ensures owned { borrows ≡ false → IfOk result (λ v. All T.owned v.items) }
-    ensures unread { IfErr result (λ e. IsUnread (list_of (cond borrows T.reading_borrowed T.reading)) parser.old (refusal_of e)) }
+    ensures unread { IfErr result (λ e. IsUnread (list_of (cond borrows T.shape.reading_borrowed T.shape.reading)) parser.old (refusal_of e)) }
     ensures keeps { KeepsOn parser.old parser.new }
     ensures shorter { OnOk result (ahead parser.new < ahead parser.old) }
     ensures one_value { OnOk result (PassesValue parser.old parser.new) }

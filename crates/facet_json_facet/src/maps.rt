@@ -17,29 +17,18 @@ use std::alloc::Global;
 use std::collections::BTreeMap;
 
 impl<'de, T: Facet<'de>> Facet<'de> for BTreeMap<String, T> {
-    ghost use Rattle.std.specs.Prelude.{false};
     ghost use Rattle.std.specs.List.{All};
-    ghost use Rattle.facet_json_meaning.specs.Maps.{Entries, seen_entries, map_of, tree_of_entries, IsMap, IsReadableMap};
-    ghost use Rattle.facet_json_meaning.proofs.Objects.MapLaws.{map-same};
-    ghost use Rattle.facet_json_meaning.proofs.Objects.MapTexts.{map-reads_back};
+    ghost use Rattle.facet_json_meaning.specs.Maps.{Entries, seen_entries};
+    ghost use Rattle.facet_json_meaning.specs.Types.{entries};
+    ghost use Rattle.facet_json_meaning.proofs.TypeLaws.{entries-laws};
 
     ghost View = { Entries T.View };
 
     ghost view = { λ m. seen_entries T.view m.entries };
 
-    ghost reading = { map_of T.reading };
-
-    ghost reading_borrowed = { map_of T.reading_borrowed };
-
-    ghost tree_of = { tree_of_entries T.tree_of };
-
-    ghost always = { IsMap T.always };
-
-    ghost readable = { IsReadableMap T.readable };
+    ghost shape = { entries T.shape };
 
     ghost owned = { λ m. All (λ e. T.owned e.1) m.entries };
-
-    ghost whole = { false };
 
     fn read_owned<'t>(
         alloc: Global,
@@ -64,11 +53,7 @@ impl<'de, T: Facet<'de>> Facet<'de> for BTreeMap<String, T> {
         serializer.end_struct()
     }
 
-    ghost same_reading = { map-same T.reading T.same_reading };
-
-    ghost same_reading_borrowed = { map-same T.reading_borrowed T.same_reading_borrowed };
-
-    ghost reads_back = { map-reads_back T.reading T.tree_of T.always T.readable T.same_reading T.reads_back };
+    ghost laws = { entries-laws T.laws };
 }
 
 /// Reads the map before which the parser stands. Its values may borrow of the input where `borrows` says so.
@@ -81,9 +66,9 @@ fn map_in<'t, 'de, T: Facet<'de>>(
     parser: &mut JsonParser<'de>,
     borrows: bool,
 ) -> Result<BTreeMap<String, T>, DeserializeError<'t>>
-    ensures read { IfOk result (λ m. IsRead (map_of (cond borrows T.reading_borrowed T.reading)) parser.old (seen_entries T.view m.entries) parser.new) }
+    ensures read { IfOk result (λ m. IsRead (map_of (cond borrows T.shape.reading_borrowed T.shape.reading)) parser.old (seen_entries T.view m.entries) parser.new) }
     ensures owned { borrows ≡ false → IfOk result (λ m. All (λ e. T.owned e.1) m.entries) }
-    ensures unread { IfErr result (λ e. IsUnread (map_of (cond borrows T.reading_borrowed T.reading)) parser.old (refusal_of e)) }
+    ensures unread { IfErr result (λ e. IsUnread (map_of (cond borrows T.shape.reading_borrowed T.shape.reading)) parser.old (refusal_of e)) }
     ensures keeps { KeepsOn parser.old parser.new }
     ensures shorter { OnOk result (ahead parser.new < ahead parser.old) }
     ensures one_value { OnOk result (PassesValue parser.old parser.new) }

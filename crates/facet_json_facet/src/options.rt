@@ -19,28 +19,18 @@ use std::alloc::Global;
 /// <Option<bool> as Facet>::read_owned(alloc, &mut JsonParser::new(alloc, b"true"))     Ok: Some(true)
 /// ```
 impl<'de, T: Facet<'de>> Facet<'de> for Option<T> {
-    ghost use Rattle.std.specs.Prelude.{Option, false};
+    ghost use Rattle.std.specs.Prelude.{Option};
     ghost use Rattle.std.specs.Option.{option_map, IfSome};
-    ghost use Rattle.facet_json_meaning.specs.Optional.{optional, optional_tree, OptionalReadable};
-    ghost use Rattle.facet_json_meaning.proofs.Nullable.OptionalLaws.{optional-same, optional-reads_back};
+    ghost use Rattle.facet_json_meaning.specs.Shapes.{nullable};
+    ghost use Rattle.facet_json_meaning.proofs.TypeLaws.{nullable-laws};
 
     ghost View = { Option T.View };
 
     ghost view = { λ o. option_map T.view o };
 
-    ghost reading = { optional T.reading };
-
-    ghost reading_borrowed = { optional T.reading_borrowed };
-
-    ghost tree_of = { optional_tree T.tree_of };
-
-    ghost always = { λ o. IfSome o T.always };
-
-    ghost readable = { OptionalReadable T.tree_of T.readable };
+    ghost shape = { nullable T.shape };
 
     ghost owned = { λ o. IfSome o T.owned };
-
-    ghost whole = { false };
 
     fn read_owned<'t>(
         alloc: Global,
@@ -63,11 +53,7 @@ impl<'de, T: Facet<'de>> Facet<'de> for Option<T> {
         }
     }
 
-    ghost same_reading = { optional-same T.reading T.same_reading };
-
-    ghost same_reading_borrowed = { optional-same T.reading_borrowed T.same_reading_borrowed };
-
-    ghost reads_back = { optional-reads_back T.reading T.tree_of T.always T.readable T.reads_back };
+    ghost laws = { nullable-laws T.laws };
 }
 
 /// Reads the value before which the parser stands, or null. It may borrow of the input where `borrows` says so.
@@ -80,9 +66,9 @@ fn optional_in<'t, 'de, T: Facet<'de>>(
     parser: &mut JsonParser<'de>,
     borrows: bool,
 ) -> Result<Option<T>, DeserializeError<'t>>
-    ensures read { IfOk result (λ o. IsRead (optional (cond borrows T.reading_borrowed T.reading)) parser.old (option_map T.view o) parser.new) }
+    ensures read { IfOk result (λ o. IsRead (optional (cond borrows T.shape.reading_borrowed T.shape.reading)) parser.old (option_map T.view o) parser.new) }
     ensures owned { borrows ≡ false → IfOk result (λ o. IfSome o T.owned) }
-    ensures unread { IfErr result (λ e. IsUnread (optional (cond borrows T.reading_borrowed T.reading)) parser.old (refusal_of e)) }
+    ensures unread { IfErr result (λ e. IsUnread (optional (cond borrows T.shape.reading_borrowed T.shape.reading)) parser.old (refusal_of e)) }
     ensures keeps { KeepsOn parser.old parser.new }
     ensures shorter { OnOk result (ahead parser.new < ahead parser.old) }
     ensures one_value { OnOk result (PassesValue parser.old parser.new) }

@@ -14,30 +14,18 @@ use facet_json_serializer::{JsonSerializeError, JsonSerializer};
 use std::alloc::Global;
 
 impl<'de> Facet<'de> for RawJson<'de> {
-    ghost use Rattle.std.specs.Prelude.{◌≡◌, ℕ, List, true, false};
-    ghost use Rattle.std.specs.Str.{is_utf8};
+    ghost use Rattle.std.specs.Prelude.{◌≡◌, ℕ, List, true};
     ghost use Rattle.facet_format.specs.Event.{bytes_of, is_owned};
-    ghost use Rattle.facet_json_document.specs.Tree.{raw as raw_tree};
-    ghost use Rattle.facet_json_meaning.specs.Readings.{raw_of, IsBareDocument};
-    ghost use Rattle.facet_json_meaning.proofs.Leaves.RawLaws.{raw-same, raw-reads_back};
+    ghost use Rattle.facet_json_meaning.specs.Types.{raw};
+    ghost use Rattle.facet_json_meaning.proofs.TypeLaws.{raw-laws};
 
     ghost View = { List ℕ };
 
     ghost view = { bytes_of };
 
-    ghost reading = { raw_of };
-
-    ghost reading_borrowed = { raw_of };
-
-    ghost tree_of = { raw_tree };
-
-    ghost always = { λ json. is_utf8 json ≡ true };
-
-    ghost readable = { IsBareDocument };
+    ghost shape = { raw };
 
     ghost owned = { λ raw. is_owned raw ≡ true };
-
-    ghost whole = { false };
 
     fn read_owned<'t>(
         alloc: Global,
@@ -69,11 +57,7 @@ impl<'de> Facet<'de> for RawJson<'de> {
         serializer.raw_scalar(self.as_str())
     }
 
-    ghost same_reading = { raw-same };
-
-    ghost same_reading_borrowed = { raw-same };
-
-    ghost reads_back = { raw-reads_back };
+    ghost laws = { raw-laws };
 }
 
 /// The text of the value before which the parser stands, as it stands in the input.

@@ -74,23 +74,14 @@ impl Leaf for String {
 /// ```
 impl<'de> Facet<'de> for &'de str {
     ghost use Rattle.std.specs.Prelude.{ℕ, List, true};
-    ghost use Rattle.facet_json_document.specs.Tree.{text as text_tree};
-    ghost use Rattle.facet_json_meaning.specs.Borrowed.{borrowed_text, unread_text};
-    ghost use Rattle.facet_json_meaning.proofs.Leaves.BorrowedLaws.{borrowed-same, unread-same, unread-reads_back};
+    ghost use Rattle.facet_json_meaning.specs.Types.{borrowed};
+    ghost use Rattle.facet_json_meaning.proofs.TypeLaws.{borrowed-laws};
 
     ghost View = { List ℕ };
 
     ghost view = { λ s. s.now };
 
-    ghost reading = { unread_text };
-
-    ghost reading_borrowed = { borrowed_text };
-
-    ghost tree_of = { text_tree };
-
-    ghost always = { λ _. Unit {0} };
-
-    ghost readable = { λ t. ⊥ };
+    ghost shape = { borrowed };
 
     ghost owned = { λ _. ⊥ };
 
@@ -119,11 +110,7 @@ impl<'de> Facet<'de> for &'de str {
         serializer.scalar(ScalarValue::Str(CowStr::Borrowed(*self)))
     }
 
-    ghost same_reading = { unread-same };
-
-    ghost same_reading_borrowed = { borrowed-same };
-
-    ghost reads_back = { unread-reads_back };
+    ghost laws = { borrowed-laws };
 }
 
 /// The text with memory of its own.

@@ -18,26 +18,16 @@ use std::alloc::Global;
 /// Reading recurses once for each list or object within another.
 impl<'de> Facet<'de> for Tree {
     ghost use Rattle.std.specs.Prelude.{true};
-    ghost use Rattle.facet_json_document.specs.Meaning.{tree_of as tree_of_node};
     ghost use Rattle.facet_json_document.specs.Tree.{Tree as SpecTree};
-    ghost use Rattle.facet_json_document.specs.AsRead.{WellFormed};
-    ghost use Rattle.facet_json_meaning.specs.Trees.{IsReadableTree};
-    ghost use Rattle.facet_json_meaning.proofs.OfTrees.TreeLaws.{tree-same, tree-reads_back};
+    ghost use Rattle.facet_json_meaning.specs.Types.{any};
+    ghost use Rattle.facet_json_meaning.proofs.TypeLaws.{any-laws};
     ghost use Rattle.facet_json_tree.specs.Views.{tree_view};
 
     ghost View = { SpecTree };
 
     ghost view = { tree_view };
 
-    ghost reading = { tree_of_node };
-
-    ghost reading_borrowed = { tree_of_node };
-
-    ghost tree_of = { λ t. t };
-
-    ghost always = { WellFormed };
-
-    ghost readable = { IsReadableTree };
+    ghost shape = { any };
 
     ghost whole = { true };
 
@@ -56,9 +46,5 @@ impl<'de> Facet<'de> for Tree {
         write_tree(serializer, self)
     }
 
-    ghost same_reading = { tree-same };
-
-    ghost same_reading_borrowed = { tree-same };
-
-    ghost reads_back = { tree-reads_back };
+    ghost laws = { any-laws };
 }

@@ -16,7 +16,7 @@ struct Person<'de> {
 }
 
 impl<'de> Facet<'de> for Person<'de> {
-    ghost use Rattle.std.specs.Prelude.{ℕ, ℤ, List, false};
+    ghost use Rattle.std.specs.Prelude.{ℕ, List};
     ghost use Rattle.facet_json_facet_tests.specs.Lent.{lent_person};
     ghost use Rattle.facet_json_facet_tests.specs.LentLaws.{lent_person-laws};
 
@@ -24,17 +24,7 @@ impl<'de> Facet<'de> for Person<'de> {
 
     ghost view = { λ p. (p.name.now, (p.age, tt)) };
 
-    ghost reading = { lent_person.reading };
-
-    ghost reading_borrowed = { lent_person.reading_borrowed };
-
-    ghost tree_of = { lent_person.tree_of };
-
-    ghost always = { lent_person.always };
-
-    ghost readable = { lent_person.readable };
-
-    ghost whole = { false };
+    ghost shape = { lent_person };
 
     fn read_owned<'t>(
         alloc: Global,
@@ -57,11 +47,7 @@ impl<'de> Facet<'de> for Person<'de> {
         write_fields(serializer, &["name", "age"], &fields)
     }
 
-    ghost same_reading = { lent_person-laws.same_reading };
-
-    ghost same_reading_borrowed = { lent_person-laws.same_reading_borrowed };
-
-    ghost reads_back = { lent_person-laws.reads_back };
+    ghost laws = { lent_person-laws };
 }
 
 /// A point, as `{"label":"origin","x":0,"y":0}`.
@@ -73,7 +59,7 @@ struct Labelled<'de> {
 }
 
 impl<'de> Facet<'de> for Labelled<'de> {
-    ghost use Rattle.std.specs.Prelude.{ℕ, ℤ, List, false};
+    ghost use Rattle.std.specs.Prelude.{ℕ, ℤ, List};
     ghost use Rattle.facet_json_facet_tests.specs.Lent.{labelled};
     ghost use Rattle.facet_json_facet_tests.specs.LentLaws.{labelled-laws};
 
@@ -81,17 +67,7 @@ impl<'de> Facet<'de> for Labelled<'de> {
 
     ghost view = { λ p. (p.label.now, (p.x, (p.y, tt))) };
 
-    ghost reading = { labelled.reading };
-
-    ghost reading_borrowed = { labelled.reading_borrowed };
-
-    ghost tree_of = { labelled.tree_of };
-
-    ghost always = { labelled.always };
-
-    ghost readable = { labelled.readable };
-
-    ghost whole = { false };
+    ghost shape = { labelled };
 
     fn read_owned<'t>(
         alloc: Global,
@@ -124,11 +100,7 @@ impl<'de> Facet<'de> for Labelled<'de> {
         write_fields(serializer, &["label", "x", "y"], &fields)
     }
 
-    ghost same_reading = { labelled-laws.same_reading };
-
-    ghost same_reading_borrowed = { labelled-laws.same_reading_borrowed };
-
-    ghost reads_back = { labelled-laws.reads_back };
+    ghost laws = { labelled-laws };
 }
 
 /// Whether the text is read as this value, which is written as this text.

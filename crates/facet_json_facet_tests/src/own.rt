@@ -22,15 +22,7 @@ impl<'de, T: Facet<'de>> Facet<'de> for Named<T> {
 
     ghost view = { λ named. T.view named.0 };
 
-    ghost reading = { T.reading };
-
-    ghost reading_borrowed = { T.reading_borrowed };
-
-    ghost tree_of = { T.tree_of };
-
-    ghost always = { T.always };
-
-    ghost readable = { T.readable };
+    ghost shape = { T.shape };
 
     ghost owned = { λ named. T.owned named.0 };
 
@@ -54,11 +46,7 @@ impl<'de, T: Facet<'de>> Facet<'de> for Named<T> {
         self.0.write(serializer)
     }
 
-    ghost same_reading = { T.same_reading };
-
-    ghost same_reading_borrowed = { T.same_reading_borrowed };
-
-    ghost reads_back = { T.reads_back };
+    ghost laws = { T.laws };
 }
 
 /// A whole number from 0 to 100.
@@ -66,24 +54,15 @@ impl<'de, T: Facet<'de>> Facet<'de> for Named<T> {
 struct Percent(u8);
 
 impl<'de> Facet<'de> for Percent {
-    ghost use Rattle.std.specs.Prelude.{ℕ, true, ◌≤◌};
-    ghost use Rattle.facet_json_document.specs.Tree.{u64 as u64_tree};
+    ghost use Rattle.std.specs.Prelude.{ℕ, true};
     ghost use Rattle.facet_json_facet_tests.specs.Percents.{percent};
-    ghost use Rattle.facet_json_facet_tests.specs.PercentLaws.{percent-same, percent-reads_back};
+    ghost use Rattle.facet_json_facet_tests.specs.PercentLaws.{percent-laws};
 
     ghost View = { ℕ };
 
     ghost view = { λ share. share.0 };
 
-    ghost reading = { percent };
-
-    ghost reading_borrowed = { percent };
-
-    ghost tree_of = { u64_tree };
-
-    ghost always = { λ _. Unit {0} };
-
-    ghost readable = { λ n. n ≤ 100 };
+    ghost shape = { percent };
 
     ghost whole = { true };
 
@@ -110,11 +89,7 @@ impl<'de> Facet<'de> for Percent {
         self.0.write(serializer)
     }
 
-    ghost same_reading = { percent-same };
-
-    ghost same_reading_borrowed = { percent-same };
-
-    ghost reads_back = { percent-reads_back };
+    ghost laws = { percent-laws };
 }
 
 /// The refusal of a number above 100, which stands there.

@@ -8,5 +8,6 @@ pub mod OneValue
 pub mod Refusals
 pub mod Sequences
 pub mod StrictTexts
+pub mod TypeLaws
 pub mod WalkPlaces
 pub mod Walks

@@ -14,6 +14,8 @@ pub mod Peeking
 pub mod Inner
 pub mod Lists
 pub mod ListSteps
+pub mod Shapes
 pub mod Trees
+pub mod Types
 pub use Rattle.facet_json_core.specs.Reading as ValueReading
 pub use Rattle.facet_json_core.specs.Refusing as Refusing

@@ -13,17 +13,17 @@ use Rattle.facet_json.proofs.strict.whole_value.Goals as goal
 pub returns-in_err-value-clause-unread : goal.returns-in_err-value-clause-unread
 returns-in_err-value-clause-unread g c input is =
     let p = err_from_is_err_and c.from_residual.result c.from_residual.ensures.1 in
-    rw (p.1, p.2) (unread-strictly g.T.Facet.reading input c.args.parser.now is (refusal_of c.in_err-value.field-0.0) c.in_err-value.ensures.unread)
+    rw (p.1, p.2) (unread-strictly g.T.Facet.shape.reading input c.args.parser.now is (refusal_of c.in_err-value.field-0.0) c.in_err-value.ensures.unread)
 
 pub returns-in_err-pass_end-clause-unread : goal.returns-in_err-pass_end-clause-unread
 returns-in_err-pass_end-clause-unread g c input is =
     let p = err_from_is_err_and c.from_residual-in_err-pass_end.result c.from_residual-in_err-pass_end.ensures.1 in
-    rw (p.1, p.2) (left-unread_strictly g.T.Facet.reading input c.args.parser.now is (g.T.Facet.view c.in_ok-value.value) c.read_owned.new.parser
+    rw (p.1, p.2) (left-unread_strictly g.T.Facet.shape.reading input c.args.parser.now is (g.T.Facet.view c.in_ok-value.value) c.read_owned.new.parser
     c.in_ok-value.ensures.read c.in_err-pass_end.ensures.only (refusal_of c.in_err-pass_end.field-0.0))
 
 pub returns-clause-read : goal.returns-clause-read
 returns-clause-read g c input is =
-    read-strictly g.T.Facet.reading input c.args.parser.now is (g.T.Facet.view c.in_ok-value.value) c.read_owned.new.parser c.in_ok-value.ensures.read
+    read-strictly g.T.Facet.shape.reading input c.args.parser.now is (g.T.Facet.view c.in_ok-value.value) c.read_owned.new.parser c.in_ok-value.ensures.read
 
 pub returns-clause-document : goal.returns-clause-document
 returns-clause-document g c input is whole = c.in_ok-value.ensures.strict whole input is c.in_ok-pass_end.ensures.over.over

@@ -15,13 +15,13 @@ use Rattle.facet_json_facet.proofs.lists.list_in.Goals as goal
 
 pub returns-in_err-begin_list-clause-unread : goal.returns-in_err-begin_list-clause-unread
 returns-in_err-begin_list-clause-unread g c =
-    let reading = cond c.args.borrows g.T.Facet.reading_borrowed g.T.Facet.reading in
+    let reading = cond c.args.borrows g.T.Facet.shape.reading_borrowed g.T.Facet.shape.reading in
     let p = err_from_is_err_and c.from_residual.result c.from_residual.ensures.1 in
     rw (p.1, p.2) (list-none reading c.args.parser.now (refusal_of c.in_err-begin_list.field-0.0) c.in_err-begin_list.ensures.refused)
 
 pub loop-items-init : goal.loop-items-init
 loop-items-init g c =
-    let reading = cond c.args.borrows g.T.Facet.reading_borrowed g.T.Facet.reading in
+    let reading = cond c.args.borrows g.T.Facet.shape.reading_borrowed g.T.Facet.shape.reading in
     let begun = list-begins reading c.args.parser.now c.begin_list.new.parser c.in_ok-begin_list.ensures.begins in
     record {
       so_far =
@@ -35,13 +35,13 @@ loop-items-init g c =
 
 pub returns-in_err-take_end-clause-unread : goal.returns-in_err-take_end-clause-unread
 returns-in_err-take_end-clause-unread g c =
-    let reading = cond c.args.borrows g.T.Facet.reading_borrowed g.T.Facet.reading in
+    let reading = cond c.args.borrows g.T.Facet.shape.reading_borrowed g.T.Facet.shape.reading in
     let p = err_from_is_err_and c.from_residual-in_err-take_end.result c.from_residual-in_err-take_end.ensures.1 in
     rw (p.1, p.2) (list-unseen reading _ _ _ (refusal_of c.in_err-take_end.field-0.0) c.loop-items.invariant.so_far c.in_err-take_end.ensures.lacks)
 
 pub returns-in_err-value_in-clause-unread : goal.returns-in_err-value_in-clause-unread
 returns-in_err-value_in-clause-unread g c =
-    let reading = cond c.args.borrows g.T.Facet.reading_borrowed g.T.Facet.reading in
+    let reading = cond c.args.borrows g.T.Facet.shape.reading_borrowed g.T.Facet.shape.reading in
     let goes : c.in_ok-take_end.field-0 ≡ false = search rules in
     let stays = c.in_ok-take_end.ensures.stays goes in
     let before = list-goes_on reading _ _ c.take_end.new.parser _ c.loop-items.invariant.so_far stays in
@@ -53,7 +53,7 @@ loop-items-preserved g c =
     let i = c.loop-items.invariant in
     let view = g.T.Facet.view in
     let v = c.in_ok-value_in.field-0 in
-    let reading = cond c.args.borrows g.T.Facet.reading_borrowed g.T.Facet.reading in
+    let reading = cond c.args.borrows g.T.Facet.shape.reading_borrowed g.T.Facet.shape.reading in
     let goes : c.in_ok-take_end.field-0 ≡ false = search rules in
     let stays = c.in_ok-take_end.ensures.stays goes in
     let before = list-goes_on reading _ _ c.take_end.new.parser _ i.so_far stays in
@@ -73,7 +73,7 @@ loop-items-preserved g c =
 
 pub returns-clause-read : goal.returns-clause-read
 returns-clause-read g c =
-    let reading = cond c.args.borrows g.T.Facet.reading_borrowed g.T.Facet.reading in
+    let reading = cond c.args.borrows g.T.Facet.shape.reading_borrowed g.T.Facet.shape.reading in
     let ends : c.in_ok-take_end.field-0 ≡ true = search rules in
     list-ends reading _ _ _ _ c.loop-items.invariant.so_far (c.in_ok-take_end.ensures.taken ends).takes
 

@@ -9,7 +9,7 @@ use Rattle.facet_json_facet.proofs.lists.list_in.Given as goal
 
 abbrev pub invariant-loop-items : goal.invariant-loop-items
 invariant-loop-items g l = record {
-  so_far : ReadSoFar (cond l.fn.borrows g.T.Facet.reading_borrowed g.T.Facet.reading) l.fn.parser (map g.T.Facet.view l.items.items) l.parser;
+  so_far : ReadSoFar (cond l.fn.borrows g.T.Facet.shape.reading_borrowed g.T.Facet.shape.reading) l.fn.parser (map g.T.Facet.view l.items.items) l.parser;
   owned : l.fn.borrows ≡ false → All g.T.Facet.owned l.items.items;
   keeps : KeepsOn l.fn.parser l.parser;
   shorter : ahead l.parser < ahead l.fn.parser;

@@ -14,33 +14,33 @@ use Rattle.facet_json_facet.proofs.maps.map_in.Goals as goal
 pub returns-in_err-begin_object-clause-unread : goal.returns-in_err-begin_object-clause-unread
 returns-in_err-begin_object-clause-unread g c =
     let p = err_from_is_err_and c.from_residual.result c.from_residual.ensures.1 in
-    rw (p.1, p.2) (map-not_begun (cond c.args.borrows g.T.Facet.reading_borrowed g.T.Facet.reading) _ (refusal_of c.in_err-begin_object.field-0.0) c.in_err-begin_object.ensures.unread)
+    rw (p.1, p.2) (map-not_begun (cond c.args.borrows g.T.Facet.shape.reading_borrowed g.T.Facet.shape.reading) _ (refusal_of c.in_err-begin_object.field-0.0) c.in_err-begin_object.ensures.unread)
 
 pub loop-map-init : goal.loop-map-init
 loop-map-init g c =
     let begun = c.in_ok-begin_object.ensures in
     record {
-      way = entries-begin (cond c.args.borrows g.T.Facet.reading_borrowed g.T.Facet.reading) g.T.Facet.view _ _ c.new-map.result.entries begun.begun begun.onward begun.shorter begun.inside c.new-map.ensures.empty;
+      way = entries-begin (cond c.args.borrows g.T.Facet.shape.reading_borrowed g.T.Facet.shape.reading) g.T.Facet.view _ _ c.new-map.result.entries begun.begun begun.onward begun.shorter begun.inside c.new-map.ensures.empty;
       owned = λ lent. All-same (λ e. g.T.Facet.owned e.1) _ [] c.new-map.ensures.empty (All-nil (λ e. g.T.Facet.owned e.1));
     }
 
 pub returns-in_err-key-clause-unread : goal.returns-in_err-key-clause-unread
 returns-in_err-key-clause-unread g c =
     let p = err_from_is_err_and c.from_residual-in_err-key.result c.from_residual-in_err-key.ensures.1 in
-    rw (p.1, p.2) (map-no_key (cond c.args.borrows g.T.Facet.reading_borrowed g.T.Facet.reading) _ _ _ (refusal_of c.in_err-key.field-0.0) c.loop-map.invariant.way.left c.in_err-key.ensures.lacks)
+    rw (p.1, p.2) (map-no_key (cond c.args.borrows g.T.Facet.shape.reading_borrowed g.T.Facet.shape.reading) _ _ _ (refusal_of c.in_err-key.field-0.0) c.loop-map.invariant.way.left c.in_err-key.ensures.lacks)
 
 pub returns-in_err-value-clause-unread : goal.returns-in_err-value-clause-unread
 returns-in_err-value-clause-unread g c =
     let p = err_from_is_err_and c.from_residual-in_err-value.result c.from_residual-in_err-value.ensures.1 in
     let named = rw c.in-Some.is at c.in_ok-key.ensures.passed in
-    rw (p.1, p.2) (map-no_value (cond c.args.borrows g.T.Facet.reading_borrowed g.T.Facet.reading) _ _ _ _ (string_bytes c.in-Some.key) (refusal_of c.in_err-value.field-0.0) c.loop-map.invariant.way.left named c.in_err-value.ensures.unread)
+    rw (p.1, p.2) (map-no_value (cond c.args.borrows g.T.Facet.shape.reading_borrowed g.T.Facet.shape.reading) _ _ _ _ (string_bytes c.in-Some.key) (refusal_of c.in_err-value.field-0.0) c.loop-map.invariant.way.left named c.in_err-value.ensures.unread)
 
 pub loop-map-preserved : goal.loop-map-preserved
 loop-map-preserved g c =
     let key = c.in_ok-key.ensures in
     let value = c.in_ok-value.ensures in
     record {
-      way = entry-read (cond c.args.borrows g.T.Facet.reading_borrowed g.T.Facet.reading) g.T.Facet.view c.args.parser.now c.loop-map.parser c.next_key.new.parser _ c.loop-map.map.entries c.put.new.map.entries c.in_ok-key.field-0 c.in-Some.key c.in_ok-value.value c.loop-map.invariant.way key.passed key.member c.in-Some.is key.onward value.read value.keeps value.one_value c.in_ok-put.ensures.put;
+      way = entry-read (cond c.args.borrows g.T.Facet.shape.reading_borrowed g.T.Facet.shape.reading) g.T.Facet.view c.args.parser.now c.loop-map.parser c.next_key.new.parser _ c.loop-map.map.entries c.put.new.map.entries c.in_ok-key.field-0 c.in-Some.key c.in_ok-value.value c.loop-map.invariant.way key.passed key.member c.in-Some.is key.onward value.read value.keeps value.one_value c.in_ok-put.ensures.put;
       owned = λ lent.
           All-same (λ e. g.T.Facet.owned e.1) _ _ c.in_ok-put.ensures.put
           (all-inserted string_cmp g.T.Facet.owned c.loop-map.map.entries c.in-Some.key c.in_ok-value.value (c.loop-map.invariant.owned lent) (value.owned lent));
@@ -49,7 +49,7 @@ loop-map-preserved g c =
 pub returns-clause-read : goal.returns-clause-read
 returns-clause-read g c =
     let ended = rw c.in_default.is at c.in_ok-key.ensures.passed in
-    map-ends (cond c.args.borrows g.T.Facet.reading_borrowed g.T.Facet.reading) _ _ _ _ c.loop-map.invariant.way.left ended
+    map-ends (cond c.args.borrows g.T.Facet.shape.reading_borrowed g.T.Facet.shape.reading) _ _ _ _ c.loop-map.invariant.way.left ended
 
 pub returns-clause-owned : goal.returns-clause-owned
 returns-clause-owned g c lent = c.loop-map.invariant.owned lent

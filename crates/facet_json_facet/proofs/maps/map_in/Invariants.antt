@@ -6,7 +6,7 @@ use Rattle.facet_json_facet.proofs.maps.map_in.Given as goal
 
 abbrev pub invariant-loop-map : goal.invariant-loop-map
 invariant-loop-map g l = record {
-  way : IsUnderWay (cond l.fn.borrows g.T.Facet.reading_borrowed g.T.Facet.reading) g.T.Facet.view l.fn.parser l.map.entries l.parser;
+  way : IsUnderWay (cond l.fn.borrows g.T.Facet.shape.reading_borrowed g.T.Facet.shape.reading) g.T.Facet.view l.fn.parser l.map.entries l.parser;
   owned : l.fn.borrows ≡ false → All (λ e. g.T.Facet.owned e.1) l.map.entries;
 }
 

@@ -11,23 +11,23 @@ use Rattle.facet_json_facet.proofs.options.optional_in.Goals as goal
 pub returns-in_err-take_null-clause-unread : goal.returns-in_err-take_null-clause-unread
 returns-in_err-take_null-clause-unread g c =
     let p = err_from_is_err_and c.from_residual.result c.from_residual.ensures.1 in
-    rw (p.1, p.2) (none-unread (optional (cond c.args.borrows g.T.Facet.reading_borrowed g.T.Facet.reading)) _ _ c.in_err-take_null.ensures.lacks)
+    rw (p.1, p.2) (none-unread (optional (cond c.args.borrows g.T.Facet.shape.reading_borrowed g.T.Facet.shape.reading)) _ _ c.in_err-take_null.ensures.lacks)
 
 pub returns-then-branch-clause-read : goal.returns-then-branch-clause-read
 returns-then-branch-clause-read g c =
     let taken = c.in_ok-take_null.ensures.taken c.if-branch.true in
-    null-read (cond c.args.borrows g.T.Facet.reading_borrowed g.T.Facet.reading) _ _ taken.takes
+    null-read (cond c.args.borrows g.T.Facet.shape.reading_borrowed g.T.Facet.shape.reading) _ _ taken.takes
 
 pub returns-in_err-value_in-clause-unread : goal.returns-in_err-value_in-clause-unread
 returns-in_err-value_in-clause-unread g c =
     let p = err_from_is_err_and c.from_residual-in_err-value_in.result c.from_residual-in_err-value_in.ensures.1 in
     let stays = c.in_ok-take_null.ensures.stays c.if-branch.false in
-    rw (p.1, p.2) (value-unread (cond c.args.borrows g.T.Facet.reading_borrowed g.T.Facet.reading) _ _ (refusal_of c.in_err-value_in.field-0.0) stays c.in_err-value_in.ensures.unread)
+    rw (p.1, p.2) (value-unread (cond c.args.borrows g.T.Facet.shape.reading_borrowed g.T.Facet.shape.reading) _ _ (refusal_of c.in_err-value_in.field-0.0) stays c.in_err-value_in.ensures.unread)
 
 pub returns-clause-read : goal.returns-clause-read
 returns-clause-read g c =
     let stays = c.in_ok-take_null.ensures.stays c.if-branch.false in
-    value-read (cond c.args.borrows g.T.Facet.reading_borrowed g.T.Facet.reading) _ _ _ _ stays c.in_ok-value_in.ensures.read
+    value-read (cond c.args.borrows g.T.Facet.shape.reading_borrowed g.T.Facet.shape.reading) _ _ _ _ stays c.in_ok-value_in.ensures.read
 
 pub returns-in_err-value_in-clause-tells : goal.returns-in_err-value_in-clause-tells
 returns-in_err-value_in-clause-tells g c =

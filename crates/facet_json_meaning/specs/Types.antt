@@ -1,5 +1,5 @@
--- How the values of each type are read and written that has the trait. A type that may be null, `Option`, is `nullable` of `Shapes`.
-use Rattle.std.specs.Prelude.{◌≡◌, ℕ, ◌^◌, ◌<◌, ℤ, Bool, true, List}
+-- How the values of each type are read and written that has the trait; `Option` is `nullable` of `Shapes`.
+use Rattle.std.specs.Prelude.{◌≡◌, ℕ, ◌^◌, ◌<◌, ℤ, Bool, true, List, Option}
 use Rattle.std.specs.List.{All}
 use Rattle.std.specs.Str.{is_utf8}
 use Rattle.facet_json_document.specs.Meaning.{tree_of}
@@ -11,20 +11,24 @@ use Rattle.facet_json_meaning.specs.Lists.{list_of, list_by}
 use Rattle.facet_json_meaning.specs.Maps.{Entries, map_of, tree_of_entries, IsMap, IsReadableMap}
 use Rattle.facet_json_meaning.specs.Readings.{leaf, bool_of, unsigned_of, signed_of, text_of_tree, u128_of, i128_of, raw_of, IsBareDocument}
 use Rattle.facet_json_meaning.specs.Trees.{IsReadableTree}
-use Rattle.facet_json.specs.Shapes.{Shape, shape}
+use Rattle.facet_json_meaning.specs.Shapes.{Shape, shape}
+
+-- a type that has its value from a scalar's tree, if anything is taken of it
+abbrev pub scalar : {V : Type 0} → (Tree → Option V) → (V → Tree) → (V → Type 0) → Shape V
+scalar takes tree_of always = shape (leaf takes) (leaf takes) tree_of always (λ v. Unit {0})
 
 abbrev pub bool : Shape Bool
-bool = shape (leaf bool_of) (leaf bool_of) tree.bool (λ b. Unit {0}) (λ b. Unit {0})
+bool = scalar bool_of tree.bool (λ b. Unit {0})
 
 -- ---- numbers
 
 -- a whole number without a sign that so many bits hold
 abbrev pub unsigned : ℕ → Shape ℕ
-unsigned bits = shape (leaf (unsigned_of bits)) (leaf (unsigned_of bits)) tree.u64 (λ n. n < 2 ^ bits) (λ n. Unit {0})
+unsigned bits = scalar (unsigned_of bits) tree.u64 (λ n. n < 2 ^ bits)
 
 -- a whole number that so many bits beside its sign hold
 abbrev pub signed : ℕ → Shape ℤ
-signed bits = shape (leaf (signed_of bits)) (leaf (signed_of bits)) tree.i64 (λ n. FitsBits bits n) (λ n. Unit {0})
+signed bits = scalar (signed_of bits) tree.i64 (λ n. FitsBits bits n)
 
 abbrev pub u8 : Shape ℕ
 u8 = unsigned 8
@@ -40,7 +44,7 @@ abbrev pub u64 : Shape ℕ
 u64 = unsigned 64
 
 abbrev pub u128 : Shape ℕ
-u128 = shape (leaf u128_of) (leaf u128_of) tree.u128 (λ n. n < 2 ^ 128) (λ n. Unit {0})
+u128 = scalar u128_of tree.u128 (λ n. n < 2 ^ 128)
 
 abbrev pub i8 : Shape ℤ
 i8 = signed 7
@@ -56,13 +60,13 @@ abbrev pub i64 : Shape ℤ
 i64 = signed 63
 
 abbrev pub i128 : Shape ℤ
-i128 = shape (leaf i128_of) (leaf i128_of) tree.i128 (λ n. FitsBits 127 n) (λ n. Unit {0})
+i128 = scalar i128_of tree.i128 (λ n. FitsBits 127 n)
 
 -- ---- texts
 
 -- `String`
 abbrev pub text : Shape (List ℕ)
-text = shape (leaf text_of_tree) (leaf text_of_tree) tree.text (λ t. is_utf8 t ≡ true) (λ t. Unit {0})
+text = scalar text_of_tree tree.text (λ t. is_utf8 t ≡ true)
 
 -- `&str`, which is read only where it may be borrowed
 abbrev pub borrowed : Shape (List ℕ)

@@ -14,49 +14,49 @@ use Rattle.facet_json_meaning.proofs.OfTrees.TreeLaws.{tree-same, tree-reads_bac
 use Rattle.facet_json_meaning.proofs.Leaves.TruthLaws.{bool-reads_back}
 use Rattle.facet_json_meaning.proofs.Leaves.WholeNumbers.{u8-reads_back, u16-reads_back, u32-reads_back, u64-reads_back, i8-reads_back, i16-reads_back, i32-reads_back, i64-reads_back}
 use Rattle.facet_json_meaning.proofs.Leaves.WideNumbers.{u128-reads_back, i128-reads_back}
-use Rattle.facet_json.specs.Shapes.{Shape, ShapeLaws, shape}
-use Rattle.facet_json.specs.Types as types
+use Rattle.facet_json_meaning.proofs.Nullable.OptionalLaws.{optional-same, optional-reads_back}
+use Rattle.facet_json_meaning.specs.Shapes.{Shape, ShapeLaws, nullable}
+use Rattle.facet_json_meaning.specs.Types as types
 
--- a type of leaves, each read alike wherever it stands
-leaf-laws : {V : Type 0} (of : Tree → Option V) {tree_of : V → Tree} {always readable : V → Type 0} → ReadsBack (leaf of) tree_of always readable
-    → ShapeLaws (shape (leaf of) (leaf of) tree_of always readable)
-leaf-laws of back = record { same_reading = leaf-same of; same_reading_borrowed = leaf-same of; reads_back = back }
+pub scalar-laws : {V : Type 0} (takes : Tree → Option V) {tree_of : V → Tree} {always : V → Type 0} →
+    ReadsBack (leaf takes) tree_of always (λ v. Unit {0}) → ShapeLaws (types.scalar takes tree_of always)
+scalar-laws takes back = record { same_reading = leaf-same takes; same_reading_borrowed = leaf-same takes; reads_back = back }
 
 pub bool-laws : ShapeLaws types.bool
-bool-laws = leaf-laws bool_of bool-reads_back
+bool-laws = scalar-laws bool_of bool-reads_back
 
 pub u8-laws : ShapeLaws types.u8
-u8-laws = leaf-laws (unsigned_of 8) u8-reads_back
+u8-laws = scalar-laws (unsigned_of 8) u8-reads_back
 
 pub u16-laws : ShapeLaws types.u16
-u16-laws = leaf-laws (unsigned_of 16) u16-reads_back
+u16-laws = scalar-laws (unsigned_of 16) u16-reads_back
 
 pub u32-laws : ShapeLaws types.u32
-u32-laws = leaf-laws (unsigned_of 32) u32-reads_back
+u32-laws = scalar-laws (unsigned_of 32) u32-reads_back
 
 pub u64-laws : ShapeLaws types.u64
-u64-laws = leaf-laws (unsigned_of 64) u64-reads_back
+u64-laws = scalar-laws (unsigned_of 64) u64-reads_back
 
 pub u128-laws : ShapeLaws types.u128
-u128-laws = leaf-laws u128_of u128-reads_back
+u128-laws = scalar-laws u128_of u128-reads_back
 
 pub i8-laws : ShapeLaws types.i8
-i8-laws = leaf-laws (signed_of 7) i8-reads_back
+i8-laws = scalar-laws (signed_of 7) i8-reads_back
 
 pub i16-laws : ShapeLaws types.i16
-i16-laws = leaf-laws (signed_of 15) i16-reads_back
+i16-laws = scalar-laws (signed_of 15) i16-reads_back
 
 pub i32-laws : ShapeLaws types.i32
-i32-laws = leaf-laws (signed_of 31) i32-reads_back
+i32-laws = scalar-laws (signed_of 31) i32-reads_back
 
 pub i64-laws : ShapeLaws types.i64
-i64-laws = leaf-laws (signed_of 63) i64-reads_back
+i64-laws = scalar-laws (signed_of 63) i64-reads_back
 
 pub i128-laws : ShapeLaws types.i128
-i128-laws = leaf-laws i128_of i128-reads_back
+i128-laws = scalar-laws i128_of i128-reads_back
 
 pub text-laws : ShapeLaws types.text
-text-laws = leaf-laws text_of_tree text-reads_back
+text-laws = scalar-laws text_of_tree text-reads_back
 
 pub borrowed-laws : ShapeLaws types.borrowed
 borrowed-laws = record { same_reading = unread-same; same_reading_borrowed = borrowed-same; reads_back = unread-reads_back }
@@ -80,3 +80,10 @@ entries-laws {s = s} laws = record {
 
 pub any-laws : ShapeLaws types.any
 any-laws = record { same_reading = tree-same; same_reading_borrowed = tree-same; reads_back = tree-reads_back }
+
+pub nullable-laws : {V : Type 0} {s : Shape V} → ShapeLaws s → ShapeLaws (nullable s)
+nullable-laws {s = s} laws = record {
+  same_reading = optional-same s.reading laws.same_reading;
+  same_reading_borrowed = optional-same s.reading_borrowed laws.same_reading_borrowed;
+  reads_back = optional-reads_back s.reading s.tree_of s.always s.readable laws.reads_back;
+}
