@@ -1,5 +1,5 @@
 -- Where a format with one event ahead stands, and what its steps read: serde's `gives`, `picks` and `stays`.
-use Rattle.std.specs.Prelude.{◌≡◌, ℕ, ℤ, pos, Bool, true, false, List, Some, MatchBool, slice_range, ⊤}
+use Rattle.std.specs.Prelude.{◌≡◌, ◌⊎◌, ℕ, ℤ, pos, Bool, true, false, List, Some, MatchBool, slice_range, ⊤}
 use Rattle.std.specs.Char.{encode_utf8}
 use Rattle.std.specs.Str.Parse.{true_text, false_text, IsNumeral, digits_value, signed_digits_value, without_leading_plus, without_leading_sign}
 use Rattle.std.specs.Float.Ieee.{Float, Format, binary32, binary64}
@@ -130,10 +130,14 @@ Means input given _ = ⊤
 
 -- ---- the steps
 
--- An entry begins where a key comes, which is read by the next step. Of bytes nothing is said: they may be a list.
+-- A text of these bytes was read, or a list, of which no more is said than that it began.
+abbrev pub ReadsBytes : Json → List ℕ → Json → Type 0
+ReadsBytes old v new = (now : Now) → Stands old now → (given : Event) × (after : Now) × PassesNext now given after × ((Stands new after × IsText given.kind v) ⊎ BeginsList given.kind)
+
+-- An entry begins where a key comes, which is read by the next step.
 abbrev pub Gives : Json → List ℕ → serde.Event → Json → Type 0
 Gives old input serde.key_begins new = Shows old (λ shown. AnyKey shown.kind) new
-Gives old input (serde.octets v) new = ⊤
+Gives old input (serde.octets v) new = ReadsBytes old v new
 Gives old input e new = Reads old (λ given. Means input given e) new
 
 -- a key or a text, and the first of the names that it stands for

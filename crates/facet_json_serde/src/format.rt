@@ -1,8 +1,8 @@
 //! The steps of a `Format`, over the events of a parser.
 
-ghost use Rattle.std.specs.Prelude.{◌≡◌, true, IfOk, slice_range};
+ghost use Rattle.std.specs.Prelude.{◌≡◌, true, IfOk, OnOk, slice_range};
 ghost use Rattle.serde.specs.Event.{boolean, signed, unsigned};
-ghost use Rattle.facet_json_serde.specs.Ahead.{Gives, Picks, Stays};
+ghost use Rattle.facet_json_serde.specs.Ahead.{Gives, Picks, Stays, Shows, BeginsList};
 
 use crate::fault::{Fault, FaultKind, Sort};
 use crate::found::{digits_in, kind_of, number_in, number_key};
@@ -83,7 +83,10 @@ impl<'de> Json<'de> {
     }
 
     /// A list of bytes.
-    fn byte_list(&mut self, alloc: Global, input: &[u8]) -> Result<Vec<u8>, Fault> {
+    fn byte_list(&mut self, alloc: Global, input: &[u8]) -> Result<Vec<u8>, Fault>
+        ensures { OnOk result
+            (Shows self.old (λ shown. BeginsList shown.kind) self.old) }
+    {
         self.begin_seq(input)?;
         let mut bytes = Vec::new(alloc);
         for _ in 0..u64::MAX {

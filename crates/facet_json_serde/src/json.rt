@@ -37,6 +37,9 @@ struct Marked<'de> {
 
 /// JSON as a `Format` of `serde`'s, for a caller who has a parser. `from_slice` and its kin make one.
 ///
+/// A step that ends well says which event of the parser's came, and that it is what was read (`Gives`, `Picks`, `Stays` in `Ahead`): so a type that is
+/// read by hand can say the same. A skip, and a return to a mark, say nothing of where the format stands.
+///
 /// ```text
 /// let mut json = Json::new(alloc, JsonParser::new(alloc, input));
 /// let read = T::deserialize(alloc, &mut Deserializer::new(input, &mut json));
