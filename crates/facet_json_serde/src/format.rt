@@ -1,13 +1,15 @@
 //! The steps of a `Format`, over the events of a parser.
 
-ghost use Rattle.std.specs.Prelude.{◌≡◌, true, IfOk, OnOk, slice_range};
-ghost use Rattle.serde.specs.Event.{boolean, signed, unsigned};
+ghost use Rattle.std.specs.Prelude.{◌≡◌, true, None, [], IfOk, OnOk, MatchBool, slice_range, string_bytes};
+ghost use Rattle.std.specs.Cow.{cow_str_bytes};
+ghost use Rattle.serde.specs.Event.{boolean, signed, unsigned, text, seq_begins, seq_ends, map_begins, struct_begins};
 ghost use Rattle.facet_json_serde.specs.Ahead.{Gives, Picks, Stays, Shows, BeginsList};
 
 use crate::fault::{Fault, FaultKind, Sort};
 use crate::found::{digits_in, kind_of, number_in, number_key};
 use crate::json::{Ahead, Json};
 use facet_format::{ParseEvent, ParseEventKind, ScalarValue, Span};
+use facet_json_reader::{ListEnd, ListStart, ObjectStart, Sought, Whole};
 use serde::{Format, Kind, Name};
 use std::alloc::Global;
 use std::borrow::CowStr;
@@ -17,6 +19,17 @@ use std::borrow::CowStr;
 #[inline(never)]
 fn out_of_range(wanted: Sort, span: Span) -> Fault {
     Fault::at(FaultKind::OutOfRange(wanted), span)
+}
+
+/// The text, in memory of its own.
+#[inline(always)]
+fn owned(alloc: Global, text: CowStr<'_>) -> Result<String, Fault>
+    ensures { IfOk result (λ s. string_bytes s ≡ cow_str_bytes text.entry) }
+{
+    match text.into_owned(alloc) {
+        Ok(text) => Ok(text),
+        Err(_) => Err(Fault::of(FaultKind::Memory)),
+    }
 }
 
 impl<'de> Json<'de> {
@@ -71,6 +84,109 @@ impl<'de> Json<'de> {
         }
     }
 
+    /// A truth value, by an event.
+    #[inline(never)]
+    fn bool_slowly(&mut self) -> Result<bool, Fault>
+        ensures { IfOk result (λ v. Gives self.old [] (boolean v) self.new) }
+    {
+        let ParseEvent { kind, span } = self.take()?;
+        match kind {
+            ParseEventKind::Scalar(ScalarValue::Bool(b)) => Ok(b),
+            kind => Err(self.mismatch(Sort::Bool, &kind, span)),
+        }
+    }
+
+    /// A whole number, by an event.
+    #[inline(never)]
+    fn i64_slowly(&mut self) -> Result<i64, Fault>
+        ensures { IfOk result (λ v. Gives self.old [] (signed v) self.new) }
+    {
+        let ParseEvent { kind, span } = self.take()?;
+        match kind {
+            ParseEventKind::Scalar(ScalarValue::I64(n)) => Ok(n),
+            ParseEventKind::Scalar(ScalarValue::U64(n)) => match i64::try_from(n) {
+                Ok(n) => Ok(n),
+                Err(_) => Err(out_of_range(Sort::I64, span)),
+            },
+            kind => Err(self.no_number(Sort::I64, &kind, span)),
+        }
+    }
+
+    /// A whole number without a sign, by an event.
+    #[inline(never)]
+    fn u64_slowly(&mut self) -> Result<u64, Fault>
+        ensures { IfOk result (λ v. Gives self.old [] (unsigned v) self.new) }
+    {
+        let ParseEvent { kind, span } = self.take()?;
+        match kind {
+            ParseEventKind::Scalar(ScalarValue::U64(n)) => Ok(n),
+            ParseEventKind::Scalar(ScalarValue::I64(n)) => match u64::try_from(n) {
+                Ok(n) => Ok(n),
+                Err(_) => Err(out_of_range(Sort::U64, span)),
+            },
+            kind => Err(self.no_number(Sort::U64, &kind, span)),
+        }
+    }
+
+    /// A text in memory of its own, as a value or as a key, by an event.
+    #[inline(never)]
+    fn string_slowly(&mut self, alloc: Global, input: &[u8]) -> Result<String, Fault>
+        ensures { IfOk result (λ v. Gives self.old [] (text (string_bytes v)) self.new) }
+    {
+        owned(alloc, self.text(input)?)
+    }
+
+    /// The beginning of a list, by an event.
+    #[inline(never)]
+    fn begin_seq_slowly(&mut self) -> Result<(), Fault>
+        ensures { OnOk result (Gives self.old [] (seq_begins None) self.new) }
+    {
+        let ParseEvent { kind, span } = self.take()?;
+        match kind {
+            ParseEventKind::SequenceStart(_) => Ok(()),
+            kind => Err(self.mismatch(Sort::Array, &kind, span)),
+        }
+    }
+
+    /// Whether an item comes, which stays the next one, by an event.
+    #[inline(never)]
+    fn next_item_slowly(&mut self) -> Result<bool, Fault>
+        ensures { IfOk result (λ b. MatchBool b (Stays self.old self.new)
+            (Gives self.old [] seq_ends self.new)) }
+    {
+        let item = self.take()?;
+        if let ParseEventKind::SequenceEnd = item.kind {
+            return Ok(false);
+        }
+        self.ahead = Ahead::Event(item);
+        Ok(true)
+    }
+
+    /// The beginning of a map, by an event.
+    #[inline(never)]
+    fn begin_map_slowly(&mut self) -> Result<(), Fault>
+        ensures { OnOk result (Gives self.old [] (map_begins None) self.new) }
+    {
+        let ParseEvent { kind, span } = self.take()?;
+        match kind {
+            ParseEventKind::StructStart(_) => Ok(()),
+            kind => Err(self.mismatch(Sort::Object, &kind, span)),
+        }
+    }
+
+    /// The beginning of a map, or of a list, by an event.
+    #[inline(never)]
+    fn begin_struct_slowly(&mut self) -> Result<bool, Fault>
+        ensures { IfOk result (λ b. Gives self.old [] (struct_begins b) self.new) }
+    {
+        let ParseEvent { kind, span } = self.take()?;
+        match kind {
+            ParseEventKind::StructStart(_) => Ok(false),
+            ParseEventKind::SequenceStart(_) => Ok(true),
+            kind => Err(self.mismatch(Sort::Object, &kind, span)),
+        }
+    }
+
     /// The next byte of a list of bytes, or `None` at its end, which it takes.
     fn next_byte(&mut self, input: &[u8]) -> Result<Option<u8>, Fault> {
         if !self.next_item(input)? {
@@ -115,44 +231,41 @@ impl<'de> Format for Json<'de> {
     #[inline(always)]
     fn bool(&mut self, input: &[u8]) -> Result<bool, Fault> {
         if self.at_key {
-            return self.bool_key(input);
+            return Ok(self.bool_key(input)?);
         }
-        let ParseEvent { kind, span } = self.take()?;
-        match kind {
-            ParseEventKind::Scalar(ScalarValue::Bool(b)) => Ok(b),
-            kind => Err(self.mismatch(Sort::Bool, &kind, span)),
+        match self.wanted() {
+            Some(truth) => Ok(truth),
+            None => Ok(self.bool_slowly()?),
         }
     }
 
     #[inline(always)]
     fn i64(&mut self, input: &[u8]) -> Result<i64, Fault> {
         if self.at_key {
-            return self.signed_key(input);
+            return Ok(self.signed_key(input)?);
         }
-        let ParseEvent { kind, span } = self.take()?;
-        match kind {
-            ParseEventKind::Scalar(ScalarValue::I64(n)) => Ok(n),
-            ParseEventKind::Scalar(ScalarValue::U64(n)) => match i64::try_from(n) {
+        match self.wanted() {
+            Some(Whole::Signed(n)) => Ok(n),
+            Some(Whole::Unsigned(n)) => match i64::try_from(n) {
                 Ok(n) => Ok(n),
-                Err(_) => Err(out_of_range(Sort::I64, span)),
+                Err(_) => Err(out_of_range(Sort::I64, self.last)),
             },
-            kind => Err(self.no_number(Sort::I64, &kind, span)),
+            None => Ok(self.i64_slowly()?),
         }
     }
 
     #[inline(always)]
     fn u64(&mut self, input: &[u8]) -> Result<u64, Fault> {
         if self.at_key {
-            return self.unsigned_key(input);
+            return Ok(self.unsigned_key(input)?);
         }
-        let ParseEvent { kind, span } = self.take()?;
-        match kind {
-            ParseEventKind::Scalar(ScalarValue::U64(n)) => Ok(n),
-            ParseEventKind::Scalar(ScalarValue::I64(n)) => match u64::try_from(n) {
+        match self.wanted() {
+            Some(Whole::Unsigned(n)) => Ok(n),
+            Some(Whole::Signed(n)) => match u64::try_from(n) {
                 Ok(n) => Ok(n),
-                Err(_) => Err(out_of_range(Sort::U64, span)),
+                Err(_) => Err(out_of_range(Sort::U64, self.last)),
             },
-            kind => Err(self.no_number(Sort::U64, &kind, span)),
+            None => Ok(self.u64_slowly()?),
         }
     }
 
@@ -241,10 +354,12 @@ impl<'de> Format for Json<'de> {
 
     #[inline(always)]
     fn string(&mut self, alloc: Global, input: &[u8]) -> Result<String, Fault> {
-        match self.text(input)?.into_owned(alloc) {
-            Ok(text) => Ok(text),
-            Err(_) => Err(Fault::of(FaultKind::Memory)),
+        if !self.at_key {
+            if let Some(text) = self.wanted() {
+                return owned(alloc, CowStr::Borrowed(text));
+            }
         }
+        Ok(self.string_slowly(alloc, input)?)
     }
 
     fn byte_buf(&mut self, alloc: Global, input: &[u8]) -> Result<Vec<u8>, Fault> {
@@ -279,39 +394,45 @@ impl<'de> Format for Json<'de> {
 
     #[inline(always)]
     fn begin_seq(&mut self, _input: &[u8]) -> Result<(), Fault> {
-        let ParseEvent { kind, span } = self.take()?;
-        match kind {
-            ParseEventKind::SequenceStart(_) => Ok(()),
-            kind => Err(self.mismatch(Sort::Array, &kind, span)),
+        match self.wanted() {
+            Some(ListStart) => Ok(()),
+            None => Ok(self.begin_seq_slowly()?),
         }
     }
 
     #[inline(always)]
     fn next_item(&mut self, _input: &[u8]) -> Result<bool, Fault> {
-        let item = self.take()?;
-        if let ParseEventKind::SequenceEnd = item.kind {
-            return Ok(false);
+        if self.other_comes(Sought::ListEnd) {
+            return Ok(true);
         }
-        self.ahead = Ahead::Event(item);
-        Ok(true)
+        match self.wanted() {
+            Some(ListEnd) => Ok(false),
+            None => Ok(self.next_item_slowly()?),
+        }
+    }
+
+    /// An item that comes is one too many, and the error is about it.
+    fn end_tuple(&mut self, _input: &[u8]) -> Result<(), Fault> {
+        if self.next_item_slowly()? {
+            Err(self.wrong_len())
+        } else {
+            Ok(())
+        }
     }
 
     #[inline(always)]
     fn begin_map(&mut self, _input: &[u8]) -> Result<(), Fault> {
-        let ParseEvent { kind, span } = self.take()?;
-        match kind {
-            ParseEventKind::StructStart(_) => Ok(()),
-            kind => Err(self.mismatch(Sort::Object, &kind, span)),
+        match self.wanted() {
+            Some(ObjectStart) => Ok(()),
+            None => Ok(self.begin_map_slowly()?),
         }
     }
 
     #[inline(always)]
     fn begin_struct(&mut self, _input: &[u8]) -> Result<bool, Fault> {
-        let ParseEvent { kind, span } = self.take()?;
-        match kind {
-            ParseEventKind::StructStart(_) => Ok(false),
-            ParseEventKind::SequenceStart(_) => Ok(true),
-            kind => Err(self.mismatch(Sort::Object, &kind, span)),
+        match self.wanted() {
+            Some(ObjectStart) => Ok(false),
+            None => Ok(self.begin_struct_slowly()?),
         }
     }
 
@@ -345,7 +466,8 @@ impl<'de> Format for Json<'de> {
         if let Ahead::Nothing = &self.ahead {
             return self.pass();
         }
-        self.skip_ahead()
+        self.skip_ahead()?;
+        Ok(())
     }
 
     fn mark(&mut self) -> usize {

@@ -2,8 +2,9 @@
 
 ghost use Rattle.std.specs.Prelude.{◌≡◌, true, [], IfOk, OnOk, MatchBool, MatchOption};
 ghost use Rattle.std.specs.Cow.{cow_str_bytes};
-ghost use Rattle.facet_format.specs.Views.{event_of};
+ghost use Rattle.facet_format.specs.Views.{event_of, span_of};
 ghost use Rattle.facet_json_document.specs.Next.{PassesNext};
+ghost use Rattle.facet_json_reader.specs.Inner.Soughts.{event_of_member};
 ghost use Rattle.serde.specs.Event.{nothing, map_ends};
 ghost use Rattle.facet_json_serde.specs.Ahead.{Stands, Stays, Reads, Passes, Gives, IsText, IsKey};
 
@@ -11,7 +12,8 @@ use crate::error::Error;
 use crate::fault::{Fault, FaultKind, Sort};
 use crate::found::{found_in, is_quoted};
 use facet_format::{FormatParser, ParseEvent, ParseEventKind, SavePoint, ScalarValue, Span};
-use facet_json_parser::JsonParser;
+use facet_json_parser::{JsonParser, comes_other, next_wanted};
+use facet_json_reader::{Member, Null, Sought, Wanted};
 use std::alloc::Global;
 use std::borrow::CowStr;
 
@@ -200,6 +202,29 @@ impl<'de> Json<'de> {
         }
     }
 
+    /// Takes what is wanted, where nothing is ahead and a few bytes decide that it comes. Else nothing changes.
+    #[inline(always)]
+    pub(crate) fn wanted<W: Wanted<'de>>(&mut self) -> Option<W>
+        ensures { MatchOption result (self.new ≡ self.old)
+            (λ w. Passes self.old (record { kind = W.kind w; span = span_of self.new.last }) self.new × (self.new.ahead ≡ Ahead.Nothing)) }
+    {
+        let Ahead::Nothing = &self.ahead else {
+            return None;
+        };
+        let (wanted, span) = next_wanted(&mut self.parser)?;
+        self.last = span;
+        Some(wanted)
+    }
+
+    /// Whether something else than this comes, as its first byte tells. Nothing is read.
+    #[inline(always)]
+    pub(crate) fn other_comes(&self, sought: Sought) -> bool {
+        match &self.ahead {
+            Ahead::Nothing => comes_other(&self.parser, sought),
+            _ => false,
+        }
+    }
+
     /// Takes the next event.
     #[inline(always)]
     pub(crate) fn take(&mut self) -> Result<ParseEvent<'de>, Fault>
@@ -209,7 +234,7 @@ impl<'de> Json<'de> {
         if let Ahead::Nothing = &self.ahead {
             return self.read();
         }
-        self.take_ahead()
+        Ok(self.take_ahead()?)
     }
 
     /// Takes the event that is ahead.
@@ -248,6 +273,21 @@ impl<'de> Json<'de> {
         ensures { IfOk result (λ b. MatchBool b (Gives self.old [] nothing self.new)
             (Stays self.old self.new)) }
     {
+        if self.other_comes(Sought::Null) {
+            return Ok(false);
+        }
+        match self.wanted() {
+            Some(Null) => Ok(true),
+            None => Ok(self.passes_null_slowly()?),
+        }
+    }
+
+    /// The same by a look ahead.
+    #[inline(never)]
+    fn passes_null_slowly(&mut self) -> Result<bool, Fault>
+        ensures { IfOk result (λ b. MatchBool b (Gives self.old [] nothing self.new)
+            (Stays self.old self.new)) }
+    {
         self.look()?;
         match &self.ahead {
             Ahead::Event(event) => {
@@ -270,6 +310,22 @@ impl<'de> Json<'de> {
         ensures key { self.old.at_key ≡ true → IfOk result
             (λ t. Reads self.old (λ given. IsKey given.kind (cow_str_bytes t)) self.new) }
     {
+        if !self.at_key {
+            if let Some(text) = self.wanted() {
+                return Ok(CowStr::Borrowed(text));
+            }
+        }
+        Ok(self.text_slowly(input)?)
+    }
+
+    /// The same by an event.
+    #[inline(never)]
+    fn text_slowly(&mut self, input: &[u8]) -> Result<CowStr<'de>, Fault>
+        ensures text { IfOk result
+            (λ t. Reads self.old (λ given. IsText given.kind (cow_str_bytes t)) self.new) }
+        ensures key { self.old.at_key ≡ true → IfOk result
+            (λ t. Reads self.old (λ given. IsKey given.kind (cow_str_bytes t)) self.new) }
+    {
         let at_key = self.at_key;
         self.at_key = false;
         let ParseEvent { kind, span } = self.take()?;
@@ -280,9 +336,31 @@ impl<'de> Json<'de> {
         }
     }
 
-    /// A key, or `None` at the end of the map, which it takes.
+    /// A key without an escape, or the end of the map, where a few bytes decide that one of them comes. Else nothing changes.
     #[inline(never)]
+    fn member(&mut self) -> Option<Member<'de>>
+        ensures { MatchOption result (self.new ≡ self.old)
+            (λ m. Passes self.old (record { kind = event_of_member m; span = span_of self.new.last }) self.new × (self.new.ahead ≡ Ahead.Nothing)) }
+    {
+        self.wanted()
+    }
+
+    /// A key, or `None` at the end of the map, which it takes.
+    #[inline(always)]
     pub(crate) fn key(&mut self) -> Result<Option<CowStr<'de>>, Fault>
+        ensures { IfOk result (λ o. MatchOption o (Gives self.old [] map_ends self.new)
+            (λ key. Reads self.old (λ given. IsKey given.kind (cow_str_bytes key)) self.new)) }
+    {
+        match self.member() {
+            Some(Member::Key(name)) => Ok(Some(CowStr::Borrowed(name))),
+            Some(Member::End) => Ok(None),
+            None => Ok(self.key_slowly()?),
+        }
+    }
+
+    /// The same by an event.
+    #[inline(never)]
+    fn key_slowly(&mut self) -> Result<Option<CowStr<'de>>, Fault>
         ensures { IfOk result (λ o. MatchOption o (Gives self.old [] map_ends self.new)
             (λ key. Reads self.old (λ given. IsKey given.kind (cow_str_bytes key)) self.new)) }
     {

@@ -183,7 +183,8 @@ impl<'i> JsonWriter<'i> {
         if case.append(kind, name, &mut self.room).is_err() {
             return Err(self.fail(Fault::of(FaultKind::Memory)));
         }
-        self.room_text(is_key)
+        self.room_text(is_key)?;
+        Ok(())
     }
 
     /// Writes the text of a number with a fraction or an exponent.
@@ -206,7 +207,8 @@ impl<'i> Serializer for JsonWriter<'i> {
     fn bool(&mut self, v: bool) -> Result<(), Fault> {
         self.not_flat()?;
         if self.at_key {
-            return self.printed(&v);
+            self.printed(&v)?;
+            return Ok(());
         }
         self.scalar(ScalarValue::Bool(v))
     }
@@ -215,7 +217,8 @@ impl<'i> Serializer for JsonWriter<'i> {
     fn i64(&mut self, v: i64) -> Result<(), Fault> {
         self.not_flat()?;
         if self.at_key {
-            return self.printed(&v);
+            self.printed(&v)?;
+            return Ok(());
         }
         self.scalar(ScalarValue::I64(v))
     }
@@ -224,7 +227,8 @@ impl<'i> Serializer for JsonWriter<'i> {
     fn u64(&mut self, v: u64) -> Result<(), Fault> {
         self.not_flat()?;
         if self.at_key {
-            return self.printed(&v);
+            self.printed(&v)?;
+            return Ok(());
         }
         self.scalar(ScalarValue::U64(v))
     }
@@ -232,7 +236,8 @@ impl<'i> Serializer for JsonWriter<'i> {
     fn i128(&mut self, v: i128) -> Result<(), Fault> {
         self.not_flat()?;
         if self.at_key {
-            return self.printed(&v);
+            self.printed(&v)?;
+            return Ok(());
         }
         self.scalar(ScalarValue::I128(v))
     }
@@ -240,7 +245,8 @@ impl<'i> Serializer for JsonWriter<'i> {
     fn u128(&mut self, v: u128) -> Result<(), Fault> {
         self.not_flat()?;
         if self.at_key {
-            return self.printed(&v);
+            self.printed(&v)?;
+            return Ok(());
         }
         self.scalar(ScalarValue::U128(v))
     }
@@ -265,7 +271,8 @@ impl<'i> Serializer for JsonWriter<'i> {
     fn char(&mut self, v: char) -> Result<(), Fault> {
         self.not_flat()?;
         if self.at_key {
-            return self.printed(&v);
+            self.printed(&v)?;
+            return Ok(());
         }
         self.scalar(ScalarValue::Char(v))
     }
