@@ -11,4 +11,4 @@ pub mod RootComes
 pub mod RunBegins
 pub mod StrictRootComes
 pub mod StructLaws
-pub use Rattle.facet_json_meaning.proofs.TypeLaws
+pub mod TypeLaws

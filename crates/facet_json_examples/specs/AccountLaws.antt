@@ -2,7 +2,7 @@
 use Rattle.std.specs.Prelude.{codes, refl}
 use Rattle.facet_json.specs.Shapes.{ShapeLaws}
 use Rattle.facet_json.proofs.StructLaws.{struct-laws, needs-laws, may_have-laws, no_more-laws}
-use Rattle.facet_json_meaning.proofs.TypeLaws.{bool-laws, text-laws, u8-laws, u32-laws, u64-laws, i32-laws, list-laws}
+use Rattle.facet_json.proofs.TypeLaws.{bool-laws, text-laws, u8-laws, u32-laws, u64-laws, i32-laws, list-laws}
 use Rattle.facet_json_examples.specs.Accounts.{account}
 
 pub account-laws : ShapeLaws account

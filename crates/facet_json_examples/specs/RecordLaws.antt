@@ -2,7 +2,7 @@
 use Rattle.std.specs.Prelude.{codes, refl}
 use Rattle.facet_json.specs.Shapes.{Shape, ShapeLaws}
 use Rattle.facet_json.proofs.StructLaws.{struct-laws, needs-laws, may_have-laws, no_more-laws}
-use Rattle.facet_json_meaning.proofs.TypeLaws.{text-laws, u16-laws, u32-laws, list-laws}
+use Rattle.facet_json.proofs.TypeLaws.{text-laws, u16-laws, u32-laws, list-laws}
 use Rattle.facet_json_examples.specs.Records.{person, response, retry, config}
 
 pub person-laws : ShapeLaws person

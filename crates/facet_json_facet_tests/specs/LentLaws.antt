@@ -2,7 +2,7 @@
 use Rattle.std.specs.Prelude.{codes, refl}
 use Rattle.facet_json.specs.Shapes.{ShapeLaws}
 use Rattle.facet_json.proofs.StructLaws.{struct-laws, needs-laws, no_more-laws}
-use Rattle.facet_json_meaning.proofs.TypeLaws.{borrowed-laws, u32-laws, i32-laws}
+use Rattle.facet_json.proofs.TypeLaws.{borrowed-laws, u32-laws, i32-laws}
 use Rattle.facet_json_facet_tests.specs.Lent.{lent_person, labelled}
 
 pub lent_person-laws : ShapeLaws lent_person
