@@ -29,7 +29,7 @@ pub use facet_json_core::{
     Answer, Call, JsonError, JsonErrorKind, Place, Position, RawJson, Report, Result,
     TranscodeError, drive, pass_end, position_at, transcode,
 };
-pub use facet_json_facet::Facet;
+pub use facet_json_facet::{Facet, ReadResult};
 pub use facet_json_parser::JsonParser;
 pub use facet_json_reader::{MaterializedToken, TokenKind};
 pub use facet_json_serializer::{

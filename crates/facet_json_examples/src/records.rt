@@ -1,46 +1,40 @@
 //! Structs of one's own that are read from JSON and written as JSON, field by field.
 
-ghost use Rattle.std.specs.Prelude.{◌≡◌, IfOk, IfErr, string_bytes};
+ghost use Rattle.std.specs.Prelude.{◌≡◌, ℕ, List, IfOk, IfErr, string_bytes};
 ghost use Rattle.facet_json.specs.FormatViews.{refusal_of};
 ghost use Rattle.facet_json.specs.Gap.{plain};
 ghost use Rattle.facet_json_examples.specs.Records.{person};
+ghost use Rattle.facet_json_examples.specs.RecordLaws.{person-laws};
 ghost use Rattle.facet_json.specs.Inputs.{IsReadFrom, IsUnreadFrom};
 
 use facet_json::{
     DeserializeError, Done, Facet, JsonParser, JsonSerializeError, JsonSerializer, Maybe, Need,
-    RawJson, from_slice, from_slice_borrowed, read_fields, write_fields,
+    RawJson, ReadResult, from_slice, from_slice_borrowed, read_fields, write_fields,
 };
 use std::alloc::Global;
 
-/// A person, as `{"name":"Alice","age":30}`.
+/// A person, as `{"name":"Alice","age":30}`, the age in years.
 #[derive(Debug, PartialEq, Drop)]
 pub struct Person {
-    /// What the person is called.
     pub name: String,
-    /// In years.
     pub age: u32,
 }
 
 impl<'de> Facet<'de> for Person {
-    ghost use Rattle.std.specs.Prelude.{ℕ, List};
-    ghost use Rattle.facet_json_examples.specs.Records.{person};
-    ghost use Rattle.facet_json_examples.specs.RecordLaws.{person-laws};
-
     ghost View = { List ℕ × (ℕ × Unit {0}) };
 
     ghost view = { λ p. (string_bytes p.name, (p.age, tt)) };
 
     ghost shape = { person };
 
-    fn read_owned<'t>(
-        alloc: Global,
-        parser: &mut JsonParser<'de>,
-    ) -> Result<Self, DeserializeError<'t>> {
+    ghost laws = { person-laws };
+
+    fn read_owned<'t>(alloc: Global, parser: &mut JsonParser<'de>) -> ReadResult<'t, Self> {
         let Need(name, Need(age, Done)) = read_fields(alloc, parser, false, &["name", "age"])?;
         Ok(Person { name, age })
     }
 
-    fn read<'t>(alloc: Global, parser: &mut JsonParser<'de>) -> Result<Self, DeserializeError<'t>> {
+    fn read<'t>(alloc: Global, parser: &mut JsonParser<'de>) -> ReadResult<'t, Self> {
         Person::read_owned(alloc, parser)
     }
 
@@ -48,8 +42,6 @@ impl<'de> Facet<'de> for Person {
         let fields = Need(&self.name, Need(&self.age, Done));
         write_fields(serializer, &["name", "age"], &fields)
     }
-
-    ghost laws = { person-laws };
 }
 
 /// The person that a document is: of each of its object's members `name` and `age` the last one counts, and any other is passed.

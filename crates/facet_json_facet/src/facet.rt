@@ -11,6 +11,9 @@ use facet_json_parser::JsonParser;
 use facet_json_serializer::{JsonSerializeError, JsonSerializer};
 use std::alloc::Global;
 
+/// What reading a value gives: the value, or why there is none.
+pub type ReadResult<'t, T> = Result<T, DeserializeError<'t>>;
+
 /// A type that is read from JSON (RFC 8259, sections 3 to 7) and written as JSON. The input lives for `'de`.
 ///
 /// ```text

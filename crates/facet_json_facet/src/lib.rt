@@ -18,4 +18,4 @@ mod unsigned;
 mod whole;
 mod wide;
 
-pub use facet::{Facet, value_in};
+pub use facet::{Facet, ReadResult, value_in};
