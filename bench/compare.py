@@ -15,6 +15,13 @@ import shutil
 import subprocess
 import sys
 
+# The works on types with serde's derives, by the input of each.
+DERIVES = {
+    "accounts.json": ("derive", "derive-text"),
+    "points.json": ("points", "points-text"),
+    "shapes.json": ("shapes", "shapes-text"),
+    "outlines.json": ("outlines", "outlines-text"),
+}
 # What a work is called by each side. Where a side has none, it has no name for it.
 WORKS = {
     "tokens": {"ours": "tokens", "before": "tokens"},
@@ -28,6 +35,7 @@ WORKS = {
     "typed-lent": {"ours": "typed-lent", "serde_json": "typed-lent"},
     "typed-text": {"ours": "typed-text", "serde_json": "typed-text"},
     "log": {"ours": "log", "serde_json": "log", "simdjson": "log"},
+    **{work: {"ours": work, "kit": f"{work}-kit"} for works in DERIVES.values() for work in works},
 }
 # The inputs of which the program has a typed reader, and the one that is too short for all but it and the tree.
 ONE = "one-account.json"
@@ -35,17 +43,24 @@ TYPED = ("accounts.json", ONE)
 OF_TYPES = ("typed", "typed-lent", "typed-text")
 # The input that has a document on each line.
 LINES = "log.jsonl"
+# The inputs that are for types with derives alone.
+OF_DERIVES = tuple(DERIVES)[1:]
 
 
 def suits(work, name):
     """Whether the work is done on the input of this name."""
+    if name in OF_DERIVES or any(work in works for works in DERIVES.values()):
+        return work in DERIVES.get(name, ())
     if work == "log" or name == LINES:
         return work == "log" and name == LINES
     if name == ONE:
         return work in (*OF_TYPES, "tree")
     return work not in OF_TYPES or name in TYPED
-PROGRAMS = {"ours": "facet_json_bench", "serde_json": "serde_peer", "simdjson": "simdjson_peer", "rapidjson": "rapidjson_peer"}
+PROGRAMS = {"ours": "facet_json_bench", "kit": "facet_json_bench", "serde_json": "serde_peer", "simdjson": "simdjson_peer",
+            "rapidjson": "rapidjson_peer"}
 PROCESSES = {"ours": ["facet_json_tool", "fmt"], "serde_json": ["fmt_tree"], "serde_json, sorted": ["fmt_sorted"], "serde_json, no tree": ["fmt_pass"]}
+# What a side is called in the table, where it has another name.
+TITLES = {"ours": "this library", "kit": "the toolchain's serde_json"}
 # Programs of the machine that format a document, each in its own way, and so are run once a turn.
 FORMATTERS = {"jq": ["jq", "-c", "."], "json.tool": ["python3", "-m", "json.tool", "--compact"]}
 
@@ -82,6 +97,14 @@ RATIOS = [
     Ratio("typed to_vec / serde's derive", "typed-text", "typed-text", "serde_json", 1.3, ("accounts.json",)),
     Ratio("log / serde's derive", "log", "log", "serde_json", 1.8),
     Ratio("log / simdjson's iterate_many", "log", "log", "simdjson", 0.65),
+    Ratio("derive / the toolchain's serde_json", "derive", "derive", "kit", 1.2, ("accounts.json",)),
+    Ratio("derived to_vec / the toolchain's", "derive-text", "derive-text", "kit", 1.0, ("accounts.json",)),
+    Ratio("points / the toolchain's", "points", "points", "kit", 1.2, ("points.json",)),
+    Ratio("points to_vec / the toolchain's", "points-text", "points-text", "kit", 1.0, ("points.json",)),
+    Ratio("shapes / the toolchain's", "shapes", "shapes", "kit", 1.0, ("shapes.json",)),
+    Ratio("shapes to_vec / the toolchain's", "shapes-text", "shapes-text", "kit", 1.0, ("shapes.json",)),
+    Ratio("outlines / the toolchain's", "outlines", "outlines", "kit", 1.0, ("outlines.json",)),
+    Ratio("outlines to_vec / the toolchain's", "outlines-text", "outlines-text", "kit", 1.0, ("outlines.json",)),
     Ratio("to_vec / serde_json's", "text", "text", "serde_json", 1.2),
     Ratio("to_vec / RapidJSON's writer", "text", "text", "rapidjson"),
     Ratio("fmt / serde_json by a Value", "fmt", "fmt", "serde_json", 2.0),
@@ -151,7 +174,7 @@ class Bench:
 
     def agree(self, path, seen):
         """Stops where two sides did not pass the same."""
-        for work in ("events", "trusted", "text", "typed-text", "log"):
+        for work in ("events", "trusted", "text", "typed-text", "log", *(work for works in DERIVES.values() for work in works)):
             # RapidJSON writes doubles in a form of its own.
             passed = {side: what for (done, side), what in seen.items() if done == work and (work, side) != ("text", "rapidjson")}
             if len(set(passed.values())) > 1:
@@ -161,7 +184,7 @@ class Bench:
 
     def format(self, path, least):
         """Runs each process that writes the document anew, three times in turn."""
-        if path.suffix == ".jsonc" or path.name in (ONE, LINES):
+        if path.suffix == ".jsonc" or path.name in (ONE, LINES, *OF_DERIVES):
             return
         written = {}
         for _ in range(3):
@@ -331,7 +354,7 @@ def table(bench, sizes, figures):
     yield from reached_table(RATIOS, figures)
     for side in dict.fromkeys(side for least in figures.values() for _, side in least if side != "before"):
         yield ""
-        yield f"## MB a second: {'this library' if side == 'ours' else side}"
+        yield f"## MB a second: {TITLES.get(side, side)}"
         yield ""
         yield from speeds_table(side, sizes, figures)
 

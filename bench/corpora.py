@@ -166,6 +166,35 @@ def one_account(chance, size):
     return compact([account(7)])
 
 
+def coordinate(chance, limit):
+    """A decimal of at most six digits after its point, not below a thousandth."""
+    return chance.choice([-1, 1]) * round(chance.uniform(0.001, limit), 6)
+
+
+def points(chance, size):
+    """A list of ten thousand points of a space, as the program's type with serde's derives knows them."""
+    return compact([{"x": coordinate(chance, 180), "y": coordinate(chance, 90), "z": coordinate(chance, 1_000)} for _ in range(10_000)])
+
+
+def shape(number):
+    """What a shape is called, and its members."""
+    if number % 3 == 0:
+        return "circle", {"radius": number}
+    if number % 3 == 1:
+        return "box", {"width": number * 3 % 1_000, "height": number % 77}
+    return "label", {"text": f"label {number}", "bold": number % 2 == 0}
+
+
+def shapes(chance, size):
+    """A list of ten thousand shapes, whose kind is a member."""
+    return compact([{"kind": kind, **members} for kind, members in map(shape, range(10_000))])
+
+
+def outlines(chance, size):
+    """A list of ten thousand shapes, whose kind is a key around the members."""
+    return compact([{kind: members} for kind, members in map(shape, range(10_000))])
+
+
 def log(chance, size):
     """Lines of a log of some 400 bytes, each an object of nine members."""
 
@@ -209,6 +238,9 @@ MADE = {
     "records.json": records,
     "accounts.json": accounts,
     "one-account.json": one_account,
+    "points.json": points,
+    "shapes.json": shapes,
+    "outlines.json": outlines,
     "log.jsonl": log,
     "settings.jsonc": settings,
 }

@@ -5,6 +5,7 @@
 #![tactic(auto)]
 
 mod accounts;
+mod derives;
 mod lines;
 mod passes;
 mod seen;

@@ -1,6 +1,7 @@
 //! What can be done with a text, and the names of it.
 
 use crate::accounts::{accounts_of, typed, typed_lent, typed_text};
+use crate::derives::{List, Listed, Side, derive, derive_text, list_of};
 use crate::lines::log;
 use crate::passes::{events, scanned, skip, strict_events, strict_trusted, tokens, trusted};
 use crate::seen::Seen;
@@ -37,6 +38,10 @@ pub enum Work {
     TypedLent,
     /// A list of accounts is written.
     TypedText,
+    /// A list of a type with serde's derives is read and dropped.
+    Derive(Listed, Side),
+    /// A list of a type with serde's derives is written.
+    DeriveText(Listed, Side),
     /// One member of each line is found.
     Log,
 }
@@ -66,6 +71,29 @@ pub fn work_of(name: &str) -> Option<Work> {
         "typed-lent" => Some(Work::TypedLent),
         "typed-text" => Some(Work::TypedText),
         "log" => Some(Work::Log),
+        _ => derive_of(name),
+    }
+}
+
+/// The work of this name with a type that has serde's derives; by the toolchain's `serde_json` where it ends so.
+fn derive_of(name: &str) -> Option<Work> {
+    match name.strip_suffix("-kit") {
+        Some(name) => side_of(name, Side::Kit),
+        None => side_of(name, Side::Ours),
+    }
+}
+
+/// The work of this name by one side.
+fn side_of(name: &str, side: Side) -> Option<Work> {
+    match name {
+        "derive" => Some(Work::Derive(Listed::Accounts, side)),
+        "derive-text" => Some(Work::DeriveText(Listed::Accounts, side)),
+        "points" => Some(Work::Derive(Listed::Points, side)),
+        "points-text" => Some(Work::DeriveText(Listed::Points, side)),
+        "shapes" => Some(Work::Derive(Listed::Shapes, side)),
+        "shapes-text" => Some(Work::DeriveText(Listed::Shapes, side)),
+        "outlines" => Some(Work::Derive(Listed::Outlines, side)),
+        "outlines-text" => Some(Work::DeriveText(Listed::Outlines, side)),
         _ => None,
     }
 }
@@ -92,6 +120,8 @@ pub struct Order<'i> {
     pub tree: Option<Tree>,
     /// Its accounts, where these are to be written.
     pub accounts: Option<Vec<Account>>,
+    /// Its items of a type with serde's derives, where these are to be written.
+    pub list: Option<List>,
 }
 
 impl<'i> Order<'i> {
@@ -105,12 +135,17 @@ impl<'i> Order<'i> {
             Work::TypedText => accounts_of(alloc, input.as_bytes(), mode),
             _ => None,
         };
+        let list = match work {
+            Work::DeriveText(listed, _) => list_of(alloc, input.as_bytes(), listed),
+            _ => None,
+        };
         Order {
             work,
             mode,
             input,
             tree,
             accounts,
+            list,
         }
     }
 
@@ -135,6 +170,11 @@ impl<'i> Order<'i> {
             },
             Work::TypedText => match &self.accounts {
                 Some(accounts) => typed_text(alloc, accounts),
+                None => None,
+            },
+            Work::Derive(listed, side) => derive(alloc, input, listed, side),
+            Work::DeriveText(_, side) => match &self.list {
+                Some(list) => derive_text(alloc, list, side),
                 None => None,
             },
         }
