@@ -55,17 +55,16 @@ fn lists_end_after_their_bracket(rt: HostRuntime) {
     }
 }
 
-/// The texts that stand one after another up to the end, in one text.
+/// The four texts that stand one after another, in one text.
 fn joined(alloc: Global, input: &str) -> Option<String> {
-    let bytes = input.as_bytes();
+    let mut left = input.as_bytes();
     let mut texts = String::new(alloc);
-    let mut at = 0;
-    while at < bytes.len() {
-        let (text, len) = from_slice_prefix::<String>(alloc, &bytes[at..]).ok()?;
+    for _ in 0..4 {
+        let (text, end) = from_slice_prefix::<String>(alloc, left).ok()?;
         texts.push_str(text.as_str()).ok()?;
-        at += len;
+        left = left.get(end..)?;
     }
-    Some(texts)
+    if left.is_empty() { Some(texts) } else { None }
 }
 
 #[test]
