@@ -7,7 +7,7 @@ ghost use Rattle.facet_json_core.specs.Report.{report_text};
 ghost use Rattle.facet_json_serde.specs.Messages.{message};
 ghost use Rattle.facet_json_serde.specs.Within.{LiesWithin};
 
-use crate::fault::{Detail, Fault, FaultKind, Sort};
+use crate::fault::{Detail, Fault, FaultKind, Refusal, Sort, WriteFault};
 use facet_format::{DeserializeErrorKind, ParseError, Span};
 use facet_json_core::{JsonErrorKind, Place};
 use std::fmt;
@@ -66,6 +66,32 @@ impl<'t> From<Fault> for Error<'t> {
     }
 }
 
+impl<'t> From<Refusal> for Error<'t> {
+    fn from(why: Refusal) -> Error<'t> {
+        Error {
+            kind: match why {
+                Refusal::NotOneValue => ErrorKind::NotOneValue,
+                Refusal::KeyMustBeAString => ErrorKind::KeyMustBeAString,
+                Refusal::InvalidValue => ErrorKind::InvalidValue,
+                Refusal::OutOfMemory => ErrorKind::Read(DeserializeErrorKind::OutOfMemory),
+            },
+            span: None,
+        }
+    }
+}
+
+impl<'t> From<WriteFault> for Error<'t> {
+    fn from(fault: WriteFault) -> Error<'t> {
+        match fault {
+            WriteFault::Refused(why) => Error::from(why),
+            WriteFault::Custom(detail) => Error {
+                kind: ErrorKind::Custom(*detail),
+                span: None,
+            },
+        }
+    }
+}
+
 impl<'t> Error<'t> {
     /// The same error, without a span that does not lie within the input.
     #[cold]
@@ -96,15 +122,13 @@ fn kind_of<'t>(fault: &Fault) -> ErrorKind<'t> {
         }),
         FaultKind::Memory => ErrorKind::Read(DeserializeErrorKind::OutOfMemory),
         FaultKind::Trailing => ErrorKind::TrailingCharacters,
-        FaultKind::MissingField => ErrorKind::MissingField(fault.detail),
-        FaultKind::DuplicateField => ErrorKind::DuplicateField(fault.detail),
+        FaultKind::MissingField => ErrorKind::MissingField(fault.detail()),
+        FaultKind::DuplicateField => ErrorKind::DuplicateField(fault.detail()),
         FaultKind::UnknownField => ErrorKind::UnknownField,
         FaultKind::UnknownVariant => ErrorKind::UnknownVariant,
         FaultKind::InvalidLength => ErrorKind::InvalidLength,
         FaultKind::InvalidValue => ErrorKind::InvalidValue,
-        FaultKind::KeyMustBeAString => ErrorKind::KeyMustBeAString,
-        FaultKind::NotOneValue => ErrorKind::NotOneValue,
-        FaultKind::Custom => ErrorKind::Custom(fault.detail),
+        FaultKind::Custom => ErrorKind::Custom(fault.detail()),
     }
 }
 

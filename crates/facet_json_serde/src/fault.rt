@@ -4,6 +4,7 @@ ghost use Rattle.std.specs.Prelude.{◌≡◌};
 ghost use Rattle.facet_json_serde.specs.Messages.{detail_text};
 
 use facet_format::Span;
+use std::alloc::Global;
 use std::fmt;
 use std::fmt::InlineText;
 
@@ -123,23 +124,19 @@ pub(crate) enum FaultKind {
     InvalidLength,
     /// A value that the type does not have.
     InvalidValue,
-    /// A key that is no string.
-    KeyMustBeAString,
-    /// What was sent to be written is not one value.
-    NotOneValue,
-    /// What a reader or a writer of a type says.
+    /// What a reader of a type says.
     Custom,
     /// An allocation failed.
     Memory,
 }
 
-/// What is wrong, and where: the error of `Json`'s steps and of `JsonWriter`'s. `Error` is the same with its words: `Json::told` gives it for a
-/// reader's fault, and `Error::from` for a writer's.
-#[derive(Debug, Clone, Copy, Drop)]
+/// What is wrong, and where: the error of `Json`'s steps. `Error` is the same with its words: `Json::told` gives it.
+#[derive(Debug, Drop)]
 pub struct Fault {
     pub(crate) kind: FaultKind,
     pub(crate) span: Option<Span>,
-    pub(crate) detail: Detail,
+    /// The field that it is about, or what a type says: boxed, since each step of each type hands the fault on.
+    pub(crate) detail: Option<Box<Detail>>,
 }
 
 impl Fault {
@@ -150,7 +147,7 @@ impl Fault {
         Fault {
             kind,
             span: Some(span),
-            detail: Detail::of(""),
+            detail: None,
         }
     }
 
@@ -161,15 +158,26 @@ impl Fault {
         Fault {
             kind,
             span: None,
-            detail: Detail::of(""),
+            detail: None,
         }
     }
 
-    /// The same fault, about this.
-    pub(crate) fn about(self, detail: &str) -> Fault {
-        Fault {
-            detail: Detail::of(detail),
-            ..self
+    /// The same fault, about this; a refused allocation where there is no memory to say it.
+    pub(crate) fn about(self, alloc: Global, detail: &str) -> Fault {
+        match Box::new(alloc, Detail::of(detail)) {
+            Ok(detail) => Fault {
+                detail: Some(detail),
+                ..self
+            },
+            Err(_) => Fault::of(FaultKind::Memory),
+        }
+    }
+
+    /// What it is about.
+    pub(crate) fn detail(&self) -> Detail {
+        match &self.detail {
+            Some(detail) => **detail,
+            None => Detail::of(""),
         }
     }
 
@@ -179,5 +187,45 @@ impl Fault {
             self.kind,
             FaultKind::Parser | FaultKind::Ended | FaultKind::Memory
         )
+    }
+}
+
+/// Why a writer refuses a step.
+#[derive(Debug, Clone, Copy, Drop)]
+pub enum Refusal {
+    /// No value goes on with it.
+    NotOneValue,
+    /// A key that is no string.
+    KeyMustBeAString,
+    /// A value that is no map, where its members were to stand in the map around it, or a number that is none.
+    InvalidValue,
+    /// An allocation failed.
+    OutOfMemory,
+}
+
+/// The error of `JsonWriter`'s steps: small, since each step of each type hands it on. `Error` is the same with its words, by `Error::from`.
+#[derive(Debug, Drop)]
+pub enum WriteFault {
+    /// The writer refuses.
+    Refused(Refusal),
+    /// A type refuses, and says why.
+    Custom(Box<Detail>),
+}
+
+impl WriteFault {
+    /// A type's own message.
+    #[cold]
+    #[inline(never)]
+    pub(crate) fn custom(alloc: Global, message: &str) -> WriteFault {
+        match Box::new(alloc, Detail::of(message)) {
+            Ok(detail) => WriteFault::Custom(detail),
+            Err(_) => WriteFault::Refused(Refusal::OutOfMemory),
+        }
+    }
+}
+
+impl From<Refusal> for WriteFault {
+    fn from(why: Refusal) -> WriteFault {
+        WriteFault::Refused(why)
     }
 }

@@ -373,7 +373,7 @@ impl<'de> Format for Json<'de> {
         self.look()?;
         let found = match &self.ahead {
             Ahead::Event(event) => kind_of(event, self.at_key, input),
-            Ahead::Stopped(fault) => return Err(*fault),
+            Ahead::Stopped(kind, span) => return Err(Fault::at(*kind, *span)),
             Ahead::Nothing => None,
         };
         match found {
@@ -497,11 +497,11 @@ impl<'de> Format for Json<'de> {
     }
 
     fn missing(&self, name: &str) -> Fault {
-        self.error(FaultKind::MissingField).about(name)
+        self.error(FaultKind::MissingField).about(self.alloc, name)
     }
 
     fn duplicate(&self, name: &str) -> Fault {
-        self.error(FaultKind::DuplicateField).about(name)
+        self.error(FaultKind::DuplicateField).about(self.alloc, name)
     }
 
     fn unknown_key(&self) -> Fault {
@@ -525,6 +525,6 @@ impl<'de> Format for Json<'de> {
     }
 
     fn custom(&self, message: &str) -> Fault {
-        self.error(FaultKind::Custom).about(message)
+        self.error(FaultKind::Custom).about(self.alloc, message)
     }
 }

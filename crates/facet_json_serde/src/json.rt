@@ -25,7 +25,7 @@ pub(crate) enum Ahead<'de> {
     /// This event, which the parser has passed.
     Event(ParseEvent<'de>),
     /// No event ever: reading failed so, and no rewind brings it back.
-    Stopped(Fault),
+    Stopped(FaultKind, Span),
 }
 
 /// A place to come back to.
@@ -52,7 +52,7 @@ struct Marked<'de> {
 /// ```
 #[derive(Drop)]
 pub struct Json<'de> {
-    alloc: Global,
+    pub(crate) alloc: Global,
     parser: JsonParser<'de>,
     pub(crate) ahead: Ahead<'de>,
     /// The bytes of the last event that was taken.
@@ -107,7 +107,7 @@ impl<'de> Json<'de> {
                 &event.kind,
                 event.span,
             )),
-            Ahead::Stopped(fault) => return Err(*fault),
+            Ahead::Stopped(kind, span) => return Err(Fault::at(*kind, *span)),
         }
         match self.parser.next_event() {
             Ok(None) => Ok(()),
@@ -176,14 +176,13 @@ impl<'de> Json<'de> {
     #[cold]
     #[inline(never)]
     fn stop(&mut self, kind: FaultKind, span: Span) -> Fault {
-        let fault = Fault::at(kind, span);
-        self.ahead = Ahead::Stopped(fault);
-        fault
+        self.ahead = Ahead::Stopped(kind, span);
+        Fault::at(kind, span)
     }
 
     /// Whether reading stopped for good.
     pub(crate) fn has_stopped(&self) -> bool {
-        matches!(&self.ahead, Ahead::Stopped(_))
+        matches!(&self.ahead, Ahead::Stopped(_, _))
     }
 
     /// The parser's next event.
@@ -248,9 +247,9 @@ impl<'de> Json<'de> {
                 Ok(event)
             }
             Ahead::Nothing => self.read(),
-            Ahead::Stopped(fault) => {
-                self.ahead = Ahead::Stopped(fault);
-                Err(fault)
+            Ahead::Stopped(kind, span) => {
+                self.ahead = Ahead::Stopped(kind, span);
+                Err(Fault::at(kind, span))
             }
         }
     }
@@ -296,7 +295,7 @@ impl<'de> Json<'de> {
                 }
             }
             Ahead::Nothing => return Ok(false),
-            Ahead::Stopped(fault) => return Err(*fault),
+            Ahead::Stopped(kind, span) => return Err(Fault::at(*kind, *span)),
         }
         self.ahead = Ahead::Nothing;
         Ok(true)

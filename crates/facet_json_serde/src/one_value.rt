@@ -5,19 +5,11 @@ ghost use Rattle.facet_format.specs.Views.{scalar_value_of};
 ghost use Rattle.facet_json_serializer.specs.OptionsViews.{options_of};
 ghost use Rattle.facet_json_serde.specs.OneValue.{IsBegun, IsTextOfTree, IsTree};
 
+use crate::fault::Refusal;
 use crate::stage::Stage;
 use facet_format::{FormatSerializer, ScalarValue};
 use facet_json_serializer::{JsonSerializer, SerializeOptions};
 use std::alloc::Global;
-
-/// Why a call was refused.
-#[derive(Clone, Copy)]
-pub(crate) enum Misplaced {
-    /// No value goes on with it. Nothing changed.
-    Call,
-    /// An allocation failed.
-    Memory,
-}
 
 /// A serializer that takes only calls of one value, and refuses the others.
 #[derive(Drop)]
@@ -42,43 +34,43 @@ impl<'i> OneValue<'i> {
 
     /// Writes a value that holds no others.
     #[inline(always)]
-    pub(crate) fn scalar(&mut self, value: ScalarValue<'_>) -> Result<(), Misplaced>
+    pub(crate) fn scalar(&mut self, value: ScalarValue<'_>) -> Result<(), Refusal>
         requires { IsTree (scalar_value_of value) }
     {
         if !self.stage.takes_value() {
-            return Err(Misplaced::Call);
+            return Err(Refusal::NotOneValue);
         }
         match self.calls.scalar(value) {
             Ok(()) => {
                 self.stage = self.stage.after_value();
                 Ok(())
             }
-            Err(_) => Err(Misplaced::Memory),
+            Err(_) => Err(Refusal::OutOfMemory),
         }
     }
 
     /// Writes a key.
     #[inline(always)]
-    pub(crate) fn key(&mut self, key: &str) -> Result<(), Misplaced> {
+    pub(crate) fn key(&mut self, key: &str) -> Result<(), Refusal> {
         let Stage::Key = self.stage else {
-            return Err(Misplaced::Call);
+            return Err(Refusal::NotOneValue);
         };
         match self.calls.field_key(key) {
             Ok(()) => {
                 self.stage = Stage::Named;
                 Ok(())
             }
-            Err(_) => Err(Misplaced::Memory),
+            Err(_) => Err(Refusal::OutOfMemory),
         }
     }
 
     /// Begins a list.
-    pub(crate) fn begin_list(&mut self) -> Result<(), Misplaced> {
+    pub(crate) fn begin_list(&mut self) -> Result<(), Refusal> {
         if !self.stage.takes_value() {
-            return Err(Misplaced::Call);
+            return Err(Refusal::NotOneValue);
         }
         if self.around.reserve(1).is_err() {
-            return Err(Misplaced::Memory);
+            return Err(Refusal::OutOfMemory);
         }
         match self.calls.begin_seq() {
             Ok(()) => {
@@ -86,17 +78,17 @@ impl<'i> OneValue<'i> {
                 self.stage = Stage::Item;
                 Ok(())
             }
-            Err(_) => Err(Misplaced::Memory),
+            Err(_) => Err(Refusal::OutOfMemory),
         }
     }
 
     /// Begins a struct.
-    pub(crate) fn begin_struct(&mut self) -> Result<(), Misplaced> {
+    pub(crate) fn begin_struct(&mut self) -> Result<(), Refusal> {
         if !self.stage.takes_value() {
-            return Err(Misplaced::Call);
+            return Err(Refusal::NotOneValue);
         }
         if self.around.reserve(1).is_err() {
-            return Err(Misplaced::Memory);
+            return Err(Refusal::OutOfMemory);
         }
         match self.calls.begin_struct() {
             Ok(()) => {
@@ -104,14 +96,14 @@ impl<'i> OneValue<'i> {
                 self.stage = Stage::Key;
                 Ok(())
             }
-            Err(_) => Err(Misplaced::Memory),
+            Err(_) => Err(Refusal::OutOfMemory),
         }
     }
 
     /// Ends the innermost list.
-    pub(crate) fn end_list(&mut self) -> Result<(), Misplaced> {
+    pub(crate) fn end_list(&mut self) -> Result<(), Refusal> {
         let Stage::Item = self.stage else {
-            return Err(Misplaced::Call);
+            return Err(Refusal::NotOneValue);
         };
         match self.calls.end_seq() {
             Ok(()) => {
@@ -119,14 +111,14 @@ impl<'i> OneValue<'i> {
                 self.stage = outer.after_value();
                 Ok(())
             }
-            Err(_) => Err(Misplaced::Memory),
+            Err(_) => Err(Refusal::OutOfMemory),
         }
     }
 
     /// Ends the innermost struct.
-    pub(crate) fn end_struct(&mut self) -> Result<(), Misplaced> {
+    pub(crate) fn end_struct(&mut self) -> Result<(), Refusal> {
         let Stage::Key = self.stage else {
-            return Err(Misplaced::Call);
+            return Err(Refusal::NotOneValue);
         };
         match self.calls.end_struct() {
             Ok(()) => {
@@ -134,7 +126,7 @@ impl<'i> OneValue<'i> {
                 self.stage = outer.after_value();
                 Ok(())
             }
-            Err(_) => Err(Misplaced::Memory),
+            Err(_) => Err(Refusal::OutOfMemory),
         }
     }
 
@@ -148,16 +140,16 @@ impl<'i> OneValue<'i> {
     }
 
     /// The text of the value, which has to be whole.
-    pub(crate) fn finish(self) -> Result<Vec<u8>, Misplaced>
+    pub(crate) fn finish(self) -> Result<Vec<u8>, Refusal>
         ensures { IfOk result (λ v. IsTextOfTree (options_of self.entry.options) v.items) }
     {
         let OneValue { calls, stage, .. } = self;
         let Stage::Whole = stage else {
-            return Err(Misplaced::Call);
+            return Err(Refusal::NotOneValue);
         };
         match calls.finish() {
             Ok(text) => Ok(text),
-            Err(_) => Err(Misplaced::Memory),
+            Err(_) => Err(Refusal::OutOfMemory),
         }
     }
 }

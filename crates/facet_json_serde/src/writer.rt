@@ -5,8 +5,8 @@ ghost use Rattle.facet_json_serializer.specs.OptionsViews.{options_of};
 ghost use Rattle.facet_format.specs.Views.{scalar_value_of};
 ghost use Rattle.facet_json_serde.specs.OneValue.{IsTextOfTree, IsTree};
 
-use crate::fault::{Fault, FaultKind};
-use crate::one_value::{Misplaced, OneValue};
+use crate::fault::{Refusal, WriteFault};
+use crate::one_value::OneValue;
 use facet_format::{Decimal, ScalarValue};
 use facet_json_serializer::SerializeOptions;
 use serde::{Case, NameKind, Serializer};
@@ -30,6 +30,7 @@ use std::fmt::Write;
 /// and there is one root alone. After a refusal, out of memory too, nothing is given out.
 #[derive(Drop)]
 pub struct JsonWriter<'i> {
+    alloc: Global,
     value: OneValue<'i>,
     /// Room for a name in another case, and for printed text.
     room: String,
@@ -42,21 +43,14 @@ pub struct JsonWriter<'i> {
     /// The next map is such a one.
     flattens: bool,
     /// The first fault, for which nothing is given out.
-    failed: Option<Fault>,
-}
-
-/// What a refusal is called.
-fn fault_of(why: Misplaced) -> Fault {
-    match why {
-        Misplaced::Memory => Fault::of(FaultKind::Memory),
-        Misplaced::Call => Fault::of(FaultKind::NotOneValue),
-    }
+    failed: Option<Refusal>,
 }
 
 impl<'i> JsonWriter<'i> {
     /// Nothing is written. It does not allocate.
     pub fn new(alloc: Global, options: SerializeOptions<'i>) -> JsonWriter<'i> {
         JsonWriter {
+            alloc,
             value: OneValue::new(alloc, options),
             room: String::new(alloc),
             at_key: false,
@@ -74,45 +68,42 @@ impl<'i> JsonWriter<'i> {
     ///
     /// The first fault that a call was refused with, even if the type passed over it. Not one value, where nothing was written or a container is
     /// open, or where the options are others.
-    pub fn finish(self, options: &SerializeOptions<'_>) -> Result<Vec<u8>, Fault>
+    pub fn finish(self, options: &SerializeOptions<'_>) -> Result<Vec<u8>, Refusal>
         ensures { IfOk result (λ v. IsTextOfTree (options_of options.now) v.items) }
     {
         let JsonWriter { value, failed, .. } = self;
-        if let Some(fault) = failed {
-            return Err(fault);
+        if let Some(why) = failed {
+            return Err(why);
         }
         if !value.has_options(options) {
-            return Err(Fault::of(FaultKind::NotOneValue));
+            return Err(Refusal::NotOneValue);
         }
-        match value.finish() {
-            Ok(text) => Ok(text),
-            Err(why) => Err(fault_of(why)),
-        }
+        value.finish()
     }
 
     /// Nothing is given out from now on.
     #[cold]
     #[inline(never)]
-    fn fail(&mut self, fault: Fault) -> Fault {
-        let first = self.failed.unwrap_or(fault);
+    fn fail(&mut self, why: Refusal) -> WriteFault {
+        let first = self.failed.unwrap_or(why);
         self.failed = Some(first);
-        fault
+        WriteFault::Refused(why)
     }
 
     /// What an answer becomes.
     #[inline(always)]
-    fn settle(&mut self, answer: Result<(), Misplaced>) -> Result<(), Fault> {
+    fn settle(&mut self, answer: Result<(), Refusal>) -> Result<(), WriteFault> {
         match answer {
             Ok(()) => Ok(()),
-            Err(why) => Err(self.fail(fault_of(why))),
+            Err(why) => Err(self.fail(why)),
         }
     }
 
     /// A map alone can lose its braces.
     #[inline(always)]
-    fn not_flat(&mut self) -> Result<(), Fault> {
+    fn not_flat(&mut self) -> Result<(), WriteFault> {
         if self.flattens {
-            Err(self.fail(Fault::of(FaultKind::InvalidValue)))
+            Err(self.fail(Refusal::InvalidValue))
         } else {
             Ok(())
         }
@@ -120,9 +111,9 @@ impl<'i> JsonWriter<'i> {
 
     /// A container or null is no key.
     #[inline(always)]
-    fn no_key(&mut self) -> Result<(), Fault> {
+    fn no_key(&mut self) -> Result<(), WriteFault> {
         if self.at_key {
-            Err(self.fail(Fault::of(FaultKind::KeyMustBeAString)))
+            Err(self.fail(Refusal::KeyMustBeAString))
         } else {
             Ok(())
         }
@@ -130,7 +121,7 @@ impl<'i> JsonWriter<'i> {
 
     /// Writes a value that holds no others, and is no key.
     #[inline(always)]
-    fn scalar(&mut self, value: ScalarValue<'_>) -> Result<(), Fault>
+    fn scalar(&mut self, value: ScalarValue<'_>) -> Result<(), WriteFault>
         requires { IsTree (scalar_value_of value) }
     {
         let answer = self.value.scalar(value);
@@ -138,7 +129,7 @@ impl<'i> JsonWriter<'i> {
     }
 
     /// Writes the room's text, as a key or as a value.
-    fn room_text(&mut self, is_key: bool) -> Result<(), Fault> {
+    fn room_text(&mut self, is_key: bool) -> Result<(), WriteFault> {
         let text = self.room.as_str();
         let answer = if is_key {
             self.value.key(text)
@@ -149,24 +140,24 @@ impl<'i> JsonWriter<'i> {
     }
 
     /// Writes what is printed, as a key or as a value.
-    fn printed<T: fmt::Display>(&mut self, shown: &T) -> Result<(), Fault> {
+    fn printed<T: fmt::Display>(&mut self, shown: &T) -> Result<(), WriteFault> {
         self.room.clear();
         if write!(self.room, "{shown}").is_err() {
-            return Err(self.fail(Fault::of(FaultKind::Memory)));
+            return Err(self.fail(Refusal::OutOfMemory));
         }
         self.room_text(self.at_key)
     }
 
     /// Writes a key.
     #[inline(always)]
-    fn key_text(&mut self, key: &str) -> Result<(), Fault> {
+    fn key_text(&mut self, key: &str) -> Result<(), WriteFault> {
         let answer = self.value.key(key);
         self.settle(answer)
     }
 
     /// Writes a text, as a key or as a value.
     #[inline(always)]
-    fn text(&mut self, text: &str, is_key: bool) -> Result<(), Fault> {
+    fn text(&mut self, text: &str, is_key: bool) -> Result<(), WriteFault> {
         if is_key {
             return self.key_text(text);
         }
@@ -175,13 +166,13 @@ impl<'i> JsonWriter<'i> {
 
     /// Writes a name, as a key or as a value.
     #[inline(always)]
-    fn name(&mut self, name: &str, case: Case, kind: NameKind, is_key: bool) -> Result<(), Fault> {
+    fn name(&mut self, name: &str, case: Case, kind: NameKind, is_key: bool) -> Result<(), WriteFault> {
         if let Case::AsIs = case {
             return self.text(name, is_key);
         }
         self.room.clear();
         if case.append(kind, name, &mut self.room).is_err() {
-            return Err(self.fail(Fault::of(FaultKind::Memory)));
+            return Err(self.fail(Refusal::OutOfMemory));
         }
         self.room_text(is_key)?;
         Ok(())
@@ -189,22 +180,22 @@ impl<'i> JsonWriter<'i> {
 
     /// Writes the text of a number with a fraction or an exponent.
     #[inline(always)]
-    fn number(&mut self, text: &str) -> Result<(), Fault> {
+    fn number(&mut self, text: &str) -> Result<(), WriteFault> {
         if self.at_key {
             return self.key_text(text);
         }
         match Decimal::new(text) {
             Some(decimal) => self.scalar(ScalarValue::Decimal(decimal)),
-            None => Err(self.fail(Fault::of(FaultKind::InvalidValue))),
+            None => Err(self.fail(Refusal::InvalidValue)),
         }
     }
 }
 
 impl<'i> Serializer for JsonWriter<'i> {
-    type Error = Fault;
+    type Error = WriteFault;
 
     #[inline(always)]
-    fn bool(&mut self, v: bool) -> Result<(), Fault> {
+    fn bool(&mut self, v: bool) -> Result<(), WriteFault> {
         self.not_flat()?;
         if self.at_key {
             self.printed(&v)?;
@@ -214,7 +205,7 @@ impl<'i> Serializer for JsonWriter<'i> {
     }
 
     #[inline(always)]
-    fn i64(&mut self, v: i64) -> Result<(), Fault> {
+    fn i64(&mut self, v: i64) -> Result<(), WriteFault> {
         self.not_flat()?;
         if self.at_key {
             self.printed(&v)?;
@@ -224,7 +215,7 @@ impl<'i> Serializer for JsonWriter<'i> {
     }
 
     #[inline(always)]
-    fn u64(&mut self, v: u64) -> Result<(), Fault> {
+    fn u64(&mut self, v: u64) -> Result<(), WriteFault> {
         self.not_flat()?;
         if self.at_key {
             self.printed(&v)?;
@@ -233,7 +224,7 @@ impl<'i> Serializer for JsonWriter<'i> {
         self.scalar(ScalarValue::U64(v))
     }
 
-    fn i128(&mut self, v: i128) -> Result<(), Fault> {
+    fn i128(&mut self, v: i128) -> Result<(), WriteFault> {
         self.not_flat()?;
         if self.at_key {
             self.printed(&v)?;
@@ -242,7 +233,7 @@ impl<'i> Serializer for JsonWriter<'i> {
         self.scalar(ScalarValue::I128(v))
     }
 
-    fn u128(&mut self, v: u128) -> Result<(), Fault> {
+    fn u128(&mut self, v: u128) -> Result<(), WriteFault> {
         self.not_flat()?;
         if self.at_key {
             self.printed(&v)?;
@@ -251,7 +242,7 @@ impl<'i> Serializer for JsonWriter<'i> {
         self.scalar(ScalarValue::U128(v))
     }
 
-    fn f32(&mut self, v: f32) -> Result<(), Fault> {
+    fn f32(&mut self, v: f32) -> Result<(), WriteFault> {
         self.not_flat()?;
         if !v.is_finite() {
             return self.unit();
@@ -260,7 +251,7 @@ impl<'i> Serializer for JsonWriter<'i> {
     }
 
     #[inline(always)]
-    fn f64(&mut self, v: f64) -> Result<(), Fault> {
+    fn f64(&mut self, v: f64) -> Result<(), WriteFault> {
         self.not_flat()?;
         if !v.is_finite() {
             return self.unit();
@@ -268,7 +259,7 @@ impl<'i> Serializer for JsonWriter<'i> {
         self.number(ryu::Buffer::new().format_finite(v))
     }
 
-    fn char(&mut self, v: char) -> Result<(), Fault> {
+    fn char(&mut self, v: char) -> Result<(), WriteFault> {
         self.not_flat()?;
         if self.at_key {
             self.printed(&v)?;
@@ -278,19 +269,19 @@ impl<'i> Serializer for JsonWriter<'i> {
     }
 
     #[inline(always)]
-    fn str(&mut self, v: &str) -> Result<(), Fault> {
+    fn str(&mut self, v: &str) -> Result<(), WriteFault> {
         self.not_flat()?;
         self.text(v, self.at_key)
     }
 
-    fn bytes(&mut self, v: &[u8]) -> Result<(), Fault> {
+    fn bytes(&mut self, v: &[u8]) -> Result<(), WriteFault> {
         self.not_flat()?;
         self.no_key()?;
         self.scalar(ScalarValue::Bytes(v))
     }
 
     #[inline(always)]
-    fn unit(&mut self) -> Result<(), Fault> {
+    fn unit(&mut self) -> Result<(), WriteFault> {
         self.no_key()?;
         if self.flattens {
             self.flattens = false;
@@ -299,13 +290,13 @@ impl<'i> Serializer for JsonWriter<'i> {
         self.scalar(ScalarValue::Null)
     }
 
-    fn str_cased(&mut self, name: &str, case: Case) -> Result<(), Fault> {
+    fn str_cased(&mut self, name: &str, case: Case) -> Result<(), WriteFault> {
         self.not_flat()?;
         self.name(name, case, NameKind::Variant, self.at_key)
     }
 
     #[inline(always)]
-    fn begin_seq(&mut self, _len: Option<usize>) -> Result<(), Fault> {
+    fn begin_seq(&mut self, _len: Option<usize>) -> Result<(), WriteFault> {
         self.not_flat()?;
         self.no_key()?;
         let answer = self.value.begin_list();
@@ -313,13 +304,13 @@ impl<'i> Serializer for JsonWriter<'i> {
     }
 
     #[inline(always)]
-    fn end_seq(&mut self) -> Result<(), Fault> {
+    fn end_seq(&mut self) -> Result<(), WriteFault> {
         let answer = self.value.end_list();
         self.settle(answer)
     }
 
     #[inline(always)]
-    fn begin_map(&mut self, _len: Option<usize>) -> Result<(), Fault> {
+    fn begin_map(&mut self, _len: Option<usize>) -> Result<(), WriteFault> {
         self.no_key()?;
         let level = self.depth;
         self.depth = level.saturating_add(1);
@@ -327,7 +318,7 @@ impl<'i> Serializer for JsonWriter<'i> {
             self.flattens = false;
             return match self.flat.push(level) {
                 Ok(()) => Ok(()),
-                Err(_) => Err(self.fail(Fault::of(FaultKind::Memory))),
+                Err(_) => Err(self.fail(Refusal::OutOfMemory)),
             };
         }
         let answer = self.value.begin_struct();
@@ -335,7 +326,7 @@ impl<'i> Serializer for JsonWriter<'i> {
     }
 
     #[inline(always)]
-    fn end_map(&mut self) -> Result<(), Fault> {
+    fn end_map(&mut self) -> Result<(), WriteFault> {
         self.depth = self.depth.saturating_sub(1);
         if self.flat.last() == Some(&self.depth) {
             self.flat.pop();
@@ -346,35 +337,35 @@ impl<'i> Serializer for JsonWriter<'i> {
     }
 
     #[inline(always)]
-    fn key_cased(&mut self, name: &str, case: Case) -> Result<(), Fault> {
+    fn key_cased(&mut self, name: &str, case: Case) -> Result<(), WriteFault> {
         self.name(name, case, NameKind::Field, true)
     }
 
-    fn variant_key(&mut self, name: &str, case: Case) -> Result<(), Fault> {
+    fn variant_key(&mut self, name: &str, case: Case) -> Result<(), WriteFault> {
         self.name(name, case, NameKind::Variant, true)
     }
 
-    fn begin_key(&mut self) -> Result<(), Fault> {
+    fn begin_key(&mut self) -> Result<(), WriteFault> {
         self.at_key = true;
         Ok(())
     }
 
-    fn end_key(&mut self) -> Result<(), Fault> {
+    fn end_key(&mut self) -> Result<(), WriteFault> {
         self.at_key = false;
         Ok(())
     }
 
-    fn flatten_next(&mut self) -> Result<(), Fault> {
+    fn flatten_next(&mut self) -> Result<(), WriteFault> {
         self.flattens = true;
         Ok(())
     }
 
-    fn collect_str<T: fmt::Display>(&mut self, value: &T) -> Result<(), Fault> {
+    fn collect_str<T: fmt::Display>(&mut self, value: &T) -> Result<(), WriteFault> {
         self.not_flat()?;
         self.printed(value)
     }
 
-    fn custom(&self, message: &str) -> Fault {
-        Fault::of(FaultKind::Custom).about(message)
+    fn custom(&self, message: &str) -> WriteFault {
+        WriteFault::custom(self.alloc, message)
     }
 }

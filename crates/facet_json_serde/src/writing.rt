@@ -6,7 +6,7 @@ ghost use Rattle.facet_json_serializer.specs.OptionsViews.{options_of};
 ghost use Rattle.facet_json_serde.specs.OneValue.{IsTextOfTree};
 
 use crate::error::Error;
-use crate::fault::{Fault, FaultKind};
+use crate::fault::{Refusal, WriteFault};
 use crate::writer::JsonWriter;
 use facet_json_serializer::SerializeOptions;
 use serde::Serialize;
@@ -91,7 +91,7 @@ pub fn to_string_with_options<'t, T: Serialize>(
 {
     match String::from_utf8(to_vec_with_options(alloc, value, options)?) {
         Ok(text) => Ok(text),
-        Err(_) => Err(Error::from(Fault::of(FaultKind::InvalidValue))),
+        Err(_) => Err(Error::from(Refusal::InvalidValue)),
     }
 }
 
@@ -100,10 +100,10 @@ fn written<T: Serialize>(
     alloc: Global,
     value: &T,
     options: &SerializeOptions<'_>,
-) -> Result<Vec<u8>, Fault>
+) -> Result<Vec<u8>, WriteFault>
     ensures { IfOk result (λ v. IsTextOfTree (options_of options.now) v.items) }
 {
     let mut writer = JsonWriter::new(alloc, *options);
     value.serialize(&mut writer)?;
-    writer.finish(options)
+    Ok(writer.finish(options)?)
 }
