@@ -1,4 +1,4 @@
-//! Texts without an escape, from their bytes, sixteen at a time.
+//! Texts without an escape, from their bytes, thirty-two at a time.
 
 ghost use Rattle.std.specs.Prelude.{◌≡◌, ◌<◌, ◌+◌, ℕ, Bool, true, not, length, Some, slice_get, slice_range, IfSome, IsUtf8, ◌≤◌, drop, map};
 ghost use Rattle.facet_format.specs.Bytes.{quote, space};
@@ -120,8 +120,8 @@ trait Ends {
     /// By the bound, whether a byte is one of them.
     ghost ends: { ℕ → ℕ → Bool };
 
-    /// A bit for each of sixteen bytes that is one of them.
-    fn stops(window: u8x16, least: u8) -> u64
+    /// A bit for each of thirty-two bytes that is one of them.
+    fn stops(window: u8x32, least: u8) -> u64
         ensures { result ≡ mask_l (map (ends least) window) };
 
     /// Whether a byte is one of them.
@@ -141,9 +141,9 @@ impl Ends for Unescaped {
     ghost unescaped = { λ least b e. e };
 
     #[inline(always)]
-    fn stops(window: u8x16, least: u8) -> u64 {
-        let ends = window.simd_eq(u8x16::splat(b'"')) | window.simd_eq(u8x16::splat(b'\\'));
-        (ends | window.simd_lt(u8x16::splat(least))).to_bitmask()
+    fn stops(window: u8x32, least: u8) -> u64 {
+        let ends = window.simd_eq(u8x32::splat(b'"')) | window.simd_eq(u8x32::splat(b'\\'));
+        (ends | window.simd_lt(u8x32::splat(least))).to_bitmask()
     }
 
     #[inline(always)]
@@ -161,9 +161,9 @@ impl Ends for Ordinary {
     ghost unescaped = { ordinary-unescaped };
 
     #[inline(always)]
-    fn stops(window: u8x16, least: u8) -> u64 {
-        let ends = window.simd_eq(u8x16::splat(b'"')) | window.simd_eq(u8x16::splat(b'\\'));
-        let others = window.simd_ge(u8x16::splat(0x80)) | window.simd_lt(u8x16::splat(least));
+    fn stops(window: u8x32, least: u8) -> u64 {
+        let ends = window.simd_eq(u8x32::splat(b'"')) | window.simd_eq(u8x32::splat(b'\\'));
+        let others = window.simd_ge(u8x32::splat(0x80)) | window.simd_lt(u8x32::splat(least));
         (ends | others).to_bitmask()
     }
 
@@ -182,12 +182,12 @@ fn run_end<E: Ends>(buffer: &[u8], from: usize, least: u8) -> usize
     ensures within { result ≤ length buffer.now }
 {
     let mut at = from;
-    while buffer.len() - at >= 16 {
-        let found = E::stops(u8x16::from_slice(&buffer[at..]), least);
+    while buffer.len() - at >= 32 {
+        let found = E::stops(u8x32::from_slice(&buffer[at..]), least);
         if found != 0 {
             return at + found.trailing_zeros() as usize;
         }
-        at += 16;
+        at += 32;
     }
     run_end_bytewise::<E>(buffer, at, least)
 }

@@ -22,7 +22,7 @@ returns c =
     let v = c.args.window in
     let least = c.args.least in
     let long = c.fits-window.0 in
-    let ends = lanes-either (λ x. eqb x quote) (λ x. eqb x backslash) v (zip2_splat equal v 16 _ long) (zip2_splat equal v 16 _ long) in
-    let others = lanes-either is_high (λ x. ltb x least) v (zip2_splat_left at_most _ 16 v long) (zip2_splat below v 16 _ long) in
+    let ends = lanes-either (λ x. eqb x quote) (λ x. eqb x backslash) v (zip2_splat equal v 32 _ long) (zip2_splat equal v 32 _ long) in
+    let others = lanes-either is_high (λ x. ltb x least) v (zip2_splat_left at_most _ 32 v long) (zip2_splat below v 32 _ long) in
     let all = lanes-either is_stop (λ x. is_high x || ltb x least) v ends others in
     lanes-masked _ (is_mark least) v _ (omega arith) all (λ x. turned (is_stop x) (is_high x) (ltb x least))

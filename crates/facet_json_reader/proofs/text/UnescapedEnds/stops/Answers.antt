@@ -13,6 +13,6 @@ returns c =
     let v = c.args.window in
     let least = c.args.least in
     let long = c.fits-window.0 in
-    let ends = lanes-either (λ x. eqb x quote) (λ x. eqb x backslash) v (zip2_splat equal v 16 _ long) (zip2_splat equal v 16 _ long) in
-    let all = lanes-either is_stop (λ x. ltb x least) v ends (zip2_splat below v 16 _ long) in
+    let ends = lanes-either (λ x. eqb x quote) (λ x. eqb x backslash) v (zip2_splat equal v 32 _ long) (zip2_splat equal v 32 _ long) in
+    let all = lanes-either is_stop (λ x. ltb x least) v ends (zip2_splat below v 32 _ long) in
     lanes-masked (is_stop_from least) (is_stop_from least) v _ (omega arith) all (λ x. refl)
