@@ -18,7 +18,7 @@ pub use contexts::Contexts;
 pub use language::Language;
 pub use materialized::{MaterializedToken, TokenKind};
 pub use moving::Sought;
-pub use number::{Whole, short_number, short_number_strict};
+pub use number::Whole;
 pub use place::{Place, Turn};
 pub use reader::{Held, Reader, Stage};
 pub use refusal::{Expected, Inside, Name, NoRaw, Refused, Why};

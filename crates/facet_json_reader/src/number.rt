@@ -30,34 +30,6 @@ use std::simd::prelude::*;
 /// The length of a number and its value.
 type Measured<'de> = (usize, ScalarValue<'de>);
 
-/// The length and the value of the number at `at`, of which this is the first byte, where it allocates nothing.
-#[inline(always)]
-pub fn short_number<'de>(input: &'de [u8], at: usize, first: u8) -> Option<Measured<'de>>
-    requires here { slice_get input.now at ≡ Some first }
-    requires number { start_of first ≡ opens_number }
-    ensures { IfSome result (λ r. IsScalarThere input.now at r.0 (scalar_value_of r.1)) }
-{
-    match whole_number(input, at, first) {
-        Some(whole) => Some(whole),
-        None => value_of_parts(input, at, parts_at(input, at)),
-    }
-}
-
-/// The same, where it is a number of RFC 8259.
-#[inline(always)]
-pub fn short_number_strict<'de>(input: &'de [u8], at: usize, first: u8) -> Option<Measured<'de>>
-    requires here { slice_get input.now at ≡ Some first }
-    requires number { start_of first ≡ opens_number }
-    ensures there { IfSome result (λ r. IsScalarThere input.now at r.0 (scalar_value_of r.1)) }
-    ensures strict { IfSome result (λ r. IsRfcNumber (slice_range input.now at (at + r.0))) }
-{
-    match whole_number(input, at, first) {
-        Some((len, value)) if leads_by_no_zero(input, at, first, len) => Some((len, value)),
-        Some(_) => None,
-        None => measured_number_strict(input, at, first),
-    }
-}
-
 /// A whole number of at most fifteen digits.
 #[derive(Clone, Copy)]
 pub enum Whole {
@@ -65,6 +37,19 @@ pub enum Whole {
     Unsigned(u64),
     /// One with a minus.
     Signed(i64),
+}
+
+impl Whole {
+    /// The number as a scalar.
+    #[inline(always)]
+    pub(crate) fn scalar<'de>(self) -> ScalarValue<'de>
+        ensures { scalar_value_of result ≡ whole_scalar self }
+    {
+        match self {
+            Whole::Unsigned(n) => ScalarValue::U64(n),
+            Whole::Signed(n) => ScalarValue::I64(n),
+        }
+    }
 }
 
 /// The length and the value of the whole number at `at`, of which this is the first byte, where it is short and enough bytes stand there.
@@ -112,6 +97,22 @@ pub(crate) fn short_whole_in(
     }
 }
 
+/// The same, apart from the code that asks.
+#[inline(never)]
+pub(crate) fn short_whole_apart(
+    input: &[u8],
+    language: Language,
+    at: usize,
+    first: u8,
+) -> Option<(usize, Whole)>
+    requires here { slice_get input.now at ≡ Some first }
+    requires number { start_of first ≡ opens_number }
+    ensures { IfSome result (λ r. (there : IsScalarThere input.now at r.0 (whole_scalar r.1))
+        × Allows (language_of language) input.now (record { kind = there.kind; span = span_at at r.0 })) }
+{
+    short_whole_in(input, language, at, first)
+}
+
 /// The whole number of 64 bits that a scalar is.
 #[inline(always)]
 fn whole_of(value: ScalarValue<'_>) -> Option<Whole>
@@ -138,9 +139,19 @@ fn leads_by_no_zero(input: &[u8], at: usize, first: u8, len: usize) -> bool
     }
 }
 
-/// The same for each number of RFC 8259, part by part.
+/// The length and the value of the number at `at`, of which this is the first byte, where it allocates nothing, part by part.
 #[inline(always)]
-fn measured_number_strict<'de>(input: &'de [u8], at: usize, first: u8) -> Option<Measured<'de>>
+pub(crate) fn measured_number<'de>(input: &'de [u8], at: usize, first: u8) -> Option<Measured<'de>>
+    requires here { slice_get input.now at ≡ Some first }
+    requires number { start_of first ≡ opens_number }
+    ensures { IfSome result (λ r. IsScalarThere input.now at r.0 (scalar_value_of r.1)) }
+{
+    value_of_parts(input, at, parts_at(input, at))
+}
+
+/// The same, where it is a number of RFC 8259.
+#[inline(always)]
+pub(crate) fn measured_number_strict<'de>(input: &'de [u8], at: usize, first: u8) -> Option<Measured<'de>>
     requires here { slice_get input.now at ≡ Some first }
     requires number { start_of first ≡ opens_number }
     ensures there { IfSome result (λ r. IsScalarThere input.now at r.0 (scalar_value_of r.1)) }
