@@ -1,6 +1,7 @@
 -- Definitions that serve private contracts alone.
 pub mod Digits
 pub mod Quick
+pub mod Short
 pub mod Soughts
 pub mod Whole
 pub mod Window

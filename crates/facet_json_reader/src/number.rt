@@ -1,17 +1,16 @@
 //! Numbers that are read without an allocation, from their bytes: eight digits by one word, whole numbers, and all others by their parts.
 
 ghost use Rattle.std.specs.Prelude.{◌≡◌, ◌+◌, ◌≤◌, true, false, Some, length, drop, slice_get, slice_range, IfSome, ℕ, ◌<◌, ◌^◌, take, ◌≢◌, ◌==◌, ◌||◌, pos, neg_ℤ, map};
-ghost use Rattle.facet_format.specs.Number.{AreDigits};
+ghost use Rattle.facet_format.specs.Number.{AreDigits, float};
 ghost use Rattle.facet_format.specs.NumberValue.{digits_value};
-ghost use Rattle.facet_format.specs.NumberParts.{parts as number_parts, parts_len};
+ghost use Rattle.facet_format.specs.Event.{decimal, borrowed};
+ghost use Rattle.facet_format.specs.NumberParts.{parts as number_parts, parts_len, is_number};
 ghost use Rattle.facet_format.specs.Views.{scalar_value_of};
 ghost use Rattle.facet_json_token.specs.Cut.{start_of, opens_number};
-ghost use Rattle.facet_json_token.specs.Token.{Kind};
-ghost use Rattle.facet_json_token.specs.NumberViews.{number_of, is_made_number};
-ghost use Rattle.facet_json_document.specs.Meaning.{tree_of_number};
-ghost use Rattle.facet_json_document.specs.Walk.{scalar_by};
+ghost use Rattle.facet_json_token.specs.NumberViews.{number_of};
 ghost use Rattle.facet_json_token.specs.RfcNumber.{SomeDigits, IsRfcNumber};
 ghost use Rattle.facet_json_reader.specs.Inner.Whole.{digits_from, OpensNumber, IsWholeNumber, whole_scalar};
+ghost use Rattle.facet_json_reader.specs.Inner.Short.{IsShortNumber, short_value, told_of};
 ghost use Rattle.facet_json_reader.specs.Values.{IsScalarThere};
 ghost use Rattle.facet_format.specs.Span.{span_at};
 ghost use Rattle.facet_json_document.specs.StrictTokens.{Allows};
@@ -23,7 +22,7 @@ ghost use Rattle.facet_format.specs.Inner.Window.{is_no_digit};
 
 use crate::language::Language;
 use facet_format::ScalarValue;
-use facet_format::numeral::{Parts, parts_at};
+use facet_format::numeral::{NumberHint, Parts, parts_at};
 use facet_json_token::{ParsedNumber, has_rfc_parts, parse_measured};
 use std::simd::prelude::*;
 
@@ -97,22 +96,6 @@ pub(crate) fn short_whole_in(
     }
 }
 
-/// The same, apart from the code that asks.
-#[inline(never)]
-pub(crate) fn short_whole_apart(
-    input: &[u8],
-    language: Language,
-    at: usize,
-    first: u8,
-) -> Option<(usize, Whole)>
-    requires here { slice_get input.now at ≡ Some first }
-    requires number { start_of first ≡ opens_number }
-    ensures { IfSome result (λ r. (there : IsScalarThere input.now at r.0 (whole_scalar r.1))
-        × Allows (language_of language) input.now (record { kind = there.kind; span = span_at at r.0 })) }
-{
-    short_whole_in(input, language, at, first)
-}
-
 /// The whole number of 64 bits that a scalar is.
 #[inline(always)]
 fn whole_of(value: ScalarValue<'_>) -> Option<Whole>
@@ -139,38 +122,78 @@ fn leads_by_no_zero(input: &[u8], at: usize, first: u8, len: usize) -> bool
     }
 }
 
-/// The length and the value of the number at `at`, of which this is the first byte, where it allocates nothing, part by part.
+/// The length of a number that allocates nothing, and its value where it is whole. Any other is a decimal, whose value is its text.
+type Short = (usize, Option<Whole>);
+
+/// The number at `at`, of which this is the first byte, where it allocates nothing and the language allows it.
 #[inline(always)]
-pub(crate) fn measured_number<'de>(input: &'de [u8], at: usize, first: u8) -> Option<Measured<'de>>
+pub(crate) fn short_number_in(
+    input: &[u8],
+    language: Language,
+    at: usize,
+    first: u8,
+) -> Option<Short>
     requires here { slice_get input.now at ≡ Some first }
     requires number { start_of first ≡ opens_number }
-    ensures { IfSome result (λ r. IsScalarThere input.now at r.0 (scalar_value_of r.1)) }
+    ensures there { IfSome result (λ r. IsShortNumber input.now at r.0 r.1) }
+    ensures allowed { IfSome result (λ r. (there : IsScalarThere input.now at r.0 (short_value (slice_range input.now at (at + r.0)) r.1))
+        × Allows (language_of language) input.now (record { kind = there.kind; span = span_at at r.0 })) }
 {
-    value_of_parts(input, at, parts_at(input, at))
+    match language {
+        Language::Lenient(_) => short_number(input, at, first),
+        Language::Strict(_) => short_number_strict(input, at, first),
+    }
 }
 
-/// The same, where it is a number of RFC 8259.
-#[inline(always)]
-pub(crate) fn measured_number_strict<'de>(input: &'de [u8], at: usize, first: u8) -> Option<Measured<'de>>
+/// The same in each language but RFC 8259 alone. It is compiled apart, and its answer is small, so that no event needs memory.
+#[inline(never)]
+fn short_number(input: &[u8], at: usize, first: u8) -> Option<Short>
     requires here { slice_get input.now at ≡ Some first }
     requires number { start_of first ≡ opens_number }
-    ensures there { IfSome result (λ r. IsScalarThere input.now at r.0 (scalar_value_of r.1)) }
+    ensures { IfSome result (λ r. IsShortNumber input.now at r.0 r.1) }
+{
+    match short_whole(input, at, first) {
+        Some((len, whole)) => Some((len, Some(whole))),
+        None => short_by_parts(input, at, parts_at(input, at)),
+    }
+}
+
+/// The same where RFC 8259 alone is read.
+#[inline(never)]
+fn short_number_strict(input: &[u8], at: usize, first: u8) -> Option<Short>
+    requires here { slice_get input.now at ≡ Some first }
+    requires number { start_of first ≡ opens_number }
+    ensures there { IfSome result (λ r. IsShortNumber input.now at r.0 r.1) }
+    ensures strict { IfSome result (λ r. IsRfcNumber (slice_range input.now at (at + r.0))) }
+{
+    match short_whole_strict(input, at, first) {
+        Some((len, whole)) => Some((len, Some(whole))),
+        None => short_by_rfc_parts(input, at, first),
+    }
+}
+
+/// The same part by part.
+#[inline(always)]
+fn short_by_rfc_parts(input: &[u8], at: usize, first: u8) -> Option<Short>
+    requires here { slice_get input.now at ≡ Some first }
+    requires number { start_of first ≡ opens_number }
+    ensures there { IfSome result (λ r. IsShortNumber input.now at r.0 r.1) }
     ensures strict { IfSome result (λ r. IsRfcNumber (slice_range input.now at (at + r.0))) }
 {
     let parts = parts_at(input, at);
     if !has_rfc_parts(parts, &input[at..]) {
         return None;
     }
-    value_of_parts(input, at, parts)
+    short_by_parts(input, at, parts)
 }
 
 /// The same of the number at `at` that has these parts.
 #[inline(always)]
-fn value_of_parts<'de>(input: &'de [u8], at: usize, parts: Parts) -> Option<Measured<'de>>
+fn short_by_parts(input: &[u8], at: usize, parts: Parts) -> Option<Short>
     requires here { OpensNumber input.now at }
     requires parts { parts ≡ number_parts (drop at input.now) }
     requires within { at + parts_len parts ≤ length input.now }
-    ensures there { IfSome result (λ r. IsScalarThere input.now at r.0 (scalar_value_of r.1)) }
+    ensures there { IfSome result (λ r. IsShortNumber input.now at r.0 r.1) }
     ensures all { IfSome result (λ r. r.0 ≡ parts_len parts) }
 {
     let len = parts.len();
@@ -178,24 +201,51 @@ fn value_of_parts<'de>(input: &'de [u8], at: usize, parts: Parts) -> Option<Meas
         return None;
     }
     match parse_measured(input, at, at + len, parts.hint()) {
-        Ok(number) => match short_scalar(number) {
-            Some(value) => Some((len, value)),
-            None => None,
-        },
+        Ok(number) => Some((len, short_of(number)?)),
         Err(_) => None,
     }
 }
 
-/// The number as a scalar, where it allocates nothing.
+/// What is told of the number, where it allocates nothing.
 #[inline(always)]
-fn short_scalar<'de>(number: ParsedNumber<'de>) -> Option<ScalarValue<'de>>
-    ensures { (kind : Kind) → is_made_number number.entry ≡ false
-        → IfSome result (λ v. scalar_value_of v ≡ scalar_by kind (tree_of_number (number_of number.entry))) }
+fn short_of(number: ParsedNumber<'_>) -> Option<Option<Whole>>
+    ensures { told_of (number_of number.entry) ≡ result }
 {
     match number {
-        ParsedNumber::U64(n) => Some(ScalarValue::U64(n)),
-        ParsedNumber::I64(n) => Some(ScalarValue::I64(n)),
-        ParsedNumber::Decimal(decimal) => Some(ScalarValue::Decimal(decimal)),
+        ParsedNumber::U64(n) => Some(Some(Whole::Unsigned(n))),
+        ParsedNumber::I64(n) => Some(Some(Whole::Signed(n))),
+        ParsedNumber::Decimal(_) => Some(None),
+        _ => None,
+    }
+}
+
+/// The value of the number of so many bytes at `at`, of which that is told.
+#[inline(always)]
+pub(crate) fn scalar_of<'de>(
+    input: &'de [u8],
+    at: usize,
+    len: usize,
+    whole: Option<Whole>,
+) -> Option<ScalarValue<'de>>
+    requires room { at ≤ length input.now }
+    requires there { IsShortNumber input.now at len whole }
+    ensures { IfSome result (λ v. scalar_value_of v ≡ short_value (slice_range input.now at (at + len)) whole) }
+{
+    match whole {
+        Some(whole) => Some(whole.scalar()),
+        None => decimal_at(input, at, len),
+    }
+}
+
+/// The decimal of so many bytes at `at`.
+#[inline(always)]
+fn decimal_at<'de>(input: &'de [u8], at: usize, len: usize) -> Option<ScalarValue<'de>>
+    requires within { at + len ≤ length input.now }
+    requires number { is_number (slice_range input.now at (at + len)) float ≡ true }
+    ensures { IfSome result (λ v. scalar_value_of v ≡ decimal (borrowed (slice_range input.now at (at + len)))) }
+{
+    match parse_measured(input, at, at + len, NumberHint::Float) {
+        Ok(ParsedNumber::Decimal(decimal)) => Some(ScalarValue::Decimal(decimal)),
         _ => None,
     }
 }

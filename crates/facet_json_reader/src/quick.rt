@@ -19,7 +19,7 @@ ghost use Rattle.facet_json_reader.specs.Inner.Quick.{MayBeKey, MayBeValue, Reac
 ghost use Rattle.facet_json_reader.specs.Views.{stage_of};
 
 use crate::language::Language;
-use crate::number::{measured_number, measured_number_strict, short_whole_apart};
+use crate::number::{scalar_of, short_number_in};
 use crate::place::Place;
 use crate::reader::{Reader, Stage, closing, opening};
 use crate::text::text_at;
@@ -152,7 +152,7 @@ impl Reader {
             b't' => self.pass_word(input, at, b"true", ScalarValue::Bool(true)),
             b'f' => self.pass_word(input, at, b"false", ScalarValue::Bool(false)),
             b'n' => self.pass_word(input, at, b"null", ScalarValue::Null),
-            b'-' | b'0'..=b'9' => self.pass_number_apart(input, language, at, first),
+            b'-' | b'0'..=b'9' => self.pass_number(input, language, at, first),
             _ => None,
         }
     }
@@ -205,84 +205,22 @@ impl Reader {
         }
     }
 
-    /// Passes a number that allocates nothing, most likely a short whole one.
+    /// Passes a number that allocates nothing, of which this is the first byte.
     #[inline(always)]
-    fn pass_number_apart<'de>(
-        &mut self,
-        input: &'de [u8],
-        language: Language,
-        at: usize,
-        first: u8,
-    ) -> Option<ParseEvent<'de>>
-        requires here { slice_get input.now at ≡ Some first }
-        requires number { start_of first ≡ opens_number }
-        ensures { (place : SpecPlace) → MayBeValue place → Reaches input.now (language_of language) self.old place at
-            → MatchOption result (self.new ≡ self.old) (λ e. PassesQuickly input.now (language_of language) self.old (event_of e) self.new) }
-    {
-        match short_whole_apart(input, language, at, first) {
-            Some((len, whole)) => Some(self.pass_scalar(whole.scalar(), Span::new(at, len))),
-            None => self.pass_other_number(input, language, at, first),
-        }
-    }
-
-    /// Passes any other number that allocates nothing. The answer of the function that does it is a value of its own: so no other event
-    /// needs memory.
-    #[inline(always)]
-    fn pass_other_number<'de>(
-        &mut self,
-        input: &'de [u8],
-        language: Language,
-        at: usize,
-        first: u8,
-    ) -> Option<ParseEvent<'de>>
-        requires here { slice_get input.now at ≡ Some first }
-        requires number { start_of first ≡ opens_number }
-        ensures { (place : SpecPlace) → MayBeValue place → Reaches input.now (language_of language) self.old place at
-            → MatchOption result (self.new ≡ self.old) (λ e. PassesQuickly input.now (language_of language) self.old (event_of e) self.new) }
-    {
-        match language {
-            Language::Lenient(_) => {
-                let event = self.pass_number(input, at, first);
-                event
-            }
-            Language::Strict(_) => {
-                let event = self.pass_number_strict(input, at, first);
-                event
-            }
-        }
-    }
-
-    /// Passes a number that allocates nothing, of which this is the first byte, part by part.
-    #[inline(never)]
     fn pass_number<'de>(
         &mut self,
         input: &'de [u8],
+        language: Language,
         at: usize,
         first: u8,
     ) -> Option<ParseEvent<'de>>
         requires here { slice_get input.now at ≡ Some first }
         requires number { start_of first ≡ opens_number }
-        ensures { (mode : SpecMode) (place : SpecPlace) → MayBeValue place → Reaches input.now (lenient mode) self.old place at
-            → MatchOption result (self.new ≡ self.old) (λ e. PassesQuickly input.now (lenient mode) self.old (event_of e) self.new) }
+        ensures { (place : SpecPlace) → MayBeValue place → Reaches input.now (language_of language) self.old place at
+            → MatchOption result (self.new ≡ self.old) (λ e. PassesQuickly input.now (language_of language) self.old (event_of e) self.new) }
     {
-        let (len, value) = measured_number(input, at, first)?;
-        Some(self.pass_scalar(value, Span::new(at, len)))
-    }
-
-    /// The same where RFC 8259 alone is read.
-    #[inline(never)]
-    fn pass_number_strict<'de>(
-        &mut self,
-        input: &'de [u8],
-        at: usize,
-        first: u8,
-    ) -> Option<ParseEvent<'de>>
-        requires here { slice_get input.now at ≡ Some first }
-        requires number { start_of first ≡ opens_number }
-        ensures { (mode : SpecMode) (place : SpecPlace) → MayBeValue place → Reaches input.now (strict mode) self.old place at
-            → MatchOption result (self.new ≡ self.old) (λ e. PassesQuickly input.now (strict mode) self.old (event_of e) self.new) }
-    {
-        let (len, value) = measured_number_strict(input, at, first)?;
+        let (len, whole) = short_number_in(input, language, at, first)?;
+        let value = scalar_of(input, at, len, whole)?;
         Some(self.pass_scalar(value, Span::new(at, len)))
     }
 

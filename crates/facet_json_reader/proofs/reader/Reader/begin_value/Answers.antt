@@ -9,8 +9,8 @@ use Rattle.facet_json_reader.specs.Inner.Quick.{null_stands, true_stands, false_
 use Rattle.facet_json_reader.proofs.QuickEvents.{start-passes}
 use Rattle.facet_json_reader.proofs.reader.Reader.begin_value.Goals as goal
 
-pub pass_number_apart-requires-clause-number : goal.pass_number_apart-requires-clause-number
-pass_number_apart-requires-clause-number c = start_of-number_range c.args.first (grind arith) (grind arith) (grind arith) (grind arith)
+pub pass_number-requires-clause-number : goal.pass_number-requires-clause-number
+pass_number-requires-clause-number c = start_of-number_range c.args.first (grind arith) (grind arith) (grind arith) (grind arith)
 
 pub returns-in-123 : goal.returns-in-123
 returns-in-123 c =
@@ -40,4 +40,4 @@ returns-in-110 c =
     c.pass_word-in-110.ensures (language_of c.args.language) (place_of c.args.place) byte.lower_n null_stands (c.requires.here ∙ ap Some c.in-110.is) (c.if-not-takes_value.ensures refl) reached
 
 pub returns-in-45 : goal.returns-in-45
-returns-in-45 c = λ reached. c.pass_number_apart.ensures (place_of c.args.place) (c.if-not-takes_value.ensures refl) reached
+returns-in-45 c = λ reached. c.pass_number.ensures (place_of c.args.place) (c.if-not-takes_value.ensures refl) reached

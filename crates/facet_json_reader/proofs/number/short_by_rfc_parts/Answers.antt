@@ -4,12 +4,12 @@ use Rattle.std.proofs.lemmas.List.{take_rest}
 use Rattle.std.proofs.lemmas.Option.{IfSome_then}
 use Rattle.facet_json_token.specs.RfcNumberTest.{are_rfc_parts}
 use Rattle.facet_json_reader.proofs.RfcNumbersThere.{parts-strict}
-use Rattle.facet_json_reader.proofs.number.measured_number_strict.Goals as goal
+use Rattle.facet_json_reader.proofs.number.short_by_rfc_parts.Goals as goal
 
 pub returns-clause-strict : goal.returns-clause-strict
 returns-clause-strict c =
     let q = c.parts_at-parts.result in
     let rest = ap (are_rfc_parts q) (sym (take_rest c.args.input.now c.args.at)) in
     let tests = rest ∙ sym c.has_rfc_parts.ensures ∙ c.if-not-has_rfc_parts.false in
-    IfSome_then c.value_of_parts.result c.value_of_parts.ensures.all
+    IfSome_then c.short_by_parts.result c.short_by_parts.ensures.all
     (λ r all. parts-strict c.args.input.now c.args.at r.0 q c.parts_at-parts.ensures.parts all tests)
