@@ -219,27 +219,9 @@ fn short_of(number: ParsedNumber<'_>) -> Option<Option<Whole>>
     }
 }
 
-/// The value of the number of so many bytes at `at`, of which that is told.
-#[inline(always)]
-pub(crate) fn scalar_of<'de>(
-    input: &'de [u8],
-    at: usize,
-    len: usize,
-    whole: Option<Whole>,
-) -> Option<ScalarValue<'de>>
-    requires room { at ≤ length input.now }
-    requires there { IsShortNumber input.now at len whole }
-    ensures { IfSome result (λ v. scalar_value_of v ≡ short_value (slice_range input.now at (at + len)) whole) }
-{
-    match whole {
-        Some(whole) => Some(whole.scalar()),
-        None => decimal_at(input, at, len),
-    }
-}
-
 /// The decimal of so many bytes at `at`.
 #[inline(always)]
-fn decimal_at<'de>(input: &'de [u8], at: usize, len: usize) -> Option<ScalarValue<'de>>
+pub(crate) fn decimal_at<'de>(input: &'de [u8], at: usize, len: usize) -> Option<ScalarValue<'de>>
     requires within { at + len ≤ length input.now }
     requires number { is_number (slice_range input.now at (at + len)) float ≡ true }
     ensures { IfSome result (λ v. scalar_value_of v ≡ decimal (borrowed (slice_range input.now at (at + len)))) }

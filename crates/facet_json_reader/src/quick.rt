@@ -3,15 +3,17 @@
 
 ghost use Rattle.std.specs.Prelude.{◌≡◌, ◌≤◌, ◌<◌, Bool, ◌+◌, ◌-◌, ℕ, List, Some, length, slice_get, slice_range, true, false, IfSome, IsUtf8, MatchOption};
 ghost use Rattle.facet_format.specs.Bytes.{quote};
-ghost use Rattle.facet_format.specs.Event.{scalar, field_key, borrowed};
+ghost use Rattle.facet_format.specs.Event.{scalar, decimal, field_key, borrowed};
+ghost use Rattle.facet_format.specs.Number.{float};
+ghost use Rattle.facet_format.specs.NumberParts.{is_number};
 ghost use Rattle.facet_format.specs.Span.{Span as SpecSpan, stop, span_at};
 ghost use Rattle.facet_format.specs.Views.{span_of, event_of, scalar_value_of};
 ghost use Rattle.facet_json_token.specs.Cut.{start_of, opens_number};
 ghost use Rattle.facet_json_token.specs.Token.{comma, string};
 ghost use Rattle.facet_json_document.specs.Future.{within};
 ghost use Rattle.facet_json_document.specs.Place.{Place as SpecPlace, led, passes, says, place_turn};
-ghost use Rattle.facet_json_document.specs.Language.{Language as SpecLanguage, lenient, strict, rules};
-ghost use Rattle.facet_json_token.specs.Gap.{Mode as SpecMode};
+ghost use Rattle.facet_json_document.specs.Language.{Language as SpecLanguage, rules};
+
 ghost use Rattle.facet_json_document.specs.StrictTokens.{Allows};
 ghost use Rattle.facet_json_reader.specs.PlaceViews.{language_of, least_of, place_of, opening_event, closing_event, closing_token, closing_bracket};
 ghost use Rattle.facet_json_reader.specs.Values.{AreUnescaped, IsPlainText};
@@ -19,7 +21,7 @@ ghost use Rattle.facet_json_reader.specs.Inner.Quick.{MayBeKey, MayBeValue, Reac
 ghost use Rattle.facet_json_reader.specs.Views.{stage_of};
 
 use crate::language::Language;
-use crate::number::{scalar_of, short_number_in};
+use crate::number::{decimal_at, short_number_in};
 use crate::place::Place;
 use crate::reader::{Reader, Stage, closing, opening};
 use crate::text::text_at;
@@ -220,7 +222,24 @@ impl Reader {
             → MatchOption result (self.new ≡ self.old) (λ e. PassesQuickly input.now (language_of language) self.old (event_of e) self.new) }
     {
         let (len, whole) = short_number_in(input, language, at, first)?;
-        let value = scalar_of(input, at, len, whole)?;
+        match whole {
+            Some(whole) => Some(self.pass_scalar(whole.scalar(), Span::new(at, len))),
+            None => {
+                let event = self.pass_decimal(input, at, len);
+                event
+            }
+        }
+    }
+
+    /// Passes the decimal of so many bytes that stands here. The answer is a value of its own where this is called: so no other event needs memory.
+    #[inline(never)]
+    fn pass_decimal<'de>(&mut self, input: &'de [u8], at: usize, len: usize) -> Option<ParseEvent<'de>>
+        requires within { at + len ≤ length input.now }
+        requires number { is_number (slice_range input.now at (at + len)) float ≡ true }
+        ensures { MatchOption result (self.new ≡ self.old) (λ e. Leaves self.old (scalar (decimal (borrowed (slice_range input.now at (at + len)))))
+            (span_at at len) (span_at at len) (event_of e) self.new) }
+    {
+        let value = decimal_at(input, at, len)?;
         Some(self.pass_scalar(value, Span::new(at, len)))
     }
 
