@@ -2,6 +2,7 @@ pub use Rattle.facet_format.proofs.Lanes
 pub use Rattle.facet_format.proofs.Windows
 pub mod AsciiRuns
 pub mod CharAt
+pub mod CommentRuns
 pub mod CutBounds
 pub mod DecodeLaws
 pub mod DecodeSteps

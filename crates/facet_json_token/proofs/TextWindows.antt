@@ -13,15 +13,15 @@ use Rattle.facet_json_token.proofs.Offsets.{drop-at_byte}
 use Rattle.facet_json_token.proofs.RunEnds.{ends-run}
 use Rattle.facet_json_token.proofs.TextSteps.{content-more, escapes-more}
 
-none_ahead : (o : Option ℕ) → o ≡ option_map (λ n. 0 + n) o
+pub none_ahead : (o : Option ℕ) → o ≡ option_map (λ n. 0 + n) o
 none_ahead None = refl
 none_ahead (Some n) = ap Some (omega arith)
 
-one_ahead : (k : ℕ) (o : Option ℕ) → one_more (option_map (λ n. k + n) o) ≡ option_map (λ n. (1 + k) + n) o
+pub one_ahead : (k : ℕ) (o : Option ℕ) → one_more (option_map (λ n. k + n) o) ≡ option_map (λ n. (1 + k) + n) o
 one_ahead k None = refl
 one_ahead k (Some n) = ap Some (omega arith)
 
-both_ahead : (start k : ℕ) (o : Option ℕ) → option_map (λ n. start + n) (option_map (λ n. k + n) o) ≡ option_map (λ n. (start + k) + n) o
+pub both_ahead : (start k : ℕ) (o : Option ℕ) → option_map (λ n. start + n) (option_map (λ n. k + n) o) ≡ option_map (λ n. (start + k) + n) o
 both_ahead start k None = refl
 both_ahead start k (Some n) = ap Some (omega arith)
 

@@ -17,7 +17,7 @@ ghost use Rattle.facet_format.specs.Views.{span_of};
 
 use crate::mode::Mode;
 use crate::quick::{past_space, token_in_sight};
-use crate::runs::{Plain, run_end};
+use crate::runs::{Line, Plain, Starless, run_end};
 use crate::token::{ScanError, ScanErrorKind, ScanResult, SpannedToken, Token};
 use facet_format::Span;
 use facet_format::numeral::{NumberHint, parts_at};
@@ -133,12 +133,12 @@ pub fn block_end(buffer: &[u8], from: usize) -> Option<usize>
     ensures end { result ≡ option_map (λ n. from + n) (through_block_end (drop from buffer.now)) }
     ensures range { IfSome result (λ end. (from ≤ end) × (end ≤ length buffer.now)) }
 {
-    let mut at = from;
+    let mut at = run_end::<Starless>(buffer, from);
     while at < buffer.len() {
         if buffer[at..].starts_with(b"*/") {
             return Some(at + 2);
         }
-        at += 1;
+        at = run_end::<Starless>(buffer, at + 1);
     }
     None
 }
@@ -149,14 +149,12 @@ pub fn line_end(buffer: &[u8], from: usize) -> Option<usize>
     ensures end { result ≡ option_map (λ n. from + n) (through_line_end (drop from buffer.now)) }
     ensures range { IfSome result (λ end. (from ≤ end) × (end ≤ length buffer.now)) }
 {
-    let mut at = from;
-    while let Some(byte) = buffer.get(at) {
-        if *byte == b'\n' {
-            return Some(at + 1);
-        }
-        at += 1;
+    let end = run_end::<Line>(buffer, from);
+    if end < buffer.len() {
+        Some(end + 1)
+    } else {
+        None
     }
-    None
 }
 
 // ---- the token

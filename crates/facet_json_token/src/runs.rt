@@ -6,7 +6,7 @@ ghost use Rattle.std.specs.Simd.Lanes.{mask_l};
 ghost use Rattle.facet_json_token.specs.Inner.Ascii.{is_high};
 ghost use Rattle.facet_json_token.specs.Inner.RfcWindow.{is_rfc_stop};
 ghost use Rattle.facet_json_token.specs.Inner.Run.{is_backslash};
-ghost use Rattle.facet_json_token.specs.Inner.Window.{is_stop, is_no_space};
+ghost use Rattle.facet_json_token.specs.Inner.Window.{is_stop, is_no_space, is_line_feed, is_star};
 
 use std::simd::prelude::*;
 
@@ -75,6 +75,40 @@ impl Run for Unescaped {
     #[inline(always)]
     fn ends(byte: u8) -> bool {
         byte == b'\\'
+    }
+}
+
+/// All but line feeds.
+pub(crate) struct Line;
+
+impl Run for Line {
+    ghost is_end = { is_line_feed };
+
+    #[inline(always)]
+    fn stops(window: u8x16) -> u64 {
+        window.simd_eq(u8x16::splat(b'\n')).to_bitmask()
+    }
+
+    #[inline(always)]
+    fn ends(byte: u8) -> bool {
+        byte == b'\n'
+    }
+}
+
+/// All but stars.
+pub(crate) struct Starless;
+
+impl Run for Starless {
+    ghost is_end = { is_star };
+
+    #[inline(always)]
+    fn stops(window: u8x16) -> u64 {
+        window.simd_eq(u8x16::splat(b'*')).to_bitmask()
+    }
+
+    #[inline(always)]
+    fn ends(byte: u8) -> bool {
+        byte == b'*'
     }
 }
 
