@@ -13,7 +13,6 @@ ghost use Rattle.facet_json_token.specs.Token.{comma, string};
 ghost use Rattle.facet_json_document.specs.Future.{within};
 ghost use Rattle.facet_json_document.specs.Place.{Place as SpecPlace, led, passes, says, place_turn};
 ghost use Rattle.facet_json_document.specs.Language.{Language as SpecLanguage, rules};
-
 ghost use Rattle.facet_json_document.specs.StrictTokens.{Allows};
 ghost use Rattle.facet_json_reader.specs.PlaceViews.{language_of, least_of, place_of, opening_event, closing_event, closing_token, closing_bracket};
 ghost use Rattle.facet_json_reader.specs.Values.{AreUnescaped, IsPlainText};
@@ -233,7 +232,12 @@ impl Reader {
 
     /// Passes the decimal of so many bytes that stands here. The answer is a value of its own where this is called: so no other event needs memory.
     #[inline(never)]
-    fn pass_decimal<'de>(&mut self, input: &'de [u8], at: usize, len: usize) -> Option<ParseEvent<'de>>
+    fn pass_decimal<'de>(
+        &mut self,
+        input: &'de [u8],
+        at: usize,
+        len: usize,
+    ) -> Option<ParseEvent<'de>>
         requires within { at + len ≤ length input.now }
         requires number { is_number (slice_range input.now at (at + len)) float ≡ true }
         ensures { MatchOption result (self.new ≡ self.old) (λ e. Leaves self.old (scalar (decimal (borrowed (slice_range input.now at (at + len)))))

@@ -501,7 +501,8 @@ impl<'de> Format for Json<'de> {
     }
 
     fn duplicate(&self, name: &str) -> Fault {
-        self.error(FaultKind::DuplicateField).about(self.alloc, name)
+        self.error(FaultKind::DuplicateField)
+            .about(self.alloc, name)
     }
 
     fn unknown_key(&self) -> Fault {

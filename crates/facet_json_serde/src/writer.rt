@@ -166,7 +166,13 @@ impl<'i> JsonWriter<'i> {
 
     /// Writes a name, as a key or as a value.
     #[inline(always)]
-    fn name(&mut self, name: &str, case: Case, kind: NameKind, is_key: bool) -> Result<(), WriteFault> {
+    fn name(
+        &mut self,
+        name: &str,
+        case: Case,
+        kind: NameKind,
+        is_key: bool,
+    ) -> Result<(), WriteFault> {
         if let Case::AsIs = case {
             return self.text(name, is_key);
         }

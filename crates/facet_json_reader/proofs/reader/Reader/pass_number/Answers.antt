@@ -42,4 +42,4 @@ returns-in-None c =
     let same = ap (short_value text) c.in-None.is in
     match-weaker _ _ _ c.pass_decimal-event.result c.pass_decimal-event.ensures
     (λ e left. scalar-passes c.args.input.now (language_of c.args.language) c.args.self.now place c.args.at n.len (short_value text n.whole) (event_of e)
-        c.pass_decimal-event.new.self here reached n.ensures.allowed.0 n.ensures.allowed.1 (rw same left))
+    c.pass_decimal-event.new.self here reached n.ensures.allowed.0 n.ensures.allowed.1 (rw same left))
