@@ -1,14 +1,14 @@
 -- The value of a number that allocates nothing, by what is told of it.
-use Rattle.std.proofs.Common.{◌≡◌, ℕ, Bool, true, false, cond, List, Option, Some, None, drop, refl, sym, ap, pos, neg_ℤ}
+use Rattle.std.specs.Option.{option_map}
+use Rattle.std.proofs.Common.{◌≡◌, ℕ, ◌+◌, slice_range, Bool, true, false, cond, List, Some, None, drop, refl, sym, ap, pos, neg_ℤ}
 use Rattle.facet_format.specs.Number.{Hint, unsigned, signed, float}
 use Rattle.facet_format.specs.NumberParts.{parts, is_number}
 use Rattle.facet_format.specs.NumberValue.{Number, u64, u128, i64, i128, decimal, number, value_by, has_value, digits_value, unsigned_number, negative_number}
 use Rattle.facet_format.specs.Event as event
-use Rattle.facet_json_token.specs.Token.{Kind}
+use Rattle.facet_json_token.specs.Token as token
 use Rattle.facet_json_document.specs.Meaning.{tree_of_number}
-use Rattle.facet_json_document.specs.Walk.{scalar_by}
-use Rattle.facet_json_reader.specs.declared.number.Whole.{Whole}
-use Rattle.facet_json_reader.specs.Inner.Short.{short_value, told_of}
+use Rattle.facet_json_reader.specs.Inner.Short.{IsDecimalThere}
+use Rattle.facet_json_reader.specs.Values.{IsScalarThere}
 
 -- One of two whole numbers, or none, is no decimal.
 no-decimal : (a b : Bool) (x y : Number) (text : List ℕ) → (x ≡ decimal text → ⊥) → (y ≡ decimal text → ⊥) →
@@ -42,29 +42,22 @@ decimal-text text hint digits e = by hint (is_number text hint) refl e
     by signed true is e = absurd (negative-no_decimal (digits_value 0 (drop (parts text).sign text)) digits e)
     by float true is e = (some-decimal (has_value (parts text) text) text digits e, sym is)
 
--- What is told of a number tells its value.
-pub told-value : (text : List ℕ) (hint : Hint) (n : Number) (told : Option Whole) → number text hint ≡ Some n → told_of n ≡ Some told →
-    (kind : Kind) → short_value text told ≡ scalar_by kind (tree_of_number n)
-told-value text hint (u64 n) (Some w) e is kind = cc
-told-value text hint (i64 z) (Some w) e is kind = cc
-told-value text hint (decimal digits) None e is kind = ap (λ d. event.decimal (event.borrowed d)) (sym (decimal-text text hint digits e).0)
-told-value text hint (u64 n) None e is kind = absurd cc
-told-value text hint (i64 z) None e is kind = absurd cc
-told-value text hint (decimal digits) (Some w) e is kind = absurd cc
-told-value text hint (u128 n) told e is kind = absurd cc
-told-value text hint (i128 z) told e is kind = absurd cc
-
--- A decimal alone is told without a value.
-pub told-decimal : (text : List ℕ) (hint : Hint) (n : Number) (told : Option Whole) → number text hint ≡ Some n → told_of n ≡ Some told →
-    told ≡ None → is_number text float ≡ true
-told-decimal text hint (decimal digits) told e is none = (decimal-text text hint digits e).1
-told-decimal text hint (u64 n) told e is none = absurd cc
-told-decimal text hint (i64 z) told e is none = absurd cc
-told-decimal text hint (u128 n) told e is none = absurd cc
-told-decimal text hint (i128 z) told e is none = absurd cc
-
 -- So a decimal that holds a borrowed text holds that one.
 pub borrowed-decimal : (text : List ℕ) (digits : event.Text) → number text float ≡ Some (decimal (event.bytes_of digits)) →
     event.is_owned digits ≡ false → event.decimal digits ≡ event.decimal (event.borrowed text)
 borrowed-decimal text (event.borrowed digits) e is = ap (λ d. event.decimal (event.borrowed d)) (decimal-text text float digits e).0
 borrowed-decimal text (event.owned digits) e is = absurd cc
+
+-- A decimal that has a value is a scalar.
+unfoldable pub decimal-there : (buffer : List ℕ) (at len : ℕ) → IsDecimalThere buffer at len →
+    number (slice_range buffer at (at + len)) float ≡ Some (decimal (slice_range buffer at (at + len))) →
+    IsScalarThere buffer at len (event.decimal (event.borrowed (slice_range buffer at (at + len))))
+decimal-there buffer at len is means =
+    record {
+      kind = token.number at (at + len) float;
+      meant = tree_of_number (decimal (slice_range buffer at (at + len)));
+      cut = is.cut;
+      scalar = refl;
+      means = ap (option_map tree_of_number) means;
+      read = refl;
+    }

@@ -1,16 +1,19 @@
 //! Numbers that are read without an allocation, from their bytes: eight digits by one word, whole numbers, and all others by their parts.
 
-ghost use Rattle.std.specs.Prelude.{◌≡◌, ◌+◌, ◌≤◌, true, false, Some, length, drop, slice_get, slice_range, IfSome, ℕ, ◌<◌, ◌^◌, take, ◌≢◌, ◌==◌, ◌||◌, pos, neg_ℤ, map};
+ghost use Rattle.std.specs.Prelude.{◌≡◌, ◌+◌, ◌≤◌, true, false, Some, length, drop, slice_get, slice_range, IfSome, OnSome, ℕ, ◌<◌, ◌^◌, take, ◌≢◌, ◌==◌, ◌||◌, pos, neg_ℤ, map};
 ghost use Rattle.facet_format.specs.Number.{AreDigits, float};
-ghost use Rattle.facet_format.specs.NumberValue.{digits_value};
+ghost use Rattle.facet_format.specs.NumberValue.{digits_value, number as spec_number, decimal as spec_decimal};
 ghost use Rattle.facet_format.specs.Event.{decimal, borrowed};
 ghost use Rattle.facet_format.specs.NumberParts.{parts as number_parts, parts_len, is_number};
 ghost use Rattle.facet_format.specs.Views.{scalar_value_of};
 ghost use Rattle.facet_json_token.specs.Cut.{start_of, opens_number};
+ghost use Rattle.facet_json_token.specs.Token.{Kind};
 ghost use Rattle.facet_json_token.specs.NumberViews.{number_of};
+ghost use Rattle.facet_json_document.specs.Meaning.{tree_of_number};
+ghost use Rattle.facet_json_document.specs.Walk.{scalar_by};
 ghost use Rattle.facet_json_token.specs.RfcNumber.{SomeDigits, IsRfcNumber};
 ghost use Rattle.facet_json_reader.specs.Inner.Whole.{digits_from, OpensNumber, IsWholeNumber, whole_scalar};
-ghost use Rattle.facet_json_reader.specs.Inner.Short.{IsShortNumber, short_value, told_of};
+ghost use Rattle.facet_json_reader.specs.Inner.Short.{IsShortNumber, IsShortIn};
 ghost use Rattle.facet_json_reader.specs.Values.{IsScalarThere};
 ghost use Rattle.facet_format.specs.Span.{span_at};
 ghost use Rattle.facet_json_document.specs.StrictTokens.{Allows};
@@ -135,9 +138,7 @@ pub(crate) fn short_number_in(
 ) -> Option<Short>
     requires here { slice_get input.now at ≡ Some first }
     requires number { start_of first ≡ opens_number }
-    ensures there { IfSome result (λ r. IsShortNumber input.now at r.0 r.1) }
-    ensures allowed { IfSome result (λ r. (there : IsScalarThere input.now at r.0 (short_value (slice_range input.now at (at + r.0)) r.1))
-        × Allows (language_of language) input.now (record { kind = there.kind; span = span_at at r.0 })) }
+    ensures { IfSome result (λ r. IsShortIn (language_of language) input.now at r.0 r.1) }
 {
     match language {
         Language::Lenient(_) => short_number(input, at, first),
@@ -200,21 +201,24 @@ fn short_by_parts(input: &[u8], at: usize, parts: Parts) -> Option<Short>
     if parts.is_bare() {
         return None;
     }
-    match parse_measured(input, at, at + len, parts.hint()) {
-        Ok(number) => Some((len, short_of(number)?)),
+    let hint = parts.hint();
+    if let NumberHint::Float = hint {
+        return Some((len, None));
+    }
+    match parse_measured(input, at, at + len, hint) {
+        Ok(number) => Some((len, Some(whole_in(number)?))),
         Err(_) => None,
     }
 }
 
-/// What is told of the number, where it allocates nothing.
+/// The whole number of 64 bits that a number is.
 #[inline(always)]
-fn short_of(number: ParsedNumber<'_>) -> Option<Option<Whole>>
-    ensures { told_of (number_of number.entry) ≡ result }
+fn whole_in(number: ParsedNumber<'_>) -> Option<Whole>
+    ensures { IfSome result (λ w. (kind : Kind) → whole_scalar w ≡ scalar_by kind (tree_of_number (number_of number.entry))) }
 {
     match number {
-        ParsedNumber::U64(n) => Some(Some(Whole::Unsigned(n))),
-        ParsedNumber::I64(n) => Some(Some(Whole::Signed(n))),
-        ParsedNumber::Decimal(_) => Some(None),
+        ParsedNumber::U64(n) => Some(Whole::Unsigned(n)),
+        ParsedNumber::I64(n) => Some(Whole::Signed(n)),
         _ => None,
     }
 }
@@ -224,7 +228,8 @@ fn short_of(number: ParsedNumber<'_>) -> Option<Option<Whole>>
 pub(crate) fn decimal_at<'de>(input: &'de [u8], at: usize, len: usize) -> Option<ScalarValue<'de>>
     requires within { at + len ≤ length input.now }
     requires number { is_number (slice_range input.now at (at + len)) float ≡ true }
-    ensures { IfSome result (λ v. scalar_value_of v ≡ decimal (borrowed (slice_range input.now at (at + len)))) }
+    ensures value { IfSome result (λ v. scalar_value_of v ≡ decimal (borrowed (slice_range input.now at (at + len)))) }
+    ensures number { let text = slice_range input.now at (at + len) in OnSome result (spec_number text float ≡ Some (spec_decimal text)) }
 {
     match parse_measured(input, at, at + len, NumberHint::Float) {
         Ok(ParsedNumber::Decimal(decimal)) => Some(ScalarValue::Decimal(decimal)),

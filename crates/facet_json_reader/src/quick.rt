@@ -1,11 +1,12 @@
 //! The next event passed at once, where a few bytes decide it. In all other cases nothing is done, and the next event is read
 //! token by token, in `reader`.
 
-ghost use Rattle.std.specs.Prelude.{◌≡◌, ◌≤◌, ◌<◌, Bool, ◌+◌, ◌-◌, ℕ, List, Some, length, slice_get, slice_range, true, false, IfSome, IsUtf8, MatchOption};
+ghost use Rattle.std.specs.Prelude.{◌≡◌, ◌≤◌, ◌<◌, Bool, ◌+◌, ◌-◌, ℕ, List, Some, length, slice_get, slice_range, true, false, IfSome, OnSome, IsUtf8, MatchOption};
 ghost use Rattle.facet_format.specs.Bytes.{quote};
 ghost use Rattle.facet_format.specs.Event.{scalar, decimal, field_key, borrowed};
 ghost use Rattle.facet_format.specs.Number.{float};
 ghost use Rattle.facet_format.specs.NumberParts.{is_number};
+ghost use Rattle.facet_format.specs.NumberValue.{number as spec_number, decimal as spec_decimal};
 ghost use Rattle.facet_format.specs.Span.{Span as SpecSpan, stop, span_at};
 ghost use Rattle.facet_format.specs.Views.{span_of, event_of, scalar_value_of};
 ghost use Rattle.facet_json_token.specs.Cut.{start_of, opens_number};
@@ -240,8 +241,9 @@ impl Reader {
     ) -> Option<ParseEvent<'de>>
         requires within { at + len ≤ length input.now }
         requires number { is_number (slice_range input.now at (at + len)) float ≡ true }
-        ensures { MatchOption result (self.new ≡ self.old) (λ e. Leaves self.old (scalar (decimal (borrowed (slice_range input.now at (at + len)))))
+        ensures event { MatchOption result (self.new ≡ self.old) (λ e. Leaves self.old (scalar (decimal (borrowed (slice_range input.now at (at + len)))))
             (span_at at len) (span_at at len) (event_of e) self.new) }
+        ensures number { let text = slice_range input.now at (at + len) in OnSome result (spec_number text float ≡ Some (spec_decimal text)) }
     {
         let value = decimal_at(input, at, len)?;
         Some(self.pass_scalar(value, Span::new(at, len)))

@@ -1,29 +1,30 @@
 -- Numbers that allocate nothing: what is told of one is its value where it is whole, and that it is a decimal else.
-use Rattle.std.specs.Prelude.{◌≡◌, ◌+◌, ℕ, true, List, Option, Some, None, slice_range}
-use Rattle.facet_format.specs.Event.{Scalar, decimal, borrowed}
+use Rattle.std.specs.Prelude.{◌≡◌, ◌+◌, ℕ, true, List, Option, Some, None, drop, slice_range}
 use Rattle.facet_format.specs.Number.{float}
 use Rattle.facet_format.specs.NumberParts.{is_number}
-use Rattle.facet_format.specs.NumberValue.{Number}
-use Rattle.facet_format.specs.NumberValue as number
+use Rattle.facet_format.specs.Span.{span_at}
+use Rattle.facet_json_token.specs.Cut.{cut_here, token_at}
+use Rattle.facet_json_token.specs.Gap.{Mode}
+use Rattle.facet_json_token.specs.Token.{number}
+use Rattle.facet_json_document.specs.Language.{Language}
+use Rattle.facet_json_document.specs.StrictTokens.{Allows}
 use Rattle.facet_json_reader.specs.declared.number.Whole.{Whole}
-use Rattle.facet_json_reader.specs.declared.number.Whole.TheVariants as whole
 use Rattle.facet_json_reader.specs.Inner.Whole.{whole_scalar}
 use Rattle.facet_json_reader.specs.Values.{IsScalarThere}
 
--- The scalar that the event of this text holds.
-abbrev pub short_value : List ℕ → Option Whole → Scalar
-short_value text None = decimal (borrowed text)
-short_value text (Some told) = whole_scalar told
-
--- What is told of a number: nothing where it allocates.
-abbrev pub told_of : Number → Option (Option Whole)
-told_of (number.u64 n) = Some (Some (whole.Unsigned n))
-told_of (number.i64 z) = Some (Some (whole.Signed z))
-told_of (number.decimal text) = Some None
-told_of (number.u128 n) = None
-told_of (number.i128 z) = None
+-- At this offset stands a decimal's token of this length.
+pub record IsDecimalThere (buffer : List ℕ) (at len : ℕ) : Type 0 where
+  pub cut : (mode : Mode) → cut_here mode at (drop at buffer) ≡ token_at (number at (at + len) float) at len
+  pub decimal : is_number (slice_range buffer at (at + len)) float ≡ true
 
 -- At this offset stands a number of this length, of which that is told.
-pub record IsShortNumber (buffer : List ℕ) (at len : ℕ) (told : Option Whole) : Type 0 where
-  pub there : IsScalarThere buffer at len (short_value (slice_range buffer at (at + len)) told)
-  pub decimal : told ≡ None → is_number (slice_range buffer at (at + len)) float ≡ true
+abbrev pub IsShortNumber : List ℕ → ℕ → ℕ → Option Whole → Type 0
+IsShortNumber buffer at len (Some told) = IsScalarThere buffer at len (whole_scalar told)
+IsShortNumber buffer at len None = IsDecimalThere buffer at len
+
+-- The same, and the language allows its token.
+abbrev pub IsShortIn : Language → List ℕ → ℕ → ℕ → Option Whole → Type 0
+IsShortIn language buffer at len (Some told) = (there : IsScalarThere buffer at len (whole_scalar told)) ×
+    Allows language buffer (record { kind = there.kind; span = span_at at len })
+IsShortIn language buffer at len None = IsDecimalThere buffer at len ×
+    Allows language buffer (record { kind = number at (at + len) float; span = span_at at len })
