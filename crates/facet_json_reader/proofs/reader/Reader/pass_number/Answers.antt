@@ -45,4 +45,4 @@ returns-in-None c =
     let told = subst (IsShortIn (language_of c.args.language) c.args.input.now c.args.at len) c.in-None.is c.in_ok-len.ensures in
     match-weaker _ _ _ _ c.pass_decimal-event.result c.pass_decimal-event.ensures.event c.pass_decimal-event.ensures.number
     (λ means e left. scalar-passes c.args.input.now (language_of c.args.language) c.args.self.now place c.args.at len (decimal (borrowed text)) (event_of e)
-        c.pass_decimal-event.new.self here reached (decimal-there c.args.input.now c.args.at len told.0 means) told.1 left)
+    c.pass_decimal-event.new.self here reached (decimal-there c.args.input.now c.args.at len told.0 means) told.1 left)
