@@ -56,7 +56,7 @@ use std::marker::Model;
 ///
 /// A refusal of a call for events, of a skip or of a capture sticks: these calls and saves repeat it, until a point that is
 /// kept is restored. A refused save changes nothing, and does not stick.
-#[derive(Debug, Drop)]
+#[derive(Debug)]
 pub struct JsonParser<'de> {
     alloc: Global,
     input: &'de [u8],
@@ -66,6 +66,22 @@ pub struct JsonParser<'de> {
     refusal: Option<Refused>,
     points: Vec<Point<'de>>,
     counter: u64,
+}
+
+/// By a call, so that a proof about a function that owns a parser need not take it apart.
+impl Drop for JsonParser<'_> {
+    fn drop(self) {
+        let JsonParser {
+            alloc: _,
+            input: _,
+            language: _,
+            trust: _,
+            lookahead: _,
+            refusal: _,
+            points: _,
+            counter: _,
+        } = self;
+    }
 }
 
 impl<'de> Model for JsonParser<'de> {

@@ -50,7 +50,6 @@ struct Marked<'de> {
 ///     Err(fault) => Err(json.told(fault)),
 /// }
 /// ```
-#[derive(Drop)]
 pub struct Json<'de> {
     pub(crate) alloc: Global,
     parser: JsonParser<'de>,
@@ -60,6 +59,20 @@ pub struct Json<'de> {
     /// The next value is the key of a map's entry.
     pub(crate) at_key: bool,
     marks: Vec<Marked<'de>>,
+}
+
+/// By a call, so that a proof about a function that owns one need not take it apart.
+impl Drop for Json<'_> {
+    fn drop(self) {
+        let Json {
+            alloc: _,
+            parser: _,
+            ahead: _,
+            last: _,
+            at_key: _,
+            marks: _,
+        } = self;
+    }
 }
 
 /// The text, unless it is the digits of a number that is too long for 64 bits.

@@ -28,7 +28,6 @@ use std::fmt::Write;
 ///
 /// A call that no value goes on with is refused as not one value, and a container or null as a key: so a value stands after a key or in a list,
 /// and there is one root alone. After a refusal, out of memory too, nothing is given out.
-#[derive(Drop)]
 pub struct JsonWriter<'i> {
     alloc: Global,
     value: OneValue<'i>,
@@ -44,6 +43,22 @@ pub struct JsonWriter<'i> {
     flattens: bool,
     /// The first fault, for which nothing is given out.
     failed: Option<Refusal>,
+}
+
+/// By a call, so that a proof about a function that owns a writer need not take it apart.
+impl Drop for JsonWriter<'_> {
+    fn drop(self) {
+        let JsonWriter {
+            alloc: _,
+            value: _,
+            room: _,
+            at_key: _,
+            depth: _,
+            flat: _,
+            flattens: _,
+            failed: _,
+        } = self;
+    }
 }
 
 impl<'i> JsonWriter<'i> {
@@ -71,7 +86,16 @@ impl<'i> JsonWriter<'i> {
     pub fn finish(self, options: &SerializeOptions<'_>) -> Result<Vec<u8>, Refusal>
         ensures { IfOk result (λ v. IsTextOfTree (options_of options.now) v.items) }
     {
-        let JsonWriter { value, failed, .. } = self;
+        let JsonWriter {
+            alloc: _,
+            value,
+            room: _,
+            at_key: _,
+            depth: _,
+            flat: _,
+            flattens: _,
+            failed,
+        } = self;
         if let Some(why) = failed {
             return Err(why);
         }

@@ -2,6 +2,7 @@
 
 use facet_json_serde::{SerializeOptions, to_string, to_string_pretty, to_string_with_options};
 use serde::{Described, Serialize, Serializer};
+use std::alloc::Global;
 use std::test::Fail;
 
 /// A type that sends what its number says.
@@ -43,6 +44,17 @@ impl Serialize for Sends {
                 let _ = out.str("refused, and passed over");
                 Ok(())
             }
+            8 => {
+                out.begin_map(None)?;
+                out.begin_key()?;
+                out.unit()
+            }
+            9 => {
+                out.begin_map(None)?;
+                out.flatten_next()?;
+                out.u64(1)
+            }
+            10 => Err(out.custom("odd")),
             _ => {
                 out.begin_map(None)?;
                 out.key("a")?;
@@ -53,15 +65,22 @@ impl Serialize for Sends {
     }
 }
 
+/// What the refusal says of such a writer.
+fn refused(alloc: Global, sent: u8) -> Result<String, Fail> {
+    let error = to_string(alloc, &Sends(sent)).err().ok_or("an error")?;
+    Ok(format!(in alloc; "{error}")?)
+}
+
 #[test]
 fn only_one_value_is_written(rt: HostRuntime) -> Result<(), Fail> {
     let alloc = rt.alloc();
     for sent in 0..8u8 {
-        let error = to_string(alloc, &Sends(sent)).err().ok_or("an error")?;
-        let shown = format!(in alloc; "{error}")?;
-        assert_eq!(rt; shown.as_str(), "not one value");
+        assert_eq!(rt; refused(alloc, sent)?.as_str(), "not one value");
     }
-    assert_eq!(rt; to_string(alloc, &Sends(8))?.as_str(), r#"{"a":null}"#);
+    assert_eq!(rt; refused(alloc, 8)?.as_str(), "key must be a string");
+    assert_eq!(rt; refused(alloc, 9)?.as_str(), "invalid value");
+    assert_eq!(rt; refused(alloc, 10)?.as_str(), "odd");
+    assert_eq!(rt; to_string(alloc, &Sends(11))?.as_str(), r#"{"a":null}"#);
     Ok(())
 }
 

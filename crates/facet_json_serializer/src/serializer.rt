@@ -37,10 +37,20 @@ use std::marker::Model;
 ///
 /// Every call is refused with `OutOfMemory` where an allocation fails, and from then on, `finish` too. The other refusals
 /// change nothing.
-#[derive(Debug, Drop)]
+#[derive(Debug)]
 pub struct JsonSerializer<'i> {
     writing: Writing<'i>,
     failed: bool,
+}
+
+/// By a call, so that a proof about a function that owns a serializer need not take it apart.
+impl Drop for JsonSerializer<'_> {
+    fn drop(self) {
+        let JsonSerializer {
+            writing: _,
+            failed: _,
+        } = self;
+    }
 }
 
 impl<'i> Model for JsonSerializer<'i> {
@@ -81,10 +91,11 @@ impl<'i> JsonSerializer<'i> {
             (λ v. (w : SpecWriting) × (self.entry ≡ Some w) × (v.items ≡ w.written))
             (λ e. (self.entry ≡ None) × (write_refusal_of e ≡ out_of_memory)) }
     {
-        if self.failed {
+        let JsonSerializer { writing, failed } = self;
+        if failed {
             return Err(JsonSerializeError::OutOfMemory);
         }
-        Ok(self.writing.out.into_vec())
+        Ok(writing.out.into_vec())
     }
 
     /// Makes a call, unless an allocation failed before.
