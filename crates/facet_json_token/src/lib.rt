@@ -7,6 +7,7 @@ mod ascii;
 pub mod cutting;
 mod decode;
 mod decode_refusal;
+mod fault;
 mod mode;
 mod number;
 pub mod quick;
@@ -23,6 +24,7 @@ pub use decode::{
     decode_string_borrowed_unchecked, decode_string_owned, decode_string_owned_unchecked,
     decode_string_unchecked,
 };
+pub use fault::{CutResult, Fault, FaultKind, Inside};
 pub use mode::{Mode, Trust};
 pub use number::{ParsedNumber, parse_measured, parse_number, parse_number_unchecked};
 pub use rfc_number::{check_number_strict, has_rfc_parts};
