@@ -153,7 +153,7 @@ module _ (buf : List ℕ) (end : ℕ) (fits : end ≤ length buf) where
           record {
             what = record { kind = unexpected_char (get_or (slice_range buf start end) n 0); span = record { offset = start + n; len = 1 } };
             wrong = ap (option_map _) is;
-            is_told = rw (byte, there) refl;
+            told = rw (byte, there) refl;
           }
 
 -- ---- where a run ends

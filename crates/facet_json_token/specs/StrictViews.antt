@@ -9,11 +9,11 @@ use Rattle.facet_json_token.specs.Token.{Fault}
 use Rattle.facet_json_token.specs.Views.{fault_answer}
 use Rattle.facet_json_token.specs.Strict.{content_fault}
 
--- This is told of a content that starts there: its first byte that is wrong.
-pub record IsWrong (content : List ℕ) (start : ℕ) (told : Option Cut) : Type 0 where
+-- This answers what is wrong with a content that starts there: its first byte that may not stand there.
+pub record IsWrong (content : List ℕ) (start : ℕ) (answer : Option Cut) : Type 0 where
   pub what : Fault
   pub wrong : content_fault start content ≡ Some what
-  pub is_told : told ≡ Some (fault what)
+  pub told : answer ≡ Some (fault what)
 
 -- Such a content is refused for that byte.
 abbrev pub TellsWrong : List ℕ → ℕ → ScanError → Type 0
