@@ -2,8 +2,8 @@
 use Rattle.std.proofs.Common.{◌≡◌, ℕ, ◌+◌, List, [], ◌∷◌, drop, slice_get, Some, Result, IfOk, refl, ap, ◌∙◌, arith}
 use Rattle.facet_json_token.specs.declared.token.Token.TheVariants as code
 use Rattle.facet_json_token.specs.declared.token.SpannedToken.{SpannedToken}
-use Rattle.facet_json_token.specs.declared.token.ScanError.{ScanError}
-use Rattle.facet_json_token.specs.Views.{scanned}
+use Rattle.facet_json_token.specs.declared.fault.Fault.{Fault}
+use Rattle.facet_json_token.specs.Views.{cut_of}
 use Rattle.facet_json_token.specs.Gap.{Mode, plain, jsonc, whole}
 use Rattle.facet_json_token.specs.GapLen.{gap_len, gap_len_from}
 use Rattle.facet_json_token.specs.Token.{Kind}
@@ -35,6 +35,6 @@ mark-is_cut buffer at b mode kind is here =
     ∙ ap (λ n. cut_here mode n (drop n buffer)) past
 
 -- Such an answer is not the end.
-pub mark-no_end : (answer : Result SpannedToken ScanError) (kind : Kind) (at : ℕ) (P : SpannedToken → Type 0) →
-    scanned answer ≡ Some (token_at kind at 1) → IfOk answer (λ t. t.token ≡ code.Eof → P t)
+pub mark-no_end : (answer : Result SpannedToken Fault) (kind : Kind) (at : ℕ) (P : SpannedToken → Type 0) →
+    cut_of answer ≡ Some (token_at kind at 1) → IfOk answer (λ t. t.token ≡ code.Eof → P t)
 mark-no_end answer kind at P e = no_end answer (token_at kind at 1) P e (λ same. cc)

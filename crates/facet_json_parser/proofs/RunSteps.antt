@@ -2,7 +2,7 @@
 use Rattle.std.proofs.Common.{◌≡◌, ◌⊎◌, ◌≤◌, ◌<◌, ◌∙◌, inl, inr, ℕ, true, List, [], ◌∷◌, length, Some, Ok, Err, refl, sym, ap}
 use Rattle.facet_json_token.specs.declared.token.Token.TheVariants as code
 use Rattle.facet_json_token.specs.declared.token.SpannedToken.{SpannedToken}
-use Rattle.facet_json_token.specs.declared.token.ScanError.{ScanError}
+use Rattle.facet_json_token.specs.declared.fault.Fault.{Fault}
 use Rattle.facet_format.specs.Complaint.{Refusal}
 use Rattle.facet_format.specs.Cursor.{no_memory_at}
 use Rattle.facet_format.specs.Event.{ContainerKind}
@@ -13,14 +13,13 @@ use Rattle.facet_json_token.specs.Token.{Kind, Token}
 use Rattle.facet_json_token.specs.Tokens.{Tokens, ended, refused, next}
 use Rattle.facet_json_token.specs.TokenList.{tokens_from}
 use Rattle.facet_json_token.specs.Cut.{cut}
-use Rattle.facet_json_token.specs.Views.{kind_of, scanned, scan_refusal}
+use Rattle.facet_json_token.specs.Views.{kind_of, cut_of, told_refusal}
 use Rattle.facet_json_document.specs.Language.{lenient}
 use Rattle.facet_json_document.specs.Node.{is_scalar}
 use Rattle.facet_json_document.specs.Run.{opening, one_token}
 use Rattle.facet_json_document.specs.Inner.PassedRun.{leaves, crosses, passing, Outcome, closes, stops, passed}
 use Rattle.facet_json_document.proofs.Runs.RunsPassed.{passed-next}
 use Rattle.facet_json_document.proofs.Runs.PassedRuns.{is-outcome}
-use Rattle.facet_json_reader.specs.PlaceViews.{NamesInside}
 use Rattle.facet_json_reader.proofs.CutsAtPlaces.{IsCut, ends, stands, is_cut, Refuses, is_refused}
 use Rattle.facet_json_parser.specs.RunViews.{EndsRun, IsRunRefused, breaks_off, without_memory, value_expected}
 
@@ -94,12 +93,12 @@ module _ (buffer : List ℕ) (mode : Mode) where
         ∙ ap (λ brackets. goes_on brackets (record { kind = l.kind; span = s })) (sym is_stack) ∙ l.same
 
     -- A fault breaks the run off.
-    pub fault-stops : (e : ScanError) (refusal : Refusal) → stop s ≤ length buffer → scanned (Err e) ≡ Some (cut buffer (stop s) mode) →
-        (NamesInside e.kind → refusal ≡ scan_refusal e) → IsRunRefused buffer last (run_tokens kind first) refusal
+    pub fault-stops : (e : Fault) (refusal : Refusal) → stop s ≤ length buffer → cut_of (Err e) ≡ Some (cut buffer (stop s) mode) →
+        refusal ≡ told_refusal e → IsRunRefused buffer last (run_tokens kind first) refusal
     unfolding passed
     fault-stops e refusal within h p =
         let f : Refuses buffer (stop s) (lenient mode) e = is_refused buffer (stop s) (lenient mode) e within h in
-        stopped kind first last refusal (ap stops (f.passed_on refusal p) ∙ by_tokens (refused f.what) f.tokens)
+        stopped kind first last refusal (ap stops (p ∙ f.passed_on) ∙ by_tokens (refused f.what) f.tokens)
 
     -- So does the end.
     end-stops : (refusal : Refusal) → tokens_from buffer mode (stop s) ≡ ended → refusal ≡ value_expected (span_at (length buffer) 0) →
@@ -107,7 +106,7 @@ module _ (buffer : List ℕ) (mode : Mode) where
     unfolding passed
     end-stops refusal none e = stopped kind first last refusal (ap stops e ∙ by_tokens ended none)
 
-    module _ (t : SpannedToken) (within : stop s ≤ length buffer) (answer : scanned (Ok t) ≡ Some (cut buffer (stop s) mode)) where
+    module _ (t : SpannedToken) (within : stop s ≤ length buffer) (answer : cut_of (Ok t) ≡ Some (cut buffer (stop s) mode)) where
       -- A token is passed, and leaves these brackets open.
       pub record GoesOn (brackets : List ContainerKind) : Type 0 where
         pub past : stop s < stop (span_of t.span)

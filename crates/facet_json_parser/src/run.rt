@@ -7,7 +7,7 @@ ghost use Rattle.facet_format.specs.Span.{stop, span_at};
 ghost use Rattle.facet_format.specs.Views.{span_of, container_of};
 ghost use Rattle.facet_json_token.specs.Token.{Kind};
 ghost use Rattle.facet_json_token.specs.Cut as spec_cut;
-ghost use Rattle.facet_json_token.specs.Views.{kind_of, mode_of, scanned};
+ghost use Rattle.facet_json_token.specs.Views.{kind_of, mode_of, cut_of};
 ghost use Rattle.facet_json_document.specs.Place.{root, goes_on};
 ghost use Rattle.facet_json_document.specs.Run.{opening};
 ghost use Rattle.facet_json_document.specs.Inner.PassedRun.{leaves, crosses, closing_one, passing};
@@ -19,7 +19,7 @@ use crate::quiet::past_quiet;
 use facet_format::{ContainerKind, Span};
 use facet_json_reader::{Contexts, Expected, Name, Refused, Why};
 use facet_json_token::cutting::token_at;
-use facet_json_token::{Mode, ScanResult, SpannedToken, Token, cut};
+use facet_json_token::{CutResult, Mode, SpannedToken, Token, cut};
 use std::alloc::Global;
 
 /// Passes the run of the value that begins with this token, which was cut off the input, and returns the run's last token. A
@@ -91,10 +91,10 @@ pub fn pass_container(
 /// The offset up to which tokens that open and close nothing are passed, and the next token there. Where a bracket stands at the
 /// position itself, one look tells, and nothing is passed.
 #[inline(always)]
-fn token_beyond(input: &[u8], position: usize, mode: Mode) -> (usize, ScanResult)
+fn token_beyond(input: &[u8], position: usize, mode: Mode) -> (usize, CutResult)
     requires { position ≤ length input.now }
     ensures on { RunLeadsOn input.now (mode_of mode) position result.0 }
-    ensures answer { scanned result.1 ≡ Some (spec_cut.cut input.now result.0 (mode_of mode)) }
+    ensures answer { cut_of result.1 ≡ Some (spec_cut.cut input.now result.0 (mode_of mode)) }
     ensures end { IfOk result.1 (λ t. t.token ≡ Token.Eof → span_of t.span ≡ span_at (length input.now) 0) }
 {
     match input.get(position) {
@@ -108,9 +108,9 @@ fn token_beyond(input: &[u8], position: usize, mode: Mode) -> (usize, ScanResult
 
 /// The next token, as `cut` gives it. Where a bracket, a comma or a colon stands at the position itself, its byte says which.
 #[inline(always)]
-fn next_token(input: &[u8], position: usize, mode: Mode) -> ScanResult
+fn next_token(input: &[u8], position: usize, mode: Mode) -> CutResult
     requires { position ≤ length input.now }
-    ensures answer { scanned result ≡ Some (spec_cut.cut input.now position (mode_of mode)) }
+    ensures answer { cut_of result ≡ Some (spec_cut.cut input.now position (mode_of mode)) }
     ensures end { IfOk result (λ t. t.token ≡ Token.Eof → span_of t.span ≡ span_at (length input.now) 0) }
 {
     match input.get(position) {

@@ -5,7 +5,7 @@
 
 use facet_format::numeral::NumberHint;
 use facet_format::{Decimal, Span};
-use facet_json_token::{
+use facet_json_scan::{
     DecodeError, ParsedNumber, ScanError, ScanErrorKind, check_content, check_number_strict,
     check_string_strict, decode_string, decode_string_borrowed, decode_string_borrowed_unchecked,
     decode_string_owned, decode_string_owned_unchecked, decode_string_unchecked, parse_number,

@@ -12,7 +12,7 @@ use Rattle.facet_json_document.specs.Language.{Language}
 use Rattle.facet_json_document.specs.StrictTokens.{tokens_in, cut_in}
 use Rattle.facet_json_token.specs.Token.{Kind, colon}
 use Rattle.facet_json_token.specs.Tokens.{Tokens, next}
-use Rattle.facet_json_token.specs.Views.{kind_of, scanned}
+use Rattle.facet_json_token.specs.Views.{kind_of, cut_of}
 use Rattle.facet_json_document.specs.Place.{after_key, goes_on}
 use Rattle.facet_json_document.specs.Refusal.{at_end}
 use Rattle.facet_json_reader.specs.Views.{IsColon, StopsAt}
@@ -28,18 +28,18 @@ module _ (buffer : List ℕ) (position : ℕ) (language : Language) (t : Spanned
       record { past = s.past; ends = s.within; tokens = rw (← kind_is) at s.tokens }
 
   -- A colon is next.
-  pub colon-stands : position ≤ length buffer → scanned (Ok t) ≡ Some (cut_in language buffer position) →
+  pub colon-stands : position ≤ length buffer → cut_of (Ok t) ≡ Some (cut_in language buffer position) →
       t.token ≡ code.Colon → IsColon buffer language position (span_of t.span)
   colon-stands p e is = colon_by (is_cut buffer position language t p e) is
 
   -- The input ends.
-  pub colon-ends : position ≤ length buffer → scanned (Ok t) ≡ Some (cut_in language buffer position) →
+  pub colon-ends : position ≤ length buffer → cut_of (Ok t) ≡ Some (cut_in language buffer position) →
       t.token ≡ code.Eof → span_of t.span ≡ span_at (length buffer) 0 →
       StopsAt buffer after_key (tokens_in language buffer position) (refusal_at (unexpected_token (codes "Eof") (codes "':'")) (span_of t.span))
   colon-ends p e is s = let none = none-at_end buffer position language t p e is in rw (none, s) (at_end after_key)
 
   -- Another token is next.
-  pub colon-other : position ≤ length buffer → scanned (Ok t) ≡ Some (cut_in language buffer position) →
+  pub colon-other : position ≤ length buffer → cut_of (Ok t) ≡ Some (cut_in language buffer position) →
       (t.token ≡ code.Colon → ⊥) → (t.token ≡ code.Eof → ⊥) → (r : Refusal) →
       ((kind : Kind) (rest : Tokens) → kind_of t.token ≡ Some kind → goes_on after_key kind ≡ false →
       StopsAt buffer after_key (next (record { kind = kind; span = span_of t.span }) rest) r) →

@@ -1,14 +1,14 @@
 -- What an answer of the plain cut in code says of the tokens that are left.
-use Rattle.std.proofs.Common.{◌≡◌, ℕ, ◌≤◌, ◌<◌, List, length, Some, Ok, Err, refl, sym, subst, ◌∙◌, arith}
+use Rattle.std.proofs.Common.{◌≡◌, ℕ, ◌≤◌, ◌<◌, List, length, Some, Ok, Err, refl, sym, subst, arith}
 use Rattle.std.proofs.lemmas.Option.{same_Some}
 use Rattle.facet_format.specs.declared.span.Span.{Span as RustSpan}
 use Rattle.facet_json_token.specs.declared.token.Token.{Token as RustToken}
 use Rattle.facet_json_token.specs.declared.token.Token.TheVariants as code
 use Rattle.facet_json_token.specs.declared.token.SpannedToken.{SpannedToken}
-use Rattle.facet_json_token.specs.declared.token.ScanErrorKind.{ScanErrorKind}
-use Rattle.facet_json_token.specs.declared.token.ScanErrorKind.TheVariants as scan
-use Rattle.facet_json_token.specs.declared.token.ScanError.{ScanError}
-use Rattle.facet_format.specs.Complaint.{Refusal, refusal_at}
+use Rattle.facet_json_token.specs.declared.fault.FaultKind.{FaultKind}
+use Rattle.facet_json_token.specs.declared.fault.FaultKind.TheVariants as faults
+use Rattle.facet_json_token.specs.declared.fault.Fault.{Fault as RustFault}
+use Rattle.facet_format.specs.Complaint.{refusal_at}
 use Rattle.facet_format.specs.Span.{stop}
 use Rattle.facet_format.specs.Views.{span_of}
 use Rattle.facet_json_document.specs.Language.{Language, lenient, strict}
@@ -17,12 +17,10 @@ use Rattle.facet_json_token.specs.Token.{Kind, Token, Fault}
 use Rattle.facet_json_token.specs.Token as token
 use Rattle.facet_json_token.specs.Cut.{Cut, nothing_left, token as cut_token, fault, cut}
 use Rattle.facet_json_token.specs.Tokens.{ended, refused, next}
-use Rattle.facet_json_token.specs.Views.{kind_of, token_answer, fault_answer, scanned, scan_refusal}
+use Rattle.facet_json_token.specs.Views.{kind_of, token_answer, inside_text, told_cut, cut_of, told_refusal}
 use Rattle.facet_json_token.proofs.CutBounds.{TokenFits, KindFits, cut-token_fits}
 use Rattle.facet_json_document.proofs.TokensIn.{tokens_in-token, tokens_in-fault, tokens_in-nothing, strict_token-is}
 use Rattle.facet_json_document.specs.Place.{complaint_of_fault}
-use Rattle.facet_json_reader.specs.PlaceViews.{NamesInside}
-use Rattle.facet_json_reader.proofs.InsideTexts.{KindInside, cut_in-inside}
 
 -- What is cut of either language fits there.
 cut_in-token_fits : (language : Language) (buffer : List ℕ) (position : ℕ) (t : Token) → position ≤ length buffer →
@@ -79,43 +77,39 @@ cut_by buffer position language t _ p e (a_token kind k) =
     })
 
 pub is_cut : (buffer : List ℕ) (position : ℕ) (language : Language) (t : SpannedToken) → position ≤ length buffer →
-    scanned (Ok t) ≡ Some (cut_in language buffer position) → IsCut buffer position language t
+    cut_of (Ok t) ≡ Some (cut_in language buffer position) → IsCut buffer position language t
 is_cut buffer position language t p e = cut_by buffer position language t _ p refl (token_answer-is t.span t.token _ e)
 
 -- ---- a fault
 
 -- A fault, and how it is passed on.
-record FaultAnswer (e : ScanError) (c : Cut) : Type 0 where
+record FaultAnswer (e : RustFault) (c : Cut) : Type 0 where
   what : Fault
   is_fault : c ≡ fault what
-  named : KindInside what.kind → NamesInside e.kind
-  passed_on : scan_refusal e ≡ refusal_at (complaint_of_fault what.kind) what.span
+  passed_on : told_refusal e ≡ refusal_at (complaint_of_fault what.kind) what.span
 
-fault_answer-is : (s : RustSpan) (kind : ScanErrorKind) (c : Cut) → fault_answer s kind ≡ Some c →
+fault_answer-is : (s : RustSpan) (kind : FaultKind) (c : Cut) → told_cut s kind ≡ Some c →
     FaultAnswer (record { kind = kind; span = s }) c
-fault_answer-is s (scan.UnexpectedChar ch) c e = record {
+fault_answer-is s (faults.UnexpectedChar ch) c e = record {
   what = record { kind = token.unexpected_char ch; span = span_of s };
   is_fault = sym (same_Some _ _ e);
-  named = λ _. tt;
   passed_on = refl;
 }
-fault_answer-is s (scan.UnexpectedEof text) c e = record {
-  what = record { kind = token.unexpected_eof text.now; span = span_of s };
+fault_answer-is s (faults.UnexpectedEof inside) c e = record {
+  what = record { kind = token.unexpected_eof (inside_text inside); span = span_of s };
   is_fault = sym (same_Some _ _ e);
-  named = λ text. text;
   passed_on = refl;
 }
-fault_answer-is s scan.InvalidUtf8 c e = cc
+fault_answer-is s faults.InvalidUtf8 c e = cc
 
 -- What is known of a fault that is cut: it ends the tokens, and is passed on so.
-pub record Refuses (buffer : List ℕ) (position : ℕ) (language : Language) (e : ScanError) : Type 0 where
+pub record Refuses (buffer : List ℕ) (position : ℕ) (language : Language) (e : RustFault) : Type 0 where
   pub what : Fault
-  pub passed_on : (r : Refusal) → (NamesInside e.kind → r ≡ scan_refusal e) → r ≡ refusal_at (complaint_of_fault what.kind) what.span
+  pub passed_on : told_refusal e ≡ refusal_at (complaint_of_fault what.kind) what.span
   pub tokens : tokens_in language buffer position ≡ refused what
 
-pub is_refused : (buffer : List ℕ) (position : ℕ) (language : Language) (e : ScanError) → position ≤ length buffer →
-    scanned (Err e) ≡ Some (cut_in language buffer position) → Refuses buffer position language e
+pub is_refused : (buffer : List ℕ) (position : ℕ) (language : Language) (e : RustFault) → position ≤ length buffer →
+    cut_of (Err e) ≡ Some (cut_in language buffer position) → Refuses buffer position language e
 is_refused buffer position language e p h =
     let a : FaultAnswer e (cut_in language buffer position) = fault_answer-is e.span e.kind _ h in
-    let is_named = a.named (cut_in-inside language buffer position a.what a.is_fault) in
-    record { what = a.what; passed_on = λ r q. q is_named ∙ a.passed_on; tokens = tokens_in-fault language buffer position a.what p a.is_fault }
+    record { what = a.what; passed_on = a.passed_on; tokens = tokens_in-fault language buffer position a.what p a.is_fault }

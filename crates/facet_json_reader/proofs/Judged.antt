@@ -6,18 +6,18 @@ use Rattle.facet_format.specs.declared.span.Span.{Span as RustSpan}
 use Rattle.facet_json_token.specs.declared.token.Token.{Token as RustToken}
 use Rattle.facet_json_token.specs.declared.token.Token.TheVariants as code
 use Rattle.facet_json_token.specs.declared.token.SpannedToken.{SpannedToken}
-use Rattle.facet_json_token.specs.declared.token.ScanError.{ScanError}
+use Rattle.facet_json_token.specs.declared.fault.Fault.{Fault as RustFault}
 use Rattle.facet_format.specs.Number.{Hint}
 use Rattle.facet_format.specs.Span.{stop}
 use Rattle.facet_format.specs.Views.{span_of, hint_of}
 use Rattle.facet_json_token.specs.Cut.{Cut, cut}
 use Rattle.facet_json_token.specs.Gap.{Mode}
 use Rattle.facet_json_token.specs.Token.{Kind, number, unexpected_char}
-use Rattle.facet_json_token.specs.Views.{kind_of, scanned, fault_answer}
+use Rattle.facet_json_token.specs.Views.{kind_of, cut_of, told_cut}
 use Rattle.facet_json_token.proofs.CutBounds.{KindFits, StringFits, NumberFits}
 use Rattle.facet_json_token.specs.RfcNumber.{IsRfcNumber}
 use Rattle.facet_json_token.specs.RfcNumberTest.{is_rfc_number}
-use Rattle.facet_json_token.specs.StrictViews.{number_refused}
+use Rattle.facet_json_token.specs.NumberViews.{number_fault}
 use Rattle.facet_json_token.proofs.RfcNumbers.{is_rfc-sound, is_rfc-complete}
 use Rattle.facet_json_document.specs.Language.{lenient}
 use Rattle.facet_json_document.specs.StrictTokens.{strict_cut}
@@ -41,15 +41,15 @@ has_slices buffer position mode t (ends is_end none) = rw is_end tt
 has_slices buffer position mode t (stands s) = slices-fit buffer t.span t.token s.kind s.within s.is_kind s.fits
 
 pub cut-slices : (buffer : List ℕ) (position : ℕ) (mode : Mode) (t : SpannedToken) → position ≤ length buffer →
-    scanned (Ok t) ≡ Some (cut buffer position mode) → HasSlices buffer t.span t.token
+    cut_of (Ok t) ≡ Some (cut buffer position mode) → HasSlices buffer t.span t.token
 cut-slices buffer position mode t p e = has_slices buffer position mode t (is_cut buffer position (lenient mode) t p e)
 
 -- ---- numbers
 
-pub judged-number : (buffer : List ℕ) (s : RustSpan) (start finish : ℕ) (hint : Hint) (r : Result (Unit {0}) ScanError) →
+pub judged-number : (buffer : List ℕ) (s : RustSpan) (start finish : ℕ) (hint : Hint) (r : Result (Unit {0}) RustFault) →
     start ≡ s.offset → finish ≡ s.offset + s.len →
     MatchResult r (λ _. IsRfcNumber (slice_range buffer start finish))
-    (λ e. (IsRfcNumber (slice_range buffer start finish) → ⊥) × (e ≡ number_refused start finish)) →
+    (λ e. (IsRfcNumber (slice_range buffer start finish) → ⊥) × (e ≡ number_fault start finish)) →
     IsJudged buffer (record { kind = number start finish hint; span = span_of s }) r
 judged-number buffer s start finish hint (Ok nothing) a b n = rw (is_rfc-complete _ n) refl
 judged-number buffer s start finish hint (Err e) a b n = by (is_rfc_number (slice_range buffer start finish)) refl
@@ -64,9 +64,9 @@ judged-number buffer s start finish hint (Err e) a b n = by (is_rfc_number (slic
 
 -- ---- what is refused
 
-judged-err : (buffer : List ℕ) (t : SpannedToken) (c : Cut) (e : ScanError) → TokenAnswer t.span t.token c →
+judged-err : (buffer : List ℕ) (t : SpannedToken) (c : Cut) (e : RustFault) → TokenAnswer t.span t.token c →
     IfSome (kind_of t.token) (λ k. IsJudged buffer (record { kind = k; span = span_of t.span }) (Err e)) → IsSome (kind_of t.token) →
-    fault_answer e.span e.kind ≡ Some (strict_cut buffer c)
+    told_cut e.span e.kind ≡ Some (strict_cut buffer c)
 judged-err buffer t _ e (the_end is_end) j some = let no = rw is_end at some in cc
 judged-err buffer t _ e (a_token kind k) j some =
     let judged = rw k at j in
@@ -74,7 +74,7 @@ judged-err buffer t _ e (a_token kind k) j some =
     judged.2 ∙ rw (wrong, strict_cut) refl
 
 -- What is refused of a token that is cut is the fault that RFC 8259 has there.
-pub cut-refused : (buffer : List ℕ) (position : ℕ) (mode : Mode) (t : SpannedToken) (e : ScanError) → scanned (Ok t) ≡ Some (cut buffer position mode) →
+pub cut-refused : (buffer : List ℕ) (position : ℕ) (mode : Mode) (t : SpannedToken) (e : RustFault) → cut_of (Ok t) ≡ Some (cut buffer position mode) →
     IfSome (kind_of t.token) (λ k. IsJudged buffer (record { kind = k; span = span_of t.span }) (Err e)) → IsSome (kind_of t.token) →
-    fault_answer e.span e.kind ≡ Some (strict_cut buffer (cut buffer position mode))
+    told_cut e.span e.kind ≡ Some (strict_cut buffer (cut buffer position mode))
 cut-refused buffer position mode t e h j some = judged-err buffer t _ e (token_answer-is t.span t.token _ h) j some

@@ -8,7 +8,6 @@ pub mod DigitWords
 pub mod EightDigits
 pub mod EventsAtTurns
 pub mod FirstBytesOfEvents
-pub mod InsideTexts
 pub mod Judged
 pub mod MeaninglessTokens
 pub mod PackedKinds

@@ -17,7 +17,7 @@ use Rattle.facet_json_document.specs.Language.{Language, rules}
 use Rattle.facet_json_document.specs.StrictTokens.{tokens_in, cut_in}
 use Rattle.facet_json_token.specs.Token.{Kind}
 use Rattle.facet_json_token.specs.Tokens.{Tokens, ended, next}
-use Rattle.facet_json_token.specs.Views.{kind_of, scanned}
+use Rattle.facet_json_token.specs.Views.{kind_of, cut_of}
 use Rattle.facet_json_document.specs.Future.{Future, within, over, reads_by, behind_root}
 use Rattle.facet_json_document.specs.Place.{stops, goes_on}
 use Rattle.facet_json_reader.specs.PlaceViews.{place_of, turn_of, turn_by}
@@ -57,7 +57,7 @@ module _ (buffer : List ℕ) (language : Language) (p : RustPlace) (position : �
   }
 
   -- A token that has a turn is next.
-  pub is-turn : (w : RustTurn) → position ≤ length buffer → scanned (Ok t) ≡ Some (cut_in language buffer position) →
+  pub is-turn : (w : RustTurn) → position ≤ length buffer → cut_of (Ok t) ≡ Some (cut_in language buffer position) →
       turn_of w ≡ turn_by (place_of p) (kind_of t.token) → (turn_of w ≡ stops → ⊥) →
       IsTurn buffer language (place_of p) position t w
   is-turn w h e turns goes = turn_by_cut w (is_cut buffer position language t h e) turns goes
@@ -65,7 +65,7 @@ module _ (buffer : List ℕ) (language : Language) (p : RustPlace) (position : �
 module _ (buffer : List ℕ) (language : Language) (stack : List ContainerKind) (p : RustPlace) (position : ℕ) (t : SpannedToken) where
   -- A token without a turn, or the end, is refused.
   pub stopped-refused : (last : Span) (refusal : Refusal) → position ≤ length buffer →
-      scanned (Ok t) ≡ Some (cut_in language buffer position) →
+      cut_of (Ok t) ≡ Some (cut_in language buffer position) →
       turn_of turns.Stops ≡ turn_by (place_of p) (kind_of t.token) →
       (t.token ≡ code.Eof → StopsAt buffer (place_of p) ended refusal) →
       ((kind : Kind) (rest : Tokens) → kind_of t.token ≡ Some kind → goes_on (place_of p) kind ≡ false →

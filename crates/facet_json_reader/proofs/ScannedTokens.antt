@@ -1,22 +1,21 @@
 -- What an answer of the plain cut in code says of its own slices, and where it stops the reader.
-use Rattle.std.proofs.Common.{◌≡◌, ℕ, ◌≤◌, List, length, Some, Ok, Err, sym, subst, arith}
+use Rattle.std.proofs.Common.{◌≡◌, ℕ, ◌≤◌, List, length, Some, Ok, Err, sym, subst, ◌∙◌, arith}
 use Rattle.std.proofs.lemmas.Option.{same_Some}
 use Rattle.facet_format.specs.declared.span.Span.{Span as RustSpan}
 use Rattle.facet_json_token.specs.declared.token.Token.{Token as RustToken}
 use Rattle.facet_json_token.specs.declared.token.Token.TheVariants as code
 use Rattle.facet_json_token.specs.declared.token.SpannedToken.{SpannedToken}
-use Rattle.facet_json_token.specs.declared.token.ScanError.{ScanError}
+use Rattle.facet_json_token.specs.declared.fault.Fault.{Fault as RustFault}
 use Rattle.facet_format.specs.Complaint.{Refusal}
 use Rattle.facet_format.specs.Span.{stop}
 use Rattle.facet_format.specs.Views.{span_of, hint_of}
 use Rattle.facet_json_document.specs.Language.{Language}
 use Rattle.facet_json_document.specs.StrictTokens.{tokens_in, cut_in}
 use Rattle.facet_json_token.specs.Token.{Kind}
-use Rattle.facet_json_token.specs.Views.{kind_of, scanned, scan_refusal}
+use Rattle.facet_json_token.specs.Views.{kind_of, cut_of, told_refusal}
 use Rattle.facet_json_token.proofs.CutBounds.{KindFits, StringFits, NumberFits}
 use Rattle.facet_json_document.specs.Place.{Place}
 use Rattle.facet_json_document.specs.Refusal.{at_fault}
-use Rattle.facet_json_reader.specs.PlaceViews.{NamesInside}
 use Rattle.facet_json_reader.proofs.CutsAtPlaces.{IsCut, ends, stands, is_cut, is_refused}
 use Rattle.facet_json_reader.specs.TokenViews.{CanBeRead}
 use Rattle.facet_json_reader.specs.Views.{StopsAt}
@@ -54,14 +53,14 @@ can_be buffer position language t (ends is_end none) = rw is_end tt
 can_be buffer position language t (stands s) = CanBeRead-fits buffer t.span t.token s.kind s.within s.is_kind s.fits
 
 pub cut-readable : (buffer : List ℕ) (position : ℕ) (language : Language) (t : SpannedToken) → position ≤ length buffer →
-    scanned (Ok t) ≡ Some (cut_in language buffer position) → CanBeRead buffer t.span t.token
+    cut_of (Ok t) ≡ Some (cut_in language buffer position) → CanBeRead buffer t.span t.token
 cut-readable buffer position language t p e = can_be buffer position language t (is_cut buffer position language t p e)
 
 -- ---- a fault
 
 -- A fault stops the reader wherever it stands.
-pub fault-stops : (buffer : List ℕ) (position : ℕ) (language : Language) (e : ScanError) (place : Place) (r : Refusal) → position ≤ length buffer →
-    scanned (Err e) ≡ Some (cut_in language buffer position) → (NamesInside e.kind → r ≡ scan_refusal e) →
+pub fault-stops : (buffer : List ℕ) (position : ℕ) (language : Language) (e : RustFault) (place : Place) (r : Refusal) → position ≤ length buffer →
+    cut_of (Err e) ≡ Some (cut_in language buffer position) → r ≡ told_refusal e →
     StopsAt buffer place (tokens_in language buffer position) r
 fault-stops buffer position language e place r room h p =
-    let f = is_refused buffer position language e room h in rw (f.passed_on r p, f.tokens) (at_fault place f.what)
+    let f = is_refused buffer position language e room h in rw (p ∙ f.passed_on, f.tokens) (at_fault place f.what)

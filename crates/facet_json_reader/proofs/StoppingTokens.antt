@@ -10,7 +10,7 @@ use Rattle.facet_json_document.specs.Language.{Language}
 use Rattle.facet_json_document.specs.StrictTokens.{tokens_in, cut_in}
 use Rattle.facet_json_token.specs.Token.{Kind}
 use Rattle.facet_json_token.specs.Tokens.{Tokens, ended, next}
-use Rattle.facet_json_token.specs.Views.{kind_of, scanned}
+use Rattle.facet_json_token.specs.Views.{kind_of, cut_of}
 use Rattle.facet_json_document.specs.Place.{after_key, leads_on, goes_on}
 use Rattle.facet_json_reader.specs.declared.place.Place.{Place as RustPlace}
 use Rattle.facet_json_reader.specs.declared.place.Turn.TheVariants as turns
@@ -30,7 +30,7 @@ module _ (buffer : List ℕ) (position : ℕ) (language : Language) (t : Spanned
   ended_by (stands s) is = let none = subst (λ (u : RustToken). kind_of u ≡ Some s.kind) is s.is_kind in cc
 
   -- Where the end is cut, no token is left.
-  pub none-at_end : position ≤ length buffer → scanned (Ok t) ≡ Some (cut_in language buffer position) → t.token ≡ code.Eof →
+  pub none-at_end : position ≤ length buffer → cut_of (Ok t) ≡ Some (cut_in language buffer position) → t.token ≡ code.Eof →
       tokens_in language buffer position ≡ ended
   none-at_end p e is = ended_by (is_cut buffer position language t p e) is
 
@@ -46,7 +46,7 @@ module _ (buffer : List ℕ) (position : ℕ) (language : Language) (t : Spanned
 
   -- At a place where the token has no turn, or the end.
   pub stopped-at_place : (place : RustPlace) (Holds : Tokens → Type 0) → position ≤ length buffer →
-      scanned (Ok t) ≡ Some (cut_in language buffer position) → turn_of turns.Stops ≡ turn_by (place_of place) (kind_of t.token) →
+      cut_of (Ok t) ≡ Some (cut_in language buffer position) → turn_of turns.Stops ≡ turn_by (place_of place) (kind_of t.token) →
       (t.token ≡ code.Eof → Holds ended) →
       ((kind : Kind) (rest : Tokens) → kind_of t.token ≡ Some kind → goes_on (place_of place) kind ≡ false →
       Holds (next (record { kind = kind; span = span_of t.span }) rest)) → Holds (tokens_in language buffer position)
@@ -61,7 +61,7 @@ module _ (buffer : List ℕ) (position : ℕ) (language : Language) (t : Spanned
       let at = s.tokens in rw at (at_token s.kind _ s.is_kind (no_colon t.token s.kind no_mark s.is_kind))
 
   -- After a key, where the token is another than a colon.
-  pub stopped-after_key : (Holds : Tokens → Type 0) → position ≤ length buffer → scanned (Ok t) ≡ Some (cut_in language buffer position) →
+  pub stopped-after_key : (Holds : Tokens → Type 0) → position ≤ length buffer → cut_of (Ok t) ≡ Some (cut_in language buffer position) →
       (t.token ≡ code.Colon → ⊥) → (t.token ≡ code.Eof → ⊥) →
       ((kind : Kind) (rest : Tokens) → kind_of t.token ≡ Some kind → goes_on after_key kind ≡ false →
       Holds (next (record { kind = kind; span = span_of t.span }) rest)) → Holds (tokens_in language buffer position)

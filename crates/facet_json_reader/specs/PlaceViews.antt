@@ -4,16 +4,12 @@ use Rattle.facet_format.specs.declared.event.ContainerKind.{ContainerKind as Rus
 use Rattle.facet_format.specs.declared.event.ContainerKind.TheVariants as containers
 use Rattle.facet_json_token.specs.declared.token.Token.{Token as RustToken}
 use Rattle.facet_json_token.specs.declared.token.Token.TheVariants as code
-use Rattle.facet_json_token.specs.declared.token.ScanErrorKind.{ScanErrorKind}
-use Rattle.facet_json_token.specs.declared.token.ScanErrorKind.TheVariants as scan
 use Rattle.facet_json_reader.specs.declared.refusal.Expected.{Expected}
 use Rattle.facet_json_reader.specs.declared.refusal.Expected.TheVariants as expected
 use Rattle.facet_json_reader.specs.declared.refusal.Name.{Name}
 use Rattle.facet_json_reader.specs.declared.refusal.Name.TheVariants as names
 use Rattle.facet_json_reader.specs.declared.refusal.NoRaw.{NoRaw}
 use Rattle.facet_json_reader.specs.declared.refusal.NoRaw.TheVariants as no_raws
-use Rattle.facet_json_reader.specs.declared.refusal.Inside.{Inside}
-use Rattle.facet_json_reader.specs.declared.refusal.Inside.TheVariants as insides
 use Rattle.facet_json_reader.specs.declared.refusal.Why.{Why}
 use Rattle.facet_json_reader.specs.declared.refusal.Why.TheVariants as why
 use Rattle.facet_json_reader.specs.declared.refusal.Refused.{Refused}
@@ -30,12 +26,12 @@ use Rattle.facet_format.specs.Event.{ContainerKind, object, array, EventKind}
 use Rattle.facet_format.specs.Event as event
 use Rattle.facet_format.specs.Views.{span_of, container_of}
 use Rattle.facet_format.specs.declared.span.Span.{Span as RustSpan}
-use Rattle.facet_json_token.specs.declared.token.ScanError.{ScanError}
+use Rattle.facet_json_token.specs.declared.fault.Fault.{Fault as RustFault}
 use Rattle.facet_json_token.specs.Cut.{fault}
 use Rattle.facet_json_token.specs.Strict.{strict_fault}
-use Rattle.facet_json_token.specs.Token.{Token, Fault, Kind, in_string, in_number, in_literal, in_block_comment}
+use Rattle.facet_json_token.specs.Token.{Token, Fault, Kind}
 use Rattle.facet_json_token.specs.Token as token
-use Rattle.facet_json_token.specs.Views.{mode_of, fault_answer}
+use Rattle.facet_json_token.specs.Views.{mode_of, inside_text, told_cut}
 use Rattle.facet_json_document.specs.Language.{Language, lenient, strict}
 use Rattle.facet_json_document.specs.Place.{Place, Turn, stops, passes, says, says_scalar, place_turn}
 use Rattle.facet_json_document.specs.Place as place
@@ -82,24 +78,6 @@ abbrev pub no_raw_text : NoRaw → List ℕ
 no_raw_text no_raws.Key = codes "unexpected field key in capture_raw"
 no_raw_text no_raws.End = codes "unexpected end event in capture_raw"
 no_raw_text no_raws.Text = codes "invalid UTF-8 in raw JSON"
-
--- inside of what the input ends
-abbrev pub inside_text : Inside → List ℕ
-inside_text insides.String = in_string
-inside_text insides.Number = in_number
-inside_text insides.Literal = in_literal
-inside_text insides.BlockComment = in_block_comment
-inside_text insides.Escape = codes "in escape sequence"
-inside_text insides.UnicodeEscape = codes "in unicode escape"
-
--- It is one of these texts.
-abbrev pub IsInsideText : List ℕ → Type 0
-IsInsideText text = (inside : Inside) × (inside_text inside ≡ text)
-
--- Where a scan says inside of what its input ends, it says so by one of these texts.
-abbrev pub NamesInside : ScanErrorKind → Type 0
-NamesInside (scan.UnexpectedEof text) = IsInsideText text.now
-NamesInside _ = Unit {0}
 
 abbrev pub why_of : Why → Complaint
 why_of (why.Char c) = complaint.unexpected_char c (codes "valid JSON token")
@@ -197,6 +175,6 @@ HasSlices buffer s (code.Number start finish h) = (start ≤ finish) × (finish 
 HasSlices buffer s _ = Unit {0}
 
 -- The token is allowed, or refused for what is wrong with it.
-abbrev pub IsJudged : List ℕ → Token → Result (Unit {0}) ScanError → Type 0
+abbrev pub IsJudged : List ℕ → Token → Result (Unit {0}) RustFault → Type 0
 IsJudged buffer t (Ok nothing) = strict_fault buffer t ≡ None
-IsJudged buffer t (Err e) = (f : Fault) × (strict_fault buffer t ≡ Some f) × (fault_answer e.span e.kind ≡ Some (fault f))
+IsJudged buffer t (Err e) = (f : Fault) × (strict_fault buffer t ≡ Some f) × (told_cut e.span e.kind ≡ Some (fault f))

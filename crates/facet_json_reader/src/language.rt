@@ -4,7 +4,7 @@ ghost use Rattle.std.specs.Prelude.{◌≡◌, ◌≤◌, Some, length, IfOk, If
 ghost use Rattle.facet_format.specs.Span.{span_at};
 ghost use Rattle.facet_format.specs.Views.{span_of};
 ghost use Rattle.facet_json_token.specs.Token.{number, string};
-ghost use Rattle.facet_json_token.specs.Views.{mode_of, kind_of, scanned};
+ghost use Rattle.facet_json_token.specs.Views.{mode_of, kind_of, cut_of};
 ghost use Rattle.facet_json_document.specs.Language.{strict, gaps, rules};
 ghost use Rattle.facet_json_document.specs.Place.{led};
 ghost use Rattle.facet_json_document.specs.StrictTokens.{cut_in};
@@ -12,7 +12,7 @@ ghost use Rattle.facet_json_reader.specs.PlaceViews.{language_of, least_of, plac
 
 use crate::place::Place;
 use facet_json_token::{
-    Mode, ScanError, ScanResult, SpannedToken, Token, check_number_strict, check_string_strict, cut,
+    CutResult, Fault, Mode, SpannedToken, Token, check_number_strict, check_string_strict, cut,
 };
 
 /// What a parser takes as a document. What may stand between its tokens is the scanner's mode.
@@ -64,9 +64,9 @@ impl Language {
 
     /// What stands at `position`: where RFC 8259 alone is read, a string or a number that it has not is refused.
     #[inline(always)]
-    pub fn cut(self, buffer: &[u8], position: usize) -> ScanResult
+    pub fn cut(self, buffer: &[u8], position: usize) -> CutResult
         requires { position ≤ length buffer.now }
-        ensures answer { scanned result ≡ Some (cut_in (language_of self) buffer.now position) }
+        ensures answer { cut_of result ≡ Some (cut_in (language_of self) buffer.now position) }
         ensures end { IfOk result (λ t. t.token ≡ Token.Eof → span_of t.span ≡ span_at (length buffer.now) 0) }
     {
         match self {
@@ -78,20 +78,20 @@ impl Language {
 
 /// The same where strings and numbers are those of RFC 8259 alone.
 #[inline(never)]
-fn cut_strict(buffer: &[u8], position: usize, mode: Mode) -> ScanResult
+fn cut_strict(buffer: &[u8], position: usize, mode: Mode) -> CutResult
     requires { position ≤ length buffer.now }
-    ensures answer { scanned result ≡ Some (cut_in (strict (mode_of mode)) buffer.now position) }
+    ensures answer { cut_of result ≡ Some (cut_in (strict (mode_of mode)) buffer.now position) }
     ensures end { IfOk result (λ t. t.token ≡ Token.Eof → span_of t.span ≡ span_at (length buffer.now) 0) }
 {
     let token = cut(buffer, position, mode)?;
     match judge(buffer, &token) {
         Ok(()) => Ok(token),
-        Err(error) => Err(error),
+        Err(fault) => Err(fault),
     }
 }
 
 /// Whether RFC 8259 has a token, as far as it is told before it is decoded.
-fn judge(buffer: &[u8], token: &SpannedToken) -> Result<(), ScanError>
+fn judge(buffer: &[u8], token: &SpannedToken) -> Result<(), Fault>
     requires { HasSlices buffer.now token.now.span token.now.token }
     ensures judged { IfSome (kind_of token.now.token) (λ k. IsJudged buffer.now (record { kind = k; span = span_of token.now.span }) result) }
     ensures some { IfErr result (λ _. IsSome (kind_of token.now.token)) }

@@ -21,5 +21,5 @@ pub use moving::Sought;
 pub use number::Whole;
 pub use place::{Place, Turn};
 pub use reader::{Held, Reader, Stage};
-pub use refusal::{Expected, Inside, Name, NoRaw, Refused, Why};
+pub use refusal::{Expected, Name, NoRaw, Refused, Why};
 pub use wanted::{ListEnd, ListStart, Member, Null, ObjectStart, Wanted};

@@ -16,8 +16,8 @@ ghost use Rattle.facet_json_reader.specs.TokenViews.{number_in, holds_made_text,
 use crate::refusal::{Name, Refused, Why};
 use facet_format::{Decimal, ScalarValue, Span};
 use facet_json_token::{
-    DecodeError, ParsedNumber, SpannedToken, Token, check_content, decode_string_owned,
-    parse_measured, plain_text,
+    ParsedNumber, SpannedToken, Token, check_content, decode_string_owned, parse_measured,
+    plain_text,
 };
 use std::alloc::{AllocError, Global};
 use std::borrow::CowStr;
@@ -284,8 +284,7 @@ fn escaped_text<'a>(
 {
     match decode_string_owned(alloc, buffer, start, end) {
         Ok(text) => Ok(Some(CowStr::Owned(text))),
-        Err(DecodeError::Scan(error)) => Err(Refused::from(error)),
-        Err(DecodeError::OutOfMemory) => {
+        Err(_) => {
             check_content(buffer, start, end)?;
             Ok(None)
         }

@@ -4,11 +4,11 @@ ghost use Rattle.std.specs.Prelude.{◌≡◌};
 ghost use Rattle.facet_format.specs.Complaint.{refusal_at, save_limit};
 ghost use Rattle.facet_format.specs.Cursor.{no_memory_at};
 ghost use Rattle.facet_format.specs.Views.{complaint_of, span_of, parse_refusal};
-ghost use Rattle.facet_json_reader.specs.PlaceViews.{expected_text, name_text, no_raw_text, inside_text, IsInsideText, NamesInside, why_of, refused_of};
-ghost use Rattle.facet_json_token.specs.Views.{scan_complaint, scan_refusal};
+ghost use Rattle.facet_json_reader.specs.PlaceViews.{expected_text, name_text, no_raw_text, why_of, refused_of};
+ghost use Rattle.facet_json_token.specs.Views.{told_complaint, told_refusal};
 
 use facet_format::{DeserializeErrorKind, ParseError, Span};
-use facet_json_token::{ScanError, ScanErrorKind};
+use facet_json_token::{Fault, FaultKind, Inside};
 
 /// What is expected where a document doesn't go on.
 #[derive(Debug, Clone, Copy)]
@@ -151,53 +151,6 @@ impl NoRaw {
     }
 }
 
-/// What the input ends inside of.
-#[derive(Debug, Clone, Copy)]
-pub enum Inside {
-    /// A string.
-    String,
-    /// A number.
-    Number,
-    /// A literal.
-    Literal,
-    /// A block comment.
-    BlockComment,
-    /// An escape.
-    Escape,
-    /// The digits of an escape.
-    UnicodeEscape,
-}
-
-impl Inside {
-    /// The text that a refusal says.
-    fn text(self) -> &'static str
-        ensures { result.now ≡ inside_text self }
-    {
-        match self {
-            Inside::String => "in string",
-            Inside::Number => "in number",
-            Inside::Literal => "in literal",
-            Inside::BlockComment => "in block comment",
-            Inside::Escape => "in escape sequence",
-            Inside::UnicodeEscape => "in unicode escape",
-        }
-    }
-
-    /// What such a text says. A scan says no others.
-    fn of_text(text: &str) -> Inside
-        ensures { IsInsideText text.now → inside_text result ≡ text.now }
-    {
-        match text {
-            "in string" => Inside::String,
-            "in number" => Inside::Number,
-            "in literal" => Inside::Literal,
-            "in block comment" => Inside::BlockComment,
-            "in escape sequence" => Inside::Escape,
-            _ => Inside::UnicodeEscape,
-        }
-    }
-}
-
 /// Why a parser refused.
 #[derive(Debug, Clone, Copy)]
 pub enum Why {
@@ -296,25 +249,25 @@ impl From<Refused> for ParseError<'_> {
     }
 }
 
-impl From<ScanErrorKind> for Why {
-    ghost from_gives = { λ scan why. NamesInside scan → why_of why ≡ scan_complaint scan };
+impl From<FaultKind> for Why {
+    ghost from_gives = { λ fault why. why_of why ≡ told_complaint fault };
 
-    fn from(kind: ScanErrorKind) -> Self {
+    fn from(kind: FaultKind) -> Self {
         match kind {
-            ScanErrorKind::UnexpectedChar(ch) => Why::Char(ch),
-            ScanErrorKind::UnexpectedEof(text) => Why::Inside(Inside::of_text(text)),
-            ScanErrorKind::InvalidUtf8 => Why::InvalidUtf8,
+            FaultKind::UnexpectedChar(ch) => Why::Char(ch),
+            FaultKind::UnexpectedEof(inside) => Why::Inside(inside),
+            FaultKind::InvalidUtf8 => Why::InvalidUtf8,
         }
     }
 }
 
-impl From<ScanError> for Refused {
-    ghost from_gives = { λ scan refused. NamesInside scan.kind → refused_of refused ≡ scan_refusal scan };
+impl From<Fault> for Refused {
+    ghost from_gives = { λ fault refused. refused_of refused ≡ told_refusal fault };
 
-    fn from(error: ScanError) -> Self {
+    fn from(fault: Fault) -> Self {
         Refused {
-            why: Why::from(error.kind),
-            span: error.span,
+            why: Why::from(fault.kind),
+            span: fault.span,
         }
     }
 }

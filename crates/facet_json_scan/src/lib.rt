@@ -7,6 +7,7 @@
 mod answer;
 pub mod laws;
 mod reader;
+mod refusing;
 mod scanner;
 mod source;
 
@@ -14,10 +15,10 @@ pub use answer::{ScanReadError, Scanned};
 pub use facet_format::numeral::NumberHint;
 pub use facet_json_token::{
     DecodeError, Mode, ParsedNumber, ScanError, ScanErrorKind, ScanResult, SpannedToken, Token,
-    check_content, check_number_strict, check_string_strict, cut, decode_string,
-    decode_string_borrowed, decode_string_borrowed_unchecked, decode_string_owned,
+    decode_string, decode_string_borrowed, decode_string_borrowed_unchecked, decode_string_owned,
     decode_string_owned_unchecked, decode_string_unchecked, parse_number, parse_number_unchecked,
 };
 pub use reader::scan_reader;
+pub use refusing::{check_content, check_number_strict, check_string_strict, cut};
 pub use scanner::Scanner;
 pub use source::{ByteSource, Marked};

@@ -17,13 +17,14 @@ mod pending;
 mod token;
 mod whole;
 
+use crate::refusing::cut;
 use crate::scanner::gap::{Piece, block_from, line_from};
 use crate::scanner::pending::{Pending, State};
 use crate::scanner::token::{Found, number_from, scan_from, text_from};
 use crate::scanner::whole::scan;
 use facet_format::Span;
 use facet_json_token::cutting::skip_gap;
-use facet_json_token::{Mode, ScanResult, SpannedToken, Token, cut};
+use facet_json_token::{Mode, ScanResult, SpannedToken, Token};
 use std::marker::Model;
 
 /// Cuts tokens off a buffer that grows.

@@ -9,16 +9,19 @@ use Rattle.std.proofs.lemmas.List.{take-append-drop, take_at, length-take-le, le
 use Rattle.std.proofs.lemmas.List.Edits.{length-between}
 use Rattle.std.proofs.lemmas.Str.{encode_ascii, length-encode, len_utf8_bounds, IsUtf8-append, IsUtf8-encode}
 use Rattle.facet_format.specs.Bytes.{backslash}
-use Rattle.facet_format.specs.Complaint.{refusal_at}
+use Rattle.facet_format.specs.Complaint.{Refusal, refusal_at}
 use Rattle.facet_format.specs.Span.{span_at}
-use Rattle.facet_json_token.specs.declared.token.ScanError.{ScanError}
-use Rattle.facet_json_token.specs.Views.{scan_refusal}
+use Rattle.facet_json_token.specs.declared.fault.Fault.{Fault}
+use Rattle.facet_json_token.specs.Views.{told_refusal}
 use Rattle.facet_json_token.specs.Decode.{Decodes, empty, piece}
 use Rattle.facet_json_token.specs.Decoded.{piece_at, decoded}
 use Rattle.facet_json_token.specs.Fault.{DecodeFault, decode_fault_at, fault_after, no_character, not_utf8, FirstFault, here, after, fault_complaint, fault_refusal}
 use Rattle.facet_json_token.specs.FirstFault.{fault_of}
 use Rattle.facet_json_token.specs.Inner.Run.{StopsBeingText}
-use Rattle.facet_json_token.specs.DecodeViews.{TellsFirstFault}
+use Rattle.facet_json_token.specs.DecodeViews.{IsFirstRefusal, RefusesContent, SaysScan}
+use Rattle.facet_json_token.specs.declared.decode.DecodeError.{DecodeError}
+use Rattle.facet_json_token.specs.declared.decode.DecodeError.TheVariants as decode
+use Rattle.facet_json_token.proofs.FaultErrors.{says-refusal}
 use Rattle.facet_json_token.proofs.DecodeLaws.{decodes-decoded}
 use Rattle.facet_json_token.proofs.DecodeSteps.{range-append, range-ends}
 use Rattle.facet_json_token.proofs.FaultLaws.{faulty, fault_after-none, fault_after-after, fault-no_text}
@@ -97,10 +100,10 @@ broken-run run rest n plain ends valid = by (drop n run) refl
 -- ---- steps
 
 -- What is told of the bytes from a place on is told of the whole content.
-told-after_decoded : (buf out : List ℕ) (start at end : ℕ) (f : DecodeFault) (e : ScanError) → start ≤ at → at ≤ end → end ≤ length buf →
-    Decodes (slice_range buf start at) out → FirstFault (slice_range buf at end) f → scan_refusal e ≡ fault_refusal at f →
-    TellsFirstFault (slice_range buf start end) start e
-told-after_decoded buf out start at end f e a b h so_far is told =
+told-after_decoded : (buf out : List ℕ) (start at end : ℕ) (f : DecodeFault) (r : Refusal) → start ≤ at → at ≤ end → end ≤ length buf →
+    Decodes (slice_range buf start at) out → FirstFault (slice_range buf at end) f → r ≡ fault_refusal at f →
+    IsFirstRefusal (slice_range buf start end) start r
+told-after_decoded buf out start at end f r a b h so_far is told =
     let front = slice_range buf start at in
     let size = length-between buf start at (omega arith) in
     let g = fault_after (length front) f in
@@ -113,26 +116,33 @@ told-after_decoded buf out start at end f e a b h so_far is told =
     }
 
 -- A run that is no text is refused.
-pub step-broken : (buf out : List ℕ) (start at stop end : ℕ) (e : ScanError) → start ≤ at → at ≤ stop → stop ≤ end →
+pub step-broken : (buf out : List ℕ) (start at stop end : ℕ) (e : Fault) → start ≤ at → at ≤ stop → stop ≤ end →
     end ≤ length buf → IsPlain (slice_range buf at stop) → (stop < end → get_or buf stop 0 ≡ backslash) →
     Decodes (slice_range buf start at) out → StopsBeingText (slice_range buf at stop) at e →
-    TellsFirstFault (slice_range buf start end) start e
+    IsFirstRefusal (slice_range buf start end) start (told_refusal e)
 step-broken buf out start at stop end e a b d h plain ends so_far s =
     let own =
     broken-run (slice_range buf at stop) (slice_range buf stop end) s.text_len plain (range-ends buf stop end h ends) s.stops in
     let first = rw (← range-append buf at stop end b d) at own in
-    told-after_decoded buf out start at end (decode_fault_at no_character s.text_len 1) e a (omega arith) h so_far first s.told
+    told-after_decoded buf out start at end (decode_fault_at no_character s.text_len 1) (told_refusal e) a (omega arith) h so_far first s.told
 
 -- Where no piece is found, the content is refused.
-pub step-lost : (buf out : List ℕ) (start stop end : ℕ) (e : ScanError) → start ≤ stop → stop < end → end ≤ length buf →
-    piece_at (slice_range buf stop end) ≡ None → scan_refusal e ≡ fault_refusal stop (fault_of (slice_range buf stop end)) →
-    Decodes (slice_range buf start stop) out → TellsFirstFault (slice_range buf start end) start e
-step-lost buf out start stop end e a b h lost told so_far =
+pub step-lost : (buf out : List ℕ) (start stop end : ℕ) (r : Refusal) → start ≤ stop → stop < end → end ≤ length buf →
+    piece_at (slice_range buf stop end) ≡ None → r ≡ fault_refusal stop (fault_of (slice_range buf stop end)) →
+    Decodes (slice_range buf start stop) out → IsFirstRefusal (slice_range buf start end) start r
+step-lost buf out start stop end r a b h lost told so_far =
     let rest = slice_range buf stop end in
     let some : 0 < length rest = omega (arith, length-between buf stop end h) in
     let own = here rest (fault_of rest) (faulty rest some lost) in
-    told-after_decoded buf out start stop end (fault_of rest) e a (omega arith) h so_far own told
+    told-after_decoded buf out start stop end (fault_of rest) r a (omega arith) h so_far own told
 
 -- What is refused has no text.
-pub told-no_text : (content : List ℕ) (start : ℕ) (e : ScanError) → TellsFirstFault content start e → decoded content ≡ None
-told-no_text content start e t = fault-no_text content t.fault t.is_first
+pub told-no_text : (content : List ℕ) (start : ℕ) (r : Refusal) → IsFirstRefusal content start r → decoded content ≡ None
+told-no_text content start r t = fault-no_text content t.fault t.is_first
+
+-- A decode that says so refuses the content.
+pub says-refuses : (buffer : List ℕ) (start finish : ℕ) (f : Fault) (e : DecodeError) → SaysScan f e →
+    IsFirstRefusal (slice_range buffer start finish) start (told_refusal f) → RefusesContent buffer start finish e
+says-refuses buffer start finish f (decode.Scan e) says first =
+    subst (IsFirstRefusal (slice_range buffer start finish) start) (sym (says-refusal f e says)) first
+says-refuses buffer start finish f decode.OutOfMemory says first = absurd says

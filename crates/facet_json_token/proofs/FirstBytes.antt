@@ -9,8 +9,8 @@ use Rattle.facet_json_token.specs.Token.{Kind, unexpected_char, unexpected_eof, 
 use Rattle.facet_json_token.specs.Cut.{Cut, nothing_left, Start, punctuation, letter, opens_text, opens_number, opens_comment, opens_nothing, start_of, token_at, fault_at, common_len, content_len, cut_word, cut_text, cut_number, cut_slash, cut_by, cut_here}
 use Rattle.facet_json_token.specs.declared.token.Token.TheVariants as code
 use Rattle.facet_json_token.specs.declared.token.SpannedToken.{SpannedToken}
-use Rattle.facet_json_token.specs.declared.token.ScanError.{ScanError}
-use Rattle.facet_json_token.specs.Views.{scanned, token_answer}
+use Rattle.facet_json_token.specs.declared.fault.Fault.{Fault as RustFault}
+use Rattle.facet_json_token.specs.Views.{cut_of, token_answer}
 use Rattle.facet_json_token.proofs.Offsets.{drop-at_byte}
 use Rattle.facet_json_token.proofs.Starts.{start_of-number}
 use Rattle.facet_json_token.proofs.NumberCuts.{number_at}
@@ -144,8 +144,8 @@ cut_here-something mode buffer at b h e =
     (cut_here-by mode buffer at b (start_of b) h refl ∙ e)
 
 -- an answer that isn't the end is no end
-pub no_end : (answer : Result SpannedToken ScanError) (cut : Cut) (P : SpannedToken → Type 0) →
-    scanned answer ≡ Some cut → cut ≢ nothing_left → IfOk answer (λ t. t.token ≡ code.Eof → P t)
+pub no_end : (answer : Result SpannedToken RustFault) (cut : Cut) (P : SpannedToken → Type 0) →
+    cut_of answer ≡ Some cut → cut ≢ nothing_left → IfOk answer (λ t. t.token ≡ code.Eof → P t)
 no_end (Ok t) cut P e n =
     λ eof. absurd (n (let same : Some cut ≡ Some nothing_left = sym e ∙ ap (token_answer t.span) eof in cc))
 no_end (Err f) cut P e n = tt

@@ -15,7 +15,7 @@ use Rattle.facet_json_token.specs.Token.{Kind}
 use Rattle.facet_json_token.specs.declared.token.Token.{Token as RustToken}
 use Rattle.facet_json_token.specs.declared.token.Token.TheVariants as code
 use Rattle.facet_json_token.specs.declared.token.SpannedToken.{SpannedToken}
-use Rattle.facet_json_token.specs.Views.{kind_of, with_span, token_answer, scanned}
+use Rattle.facet_json_token.specs.Views.{kind_of, with_span, token_answer, cut_of}
 use Rattle.facet_json_token.specs.Inner.InSight.{told}
 use Rattle.facet_json_token.specs.Inner.Window.{is_blank}
 use Rattle.facet_json_token.proofs.Offsets.{drop-at_byte, slice_get-from_read}
@@ -168,8 +168,8 @@ answer-told s code.Eof c e = cc
 answer-told s t c e = e
 
 -- a token that is told is the answer
-pub scanned-told : (t : SpannedToken) (c : Cut) → told t ≡ Some c → scanned (Ok t) ≡ Some c
-scanned-told t c e = answer-told t.span t.token c e
+pub cut_of-told : (t : SpannedToken) (c : Cut) → told t ≡ Some c → cut_of (Ok t) ≡ Some c
+cut_of-told t c e = answer-told t.span t.token c e
 
 -- and is no end
 pub told-no_end : {P : Type 0} (t : SpannedToken) (c : Cut) → told t ≡ Some c → t.token ≡ code.Eof → P

@@ -8,6 +8,7 @@ pub mod DecodeLaws
 pub mod DecodeSteps
 mod DigitValues
 pub mod EscapeSteps
+pub mod FaultErrors
 pub mod FaultLaws
 pub mod FaultSteps
 pub mod FirstBytes

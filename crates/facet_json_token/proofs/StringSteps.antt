@@ -1,9 +1,10 @@
 -- The first wrong byte of a content, after a run that escapes nothing, after an escape, and where one stands.
-use Rattle.std.proofs.Common.{◌≡◌, ℕ, zero, suc, ◌+◌, ◌-◌, ◌<◌, ◌≤◌, Bool, true, false, cond, ◌==◌, nat_le, List, [], ◌∷◌, length, take, drop, get_or, slice_range, Option, Some, None, refl, sym, ap, ◌∙◌, arith, length-drop, drop-cons}
+use Rattle.std.proofs.Common.{◌≡◌, ℕ, zero, suc, ◌+◌, ◌-◌, ◌<◌, ◌≤◌, Bool, true, false, cond, ◌==◌, nat_le, List, [], ◌∷◌, length, take, drop, get_or, slice_range, Option, Some, None, Err, refl, sym, ap, ◌∙◌, arith, length-drop, drop-cons}
 use Rattle.std.proofs.lemmas.List.{drop-drop, get_or-drop, get_or-take}
 use Rattle.std.proofs.lemmas.List.Sums.{prefix_len_stops}
 use Rattle.facet_json_token.specs.Token.{unexpected_char}
-use Rattle.facet_json_token.specs.StrictViews.{TellsWrong, byte_refused}
+use Rattle.facet_json_token.specs.StrictViews.{IsWrong, byte_fault}
+use Rattle.facet_json_token.specs.Views.{cut_of}
 use Rattle.std.specs.List.{prefix_len}
 use Rattle.std.specs.Option.{option_map}
 use Rattle.std.proofs.lemmas.Bool.Decides.{nat_tests}
@@ -140,11 +141,11 @@ module _ (buf : List ℕ) (end : ℕ) (fits : end ≤ length buf) where
   byte-there : (start n : ℕ) → start + n < end → get_or (slice_range buf start end) n 0 ≡ get_or buf (start + n) 0
   byte-there start n less = get_or-take (end - start) (drop start buf) n 0 (omega arith) ∙ get_or-drop start buf n 0
 
-  pub tells : (start at : ℕ) → at < end → wrong_from start ≡ Some at → TellsWrong (slice_range buf start end) start (byte_refused (get_or buf at 0) at)
+  pub tells : (start at : ℕ) → at < end → wrong_from start ≡ Some at → IsWrong (slice_range buf start end) start (cut_of (Err (byte_fault (get_or buf at 0) at)))
   tells start at less e = by (wrong_at false (slice_range buf start end)) refl e
     where
       by : (o : Option ℕ) → wrong_at false (slice_range buf start end) ≡ o → later start o ≡ Some at →
-          TellsWrong (slice_range buf start end) start (byte_refused (get_or buf at 0) at)
+          IsWrong (slice_range buf start end) start (cut_of (Err (byte_fault (get_or buf at 0) at)))
       by None is f = cc
       by (Some n) is f =
           let there : start + n ≡ at = cc in

@@ -4,12 +4,13 @@ use Rattle.facet_json_token.specs.declared.decode.DecodeError.{DecodeError}
 use Rattle.facet_json_token.specs.declared.decode.DecodeError.TheVariants as decode
 use Rattle.facet_format.specs.Complaint.{Refusal}
 use Rattle.facet_format.specs.Complaint as complaint
+use Rattle.facet_json_token.specs.declared.fault.Fault.{Fault}
 use Rattle.facet_json_token.specs.declared.token.ScanError.{ScanError}
 use Rattle.facet_json_token.specs.declared.token.ScanErrorKind.TheVariants.{InvalidUtf8}
 use Rattle.facet_json_token.specs.declared.decode.DecodeError.TheVariants.{Scan, OutOfMemory}
 use Rattle.facet_json_token.specs.Fault.{DecodeFault, FirstFault, fault_refusal}
 pub use Rattle.facet_json_token.specs.Cut.{has_backslash}
-use Rattle.facet_json_token.specs.Views.{scan_refusal}
+use Rattle.facet_json_token.specs.Views.{scan_refusal, SaysFault}
 
 -- how a refused decode is passed on
 abbrev pub decode_refusal : DecodeError → Refusal
@@ -20,11 +21,15 @@ decode_refusal decode.OutOfMemory = complaint.no_memory
 abbrev pub IsItsText : List ℕ → Type 0
 IsItsText content = (has_backslash content ≡ false) × IsUtf8 content
 
--- A content that starts there in the buffer is refused with its first fault.
-pub record TellsFirstFault (content : List ℕ) (start : ℕ) (e : ScanError) : Type 0 where
+-- This is the refusal of a content that starts there in the buffer, for its first fault.
+pub record IsFirstRefusal (content : List ℕ) (start : ℕ) (refusal : Refusal) : Type 0 where
   pub fault : DecodeFault
   pub is_first : FirstFault content fault
-  pub told : scan_refusal e ≡ fault_refusal start fault
+  pub told : refusal ≡ fault_refusal start fault
+
+-- Such a content is refused with its first fault.
+abbrev pub TellsFirstFault : List ℕ → ℕ → ScanError → Type 0
+TellsFirstFault content start e = IsFirstRefusal content start (scan_refusal e)
 
 -- The same, or memory ran out.
 abbrev pub RefusesContent : List ℕ → ℕ → ℕ → DecodeError → Type 0
@@ -35,3 +40,8 @@ RefusesContent buffer start finish OutOfMemory = Unit {0}
 abbrev pub whole_refused : ℕ → ℕ → DecodeError
 whole_refused start finish =
     Scan (record { kind = InvalidUtf8; span = record { offset = start; len = finish - start } })
+
+-- A decode is refused with this fault.
+abbrev pub SaysScan : Fault → DecodeError → Type 0
+SaysScan f (Scan e) = SaysFault f e
+SaysScan f OutOfMemory = ⊥

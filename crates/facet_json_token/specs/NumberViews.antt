@@ -1,5 +1,7 @@
 -- What the numbers of the code stand for in the definitions.
 use Rattle.std.specs.Prelude.{ℕ, ◌-◌, Bool, false}
+use Rattle.facet_json_token.specs.declared.fault.FaultKind.TheVariants as faults
+use Rattle.facet_json_token.specs.declared.fault.Fault.{Fault}
 use Rattle.facet_json_token.specs.declared.token.ScanErrorKind.TheVariants as scan
 use Rattle.facet_json_token.specs.declared.token.ScanError.{ScanError}
 use Rattle.facet_json_token.specs.declared.number.ParsedNumber.{ParsedNumber}
@@ -26,5 +28,12 @@ is_made_number (parsed.Decimal text) = is_owned text
 abbrev pub number_refusal : ℕ → ℕ → ScanError
 number_refusal start end = record {
   kind = scan.UnexpectedChar 0x3f;
+  span = record { offset = start; len = end - start };
+}
+
+-- its fault
+abbrev pub number_fault : ℕ → ℕ → Fault
+number_fault start end = record {
+  kind = faults.UnexpectedChar 0x3f;
   span = record { offset = start; len = end - start };
 }

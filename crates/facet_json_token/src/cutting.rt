@@ -12,13 +12,14 @@ ghost use Rattle.facet_json_token.specs.Cut.{past_gap, cut_here, fault_at, conte
 ghost use Rattle.facet_format.specs.Bytes.{slash, backslash};
 ghost use Rattle.facet_format.specs.Span.{span_at};
 ghost use Rattle.facet_json_token.specs.Cut as spec_cut;
-ghost use Rattle.facet_json_token.specs.Views.{mode_of, kind_of, scanned};
+ghost use Rattle.facet_json_token.specs.Views.{mode_of, kind_of, cut_of, inside_text};
 ghost use Rattle.facet_format.specs.Views.{span_of};
 
+use crate::fault::{CutResult, Fault, FaultKind, Inside};
 use crate::mode::Mode;
 use crate::quick::{past_space, token_in_sight};
 use crate::runs::{Line, Plain, Starless, run_end};
-use crate::token::{ScanError, ScanErrorKind, ScanResult, SpannedToken, Token};
+use crate::token::{SpannedToken, Token};
 use facet_format::Span;
 use facet_format::numeral::{NumberHint, parts_at};
 
@@ -28,12 +29,12 @@ use facet_format::numeral::{NumberHint, parts_at};
 /// ```text
 /// cut(b" [1]", 0, Mode::Plain)    Ok: Token::ArrayStart, span 1+1
 /// cut(b" [1]", 4, Mode::Plain)    Ok: Token::Eof, span 4+0
-/// cut(b"trux", 0, Mode::Plain)    Err: ScanErrorKind::UnexpectedChar('x'), span 3+1
+/// cut(b"trux", 0, Mode::Plain)    Err: FaultKind::UnexpectedChar('x'), span 3+1
 /// ```
 #[inline(always)]
-pub fn cut(buffer: &[u8], position: usize, mode: Mode) -> ScanResult
+pub fn cut(buffer: &[u8], position: usize, mode: Mode) -> CutResult
     requires { position ≤ length buffer.now }
-    ensures answer { scanned result ≡ Some (spec_cut.cut buffer.now position (mode_of mode)) }
+    ensures answer { cut_of result ≡ Some (spec_cut.cut buffer.now position (mode_of mode)) }
     ensures end { IfOk result (λ t. t.token ≡ Token.Eof → span_of t.span ≡ span_at (length buffer.now) 0) }
 {
     let at = past_space(buffer, position);
@@ -46,9 +47,9 @@ pub fn cut(buffer: &[u8], position: usize, mode: Mode) -> ScanResult
 /// Does the same, apart from the code that cuts what is in sight: its answer is a value of its own, so that a token in
 /// sight, which never passes through this, needs no memory.
 #[inline(always)]
-fn cut_apart(buffer: &[u8], position: usize, mode: Mode) -> ScanResult
+fn cut_apart(buffer: &[u8], position: usize, mode: Mode) -> CutResult
     requires { position ≤ length buffer.now }
-    ensures answer { scanned result ≡ Some (spec_cut.cut buffer.now position (mode_of mode)) }
+    ensures answer { cut_of result ≡ Some (spec_cut.cut buffer.now position (mode_of mode)) }
     ensures end { IfOk result (λ t. t.token ≡ Token.Eof → span_of t.span ≡ span_at (length buffer.now) 0) }
 {
     let result = cut_out_of_line(buffer, position, mode);
@@ -57,9 +58,9 @@ fn cut_apart(buffer: &[u8], position: usize, mode: Mode) -> ScanResult
 
 /// Does the same for everything that may stand there.
 #[inline(never)]
-fn cut_out_of_line(buffer: &[u8], position: usize, mode: Mode) -> ScanResult
+fn cut_out_of_line(buffer: &[u8], position: usize, mode: Mode) -> CutResult
     requires { position ≤ length buffer.now }
-    ensures answer { scanned result ≡ Some (spec_cut.cut buffer.now position (mode_of mode)) }
+    ensures answer { cut_of result ≡ Some (spec_cut.cut buffer.now position (mode_of mode)) }
     ensures end { IfOk result (λ t. t.token ≡ Token.Eof → span_of t.span ≡ span_at (length buffer.now) 0) }
 {
     let at = skip_gap(buffer, position, mode);
@@ -161,9 +162,9 @@ pub fn line_end(buffer: &[u8], from: usize) -> Option<usize>
 
 /// Cuts the token or the fault whose first byte is `first`, at `at`.
 #[inline(always)]
-pub fn cut_token(buffer: &[u8], at: usize, first: u8, mode: Mode) -> ScanResult
+pub fn cut_token(buffer: &[u8], at: usize, first: u8, mode: Mode) -> CutResult
     requires { slice_get buffer.now at ≡ Some first }
-    ensures { scanned result ≡ Some (cut_here (mode_of mode) at (drop at buffer.now)) }
+    ensures { cut_of result ≡ Some (cut_here (mode_of mode) at (drop at buffer.now)) }
 {
     match first {
         b'{' => token_at(Token::ObjectStart, at, 1),
@@ -184,8 +185,8 @@ pub fn cut_token(buffer: &[u8], at: usize, first: u8, mode: Mode) -> ScanResult
 
 /// A token of `len` bytes at `at`.
 #[inline(always)]
-pub fn token_at(token: Token, at: usize, len: usize) -> ScanResult
-    ensures { (k : Kind) → kind_of token ≡ Some k → scanned result ≡ Some (spec_cut.token_at k at len) }
+pub fn token_at(token: Token, at: usize, len: usize) -> CutResult
+    ensures { (k : Kind) → kind_of token ≡ Some k → cut_of result ≡ Some (spec_cut.token_at k at len) }
 {
     Ok(SpannedToken {
         token,
@@ -196,33 +197,33 @@ pub fn token_at(token: Token, at: usize, len: usize) -> ScanResult
 /// The fault that this byte stands at `at`.
 #[cold]
 #[inline(never)]
-fn unexpected_char(byte: u8, at: usize) -> ScanResult
-    ensures { scanned result ≡ Some (fault_at (spec_token.unexpected_char byte) at 1) }
+fn unexpected_char(byte: u8, at: usize) -> CutResult
+    ensures { cut_of result ≡ Some (fault_at (spec_token.unexpected_char byte) at 1) }
 {
-    Err(ScanError {
-        kind: ScanErrorKind::UnexpectedChar(char::from(byte)),
+    Err(Fault {
+        kind: FaultKind::UnexpectedChar(char::from(byte)),
         span: Span::new(at, 1),
     })
 }
 
-/// The fault that the input ends inside of what the text names, which starts at `at`.
+/// The fault that the input ends inside of this, which starts at `at`.
 #[cold]
 #[inline(never)]
-fn unexpected_eof(buffer: &[u8], at: usize, inside: &'static str) -> ScanResult
+fn unexpected_eof(buffer: &[u8], at: usize, inside: Inside) -> CutResult
     requires { at ≤ length buffer.now }
-    ensures { scanned result ≡ Some (fault_at (spec_token.unexpected_eof inside.now) at (length (drop at buffer.now))) }
+    ensures { cut_of result ≡ Some (fault_at (spec_token.unexpected_eof (inside_text inside)) at (length (drop at buffer.now))) }
 {
-    Err(ScanError {
-        kind: ScanErrorKind::UnexpectedEof(inside),
+    Err(Fault {
+        kind: FaultKind::UnexpectedEof(inside),
         span: Span::new(at, buffer.len() - at),
     })
 }
 
 /// Cuts the string whose quote is at `at`.
 #[inline(always)]
-fn cut_text(buffer: &[u8], at: usize) -> ScanResult
+fn cut_text(buffer: &[u8], at: usize) -> CutResult
     requires { at < length buffer.now }
-    ensures { let bytes = drop (at + 1) buffer.now in scanned result
+    ensures { let bytes = drop (at + 1) buffer.now in cut_of result
         ≡ Some (spec_cut.cut_text at bytes (content_len false bytes)) }
 {
     let start = at + 1;
@@ -240,7 +241,7 @@ fn cut_text(buffer: &[u8], at: usize) -> ScanResult
         has_escapes = true;
         end = run_end::<Plain>(buffer, after_escape(buffer, end));
     }
-    unexpected_eof(buffer, at, "in string")
+    unexpected_eof(buffer, at, Inside::String)
 }
 
 /// The offset after the backslash at `at` and the byte that it escapes, or the length where none follows.
@@ -261,10 +262,10 @@ fn after_escape(buffer: &[u8], at: usize) -> usize
 
 /// Cuts the literal of these letters at `at`.
 #[inline(always)]
-pub fn cut_word(buffer: &[u8], at: usize, word: &[u8], token: Token) -> ScanResult
+pub fn cut_word(buffer: &[u8], at: usize, word: &[u8], token: Token) -> CutResult
     requires { at ≤ length buffer.now }
     ensures { let bytes = drop at buffer.now in (k : Kind) → kind_of token ≡ Some k
-        → scanned result ≡ Some (spec_cut.cut_word at bytes word.now k (spec_cut.common_len word.now bytes)) }
+        → cut_of result ≡ Some (spec_cut.cut_word at bytes word.now k (spec_cut.common_len word.now bytes)) }
 {
     let len = common_len(buffer, at, word);
     if len == word.len() {
@@ -272,7 +273,7 @@ pub fn cut_word(buffer: &[u8], at: usize, word: &[u8], token: Token) -> ScanResu
     }
     match buffer.get(at + len) {
         Some(byte) => unexpected_char(*byte, at + len),
-        None => unexpected_eof(buffer, at, "in literal"),
+        None => unexpected_eof(buffer, at, Inside::Literal),
     }
 }
 
@@ -295,9 +296,9 @@ pub fn common_len(buffer: &[u8], at: usize, word: &[u8]) -> usize
 
 /// Cuts the number, or the bare minus, at `at`.
 #[inline(always)]
-pub fn cut_number(buffer: &[u8], at: usize) -> ScanResult
+pub fn cut_number(buffer: &[u8], at: usize) -> CutResult
     requires { at < length buffer.now }
-    ensures { let p = parts (drop at buffer.now) in scanned result
+    ensures { let p = parts (drop at buffer.now) in cut_of result
         ≡ Some (spec_cut.cut_number at (drop (at + 1) buffer.now) (parts_len p) (parts_hint p) (is_bare p)) }
 {
     let parts = parts_at(buffer, at);
@@ -316,25 +317,25 @@ pub fn cut_number(buffer: &[u8], at: usize) -> ScanResult
 /// The fault of a minus at `at` with no number after it.
 #[cold]
 #[inline(never)]
-fn cut_bare_minus(buffer: &[u8], at: usize) -> ScanResult
+fn cut_bare_minus(buffer: &[u8], at: usize) -> CutResult
     requires { at < length buffer.now }
-    ensures { scanned result ≡ Some (spec_cut.cut_bare_minus at (drop (at + 1) buffer.now)) }
+    ensures { cut_of result ≡ Some (spec_cut.cut_bare_minus at (drop (at + 1) buffer.now)) }
 {
     match buffer.get(at + 1) {
         Some(byte) => unexpected_char(*byte, at),
-        None => unexpected_eof(buffer, at, "in number"),
+        None => unexpected_eof(buffer, at, Inside::Number),
     }
 }
 
 /// The fault of a slash at `at` that opens no closed comment.
 #[cold]
 #[inline(never)]
-fn cut_slash(buffer: &[u8], at: usize, mode: Mode) -> ScanResult
+fn cut_slash(buffer: &[u8], at: usize, mode: Mode) -> CutResult
     requires { slice_get buffer.now at ≡ Some slash }
-    ensures { scanned result ≡ Some (spec_cut.cut_slash (mode_of mode) at (drop (at + 1) buffer.now)) }
+    ensures { cut_of result ≡ Some (spec_cut.cut_slash (mode_of mode) at (drop (at + 1) buffer.now)) }
 {
     match (mode, buffer.get(at + 1)) {
-        (Mode::Jsonc, Some(b'*')) => unexpected_eof(buffer, at, "in block comment"),
+        (Mode::Jsonc, Some(b'*')) => unexpected_eof(buffer, at, Inside::BlockComment),
         _ => unexpected_char(b'/', at),
     }
 }

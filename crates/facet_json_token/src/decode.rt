@@ -8,13 +8,15 @@ ghost use Rattle.facet_format.specs.Bytes.{backslash};
 ghost use Rattle.facet_json_token.specs.Decode.{Decodes};
 ghost use Rattle.facet_json_token.specs.Decoded.{decoded};
 ghost use Rattle.facet_json_token.specs.Cut.{has_backslash};
-ghost use Rattle.facet_json_token.specs.DecodeViews.{IsItsText, RefusesContent, TellsFirstFault, whole_refused};
+ghost use Rattle.facet_json_token.specs.DecodeViews.{IsItsText, IsFirstRefusal, RefusesContent, SaysScan, whole_refused};
 ghost use Rattle.facet_json_token.specs.Inner.Run.{StopsBeingText};
+ghost use Rattle.facet_json_token.specs.Views.{told_refusal};
 
 mod escape;
 mod unchecked;
 
 use crate::ascii::ascii_text;
+use crate::fault::{Fault, FaultKind};
 use crate::mode::Trust;
 use crate::runs::{Unescaped, run_end_within};
 use crate::token::{ScanError, ScanErrorKind};
@@ -42,6 +44,14 @@ impl From<ScanError> for DecodeError {
 
     fn from(error: ScanError) -> Self {
         DecodeError::Scan(error)
+    }
+}
+
+impl From<Fault> for DecodeError {
+    ghost from_gives = { λ fault e. SaysScan fault e };
+
+    fn from(fault: Fault) -> Self {
+        DecodeError::Scan(ScanError::from(fault))
     }
 }
 
@@ -121,11 +131,11 @@ fn decode_runs(
 /// check_content(br"caf\u00e9\n", 0, 11)   Ok
 /// check_content(br"\ud800", 0, 6)         Err: InvalidUtf8, span 0+6
 /// ```
-pub fn check_content(buf: &[u8], start: usize, end: usize) -> Result<(), ScanError>
+pub fn check_content(buf: &[u8], start: usize, end: usize) -> Result<(), Fault>
     requires in_order { start ≤ end }
     requires in_range { end ≤ length buf.now }
     ensures text { IfOk result (λ _. IsSome (decoded (slice_range buf.now start end))) }
-    ensures refused { IfErr result (λ e. TellsFirstFault (slice_range buf.now start end) start e) }
+    ensures refused { IfErr result (λ e. IsFirstRefusal (slice_range buf.now start end) start (told_refusal e)) }
 {
     let mut at = start;
     loop {
@@ -154,7 +164,7 @@ fn run_end(buf: &[u8], at: usize, end: usize) -> usize
 
 /// The text of bytes among which no backslash stands.
 #[inline(always)]
-fn run_at(buf: &[u8], at: usize, stop: usize) -> Result<&str, ScanError>
+fn run_at(buf: &[u8], at: usize, stop: usize) -> Result<&str, Fault>
     requires in_order { at ≤ stop }
     requires in_range { stop ≤ length buf.now }
     ensures text { IfOk result (λ s. (s.now ≡ slice_range buf.now at stop) × IsUtf8 (slice_range buf.now at stop)) }
@@ -166,8 +176,8 @@ fn run_at(buf: &[u8], at: usize, stop: usize) -> Result<&str, ScanError>
     }
     match str::from_utf8(&buf[at..stop]) {
         Ok(text) => Ok(text),
-        Err(error) => Err(ScanError {
-            kind: ScanErrorKind::InvalidUtf8,
+        Err(error) => Err(Fault {
+            kind: FaultKind::InvalidUtf8,
             span: Span::new(at + error.valid_up_to(), 1),
         }),
     }
@@ -175,7 +185,7 @@ fn run_at(buf: &[u8], at: usize, stop: usize) -> Result<&str, ScanError>
 
 /// The text of a run, whose bytes are checked where nothing is known of them.
 #[inline(always)]
-fn run_text(buf: &[u8], at: usize, stop: usize, trust: Trust) -> Result<&str, ScanError>
+fn run_text(buf: &[u8], at: usize, stop: usize, trust: Trust) -> Result<&str, Fault>
     requires in_order { at ≤ stop }
     requires in_range { stop ≤ length buf.now }
     requires utf8 { trust ≡ Trust.Utf8 → IsUtf8 (slice_range buf.now at stop) }

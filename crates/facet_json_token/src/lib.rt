@@ -1,12 +1,14 @@
 //! One token of JSON text (RFC 8259, sections 2, 6 and 7, and JSONC comments), and what it stands for: `cut` finds the token at an offset,
 //! `decode_string` and its kin read what a string holds, `parse_number` reads a number, and `check_string_strict` and
-//! `check_number_strict` say whether these are of RFC 8259 alone. `facet_json_scan` cuts tokens off buffers that grow.
+//! `check_number_strict` say whether these are of RFC 8259 alone. What is wrong is told by enums, as a `Fault`; users see a `ScanError`, with
+//! a text. `facet_json_scan` cuts tokens off buffers that grow.
 #![tactic(auto)]
 
 mod ascii;
 pub mod cutting;
 mod decode;
 mod decode_refusal;
+mod fault;
 mod mode;
 mod number;
 pub mod quick;
@@ -23,6 +25,7 @@ pub use decode::{
     decode_string_borrowed_unchecked, decode_string_owned, decode_string_owned_unchecked,
     decode_string_unchecked,
 };
+pub use fault::{CutResult, Fault, FaultKind, Inside};
 pub use mode::{Mode, Trust};
 pub use number::{ParsedNumber, parse_measured, parse_number, parse_number_unchecked};
 pub use rfc_number::{check_number_strict, has_rfc_parts};

@@ -6,9 +6,10 @@ ghost use Rattle.facet_format.specs.Number.{AreDigits, float, unsigned};
 ghost use Rattle.facet_format.specs.NumberValue.{digits_value, number as spec_number, unsigned_number, negative_number};
 ghost use Rattle.facet_format.specs.NumberParts.{is_number};
 ghost use Rattle.facet_format.specs.Views.{hint_of};
-ghost use Rattle.facet_json_token.specs.NumberViews.{number_of, is_made_number, number_refusal};
+ghost use Rattle.facet_json_token.specs.NumberViews.{number_of, is_made_number, number_fault, number_refusal};
 
-use crate::token::{ScanError, ScanErrorKind};
+use crate::fault::{Fault, FaultKind};
+use crate::token::ScanError;
 use facet_format::numeral::{NumberHint, number_parts};
 use facet_format::{Decimal, Span};
 use std::str;
@@ -51,7 +52,7 @@ pub fn parse_number<'a>(
 {
     match number(&buf[start..end], hint) {
         Some(number) => Ok(number),
-        None => Err(refusal(start, end)),
+        None => Err(ScanError::from(no_number(start, end))),
     }
 }
 
@@ -63,29 +64,29 @@ pub fn parse_measured<'a>(
     start: usize,
     end: usize,
     hint: NumberHint,
-) -> Result<ParsedNumber<'a>, ScanError>
+) -> Result<ParsedNumber<'a>, Fault>
     requires in_order { start ≤ end }
     requires within { end ≤ length buf.now }
     requires is_number { is_number (slice_range buf.now start end) (hint_of hint) ≡ true }
     ensures number { let text = slice_range buf.now start end in MatchResult result
         (λ v. spec_number text (hint_of hint) ≡ Some (number_of v))
         (λ e. spec_number text (hint_of hint) ≡ None) }
-    ensures refusal { IfErr result (λ e. e ≡ number_refusal start end) }
+    ensures refusal { IfErr result (λ e. e ≡ number_fault start end) }
     ensures borrowed { IfOk result (λ v. is_made_number v ≡ false) }
 {
     match value_of(&buf[start..end], hint) {
         Some(number) => Ok(number),
-        None => Err(refusal(start, end)),
+        None => Err(no_number(start, end)),
     }
 }
 
-/// The refusal of a slice that is no number, or has no value.
-pub(crate) fn refusal(start: usize, end: usize) -> ScanError
+/// The fault of a slice that is no number, or has no value.
+pub(crate) fn no_number(start: usize, end: usize) -> Fault
     requires { start ≤ end }
-    ensures { result ≡ number_refusal start end }
+    ensures { result ≡ number_fault start end }
 {
-    ScanError {
-        kind: ScanErrorKind::UnexpectedChar('?'),
+    Fault {
+        kind: FaultKind::UnexpectedChar('?'),
         span: Span::new(start, end - start),
     }
 }

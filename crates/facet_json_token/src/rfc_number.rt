@@ -4,10 +4,10 @@ ghost use Rattle.std.specs.Prelude.{◌≡◌, ◌≤◌, length, slice_range, M
 ghost use Rattle.facet_format.specs.NumberParts.{parts_len};
 ghost use Rattle.facet_json_token.specs.RfcNumber.{IsRfcNumber};
 ghost use Rattle.facet_json_token.specs.RfcNumberTest.{is_rfc_number as spec_is_rfc_number, are_rfc_parts, is_whole_of, is_exponent_of};
-ghost use Rattle.facet_json_token.specs.StrictViews.{number_refused};
+ghost use Rattle.facet_json_token.specs.NumberViews.{number_fault};
 
-use crate::number::refusal;
-use crate::token::ScanError;
+use crate::fault::Fault;
+use crate::number::no_number;
 use facet_format::numeral::{Parts, parts_at};
 
 /// Whether `buf[start..end]` is a number of RFC 8259 (section 6): perhaps a minus, 0 or digits of which the first is another, and
@@ -17,17 +17,17 @@ use facet_format::numeral::{Parts, parts_at};
 /// check_number_strict(b"[-0.5e+1]", 1, 8)    Ok
 /// check_number_strict(b"[007]", 1, 4)        Err: UnexpectedChar('?'), span 1+3
 /// ```
-pub fn check_number_strict(buf: &[u8], start: usize, end: usize) -> Result<(), ScanError>
+pub fn check_number_strict(buf: &[u8], start: usize, end: usize) -> Result<(), Fault>
     requires in_order { start ≤ end }
     requires within { end ≤ length buf.now }
     ensures { let text = slice_range buf.now start end in MatchResult result
         (λ _. IsRfcNumber text)
-        (λ e. (IsRfcNumber text → ⊥) × (e ≡ number_refused start end)) }
+        (λ e. (IsRfcNumber text → ⊥) × (e ≡ number_fault start end)) }
 {
     if is_rfc_number(&buf[start..end]) {
         Ok(())
     } else {
-        Err(refusal(start, end))
+        Err(no_number(start, end))
     }
 }
 

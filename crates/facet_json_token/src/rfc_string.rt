@@ -2,10 +2,11 @@
 
 ghost use Rattle.std.specs.Prelude.{◌≡◌, ◌≤◌, ◌<◌, None, true, get_or, length, slice_range, MatchResult};
 ghost use Rattle.facet_json_token.specs.Strict.{content_fault, may_stand};
-ghost use Rattle.facet_json_token.specs.StrictViews.{TellsWrong, byte_refused};
+ghost use Rattle.facet_json_token.specs.StrictViews.{IsWrong, byte_fault};
+ghost use Rattle.facet_json_token.specs.Views.{cut_of};
 
+use crate::fault::{Fault, FaultKind};
 use crate::runs::{RfcPlain, run_end_within};
-use crate::token::{ScanError, ScanErrorKind};
 use facet_format::Span;
 
 /// Whether the content that stands in `buf[start..end]` has no byte below 0x20, but where a backslash escapes it, and whether after
@@ -15,12 +16,12 @@ use facet_format::Span;
 /// check_string_strict(br"a\u00e9\n", 0, 9)    Ok
 /// check_string_strict(br"a\q", 0, 3)          Err: UnexpectedChar('q'), span 2+1
 /// ```
-pub fn check_string_strict(buf: &[u8], start: usize, end: usize) -> Result<(), ScanError>
+pub fn check_string_strict(buf: &[u8], start: usize, end: usize) -> Result<(), Fault>
     requires in_order { start ≤ end }
     requires within { end ≤ length buf.now }
     ensures { let content = slice_range buf.now start end in MatchResult result
         (λ _. content_fault start content ≡ None)
-        (λ e. TellsWrong content start e) }
+        (λ e. IsWrong content start (cut_of (Err e))) }
 {
     let mut at = start;
     while at < end {
@@ -64,12 +65,12 @@ fn may_be_escaped(byte: u8) -> bool
 
 /// The refusal of this byte.
 #[inline(never)]
-fn wrong(buf: &[u8], at: usize) -> ScanError
+fn wrong(buf: &[u8], at: usize) -> Fault
     requires { at < length buf.now }
-    ensures { result ≡ byte_refused (get_or buf.now at 0) at }
+    ensures { result ≡ byte_fault (get_or buf.now at 0) at }
 {
-    ScanError {
-        kind: ScanErrorKind::UnexpectedChar(char::from(buf[at])),
+    Fault {
+        kind: FaultKind::UnexpectedChar(char::from(buf[at])),
         span: Span::new(at, 1),
     }
 }

@@ -14,6 +14,7 @@ ghost use Rattle.facet_json_token.specs.Views.{mode_of, kind_of, scanned};
 ghost use Rattle.facet_json_scan.specs.ScannerViews.{answered, span_answered, IndicesWithin};
 ghost use Rattle.facet_json_scan.specs.Inner.Found.{number_part_of, FoundHere, FoundFrom, FoundWithin, FoundRefused, RefusedThere};
 
+use crate::refusing::told;
 use crate::scanner::gap::{Piece, piece_from};
 use crate::scanner::pending::{Part, State};
 use facet_format::Span;
@@ -79,7 +80,7 @@ fn token_from(buffer: &[u8], at: usize, mode: Mode) -> Found
         b'-' | b'0'..=b'9' => number_from(buffer, at, at + 1, Part::Digits),
         _ => Found::Answer {
             start: at,
-            result: cut_token(buffer, at, *first, mode),
+            result: told(cut_token(buffer, at, *first, mode)),
         },
     }
 }
@@ -112,7 +113,7 @@ fn string_from(buffer: &[u8], at: usize) -> Found
     };
     Found::Answer {
         start: at,
-        result: token_at(token, at, end + 1 - at),
+        result: told(token_at(token, at, end + 1 - at)),
     }
 }
 
@@ -137,7 +138,7 @@ pub fn text_from(buffer: &[u8], start: usize, at: usize, escaped: bool, has_esca
             };
             return Found::Answer {
                 start,
-                result: token_at(token, start, end + 1 - start),
+                result: told(token_at(token, start, end + 1 - start)),
             };
         }
         let is_backslash = *byte == b'\\';
@@ -171,7 +172,7 @@ fn word_from(buffer: &[u8], at: usize, word: &[u8], token: Token) -> Found
     }
     Found::Answer {
         start: at,
-        result: cut_word(buffer, at, word, token),
+        result: told(cut_word(buffer, at, word, token)),
     }
 }
 
@@ -216,12 +217,12 @@ fn number_token(buffer: &[u8], start: usize, end: usize, part: Part) -> ScanResu
 {
     let is_negative = buffer[start] == b'-';
     if is_negative && end == start + 1 {
-        return cut_number(buffer, start);
+        return told(cut_number(buffer, start));
     }
     let token = Token::Number {
         start,
         end,
         hint: part.hint(is_negative),
     };
-    token_at(token, start, end - start)
+    told(token_at(token, start, end - start))
 }

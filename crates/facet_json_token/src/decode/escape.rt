@@ -9,9 +9,9 @@ ghost use Rattle.facet_json_token.specs.Decode.{short_escape as short_escape_of,
 ghost use Rattle.facet_json_token.specs.Decoded.{piece_at, short_of, low_at};
 ghost use Rattle.facet_json_token.specs.Fault.{decode_fault_at, fault_refusal, no_character, not_digits};
 ghost use Rattle.facet_json_token.specs.FirstFault.{fault_of, pair_fault};
-ghost use Rattle.facet_json_token.specs.Views.{scan_refusal};
+ghost use Rattle.facet_json_token.specs.Views.{told_refusal};
 
-use crate::token::{ScanError, ScanErrorKind};
+use crate::fault::{Fault, FaultKind, Inside};
 use facet_format::Span;
 
 /// What an escape stands for.
@@ -25,19 +25,19 @@ pub(crate) struct Escape {
 
 /// The escape that `rest` begins with. `rest` stands at `at`, and its first byte is a backslash.
 #[inline(always)]
-pub(crate) fn escape_at(rest: &[u8], at: usize) -> Result<Escape, ScanError>
+pub(crate) fn escape_at(rest: &[u8], at: usize) -> Result<Escape, Fault>
     requires backslash { slice_get rest.now 0 ≡ Some backslash }
     requires fits { at + length rest.now < 2 ^ 64 }
     ensures found { IfOk result (λ e. piece_at rest.now ≡ Some (e.character, e.len)) }
     ensures len { IfOk result (λ e. (0 < e.len) × (e.len ≤ length rest.now)) }
     ensures none { IfErr result (λ _. piece_at rest.now ≡ None) }
-    ensures refused { IfErr result (λ e. scan_refusal e ≡ fault_refusal at (fault_of rest.now)) }
+    ensures refused { IfErr result (λ e. told_refusal e ≡ fault_refusal at (fault_of rest.now)) }
 {
     match rest.get(1) {
         Some(b'u') => unit_at(rest, at),
         Some(byte) => short_at(*byte, at),
-        None => Err(ScanError {
-            kind: ScanErrorKind::UnexpectedEof("in escape sequence"),
+        None => Err(Fault {
+            kind: FaultKind::UnexpectedEof(Inside::Escape),
             span: Span::new(at, 1),
         }),
     }
@@ -45,12 +45,12 @@ pub(crate) fn escape_at(rest: &[u8], at: usize) -> Result<Escape, ScanError>
 
 /// The escape at `at` of a backslash and a byte other than `u`.
 #[inline(always)]
-fn short_at(byte: u8, at: usize) -> Result<Escape, ScanError>
+fn short_at(byte: u8, at: usize) -> Result<Escape, Fault>
     requires fits { at + 2 < 2 ^ 64 }
     ensures found { IfOk result (λ e. short_of byte (short_escape_of byte) ≡ Some (e.character, e.len)) }
     ensures len { IfOk result (λ e. e.len ≡ 2) }
     ensures none { IfErr result (λ _. short_of byte (short_escape_of byte) ≡ None) }
-    ensures refused { IfErr result (λ e. scan_refusal e ≡ fault_refusal at (decode_fault_at no_character 1 1)) }
+    ensures refused { IfErr result (λ e. told_refusal e ≡ fault_refusal at (decode_fault_at no_character 1 1)) }
 {
     if byte >= 0x80 {
         return Err(not_utf8(at + 1, 1));
@@ -81,18 +81,18 @@ fn short_escape(byte: u8) -> u8
 
 /// The escape at `at` of a backslash, `u` and what is after them.
 #[inline(always)]
-fn unit_at(rest: &[u8], at: usize) -> Result<Escape, ScanError>
+fn unit_at(rest: &[u8], at: usize) -> Result<Escape, Fault>
     requires backslash { slice_get rest.now 0 ≡ Some backslash }
     requires letter { slice_get rest.now 1 ≡ Some lower_u }
     requires fits { at + length rest.now < 2 ^ 64 }
     ensures found { IfOk result (λ e. piece_at rest.now ≡ Some (e.character, e.len)) }
     ensures len { IfOk result (λ e. (0 < e.len) × (e.len ≤ length rest.now)) }
     ensures none { IfErr result (λ _. piece_at rest.now ≡ None) }
-    ensures refused { IfErr result (λ e. scan_refusal e ≡ fault_refusal at (fault_of rest.now)) }
+    ensures refused { IfErr result (λ e. told_refusal e ≡ fault_refusal at (fault_of rest.now)) }
 {
     if rest.len() < 6 {
-        return Err(ScanError {
-            kind: ScanErrorKind::UnexpectedEof("in unicode escape"),
+        return Err(Fault {
+            kind: FaultKind::UnexpectedEof(Inside::UnicodeEscape),
             span: Span::new(at, rest.len()),
         });
     }
@@ -107,14 +107,14 @@ fn unit_at(rest: &[u8], at: usize) -> Result<Escape, ScanError>
 }
 
 /// The escape at `at` of a high surrogate, and what is after its first six bytes.
-fn pair_at(rest: &[u8], at: usize, high: u32) -> Result<Escape, ScanError>
+fn pair_at(rest: &[u8], at: usize, high: u32) -> Result<Escape, Fault>
     requires in_range { 6 ≤ length rest.now }
     requires high { is_high_surrogate_of high ≡ true }
     requires fits { at + length rest.now < 2 ^ 64 }
     ensures found { IfOk result (λ e. low_at high (drop 6 rest.now) ≡ Some (e.character, e.len)) }
     ensures len { IfOk result (λ e. (0 < e.len) × (e.len ≤ length rest.now)) }
     ensures none { IfErr result (λ _. low_at high (drop 6 rest.now) ≡ None) }
-    ensures refused { IfErr result (λ e. scan_refusal e ≡ fault_refusal at (pair_fault (drop 6 rest.now))) }
+    ensures refused { IfErr result (λ e. told_refusal e ≡ fault_refusal at (pair_fault (drop 6 rest.now))) }
 {
     if rest.len() < 12 || rest[6] != b'\\' || rest[7] != b'u' {
         return Err(not_utf8(at, 6));
@@ -131,7 +131,7 @@ fn pair_at(rest: &[u8], at: usize, high: u32) -> Result<Escape, ScanError>
 
 /// The number that four hexadecimal digits spell (RFC 8259, section 7), which stand at `from` in `rest`.
 #[inline(always)]
-fn code_unit_at(rest: &[u8], from: usize, at: usize) -> Result<u32, ScanError>
+fn code_unit_at(rest: &[u8], from: usize, at: usize) -> Result<u32, Fault>
     requires in_range { from + 4 ≤ length rest.now }
     requires fits { at + length rest.now < 2 ^ 64 }
     ensures unit { IfOk result (λ u. code_unit_of (slice_index rest.now from) (slice_index rest.now (from + 1))
@@ -139,12 +139,12 @@ fn code_unit_at(rest: &[u8], from: usize, at: usize) -> Result<u32, ScanError>
     ensures range { IfOk result (λ u. u < 0x10000) }
     ensures none { IfErr result (λ _. code_unit_of (slice_index rest.now from) (slice_index rest.now (from + 1))
         (slice_index rest.now (from + 2)) (slice_index rest.now (from + 3)) ≡ None) }
-    ensures refused { IfErr result (λ e. scan_refusal e ≡ fault_refusal at (decode_fault_at not_digits from 4)) }
+    ensures refused { IfErr result (λ e. told_refusal e ≡ fault_refusal at (decode_fault_at not_digits from 4)) }
 {
     match code_unit(rest[from], rest[from + 1], rest[from + 2], rest[from + 3]) {
         Some(unit) => Ok(unit),
-        None => Err(ScanError {
-            kind: ScanErrorKind::UnexpectedChar('?'),
+        None => Err(Fault {
+            kind: FaultKind::UnexpectedChar('?'),
             span: Span::new(at + from, 4),
         }),
     }
@@ -209,11 +209,11 @@ fn is_low_surrogate(unit: u32) -> bool
 }
 
 /// The refusal of bytes that spell no character.
-fn not_utf8(offset: usize, len: usize) -> ScanError
-    ensures { scan_refusal result ≡ refusal_at invalid_utf8 (span_at offset len) }
+fn not_utf8(offset: usize, len: usize) -> Fault
+    ensures { told_refusal result ≡ refusal_at invalid_utf8 (span_at offset len) }
 {
-    ScanError {
-        kind: ScanErrorKind::InvalidUtf8,
+    Fault {
+        kind: FaultKind::InvalidUtf8,
         span: Span::new(offset, len),
     }
 }

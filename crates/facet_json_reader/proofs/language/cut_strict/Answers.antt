@@ -8,4 +8,4 @@ judge-requires c = cut-slices c.args.buffer.now c.args.position (mode_of c.args.
 
 pub returns-in-Err-clause-answer : goal.returns-in-Err-clause-answer
 returns-in-Err-clause-answer c =
-    cut-refused c.args.buffer.now c.args.position (mode_of c.args.mode) c.in_ok-token.token c.in-Err.error c.in_ok-token.ensures.answer c.in-Err.ensures.judged c.in-Err.ensures.some
+    cut-refused c.args.buffer.now c.args.position (mode_of c.args.mode) c.in_ok-token.token c.in-Err.fault c.in_ok-token.ensures.answer c.in-Err.ensures.judged c.in-Err.ensures.some

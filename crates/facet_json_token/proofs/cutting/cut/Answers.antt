@@ -2,7 +2,7 @@
 use Rattle.std.proofs.Common.{Some, ap, ◌∙◌}
 use Rattle.facet_json_token.specs.Views.{mode_of}
 use Rattle.facet_json_token.specs.Cut.{cut}
-use Rattle.facet_json_token.proofs.InSight.{cut-within_gap, scanned-told, told-no_end}
+use Rattle.facet_json_token.proofs.InSight.{cut-within_gap, cut_of-told, told-no_end}
 use Rattle.facet_json_token.proofs.cutting.cut.Goals as goal
 
 pub returns-in-Some-clause-answer : goal.returns-in-Some-clause-answer
@@ -10,7 +10,7 @@ returns-in-Some-clause-answer c =
     let buffer = c.args.buffer.now in
     let mode = mode_of c.args.mode in
     let at = c.past_space-at.result in
-    scanned-told c.in-Some.token (cut buffer at mode) (c.in-Some.ensures mode)
+    cut_of-told c.in-Some.token (cut buffer at mode) (c.in-Some.ensures mode)
     ∙ ap Some (cut-within_gap mode buffer at c.args.position (c.past_space-at.ensures.same mode))
 
 pub returns-in-Some-clause-end : goal.returns-in-Some-clause-end

@@ -6,7 +6,7 @@ use Rattle.std.proofs.lemmas.List.Edits.{length-between}
 use Rattle.facet_format.specs.Bytes.{backslash}
 use Rattle.facet_json_token.proofs.DecodeLaws.{decoded-decodes}
 use Rattle.facet_json_token.proofs.DecodeSteps.{range-first, step-none, step-run, step-found}
-use Rattle.facet_json_token.proofs.FaultSteps.{step-broken, step-lost, told-no_text}
+use Rattle.facet_json_token.proofs.FaultSteps.{step-broken, step-lost, says-refuses, told-no_text}
 use Rattle.facet_json_token.proofs.Utf8Runs.{run-IsUtf8, found-IsUtf8}
 use Rattle.facet_json_token.proofs.decode.decode_runs.Goals as goal
 
@@ -32,7 +32,7 @@ returns-in_err-escape c =
     let none = told-no_text _ _ _ told in
     let r = c.from_residual-in_err-escape in
     let p = err_from_is_err_and r.result r.ensures.1 in
-    rw (p.1, p.2) (record { text = tt; decodes = tt; refused = told; only = λ text e. absurd (cc) })
+    rw p.1 (record { text = tt; decodes = tt; refused = says-refuses _ _ _ _ _ p.2 told; only = λ text e. absurd (cc) })
 
 pub loop-at-preserved-then-buf-at-eq92 : goal.loop-at-preserved-then-buf-at-eq92
 loop-at-preserved-then-buf-at-eq92 c =
@@ -62,7 +62,7 @@ returns-in_err-run_text c =
     let none = told-no_text _ _ _ told in
     let r = c.from_residual-in_err-run_text in
     let p = err_from_is_err_and r.result r.ensures.1 in
-    rw (p.1, p.2) (record { text = tt; decodes = tt; refused = told; only = λ text e. absurd (cc) })
+    rw p.1 (record { text = tt; decodes = tt; refused = says-refuses _ _ _ _ _ p.2 told; only = λ text e. absurd (cc) })
 
 pub loop-at-preserved : goal.loop-at-preserved
 loop-at-preserved c =

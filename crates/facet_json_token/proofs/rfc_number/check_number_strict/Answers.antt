@@ -9,4 +9,4 @@ returns-then-is_rfc_number c = is_rfc-sound _ (sym c.is_rfc_number.ensures ∙ c
 pub returns-else-is_rfc_number : goal.returns-else-is_rfc_number
 returns-else-is_rfc_number c =
     let no = sym c.is_rfc_number.ensures ∙ c.if-is_rfc_number.false in
-    (λ n. let yes = is_rfc-complete _ n in let both : true ≡ false = sym yes ∙ no in cc, c.refusal.ensures)
+    (λ n. let yes = is_rfc-complete _ n in let both : true ≡ false = sym yes ∙ no in cc, c.no_number.ensures)

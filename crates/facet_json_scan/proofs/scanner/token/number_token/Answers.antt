@@ -20,20 +20,20 @@ pub returns-then-end-start-clause-token : goal.returns-then-end-start-clause-tok
 returns-then-end-start-clause-token c = λ i same.
     let buffer = c.args.buffer.now in
     let start = c.args.start in
-    c.cut_number.ensures ∙ ap (λ p. Some (number_at start (drop (start + 1) buffer) p)) same
+    c.told.ensures.answer ∙ c.cut_number.ensures ∙ ap (λ p. Some (number_at start (drop (start + 1) buffer) p)) same
 
 -- a minus stands there
-minus_there : (c : goal.After-cut_number) → slice_get c.args.buffer.now c.args.start ≡ Some minus
+minus_there : (c : goal.After-told) → slice_get c.args.buffer.now c.args.start ≡ Some minus
 minus_there c = slice_get-get_or c.args.buffer.now c.args.start 0 (omega arith) ∙ ap Some c.if-is_negative.true
 
-answered : (c : goal.After-cut_number) → let last = length c.args.buffer.now in
-    (stop (span_answered c.cut_number.result) ≤ last) × IndicesWithin last c.cut_number.result
+answered : (c : goal.After-told) → let last = length c.args.buffer.now in
+    (stop (span_answered c.told.result) ≤ last) × IndicesWithin last c.told.result
 answered c =
-    number-answered plain c.args.buffer.now c.args.start minus c.cut_number.result (minus_there c) refl c.cut_number.ensures
+    number-answered plain c.args.buffer.now c.args.start minus c.told.result (minus_there c) refl (c.told.ensures.answer ∙ c.cut_number.ensures)
 
 pub returns-then-end-start-clause-refusal : goal.returns-then-end-start-clause-refusal
 returns-then-end-start-clause-refusal c = λ mode.
-    minus-refused mode c.args.buffer.now c.args.start c.cut_number.result (minus_there c) (omega arith) c.cut_number.ensures
+    minus-refused mode c.args.buffer.now c.args.start c.told.result (minus_there c) (omega arith) (c.told.ensures.answer ∙ c.cut_number.ensures)
 
 pub returns-then-end-start-clause-span : goal.returns-then-end-start-clause-span
 returns-then-end-start-clause-span c = (answered c).0
@@ -53,24 +53,24 @@ returns-clause-token c = λ i same.
       | else-is_negative-via-then-is_negative+else-end-start w ↦ w.if-end-start.false e
       | else-is_negative-via-else-is_negative w ↦ w.if-is_negative.false m
     ] in
-    c.token_at.ensures (number start end (hint_of c.hint.result)) refl
+    c.told-2.ensures.answer ∙ c.token_at.ensures (number start end (hint_of c.hint.result)) refl
     ∙ ap (λ h. Some (token_at (number start end h) start (end - start))) c.hint.ensures
     ∙ ap Some (number-token buffer (drop (start + 1) buffer) start end b (number_part_of c.args.part) c.requires.order
     (omega arith) here more i)
 
-abbrev kind_of_it : (c : goal.After-token_at) → Kind
+abbrev kind_of_it : (c : goal.After-told-2) → Kind
 kind_of_it c = number c.args.start c.args.end (hint_of c.hint.result)
 
 pub returns-clause-refusal : goal.returns-clause-refusal
 returns-clause-refusal c = λ mode.
-    token-no_refusal c.token_at.result (record { kind = kind_of_it c; span = span_at c.args.start (c.args.end - c.args.start) }) _
-    (c.token_at.ensures (kind_of_it c) refl)
+    token-no_refusal c.told-2.result (record { kind = kind_of_it c; span = span_at c.args.start (c.args.end - c.args.start) }) _
+    (c.told-2.ensures.answer ∙ c.token_at.ensures (kind_of_it c) refl)
 
-token_answered : (c : goal.After-token_at) → let last = length c.args.buffer.now in
-    (stop (span_answered c.token_at.result) ≤ last) × IndicesWithin last c.token_at.result
+token_answered : (c : goal.After-told-2) → let last = length c.args.buffer.now in
+    (stop (span_answered c.told-2.result) ≤ last) × IndicesWithin last c.told-2.result
 token_answered c =
-    answered-ends c.token_at.result (token_at (kind_of_it c) c.args.start (c.args.end - c.args.start)) _
-    (c.token_at.ensures (kind_of_it c) refl) (omega arith, (omega arith, omega arith))
+    answered-ends c.told-2.result (token_at (kind_of_it c) c.args.start (c.args.end - c.args.start)) _
+    (c.told-2.ensures.answer ∙ c.token_at.ensures (kind_of_it c) refl) (omega arith, (omega arith, omega arith))
 
 pub returns-clause-span : goal.returns-clause-span
 returns-clause-span c = (token_answered c).0

@@ -1,5 +1,5 @@
 -- A string that ends is cut whole, and nothing longer begins.
-use Rattle.std.proofs.Common.{◌+◌, ◌-◌, false, [], refl, sym, subst, arith}
+use Rattle.std.proofs.Common.{◌+◌, ◌-◌, false, [], refl, sym, ◌∙◌, subst, arith}
 use Rattle.facet_format.specs.Bytes.{quote}
 use Rattle.facet_format.specs.Span.{span_at}
 use Rattle.facet_json_token.specs.Token.{string}
@@ -24,8 +24,8 @@ returns-clause-here c = λ mode.
     let at = c.args.at in
     let end = c.in-Some.end in
     let token = c.in-Some.ensures.token mode in
-    found-here mode buffer at c.token_at.result (token_at (string (at + 1) end false) at ((end + 1) - at))
-    (c.token_at.ensures (string (at + 1) end false) refl) (λ x. cc) (sym token) (text-whole mode buffer at _ _ c.requires token)
+    found-here mode buffer at c.told.result (token_at (string (at + 1) end false) at ((end + 1) - at))
+    (c.told.ensures.answer ∙ c.token_at.ensures (string (at + 1) end false) refl) (λ x. cc) (sym token) (text-whole mode buffer at _ _ c.requires token)
 
 pub returns-clause-within : goal.returns-clause-within
 returns-clause-within c =
@@ -33,8 +33,8 @@ returns-clause-within c =
     let end = c.in-Some.end in
     let within = c.in-Some.ensures.within in
     let ends =
-    answered-ends c.token_at.result (token_at (string (at + 1) end false) at ((end + 1) - at)) _
-    (c.token_at.ensures (string (at + 1) end false) refl)
+    answered-ends c.told.result (token_at (string (at + 1) end false) at ((end + 1) - at)) _
+    (c.told.ensures.answer ∙ c.token_at.ensures (string (at + 1) end false) refl)
     (omega (arith, within), (omega (arith, within), omega (arith, within))) in
     (omega (arith, within), ends.0, ends.1)
 
@@ -42,5 +42,5 @@ pub returns-clause-refusal : goal.returns-clause-refusal
 returns-clause-refusal c = λ mode.
     let at = c.args.at in
     let end = c.in-Some.end in
-    token-no_refusal c.token_at.result (record { kind = string (at + 1) end false; span = span_at at ((end + 1) - at) }) _
-    (c.token_at.ensures (string (at + 1) end false) refl)
+    token-no_refusal c.told.result (record { kind = string (at + 1) end false; span = span_at at ((end + 1) - at) }) _
+    (c.told.ensures.answer ∙ c.token_at.ensures (string (at + 1) end false) refl)

@@ -1,6 +1,6 @@
 use Rattle.std.proofs.lemmas.Grind.{common_steps}
 -- Each byte goes on with what was read, and the quote closes it.
-use Rattle.std.proofs.Common.{◌+◌, ◌-◌, refl, sym, subst, arith, rules}
+use Rattle.std.proofs.Common.{◌+◌, ◌-◌, refl, sym, ◌∙◌, subst, arith, rules}
 use Rattle.facet_format.specs.Bytes.{quote}
 use Rattle.facet_format.specs.Span.{span_at}
 use Rattle.facet_json_token.specs.Token.{string}
@@ -25,8 +25,8 @@ returns-then-not-escaped-clause-here c = λ mode d.
     subst (λ v. Describes mode (in_text v e) (between buffer start end)) c.if-not-escaped.true
     (c.loop-byte.invariant.described mode d) in
     let found = text-found mode buffer start end e c.loop-byte.invariant.ahead described here in
-    found-here mode buffer start c.token_at.result (token_at (string (start + 1) end e) start ((end + 1) - start))
-    (c.token_at.ensures (string (start + 1) end e) refl) (λ x. cc) found.0 found.1
+    found-here mode buffer start c.told.result (token_at (string (start + 1) end e) start ((end + 1) - start))
+    (c.told.ensures.answer ∙ c.token_at.ensures (string (start + 1) end e) refl) (λ x. cc) found.0 found.1
 
 pub returns-then-not-escaped-clause-within : goal.returns-then-not-escaped-clause-within
 returns-then-not-escaped-clause-within c =
@@ -34,8 +34,8 @@ returns-then-not-escaped-clause-within c =
     let end = c.loop-byte.end in
     let e = c.loop-byte.has_escapes in
     let ends =
-    answered-ends c.token_at.result (token_at (string (start + 1) end e) start ((end + 1) - start)) _
-    (c.token_at.ensures (string (start + 1) end e) refl)
+    answered-ends c.told.result (token_at (string (start + 1) end e) start ((end + 1) - start)) _
+    (c.told.ensures.answer ∙ c.token_at.ensures (string (start + 1) end e) refl)
     (omega (arith, c.in-Some.ensures.lookup.3.0), (omega arith, omega (arith, c.in-Some.ensures.lookup.3.0))) in
     (omega arith, ends.0, ends.1)
 
@@ -44,8 +44,8 @@ returns-then-not-escaped-clause-refusal c = λ mode.
     let start = c.args.start in
     let end = c.loop-byte.end in
     let kind = string (start + 1) end c.loop-byte.has_escapes in
-    token-no_refusal c.token_at.result (record { kind = kind; span = span_at start ((end + 1) - start) }) _
-    (c.token_at.ensures kind refl)
+    token-no_refusal c.told.result (record { kind = kind; span = span_at start ((end + 1) - start) }) _
+    (c.told.ensures.answer ∙ c.token_at.ensures kind refl)
 
 pub loop-byte-preserved : goal.loop-byte-preserved
 loop-byte-preserved c =

@@ -85,7 +85,7 @@ returns-in_default-first-clause-here c = λ shut.
     ] in
     let comment : b ≡ slash → IsBeginning mode (b ∷ drop (at + 1) buffer) → ⊥ =
     λ e i. shut (here ∙ ap Some e) (subst (IsBeginning mode) (sym front) i) in
-    found-here mode buffer at c.cut_token.result (cut_here mode at (drop at buffer)) c.cut_token.ensures
+    found-here mode buffer at c.told.result (cut_here mode at (drop at buffer)) (c.told.ensures.answer ∙ c.cut_token.ensures)
     (cut_here-something mode buffer at b here) refl
     (λ i. others_shut mode b _ (omega arith) (omega arith) (omega arith) (omega arith) (omega arith) no_digit comment
     (subst (IsBeginning mode) front i))
@@ -98,7 +98,7 @@ returns-in_default-first-clause-within c =
     let mode = mode_of c.args.mode in
     let here = slice_get-from_read buffer at b b c.in-Some.ensures.lookup.3 refl in
     let ends =
-    answered-ends c.cut_token.result (cut_here mode at (drop at buffer)) _ c.cut_token.ensures
+    answered-ends c.told.result (cut_here mode at (drop at buffer)) _ (c.told.ensures.answer ∙ c.cut_token.ensures)
     (cut_here-ends mode buffer at b here) in
     (omega arith, ends.0, ends.1)
 

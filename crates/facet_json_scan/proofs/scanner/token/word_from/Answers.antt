@@ -45,8 +45,8 @@ returns-clause-here c = λ mode b kind here begins is.
       | else-len-word-via-else-len-word w ↦
           absurd (omega (arith, n, short, c.common_len-len.ensures.len, w.if-len-word.false))
     ] in
-    found-here mode buffer at c.cut_word.result (cut_word at bytes word kind (common_len word bytes))
-    (c.cut_word.ensures kind is) (λ e. cut_here-something mode buffer at b here (sym cuts ∙ e)) cuts
+    found-here mode buffer at c.told.result (cut_word at bytes word kind (common_len word bytes))
+    (c.told.ensures.answer ∙ c.cut_word.ensures kind is) (λ e. cut_here-something mode buffer at b here (sym cuts ∙ e)) cuts
     (λ i. word-shut mode b rest word kind begins not_open (subst (IsBeginning mode) front i))
 
 pub returns-clause-within : goal.returns-clause-within
@@ -57,6 +57,6 @@ returns-clause-within c = λ b kind here begins is.
     let bytes = drop at buffer in
     let cuts = cut_here-word plain buffer at b word kind here begins in
     let ends =
-    answered-ends c.cut_word.result (cut_word at bytes word kind (common_len word bytes)) _ (c.cut_word.ensures kind is)
+    answered-ends c.told.result (cut_word at bytes word kind (common_len word bytes)) _ (c.told.ensures.answer ∙ c.cut_word.ensures kind is)
     (subst (EndsWithin (length buffer)) (sym cuts) (cut_here-ends plain buffer at b here)) in
     (omega (arith, slice_get_within buffer at b here), ends.0, ends.1)
