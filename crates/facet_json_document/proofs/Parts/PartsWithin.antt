@@ -21,7 +21,7 @@ module _ (buffer : List ℕ) where
   -- ---- the end of a run
 
   -- The token ends after the offset and within the buffer, and the tokens after it stand in order.
-  record EndsAhead (from : ℕ) (last : Token) (rest : Tokens) : Type 0 where
+  pub record EndsAhead (from : ℕ) (last : Token) (rest : Tokens) : Type 0 where
     behind : from < stop last.span
     inside : stop last.span ≤ length buffer
     later : InOrder buffer (stop last.span) rest
@@ -42,7 +42,7 @@ module _ (buffer : List ℕ) where
 
   mutual
     -- A run's last token ends after the offset too.
-    run-ahead : (from : ℕ) (ts rest : Tokens) (last : Token) → Run ts last rest → InOrder buffer from ts → EndsAhead from last rest
+    pub run-ahead : (from : ℕ) (ts rest : Tokens) (last : Token) → Run ts last rest → InOrder buffer from ts → EndsAhead from last rest
     run-ahead from _ _ _ (one_token t rest e) o = token-ahead from t rest o
     run-ahead from _ _ _ (brackets kind first last inner rest e inside f) o =
         token-ahead from last rest (runs-in_order from inner (next last rest) inside (after-first from first inner o))
