@@ -1,5 +1,5 @@
 -- A value that is passed from the start of an input is the balanced run that the input begins with, and ends where the parser stands.
-use Rattle.std.proofs.Common.{◌≡◌, ℕ, List, ap, sym, subst}
+use Rattle.std.proofs.Common.{◌≡◌, ◌<◌, ◌≤◌, ℕ, List, length, arith, ap, sym, subst}
 use Rattle.facet_format.specs.Cursor.{current_span}
 use Rattle.facet_format.specs.Span.{stop}
 use Rattle.facet_json_token.specs.Gap.{Mode}
@@ -12,6 +12,8 @@ use Rattle.facet_json_document.specs.Place.{Place, root, passes, place_turn}
 use Rattle.facet_json_document.specs.Run.{Run}
 use Rattle.facet_json_document.specs.Now.{Now, fresh, on_input, current_span_of}
 use Rattle.facet_json_document.specs.SkipLaws.{GoesOnWith, with_value, after_separator}
+use Rattle.facet_json_document.proofs.Parts.PartsWithin.{run-ahead}
+use Rattle.facet_json_document.proofs.TokensInOrder.{tokens-in_order}
 use Rattle.facet_json_meaning.specs.OneValue.{PassesValue}
 use Rattle.facet_json.specs.Inputs.{BeginsWithRun, BeginsWithRunTo}
 
@@ -39,3 +41,9 @@ ends-from input mode old new is_new value =
 pub begins-from : (input : List ℕ) (mode : Mode) (old new : Now) → old ≡ fresh input mode → PassesValue old new → BeginsWithRun input mode
 begins-from input mode old new is_new value =
     let run = ends-from input mode old new is_new value in (run.0, run.1, run.2)
+
+-- It ends behind its first byte, and within the input.
+pub ends-within : (input : List ℕ) (mode : Mode) (end : ℕ) → BeginsWithRunTo input mode end → (0 < end) × (end ≤ length input)
+ends-within input mode end to =
+    let ahead = run-ahead input 0 (tokens input mode) to.1 to.0 to.2 (tokens-in_order input mode 0 (omega arith)) in
+    rw (← to.3) (ahead.behind, ahead.inside)

@@ -1,6 +1,6 @@
 //! Values of a type from the start of an input, with where their document ends: what follows may be another one.
 
-ghost use Rattle.std.specs.Prelude.{◌≡◌, ◌<◌, ◌^◌, ℕ, List, true, length, IfOk, IfErr, OnOk};
+ghost use Rattle.std.specs.Prelude.{◌≡◌, ◌<◌, ◌≤◌, ◌^◌, ℕ, List, true, length, IfOk, IfErr, OnOk};
 ghost use Rattle.facet_format.specs.Views.{refusal_of};
 ghost use Rattle.facet_json_token.specs.Gap.{Mode, plain};
 ghost use Rattle.facet_json_document.specs.Language.{lenient};
@@ -33,6 +33,7 @@ pub fn from_slice_prefix<'t, 'de, T: Facet<'de>>(
     ensures unread { IfErr result (λ e. IsUnreadFrom T.shape.reading input.now plain (refusal_of e)) }
     ensures document { T.whole ≡ true → OnOk result (BeginsWithDocument input.now plain) }
     ensures end { IfOk result (λ r. BeginsWithRunTo input.now plain r.1) }
+    ensures inside { IfOk result (λ r. (0 < r.1) × (r.1 ≤ length input.now)) }
     ensures within { IfErr result (λ e. RefusalWithin input.now (refusal_of e)) }
     ensures tells { IfErr result (λ e. IsToldOf input.now (lenient plain) (refusal_of e)) }
 {
@@ -57,6 +58,7 @@ pub fn from_str_prefix<'t, 'de, T: Facet<'de>>(
     ensures unread { IfErr result (λ e. IsUnreadFrom T.shape.reading input.now plain (refusal_of e)) }
     ensures document { T.whole ≡ true → OnOk result (BeginsWithDocument input.now plain) }
     ensures end { IfOk result (λ r. BeginsWithRunTo input.now plain r.1) }
+    ensures inside { IfOk result (λ r. (0 < r.1) × (r.1 ≤ length input.now)) }
     ensures within { IfErr result (λ e. RefusalWithin input.now (refusal_of e)) }
     ensures tells { IfErr result (λ e. IsToldOf input.now (lenient plain) (refusal_of e)) }
 {
@@ -78,6 +80,8 @@ fn value_and_end<'t, 'de, T: Facet<'de>>(
         → T.whole ≡ true → OnOk result (BeginsWithDocument input mode) }
     ensures end { (input : List ℕ) (mode : Mode) → length input < 2 ^ 64 → parser.old ≡ fresh input mode
         → IfOk result (λ r. BeginsWithRunTo input mode r.1) }
+    ensures inside { (input : List ℕ) (mode : Mode) → length input < 2 ^ 64 → parser.old ≡ fresh input mode
+        → IfOk result (λ r. (0 < r.1) × (r.1 ≤ length input)) }
     ensures within { (input : List ℕ) (mode : Mode) → parser.old ≡ fresh input mode
         → IfErr result (λ e. RefusalWithin input (refusal_of e)) }
     ensures tells { (input : List ℕ) (mode : Mode) → parser.old ≡ fresh input mode

@@ -44,8 +44,7 @@ struct Marked<'de> {
 ///
 /// ```text
 /// let mut json = Json::new(alloc, JsonParser::new(alloc, input));
-/// let read = T::deserialize(alloc, &mut Deserializer::new(input, &mut json));
-/// match read {
+/// match json.value(input) {
 ///     Ok(value) => ..,
 ///     Err(fault) => Err(json.told(fault)),
 /// }

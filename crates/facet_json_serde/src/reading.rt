@@ -162,7 +162,7 @@ fn first<'de, T: Deserialize<'de>>(
     input: &'de [u8],
     json: &mut Json<'_>,
 ) -> Result<T, Fault> {
-    let value = one(alloc, input, json)?;
+    let value = json.value(input)?;
     json.finish()?;
     Ok(value)
 }
@@ -173,16 +173,18 @@ fn whole<'de, T: Deserialize<'de>>(
     input: &'de [u8],
     json: &mut Json<'_>,
 ) -> Result<T, Fault> {
-    let value = one(alloc, input, json)?;
+    let value = json.value(input)?;
     json.finish_whole()?;
     Ok(value)
 }
 
-/// Reads a value.
-fn one<'de, T: Deserialize<'de>>(
-    alloc: Global,
-    input: &'de [u8],
-    json: &mut Json<'_>,
-) -> Result<T, Fault> {
-    T::deserialize(alloc, &mut Deserializer::new(input, json))
+impl Json<'_> {
+    /// Reads the value that comes. The input is the one that the parser reads.
+    ///
+    /// # Errors
+    ///
+    /// As `from_slice`; `told` says where.
+    pub fn value<'de, T: Deserialize<'de>>(&mut self, input: &'de [u8]) -> Result<T, Fault> {
+        T::deserialize(self.alloc, &mut Deserializer::new(input, self))
+    }
 }

@@ -13,12 +13,24 @@ fn languages_are_told_apart(rt: HostRuntime) -> Result<(), Fail> {
     assert_eq!(rt; from_slice::<u8>(alloc, b"7 x")?, 7);
     assert_eq!(rt; from_str_jsonc::<u8>(alloc, "/* c */ 7 // x")?, 7);
     assert_eq!(rt; from_slice_strict::<u8>(alloc, b" 7\n")?, 7);
+    assert_eq!(rt; from_slice_whole::<(u8, u8)>(alloc, b"[1,2,] \n")?, (1, 2));
+    Ok(())
+}
+
+#[test]
+fn strict_refuses_what_follows(rt: HostRuntime) -> Result<(), Fail> {
+    let alloc = rt.alloc();
     let error = from_str_strict::<u8>(alloc, "7 x").err().ok_or("an error")?;
     assert_eq!(rt;
         shown(alloc, error, "7 x")?.as_str(),
         "unexpected character 'x', expected valid JSON token at line 1, column 3\n7 x\n  ^"
     );
-    assert_eq!(rt; from_slice_whole::<(u8, u8)>(alloc, b"[1,2,] \n")?, (1, 2));
+    Ok(())
+}
+
+#[test]
+fn a_whole_input_has_nothing_behind(rt: HostRuntime) -> Result<(), Fail> {
+    let alloc = rt.alloc();
     let error = from_slice_whole::<u8>(alloc, b"7 x y")
         .err()
         .ok_or("an error")?;

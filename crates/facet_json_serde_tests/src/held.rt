@@ -2,13 +2,12 @@
 
 use crate::by_hand::{Percent, Range, read_percent, read_range};
 use facet_json_serde::{Error, Fault, Json, JsonParser, JsonWriter, SerializeOptions};
-use serde::{Deserialize, Deserializer, Serialize};
-use std::alloc::Global;
+use serde::Serialize;
 use std::test::Fail;
 
 /// A pair of bytes, with comments between them, and the end of the input.
-fn pair(alloc: Global, input: &[u8], json: &mut Json<'_>) -> Result<(u8, u8), Fault> {
-    let pair = <(u8, u8)>::deserialize(alloc, &mut Deserializer::new(input, json))?;
+fn pair(input: &[u8], json: &mut Json<'_>) -> Result<(u8, u8), Fault> {
+    let pair = json.value(input)?;
     json.finish_whole()?;
     Ok(pair)
 }
@@ -18,11 +17,17 @@ fn a_parser_is_held(rt: HostRuntime) -> Result<(), Fail> {
     let alloc = rt.alloc();
     let input = b"/* two */ [1, 2]\n".as_slice();
     let mut json = Json::new(alloc, JsonParser::new_jsonc(alloc, input));
-    let read = pair(alloc, input, &mut json).ok().ok_or("a pair")?;
+    let read = pair(input, &mut json).ok().ok_or("a pair")?;
     assert_eq!(rt; read, (1, 2));
+    Ok(())
+}
+
+#[test]
+fn a_fault_is_told(rt: HostRuntime) -> Result<(), Fail> {
+    let alloc = rt.alloc();
     let input = b"[1, 2] [".as_slice();
     let mut json = Json::new(alloc, JsonParser::new_jsonc(alloc, input));
-    let fault = pair(alloc, input, &mut json).err().ok_or("a fault")?;
+    let fault = pair(input, &mut json).err().ok_or("a fault")?;
     let error: Error<'static> = json.told(fault);
     let shown = format!(in alloc; "{error}")?;
     assert_eq!(rt; shown.as_str(), "trailing characters");
@@ -30,13 +35,20 @@ fn a_parser_is_held(rt: HostRuntime) -> Result<(), Fail> {
 }
 
 #[test]
-fn a_writer_is_held(rt: HostRuntime) -> Result<(), Fail> {
+fn a_writer_keeps_its_fault(rt: HostRuntime) -> Result<(), Fail> {
     let alloc = rt.alloc();
     let options = SerializeOptions::new().bytes_as_hex();
     let mut writer = JsonWriter::new(alloc, options);
     (1u8, "x").serialize(&mut writer).ok().ok_or("a pair")?;
     assert!(rt; 7u8.serialize(&mut writer).is_err());
     assert!(rt; writer.finish(&options).is_err());
+    Ok(())
+}
+
+#[test]
+fn a_writer_gives_its_text(rt: HostRuntime) -> Result<(), Fail> {
+    let alloc = rt.alloc();
+    let options = SerializeOptions::new().bytes_as_hex();
     let mut writer = JsonWriter::new(alloc, options);
     (1u8, "x").serialize(&mut writer).ok().ok_or("a pair")?;
     let text = writer.finish(&options).ok().ok_or("a text")?;

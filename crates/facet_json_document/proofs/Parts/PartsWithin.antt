@@ -22,8 +22,8 @@ module _ (buffer : List ℕ) where
 
   -- The token ends after the offset and within the buffer, and the tokens after it stand in order.
   pub record EndsAhead (from : ℕ) (last : Token) (rest : Tokens) : Type 0 where
-    behind : from < stop last.span
-    inside : stop last.span ≤ length buffer
+    pub behind : from < stop last.span
+    pub inside : stop last.span ≤ length buffer
     later : InOrder buffer (stop last.span) rest
 
   -- The first of tokens in order does.

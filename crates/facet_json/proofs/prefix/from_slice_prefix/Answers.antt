@@ -10,6 +10,9 @@ returns-clause-unread g c = c.value_and_end.ensures.unread _ _ c.new.ensures
 pub returns-clause-end : goal.returns-clause-end
 returns-clause-end g c = c.value_and_end.ensures.end _ _ (omega arith) c.new.ensures
 
+pub returns-clause-inside : goal.returns-clause-inside
+returns-clause-inside g c = c.value_and_end.ensures.inside _ _ (omega arith) c.new.ensures
+
 pub returns-clause-within : goal.returns-clause-within
 returns-clause-within g c = c.value_and_end.ensures.within _ _ c.new.ensures
 

@@ -11,6 +11,9 @@ returns-clause-unread g c = c.value_and_end.ensures.unread _ plain (rw (← c.as
 pub returns-clause-end : goal.returns-clause-end
 returns-clause-end g c = c.value_and_end.ensures.end _ plain (omega arith) (rw (← c.as_bytes-bytes.ensures.value) c.new_trusted.ensures)
 
+pub returns-clause-inside : goal.returns-clause-inside
+returns-clause-inside g c = c.value_and_end.ensures.inside _ plain (omega arith) (rw (← c.as_bytes-bytes.ensures.value) c.new_trusted.ensures)
+
 pub returns-clause-within : goal.returns-clause-within
 returns-clause-within g c = c.value_and_end.ensures.within _ plain (rw (← c.as_bytes-bytes.ensures.value) c.new_trusted.ensures)
 

@@ -6,7 +6,7 @@ use Rattle.facet_format.specs.Views.{refusal_of}
 use Rattle.facet_json_document.specs.Language.{lenient}
 use Rattle.facet_json_document.specs.Now.{Now}
 use Rattle.facet_json.proofs.RootComes.{read-from, told-of, unread-from, within-from}
-use Rattle.facet_json.proofs.RunBegins.{ends-from}
+use Rattle.facet_json.proofs.RunBegins.{ends-from, ends-within}
 use Rattle.facet_json.proofs.prefix.value_and_end.Goals as goal
 
 pub returns-in_err-value-clause-unread : goal.returns-in_err-value-clause-unread
@@ -36,3 +36,6 @@ returns-clause-end g c input mode small is =
     let within = rw same at c.last_span.ensures.within in
     let end = c.end.ensures.fits (omega (arith, small, within)) in
     rw (end, ap stop c.last_span.ensures.told) (ends-from input mode _ c.read_owned.new.parser is c.in_ok-value.ensures.one_value)
+
+pub returns-clause-inside : goal.returns-clause-inside
+returns-clause-inside g c input mode small is = ends-within input mode _ (returns-clause-end g c input mode small is)
