@@ -6,7 +6,7 @@ use Rattle.std.specs.Str.{bytes_eq}
 use Rattle.facet_format.specs.Complaint.{missing_field, Refusal, refusal_at}
 use Rattle.facet_format.specs.Span.{Span}
 use Rattle.facet_json_document.specs.Meaning.{text_in_tree, meaning}
-use Rattle.facet_json_document.specs.Node.{Node, scalar, array, object, Members, no_members, member}
+use Rattle.facet_json_document.specs.Node.{scalar, array, object, Members, no_members, member}
 use Rattle.facet_json_meaning.specs.Optional.{optional}
 use Rattle.facet_json_meaning.specs.Passing.{anything}
 pub use Rattle.facet_json_meaning.specs.Shapes.{Reading}

@@ -118,6 +118,7 @@ pub use Rattle.facet_format.specs.Laws as FormatLaws
 pub use Rattle.facet_json_scan.specs.Views as ScanViews
 pub use Rattle.facet_json_scan.specs.Laws as ScanLaws
 pub use Rattle.facet_json_document.specs.Laws as DocumentLaws
+pub mod Documents
 pub mod Fields
 pub mod Inner
 pub mod Inputs

@@ -6,6 +6,7 @@
 //! writer's failure alone stays a `WriteError`, which has the writer's own error.
 #![tactic(auto)]
 
+mod documents;
 mod fields;
 mod find_error;
 pub mod float;
@@ -20,6 +21,7 @@ mod strict;
 mod writers;
 mod writing;
 
+pub use documents::Documents;
 pub use facet_format::{
     ContainerKind, Decimal, DeserializeError, DeserializeErrorKind, FieldKey, FieldLocationHint,
     FormatParser, FormatSerializer, ParseError, ParseEvent, ParseEventKind, SavePoint, ScalarValue,

@@ -1,7 +1,7 @@
 //! Values with where their documents end, and documents one after another.
 
 use facet_format::{DeserializeError, DeserializeErrorKind, Span};
-use facet_json::{from_slice_prefix, from_str_prefix};
+use facet_json::{Documents, from_slice_prefix, from_str_prefix};
 use std::alloc::Global;
 
 /// Inputs that begin with a number, the number, and the offset at which it ends.
@@ -91,4 +91,49 @@ fn what_begins_no_value_is_refused(rt: HostRuntime) {
     assert!(rt; is_refused(alloc, " ", none, Span::new(1, 0)));
     let large = DeserializeErrorKind::NumberOutOfRange { target_type: "u8" };
     assert!(rt; is_refused(alloc, "300 1", large, Span::new(0, 3)));
+}
+
+/// Inputs of numbers one after another: their sum, how many there are before a refusal or the end, the offset up to which the input was read
+/// then, and where the refusal stands, if one comes.
+const STREAMS: [(&str, u64, usize, usize, Option<Span>); 9] = [
+    ("", 0, 0, 0, None),
+    (" \n", 0, 0, 2, None),
+    ("1 2\n3", 6, 3, 5, None),
+    ("\n1\n2\n", 3, 2, 5, None),
+    ("1,2", 1, 1, 3, Some(Span { offset: 1, len: 1 })),
+    ("1 2 [", 3, 2, 5, Some(Span { offset: 4, len: 1 })),
+    ("1 // 2", 1, 1, 6, Some(Span { offset: 2, len: 1 })),
+    ("7 300 8", 7, 1, 7, Some(Span { offset: 2, len: 3 })),
+    ("7 \"", 7, 1, 3, Some(Span { offset: 2, len: 1 })),
+];
+
+/// The sum of the numbers before a refusal or the end, how many they are, and where the refusal stands.
+fn summed(documents: &mut Documents<'_, u8>) -> (u64, usize, Option<Span>) {
+    let mut sum: u64 = 0;
+    let mut count: usize = 0;
+    while let Some(number) = documents.next() {
+        match number {
+            Ok(number) => sum = sum.wrapping_add(u64::from(number)),
+            Err(error) => return (sum, count, error.span),
+        }
+        count = count.wrapping_add(1);
+    }
+    (sum, count, None)
+}
+
+/// Whether the numbers of a row are read so, and none comes after them.
+fn is_summed(alloc: Global, row: (&str, u64, usize, usize, Option<Span>)) -> bool {
+    let (input, sum, count, end, refused) = row;
+    let mut documents = Documents::new(alloc, input.as_bytes());
+    summed(&mut documents) == (sum, count, refused)
+        && documents.offset() == end
+        && documents.next().is_none()
+}
+
+#[test]
+fn numbers_come_until_one_is_refused(rt: HostRuntime) {
+    let alloc = rt.alloc();
+    for row in STREAMS {
+        assert!(rt; is_summed(alloc, row));
+    }
 }
