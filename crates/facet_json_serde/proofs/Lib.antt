@@ -1,4 +1,5 @@
 pub mod BegunCalls
 pub mod BegunSteps
 pub mod ByteLists
+pub mod FloatTexts
 pub mod StepsRead

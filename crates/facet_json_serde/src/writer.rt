@@ -1,9 +1,11 @@
 //! JSON as a `Serializer` of `serde`'s: each event is a call of one value's, so all that is written is one value.
 
-ghost use Rattle.std.specs.Prelude.{IfOk};
+ghost use Rattle.std.specs.Prelude.{◌≡◌, true, IfOk};
 ghost use Rattle.facet_json_serializer.specs.OptionsViews.{options_of};
 ghost use Rattle.facet_format.specs.Views.{scalar_value_of};
 ghost use Rattle.facet_json_serde.specs.OneValue.{IsTextOfTree, IsTree};
+ghost use Rattle.facet_format.specs.Number.{float};
+ghost use Rattle.facet_format.specs.NumberParts.{is_number};
 
 use crate::fault::{Refusal, WriteFault};
 use crate::one_value::OneValue;
@@ -210,11 +212,13 @@ impl<'i> JsonWriter<'i> {
 
     /// Writes the text of a number with a fraction or an exponent.
     #[inline(always)]
-    fn number(&mut self, text: &str) -> Result<(), WriteFault> {
+    fn number(&mut self, text: &str) -> Result<(), WriteFault>
+        requires { is_number text.now float ≡ true }
+    {
         if self.at_key {
             return self.key_text(text);
         }
-        match Decimal::new(text) {
+        match Decimal::of_number(text) {
             Some(decimal) => self.scalar(ScalarValue::Decimal(decimal)),
             None => Err(self.fail(Refusal::InvalidValue)),
         }
@@ -272,6 +276,7 @@ impl<'i> Serializer for JsonWriter<'i> {
         self.scalar(ScalarValue::U128(v))
     }
 
+    #[tactic(auto, using(crate::proofs::FloatTexts::plain_is_number))]
     fn f32(&mut self, v: f32) -> Result<(), WriteFault> {
         self.not_flat()?;
         if !v.is_finite() {
@@ -281,6 +286,7 @@ impl<'i> Serializer for JsonWriter<'i> {
     }
 
     #[inline(always)]
+    #[tactic(auto, using(crate::proofs::FloatTexts::plain_is_number))]
     fn f64(&mut self, v: f64) -> Result<(), WriteFault> {
         self.not_flat()?;
         if !v.is_finite() {

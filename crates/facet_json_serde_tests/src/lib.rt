@@ -7,6 +7,7 @@
 mod again;
 #[cfg(test)]
 mod allocations;
+#[cfg(test)]
 mod by_hand;
 #[cfg(test)]
 mod entries;
@@ -24,5 +25,3 @@ mod streams;
 mod structs;
 #[cfg(test)]
 mod writers;
-
-pub use by_hand::{Percent, Range, read_percent, read_range};
