@@ -8,6 +8,10 @@ use Rattle.serde.specs.Steps.{Gives, Stays}
 use Rattle.serde.specs.declared.deserializer.Deserializer.{Deserializer}
 use Rattle.facet_json_serde.specs.Ahead.{BeginsList, IsUnsigned}
 
+-- A whole number's event came next, in a parser of JSON.
+abbrev pub PassesNumber : Now → ℕ → Type 0
+PassesNumber now n = (given : ParserEvent) × (after : Now) × PassesNext now given after × IsUnsigned given.kind n
+
 -- A list of two whole numbers was read, in the words of any format.
 abbrev pub GivesPair : {F E M : Type 0} → (F → List ℕ → Event → F → Type 0) → (F → F → Type 0) → Deserializer F E M → ℕ → ℕ → Deserializer F E M → Type 0
 GivesPair {F} {E} {M} gives stays old low high new =

@@ -1,13 +1,9 @@
 //! Types that are read by hand, with a contract: the steps of any format say what was read, and those of JSON which events of the parser that was.
 
 ghost use Rattle.std.specs.Prelude.{◌≤◌, IfOk};
-ghost use Rattle.facet_format.specs.Event.{Event};
-ghost use Rattle.facet_json_document.specs.Now.{Now};
-ghost use Rattle.facet_json_document.specs.Next.{PassesNext};
 ghost use Rattle.serde.specs.Event.{unsigned};
 ghost use Rattle.serde.specs.Steps.{Gives};
-ghost use Rattle.facet_json_serde.specs.Ahead.{IsUnsigned};
-ghost use Rattle.facet_json_serde_tests.specs.ByHand.{GivesPair, PassesPair};
+ghost use Rattle.facet_json_serde_tests.specs.ByHand.{GivesPair, PassesNumber, PassesPair};
 
 use facet_json_serde::{Fault, Json, JsonParser};
 use serde::{Deserialize, Deserializer, Format};
@@ -71,8 +67,7 @@ pub fn read_percent<'de>(
     input: &'de [u8],
     parser: JsonParser<'de>,
 ) -> Result<Percent, Fault>
-    ensures { IfOk result (λ p. (given : Event) × (after : Now)
-        × PassesNext parser.entry given after × IsUnsigned given.kind p.0) }
+    ensures { IfOk result (λ p. PassesNumber parser.entry p.0) }
 {
     let mut json = Json::new(alloc, parser);
     Percent::deserialize(alloc, &mut Deserializer::new(input, &mut json))
