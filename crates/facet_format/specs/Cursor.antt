@@ -1,7 +1,7 @@
 -- A cursor, and what each call of a reader answers there. It stands at places: on a walk, a finished list of events, the place says how
 -- many events are passed; in an input it says what is passed and what is open.
 use Rattle.std.specs.Prelude.{◌≡◌, ◌<◌, ◌≤◌, ℕ, zero, suc, Bool, true, false, List, [], ◌∷◌, length, slice_get, Option, Some, None, Result, Ok, Err}
-use Rattle.facet_format.specs.Span.{Span, span_at}
+use Rattle.facet_format.specs.Span.{Span}
 use Rattle.facet_format.specs.Complaint.{Refusal, refusal_at, out_of_memory, save_limit}
 use Rattle.facet_format.specs.Event.{Event, Passed, takes_memory, peek_takes_memory}
 use Rattle.facet_format.specs.Kept.{found, without, with_point}

@@ -1,5 +1,5 @@
 -- Numbers (RFC 8259, section 6), read leniently: each run of digits may be empty, and leading zeros may stand.
-use Rattle.std.specs.Prelude.{◌≡◌, ◌≢◌, ℕ, ◌+◌, Bool, true, false, List, [], ◌∷◌, ◌++◌}
+use Rattle.std.specs.Prelude.{◌≡◌, ◌≢◌, ℕ, Bool, true, false, List, [], ◌∷◌, ◌++◌}
 use Rattle.facet_format.specs.Bytes.{is_digit, is_exponent_mark, is_sign, minus, dot}
 
 -- what stands in a number: digits alone, a minus but neither dot nor exponent mark, or one of these

@@ -63,8 +63,11 @@ impl<'a> Decimal<'a> {
             (number text.now float ≡ None)
             (λ d. (d ≡ borrowed text.now) × (number text.now float ≡ Some (decimal text.now))) }
     {
-        let parts = number_parts(text.as_bytes(), NumberHint::Float)?;
-        Decimal::from_number(text, parts)
+        if is_decimal(text.as_bytes()) {
+            Some(Decimal(CowStr::Borrowed(text)))
+        } else {
+            None
+        }
     }
 
     /// The same for a text that is known to be a number with a fraction or an exponent. It is measured only where it doesn't begin
@@ -76,22 +79,8 @@ impl<'a> Decimal<'a> {
             (number text.now float ≡ None)
             (λ d. (d ≡ borrowed text.now) × (number text.now float ≡ Some (decimal text.now))) }
     {
-        if has_outer_digits(text.as_bytes()) {
-            Some(Decimal(CowStr::Borrowed(text)))
-        } else {
-            Decimal::new(text)
-        }
-    }
-
-    /// The same for a text that is a number with a fraction or an exponent, of these parts.
-    fn from_number(text: &'a str, parts: Parts) -> Option<Decimal<'a>>
-        requires is_number { is_number text.now float ≡ true }
-        requires parts { ArePartsOf text.now parts }
-        ensures { MatchOption result
-            (number text.now float ≡ None)
-            (λ d. (d ≡ borrowed text.now) × (number text.now float ≡ Some (decimal text.now))) }
-    {
-        if has_value(text.as_bytes(), parts) {
+        let bytes = text.as_bytes();
+        if has_outer_digits(bytes) || is_decimal(bytes) {
             Some(Decimal(CowStr::Borrowed(text)))
         } else {
             None
@@ -126,6 +115,18 @@ impl<'a> Decimal<'a> {
                 Err(_) => Err(Decimal(CowStr::Borrowed(text))),
             },
         }
+    }
+}
+
+/// Whether the text is a number with a fraction or an exponent that has a value.
+#[inline(never)]
+fn is_decimal(text: &[u8]) -> bool
+    ensures yes { result ≡ true → number text.now float ≡ Some (decimal text.now) }
+    ensures no { result ≡ false → number text.now float ≡ None }
+{
+    match number_parts(text, NumberHint::Float) {
+        Some(parts) => has_value(text, parts),
+        None => false,
     }
 }
 

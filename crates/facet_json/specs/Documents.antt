@@ -1,5 +1,5 @@
 -- The documents that stand one after another in an input, with gaps between them (RFC 8259, section 2), as values of a type.
-use Rattle.std.specs.Prelude.{◌≡◌, ◌+◌, ◌<◌, ℕ, List, Option, Some, None, Result, Ok, Err, length, drop}
+use Rattle.std.specs.Prelude.{◌≡◌, ◌+◌, ◌<◌, ℕ, Bool, true, List, Option, Some, None, Result, Ok, Err, length, drop}
 use Rattle.std.specs.Option.{option_map}
 use Rattle.facet_format.specs.Complaint.{Refusal}
 use Rattle.facet_format.specs.Span.{span_at}
@@ -10,7 +10,7 @@ use Rattle.facet_json_token.specs.Cut.{past_gap}
 use Rattle.facet_json_document.specs.Language.{lenient}
 use Rattle.facet_json_document.specs.Node.{Node}
 use Rattle.facet_json_document.specs.UnreadLaws.{RefusalWithin}
-use Rattle.facet_json.specs.Inputs.{BeginsWithRunTo, IsReadFrom, IsUnreadFrom, IsToldOf}
+use Rattle.facet_json.specs.Inputs.{BeginsWithDocument, BeginsWithRunTo, IsReadFrom, IsUnreadFrom, IsToldOf}
 
 -- An input, and the offset up to which it was read.
 pub record Documents : Type 0 where
@@ -34,11 +34,12 @@ abbrev pub moved : ℕ → Refusal → Refusal
 moved from r = record { complaint = r.complaint; span = option_map (λ s. span_at (from + s.offset) s.len) r.span }
 
 -- What the next call answers, and what it leaves: nothing where a gap alone is left; else the value of the document that comes, as
--- `from_slice_prefix` reads it, and what is behind it is left; or that one's refusal, and nothing is left.
-pub data NextGives {T V : Type 0} (reading : List ℕ → Node → Option V) (view : T → V) (owned : T → Type 0) (old new : Documents) : Option (Result T DeserializeError) → Type 0 where
-  nothing : past_gap (rest old) 0 plain ≡ length (rest old) → new ≡ read_up old → NextGives reading view owned old new None
+-- `from_slice_prefix` reads it, and what is behind it is left; or that one's refusal, and nothing is left. A type that reads `whole`
+-- documents has a value only where a document comes.
+pub data NextGives {T V : Type 0} (reading : List ℕ → Node → Option V) (view : T → V) (owned : T → Type 0) (whole : Bool) (old new : Documents) : Option (Result T DeserializeError) → Type 0 where
+  nothing : past_gap (rest old) 0 plain ≡ length (rest old) → new ≡ read_up old → NextGives reading view owned whole old new None
   value : (v : T) (end : ℕ) → BeginsWithRunTo (rest old) plain end → IsReadFrom reading (rest old) plain (view v) → owned v →
-      new ≡ after old end → NextGives reading view owned old new (Some (Ok v))
+      (whole ≡ true → BeginsWithDocument (rest old) plain) → new ≡ after old end → NextGives reading view owned whole old new (Some (Ok v))
   refused : (e : DeserializeError) (r : Refusal) → past_gap (rest old) 0 plain < length (rest old) → refusal_of e ≡ moved old.at r →
       IsUnreadFrom reading (rest old) plain r → RefusalWithin (rest old) r → IsToldOf (rest old) (lenient plain) r →
-      new ≡ read_up old → NextGives reading view owned old new (Some (Err e))
+      new ≡ read_up old → NextGives reading view owned whole old new (Some (Err e))

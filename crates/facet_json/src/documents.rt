@@ -15,7 +15,7 @@ use std::alloc::Global;
 use std::marker::{Model, PhantomData};
 
 /// An iterator over the documents that stand one after another in an input, with gaps between them (RFC 8259, section 2): each is read as
-/// `from_slice_prefix` reads it, and is a value or a refusal. A refusal's span counts from the start of the whole input, and ends the iteration.
+/// `from_slice_prefix` reads it, and is a value or a refusal. A refusal ends the iteration; its span counts from the start of the whole input.
 ///
 /// ```text
 /// let mut numbers = Documents::<u8>::new(alloc, b"1 2\n[");
@@ -74,7 +74,7 @@ impl<'de, T> Documents<'de, T> {
 impl<'de, T: Facet<'de>> Iterator for Documents<'de, T> {
     type Item = Result<T, DeserializeError<'de>>;
 
-    ghost next_gives = { λ old item new. NextGives T.shape.reading T.view T.owned old new item };
+    ghost next_gives = { λ old item new. NextGives T.shape.reading T.view T.owned T.whole old new item };
 
     ghost remaining = { λ d. at_most (length (rest d)) };
 

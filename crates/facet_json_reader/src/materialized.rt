@@ -16,8 +16,8 @@ ghost use Rattle.facet_json_reader.specs.TokenViews.{number_in, holds_made_text,
 use crate::refusal::{Name, Refused, Why};
 use facet_format::{Decimal, ScalarValue, Span};
 use facet_json_token::{
-    ParsedNumber, SpannedToken, Token, check_content, decode_string_owned, parse_measured,
-    plain_text,
+    ParsedNumber, SpannedToken, Token, check_content, decode_string_owned, measured_number,
+    no_number, plain_text,
 };
 use std::alloc::{AllocError, Global};
 use std::borrow::CowStr;
@@ -207,10 +207,10 @@ pub(crate) fn read_other<'a>(
         Token::Null => Ok(TokenKind::Null),
         Token::True => Ok(TokenKind::True),
         Token::False => Ok(TokenKind::False),
-        Token::Number { start, end, hint } => {
-            let number = parse_measured(buffer, start, end, hint)?;
-            Ok(TokenKind::from(number))
-        }
+        Token::Number { start, end, hint } => match measured_number(&buffer[start..end], hint) {
+            Some(number) => Ok(TokenKind::from(number)),
+            None => Err(Refused::from(no_number(start, end))),
+        },
         Token::Eof => Ok(TokenKind::Eof),
         Token::String { .. } | Token::NeedMore { .. } => unreachable!(),
     }

@@ -24,13 +24,10 @@ ghost use Rattle.facet_format.specs.Bytes.{minus, dot, is_exponent_mark};
 ghost use Rattle.facet_format.specs.Inner.Window.{is_no_digit};
 
 use crate::language::Language;
-use facet_format::ScalarValue;
 use facet_format::numeral::{NumberHint, Parts, parts_at};
-use facet_json_token::{ParsedNumber, has_rfc_parts, parse_measured};
+use facet_format::{Decimal, ScalarValue};
+use facet_json_token::{ParsedNumber, has_rfc_parts, measured_decimal, measured_number};
 use std::simd::prelude::*;
-
-/// The length of a number and its value.
-type Measured<'de> = (usize, ScalarValue<'de>);
 
 /// A whole number of at most fifteen digits.
 #[derive(Clone, Copy)]
@@ -54,15 +51,23 @@ impl Whole {
     }
 }
 
-/// The length and the value of the whole number at `at`, of which this is the first byte, where it is short and enough bytes stand there.
+/// The length and the value of the number at `at`, of which this is the first byte, where it is at most fifteen digits, perhaps
+/// after a minus, and enough bytes stand there.
 #[inline(always)]
 fn short_whole(input: &[u8], at: usize, first: u8) -> Option<(usize, Whole)>
     requires here { slice_get input.now at ≡ Some first }
     requires number { start_of first ≡ opens_number }
-    ensures { IfSome result (λ r. IsScalarThere input.now at r.0 (whole_scalar r.1)) }
+    ensures there { IfSome result (λ r. IsScalarThere input.now at r.0 (whole_scalar r.1)) }
+    ensures digits { IfSome result (λ r. SomeDigits (slice_range input.now (digits_from at first) (at + r.0))) }
 {
-    let (len, value) = whole_number(input, at, first)?;
-    Some((len, whole_of(value)?))
+    if input.len() - at < 17 {
+        return None;
+    }
+    if first == b'-' {
+        negative_there(input, at)
+    } else {
+        digits_there(input, at, first)
+    }
 }
 
 /// The same, where it is a number of RFC 8259.
@@ -73,11 +78,11 @@ fn short_whole_strict(input: &[u8], at: usize, first: u8) -> Option<(usize, Whol
     ensures there { IfSome result (λ r. IsScalarThere input.now at r.0 (whole_scalar r.1)) }
     ensures strict { IfSome result (λ r. IsRfcNumber (slice_range input.now at (at + r.0))) }
 {
-    let (len, value) = whole_number(input, at, first)?;
+    let (len, whole) = short_whole(input, at, first)?;
     if !leads_by_no_zero(input, at, first, len) {
         return None;
     }
-    Some((len, whole_of(value)?))
+    Some((len, whole))
 }
 
 /// The same, where the language allows it.
@@ -96,18 +101,6 @@ pub(crate) fn short_whole_in(
     match language {
         Language::Lenient(_) => short_whole(input, at, first),
         Language::Strict(_) => short_whole_strict(input, at, first),
-    }
-}
-
-/// The whole number of 64 bits that a scalar is.
-#[inline(always)]
-fn whole_of(value: ScalarValue<'_>) -> Option<Whole>
-    ensures { IfSome result (λ w. scalar_value_of value.entry ≡ whole_scalar w) }
-{
-    match value {
-        ScalarValue::U64(n) => Some(Whole::Unsigned(n)),
-        ScalarValue::I64(n) => Some(Whole::Signed(n)),
-        _ => None,
     }
 }
 
@@ -205,10 +198,8 @@ fn short_by_parts(input: &[u8], at: usize, parts: Parts) -> Option<Short>
     if let NumberHint::Float = hint {
         return Some((len, None));
     }
-    match parse_measured(input, at, at + len, hint) {
-        Ok(number) => Some((len, Some(whole_in(number)?))),
-        Err(_) => None,
-    }
+    let number = measured_number(&input[at..at + len], hint)?;
+    Some((len, Some(whole_in(number)?)))
 }
 
 /// The whole number of 64 bits that a number is.
@@ -223,18 +214,35 @@ fn whole_in(number: ParsedNumber<'_>) -> Option<Whole>
     }
 }
 
+/// The length and the value of the number with a fraction or an exponent at `at`, of which this is the first byte, where the language allows it.
+#[inline(always)]
+pub(crate) fn short_decimal_in<'de>(
+    input: &'de [u8],
+    language: Language,
+    at: usize,
+    first: u8,
+) -> Option<(usize, Decimal<'de>)>
+    requires here { slice_get input.now at ≡ Some first }
+    requires number { start_of first ≡ opens_number }
+    ensures { IfSome result (λ r. (there : IsScalarThere input.now at r.0 (decimal r.1))
+        × Allows (language_of language) input.now (record { kind = there.kind; span = span_at at r.0 })) }
+{
+    let (len, whole) = short_number_in(input, language, at, first)?;
+    match whole {
+        Some(_) => None,
+        None => Some((len, decimal_at(input, at, len)?)),
+    }
+}
+
 /// The decimal of so many bytes at `at`.
 #[inline(always)]
-pub(crate) fn decimal_at<'de>(input: &'de [u8], at: usize, len: usize) -> Option<ScalarValue<'de>>
+pub(crate) fn decimal_at<'de>(input: &'de [u8], at: usize, len: usize) -> Option<Decimal<'de>>
     requires within { at + len ≤ length input.now }
     requires number { is_number (slice_range input.now at (at + len)) float ≡ true }
-    ensures value { IfSome result (λ v. scalar_value_of v ≡ decimal (borrowed (slice_range input.now at (at + len)))) }
-    ensures number { let text = slice_range input.now at (at + len) in OnSome result (spec_number text float ≡ Some (spec_decimal text)) }
+    ensures { let text = slice_range input.now at (at + len) in IfSome result
+        (λ d. (d ≡ borrowed text) × (spec_number text float ≡ Some (spec_decimal text))) }
 {
-    match parse_measured(input, at, at + len, NumberHint::Float) {
-        Ok(ParsedNumber::Decimal(decimal)) => Some(ScalarValue::Decimal(decimal)),
-        _ => None,
-    }
+    measured_decimal(&input[at..at + len])
 }
 
 /// The value of one to sixteen decimal digits at `at`, where eight bytes stand.
@@ -286,54 +294,35 @@ fn eight_bytes(input: &[u8], at: usize) -> u64
     }
 }
 
-/// The length and the value of the number at `at`, of which this is the first byte, where it is at most fifteen digits, perhaps
-/// after a minus, and enough bytes stand there.
-#[inline(always)]
-pub(crate) fn whole_number<'de>(input: &'de [u8], at: usize, first: u8) -> Option<Measured<'de>>
-    requires here { slice_get input.now at ≡ Some first }
-    requires number { start_of first ≡ opens_number }
-    ensures there { IfSome result (λ r. IsScalarThere input.now at r.0 (scalar_value_of r.1)) }
-    ensures digits { IfSome result (λ r. SomeDigits (slice_range input.now (digits_from at first) (at + r.0))) }
-{
-    if input.len() - at < 17 {
-        return None;
-    }
-    if first == b'-' {
-        negative_there(input, at)
-    } else {
-        digits_there(input, at, first)
-    }
-}
-
 /// The same for digits alone.
 #[inline(always)]
-fn digits_there<'de>(input: &'de [u8], at: usize, first: u8) -> Option<Measured<'de>>
+fn digits_there(input: &[u8], at: usize, first: u8) -> Option<(usize, Whole)>
     requires here { slice_get input.now at ≡ Some first }
     requires number { start_of first ≡ opens_number }
     requires no_minus { first ≢ minus }
     requires room { at + 17 ≤ length input.now }
-    ensures there { IfSome result (λ r. IsScalarThere input.now at r.0 (scalar_value_of r.1)) }
+    ensures there { IfSome result (λ r. IsScalarThere input.now at r.0 (whole_scalar r.1)) }
     ensures digits { IfSome result (λ r. SomeDigits (slice_range input.now at (at + r.0))) }
 {
     match whole_len(input, at) {
-        Some(len) => Some((len, ScalarValue::U64(digits_at(input, at, len)))),
+        Some(len) => Some((len, Whole::Unsigned(digits_at(input, at, len)))),
         None => None,
     }
 }
 
 /// The same for digits after a minus.
 #[inline(always)]
-fn negative_there<'de>(input: &'de [u8], at: usize) -> Option<Measured<'de>>
+fn negative_there(input: &[u8], at: usize) -> Option<(usize, Whole)>
     requires here { slice_get input.now at ≡ Some minus }
     requires room { at + 17 ≤ length input.now }
-    ensures there { IfSome result (λ r. IsScalarThere input.now at r.0 (scalar_value_of r.1)) }
+    ensures there { IfSome result (λ r. IsScalarThere input.now at r.0 (whole_scalar r.1)) }
     ensures digits { IfSome result (λ r. SomeDigits (slice_range input.now (at + 1) (at + r.0))) }
 {
     let Some(len) = whole_len(input, at + 1) else {
         return None;
     };
     match negated(digits_at(input, at + 1, len)) {
-        Some(value) => Some((len + 1, ScalarValue::I64(value))),
+        Some(value) => Some((len + 1, Whole::Signed(value))),
         None => None,
     }
 }

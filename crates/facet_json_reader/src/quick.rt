@@ -224,15 +224,12 @@ impl Reader {
         let (len, whole) = short_number_in(input, language, at, first)?;
         match whole {
             Some(whole) => Some(self.pass_scalar(whole.scalar(), Span::new(at, len))),
-            None => {
-                let event = self.pass_decimal(input, at, len);
-                event
-            }
+            None => self.pass_decimal(input, at, len),
         }
     }
 
-    /// Passes the decimal of so many bytes that stands here. The answer is a value of its own where this is called: so no other event needs memory.
-    #[inline(never)]
+    /// Passes the decimal of so many bytes that stands here. The answer is a value of its own, so that no other event needs memory.
+    #[inline(always)]
     fn pass_decimal<'de>(
         &mut self,
         input: &'de [u8],
@@ -245,8 +242,26 @@ impl Reader {
             (span_at at len) (span_at at len) (event_of e) self.new) }
         ensures number { let text = slice_range input.now at (at + len) in OnSome result (spec_number text float ≡ Some (spec_decimal text)) }
     {
-        let value = decimal_at(input, at, len)?;
-        Some(self.pass_scalar(value, Span::new(at, len)))
+        let event = self.pass_decimal_by_call(input, at, len);
+        event
+    }
+
+    /// The same by a call.
+    #[inline(never)]
+    fn pass_decimal_by_call<'de>(
+        &mut self,
+        input: &'de [u8],
+        at: usize,
+        len: usize,
+    ) -> Option<ParseEvent<'de>>
+        requires within { at + len ≤ length input.now }
+        requires number { is_number (slice_range input.now at (at + len)) float ≡ true }
+        ensures event { MatchOption result (self.new ≡ self.old) (λ e. Leaves self.old (scalar (decimal (borrowed (slice_range input.now at (at + len)))))
+            (span_at at len) (span_at at len) (event_of e) self.new) }
+        ensures number { let text = slice_range input.now at (at + len) in OnSome result (spec_number text float ≡ Some (spec_decimal text)) }
+    {
+        let decimal = decimal_at(input, at, len)?;
+        Some(self.pass_scalar(ScalarValue::Decimal(decimal), Span::new(at, len)))
     }
 
     /// Passes a bracket that opens a container, where there is memory for it.

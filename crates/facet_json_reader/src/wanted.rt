@@ -8,10 +8,10 @@ ghost use Rattle.facet_json_reader.specs.PlaceViews.{language_of};
 ghost use Rattle.facet_json_reader.specs.Inner.Quick.{PassesQuickly};
 
 use crate::language::Language;
-use crate::number::{Whole, short_whole_in};
+use crate::number::{Whole, short_decimal_in, short_whole_in};
 use crate::reader::{Reader, Stage};
 use crate::text::text_at;
-use facet_format::{ContainerKind, Span};
+use facet_format::{ContainerKind, Decimal, Span};
 use facet_json_token::Trust;
 
 /// What a caller may want next.
@@ -107,6 +107,32 @@ impl<'de> Wanted<'de> for Whole {
                 let span = Span::new(at, len);
                 reader.move_past(span);
                 Some((whole, span))
+            }
+            _ => None,
+        }
+    }
+}
+
+/// A number with a fraction or an exponent.
+impl<'de> Wanted<'de> for Decimal<'de> {
+    ghost use Rattle.facet_format.specs.Event.{scalar, decimal};
+
+    ghost kind = { λ d. scalar (decimal d) };
+
+    #[inline(always)]
+    fn pass(
+        reader: &mut Reader,
+        input: &'de [u8],
+        language: Language,
+        _trust: Trust,
+    ) -> Option<(Decimal<'de>, Span)> {
+        let (at, first) = reader.value_start(input, language)?;
+        match first {
+            b'-' | b'0'..=b'9' => {
+                let (len, decimal) = short_decimal_in(input, language, at, first)?;
+                let span = Span::new(at, len);
+                reader.move_past(span);
+                Some((decimal, span))
             }
             _ => None,
         }

@@ -4,15 +4,12 @@ use Rattle.facet_json_token.specs.declared.token.Token.{Token as RustToken}
 use Rattle.facet_json_token.specs.declared.token.Token.TheVariants as code
 use Rattle.facet_json_token.specs.declared.token.SpannedToken.{SpannedToken}
 use Rattle.facet_json_token.specs.declared.token.ScanErrorKind.{ScanErrorKind}
-use Rattle.facet_json_token.specs.declared.token.ScanErrorKind.TheVariants as scan
 use Rattle.facet_json_token.specs.declared.token.ScanError.{ScanError}
 use Rattle.facet_format.specs.Span.{Span}
 use Rattle.facet_format.specs.Views.{span_of}
-use Rattle.facet_json_token.specs.Token.{Kind}
-use Rattle.facet_json_token.specs.Token as token
-use Rattle.facet_json_token.specs.declared.token.ScanErrorKind.TheVariants.{InvalidUtf8}
+use Rattle.facet_json_token.specs.Token.{Kind, FaultKind}
 use Rattle.facet_json_scan.specs.Scanner.{ScanAnswer, needs_more, ended, cuts, refuses}
-use Rattle.facet_json_token.specs.Views.{kind_of}
+use Rattle.facet_json_token.specs.Views.{kind_of, error_says}
 
 -- a token of this kind, or no answer
 abbrev pub cut_answer : Span → Option Kind → Option ScanAnswer
@@ -24,10 +21,13 @@ token_answered s code.Eof = Some (ended s)
 token_answered s (code.NeedMore consumed) = Some (needs_more consumed s)
 token_answered s t = cut_answer s (kind_of t)
 
+-- what is wrong, or no answer
+abbrev pub refused_answer : Span → Option FaultKind → Option ScanAnswer
+refused_answer s None = None
+refused_answer s (Some kind) = Some (refuses (record { kind = kind; span = s }))
+
 abbrev pub fault_answered : Span → ScanErrorKind → Option ScanAnswer
-fault_answered s (scan.UnexpectedChar c) = Some (refuses (record { kind = token.unexpected_char c; span = s }))
-fault_answered s (scan.UnexpectedEof text) = Some (refuses (record { kind = token.unexpected_eof text.now; span = s }))
-fault_answered s scan.InvalidUtf8 = None
+fault_answered s e = refused_answer s (error_says e)
 
 -- what a scan answers; a text that isn't UTF-8 is no answer of the definitions
 abbrev pub answered : Result SpannedToken ScanError → Option ScanAnswer

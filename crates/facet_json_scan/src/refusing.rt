@@ -8,9 +8,11 @@ ghost use Rattle.facet_json_token.specs.Decoded.{decoded};
 ghost use Rattle.facet_json_token.specs.DecodeViews.{TellsFirstFault};
 ghost use Rattle.facet_json_token.specs.RfcNumber.{IsRfcNumber};
 ghost use Rattle.facet_json_token.specs.Strict.{content_fault};
-ghost use Rattle.facet_json_token.specs.StrictViews.{TellsWrong, number_refused};
+ghost use Rattle.facet_json_token.specs.NumberViews.{number_refusal};
+ghost use Rattle.facet_json_token.specs.StrictViews.{TellsWrong};
 ghost use Rattle.facet_json_token.specs.Views.{cut_of, mode_of, scanned};
 
+use facet_json_token::quick::{past_space, token_in_sight};
 use facet_json_token::{CutResult, Mode, ScanError, ScanResult, Token};
 
 /// What is cut, as users see it.
@@ -35,6 +37,32 @@ pub(crate) fn told(cut: CutResult) -> ScanResult
 /// ```
 #[inline(always)]
 pub fn cut(buffer: &[u8], position: usize, mode: Mode) -> ScanResult
+    requires { position ≤ length buffer.now }
+    ensures answer { scanned result ≡ Some (spec_cut.cut buffer.now position (mode_of mode)) }
+    ensures end { IfOk result (λ t. t.token ≡ Token.Eof → span_of t.span ≡ span_at (length buffer.now) 0) }
+{
+    let at = past_space(buffer, position);
+    match token_in_sight(buffer, at) {
+        Some(token) => Ok(token),
+        None => cut_apart(buffer, at, mode),
+    }
+}
+
+/// The same, apart from the code that cuts what is in sight: its answer is a value of its own, so that a token in sight, which never passes
+/// through this, needs no memory.
+#[inline(always)]
+fn cut_apart(buffer: &[u8], position: usize, mode: Mode) -> ScanResult
+    requires { position ≤ length buffer.now }
+    ensures answer { scanned result ≡ Some (spec_cut.cut buffer.now position (mode_of mode)) }
+    ensures end { IfOk result (λ t. t.token ≡ Token.Eof → span_of t.span ≡ span_at (length buffer.now) 0) }
+{
+    let result = cut_out_of_line(buffer, position, mode);
+    result
+}
+
+/// The same by a call.
+#[inline(never)]
+fn cut_out_of_line(buffer: &[u8], position: usize, mode: Mode) -> ScanResult
     requires { position ≤ length buffer.now }
     ensures answer { scanned result ≡ Some (spec_cut.cut buffer.now position (mode_of mode)) }
     ensures end { IfOk result (λ t. t.token ≡ Token.Eof → span_of t.span ≡ span_at (length buffer.now) 0) }
@@ -93,7 +121,7 @@ pub fn check_number_strict(buf: &[u8], start: usize, end: usize) -> Result<(), S
     requires within { end ≤ length buf.now }
     ensures { let text = slice_range buf.now start end in MatchResult result
         (λ _. IsRfcNumber text)
-        (λ e. (IsRfcNumber text → ⊥) × (e ≡ number_refused start end)) }
+        (λ e. (IsRfcNumber text → ⊥) × (e ≡ number_refusal start end)) }
 {
     match facet_json_token::check_number_strict(buf, start, end) {
         Ok(()) => Ok(()),

@@ -7,7 +7,7 @@ ghost use Rattle.facet_json_core.specs.Report.{report_text};
 ghost use Rattle.facet_json_serde.specs.Messages.{message};
 ghost use Rattle.facet_json_serde.specs.Within.{LiesWithin};
 
-use crate::fault::{Detail, Fault, FaultKind, Refusal, Sort, WriteFault};
+use crate::fault::{Detail, ReadFault, ReadFaultKind, Refusal, Sort, WriteFault};
 use facet_format::{DeserializeErrorKind, ParseError, Span};
 use facet_json_core::{JsonErrorKind, Place};
 use std::fmt;
@@ -57,8 +57,8 @@ impl<'t> From<ParseError<'t>> for Error<'t> {
     }
 }
 
-impl<'t> From<Fault> for Error<'t> {
-    fn from(fault: Fault) -> Error<'t> {
+impl<'t> From<ReadFault> for Error<'t> {
+    fn from(fault: ReadFault) -> Error<'t> {
         Error {
             kind: kind_of(&fault),
             span: fault.span,
@@ -111,24 +111,24 @@ impl<'t> Error<'t> {
 }
 
 /// What a fault is called.
-fn kind_of<'t>(fault: &Fault) -> ErrorKind<'t> {
+fn kind_of<'t>(fault: &ReadFault) -> ErrorKind<'t> {
     match fault.kind {
-        FaultKind::Parser | FaultKind::Ended => {
+        ReadFaultKind::Parser | ReadFaultKind::Ended => {
             ErrorKind::Read(DeserializeErrorKind::UnexpectedEof { expected: "value" })
         }
-        FaultKind::Mismatch(wanted, found) => mismatch_of(wanted, found),
-        FaultKind::OutOfRange(wanted) => ErrorKind::Read(DeserializeErrorKind::NumberOutOfRange {
+        ReadFaultKind::Mismatch(wanted, found) => mismatch_of(wanted, found),
+        ReadFaultKind::OutOfRange(wanted) => ErrorKind::Read(DeserializeErrorKind::NumberOutOfRange {
             target_type: wanted.name(),
         }),
-        FaultKind::Memory => ErrorKind::Read(DeserializeErrorKind::OutOfMemory),
-        FaultKind::Trailing => ErrorKind::TrailingCharacters,
-        FaultKind::MissingField => ErrorKind::MissingField(fault.detail()),
-        FaultKind::DuplicateField => ErrorKind::DuplicateField(fault.detail()),
-        FaultKind::UnknownField => ErrorKind::UnknownField,
-        FaultKind::UnknownVariant => ErrorKind::UnknownVariant,
-        FaultKind::InvalidLength => ErrorKind::InvalidLength,
-        FaultKind::InvalidValue => ErrorKind::InvalidValue,
-        FaultKind::Custom => ErrorKind::Custom(fault.detail()),
+        ReadFaultKind::Memory => ErrorKind::Read(DeserializeErrorKind::OutOfMemory),
+        ReadFaultKind::Trailing => ErrorKind::TrailingCharacters,
+        ReadFaultKind::MissingField => ErrorKind::MissingField(fault.detail()),
+        ReadFaultKind::DuplicateField => ErrorKind::DuplicateField(fault.detail()),
+        ReadFaultKind::UnknownField => ErrorKind::UnknownField,
+        ReadFaultKind::UnknownVariant => ErrorKind::UnknownVariant,
+        ReadFaultKind::InvalidLength => ErrorKind::InvalidLength,
+        ReadFaultKind::InvalidValue => ErrorKind::InvalidValue,
+        ReadFaultKind::Custom => ErrorKind::Custom(fault.detail()),
     }
 }
 

@@ -101,7 +101,7 @@ impl Sort {
 
 /// What is wrong.
 #[derive(Debug, Clone, Copy, Drop)]
-pub(crate) enum FaultKind {
+pub(crate) enum ReadFaultKind {
     /// The parser refused, and repeats it when it is asked.
     Parser,
     /// The document is over.
@@ -132,19 +132,19 @@ pub(crate) enum FaultKind {
 
 /// What is wrong, and where: the error of `Json`'s steps. `Error` is the same with its words: `Json::told` gives it.
 #[derive(Debug, Drop)]
-pub struct Fault {
-    pub(crate) kind: FaultKind,
+pub struct ReadFault {
+    pub(crate) kind: ReadFaultKind,
     pub(crate) span: Option<Span>,
     /// The field that it is about, or what a type says: boxed, since each step of each type hands the fault on.
     pub(crate) detail: Option<Box<Detail>>,
 }
 
-impl Fault {
+impl ReadFault {
     /// The fault at these bytes of the input.
     #[cold]
     #[inline(never)]
-    pub(crate) fn at(kind: FaultKind, span: Span) -> Fault {
-        Fault {
+    pub(crate) fn at(kind: ReadFaultKind, span: Span) -> ReadFault {
+        ReadFault {
             kind,
             span: Some(span),
             detail: None,
@@ -154,8 +154,8 @@ impl Fault {
     /// The fault that is about no bytes of an input.
     #[cold]
     #[inline(never)]
-    pub(crate) fn of(kind: FaultKind) -> Fault {
-        Fault {
+    pub(crate) fn of(kind: ReadFaultKind) -> ReadFault {
+        ReadFault {
             kind,
             span: None,
             detail: None,
@@ -163,13 +163,13 @@ impl Fault {
     }
 
     /// The same fault, about this; a refused allocation where there is no memory to say it.
-    pub(crate) fn about(self, alloc: Global, detail: &str) -> Fault {
+    pub(crate) fn about(self, alloc: Global, detail: &str) -> ReadFault {
         match Box::new(alloc, Detail::of(detail)) {
-            Ok(detail) => Fault {
+            Ok(detail) => ReadFault {
                 detail: Some(detail),
                 ..self
             },
-            Err(_) => Fault::of(FaultKind::Memory),
+            Err(_) => ReadFault::of(ReadFaultKind::Memory),
         }
     }
 
@@ -185,7 +185,7 @@ impl Fault {
     pub(crate) fn is_final(&self) -> bool {
         matches!(
             self.kind,
-            FaultKind::Parser | FaultKind::Ended | FaultKind::Memory
+            ReadFaultKind::Parser | ReadFaultKind::Ended | ReadFaultKind::Memory
         )
     }
 }

@@ -5,7 +5,7 @@ ghost use Rattle.std.specs.Cow.{cow_str_bytes};
 ghost use Rattle.serde.specs.Event.{boolean, signed, unsigned, text, seq_begins, seq_ends, map_begins, struct_begins};
 ghost use Rattle.facet_json_serde.specs.Ahead.{Gives, Picks, Stays, Shows, BeginsList};
 
-use crate::fault::{Fault, FaultKind, Sort};
+use crate::fault::{ReadFault, ReadFaultKind, Sort};
 use crate::found::{digits_in, kind_of, number_in, number_key};
 use crate::json::{Ahead, Json};
 use facet_format::{ParseEvent, ParseEventKind, ScalarValue, Span};
@@ -17,76 +17,76 @@ use std::borrow::CowStr;
 /// A number that the type cannot hold.
 #[cold]
 #[inline(never)]
-fn out_of_range(wanted: Sort, span: Span) -> Fault {
-    Fault::at(FaultKind::OutOfRange(wanted), span)
+fn out_of_range(wanted: Sort, span: Span) -> ReadFault {
+    ReadFault::at(ReadFaultKind::OutOfRange(wanted), span)
 }
 
 /// The text, in memory of its own.
 #[inline(always)]
-fn owned(alloc: Global, text: CowStr<'_>) -> Result<String, Fault>
+fn owned(alloc: Global, text: CowStr<'_>) -> Result<String, ReadFault>
     ensures { IfOk result (λ s. string_bytes s ≡ cow_str_bytes text.entry) }
 {
     match text.into_owned(alloc) {
         Ok(text) => Ok(text),
-        Err(_) => Err(Fault::of(FaultKind::Memory)),
+        Err(_) => Err(ReadFault::of(ReadFaultKind::Memory)),
     }
 }
 
 impl<'de> Json<'de> {
     /// A key as a bool.
-    fn bool_key(&mut self, input: &[u8]) -> Result<bool, Fault>
+    fn bool_key(&mut self, input: &[u8]) -> Result<bool, ReadFault>
         requires { self.now.at_key ≡ true }
         ensures { IfOk result (λ v. Gives self.old input.now (boolean v) self.new) }
     {
         let text = self.text(input)?;
         match text.as_str().parse::<bool>() {
             Ok(b) => Ok(b),
-            Err(_) => Err(self.error(FaultKind::InvalidValue)),
+            Err(_) => Err(self.error(ReadFaultKind::InvalidValue)),
         }
     }
 
     /// A key as a whole number.
-    fn signed_key(&mut self, input: &[u8]) -> Result<i64, Fault>
+    fn signed_key(&mut self, input: &[u8]) -> Result<i64, ReadFault>
         requires { self.now.at_key ≡ true }
         ensures { IfOk result (λ v. Gives self.old input.now (signed v) self.new) }
     {
         let text = self.text(input)?;
-        let number = number_key(text.as_str()).ok_or(self.error(FaultKind::InvalidValue))?;
+        let number = number_key(text.as_str()).ok_or(self.error(ReadFaultKind::InvalidValue))?;
         match fast_float::parse_i64(number) {
             Ok(n) => Ok(n),
-            Err(_) => Err(self.error(FaultKind::InvalidValue)),
+            Err(_) => Err(self.error(ReadFaultKind::InvalidValue)),
         }
     }
 
     /// A key as a whole number without a sign.
-    fn unsigned_key(&mut self, input: &[u8]) -> Result<u64, Fault>
+    fn unsigned_key(&mut self, input: &[u8]) -> Result<u64, ReadFault>
         requires { self.now.at_key ≡ true }
         ensures { IfOk result (λ v. Gives self.old input.now (unsigned v) self.new) }
     {
         let text = self.text(input)?;
-        let number = number_key(text.as_str()).ok_or(self.error(FaultKind::InvalidValue))?;
+        let number = number_key(text.as_str()).ok_or(self.error(ReadFaultKind::InvalidValue))?;
         match fast_float::parse_u64(number) {
             Ok(n) => Ok(n),
-            Err(_) => Err(self.error(FaultKind::InvalidValue)),
+            Err(_) => Err(self.error(ReadFaultKind::InvalidValue)),
         }
     }
 
     /// Where the text of the last event stands in the input, after its quote. In an input that is not the parser's it may stand nowhere.
     #[inline(always)]
-    fn place_of(&self, text: &str, input: &[u8]) -> Result<(usize, usize), Fault>
+    fn place_of(&self, text: &str, input: &[u8]) -> Result<(usize, usize), ReadFault>
         ensures { IfOk result (λ r. slice_range input.now r.0 r.1 ≡ text.now) }
     {
         let start = self.last.offset.saturating_add(1);
         let end = start.saturating_add(text.len());
         match input.get(start..end) {
             Some(bytes) if bytes == text.as_bytes() => Ok((start, end)),
-            _ => Err(self.error(FaultKind::InvalidValue)),
+            _ => Err(self.error(ReadFaultKind::InvalidValue)),
         }
     }
 
     /// A truth value, by an event.
     #[inline(never)]
-    fn bool_slowly(&mut self) -> Result<bool, Fault>
+    fn bool_slowly(&mut self) -> Result<bool, ReadFault>
         ensures { IfOk result (λ v. Gives self.old [] (boolean v) self.new) }
     {
         let ParseEvent { kind, span } = self.take()?;
@@ -98,7 +98,7 @@ impl<'de> Json<'de> {
 
     /// A whole number, by an event.
     #[inline(never)]
-    fn i64_slowly(&mut self) -> Result<i64, Fault>
+    fn i64_slowly(&mut self) -> Result<i64, ReadFault>
         ensures { IfOk result (λ v. Gives self.old [] (signed v) self.new) }
     {
         let ParseEvent { kind, span } = self.take()?;
@@ -114,7 +114,7 @@ impl<'de> Json<'de> {
 
     /// A whole number without a sign, by an event.
     #[inline(never)]
-    fn u64_slowly(&mut self) -> Result<u64, Fault>
+    fn u64_slowly(&mut self) -> Result<u64, ReadFault>
         ensures { IfOk result (λ v. Gives self.old [] (unsigned v) self.new) }
     {
         let ParseEvent { kind, span } = self.take()?;
@@ -130,7 +130,7 @@ impl<'de> Json<'de> {
 
     /// A text in memory of its own, as a value or as a key, by an event.
     #[inline(never)]
-    fn string_slowly(&mut self, alloc: Global, input: &[u8]) -> Result<String, Fault>
+    fn string_slowly(&mut self, alloc: Global, input: &[u8]) -> Result<String, ReadFault>
         ensures { IfOk result (λ v. Gives self.old [] (text (string_bytes v)) self.new) }
     {
         owned(alloc, self.text(input)?)
@@ -138,7 +138,7 @@ impl<'de> Json<'de> {
 
     /// The beginning of a list, by an event.
     #[inline(never)]
-    fn begin_seq_slowly(&mut self) -> Result<(), Fault>
+    fn begin_seq_slowly(&mut self) -> Result<(), ReadFault>
         ensures { OnOk result (Gives self.old [] (seq_begins None) self.new) }
     {
         let ParseEvent { kind, span } = self.take()?;
@@ -150,7 +150,7 @@ impl<'de> Json<'de> {
 
     /// Whether an item comes, which stays the next one, by an event.
     #[inline(never)]
-    fn next_item_slowly(&mut self) -> Result<bool, Fault>
+    fn next_item_slowly(&mut self) -> Result<bool, ReadFault>
         ensures { IfOk result (λ b. MatchBool b (Stays self.old self.new)
             (Gives self.old [] seq_ends self.new)) }
     {
@@ -164,7 +164,7 @@ impl<'de> Json<'de> {
 
     /// The beginning of a map, by an event.
     #[inline(never)]
-    fn begin_map_slowly(&mut self) -> Result<(), Fault>
+    fn begin_map_slowly(&mut self) -> Result<(), ReadFault>
         ensures { OnOk result (Gives self.old [] (map_begins None) self.new) }
     {
         let ParseEvent { kind, span } = self.take()?;
@@ -176,7 +176,7 @@ impl<'de> Json<'de> {
 
     /// The beginning of a map, or of a list, by an event.
     #[inline(never)]
-    fn begin_struct_slowly(&mut self) -> Result<bool, Fault>
+    fn begin_struct_slowly(&mut self) -> Result<bool, ReadFault>
         ensures { IfOk result (λ b. Gives self.old [] (struct_begins b) self.new) }
     {
         let ParseEvent { kind, span } = self.take()?;
@@ -188,7 +188,7 @@ impl<'de> Json<'de> {
     }
 
     /// The next byte of a list of bytes, or `None` at its end, which it takes.
-    fn next_byte(&mut self, input: &[u8]) -> Result<Option<u8>, Fault> {
+    fn next_byte(&mut self, input: &[u8]) -> Result<Option<u8>, ReadFault> {
         if !self.next_item(input)? {
             return Ok(None);
         }
@@ -199,7 +199,7 @@ impl<'de> Json<'de> {
     }
 
     /// A list of bytes.
-    fn byte_list(&mut self, alloc: Global, input: &[u8]) -> Result<Vec<u8>, Fault>
+    fn byte_list(&mut self, alloc: Global, input: &[u8]) -> Result<Vec<u8>, ReadFault>
         ensures { OnOk result
             (Shows self.old (λ shown. BeginsList shown.kind) self.old) }
     {
@@ -210,7 +210,7 @@ impl<'de> Json<'de> {
                 break;
             };
             if bytes.push(byte).is_err() {
-                return Err(Fault::of(FaultKind::Memory));
+                return Err(ReadFault::of(ReadFaultKind::Memory));
             }
         }
         Ok(bytes)
@@ -218,7 +218,7 @@ impl<'de> Json<'de> {
 }
 
 impl<'de> Format for Json<'de> {
-    type Error = Fault;
+    type Error = ReadFault;
 
     type Mark = usize;
 
@@ -229,7 +229,7 @@ impl<'de> Format for Json<'de> {
     ghost stays = { Stays };
 
     #[inline(always)]
-    fn bool(&mut self, input: &[u8]) -> Result<bool, Fault> {
+    fn bool(&mut self, input: &[u8]) -> Result<bool, ReadFault> {
         if self.at_key {
             return Ok(self.bool_key(input)?);
         }
@@ -240,7 +240,7 @@ impl<'de> Format for Json<'de> {
     }
 
     #[inline(always)]
-    fn i64(&mut self, input: &[u8]) -> Result<i64, Fault> {
+    fn i64(&mut self, input: &[u8]) -> Result<i64, ReadFault> {
         if self.at_key {
             return Ok(self.signed_key(input)?);
         }
@@ -255,7 +255,7 @@ impl<'de> Format for Json<'de> {
     }
 
     #[inline(always)]
-    fn u64(&mut self, input: &[u8]) -> Result<u64, Fault> {
+    fn u64(&mut self, input: &[u8]) -> Result<u64, ReadFault> {
         if self.at_key {
             return Ok(self.unsigned_key(input)?);
         }
@@ -269,7 +269,7 @@ impl<'de> Format for Json<'de> {
         }
     }
 
-    fn i128(&mut self, input: &[u8]) -> Result<i128, Fault> {
+    fn i128(&mut self, input: &[u8]) -> Result<i128, ReadFault> {
         let at_key = self.at_key;
         self.at_key = false;
         let event = self.take()?;
@@ -287,7 +287,7 @@ impl<'de> Format for Json<'de> {
         }
     }
 
-    fn u128(&mut self, input: &[u8]) -> Result<u128, Fault> {
+    fn u128(&mut self, input: &[u8]) -> Result<u128, ReadFault> {
         let at_key = self.at_key;
         self.at_key = false;
         let event = self.take()?;
@@ -307,7 +307,7 @@ impl<'de> Format for Json<'de> {
         }
     }
 
-    fn f32(&mut self, input: &[u8]) -> Result<f32, Fault> {
+    fn f32(&mut self, input: &[u8]) -> Result<f32, ReadFault> {
         let at_key = self.at_key;
         self.at_key = false;
         let event = self.take()?;
@@ -320,7 +320,7 @@ impl<'de> Format for Json<'de> {
         }
     }
 
-    fn f64(&mut self, input: &[u8]) -> Result<f64, Fault> {
+    fn f64(&mut self, input: &[u8]) -> Result<f64, ReadFault> {
         let at_key = self.at_key;
         self.at_key = false;
         let event = self.take()?;
@@ -333,27 +333,27 @@ impl<'de> Format for Json<'de> {
         }
     }
 
-    fn char(&mut self, input: &[u8]) -> Result<char, Fault> {
+    fn char(&mut self, input: &[u8]) -> Result<char, ReadFault> {
         match self.text(input)?.as_str().parse::<char>() {
             Ok(c) => Ok(c),
-            Err(_) => Err(self.error(FaultKind::InvalidValue)),
+            Err(_) => Err(self.error(ReadFaultKind::InvalidValue)),
         }
     }
 
     #[inline(always)]
-    fn plain_str(&mut self, input: &[u8]) -> Result<(usize, usize), Fault> {
+    fn plain_str(&mut self, input: &[u8]) -> Result<(usize, usize), ReadFault> {
         match self.text(input)? {
             CowStr::Borrowed(text) => self.place_of(text, input),
-            CowStr::Owned(_) => Err(self.error(FaultKind::InvalidValue)),
+            CowStr::Owned(_) => Err(self.error(ReadFaultKind::InvalidValue)),
         }
     }
 
-    fn plain_bytes(&mut self, input: &[u8]) -> Result<(usize, usize), Fault> {
+    fn plain_bytes(&mut self, input: &[u8]) -> Result<(usize, usize), ReadFault> {
         self.plain_str(input)
     }
 
     #[inline(always)]
-    fn string(&mut self, alloc: Global, input: &[u8]) -> Result<String, Fault> {
+    fn string(&mut self, alloc: Global, input: &[u8]) -> Result<String, ReadFault> {
         if !self.at_key {
             if let Some(text) = self.wanted() {
                 return owned(alloc, CowStr::Borrowed(text));
@@ -362,38 +362,38 @@ impl<'de> Format for Json<'de> {
         Ok(self.string_slowly(alloc, input)?)
     }
 
-    fn byte_buf(&mut self, alloc: Global, input: &[u8]) -> Result<Vec<u8>, Fault> {
+    fn byte_buf(&mut self, alloc: Global, input: &[u8]) -> Result<Vec<u8>, ReadFault> {
         if let Kind::Str = self.peek(input)? {
             return Ok(self.string(alloc, input)?.into_bytes());
         }
         self.byte_list(alloc, input)
     }
 
-    fn peek(&mut self, input: &[u8]) -> Result<Kind, Fault> {
+    fn peek(&mut self, input: &[u8]) -> Result<Kind, ReadFault> {
         self.look()?;
         let found = match &self.ahead {
             Ahead::Event(event) => kind_of(event, self.at_key, input),
-            Ahead::Stopped(kind, span) => return Err(Fault::at(*kind, *span)),
+            Ahead::Stopped(kind, span) => return Err(ReadFault::at(*kind, *span)),
             Ahead::Nothing => None,
         };
         match found {
             Some(kind) => Ok(kind),
-            None => Err(self.error(FaultKind::InvalidValue)),
+            None => Err(self.error(ReadFaultKind::InvalidValue)),
         }
     }
 
     #[inline(always)]
-    fn take_unit(&mut self, _input: &[u8]) -> Result<bool, Fault> {
+    fn take_unit(&mut self, _input: &[u8]) -> Result<bool, ReadFault> {
         self.passes_null()
     }
 
     #[inline(always)]
-    fn take_none(&mut self, _input: &[u8]) -> Result<bool, Fault> {
+    fn take_none(&mut self, _input: &[u8]) -> Result<bool, ReadFault> {
         self.passes_null()
     }
 
     #[inline(always)]
-    fn begin_seq(&mut self, _input: &[u8]) -> Result<(), Fault> {
+    fn begin_seq(&mut self, _input: &[u8]) -> Result<(), ReadFault> {
         match self.wanted() {
             Some(ListStart) => Ok(()),
             None => Ok(self.begin_seq_slowly()?),
@@ -401,7 +401,7 @@ impl<'de> Format for Json<'de> {
     }
 
     #[inline(always)]
-    fn next_item(&mut self, _input: &[u8]) -> Result<bool, Fault> {
+    fn next_item(&mut self, _input: &[u8]) -> Result<bool, ReadFault> {
         if self.other_comes(Sought::ListEnd) {
             return Ok(true);
         }
@@ -412,7 +412,7 @@ impl<'de> Format for Json<'de> {
     }
 
     /// An item that comes is one too many, and the error is about it.
-    fn end_tuple(&mut self, _input: &[u8]) -> Result<(), Fault> {
+    fn end_tuple(&mut self, _input: &[u8]) -> Result<(), ReadFault> {
         if self.next_item_slowly()? {
             Err(self.wrong_len())
         } else {
@@ -421,7 +421,7 @@ impl<'de> Format for Json<'de> {
     }
 
     #[inline(always)]
-    fn begin_map(&mut self, _input: &[u8]) -> Result<(), Fault> {
+    fn begin_map(&mut self, _input: &[u8]) -> Result<(), ReadFault> {
         match self.wanted() {
             Some(ObjectStart) => Ok(()),
             None => Ok(self.begin_map_slowly()?),
@@ -429,7 +429,7 @@ impl<'de> Format for Json<'de> {
     }
 
     #[inline(always)]
-    fn begin_struct(&mut self, _input: &[u8]) -> Result<bool, Fault> {
+    fn begin_struct(&mut self, _input: &[u8]) -> Result<bool, ReadFault> {
         match self.wanted() {
             Some(ObjectStart) => Ok(false),
             None => Ok(self.begin_struct_slowly()?),
@@ -437,14 +437,14 @@ impl<'de> Format for Json<'de> {
     }
 
     #[inline(always)]
-    fn next_key(&mut self, _input: &[u8], names: &[Name<'_>]) -> Result<Option<usize>, Fault> {
+    fn next_key(&mut self, _input: &[u8], names: &[Name<'_>]) -> Result<Option<usize>, ReadFault> {
         match self.key()? {
             Some(key) => Ok(Some(serde::find(names, key.as_str()))),
             None => Ok(None),
         }
     }
 
-    fn next_entry(&mut self, _input: &[u8]) -> Result<bool, Fault> {
+    fn next_entry(&mut self, _input: &[u8]) -> Result<bool, ReadFault> {
         let event = self.take()?;
         match &event.kind {
             ParseEventKind::FieldKey(_) => {
@@ -457,12 +457,12 @@ impl<'de> Format for Json<'de> {
         }
     }
 
-    fn variant(&mut self, input: &[u8], names: &[Name<'_>]) -> Result<usize, Fault> {
+    fn variant(&mut self, input: &[u8], names: &[Name<'_>]) -> Result<usize, ReadFault> {
         Ok(serde::find(names, self.text(input)?.as_str()))
     }
 
     #[inline(always)]
-    fn skip(&mut self, _input: &[u8]) -> Result<(), Fault> {
+    fn skip(&mut self, _input: &[u8]) -> Result<(), ReadFault> {
         if let Ahead::Nothing = &self.ahead {
             return self.pass();
         }
@@ -492,40 +492,40 @@ impl<'de> Format for Json<'de> {
         self.forget(mark);
     }
 
-    fn is_fatal(&self, error: &Fault) -> bool {
+    fn is_fatal(&self, error: &ReadFault) -> bool {
         error.is_final()
     }
 
-    fn missing(&self, name: &str) -> Fault {
-        self.error(FaultKind::MissingField).about(self.alloc, name)
+    fn missing(&self, name: &str) -> ReadFault {
+        self.error(ReadFaultKind::MissingField).about(self.alloc, name)
     }
 
-    fn duplicate(&self, name: &str) -> Fault {
-        self.error(FaultKind::DuplicateField)
+    fn duplicate(&self, name: &str) -> ReadFault {
+        self.error(ReadFaultKind::DuplicateField)
             .about(self.alloc, name)
     }
 
-    fn unknown_key(&self) -> Fault {
-        self.error(FaultKind::UnknownField)
+    fn unknown_key(&self) -> ReadFault {
+        self.error(ReadFaultKind::UnknownField)
     }
 
-    fn unknown_variant(&self) -> Fault {
-        self.error(FaultKind::UnknownVariant)
+    fn unknown_variant(&self) -> ReadFault {
+        self.error(ReadFaultKind::UnknownVariant)
     }
 
-    fn wrong_len(&self) -> Fault {
-        self.error(FaultKind::InvalidLength)
+    fn wrong_len(&self) -> ReadFault {
+        self.error(ReadFaultKind::InvalidLength)
     }
 
-    fn invalid(&self) -> Fault {
-        self.error(FaultKind::InvalidValue)
+    fn invalid(&self) -> ReadFault {
+        self.error(ReadFaultKind::InvalidValue)
     }
 
-    fn no_memory(&self) -> Fault {
-        Fault::of(FaultKind::Memory)
+    fn no_memory(&self) -> ReadFault {
+        ReadFault::of(ReadFaultKind::Memory)
     }
 
-    fn custom(&self, message: &str) -> Fault {
-        self.error(FaultKind::Custom).about(self.alloc, message)
+    fn custom(&self, message: &str) -> ReadFault {
+        self.error(ReadFaultKind::Custom).about(self.alloc, message)
     }
 }

@@ -9,7 +9,7 @@ ghost use Rattle.serde.specs.Event.{nothing, map_ends};
 ghost use Rattle.facet_json_serde.specs.Ahead.{Stands, Stays, Reads, Passes, Gives, IsText, IsKey};
 
 use crate::error::Error;
-use crate::fault::{Fault, FaultKind, Sort};
+use crate::fault::{ReadFault, ReadFaultKind, Sort};
 use crate::found::{found_in, is_quoted};
 use facet_format::{FormatParser, ParseEvent, ParseEventKind, SavePoint, ScalarValue, Span};
 use facet_json_parser::{JsonParser, comes_other, next_wanted};
@@ -25,7 +25,7 @@ pub(crate) enum Ahead<'de> {
     /// This event, which the parser has passed.
     Event(ParseEvent<'de>),
     /// No event ever: reading failed so, and no rewind brings it back.
-    Stopped(FaultKind, Span),
+    Stopped(ReadFaultKind, Span),
 }
 
 /// A place to come back to.
@@ -76,7 +76,7 @@ impl Drop for Json<'_> {
 
 /// The text, unless it is the digits of a number that is too long for 64 bits.
 #[inline(always)]
-fn quoted<'de>(text: CowStr<'de>, input: &[u8], span: Span) -> Result<CowStr<'de>, Fault>
+fn quoted<'de>(text: CowStr<'de>, input: &[u8], span: Span) -> Result<CowStr<'de>, ReadFault>
     ensures { IfOk result (λ t. t ≡ text.entry) }
 {
     match text {
@@ -85,7 +85,7 @@ fn quoted<'de>(text: CowStr<'de>, input: &[u8], span: Span) -> Result<CowStr<'de
             if is_quoted(input, span) {
                 Ok(CowStr::Owned(text))
             } else {
-                Err(Fault::at(FaultKind::Mismatch(Sort::String, Sort::Integer), span))
+                Err(ReadFault::at(ReadFaultKind::Mismatch(Sort::String, Sort::Integer), span))
             }
         }
     }
@@ -111,7 +111,7 @@ impl<'de> Json<'de> {
     /// # Errors
     ///
     /// Another type, where `end of input` is expected, if more of the document comes; what the parser refuses; or the fault for which reading stopped.
-    pub fn finish(&mut self) -> Result<(), Fault> {
+    pub fn finish(&mut self) -> Result<(), ReadFault> {
         match &self.ahead {
             Ahead::Nothing => {}
             Ahead::Event(event) => return Err(self.mismatch(
@@ -119,12 +119,12 @@ impl<'de> Json<'de> {
                 &event.kind,
                 event.span,
             )),
-            Ahead::Stopped(kind, span) => return Err(Fault::at(*kind, *span)),
+            Ahead::Stopped(kind, span) => return Err(ReadFault::at(*kind, *span)),
         }
         match self.parser.next_event() {
             Ok(None) => Ok(()),
             Ok(Some(event)) => Err(self.mismatch(Sort::EndOfInput, &event.kind, event.span)),
-            Err(refused) => Err(self.stop(FaultKind::Parser, refused.span)),
+            Err(refused) => Err(self.stop(ReadFaultKind::Parser, refused.span)),
         }
     }
 
@@ -133,14 +133,14 @@ impl<'de> Json<'de> {
     /// # Errors
     ///
     /// As `finish`, and trailing characters at what follows. A comment is no white space.
-    pub fn finish_whole(&mut self) -> Result<(), Fault> {
+    pub fn finish_whole(&mut self) -> Result<(), ReadFault> {
         self.finish()?;
         let end = self.parser.current_span().unwrap_or(self.last).end();
         let rest = self.parser.input().unwrap_or(&[]).get(end..).unwrap_or(&[]);
         for (at, byte) in rest.iter().enumerate() {
             if !matches!(byte, b' ' | b'\t' | b'\n' | b'\r') {
                 let span = Span::new(end.saturating_add(at), rest.len().saturating_sub(at));
-                return Err(Fault::at(FaultKind::Trailing, span));
+                return Err(ReadFault::at(ReadFaultKind::Trailing, span));
             }
         }
         Ok(())
@@ -149,8 +149,8 @@ impl<'de> Json<'de> {
     /// What a fault is, in words: where the parser refused, its own.
     #[cold]
     #[inline(never)]
-    pub fn told<'t>(&mut self, fault: Fault) -> Error<'t> {
-        if let FaultKind::Parser = fault.kind {
+    pub fn told<'t>(&mut self, fault: ReadFault) -> Error<'t> {
+        if let ReadFaultKind::Parser = fault.kind {
             if let Err(refused) = self.parser.next_event() {
                 return Error::from(refused);
             }
@@ -161,18 +161,18 @@ impl<'de> Json<'de> {
     /// What was wanted, and is not there.
     #[cold]
     #[inline(never)]
-    pub(crate) fn mismatch(&self, wanted: Sort, kind: &ParseEventKind<'_>, span: Span) -> Fault {
+    pub(crate) fn mismatch(&self, wanted: Sort, kind: &ParseEventKind<'_>, span: Span) -> ReadFault {
         let is_quoted = is_quoted(self.parser.input().unwrap_or(&[]), span);
-        Fault::at(FaultKind::Mismatch(wanted, found_in(kind, is_quoted)), span)
+        ReadFault::at(ReadFaultKind::Mismatch(wanted, found_in(kind, is_quoted)), span)
     }
 
     /// What was wanted, and is not there: where a whole number stands there, it is too great.
     #[cold]
     #[inline(never)]
-    pub(crate) fn no_number(&self, wanted: Sort, kind: &ParseEventKind<'_>, span: Span) -> Fault {
+    pub(crate) fn no_number(&self, wanted: Sort, kind: &ParseEventKind<'_>, span: Span) -> ReadFault {
         let fault = self.mismatch(wanted, kind, span);
         match fault.kind {
-            FaultKind::Mismatch(_, Sort::Integer) => Fault::at(FaultKind::OutOfRange(wanted), span),
+            ReadFaultKind::Mismatch(_, Sort::Integer) => ReadFault::at(ReadFaultKind::OutOfRange(wanted), span),
             _ => fault,
         }
     }
@@ -180,16 +180,16 @@ impl<'de> Json<'de> {
     /// The fault at the last event that was taken.
     #[cold]
     #[inline(never)]
-    pub(crate) fn error(&self, kind: FaultKind) -> Fault {
-        Fault::at(kind, self.last)
+    pub(crate) fn error(&self, kind: ReadFaultKind) -> ReadFault {
+        ReadFault::at(kind, self.last)
     }
 
     /// Stops reading for good.
     #[cold]
     #[inline(never)]
-    fn stop(&mut self, kind: FaultKind, span: Span) -> Fault {
+    fn stop(&mut self, kind: ReadFaultKind, span: Span) -> ReadFault {
         self.ahead = Ahead::Stopped(kind, span);
-        Fault::at(kind, span)
+        ReadFault::at(kind, span)
     }
 
     /// Whether reading stopped for good.
@@ -199,7 +199,7 @@ impl<'de> Json<'de> {
 
     /// The parser's next event.
     #[inline(always)]
-    fn read(&mut self) -> Result<ParseEvent<'de>, Fault>
+    fn read(&mut self) -> Result<ParseEvent<'de>, ReadFault>
         ensures passes { IfOk result (λ e. PassesNext self.old.parser (event_of e) self.new.parser) }
         ensures ahead { OnOk result (self.new.ahead ≡ self.old.ahead) }
     {
@@ -208,8 +208,8 @@ impl<'de> Json<'de> {
                 self.last = event.span;
                 Ok(event)
             }
-            Ok(None) => Err(self.stop(FaultKind::Ended, Span::new(self.last.end(), 0))),
-            Err(refused) => Err(self.stop(FaultKind::Parser, refused.span)),
+            Ok(None) => Err(self.stop(ReadFaultKind::Ended, Span::new(self.last.end(), 0))),
+            Err(refused) => Err(self.stop(ReadFaultKind::Parser, refused.span)),
         }
     }
 
@@ -238,7 +238,7 @@ impl<'de> Json<'de> {
 
     /// Takes the next event.
     #[inline(always)]
-    pub(crate) fn take(&mut self) -> Result<ParseEvent<'de>, Fault>
+    pub(crate) fn take(&mut self) -> Result<ParseEvent<'de>, ReadFault>
         ensures passes { IfOk result (λ e. Passes self.old (event_of e) self.new) }
         ensures free { OnOk result (self.new.ahead ≡ Ahead.Nothing) }
     {
@@ -249,7 +249,7 @@ impl<'de> Json<'de> {
     }
 
     /// Takes the event that is ahead.
-    fn take_ahead(&mut self) -> Result<ParseEvent<'de>, Fault>
+    fn take_ahead(&mut self) -> Result<ParseEvent<'de>, ReadFault>
         ensures passes { IfOk result (λ e. Passes self.old (event_of e) self.new) }
         ensures free { OnOk result (self.new.ahead ≡ Ahead.Nothing) }
     {
@@ -261,14 +261,14 @@ impl<'de> Json<'de> {
             Ahead::Nothing => self.read(),
             Ahead::Stopped(kind, span) => {
                 self.ahead = Ahead::Stopped(kind, span);
-                Err(Fault::at(kind, span))
+                Err(ReadFault::at(kind, span))
             }
         }
     }
 
     /// Reads the next event, which stays the next one.
     #[inline(always)]
-    pub(crate) fn look(&mut self) -> Result<(), Fault>
+    pub(crate) fn look(&mut self) -> Result<(), ReadFault>
         ensures { OnOk result (Stays self.old self.new) }
     {
         if let Ahead::Nothing = &self.ahead {
@@ -280,7 +280,7 @@ impl<'de> Json<'de> {
 
     /// Passes null, if it comes.
     #[inline(always)]
-    pub(crate) fn passes_null(&mut self) -> Result<bool, Fault>
+    pub(crate) fn passes_null(&mut self) -> Result<bool, ReadFault>
         ensures { IfOk result (λ b. MatchBool b (Gives self.old [] nothing self.new)
             (Stays self.old self.new)) }
     {
@@ -295,7 +295,7 @@ impl<'de> Json<'de> {
 
     /// The same by a look ahead.
     #[inline(never)]
-    fn passes_null_slowly(&mut self) -> Result<bool, Fault>
+    fn passes_null_slowly(&mut self) -> Result<bool, ReadFault>
         ensures { IfOk result (λ b. MatchBool b (Gives self.old [] nothing self.new)
             (Stays self.old self.new)) }
     {
@@ -307,7 +307,7 @@ impl<'de> Json<'de> {
                 }
             }
             Ahead::Nothing => return Ok(false),
-            Ahead::Stopped(kind, span) => return Err(Fault::at(*kind, *span)),
+            Ahead::Stopped(kind, span) => return Err(ReadFault::at(*kind, *span)),
         }
         self.ahead = Ahead::Nothing;
         Ok(true)
@@ -315,7 +315,7 @@ impl<'de> Json<'de> {
 
     /// A text, as a value or as a key.
     #[inline(always)]
-    pub(crate) fn text(&mut self, input: &[u8]) -> Result<CowStr<'de>, Fault>
+    pub(crate) fn text(&mut self, input: &[u8]) -> Result<CowStr<'de>, ReadFault>
         ensures text { IfOk result
             (λ t. Reads self.old (λ given. IsText given.kind (cow_str_bytes t)) self.new) }
         ensures key { self.old.at_key ≡ true → IfOk result
@@ -331,7 +331,7 @@ impl<'de> Json<'de> {
 
     /// The same by an event.
     #[inline(never)]
-    fn text_slowly(&mut self, input: &[u8]) -> Result<CowStr<'de>, Fault>
+    fn text_slowly(&mut self, input: &[u8]) -> Result<CowStr<'de>, ReadFault>
         ensures text { IfOk result
             (λ t. Reads self.old (λ given. IsText given.kind (cow_str_bytes t)) self.new) }
         ensures key { self.old.at_key ≡ true → IfOk result
@@ -358,7 +358,7 @@ impl<'de> Json<'de> {
 
     /// A key, or `None` at the end of the map, which it takes.
     #[inline(always)]
-    pub(crate) fn key(&mut self) -> Result<Option<CowStr<'de>>, Fault>
+    pub(crate) fn key(&mut self) -> Result<Option<CowStr<'de>>, ReadFault>
         ensures { IfOk result (λ o. MatchOption o (Gives self.old [] map_ends self.new)
             (λ key. Reads self.old (λ given. IsKey given.kind (cow_str_bytes key)) self.new)) }
     {
@@ -371,7 +371,7 @@ impl<'de> Json<'de> {
 
     /// The same by an event.
     #[inline(never)]
-    fn key_slowly(&mut self) -> Result<Option<CowStr<'de>>, Fault>
+    fn key_slowly(&mut self) -> Result<Option<CowStr<'de>>, ReadFault>
         ensures { IfOk result (λ o. MatchOption o (Gives self.old [] map_ends self.new)
             (λ key. Reads self.old (λ given. IsKey given.kind (cow_str_bytes key)) self.new)) }
     {
@@ -385,7 +385,7 @@ impl<'de> Json<'de> {
 
     /// Passes a value, of which one event is ahead.
     #[inline(never)]
-    pub(crate) fn skip_ahead(&mut self) -> Result<(), Fault> {
+    pub(crate) fn skip_ahead(&mut self) -> Result<(), ReadFault> {
         let ParseEvent { kind, span } = self.take()?;
         self.at_key = false;
         match kind {
@@ -396,7 +396,7 @@ impl<'de> Json<'de> {
     }
 
     /// Passes the rest of a container: of a map's members the values unread.
-    fn skip_rest(&mut self) -> Result<(), Fault> {
+    fn skip_rest(&mut self) -> Result<(), ReadFault> {
         let mut depth = 1u64;
         for _ in 0..u64::MAX {
             match self.read()?.kind {
@@ -418,10 +418,10 @@ impl<'de> Json<'de> {
 
     /// Passes a value, unread.
     #[inline(always)]
-    pub(crate) fn pass(&mut self) -> Result<(), Fault> {
+    pub(crate) fn pass(&mut self) -> Result<(), ReadFault> {
         match self.parser.skip_value() {
             Ok(()) => Ok(()),
-            Err(refused) => Err(self.stop(FaultKind::Parser, refused.span)),
+            Err(refused) => Err(self.stop(ReadFaultKind::Parser, refused.span)),
         }
     }
 
@@ -447,7 +447,7 @@ impl<'de> Json<'de> {
             None => false,
         };
         if !is_kept {
-            self.stop(FaultKind::Memory, self.last);
+            self.stop(ReadFaultKind::Memory, self.last);
         }
     }
 

@@ -20,7 +20,7 @@ pub use error::{Error, ErrorKind, Report};
 pub use facet_format::{DeserializeErrorKind, Span};
 pub use facet_json_parser::JsonParser;
 pub use facet_json_serializer::{BytesFormat, HexBytesOptions, SerializeOptions};
-pub use fault::{Detail, Fault, Refusal, WriteFault};
+pub use fault::{Detail, ReadFault, Refusal, WriteFault};
 pub use json::Json;
 pub use reading::{
     from_slice, from_slice_jsonc, from_slice_strict, from_slice_whole, from_str, from_str_jsonc,

@@ -4,7 +4,7 @@ ghost use Rattle.std.specs.Prelude.{length, IfErr};
 ghost use Rattle.facet_json_serde.specs.Within.{LiesWithin};
 
 use crate::error::Error;
-use crate::fault::Fault;
+use crate::fault::ReadFault;
 use crate::json::Json;
 use facet_json_parser::JsonParser;
 use serde::{Deserialize, Deserializer};
@@ -161,7 +161,7 @@ fn first<'de, T: Deserialize<'de>>(
     alloc: Global,
     input: &'de [u8],
     json: &mut Json<'_>,
-) -> Result<T, Fault> {
+) -> Result<T, ReadFault> {
     let value = json.value(input)?;
     json.finish()?;
     Ok(value)
@@ -172,7 +172,7 @@ fn whole<'de, T: Deserialize<'de>>(
     alloc: Global,
     input: &'de [u8],
     json: &mut Json<'_>,
-) -> Result<T, Fault> {
+) -> Result<T, ReadFault> {
     let value = json.value(input)?;
     json.finish_whole()?;
     Ok(value)
@@ -184,7 +184,7 @@ impl Json<'_> {
     /// # Errors
     ///
     /// As `from_slice`; `told` says where.
-    pub fn value<'de, T: Deserialize<'de>>(&mut self, input: &'de [u8]) -> Result<T, Fault> {
+    pub fn value<'de, T: Deserialize<'de>>(&mut self, input: &'de [u8]) -> Result<T, ReadFault> {
         T::deserialize(self.alloc, &mut Deserializer::new(input, self))
     }
 }

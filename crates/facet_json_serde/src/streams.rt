@@ -9,7 +9,7 @@ ghost use Rattle.facet_json_serde.specs.OneValue.{WritesTree};
 ghost use Rattle.facet_json_serde.specs.Within.{IsRefused, LiesWithin, TellsWithin};
 
 use crate::error::Error;
-use crate::fault::Fault;
+use crate::fault::ReadFault;
 use crate::json::Json;
 use crate::writing::to_vec_with_options;
 use facet_json_parser::JsonParser;
@@ -90,7 +90,7 @@ fn first_owned<T: DeserializeOwned>(
     alloc: Global,
     input: &[u8],
     json: &mut Json<'_>,
-) -> Result<T, Fault> {
+) -> Result<T, ReadFault> {
     let value = one_owned(alloc, input, json)?;
     json.finish()?;
     Ok(value)
@@ -101,7 +101,7 @@ fn one_owned<T: DeserializeOwned>(
     alloc: Global,
     input: &[u8],
     json: &mut Json<'_>,
-) -> Result<T, Fault> {
+) -> Result<T, ReadFault> {
     T::deserialize_owned(alloc, &mut Deserializer::new(input, json))
 }
 

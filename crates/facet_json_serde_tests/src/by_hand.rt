@@ -5,7 +5,7 @@ ghost use Rattle.serde.specs.Event.{unsigned};
 ghost use Rattle.serde.specs.Steps.{Gives};
 ghost use Rattle.facet_json_serde_tests.specs.ByHand.{GivesPair, PassesNumber, PassesPair};
 
-use facet_json_serde::{Fault, Json, JsonParser};
+use facet_json_serde::{ReadFault, Json, JsonParser};
 use serde::{Deserialize, Deserializer, Format};
 use std::alloc::Global;
 
@@ -66,7 +66,7 @@ pub fn read_percent<'de>(
     alloc: Global,
     input: &'de [u8],
     parser: JsonParser<'de>,
-) -> Result<Percent, Fault>
+) -> Result<Percent, ReadFault>
     ensures { IfOk result (λ p. PassesNumber parser.entry p.0) }
 {
     let mut json = Json::new(alloc, parser);
@@ -78,7 +78,7 @@ pub fn read_range<'de>(
     alloc: Global,
     input: &'de [u8],
     parser: JsonParser<'de>,
-) -> Result<Range, Fault>
+) -> Result<Range, ReadFault>
     ensures { IfOk result (λ r. PassesPair parser.entry r.low r.high) }
 {
     let mut json = Json::new(alloc, parser);

@@ -1,12 +1,12 @@
 //! A parser and a writer that the caller holds.
 
 use crate::by_hand::{Percent, Range, read_percent, read_range};
-use facet_json_serde::{Error, Fault, Json, JsonParser, JsonWriter, SerializeOptions};
+use facet_json_serde::{Error, ReadFault, Json, JsonParser, JsonWriter, SerializeOptions};
 use serde::Serialize;
 use std::test::Fail;
 
 /// A pair of bytes, with comments between them, and the end of the input.
-fn pair(input: &[u8], json: &mut Json<'_>) -> Result<(u8, u8), Fault> {
+fn pair(input: &[u8], json: &mut Json<'_>) -> Result<(u8, u8), ReadFault> {
     let pair = json.value(input)?;
     json.finish_whole()?;
     Ok(pair)

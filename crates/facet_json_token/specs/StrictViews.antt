@@ -1,6 +1,5 @@
 -- What the checks of RFC 8259 return.
-use Rattle.std.specs.Prelude.{◌≡◌, ℕ, ◌-◌, List, Option, Some}
-use Rattle.facet_json_token.specs.declared.token.ScanErrorKind.TheVariants as scan
+use Rattle.std.specs.Prelude.{◌≡◌, ℕ, List, Option, Some}
 use Rattle.facet_json_token.specs.declared.token.ScanError.{ScanError}
 use Rattle.facet_json_token.specs.declared.fault.FaultKind.TheVariants as faults
 use Rattle.facet_json_token.specs.declared.fault.Fault.{Fault as RustFault}
@@ -22,7 +21,3 @@ TellsWrong content start e = IsWrong content start (fault_answer e.span e.kind)
 -- the fault of this byte at an offset
 abbrev pub byte_fault : ℕ → ℕ → RustFault
 byte_fault b at = record { kind = faults.UnexpectedChar b; span = record { offset = at; len = 1 } }
-
--- the refusal of a slice that is no number of RFC 8259: a question mark over all of it
-abbrev pub number_refused : ℕ → ℕ → ScanError
-number_refused start end = record { kind = scan.UnexpectedChar 0x3f; span = record { offset = start; len = end - start } }

@@ -8,7 +8,7 @@ use Rattle.facet_json_token.specs.declared.token.Token.TheVariants as code
 use Rattle.facet_json_token.specs.declared.token.SpannedToken.{SpannedToken}
 use Rattle.facet_json_token.specs.declared.fault.Inside.{Inside}
 use Rattle.facet_json_token.specs.declared.fault.Inside.TheVariants as insides
-use Rattle.facet_json_token.specs.declared.fault.FaultKind.{FaultKind}
+use Rattle.facet_json_token.specs.declared.fault.FaultKind.{FaultKind as RustFaultKind}
 use Rattle.facet_json_token.specs.declared.fault.FaultKind.TheVariants as faults
 use Rattle.facet_json_token.specs.declared.fault.Fault.{Fault}
 use Rattle.facet_json_token.specs.declared.token.ScanErrorKind.{ScanErrorKind}
@@ -19,7 +19,7 @@ use Rattle.facet_format.specs.Complaint.{Complaint, Refusal}
 use Rattle.facet_format.specs.Complaint as complaint
 use Rattle.facet_format.specs.Views.{span_of, hint_of}
 use Rattle.facet_json_token.specs.Gap.{Mode, plain, jsonc}
-use Rattle.facet_json_token.specs.Token.{Kind, in_string, in_number, in_literal, in_block_comment}
+use Rattle.facet_json_token.specs.Token.{Kind, FaultKind, in_string, in_number, in_literal, in_block_comment}
 use Rattle.facet_json_token.specs.Token as token
 use Rattle.facet_json_token.specs.Cut.{Cut, nothing_left, fault}
 use Rattle.facet_json_token.specs.Cut as cutting
@@ -54,20 +54,31 @@ abbrev pub token_answer : RustSpan → RustToken → Option Cut
 token_answer s code.Eof = Some nothing_left
 token_answer s t = with_span (span_of s) (kind_of t)
 
+-- what an error says is wrong: `None` of a text that isn't UTF-8
+abbrev pub error_says : ScanErrorKind → Option FaultKind
+error_says (scan.UnexpectedChar c) = Some (token.unexpected_char c)
+error_says (scan.UnexpectedEof text) = Some (token.unexpected_eof text.now)
+error_says scan.InvalidUtf8 = None
+
+abbrev pub answer_at : RustSpan → Option FaultKind → Option Cut
+answer_at s None = None
+answer_at s (Some kind) = Some (fault (record { kind = kind; span = span_of s }))
+
 abbrev pub fault_answer : RustSpan → ScanErrorKind → Option Cut
-fault_answer s (scan.UnexpectedChar c) = Some (fault (record { kind = token.unexpected_char c; span = span_of s }))
-fault_answer s (scan.UnexpectedEof text) = Some (fault (record { kind = token.unexpected_eof text.now; span = span_of s }))
-fault_answer s scan.InvalidUtf8 = None
+fault_answer s e = answer_at s (error_says e)
 
 abbrev pub scanned : Result SpannedToken ScanError → Option Cut
 scanned (Ok t) = token_answer t.span t.token
 scanned (Err e) = fault_answer e.span e.kind
 
--- how a scan's refusal is passed on
+-- how what is wrong is passed on
+abbrev pub complaint_of : Option FaultKind → Complaint
+complaint_of None = complaint.invalid_utf8
+complaint_of (Some (token.unexpected_char c)) = complaint.unexpected_char c (codes "valid JSON token")
+complaint_of (Some (token.unexpected_eof text)) = complaint.unexpected_eof text
+
 abbrev pub scan_complaint : ScanErrorKind → Complaint
-scan_complaint (scan.UnexpectedChar c) = complaint.unexpected_char c (codes "valid JSON token")
-scan_complaint (scan.UnexpectedEof text) = complaint.unexpected_eof text.now
-scan_complaint scan.InvalidUtf8 = complaint.invalid_utf8
+scan_complaint e = complaint_of (error_says e)
 
 abbrev pub scan_refusal : ScanError → Refusal
 scan_refusal e = complaint.refusal_at (scan_complaint e.kind) (span_of e.span)
@@ -83,31 +94,30 @@ inside_text insides.BlockComment = in_block_comment
 inside_text insides.Escape = codes "in escape sequence"
 inside_text insides.UnicodeEscape = codes "in unicode escape"
 
--- what a cut answers; a text that isn't UTF-8 is no answer of the definitions
-abbrev pub told_cut : RustSpan → FaultKind → Option Cut
-told_cut s (faults.UnexpectedChar c) = Some (fault (record { kind = token.unexpected_char c; span = span_of s }))
-told_cut s (faults.UnexpectedEof inside) = Some (fault (record { kind = token.unexpected_eof (inside_text inside); span = span_of s }))
-told_cut s faults.InvalidUtf8 = None
+-- what a fault says is wrong
+abbrev pub fault_says : RustFaultKind → Option FaultKind
+fault_says (faults.UnexpectedChar c) = Some (token.unexpected_char c)
+fault_says (faults.UnexpectedEof inside) = Some (token.unexpected_eof (inside_text inside))
+fault_says faults.InvalidUtf8 = None
 
+abbrev pub told_cut : RustSpan → RustFaultKind → Option Cut
+told_cut s f = answer_at s (fault_says f)
+
+-- what a cut answers
 abbrev pub cut_of : Result SpannedToken Fault → Option Cut
 cut_of (Ok t) = token_answer t.span t.token
 cut_of (Err f) = told_cut f.span f.kind
 
 -- how a fault is passed on
-abbrev pub told_complaint : FaultKind → Complaint
-told_complaint (faults.UnexpectedChar c) = complaint.unexpected_char c (codes "valid JSON token")
-told_complaint (faults.UnexpectedEof inside) = complaint.unexpected_eof (inside_text inside)
-told_complaint faults.InvalidUtf8 = complaint.invalid_utf8
+abbrev pub told_complaint : RustFaultKind → Complaint
+told_complaint f = complaint_of (fault_says f)
 
 abbrev pub told_refusal : Fault → Refusal
 told_refusal f = complaint.refusal_at (told_complaint f.kind) (span_of f.span)
 
--- The error says what the fault says, and its text what the input ends inside of.
-abbrev pub SaysKind : FaultKind → ScanErrorKind → Type 0
-SaysKind (faults.UnexpectedChar c) kind = kind ≡ scan.UnexpectedChar c
-SaysKind (faults.UnexpectedEof inside) (scan.UnexpectedEof text) = text.now ≡ inside_text inside
-SaysKind (faults.UnexpectedEof inside) _ = ⊥
-SaysKind faults.InvalidUtf8 kind = kind ≡ scan.InvalidUtf8
+-- The error says what the fault says.
+abbrev pub SaysKind : RustFaultKind → ScanErrorKind → Type 0
+SaysKind f e = error_says e ≡ fault_says f
 
 -- So does one that says where.
 pub record SaysFault (f : Fault) (e : ScanError) : Type 0 where

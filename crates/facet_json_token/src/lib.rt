@@ -27,7 +27,10 @@ pub use decode::{
 };
 pub use fault::{CutResult, Fault, FaultKind, Inside};
 pub use mode::{Mode, Trust};
-pub use number::{ParsedNumber, parse_measured, parse_number, parse_number_unchecked};
+pub use number::{
+    ParsedNumber, measured_decimal, measured_number, no_number, parse_number,
+    parse_number_unchecked,
+};
 pub use rfc_number::{check_number_strict, has_rfc_parts};
 pub use rfc_string::check_string_strict;
 pub use token::{ScanError, ScanErrorKind, ScanResult, SpannedToken, Token};

@@ -3,7 +3,8 @@
 ghost use Rattle.std.specs.Prelude.{◌≡◌, ℕ, ◌+◌, ◌*◌, ◌≤◌, ◌<◌, ◌^◌, pos, neg_ℤ, true, false, None, Some, length, drop, slice_range, IsUtf8, IfErr, IfOk, MatchOption, MatchResult};
 ghost use Rattle.std.specs.Option.{option_map, IfSome};
 ghost use Rattle.facet_format.specs.Number.{AreDigits, float, unsigned};
-ghost use Rattle.facet_format.specs.NumberValue.{digits_value, number as spec_number, unsigned_number, negative_number};
+ghost use Rattle.facet_format.specs.Event.{borrowed};
+ghost use Rattle.facet_format.specs.NumberValue.{digits_value, number as spec_number, decimal, unsigned_number, negative_number};
 ghost use Rattle.facet_format.specs.NumberParts.{is_number};
 ghost use Rattle.facet_format.specs.Views.{hint_of};
 ghost use Rattle.facet_json_token.specs.NumberViews.{number_of, is_made_number, number_fault, number_refusal};
@@ -56,32 +57,8 @@ pub fn parse_number<'a>(
     }
 }
 
-/// The same as `parse_number`, for a slice that is known to be a number with that hint, as the one of a token is: it is not
-/// measured again.
-#[inline(always)]
-pub fn parse_measured<'a>(
-    buf: &'a [u8],
-    start: usize,
-    end: usize,
-    hint: NumberHint,
-) -> Result<ParsedNumber<'a>, Fault>
-    requires in_order { start ≤ end }
-    requires within { end ≤ length buf.now }
-    requires is_number { is_number (slice_range buf.now start end) (hint_of hint) ≡ true }
-    ensures number { let text = slice_range buf.now start end in MatchResult result
-        (λ v. spec_number text (hint_of hint) ≡ Some (number_of v))
-        (λ e. spec_number text (hint_of hint) ≡ None) }
-    ensures refusal { IfErr result (λ e. e ≡ number_fault start end) }
-    ensures borrowed { IfOk result (λ v. is_made_number v ≡ false) }
-{
-    match value_of(&buf[start..end], hint) {
-        Some(number) => Ok(number),
-        None => Err(no_number(start, end)),
-    }
-}
-
 /// The fault of a slice that is no number, or has no value.
-pub(crate) fn no_number(start: usize, end: usize) -> Fault
+pub fn no_number(start: usize, end: usize) -> Fault
     requires { start ≤ end }
     ensures { result ≡ number_fault start end }
 {
@@ -121,12 +98,13 @@ fn number<'a>(text: &'a [u8], hint: NumberHint) -> Option<ParsedNumber<'a>>
         }
     }
     number_parts(text, hint)?;
-    value_of(text, hint)
+    measured_number(text, hint)
 }
 
-/// The value of a number's text with that hint, or `None` where it is a whole number of more than 128 bits, or lacks a digit.
+/// The value of a text that is known to be a number with that hint, as the one of a token is: it is not measured again. `None` where it
+/// is a whole number of more than 128 bits, or lacks a digit.
 #[inline(always)]
-fn value_of<'a>(text: &'a [u8], hint: NumberHint) -> Option<ParsedNumber<'a>>
+pub fn measured_number<'a>(text: &'a [u8], hint: NumberHint) -> Option<ParsedNumber<'a>>
     requires is_number { is_number text.now (hint_of hint) ≡ true }
     ensures number { option_map number_of result ≡ spec_number text.now (hint_of hint) }
     ensures borrowed { IfSome result (λ v. is_made_number v ≡ false) }
@@ -134,7 +112,7 @@ fn value_of<'a>(text: &'a [u8], hint: NumberHint) -> Option<ParsedNumber<'a>>
     match hint {
         NumberHint::Unsigned => unsigned_number(text),
         NumberHint::Signed => negative_number(&text[1..]),
-        NumberHint::Float => decimal_number(text),
+        NumberHint::Float => Some(ParsedNumber::Decimal(measured_decimal(text)?)),
     }
 }
 
@@ -182,19 +160,17 @@ fn negative_number<'a>(digits: &[u8]) -> Option<ParsedNumber<'a>>
     }
 }
 
-/// The text of a number with a fraction or an exponent, or `None` where it lacks a digit.
+/// The decimal of a text that is known to be a number with a fraction or an exponent, or `None` where it lacks a digit.
 #[inline(always)]
-fn decimal_number<'a>(text: &'a [u8]) -> Option<ParsedNumber<'a>>
-    requires is_number { is_number text.now float ≡ true }
-    ensures number { option_map number_of result ≡ spec_number text.now float }
-    ensures borrowed { IfSome result (λ v. is_made_number v ≡ false) }
+pub fn measured_decimal<'a>(text: &'a [u8]) -> Option<Decimal<'a>>
+    requires { is_number text.now float ≡ true }
+    ensures { MatchOption result
+        (spec_number text.now float ≡ None)
+        (λ d. (d ≡ borrowed text.now) × (spec_number text.now float ≡ Some (decimal text.now))) }
 {
     // All bytes of a number are ASCII.
     let text = unsafe { str::from_utf8_unchecked(text) };
-    match Decimal::of_number(text) {
-        Some(decimal) => Some(ParsedNumber::Decimal(decimal)),
-        None => None,
-    }
+    Decimal::of_number(text)
 }
 
 /// The value of decimal digits after a minus, or `None` where it is below -2^63.

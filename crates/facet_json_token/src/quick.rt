@@ -88,7 +88,7 @@ fn blank_end(buffer: &[u8], position: usize, mode: Mode) -> usize
 
 /// The offset after the white space at `position`.
 #[inline(always)]
-pub(crate) fn past_space(buffer: &[u8], position: usize) -> usize
+pub fn past_space(buffer: &[u8], position: usize) -> usize
     requires { position ≤ length buffer.now }
     ensures same { (mode : SpecMode) → past_gap buffer.now result mode ≡ past_gap buffer.now position mode }
     ensures within { result ≤ length buffer.now }
@@ -127,7 +127,7 @@ fn is_above_space(buffer: &[u8], at: usize) -> bool
 
 /// The token at `at`, where a look tells it.
 #[inline(always)]
-pub(crate) fn token_in_sight(buffer: &[u8], at: usize) -> Option<SpannedToken>
+pub fn token_in_sight(buffer: &[u8], at: usize) -> Option<SpannedToken>
     ensures { IfSome result (λ t. (mode : SpecMode) → told t ≡ Some (spec_cut.cut buffer.now at mode)) }
 {
     match buffer.get(at)? {

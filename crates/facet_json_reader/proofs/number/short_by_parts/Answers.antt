@@ -10,15 +10,15 @@ use Rattle.facet_json_reader.proofs.TokensThere.{there-fits, number-cut}
 use Rattle.facet_json_reader.proofs.ValuesThere.{number-there}
 use Rattle.facet_json_reader.proofs.number.short_by_parts.Goals as goal
 
-pub parse_measured-requires-clause-is_number : goal.parse_measured-requires-clause-is_number
-parse_measured-requires-clause-is_number c =
+pub measured_number-requires : goal.measured_number-requires
+measured_number-requires c =
     let start = c.requires.here in
     let more = sym c.is_bare.ensures ∙ c.if-is_bare.false in
     let is = number-cut plain c.args.input.now c.args.at start.first c.len-len.result c.args.parts (hint_of c.hint-hint.result)
     start.here start.begins c.requires.parts c.len-len.ensures c.hint-hint.ensures more in
     let room = slice_get_within c.args.input.now c.args.at start.first start.here in
     let fits = there-fits plain c.args.input.now c.args.at c.len-len.result _ (omega (arith, room)) is in
-    fits.kind_fits.is_a_number
+    record { is_number = fits.kind_fits.is_a_number }
 
 pub returns-in-Float-clause-there : goal.returns-in-Float-clause-there
 returns-in-Float-clause-there c =
@@ -31,9 +31,9 @@ returns-in-Float-clause-there c =
     let fits = there-fits plain c.args.input.now c.args.at c.len-len.result _ (omega (arith, room)) (is plain) in
     record { cut = is; decimal = fits.kind_fits.is_a_number }
 
-pub returns-in_ok-whole_in-in-Ok-clause-there : goal.returns-in_ok-whole_in-in-Ok-clause-there
-returns-in_ok-whole_in-in-Ok-clause-there c =
+pub returns-clause-there : goal.returns-clause-there
+returns-clause-there c =
     let start = c.requires.here in
     let more = sym c.is_bare.ensures ∙ c.if-is_bare.false in
-    number-there c.args.input.now c.args.at start.first c.len-len.result c.args.parts (hint_of c.hint-hint.result) (number_of c.in-Ok.number) (whole_scalar c.in_ok-whole_in-in-Ok.field-0)
-    start.here start.begins c.requires.parts c.len-len.ensures c.hint-hint.ensures more c.in-Ok.ensures.number c.in_ok-whole_in-in-Ok.ensures
+    number-there c.args.input.now c.args.at start.first c.len-len.result c.args.parts (hint_of c.hint-hint.result) (number_of c.in_ok-number.number) (whole_scalar c.in_ok-whole_in.field-0)
+    start.here start.begins c.requires.parts c.len-len.ensures c.hint-hint.ensures more (sym c.in_ok-number.ensures.number) c.in_ok-whole_in.ensures

@@ -15,7 +15,7 @@ use Rattle.facet_json_reader.proofs.QuickEvents.{number-kind}
 use Rattle.facet_json_reader.proofs.number.short_whole_in.Goals as goal
 
 pub returns-in-Lenient : goal.returns-in-Lenient
-returns-in-Lenient c = rw c.in-Lenient.is (by c.short_whole.result c.short_whole.ensures)
+returns-in-Lenient c = rw c.in-Lenient.is (by c.short_whole.result c.short_whole.ensures.there)
   where
     by : (o : Option (ℕ × Whole)) → IfSome o (λ r. IsScalarThere c.args.input.now c.args.at r.0 (whole_scalar r.1)) →
         IfSome o (λ r. IsScalarThere c.args.input.now c.args.at r.0 (whole_scalar r.1) × Unit {0})

@@ -1,17 +1,20 @@
--- With outer digits the number has a value, which is its text.
-use Rattle.std.proofs.Common.{refl, sym, ◌∙◌, rules}
+-- With outer digits the number has a value, which is its text; else it was measured.
+use Rattle.std.proofs.Common.{refl, sym, ◌∙◌}
 use Rattle.facet_format.proofs.OuterDigits.{outer-number}
 use Rattle.facet_format.proofs.decimal.Decimal.of_number.Goals as goal
+use Rattle.facet_format.proofs.decimal.Decimal.of_number.Goals.{then-has_outer_digits, else-has_outer_digits}
 
 pub invariant_of-result : goal.invariant_of-result
-invariant_of-result c =
-    let outer = rw c.as_bytes.ensures.value at (sym c.has_outer_digits.ensures ∙ c.if-has_outer_digits.true) in
-    outer-number c.args.text.now c.requires outer
+invariant_of-result c = elim c.if-has_outer_digits.branch [
+  | then-has_outer_digits w ↦ outer-number c.args.text.now c.requires (rw c.as_bytes-bytes.ensures.value at (sym c.has_outer_digits.ensures ∙ w.if-has_outer_digits.true))
+  | else-has_outer_digits w ↦ rw c.as_bytes-bytes.ensures.value at (w.is_decimal.ensures.yes (sym w.value-is ∙ c.if-is_decimal.true))
+]
 
-pub returns-then-has_outer_digits : goal.returns-then-has_outer_digits
-returns-then-has_outer_digits c =
-    let outer = rw c.as_bytes.ensures.value at (sym c.has_outer_digits.ensures ∙ c.if-has_outer_digits.true) in
-    (refl, outer-number c.args.text.now c.requires outer)
-
-pub returns-else-has_outer_digits : goal.returns-else-has_outer_digits
-returns-else-has_outer_digits c = search rules
+pub returns-then-is_decimal : goal.returns-then-is_decimal
+returns-then-is_decimal c = (
+  refl,
+  elim c.if-has_outer_digits.branch [
+    | then-has_outer_digits w ↦ outer-number c.args.text.now c.requires (rw c.as_bytes-bytes.ensures.value at (sym c.has_outer_digits.ensures ∙ w.if-has_outer_digits.true))
+    | else-has_outer_digits w ↦ rw c.as_bytes-bytes.ensures.value at (w.is_decimal.ensures.yes (sym w.value-is ∙ c.if-is_decimal.true))
+  ],
+)

@@ -1,11 +1,11 @@
-use Rattle.std.proofs.Common.{◌≡◌, ◌<◌, ◌∙◌, ap, arith, length, subst, sym}
+use Rattle.std.proofs.Common.{◌≡◌, ◌<◌, ◌∙◌, ap, arith, length, subst, sym, true}
 use Rattle.facet_format.specs.Views.{refusal_of}
 use Rattle.facet_json_token.specs.Cut.{past_gap}
 use Rattle.facet_json_token.specs.Gap.{plain}
 use Rattle.facet_json_document.specs.Language.{lenient}
 use Rattle.facet_json_document.specs.UnreadLaws.{RefusalWithin}
 use Rattle.facet_json.specs.Documents.{Documents, after, moved, nothing, read_up, refused, value}
-use Rattle.facet_json.specs.Inputs.{BeginsWithRunTo, IsReadFrom, IsToldOf, IsUnreadFrom}
+use Rattle.facet_json.specs.Inputs.{BeginsWithDocument, BeginsWithRunTo, IsReadFrom, IsToldOf, IsUnreadFrom}
 use Rattle.facet_json.proofs.documents.DocumentsIterator.next.Goals as goal
 
 pub returns-then-skip_gap-rest-clause-steps : goal.returns-then-skip_gap-rest-clause-steps
@@ -18,6 +18,7 @@ returns-in-Ok-clause-steps g c =
     let here = c.rest-rest.ensures in
     value c.in-Ok.value c.in-Ok.end (subst (λ left. BeginsWithRunTo left plain c.in-Ok.end) here c.in-Ok.ensures.end)
     (subst (λ left. IsReadFrom g.T.Facet.shape.reading left plain (g.T.Facet.view c.in-Ok.value)) here c.in-Ok.ensures.read) c.in-Ok.ensures.owned
+    (λ (is : g.T.Facet.whole ≡ true). subst (λ left. BeginsWithDocument left plain) here (c.in-Ok.ensures.document is))
     (ap (λ d. after d c.in-Ok.end) c.self.view_is)
 
 pub returns-in-Err-clause-steps : goal.returns-in-Err-clause-steps

@@ -13,15 +13,15 @@ use Rattle.facet_json_reader.proofs.ShortNumbers.{decimal-there}
 use Rattle.facet_json_reader.proofs.TokensThere.{there-fits}
 use Rattle.facet_json_reader.proofs.reader.Reader.pass_number.Goals as goal
 
-pub pass_decimal-event-requires-clause-within : goal.pass_decimal-event-requires-clause-within
-pass_decimal-event-requires-clause-within c =
+pub pass_decimal-requires-clause-within : goal.pass_decimal-requires-clause-within
+pass_decimal-requires-clause-within c =
     let told = subst (IsShortIn (language_of c.args.language) c.args.input.now c.args.at c.in_ok-len.len) c.in-None.is c.in_ok-len.ensures in
     let room = slice_get_within c.args.input.now c.args.at c.args.first c.requires.here in
     let fits = there-fits plain c.args.input.now c.args.at c.in_ok-len.len _ (omega (arith, room)) (told.0.cut plain) in
     omega (arith, fits.within)
 
-pub pass_decimal-event-requires-clause-number : goal.pass_decimal-event-requires-clause-number
-pass_decimal-event-requires-clause-number c =
+pub pass_decimal-requires-clause-number : goal.pass_decimal-requires-clause-number
+pass_decimal-requires-clause-number c =
     (subst (IsShortIn (language_of c.args.language) c.args.input.now c.args.at c.in_ok-len.len) c.in-None.is c.in_ok-len.ensures).0.decimal
 
 pub returns-in-Some : goal.returns-in-Some
@@ -43,6 +43,6 @@ returns-in-None c =
     let len = c.in_ok-len.len in
     let text = slice_range c.args.input.now c.args.at (c.args.at + len) in
     let told = subst (IsShortIn (language_of c.args.language) c.args.input.now c.args.at len) c.in-None.is c.in_ok-len.ensures in
-    match-weaker _ _ _ _ c.pass_decimal-event.result c.pass_decimal-event.ensures.event c.pass_decimal-event.ensures.number
+    match-weaker _ _ _ _ c.pass_decimal.result c.pass_decimal.ensures.event c.pass_decimal.ensures.number
     (λ means e left. scalar-passes c.args.input.now (language_of c.args.language) c.args.self.now place c.args.at len (decimal (borrowed text)) (event_of e)
-    c.pass_decimal-event.new.self here reached (decimal-there c.args.input.now c.args.at len told.0 means) told.1 left)
+    c.pass_decimal.new.self here reached (decimal-there c.args.input.now c.args.at len told.0 means) told.1 left)

@@ -2,7 +2,7 @@
 use Rattle.std.proofs.Common.{sym, ◌∙◌}
 use Rattle.facet_format.proofs.NumberText.{unsigned-digits, number-unsigned, signed-digits, number-signed}
 use Rattle.facet_json_token.proofs.SignedNumbers.{signed-sign}
-use Rattle.facet_json_token.proofs.number.value_of.Goals as goal
+use Rattle.facet_json_token.proofs.number.measured_number.Goals as goal
 
 pub unsigned_number-requires : goal.unsigned_number-requires
 unsigned_number-requires c =
