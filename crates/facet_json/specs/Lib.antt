@@ -122,6 +122,7 @@ pub mod Documents
 pub mod Fields
 pub mod Inner
 pub mod Inputs
+pub mod Made
 pub mod Pointed
 pub mod PointedViews
 pub mod Shapes

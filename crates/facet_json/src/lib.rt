@@ -12,6 +12,7 @@ mod find_error;
 pub mod float;
 pub mod laws;
 mod lent;
+pub mod made;
 mod pointer;
 mod prefix;
 mod reading;

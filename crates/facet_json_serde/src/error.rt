@@ -117,9 +117,11 @@ fn kind_of<'t>(fault: &ReadFault) -> ErrorKind<'t> {
             ErrorKind::Read(DeserializeErrorKind::UnexpectedEof { expected: "value" })
         }
         ReadFaultKind::Mismatch(wanted, found) => mismatch_of(wanted, found),
-        ReadFaultKind::OutOfRange(wanted) => ErrorKind::Read(DeserializeErrorKind::NumberOutOfRange {
-            target_type: wanted.name(),
-        }),
+        ReadFaultKind::OutOfRange(wanted) => ErrorKind::Read(
+            DeserializeErrorKind::NumberOutOfRange {
+                target_type: wanted.name(),
+            },
+        ),
         ReadFaultKind::Memory => ErrorKind::Read(DeserializeErrorKind::OutOfMemory),
         ReadFaultKind::Trailing => ErrorKind::TrailingCharacters,
         ReadFaultKind::MissingField => ErrorKind::MissingField(fault.detail()),

@@ -2,7 +2,7 @@
 
 ghost use Rattle.std.specs.Prelude.{◌≡◌, true, None, [], IfOk, OnOk, MatchBool, slice_range, string_bytes};
 ghost use Rattle.std.specs.Cow.{cow_str_bytes};
-ghost use Rattle.serde.specs.Event.{boolean, signed, unsigned, text, seq_begins, seq_ends, map_begins, struct_begins};
+ghost use Rattle.serde.specs.Event.{boolean, signed, unsigned, single, double, text, seq_begins, seq_ends, map_begins, struct_begins};
 ghost use Rattle.facet_json_serde.specs.Ahead.{Gives, Picks, Stays, Shows, BeginsList};
 
 use crate::fault::{ReadFault, ReadFaultKind, Sort};
@@ -125,6 +125,40 @@ impl<'de> Json<'de> {
                 Err(_) => Err(out_of_range(Sort::U64, span)),
             },
             kind => Err(self.no_number(Sort::U64, &kind, span)),
+        }
+    }
+
+    /// A number as a float, by an event: a whole one, or a key.
+    #[inline(never)]
+    fn f32_slowly(&mut self, input: &[u8]) -> Result<f32, ReadFault>
+        ensures { IfOk result (λ v. Gives self.old input.now (single v) self.new) }
+    {
+        let at_key = self.at_key;
+        self.at_key = false;
+        let event = self.take()?;
+        let Some(text) = number_in(&event, at_key, input) else {
+            return Err(self.mismatch(Sort::F32, &event.kind, event.span));
+        };
+        match fast_float::parse::<f32, _>(text) {
+            Ok(x) if x.is_finite() => Ok(x),
+            _ => Err(out_of_range(Sort::F32, event.span)),
+        }
+    }
+
+    /// The same of 64 bits.
+    #[inline(never)]
+    fn f64_slowly(&mut self, input: &[u8]) -> Result<f64, ReadFault>
+        ensures { IfOk result (λ v. Gives self.old input.now (double v) self.new) }
+    {
+        let at_key = self.at_key;
+        self.at_key = false;
+        let event = self.take()?;
+        let Some(text) = number_in(&event, at_key, input) else {
+            return Err(self.mismatch(Sort::F64, &event.kind, event.span));
+        };
+        match fast_float::parse::<f64, _>(text) {
+            Ok(x) if x.is_finite() => Ok(x),
+            _ => Err(out_of_range(Sort::F64, event.span)),
         }
     }
 
@@ -307,29 +341,25 @@ impl<'de> Format for Json<'de> {
         }
     }
 
+    #[inline(always)]
     fn f32(&mut self, input: &[u8]) -> Result<f32, ReadFault> {
-        let at_key = self.at_key;
-        self.at_key = false;
-        let event = self.take()?;
-        let Some(text) = number_in(&event, at_key, input) else {
-            return Err(self.mismatch(Sort::F32, &event.kind, event.span));
+        let Some(decimal) = self.decimal() else {
+            return Ok(self.f32_slowly(input)?);
         };
-        match fast_float::parse::<f32, _>(text) {
+        match fast_float::parse::<f32, _>(decimal.as_str()) {
             Ok(x) if x.is_finite() => Ok(x),
-            _ => Err(out_of_range(Sort::F32, event.span)),
+            _ => Err(out_of_range(Sort::F32, self.last)),
         }
     }
 
+    #[inline(always)]
     fn f64(&mut self, input: &[u8]) -> Result<f64, ReadFault> {
-        let at_key = self.at_key;
-        self.at_key = false;
-        let event = self.take()?;
-        let Some(text) = number_in(&event, at_key, input) else {
-            return Err(self.mismatch(Sort::F64, &event.kind, event.span));
+        let Some(decimal) = self.decimal() else {
+            return Ok(self.f64_slowly(input)?);
         };
-        match fast_float::parse::<f64, _>(text) {
+        match fast_float::parse::<f64, _>(decimal.as_str()) {
             Ok(x) if x.is_finite() => Ok(x),
-            _ => Err(out_of_range(Sort::F64, event.span)),
+            _ => Err(out_of_range(Sort::F64, self.last)),
         }
     }
 
@@ -497,7 +527,8 @@ impl<'de> Format for Json<'de> {
     }
 
     fn missing(&self, name: &str) -> ReadFault {
-        self.error(ReadFaultKind::MissingField).about(self.alloc, name)
+        self.error(ReadFaultKind::MissingField)
+            .about(self.alloc, name)
     }
 
     fn duplicate(&self, name: &str) -> ReadFault {

@@ -2,6 +2,7 @@
 
 ghost use Rattle.std.specs.Prelude.{◌≡◌, true, [], IfOk, OnOk, MatchBool, MatchOption};
 ghost use Rattle.std.specs.Cow.{cow_str_bytes};
+ghost use Rattle.facet_format.specs.Event.{scalar, decimal};
 ghost use Rattle.facet_format.specs.Views.{event_of, span_of};
 ghost use Rattle.facet_json_document.specs.Next.{PassesNext};
 ghost use Rattle.facet_json_reader.specs.Inner.Soughts.{event_of_member};
@@ -11,7 +12,9 @@ ghost use Rattle.facet_json_serde.specs.Ahead.{Stands, Stays, Reads, Passes, Giv
 use crate::error::Error;
 use crate::fault::{ReadFault, ReadFaultKind, Sort};
 use crate::found::{found_in, is_quoted};
-use facet_format::{FormatParser, ParseEvent, ParseEventKind, SavePoint, ScalarValue, Span};
+use facet_format::{
+    Decimal, FormatParser, ParseEvent, ParseEventKind, SavePoint, ScalarValue, Span,
+};
 use facet_json_parser::{JsonParser, comes_other, next_wanted};
 use facet_json_reader::{Member, Null, Sought, Wanted};
 use std::alloc::Global;
@@ -161,18 +164,34 @@ impl<'de> Json<'de> {
     /// What was wanted, and is not there.
     #[cold]
     #[inline(never)]
-    pub(crate) fn mismatch(&self, wanted: Sort, kind: &ParseEventKind<'_>, span: Span) -> ReadFault {
+    pub(crate) fn mismatch(
+        &self,
+        wanted: Sort,
+        kind: &ParseEventKind<'_>,
+        span: Span,
+    ) -> ReadFault {
         let is_quoted = is_quoted(self.parser.input().unwrap_or(&[]), span);
-        ReadFault::at(ReadFaultKind::Mismatch(wanted, found_in(kind, is_quoted)), span)
+        ReadFault::at(
+            ReadFaultKind::Mismatch(wanted, found_in(kind, is_quoted)),
+            span,
+        )
     }
 
     /// What was wanted, and is not there: where a whole number stands there, it is too great.
     #[cold]
     #[inline(never)]
-    pub(crate) fn no_number(&self, wanted: Sort, kind: &ParseEventKind<'_>, span: Span) -> ReadFault {
+    pub(crate) fn no_number(
+        &self,
+        wanted: Sort,
+        kind: &ParseEventKind<'_>,
+        span: Span,
+    ) -> ReadFault {
         let fault = self.mismatch(wanted, kind, span);
         match fault.kind {
-            ReadFaultKind::Mismatch(_, Sort::Integer) => ReadFault::at(ReadFaultKind::OutOfRange(wanted), span),
+            ReadFaultKind::Mismatch(_, Sort::Integer) => ReadFault::at(
+                ReadFaultKind::OutOfRange(wanted),
+                span,
+            ),
             _ => fault,
         }
     }
@@ -225,6 +244,18 @@ impl<'de> Json<'de> {
         let (wanted, span) = next_wanted(&mut self.parser)?;
         self.last = span;
         Some(wanted)
+    }
+
+    /// Takes a number with a fraction or an exponent, where a few bytes decide that it comes. Else nothing changes.
+    #[inline(always)]
+    pub(crate) fn decimal(&mut self) -> Option<Decimal<'de>>
+        ensures { MatchOption result (self.new ≡ self.old)
+            (λ d. Passes self.old (record { kind = scalar (decimal d); span = span_of self.new.last }) self.new × (self.new.ahead ≡ Ahead.Nothing)) }
+    {
+        if self.at_key {
+            return None;
+        }
+        self.wanted()
     }
 
     /// Whether something else than this comes, as its first byte tells. Nothing is read.
