@@ -12,6 +12,8 @@ mod find_error;
 pub mod float;
 pub mod laws;
 mod lent;
+mod line_pieces;
+mod lines;
 mod pointer;
 mod prefix;
 mod reading;
@@ -44,6 +46,7 @@ pub use facet_json_tree::{
 };
 pub use fields::{Done, Fields, Maybe, Need, read_fields};
 pub use lent::{LentFields, write_fields};
+pub use lines::{Line, LineError, Lines};
 pub use prefix::{from_slice_prefix, from_str_prefix};
 pub use reading::{
     from_slice, from_slice_borrowed, from_slice_borrowed_jsonc, from_slice_jsonc, from_str,
