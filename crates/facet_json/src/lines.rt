@@ -82,8 +82,8 @@ pub enum LineError {
     },
     /// An allocation failed. No byte is lost: the next call goes on with the same line.
     Memory,
-    /// The reader failed, and this is its error. No byte is lost: the next call goes on with the same line. An interrupted read is none: it is
-    /// tried again.
+    /// The reader failed, and this is its error. No byte is lost: the next call goes on with the same line. An interrupted read is tried again.
+    /// Of the kind `TimedOut` it is also where 2^64 lines, or 2^64 reads of one, have been too few.
     Io(io::Error),
 }
 
