@@ -4,6 +4,8 @@ pub mod FieldLaws
 pub mod FieldSteps
 pub mod FieldsBack
 pub mod ItemsPassed
+pub mod LinePiecesRead
+pub mod LinesRead
 pub mod MemberCalls
 pub mod NodesPointed
 pub mod PointersFollowed

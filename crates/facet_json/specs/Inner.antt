@@ -1,2 +1,4 @@
 -- Definitions that serve private contracts alone.
+pub mod LinePieces
+pub mod LinePlaces
 pub mod Pointing

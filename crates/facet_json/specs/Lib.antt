@@ -122,6 +122,8 @@ pub mod Documents
 pub mod Fields
 pub mod Inner
 pub mod Inputs
+pub mod LineViews
+pub mod Lines
 pub mod Made
 pub mod Pointed
 pub mod PointedViews

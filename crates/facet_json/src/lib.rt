@@ -1,9 +1,9 @@
-//! JSON text (RFC 8259, with lenient readings) to values and back, proved: `from_slice`, `from_str` and their kin read a value of any type with `Facet`,
-//! `to_vec`, `to_string`, `to_writer_std` and their kin write one; a `Tree` is a value of any document, and `tree_from_slice` says exactly how
-//! none is refused. `from_slice_strict` and `tree_from_slice_strict` read texts of RFC 8259 alone. `read_fields` reads structs. `JsonParser`
-//! reads by events, `JsonSerializer` writes by calls, `transcode` passes a value from the one to the other, and `scanner` has tokens, strings'
-//! contents and numbers by themselves. `JsonError` is what each refusal becomes by `?`, and `Report` shows it with its place in the source; a
-//! writer's failure alone stays a `WriteError`, which has the writer's own error.
+//! JSON text (RFC 8259, with lenient readings) to values and back, proved: `from_slice`, `from_str` and their kin read a value of any type with
+//! `Facet`, `to_vec`, `to_string`, `to_writer_std` and their kin write one; a `Tree` is a value of any document, and `tree_from_slice` says
+//! exactly how none is refused. `from_slice_strict` and `tree_from_slice_strict` read texts of RFC 8259 alone. `read_fields` reads structs,
+//! `Lines` JSON lines. `JsonParser` reads by events, `JsonSerializer` writes by calls, `transcode` passes a value from the one to the other, and
+//! `scanner` has tokens, strings' contents and numbers by themselves. `JsonError` is what each refusal becomes by `?`, and `Report` shows it
+//! with its place in the source; a writer's or a reader's own failure alone stays a `WriteError` or a `LineError`.
 #![tactic(auto)]
 
 mod documents;
@@ -12,6 +12,8 @@ mod find_error;
 pub mod float;
 pub mod laws;
 mod lent;
+mod line_pieces;
+mod lines;
 pub mod made;
 mod pointer;
 mod prefix;
@@ -45,6 +47,7 @@ pub use facet_json_tree::{
 };
 pub use fields::{Done, Fields, Maybe, Need, read_fields};
 pub use lent::{LentFields, write_fields};
+pub use lines::{Line, LineError, Lines};
 pub use prefix::{from_slice_prefix, from_str_prefix};
 pub use reading::{
     from_slice, from_slice_borrowed, from_slice_borrowed_jsonc, from_slice_jsonc, from_str,
