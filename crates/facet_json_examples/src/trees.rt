@@ -1,6 +1,8 @@
 //! Trees of documents, and texts of trees.
 
-use facet_json::{DeserializeError, JsonSerializeError, Tree, to_vec, tree_from_slice_within};
+use facet_json::{
+    DeserializeError, JsonSerializeError, Tree, to_vec, tree, tree_from_slice_within,
+};
 use std::alloc::Global;
 
 /// How many items the input's list has, and 0 where it is no list. The input may come from a stranger: one that nests
@@ -12,10 +14,10 @@ fn count<'t>(alloc: Global, input: &[u8]) -> Result<usize, DeserializeError<'t>>
     }
 }
 
-/// The text of a list of two numbers: `[1,2]`.
-fn pair(alloc: Global) -> Result<Vec<u8>, JsonSerializeError> {
-    let items = vec![in alloc; Tree::U64(1), Tree::U64(2)]?;
-    to_vec(alloc, &Tree::List(items))
+/// A text such as `{"name":"Ada","ids":[1,2],"next":null}`.
+fn person(alloc: Global, name: &str) -> Result<Vec<u8>, JsonSerializeError> {
+    let tree = tree!(in alloc; {"name": name, "ids": [1, 2], "next": null})?;
+    to_vec(alloc, &tree)
 }
 
 /// The first user's name in `{"users":[{"name":"Ada"}]}`, and none where the tree has none.
