@@ -27,6 +27,8 @@ mod lengths;
 #[cfg(test)]
 mod lent;
 #[cfg(test)]
+mod lines;
+#[cfg(test)]
 mod numbers;
 #[cfg(test)]
 mod own;
