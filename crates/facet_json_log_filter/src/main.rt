@@ -31,7 +31,15 @@ fn filter_all(rt: &HostRuntime, wanted: Wanted<'_>, files: &[String]) -> io::Res
         )?;
     }
     for file in files {
-        let input = BufReader::new(rt.alloc(), fs::open(rt, file.as_str())?)?;
+        let log = match fs::open(rt, file.as_str()) {
+            Ok(log) => log,
+            Err(error) => {
+                output.flush()?;
+                eprintln!(rt; "{file}: {error}")?;
+                return Ok(2);
+            }
+        };
+        let input = BufReader::new(rt.alloc(), log)?;
         let is_next_fine = filter(
             rt.alloc(),
             file.as_str(),
