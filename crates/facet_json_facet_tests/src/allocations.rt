@@ -7,9 +7,10 @@ use facet_format::{
 };
 use facet_json::steps::{FindError, begin_object, find_key, find_pointer};
 use facet_json::{
-    Done, Need, from_slice, from_slice_borrowed, from_slice_borrowed_jsonc, from_slice_jsonc,
-    from_slice_prefix, from_slice_strict, from_str, from_str_borrowed, from_str_borrowed_jsonc,
-    from_str_jsonc, from_str_prefix, from_str_strict, read_fields, to_vec, write_fields,
+    Done, LineError, Lines, Need, from_slice, from_slice_borrowed, from_slice_borrowed_jsonc,
+    from_slice_jsonc, from_slice_prefix, from_slice_strict, from_str, from_str_borrowed,
+    from_str_borrowed_jsonc, from_str_jsonc, from_str_prefix, from_str_strict, read_fields, to_vec,
+    write_fields,
 };
 use facet_json_core::RawJson;
 use facet_json_examples::accounts::Account;
@@ -829,4 +830,24 @@ fn a_growth_is_refused_in_a_search_by_a_pointer(rt: HostRuntime) {
         let first = points(alloc, row);
         assert!(rt; but_once(first, points(alloc, row)), "{}", row.input);
     }
+}
+
+/// The sum of the numbers that are lines, where a call that is refused memory is made again.
+fn sum_of_lines(alloc: Global) -> Option<u64> {
+    let mut lines = Lines::new(alloc, "1\n20 \n[]\n\n123456789\n300".as_bytes(), 8);
+    let mut sum: u64 = 0;
+    for _ in 0..9 {
+        match lines.next_line() {
+            Ok(Some(line)) => sum = sum.saturating_add(line.value(alloc).unwrap_or(0)),
+            Ok(None) => return Some(sum),
+            Err(LineError::TooLong { .. } | LineError::Memory) => {}
+            Err(LineError::Io(_)) => return None,
+        }
+    }
+    None
+}
+
+#[test]
+fn a_growth_is_refused_in_a_line(rt: HostRuntime) {
+    assert!(rt; sum_of_lines(rt.alloc()) == Some(321));
 }

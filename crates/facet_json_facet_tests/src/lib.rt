@@ -27,6 +27,7 @@ mod lengths;
 #[cfg(test)]
 mod lent;
 #[cfg(test)]
+mod lines;
 mod made;
 #[cfg(test)]
 mod numbers;

@@ -1,0 +1,80 @@
+//! Which lines of a log are wanted.
+
+use facet_json::steps::{begin_object, find_key};
+use facet_json::{
+    DeserializeError, Facet, JsonError, JsonParser, LineError, Lines, RawJson, from_str,
+};
+use std::alloc::Global;
+use std::io;
+use std::io::{BufRead, ErrorKind, Write};
+
+/// The most bytes of a line.
+pub const LONGEST_LINE: usize = 1_048_576;
+
+/// What is wanted of a record: that the first member of this name is this text, or a value that is written so.
+#[derive(Debug, Clone, Copy)]
+pub struct Wanted<'a> {
+    pub name: &'a str,
+    pub value: &'a str,
+}
+
+/// Whether the value is this text, or written so.
+fn is_value<'t>(alloc: Global, json: &str, value: &str) -> Result<bool, DeserializeError<'t>> {
+    if json.starts_with('"') {
+        let text: String = from_str(alloc, json)?;
+        Ok(text.as_str() == value)
+    } else {
+        Ok(json == value)
+    }
+}
+
+/// Whether a record is wanted. What stands before the member is passed undecoded, and what stands behind it is not read.
+pub fn is_wanted<'t>(
+    alloc: Global,
+    record: &[u8],
+    wanted: Wanted<'_>,
+) -> Result<bool, DeserializeError<'t>> {
+    let mut parser = JsonParser::new(alloc, record);
+    begin_object(&mut parser)?;
+    if find_key(&mut parser, wanted.name)? {
+        let json = RawJson::read(alloc, &mut parser)?;
+        is_value(alloc, json.as_str(), wanted.value)
+    } else {
+        Ok(false)
+    }
+}
+
+/// Copies the lines of a log that are wanted, and tells what is wrong with others. What is answered is whether nothing was.
+pub fn filter<R: BufRead + Drop, W: Write, E: Write>(
+    alloc: Global,
+    name: &str,
+    log: R,
+    wanted: Wanted<'_>,
+    output: &mut W,
+    errors: &mut E,
+) -> io::Result<bool> {
+    let mut lines = Lines::new(alloc, log, LONGEST_LINE);
+    let mut is_fine = true;
+    'lines: loop {
+        match lines.next_line() {
+            Ok(Some(line)) => match is_wanted(alloc, line.text, wanted) {
+                Ok(true) => {
+                    output.write_all(line.text)?;
+                    output.write_all(b"\n")?;
+                }
+                Ok(false) => {}
+                Err(error) => {
+                    is_fine = false;
+                    writeln!(errors, "{name}:{}: {}", line.number, JsonError::from(error))?;
+                }
+            },
+            Ok(None) => return Ok(is_fine),
+            Err(LineError::TooLong { number }) => {
+                is_fine = false;
+                writeln!(errors, "{name}: {}", LineError::TooLong { number })?;
+            }
+            Err(LineError::Memory) => return Err(io::Error::from(ErrorKind::OutOfMemory)),
+            Err(LineError::Io(error)) => return Err(error),
+        }
+    }
+}

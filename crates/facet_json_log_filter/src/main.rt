@@ -1,0 +1,80 @@
+//! Copies the records of logs that have a member of a value, a record a line: `facet_json_log_filter --where NAME=VALUE [FILE..]`. Without a
+//! file it reads the standard input.
+//!
+//! The status is 0 where each line is a record as far as it was read, 1 where one isn't, which is told, and 2 where a file can't be read or the
+//! arguments are others.
+#![tactic(auto)]
+
+mod filter;
+
+use crate::filter::{Wanted, filter};
+use std::io::{BufReader, BufWriter, Write};
+use std::process::ExitCode;
+use std::{env, fs, io};
+
+/// How the program is called.
+const USAGE: &str = "usage: facet_json_log_filter --where NAME=VALUE [FILE..]";
+
+/// Filters the standard input, or the files of these names. What is answered is the status.
+fn filter_all(rt: &HostRuntime, wanted: Wanted<'_>, files: &[String]) -> io::Result<u8> {
+    let mut output = BufWriter::new(rt.alloc(), rt.stdout())?;
+    let mut is_fine = true;
+    if files.is_empty() {
+        let input = BufReader::new(rt.alloc(), rt.stdin())?;
+        is_fine = filter(
+            rt.alloc(),
+            "<stdin>",
+            input,
+            wanted,
+            &mut output,
+            &mut rt.stderr(),
+        )?;
+    }
+    for file in files {
+        let log = match fs::open(rt, file.as_str()) {
+            Ok(log) => log,
+            Err(error) => {
+                output.flush()?;
+                eprintln!(rt; "{file}: {error}")?;
+                return Ok(2);
+            }
+        };
+        let input = BufReader::new(rt.alloc(), log)?;
+        let is_next_fine = filter(
+            rt.alloc(),
+            file.as_str(),
+            input,
+            wanted,
+            &mut output,
+            &mut rt.stderr(),
+        )?;
+        is_fine = is_fine && is_next_fine;
+    }
+    output.flush()?;
+    Ok(if is_fine { 0 } else { 1 })
+}
+
+/// Does what the arguments ask for. What is answered is the status.
+fn run(rt: &HostRuntime) -> io::Result<u8> {
+    let args: Vec<String> = env::args(rt)?.skip(1).collect(rt.alloc())?;
+    if let [option, condition, files @ ..] = args.as_slice() {
+        if option.as_str() == "--where" {
+            if let Some((name, value)) = condition.as_str().split_once('=') {
+                return filter_all(rt, Wanted { name, value }, files);
+            }
+        }
+    }
+    eprintln!(rt; "{USAGE}")?;
+    Ok(2)
+}
+
+fn main(rt: HostRuntime) -> ExitCode {
+    match run(&rt) {
+        Ok(status) => ExitCode::from(status),
+        Err(error) => {
+            // Where the line can't be written, the status still tells.
+            let _ = eprintln!(rt; "{error}");
+            ExitCode::from(2)
+        }
+    }
+}
