@@ -1,16 +1,9 @@
 //! Reads the configuration file of a server, JSON with comments, and prints the settings with what was left out filled in. Where something is
-//! wrong with the file, it says what, and shows the place. `facet_json_config [FILE]`: without a file it reads the standard input.
-//!
-//! The status is 0 where the settings are printed, 1 where something is wrong with them, and 2 where the file can't be read or there are
-//! more arguments.
-#![tactic(auto)]
-
-mod settings;
+//! wrong with the file, it says what, and shows the place. `config [FILE]`: without a file it reads the standard input.
 
 use crate::settings::{Settings, read_settings};
 use facet_json_serde::{Error, to_string_pretty};
-use std::process::ExitCode;
-use std::{env, fs, io};
+use std::{fs, io};
 
 /// The text of the file of this name, or of the standard input.
 fn text_of(rt: &HostRuntime, file: Option<&str>) -> io::Result<String> {
@@ -40,29 +33,12 @@ fn tell(rt: &HostRuntime, name: &str, text: &str, error: &Error<'static>) -> io:
     Ok(1)
 }
 
-/// Reads the file, and prints its settings or what is wrong with it. What is answered is the status.
-fn run(rt: &HostRuntime) -> io::Result<u8> {
-    let mut args = env::args(rt)?.skip(1);
-    let file = args.next();
-    if args.next().is_some() {
-        eprintln!(rt; "usage: facet_json_config [FILE]")?;
-        return Ok(2);
-    }
-    let name = file.as_ref().map(|name| name.as_str());
-    let text = text_of(rt, name)?;
+/// Reads the file, and prints its settings or what is wrong with it. What is answered is the status: 0 where the settings are printed, and 1
+/// where something is wrong with them.
+pub fn run(rt: &HostRuntime, file: Option<&str>) -> io::Result<u8> {
+    let text = text_of(rt, file)?;
     match read_settings(rt.alloc(), text.as_str()) {
         Ok(settings) => show(rt, &settings),
-        Err(error) => tell(rt, name.unwrap_or("<stdin>"), text.as_str(), &error),
-    }
-}
-
-fn main(rt: HostRuntime) -> ExitCode {
-    match run(&rt) {
-        Ok(status) => ExitCode::from(status),
-        Err(error) => {
-            // Where the line can't be written, the status still tells.
-            let _ = eprintln!(rt; "{error}");
-            ExitCode::from(2)
-        }
+        Err(error) => tell(rt, file.unwrap_or("<stdin>"), text.as_str(), &error),
     }
 }

@@ -1,5 +1,5 @@
 use Rattle.std.proofs.Common.{◌-◌, ◌^◌}
-use Rattle.facet_json_log_filter.proofs.filter.filter.Given as goal
+use Rattle.facet_json_programs.proofs.filter.filter.Given as goal
 
 abbrev pub decreases-lines : goal.decreases-lines
 decreases-lines g l = 2 ^ 64 - l.lines.number

@@ -1,0 +1,77 @@
+//! Programs that stand on the library, each named by the first argument:
+//!
+//! - `config [FILE]` reads a configuration file, JSON with comments, and prints its settings, or what is wrong with a line and a caret.
+//! - `log_filter --where NAME=VALUE [FILE..]` copies the records of logs whose member of that name has that value.
+//!
+//! The status is 0 where all is fine, 1 where something is wrong with what was read, and 2 where a file can't be read or the arguments are
+//! others.
+#![tactic(auto)]
+
+mod config;
+mod filter;
+mod log_filter;
+mod settings;
+
+use crate::filter::Wanted;
+use std::process::ExitCode;
+use std::{env, io};
+
+/// How the programs are called.
+const USAGE: &str = "usage: facet_json_programs config [FILE]
+       facet_json_programs log_filter --where NAME=VALUE [FILE..]";
+
+/// Runs the configuration reader, where its arguments are such.
+fn run_config(rt: &HostRuntime, args: &[String]) -> io::Result<Option<u8>> {
+    match args {
+        [] => Ok(Some(config::run(rt, None)?)),
+        [file] => Ok(Some(config::run(rt, Some(file.as_str()))?)),
+        _ => Ok(None),
+    }
+}
+
+/// Runs the filter of logs, where its arguments are such.
+fn run_log_filter(rt: &HostRuntime, args: &[String]) -> io::Result<Option<u8>> {
+    match args {
+        [option, condition, files @ ..] if option.as_str() == "--where" => {
+            match condition.as_str().split_once('=') {
+                Some((name, value)) => {
+                    Ok(Some(log_filter::run(rt, Wanted { name, value }, files)?))
+                }
+                None => Ok(None),
+            }
+        }
+        _ => Ok(None),
+    }
+}
+
+/// Runs the program that the arguments name. What is answered is its status, or `None` where they name none.
+fn run(rt: &HostRuntime, args: &[String]) -> io::Result<Option<u8>> {
+    match args {
+        [name, args @ ..] if name.as_str() == "config" => run_config(rt, args),
+        [name, args @ ..] if name.as_str() == "log_filter" => run_log_filter(rt, args),
+        _ => Ok(None),
+    }
+}
+
+/// Does what the program was called for. What is answered is the status.
+fn called(rt: &HostRuntime) -> io::Result<u8> {
+    let args: Vec<String> = env::args(rt)?.skip(1).collect(rt.alloc())?;
+    match run(rt, args.as_slice())? {
+        Some(status) => Ok(status),
+        None => {
+            eprintln!(rt; "{USAGE}")?;
+            Ok(2)
+        }
+    }
+}
+
+fn main(rt: HostRuntime) -> ExitCode {
+    match called(&rt) {
+        Ok(status) => ExitCode::from(status),
+        Err(error) => {
+            // Where the line can't be written, the status still tells.
+            let _ = eprintln!(rt; "{error}");
+            ExitCode::from(2)
+        }
+    }
+}
