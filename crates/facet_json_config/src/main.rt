@@ -40,6 +40,14 @@ fn tell(rt: &HostRuntime, name: &str, text: &str, error: &Error<'static>) -> io:
     Ok(1)
 }
 
+/// Prints the settings that the text of a file of this name has, or what is wrong with it.
+fn answer(rt: &HostRuntime, name: &str, text: &str) -> io::Result<u8> {
+    match read_settings(rt.alloc(), text) {
+        Ok(settings) => show(rt, &settings),
+        Err(error) => tell(rt, name, text, &error),
+    }
+}
+
 /// Reads the file, and prints its settings or what is wrong with it. What is answered is the status.
 fn run(rt: &HostRuntime) -> io::Result<u8> {
     let mut args = env::args(rt)?.skip(1);
@@ -50,10 +58,7 @@ fn run(rt: &HostRuntime) -> io::Result<u8> {
     }
     let name = file.as_ref().map(|name| name.as_str());
     let text = text_of(rt, name)?;
-    match read_settings(rt.alloc(), text.as_str()) {
-        Ok(settings) => show(rt, &settings),
-        Err(error) => tell(rt, name.unwrap_or("<stdin>"), text.as_str(), &error),
-    }
+    answer(rt, name.unwrap_or("<stdin>"), text.as_str())
 }
 
 fn main(rt: HostRuntime) -> ExitCode {
