@@ -36,18 +36,20 @@ fn both_tell(alloc: Global, text: &str, events: usize, end: u8) -> bool {
     }
 }
 
+/// Inputs, how many events come, and the end, which is 0, or the code of a refusal.
+static ROWS: [(&str, usize, u8); 6] = [
+    ("[1]", 3, 0),
+    ("{\"a\":\"b\"} x", 4, 0),
+    ("", 0, 2),
+    ("[1 2", 2, 3),
+    ("[1,@", 2, 1),
+    ("{\"a\"", 1, 3),
+];
+
 #[test]
 fn events_come_and_then_the_end_or_a_refusal(rt: HostRuntime) {
     let alloc = rt.alloc();
-    let rows = [
-        ("[1]", 3, 0),
-        ("{\"a\":\"b\"} x", 4, 0),
-        ("", 0, 2),
-        ("[1 2", 2, 3),
-        ("[1,@", 2, 1),
-        ("{\"a\"", 1, 3),
-    ];
-    for (input, events, end) in rows {
+    for &(input, events, end) in &ROWS {
         assert!(rt; is_told(alloc, input, events, end), "of {input}");
         assert!(rt; both_tell(alloc, input, events, end), "of {input}");
     }

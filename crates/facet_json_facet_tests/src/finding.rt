@@ -47,55 +47,61 @@ fn refuses(alloc: Global, input: &str, name: &str) -> bool {
     begin_object(&mut parser).is_ok() && find_key(&mut parser, name).is_err()
 }
 
+/// Inputs, keys, and the numbers that are found.
+static FOUND: [(&str, &str, u64); 11] = [
+    ("{\"a\":1,\"b\":2,\"c\":3}", "a", 1),
+    ("{\"a\":1,\"b\":2,\"c\":3}", "b", 2),
+    ("{\"a\":1,\"b\":2,\"c\":3}", "c", 3),
+    ("{\"\\u0061\":1}", "a", 1),
+    ("{\"\\u0062\":1,\"\\u0061b\":2,\"ab\":3}", "ab", 2),
+    ("{\"a\":{\"b\":1},\"c\":[{\"b\":2}],\"b\":3}", "b", 3),
+    ("{\"a\":1,\"a\":2}", "a", 1),
+    ("{\"ab\":1,\"\":2,\"a\":3}", "a", 3),
+    ("{\"a\":\"b\",\"\":2}", "", 2),
+    ("{\"A\":1,\"a\":2}", "a", 2),
+    ("{\"a\":1", "a", 1),
+];
+
 #[test]
 fn the_first_member_of_a_key_is_found(rt: HostRuntime) {
-    let rows = [
-        ("{\"a\":1,\"b\":2,\"c\":3}", "a", 1),
-        ("{\"a\":1,\"b\":2,\"c\":3}", "b", 2),
-        ("{\"a\":1,\"b\":2,\"c\":3}", "c", 3),
-        ("{\"\\u0061\":1}", "a", 1),
-        ("{\"\\u0062\":1,\"\\u0061b\":2,\"ab\":3}", "ab", 2),
-        ("{\"a\":{\"b\":1},\"c\":[{\"b\":2}],\"b\":3}", "b", 3),
-        ("{\"a\":1,\"a\":2}", "a", 1),
-        ("{\"ab\":1,\"\":2,\"a\":3}", "a", 3),
-        ("{\"a\":\"b\",\"\":2}", "", 2),
-        ("{\"A\":1,\"a\":2}", "a", 2),
-        ("{\"a\":1", "a", 1),
-    ];
-    for (input, name, number) in rows {
+    for &(input, name, number) in &FOUND {
         assert!(rt; finds(rt.alloc(), input, name, number), "of {input}");
     }
 }
 
+/// Inputs, and keys that they have not.
+static LACKING: [(&str, &str); 9] = [
+    ("{}", "a"),
+    ("{}", ""),
+    ("{\"a\":1,\"b\":2}", "c"),
+    ("{\"a\":{\"b\":1}}", "b"),
+    ("{\"a\":[{\"b\":1}]}", "b"),
+    ("{\"a\":\"b\"}", "b"),
+    ("{\"ab\":1}", "a"),
+    ("{\"a\":1}", "ab"),
+    ("{\"\\u0061\":1}", "\\u0061"),
+];
+
 #[test]
 fn a_key_that_is_not_there_is_not_found(rt: HostRuntime) {
-    let rows = [
-        ("{}", "a"),
-        ("{}", ""),
-        ("{\"a\":1,\"b\":2}", "c"),
-        ("{\"a\":{\"b\":1}}", "b"),
-        ("{\"a\":[{\"b\":1}]}", "b"),
-        ("{\"a\":\"b\"}", "b"),
-        ("{\"ab\":1}", "a"),
-        ("{\"a\":1}", "ab"),
-        ("{\"\\u0061\":1}", "\\u0061"),
-    ];
-    for (input, name) in rows {
+    for &(input, name) in &LACKING {
         assert!(rt; lacks(rt.alloc(), input, name), "of {input}");
     }
 }
 
+/// Inputs that are cut, and keys that do not come before.
+static CUT: [(&str, &str); 6] = [
+    ("{\"a\":1", "b"),
+    ("{\"a\":1,", "b"),
+    ("{\"a\":[1}", "b"),
+    ("{", "b"),
+    ("{\"b\"", "b"),
+    ("{\"a\" 1,\"b\":2}", "b"),
+];
+
 #[test]
 fn a_cut_object_is_refused(rt: HostRuntime) {
-    let rows = [
-        ("{\"a\":1", "b"),
-        ("{\"a\":1,", "b"),
-        ("{\"a\":[1}", "b"),
-        ("{", "b"),
-        ("{\"b\"", "b"),
-        ("{\"a\" 1,\"b\":2}", "b"),
-    ];
-    for (input, name) in rows {
+    for &(input, name) in &CUT {
         assert!(rt; refuses(rt.alloc(), input, name), "of {input}");
     }
 }

@@ -17,37 +17,41 @@ fn is_written(alloc: Global, float: f64, text: &str) -> bool {
     }
 }
 
+/// Texts of numbers, and their floats.
+static NEAREST: [(&str, f64); 11] = [
+    ("0.5", 0.5),
+    ("-0.50", -0.5),
+    ("1e3", 1000.0),
+    ("1.e5", 100000.0),
+    ("-.25", -0.25),
+    ("007.0", 7.0),
+    ("9007199254740993.0", 9007199254740992.0),
+    ("9007199254740995.0", 9007199254740996.0),
+    ("1E-400", 0.0),
+    ("1e400", f64::INFINITY),
+    ("-1e400", f64::NEG_INFINITY),
+];
+
 #[test]
 fn numbers_are_the_nearest_floats(rt: HostRuntime) {
-    let rows = [
-        ("0.5", 0.5),
-        ("-0.50", -0.5),
-        ("1e3", 1000.0),
-        ("1.e5", 100000.0),
-        ("-.25", -0.25),
-        ("007.0", 7.0),
-        ("9007199254740993.0", 9007199254740992.0),
-        ("9007199254740995.0", 9007199254740996.0),
-        ("1E-400", 0.0),
-        ("1e400", f64::INFINITY),
-        ("-1e400", f64::NEG_INFINITY),
-    ];
-    for (text, float) in rows {
+    for &(text, float) in &NEAREST {
         assert!(rt; float_of(text) == Some(float), "{text}");
     }
 }
 
+/// Floats, and the texts of their numbers.
+static SHORTEST: [(f64, &str); 6] = [
+    (0.5, "0.5"),
+    (-2.0, "-2.0"),
+    (0.1, "0.1"),
+    (1e300, "1e300"),
+    (5e-324, "5e-324"),
+    (1.7976931348623157e308, "1.7976931348623157e308"),
+];
+
 #[test]
 fn floats_are_the_shortest_numbers(rt: HostRuntime) {
-    let rows = [
-        (0.5, "0.5"),
-        (-2.0, "-2.0"),
-        (0.1, "0.1"),
-        (1e300, "1e300"),
-        (5e-324, "5e-324"),
-        (1.7976931348623157e308, "1.7976931348623157e308"),
-    ];
-    for (float, text) in rows {
+    for &(float, text) in &SHORTEST {
         assert!(rt; is_written(rt.alloc(), float, text), "{text}");
     }
 }

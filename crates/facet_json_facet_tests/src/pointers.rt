@@ -1,23 +1,44 @@
 //! A search by a JSON pointer, with the document and the pointers of RFC 6901, section 5, and with others.
 
-use facet_format::FormatParser;
+use facet_format::{DeserializeError, FormatParser};
 use facet_json::steps::{FindError, find_pointer};
-use facet_json::{PointerError, read_tree, tree_from_slice};
+use facet_json::{PointerError, Tree, read_tree, tree_from_slice};
 use facet_json_parser::JsonParser;
 use std::alloc::Global;
+use std::process::Abort;
 
 /// Whether the pointer names this value of the input, which is read from where the search ends.
 fn names(alloc: Global, input: &str, pointer: &str, wanted: &str) -> bool {
     let mut parser = JsonParser::new(alloc, input.as_bytes());
-    let Ok(true) = find_pointer(&mut parser, pointer) else {
-        return false;
-    };
-    match (
-        read_tree(alloc, &mut parser),
-        tree_from_slice(alloc, wanted.as_bytes()),
-    ) {
-        (Ok(found), Ok(wanted)) => found.is_same(&wanted),
-        _ => false,
+    matches!(find_pointer(&mut parser, pointer), Ok(true))
+        && is_read(alloc, read_tree(alloc, &mut parser), wanted)
+}
+
+/// Whether this value was read.
+fn is_read(alloc: Global, read: Result<Tree, DeserializeError<'_>>, wanted: &str) -> bool {
+    match read {
+        Ok(found) => is_tree(alloc, &found, wanted),
+        Err(_) => false,
+    }
+}
+
+fn is_tree(alloc: Global, found: &Tree, wanted: &str) -> bool {
+    match tree_from_slice(alloc, wanted.as_bytes()) {
+        Ok(wanted) => found.is_same(&wanted),
+        Err(_) => false,
+    }
+}
+
+/// An input, a pointer, and the value that it names.
+type Named = (&'static str, &'static str, &'static str);
+
+/// Fails where a pointer doesn't name its row's value.
+fn expect_named(rt: &impl Abort, alloc: Global, rows: &[Named]) {
+    for &(input, pointer, wanted) in rows {
+        assert!(rt;
+            names(alloc, input, pointer, wanted),
+            "{pointer} of {input}"
+        );
     }
 }
 
@@ -34,23 +55,25 @@ fn lacks(alloc: Global, input: &str, pointer: &str, passed: usize) -> bool {
 const DOCUMENT: &str =
     r#"{"foo":["bar","baz"],"":0,"a/b":1,"c%d":2,"e^f":3,"g|h":4,"i\\j":5,"k\"l":6," ":7,"m~n":8}"#;
 
+/// The pointers of that section, and what each names.
+static OF_THE_RFC: [(&str, &str); 12] = [
+    ("", DOCUMENT),
+    ("/foo", r#"["bar","baz"]"#),
+    ("/foo/0", r#""bar""#),
+    ("/", "0"),
+    ("/a~1b", "1"),
+    ("/c%d", "2"),
+    ("/e^f", "3"),
+    ("/g|h", "4"),
+    (r"/i\j", "5"),
+    (r#"/k"l"#, "6"),
+    ("/ ", "7"),
+    ("/m~0n", "8"),
+];
+
 #[test]
 fn the_pointers_of_the_rfc_name_their_values(rt: HostRuntime) {
-    let rows = [
-        ("", DOCUMENT),
-        ("/foo", r#"["bar","baz"]"#),
-        ("/foo/0", r#""bar""#),
-        ("/", "0"),
-        ("/a~1b", "1"),
-        ("/c%d", "2"),
-        ("/e^f", "3"),
-        ("/g|h", "4"),
-        (r"/i\j", "5"),
-        (r#"/k"l"#, "6"),
-        ("/ ", "7"),
-        ("/m~0n", "8"),
-    ];
-    for (pointer, wanted) in rows {
+    for &(pointer, wanted) in &OF_THE_RFC {
         assert!(rt;
             names(rt.alloc(), DOCUMENT, pointer, wanted),
             "at {pointer}"
@@ -58,97 +81,90 @@ fn the_pointers_of_the_rfc_name_their_values(rt: HostRuntime) {
     }
 }
 
+/// Inputs, pointers that lead into them, and what these name.
+static WITHIN: [Named; 19] = [
+    (r#"{"a":[0,{"b":[1,2]}]}"#, "/a/1/b/1", "2"),
+    ("[0,1,2,3,4,5,6,7,8,9,10,11,12,13]", "/12", "12"),
+    ("[0,1]", "/0", "0"),
+    ("[[],[[7]]]", "/1/0/0", "7"),
+    (r#"[{"a":1},{"a":2}]"#, "/1/a", "2"),
+    (r#"{"~1":1,"/":2}"#, "/~01", "1"),
+    (r#"{"~1":1,"/":2}"#, "/~1", "2"),
+    (r#"{"~":1}"#, "/~0", "1"),
+    (r#"{"a/~b":1}"#, "/a~1~0b", "1"),
+    (r#"{"01":1}"#, "/01", "1"),
+    (r#"{"0":1}"#, "/0", "1"),
+    (r#"{"é":1}"#, "/é", "1"),
+    (r#"{"a":{"":1}}"#, "/a/", "1"),
+    (r#"{"":{"":1}}"#, "//", "1"),
+    (r#"{"b":{"a":1},"a":2}"#, "/a", "2"),
+    (r#"{"ab":1,"a":2}"#, "/a", "2"),
+    (r#"{"b":"a","a":2}"#, "/a", "2"),
+    ("null", "", "null"),
+    (" [ 1 , 2 ] ", "/1", "2"),
+];
+
 #[test]
 fn tokens_lead_into_a_value(rt: HostRuntime) {
-    let rows = [
-        (r#"{"a":[0,{"b":[1,2]}]}"#, "/a/1/b/1", "2"),
-        ("[0,1,2,3,4,5,6,7,8,9,10,11,12,13]", "/12", "12"),
-        ("[0,1]", "/0", "0"),
-        ("[[],[[7]]]", "/1/0/0", "7"),
-        (r#"[{"a":1},{"a":2}]"#, "/1/a", "2"),
-        (r#"{"~1":1,"/":2}"#, "/~01", "1"),
-        (r#"{"~1":1,"/":2}"#, "/~1", "2"),
-        (r#"{"~":1}"#, "/~0", "1"),
-        (r#"{"a/~b":1}"#, "/a~1~0b", "1"),
-        (r#"{"01":1}"#, "/01", "1"),
-        (r#"{"0":1}"#, "/0", "1"),
-        (r#"{"é":1}"#, "/é", "1"),
-        (r#"{"a":{"":1}}"#, "/a/", "1"),
-        (r#"{"":{"":1}}"#, "//", "1"),
-        (r#"{"b":{"a":1},"a":2}"#, "/a", "2"),
-        (r#"{"ab":1,"a":2}"#, "/a", "2"),
-        (r#"{"b":"a","a":2}"#, "/a", "2"),
-        ("null", "", "null"),
-        (" [ 1 , 2 ] ", "/1", "2"),
-    ];
-    for (input, pointer, wanted) in rows {
-        assert!(rt;
-            names(rt.alloc(), input, pointer, wanted),
-            "{pointer} of {input}"
-        );
-    }
+    expect_named(&rt, rt.alloc(), &WITHIN);
 }
+
+/// The same with escapes in keys.
+static ESCAPED: [Named; 6] = [
+    (r#"{"\u0061":1}"#, "/a", "1"),
+    (r#"{"\u0061b":1,"a":2}"#, "/a", "2"),
+    (r#"{"a\/b":1}"#, "/a~1b", "1"),
+    (r#"{"m\u007en":1}"#, "/m~0n", "1"),
+    (r#"{"\n":1}"#, "/\n", "1"),
+    (r#"{"\ud83d\ude00":1}"#, "/😀", "1"),
+];
 
 #[test]
 fn escaped_keys_are_found_by_their_text(rt: HostRuntime) {
-    let rows = [
-        (r#"{"\u0061":1}"#, "/a", "1"),
-        (r#"{"\u0061b":1,"a":2}"#, "/a", "2"),
-        (r#"{"a\/b":1}"#, "/a~1b", "1"),
-        (r#"{"m\u007en":1}"#, "/m~0n", "1"),
-        (r#"{"\n":1}"#, "/\n", "1"),
-        (r#"{"\ud83d\ude00":1}"#, "/😀", "1"),
-    ];
-    for (input, pointer, wanted) in rows {
-        assert!(rt;
-            names(rt.alloc(), input, pointer, wanted),
-            "{pointer} of {input}"
-        );
-    }
+    expect_named(&rt, rt.alloc(), &ESCAPED);
 }
+
+/// The same with a key that comes twice.
+static TWICE: [Named; 3] = [
+    (r#"{"a":1,"a":2}"#, "/a", "1"),
+    (r#"{"a":{"b":1},"a":{"b":2}}"#, "/a/b", "1"),
+    (r#"{"\u0061":1,"a":2}"#, "/a", "1"),
+];
 
 #[test]
 fn the_first_member_of_a_key_counts(rt: HostRuntime) {
-    let rows = [
-        (r#"{"a":1,"a":2}"#, "/a", "1"),
-        (r#"{"a":{"b":1},"a":{"b":2}}"#, "/a/b", "1"),
-        (r#"{"\u0061":1,"a":2}"#, "/a", "1"),
-    ];
-    for (input, pointer, wanted) in rows {
-        assert!(rt;
-            names(rt.alloc(), input, pointer, wanted),
-            "{pointer} of {input}"
-        );
-    }
+    expect_named(&rt, rt.alloc(), &TWICE);
     assert!(rt; lacks(rt.alloc(), r#"{"a":{"b":1},"a":{"c":2}}"#, "/a/c", 12));
 }
+
+/// Pointers that name nothing in that document, and how much of it is passed.
+static UNNAMED: [(&str, usize); 20] = [
+    ("/bar", 90),
+    ("/FOO", 90),
+    ("/foo ", 90),
+    ("/fo", 90),
+    ("/a", 90),
+    ("/0", 90),
+    ("/foo/2", 20),
+    ("/foo/00", 20),
+    ("/foo/01", 20),
+    ("/foo/-", 20),
+    ("/foo/", 20),
+    ("/foo/+1", 20),
+    ("/foo/1e0", 20),
+    ("/foo/~01", 20),
+    ("/foo/bar", 20),
+    ("/foo/18446744073709551615", 20),
+    ("/foo/18446744073709551616", 20),
+    ("/foo/184467440737095516160", 20),
+    ("/foo/0/0", 13),
+    ("//0", 25),
+];
 
 /// The whole object is passed where the first token names nothing, and the value of `foo`, which ends at 20, where the second does.
 #[test]
 fn other_pointers_name_nothing(rt: HostRuntime) {
-    let rows = [
-        ("/bar", 90),
-        ("/FOO", 90),
-        ("/foo ", 90),
-        ("/fo", 90),
-        ("/a", 90),
-        ("/0", 90),
-        ("/foo/2", 20),
-        ("/foo/00", 20),
-        ("/foo/01", 20),
-        ("/foo/-", 20),
-        ("/foo/", 20),
-        ("/foo/+1", 20),
-        ("/foo/1e0", 20),
-        ("/foo/~01", 20),
-        ("/foo/bar", 20),
-        ("/foo/18446744073709551615", 20),
-        ("/foo/18446744073709551616", 20),
-        ("/foo/184467440737095516160", 20),
-        ("/foo/0/0", 13),
-        ("//0", 25),
-    ];
-    for (pointer, passed) in rows {
+    for &(pointer, passed) in &UNNAMED {
         assert!(rt;
             lacks(rt.alloc(), DOCUMENT, pointer, passed),
             "at {pointer}"
@@ -156,28 +172,30 @@ fn other_pointers_name_nothing(rt: HostRuntime) {
     }
 }
 
+/// Inputs, pointers that name nothing in them, and how much is passed.
+static PASSED: [(&str, &str, usize); 13] = [
+    ("{}", "/a", 2),
+    ("[]", "/0", 2),
+    ("[1,2] ", "/2", 5),
+    ("1", "/0", 1),
+    ("\"ab\" ", "/0", 4),
+    (r#"{"a":{"b":1},"b":2}"#, "/a/c", 12),
+    (r#"{"a":[[1]],"b":2}"#, "/a/0/1", 9),
+    (r#"[{"a":{"b":1}}]"#, "/0/b", 14),
+    ("[1,]", "/1", 4),
+    ("[[0,1],2]", "/0/2", 6),
+    (r#"{"\u0061":1}"#, r"/\u0061", 12),
+    (r#"{"log":[{"ms":5},{"ms":7,"a/b":null}]}"#, "/log/2", 37),
+    (
+        r#"{"log":[{"ms":5},{"ms":7,"a/b":null}]}"#,
+        "/log/0/ms/0",
+        15,
+    ),
+];
+
 #[test]
 fn the_value_in_which_nothing_is_named_is_passed(rt: HostRuntime) {
-    let rows = [
-        ("{}", "/a", 2),
-        ("[]", "/0", 2),
-        ("[1,2] ", "/2", 5),
-        ("1", "/0", 1),
-        ("\"ab\" ", "/0", 4),
-        (r#"{"a":{"b":1},"b":2}"#, "/a/c", 12),
-        (r#"{"a":[[1]],"b":2}"#, "/a/0/1", 9),
-        (r#"[{"a":{"b":1}}]"#, "/0/b", 14),
-        ("[1,]", "/1", 4),
-        ("[[0,1],2]", "/0/2", 6),
-        (r#"{"\u0061":1}"#, r"/\u0061", 12),
-        (r#"{"log":[{"ms":5},{"ms":7,"a/b":null}]}"#, "/log/2", 37),
-        (
-            r#"{"log":[{"ms":5},{"ms":7,"a/b":null}]}"#,
-            "/log/0/ms/0",
-            15,
-        ),
-    ];
-    for (input, pointer, passed) in rows {
+    for &(input, pointer, passed) in &PASSED {
         assert!(rt;
             lacks(rt.alloc(), input, pointer, passed),
             "{pointer} of {input}"
@@ -197,21 +215,23 @@ fn refuses(alloc: Global, text: &str, wanted: PointerError) -> bool {
         && parser.current_span().is_some_and(|span| span.end() == 1)
 }
 
+/// Texts that are no pointers, and why.
+static NO_POINTERS: [(&str, PointerError); 10] = [
+    ("foo", PointerError::NoSlash),
+    ("0", PointerError::NoSlash),
+    ("~", PointerError::NoSlash),
+    ("#/foo", PointerError::NoSlash),
+    ("/~", PointerError::LoneTilde(1)),
+    ("/~2", PointerError::LoneTilde(1)),
+    ("/~~0", PointerError::LoneTilde(1)),
+    ("/a~/b", PointerError::LoneTilde(2)),
+    ("/~0~1~", PointerError::LoneTilde(5)),
+    ("/é~", PointerError::LoneTilde(3)),
+];
+
 #[test]
 fn what_is_no_pointer_is_refused(rt: HostRuntime) {
-    let rows = [
-        ("foo", PointerError::NoSlash),
-        ("0", PointerError::NoSlash),
-        ("~", PointerError::NoSlash),
-        ("#/foo", PointerError::NoSlash),
-        ("/~", PointerError::LoneTilde(1)),
-        ("/~2", PointerError::LoneTilde(1)),
-        ("/~~0", PointerError::LoneTilde(1)),
-        ("/a~/b", PointerError::LoneTilde(2)),
-        ("/~0~1~", PointerError::LoneTilde(5)),
-        ("/é~", PointerError::LoneTilde(3)),
-    ];
-    for (text, wanted) in rows {
+    for &(text, wanted) in &NO_POINTERS {
         assert!(rt; refuses(rt.alloc(), text, wanted), "of {text}");
     }
 }
@@ -227,20 +247,22 @@ fn stops(alloc: Global, input: &str, pointer: &str, start: usize, length: usize)
     }
 }
 
+/// Inputs, pointers, and where the parser refuses what the search passes: an offset and a length.
+static STOPPED: [(&str, &str, usize, usize); 9] = [
+    ("", "/a", 0, 0),
+    ("{\"a\":1", "/b", 6, 0),
+    ("{\"a\":1,", "/b", 7, 0),
+    ("{\"a\":[1}", "/b", 7, 1),
+    ("{", "/b", 1, 0),
+    ("{\"a\" 1,\"b\":2}", "/b", 5, 1),
+    ("[1", "/1", 2, 0),
+    ("[1 2]", "/1", 3, 1),
+    ("]", "/0", 0, 1),
+];
+
 #[test]
 fn what_is_refused_before_the_value_is_told(rt: HostRuntime) {
-    let rows = [
-        ("", "/a", 0, 0),
-        ("{\"a\":1", "/b", 6, 0),
-        ("{\"a\":1,", "/b", 7, 0),
-        ("{\"a\":[1}", "/b", 7, 1),
-        ("{", "/b", 1, 0),
-        ("{\"a\" 1,\"b\":2}", "/b", 5, 1),
-        ("[1", "/1", 2, 0),
-        ("[1 2]", "/1", 3, 1),
-        ("]", "/0", 0, 1),
-    ];
-    for (input, pointer, start, length) in rows {
+    for &(input, pointer, start, length) in &STOPPED {
         assert!(rt;
             stops(rt.alloc(), input, pointer, start, length),
             "{pointer} of {input}"
@@ -248,23 +270,20 @@ fn what_is_refused_before_the_value_is_told(rt: HostRuntime) {
     }
 }
 
+/// Inputs with what no parser takes where the search does not come, pointers, and what they name.
+static NOT_PASSED: [Named; 6] = [
+    ("{\"a\":1", "/a", "1"),
+    ("{\"a\":[7", "/a/0", "7"),
+    ("[1,2", "/1", "2"),
+    (r#"["\ud800",2]"#, "/1", "2"),
+    (r#"{"b":"\ud800","a":2}"#, "/a", "2"),
+    (r#"{"b":{"\ud800":1},"a":2}"#, "/a", "2"),
+];
+
 /// What stands behind the value is not looked at, and before it no text is decoded but of keys.
 #[test]
 fn what_is_not_passed_is_not_refused(rt: HostRuntime) {
-    let rows = [
-        ("{\"a\":1", "/a", "1"),
-        ("{\"a\":[7", "/a/0", "7"),
-        ("[1,2", "/1", "2"),
-        (r#"["\ud800",2]"#, "/1", "2"),
-        (r#"{"b":"\ud800","a":2}"#, "/a", "2"),
-        (r#"{"b":{"\ud800":1},"a":2}"#, "/a", "2"),
-    ];
-    for (input, pointer, wanted) in rows {
-        assert!(rt;
-            names(rt.alloc(), input, pointer, wanted),
-            "{pointer} of {input}"
-        );
-    }
+    expect_named(&rt, rt.alloc(), &NOT_PASSED);
 }
 
 /// Whether a value that comes after a member was read is found from there.

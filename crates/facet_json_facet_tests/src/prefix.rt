@@ -5,7 +5,7 @@ use facet_json::{Documents, from_slice_prefix, from_str_prefix};
 use std::alloc::Global;
 
 /// Inputs that begin with a number, the number, and the offset at which it ends.
-const NUMBERS: [(&str, u8, usize); 7] = [
+static NUMBERS: [(&str, u8, usize); 7] = [
     ("7", 7, 1),
     (" 7 8", 7, 2),
     ("7,8", 7, 1),
@@ -15,9 +15,8 @@ const NUMBERS: [(&str, u8, usize); 7] = [
     ("0\"", 0, 1),
 ];
 
-/// Whether the number of a row and its end are read from bytes and from a text.
-fn is_read(alloc: Global, row: (&str, u8, usize)) -> bool {
-    let (input, number, end) = row;
+/// Whether the number and its end are read from bytes and from a text.
+fn is_read(alloc: Global, input: &str, number: u8, end: usize) -> bool {
     from_slice_prefix(alloc, input.as_bytes()) == Ok((number, end))
         && from_str_prefix(alloc, input) == Ok((number, end))
 }
@@ -25,13 +24,13 @@ fn is_read(alloc: Global, row: (&str, u8, usize)) -> bool {
 #[test]
 fn numbers_end_where_their_digits_do(rt: HostRuntime) {
     let alloc = rt.alloc();
-    for row in NUMBERS {
-        assert!(rt; is_read(alloc, row));
+    for &(input, number, end) in &NUMBERS {
+        assert!(rt; is_read(alloc, input, number, end));
     }
 }
 
 /// Lists, and the offset after their bracket.
-const LISTS: [(&str, usize); 5] = [
+static LISTS: [(&str, usize); 5] = [
     ("[]", 2),
     ("[1,2,] [3]", 6),
     (" [ 1 ] ", 6),
@@ -50,7 +49,7 @@ fn list_end(alloc: Global, input: &str) -> Option<usize> {
 #[test]
 fn lists_end_after_their_bracket(rt: HostRuntime) {
     let alloc = rt.alloc();
-    for (input, end) in LISTS {
+    for &(input, end) in &LISTS {
         assert!(rt; list_end(alloc, input) == Some(end));
     }
 }
@@ -95,7 +94,7 @@ fn what_begins_no_value_is_refused(rt: HostRuntime) {
 
 /// Inputs of numbers one after another: their sum, how many there are before a refusal or the end, the offset up to which the input was read
 /// then, and where the refusal stands, if one comes.
-const STREAMS: [(&str, u64, usize, usize, Option<Span>); 9] = [
+static STREAMS: [(&str, u64, usize, usize, Option<Span>); 9] = [
     ("", 0, 0, 0, None),
     (" \n", 0, 0, 2, None),
     ("1 2\n3", 6, 3, 5, None),
@@ -122,8 +121,8 @@ fn summed(documents: &mut Documents<'_, u8>) -> (u64, usize, Option<Span>) {
 }
 
 /// Whether the numbers of a row are read so, and none comes after them.
-fn is_summed(alloc: Global, row: (&str, u64, usize, usize, Option<Span>)) -> bool {
-    let (input, sum, count, end, refused) = row;
+fn is_summed(alloc: Global, row: &(&str, u64, usize, usize, Option<Span>)) -> bool {
+    let &(input, sum, count, end, refused) = row;
     let mut documents = Documents::new(alloc, input.as_bytes());
     summed(&mut documents) == (sum, count, refused)
         && documents.offset() == end
@@ -133,7 +132,7 @@ fn is_summed(alloc: Global, row: (&str, u64, usize, usize, Option<Span>)) -> boo
 #[test]
 fn numbers_come_until_one_is_refused(rt: HostRuntime) {
     let alloc = rt.alloc();
-    for row in STREAMS {
+    for row in &STREAMS {
         assert!(rt; is_summed(alloc, row));
     }
 }

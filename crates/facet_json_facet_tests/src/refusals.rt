@@ -82,38 +82,35 @@ fn refuses_event<'de, T: Facet<'de>>(
     taken.contains(&input) || is_refused::<T>(alloc, input, error, span.offset == 0)
 }
 
+/// Inputs that hold an event of each kind, the event's name, its offset and its length.
+static EVENTS: [(&str, &str, usize, usize); 12] = [
+    ("null", "null", 0, 4),
+    ("true", "bool", 0, 4),
+    ("7", "integer", 0, 1),
+    ("1.5", "decimal", 0, 3),
+    ("\"x\"", "string", 0, 3),
+    ("18446744073709551616", "string", 0, 20),
+    ("-9223372036854775809", "string", 0, 20),
+    ("{}", "object", 0, 1),
+    ("[]", "array", 0, 1),
+    ("{\"k\":1}", "key", 1, 3),
+    ("{ }", "end", 2, 1),
+    ("[ ]", "end", 2, 1),
+];
+
 /// Whether the type refuses an event of each kind by this name, but for those of the inputs that it takes.
 fn refuses_others<'de, T: Facet<'de>>(
     alloc: Global,
     expected: &'de str,
     taken: &[&'de str],
 ) -> bool {
-    refuses_event::<T>(alloc, expected, taken, "null", "null", Span::new(0, 4))
-        && refuses_event::<T>(alloc, expected, taken, "true", "bool", Span::new(0, 4))
-        && refuses_event::<T>(alloc, expected, taken, "7", "integer", Span::new(0, 1))
-        && refuses_event::<T>(alloc, expected, taken, "1.5", "decimal", Span::new(0, 3))
-        && refuses_event::<T>(alloc, expected, taken, "\"x\"", "string", Span::new(0, 3))
-        && refuses_event::<T>(
-            alloc,
-            expected,
-            taken,
-            "18446744073709551616",
-            "string",
-            Span::new(0, 20),
-        )
-        && refuses_event::<T>(
-            alloc,
-            expected,
-            taken,
-            "-9223372036854775809",
-            "string",
-            Span::new(0, 20),
-        )
-        && refuses_event::<T>(alloc, expected, taken, "{}", "object", Span::new(0, 1))
-        && refuses_event::<T>(alloc, expected, taken, "[]", "array", Span::new(0, 1))
-        && refuses_event::<T>(alloc, expected, taken, "{\"k\":1}", "key", Span::new(1, 3))
-        && refuses_event::<T>(alloc, expected, taken, "{ }", "end", Span::new(2, 1))
-        && refuses_event::<T>(alloc, expected, taken, "[ ]", "end", Span::new(2, 1))
+    for &(input, got, offset, len) in &EVENTS {
+        let span = Span::new(offset, len);
+        if !refuses_event::<T>(alloc, expected, taken, input, got, span) {
+            return false;
+        }
+    }
+    true
 }
 
 /// The refusal where no value comes any more.

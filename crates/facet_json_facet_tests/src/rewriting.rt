@@ -12,7 +12,7 @@ fn is_written(alloc: Global, document: &str, text: &str) -> bool {
 }
 
 /// Inputs, and what their documents are written as.
-const REWRITTEN: [(&str, &str); 6] = [
+static REWRITTEN: [(&str, &str); 6] = [
     (" [1,] x", "[1]"),
     ("-0", "0"),
     ("[-0,{\"a\":-0}]", "[0,{\"a\":0}]"),

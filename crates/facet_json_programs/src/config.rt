@@ -33,12 +33,17 @@ fn tell(rt: &HostRuntime, name: &str, text: &str, error: &Error<'static>) -> io:
     Ok(1)
 }
 
+/// Prints the settings that the text of a file of this name has, or what is wrong with it.
+fn answer(rt: &HostRuntime, name: &str, text: &str) -> io::Result<u8> {
+    match read_settings(rt.alloc(), text) {
+        Ok(settings) => show(rt, &settings),
+        Err(error) => tell(rt, name, text, &error),
+    }
+}
+
 /// Reads the file, and prints its settings or what is wrong with it. What is answered is the status: 0 where the settings are printed, and 1
 /// where something is wrong with them.
 pub fn run(rt: &HostRuntime, file: Option<&str>) -> io::Result<u8> {
     let text = text_of(rt, file)?;
-    match read_settings(rt.alloc(), text.as_str()) {
-        Ok(settings) => show(rt, &settings),
-        Err(error) => tell(rt, file.unwrap_or("<stdin>"), text.as_str(), &error),
-    }
+    answer(rt, file.unwrap_or("<stdin>"), text.as_str())
 }

@@ -5,7 +5,7 @@ use serde::{Deserialize, Serialize};
 use std::alloc::Global;
 
 /// The settings of a server.
-#[derive(Debug, Drop, PartialEq, Serialize, Deserialize)]
+#[derive(Drop, Serialize, Deserialize)]
 #[serde(deny_unknown_fields)]
 pub struct Settings {
     /// What it calls itself.
@@ -22,7 +22,7 @@ pub fn read_settings(alloc: Global, text: &str) -> Result<Settings, Error<'stati
 }
 
 /// Where a server listens.
-#[derive(Debug, Drop, PartialEq, Serialize, Deserialize)]
+#[derive(Drop, Serialize, Deserialize)]
 #[serde(deny_unknown_fields)]
 pub struct Listen {
     /// The host's name or address.
@@ -38,7 +38,7 @@ fn http() -> u16 {
 }
 
 /// What a server writes down.
-#[derive(Debug, Drop, PartialEq, Serialize, Deserialize)]
+#[derive(Drop, Serialize, Deserialize)]
 #[serde(deny_unknown_fields)]
 pub struct Log {
     /// From which level on.
@@ -48,7 +48,7 @@ pub struct Log {
 }
 
 /// How much a message matters.
-#[derive(Debug, Clone, Copy, PartialEq, Serialize, Deserialize)]
+#[derive(Drop, Serialize, Deserialize)]
 #[serde(rename_all = "lowercase")]
 pub enum Level {
     /// What went wrong.

@@ -52,10 +52,12 @@ fn is_its_own(alloc: Global, owned: Decimal<'static>, text: &str) -> bool {
     }
 }
 
+static DECIMALS: [&str; 3] = ["1.", "-0.50", "5e-05"];
+
 #[test]
 fn a_growth_is_refused_in_a_decimal(rt: HostRuntime) {
     let alloc = rt.alloc();
-    for text in ["1.", "-0.50", "5e-05"] {
+    for &text in &DECIMALS {
         assert!(rt;
             but_once(is_kept(alloc, text), is_kept(alloc, text)),
             "{text}"
@@ -65,9 +67,12 @@ fn a_growth_is_refused_in_a_decimal(rt: HostRuntime) {
 
 /// Whether an event of this kind is copied, or memory runs out.
 fn is_copied(alloc: Global, kind: ParseEventKind<'_>) -> Option<bool> {
-    let event = ParseEvent::new(kind, Span::new(3, 4));
+    event_is_copied(alloc, &ParseEvent::new(kind, Span::new(3, 4)))
+}
+
+fn event_is_copied(alloc: Global, event: &ParseEvent<'_>) -> Option<bool> {
     match event.clone(alloc) {
-        Ok(copy) => Some(copy == event),
+        Ok(copy) => Some(copy == *event),
         Err(AllocError) => None,
     }
 }
@@ -77,15 +82,16 @@ fn text(alloc: Global) -> Result<CowStr<'static>, AllocError> {
     Ok(CowStr::Owned(String::from_str(alloc, "ab")?))
 }
 
-/// Whether events with texts of their own are copied: a key's and a scalar's.
-fn texts_are_copied(alloc: Global) -> Option<bool> {
-    let (Ok(name), Ok(value)) = (text(alloc), text(alloc)) else {
-        return None;
-    };
-    let key = FieldKey::new(name, FieldLocationHint::KeyValue);
-    let key = is_copied(alloc, ParseEventKind::FieldKey(key))?;
-    let scalar = ScalarValue::Str(value);
-    Some(key && is_copied(alloc, ParseEventKind::Scalar(scalar))?)
+/// Whether a key's event with a text of its own is copied, or memory runs out.
+fn key_is_copied(alloc: Global) -> Option<bool> {
+    let key = FieldKey::new(text(alloc).ok()?, FieldLocationHint::KeyValue);
+    is_copied(alloc, ParseEventKind::FieldKey(key))
+}
+
+/// The same of a scalar's.
+fn scalar_is_copied(alloc: Global) -> Option<bool> {
+    let scalar = ScalarValue::Str(text(alloc).ok()?);
+    is_copied(alloc, ParseEventKind::Scalar(scalar))
 }
 
 /// Events that hold nothing of their own.
@@ -104,7 +110,8 @@ fn small_events() -> [ParseEventKind<'static>; 6] {
 #[test]
 fn a_growth_is_refused_in_an_event(rt: HostRuntime) {
     let alloc = rt.alloc();
-    assert!(rt; but_once(texts_are_copied(alloc), texts_are_copied(alloc)));
+    assert!(rt; but_once(key_is_copied(alloc), key_is_copied(alloc)));
+    assert!(rt; but_once(scalar_is_copied(alloc), scalar_is_copied(alloc)));
     for kind in small_events() {
         assert!(rt; is_copied(alloc, kind) == Some(true));
     }

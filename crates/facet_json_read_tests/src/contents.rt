@@ -62,39 +62,55 @@ fn the_greatest_and_the_least_fit(rt: HostRuntime) {
     assert!(rt; is_whole(Tree::I128(below_i64), (None, None, None, Some(below_i64))));
 }
 
+fn is_null(value: Tree) -> bool {
+    value.is_null()
+}
+
 #[test]
 fn null_and_unit_are_null(rt: HostRuntime) {
-    assert!(rt; Tree::Null.is_null() && Tree::Unit.is_null());
-    assert!(rt; !Tree::Bool(false).is_null() && !Tree::U64(0).is_null());
-    assert!(rt; !Tree::List(Vec::new(rt.alloc())).is_null());
+    assert!(rt; is_null(Tree::Null) && is_null(Tree::Unit));
+    assert!(rt; !is_null(Tree::Bool(false)) && !is_null(Tree::U64(0)));
+    assert!(rt; !is_null(Tree::List(Vec::new(rt.alloc()))));
 }
 
 /// Whether the number of this text is told by it.
 fn tells_decimal(text: &'static str) -> bool {
-    let Some(decimal) = Decimal::new(text) else {
-        return false;
-    };
-    let value = Tree::from(decimal);
+    match Decimal::new(text) {
+        Some(decimal) => is_decimal(&Tree::from(decimal), text),
+        None => false,
+    }
+}
+
+/// Whether the value is the number of this text, and no whole number.
+fn is_decimal(value: &Tree, text: &str) -> bool {
     match value.as_decimal() {
         Some(told) => told.as_str() == text && value.as_u64().is_none(),
         None => false,
     }
 }
 
+fn truth(value: Tree) -> Option<bool> {
+    value.as_bool()
+}
+
 #[test]
 fn truth_values_and_decimals_are_told(rt: HostRuntime) {
-    assert!(rt; Tree::Bool(true).as_bool() == Some(true));
-    assert!(rt; Tree::Bool(false).as_bool() == Some(false));
-    assert!(rt; Tree::Null.as_bool().is_none() && Tree::Null.as_decimal().is_none());
+    assert!(rt; truth(Tree::Bool(true)) == Some(true));
+    assert!(rt; truth(Tree::Bool(false)) == Some(false));
+    assert!(rt; truth(Tree::Null).is_none() && Tree::Null.as_decimal().is_none());
     assert!(rt; tells_decimal("-0.50"));
 }
 
 /// Whether a text is told.
 fn tells_text(alloc: Global, text: &str) -> bool {
-    let Ok(copy) = String::from_str(alloc, text) else {
-        return false;
-    };
-    let value = Tree::from(copy);
+    match String::from_str(alloc, text) {
+        Ok(copy) => is_text(&Tree::from(copy), text),
+        Err(_) => false,
+    }
+}
+
+/// Whether the value is this text, and nothing else.
+fn is_text(value: &Tree, text: &str) -> bool {
     match value.as_str() {
         Some(told) => told == text && value.as_bool().is_none() && value.as_list().is_none(),
         None => false,

@@ -56,19 +56,19 @@ fn is_answer(answer: Result<&str, &DecodeError>, row: &Row) -> Option<bool> {
 }
 
 /// The same of a text of its own.
-fn is_string(answer: &Result<String, DecodeError>, row: &Row) -> Option<bool> {
+fn is_string(answer: Result<String, DecodeError>, row: &Row) -> Option<bool> {
     match answer {
         Ok(text) => is_answer(Ok(text.as_str()), row),
-        Err(error) => is_answer(Err(error), row),
+        Err(error) => is_answer(Err(&error), row),
     }
 }
 
 /// The same of a text that has to be its own.
-fn is_owned(answer: &Result<CowStr<'_>, DecodeError>, row: &Row) -> Option<bool> {
+fn is_owned(answer: Result<CowStr<'_>, DecodeError>, row: &Row) -> Option<bool> {
     match answer {
         Ok(CowStr::Owned(text)) => is_answer(Ok(text.as_str()), row),
         Ok(CowStr::Borrowed(_)) => Some(false),
-        Err(error) => is_answer(Err(error), row),
+        Err(error) => is_answer(Err(&error), row),
     }
 }
 
@@ -76,12 +76,12 @@ fn is_owned(answer: &Result<CowStr<'_>, DecodeError>, row: &Row) -> Option<bool>
 fn decodes(alloc: Global, row: &Row) -> Option<bool> {
     let buf = row.0.as_bytes();
     let end = buf.len();
-    let string = is_string(&decode_string_owned(alloc, buf, 0, end), row)?;
-    let owned = is_owned(&decode_string(alloc, buf, 0, end, true), row)?;
+    let string = is_string(decode_string_owned(alloc, buf, 0, end), row)?;
+    let owned = is_owned(decode_string(alloc, buf, 0, end, true), row)?;
     match str::from_utf8(&buf[0..end]) {
         Ok(_) => {
-            let again = is_string(&decode_string_owned_unchecked(alloc, buf, 0, end), row)?;
-            let unchecked = is_owned(&decode_string_unchecked(alloc, buf, 0, end, true), row)?;
+            let again = is_string(decode_string_owned_unchecked(alloc, buf, 0, end), row)?;
+            let unchecked = is_owned(decode_string_unchecked(alloc, buf, 0, end, true), row)?;
             Some(string && owned && again && unchecked)
         }
         Err(_) => Some(false),
@@ -145,8 +145,8 @@ fn a_growth_is_refused_in_a_decoder(rt: HostRuntime) {
         );
         assert!(rt; lends(alloc, row.0) && is_checked(row), "{}", row.0);
     }
-    for (text, hint, number) in numbers() {
-        assert!(rt; is_number(text, hint, number), "{text}");
+    for (text, hint, number) in &numbers() {
+        assert!(rt; is_number(text.as_bytes(), *hint, number), "{text}");
     }
 }
 
@@ -175,24 +175,36 @@ fn numbers() -> [(&'static str, NumberHint, Option<ParsedNumber<'static>>); 6] {
 }
 
 /// Whether the text is read as this number, and is one of RFC 8259 alone; or is refused whole where there is none.
-fn is_number(text: &str, hint: NumberHint, number: Option<ParsedNumber<'_>>) -> bool {
-    let buf = text.as_bytes();
+fn is_number(buf: &[u8], hint: NumberHint, number: &Option<ParsedNumber<'_>>) -> bool {
     let end = buf.len();
-    let refused = ScanError {
-        kind: ScanErrorKind::UnexpectedChar('?'),
-        span: Span::new(0, end),
-    };
     let is_strict = check_number_strict(buf, 0, end).is_ok();
-    let wanted = match number {
-        Some(number) => Ok(number),
-        None => Err(refused),
-    };
     match str::from_utf8(&buf[0..end]) {
         Ok(_) => {
-            parse_number(buf, 0, end, hint) == wanted
-                && parse_number_unchecked(buf, 0, end, hint) == wanted
-                && is_strict == wanted.is_ok()
+            is_read(parse_number(buf, 0, end, hint), number, end)
+                && is_read(parse_number_unchecked(buf, 0, end, hint), number, end)
+                && is_strict == number.is_some()
         }
         Err(_) => false,
+    }
+}
+
+/// Whether a text of this length was read as this number; or was refused whole where there is none.
+fn is_read(
+    answer: Result<ParsedNumber<'_>, ScanError>,
+    number: &Option<ParsedNumber<'_>>,
+    len: usize,
+) -> bool {
+    match (answer, number) {
+        (Ok(read), Some(number)) => read == *number,
+        (Err(error), None) => error == refused(len),
+        _ => false,
+    }
+}
+
+/// The refusal of a text of this length.
+fn refused(len: usize) -> ScanError {
+    ScanError {
+        kind: ScanErrorKind::UnexpectedChar('?'),
+        span: Span::new(0, len),
     }
 }

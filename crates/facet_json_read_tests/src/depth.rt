@@ -8,12 +8,17 @@ use std::alloc::Global;
 
 /// Whether the bytes are read within the depth, as without one.
 fn is_read(alloc: Global, input: &[u8], depth: usize) -> bool {
-    match (
-        tree_from_slice_within(alloc, input, depth),
-        tree_from_slice(alloc, input),
-    ) {
-        (Ok(tree), Ok(whole)) => tree.is_same(&whole),
-        _ => false,
+    match tree_from_slice(alloc, input) {
+        Ok(tree) => is_tree(tree_from_slice_within(alloc, input, depth), &tree),
+        Err(_) => false,
+    }
+}
+
+/// Whether the answer is this tree.
+fn is_tree(answer: Result<Tree, DeserializeError<'_>>, wanted: &Tree) -> bool {
+    match answer {
+        Ok(tree) => tree.is_same(wanted),
+        Err(_) => false,
     }
 }
 
@@ -21,70 +26,92 @@ fn is_read(alloc: Global, input: &[u8], depth: usize) -> bool {
 fn is_too_deep(answer: Result<Tree, DeserializeError<'_>>, offset: usize) -> bool {
     match answer {
         Ok(_) => false,
-        Err(error) => {
-            error.kind
-                == DeserializeErrorKind::InvalidValue {
-                    message: "nested too deeply",
-                }
-                && error.kind.code() == 5
-                && error.span == Some(Span::new(offset, 1))
-        }
+        Err(error) => is_bracket(&error, offset),
     }
 }
+
+/// Whether the error is that the bracket there is nested too deeply.
+fn is_bracket(error: &DeserializeError<'_>, offset: usize) -> bool {
+    let message = "nested too deeply";
+    error.kind == DeserializeErrorKind::InvalidValue { message }
+        && error.kind.code() == 5
+        && error.span == Some(Span::new(offset, 1))
+}
+
+/// Inputs, and depths within which they are read.
+static READ: [(&[u8], usize); 6] = [
+    (b"1", 0),
+    (b" \"a\" ", 0),
+    (b"[[1]]", 2),
+    (b"[[1],[2],[]]", 2),
+    (b"[1,{\"a\":[]}]", 3),
+    (b"{\"a\":{},\"b\":{\"c\":{}}}", usize::MAX),
+];
 
 #[test]
 fn a_depth_takes_what_nests_no_deeper(rt: HostRuntime) {
     let alloc = rt.alloc();
-    assert!(rt; is_read(alloc, b"1", 0));
-    assert!(rt; is_read(alloc, b" \"a\" ", 0));
-    assert!(rt; is_read(alloc, b"[[1]]", 2));
-    assert!(rt; is_read(alloc, b"[[1],[2],[]]", 2));
-    assert!(rt; is_read(alloc, b"[1,{\"a\":[]}]", 3));
-    assert!(rt; is_read(alloc, b"{\"a\":{},\"b\":{\"c\":{}}}", usize::MAX));
+    for &(input, depth) in &READ {
+        assert!(rt; is_read(alloc, input, depth));
+    }
 }
+
+/// Inputs, depths that are too small for them, and where the first bracket beyond stands.
+static TOO_DEEP: [(&[u8], usize, usize); 6] = [
+    (b" []", 0, 1),
+    (b"[[1]]", 1, 1),
+    (b"[1,{\"a\":[]}]", 2, 8),
+    (b"[[1],[[],[]],[[]]]", 2, 6),
+    (b"{\"a\":1,\"b\":{}}", 1, 11),
+    (b"[[}", 1, 1),
+];
 
 #[test]
 fn the_first_bracket_beyond_is_refused(rt: HostRuntime) {
     let alloc = rt.alloc();
-    assert!(rt; is_too_deep(tree_from_slice_within(alloc, b" []", 0), 1));
-    assert!(rt; is_too_deep(tree_from_slice_within(alloc, b"[[1]]", 1), 1));
-    assert!(rt; is_too_deep(tree_from_slice_within(alloc, b"[1,{\"a\":[]}]", 2), 8));
-    assert!(rt; is_too_deep(tree_from_slice_within(alloc, b"[[1],[[],[]],[[]]]", 2), 6));
-    assert!(rt; is_too_deep(tree_from_slice_within(alloc, b"{\"a\":1,\"b\":{}}", 1), 11));
+    for &(input, depth, offset) in &TOO_DEEP {
+        assert!(rt; is_too_deep(tree_from_slice_within(alloc, input, depth), offset));
+    }
+}
+
+/// Whether the answer is that a token at the offset is refused.
+fn is_token(answer: Result<Tree, DeserializeError<'_>>, offset: usize) -> bool {
+    match answer {
+        Ok(_) => false,
+        Err(error) => error.kind.code() == 3 && error.span == Some(Span::new(offset, 1)),
+    }
 }
 
 #[test]
 fn what_stands_first_is_refused(rt: HostRuntime) {
-    let alloc = rt.alloc();
-    assert!(rt; is_too_deep(tree_from_slice_within(alloc, b"[[}", 1), 1));
-    match tree_from_slice_within(alloc, b"[}[[", 1) {
-        Ok(_) => assert!(rt; false),
-        Err(error) => assert!(rt; error.kind.code() == 3 && error.span == Some(Span::new(1, 1))),
-    }
+    assert!(rt; is_token(tree_from_slice_within(rt.alloc(), b"[}[[", 1), 1));
+}
+
+/// Whether the input with comments is read within the depth.
+fn is_read_jsonc(alloc: Global, input: &[u8], depth: usize) -> bool {
+    tree_from_slice_within_jsonc(alloc, input, depth).is_ok()
 }
 
 #[test]
 fn brackets_in_comments_count_nothing(rt: HostRuntime) {
     let alloc = rt.alloc();
-    assert!(rt; tree_from_slice_within_jsonc(alloc, b"[/* [[ */ 1]", 1).is_ok());
+    assert!(rt; is_read_jsonc(alloc, b"[/* [[ */ 1]", 1));
     assert!(rt; is_too_deep(tree_from_slice_within_jsonc(alloc, b"// [\n[[", 1), 6));
 }
 
-/// As many opening brackets.
-fn brackets(alloc: Global, count: usize) -> Result<Vec<u8>, DeserializeError<'static>> {
-    let mut input = Vec::new(alloc);
-    input.resize(count, b'[')?;
-    Ok(input)
+/// Whether as many opening brackets are refused within the depth, with comments and without.
+fn brackets_are_refused(alloc: Global, count: usize, depth: usize) -> bool {
+    match "[".repeat(alloc, count) {
+        Ok(input) => {
+            let input = input.as_bytes();
+            is_too_deep(tree_from_slice_within(alloc, input, depth), depth)
+                && is_too_deep(tree_from_slice_within_jsonc(alloc, input, depth), depth)
+        }
+        Err(_) => false,
+    }
 }
 
 #[test]
 fn a_hundred_thousand_brackets_are_refused(rt: HostRuntime) {
-    let alloc = rt.alloc();
-    match brackets(alloc, 100_000) {
-        Ok(input) => {
-            assert!(rt; is_too_deep(tree_from_slice_within(alloc, &input, 100), 100));
-            assert!(rt; is_too_deep(tree_from_slice_within_jsonc(alloc, &input, 100), 100));
-        }
-        Err(_) => assert!(rt; false),
-    }
+    assert!(rt; brackets_are_refused(rt.alloc(), 100_000, 100));
 }

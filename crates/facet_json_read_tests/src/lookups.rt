@@ -48,12 +48,20 @@ fn items_stand_at_their_index(rt: HostRuntime) {
     assert!(rt; finds_item(alloc, usize::MAX, None));
 }
 
+fn lacks_member(tree: Tree) -> bool {
+    tree.get("a").is_none()
+}
+
+fn lacks_item(tree: Tree) -> bool {
+    tree.item(0).is_none()
+}
+
 #[test]
 fn other_values_have_no_parts(rt: HostRuntime) {
     let alloc = rt.alloc();
-    assert!(rt; Tree::Null.get("a").is_none() && Tree::Null.item(0).is_none());
-    assert!(rt; Tree::List(Vec::new(alloc)).get("a").is_none());
-    assert!(rt; Tree::Pairs(Vec::new(alloc)).item(0).is_none());
+    assert!(rt; lacks_member(Tree::Null) && lacks_item(Tree::Null));
+    assert!(rt; lacks_member(Tree::List(Vec::new(alloc))));
+    assert!(rt; lacks_item(Tree::Pairs(Vec::new(alloc))));
 }
 
 /// A part of a value: a member's value by its name, or an item by its index.
@@ -71,37 +79,46 @@ fn lent<'t>(tree: &'t mut Tree, part: Part<'_>) -> Option<&'t mut Tree> {
     }
 }
 
+/// Writes `false` where the part stands. Whether there is such a part.
+fn is_changed(tree: &mut Tree, part: Part<'_>) -> bool {
+    match lent(tree, part) {
+        Some(value) => {
+            *value = Tree::Bool(false);
+            true
+        }
+        None => false,
+    }
+}
+
+/// Whether the tree is the document's.
+fn is_document(alloc: Global, tree: &Tree, document: &str) -> bool {
+    match tree_from_slice(alloc, document.as_bytes()) {
+        Ok(wanted) => *tree == wanted,
+        Err(_) => false,
+    }
+}
+
 /// Whether the document, once `false` is written where the part stands, is the wanted one.
 fn becomes(alloc: Global, document: &str, part: Part<'_>, wanted: &str) -> bool {
-    let Ok(mut tree) = tree_from_slice(alloc, document.as_bytes()) else {
-        return false;
-    };
-    let Ok(wanted) = tree_from_slice(alloc, wanted.as_bytes()) else {
-        return false;
-    };
-    match lent(&mut tree, part) {
-        Some(value) => *value = Tree::Bool(false),
-        None => return false,
+    match tree_from_slice(alloc, document.as_bytes()) {
+        Ok(mut tree) => is_changed(&mut tree, part) && is_document(alloc, &tree, wanted),
+        Err(_) => false,
     }
-    tree == wanted
 }
 
 /// Whether the document has no such part, and stays as it is.
 fn stays(alloc: Global, document: &str, part: Part<'_>) -> bool {
-    let Ok(mut tree) = tree_from_slice(alloc, document.as_bytes()) else {
-        return false;
-    };
-    let Ok(wanted) = tree_from_slice(alloc, document.as_bytes()) else {
-        return false;
-    };
-    lent(&mut tree, part).is_none() && tree == wanted
+    match tree_from_slice(alloc, document.as_bytes()) {
+        Ok(mut tree) => !is_changed(&mut tree, part) && is_document(alloc, &tree, document),
+        Err(_) => false,
+    }
 }
 
 /// An object with a name that comes twice, and with an object within it.
 const OBJECT: &str = r#"{"a":1,"b":[true,{"a":2}],"a":3,"":4}"#;
 
 /// What it becomes, by the name of the member that is changed.
-const CHANGED_MEMBERS: [(&str, &str); 3] = [
+static CHANGED_MEMBERS: [(&str, &str); 3] = [
     ("a", r#"{"a":1,"b":[true,{"a":2}],"a":false,"":4}"#),
     ("b", r#"{"a":1,"b":false,"a":3,"":4}"#),
     ("", r#"{"a":1,"b":[true,{"a":2}],"a":3,"":false}"#),
@@ -113,17 +130,13 @@ fn a_change_leaves_all_other_members(rt: HostRuntime) {
     for (name, wanted) in &CHANGED_MEMBERS {
         assert!(rt; becomes(alloc, OBJECT, Part::Member(*name), *wanted));
     }
-    assert!(rt; stays(alloc, OBJECT, Part::Member("c")));
-    assert!(rt; stays(alloc, OBJECT, Part::Member("aa")));
-    assert!(rt; stays(alloc, OBJECT, Part::Item(0)));
-    assert!(rt; stays(alloc, "{}", Part::Member("")));
 }
 
 /// A list of a number, a list and an object.
 const LIST: &str = r#"[1,[2,3],{"a":4}]"#;
 
 /// What it becomes, by the index of the item that is changed.
-const CHANGED_ITEMS: [(usize, &str); 3] = [
+static CHANGED_ITEMS: [(usize, &str); 3] = [
     (0, r#"[false,[2,3],{"a":4}]"#),
     (1, r#"[1,false,{"a":4}]"#),
     (2, r#"[1,[2,3],false]"#),
@@ -135,9 +148,24 @@ fn a_change_leaves_all_other_items(rt: HostRuntime) {
     for (index, wanted) in &CHANGED_ITEMS {
         assert!(rt; becomes(alloc, LIST, Part::Item(*index), *wanted));
     }
-    assert!(rt; stays(alloc, LIST, Part::Item(3)));
-    assert!(rt; stays(alloc, LIST, Part::Item(usize::MAX)));
-    assert!(rt; stays(alloc, LIST, Part::Member("a")));
-    assert!(rt; stays(alloc, "null", Part::Item(0)));
-    assert!(rt; stays(alloc, "null", Part::Member("a")));
+}
+
+/// Documents, and parts that they have not.
+static UNCHANGED: [(&str, Part<'static>); 9] = [
+    (OBJECT, Part::Member("c")),
+    (OBJECT, Part::Member("aa")),
+    (OBJECT, Part::Item(0)),
+    ("{}", Part::Member("")),
+    (LIST, Part::Item(3)),
+    (LIST, Part::Item(usize::MAX)),
+    (LIST, Part::Member("a")),
+    ("null", Part::Item(0)),
+    ("null", Part::Member("a")),
+];
+
+#[test]
+fn a_part_that_is_not_there_is_not_changed(rt: HostRuntime) {
+    for &(document, part) in &UNCHANGED {
+        assert!(rt; stays(rt.alloc(), document, part));
+    }
 }

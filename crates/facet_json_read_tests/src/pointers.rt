@@ -5,16 +5,26 @@ use std::alloc::Global;
 
 /// Whether the pointer names this value of the document, or nothing where nothing is wanted.
 fn names(alloc: Global, document: &str, pointer: &str, wanted: Option<&str>) -> bool {
-    let Ok(tree) = tree_from_slice(alloc, document.as_bytes()) else {
-        return false;
-    };
+    match tree_from_slice(alloc, document.as_bytes()) {
+        Ok(tree) => names_within(alloc, &tree, pointer, wanted),
+        Err(_) => false,
+    }
+}
+
+/// The same of the document's tree.
+fn names_within(alloc: Global, tree: &Tree, pointer: &str, wanted: Option<&str>) -> bool {
     match (tree.pointer(pointer), wanted) {
-        (Ok(Some(found)), Some(wanted)) => match tree_from_slice(alloc, wanted.as_bytes()) {
-            Ok(wanted) => found.is_same(&wanted),
-            Err(_) => false,
-        },
+        (Ok(Some(found)), Some(wanted)) => is_document(alloc, found, wanted),
         (Ok(None), None) => true,
         _ => false,
+    }
+}
+
+/// Whether the tree is the document's.
+fn is_document(alloc: Global, tree: &Tree, document: &str) -> bool {
+    match tree_from_slice(alloc, document.as_bytes()) {
+        Ok(wanted) => tree.is_same(&wanted),
+        Err(_) => false,
     }
 }
 
@@ -23,7 +33,7 @@ const DOCUMENT: &str =
     r#"{"foo":["bar","baz"],"":0,"a/b":1,"c%d":2,"e^f":3,"g|h":4,"i\\j":5,"k\"l":6," ":7,"m~n":8}"#;
 
 /// The pointers of that section, and what each names.
-const NAMED: [(&str, &str); 12] = [
+static NAMED: [(&str, &str); 12] = [
     ("", DOCUMENT),
     ("/foo", r#"["bar","baz"]"#),
     ("/foo/0", r#""bar""#),
@@ -47,7 +57,7 @@ fn the_pointers_of_the_rfc_name_their_values(rt: HostRuntime) {
 }
 
 /// Pointers that name nothing in that document: no such name, no index, past the end, past 64 bits, or within a scalar.
-const UNNAMED: [&str; 16] = [
+static UNNAMED: [&str; 16] = [
     "/bar",
     "/FOO",
     "/foo ",
@@ -75,7 +85,7 @@ fn other_pointers_name_nothing(rt: HostRuntime) {
 }
 
 /// Documents with nested values, with names that look like escapes or indices, and with a name that comes twice.
-const WITHIN: [(&str, &str, Option<&str>); 10] = [
+static WITHIN: [(&str, &str, Option<&str>); 10] = [
     (r#"{"a":[0,{"b":[1,2]}]}"#, "/a/1/b/1", Some("2")),
     ("[0,1,2,3,4,5,6,7,8,9,10,11,12,13]", "/12", Some("12")),
     (r#"{"~1":1,"/":2}"#, "/~01", Some("1")),
@@ -97,7 +107,7 @@ fn tokens_lead_into_a_value(rt: HostRuntime) {
 }
 
 /// Texts that are no pointers, and why.
-const REFUSED: [(&str, PointerError); 9] = [
+static REFUSED: [(&str, PointerError); 9] = [
     ("foo", PointerError::NoSlash),
     ("~", PointerError::NoSlash),
     ("#/foo", PointerError::NoSlash),
@@ -109,20 +119,19 @@ const REFUSED: [(&str, PointerError); 9] = [
     ("/é~", PointerError::LoneTilde(3)),
 ];
 
+/// Whether the text is refused so.
+fn refuses(tree: Tree, text: &str, wanted: &PointerError) -> bool {
+    match tree.pointer(text) {
+        Ok(_) => false,
+        Err(error) => error == *wanted,
+    }
+}
+
 #[test]
 fn what_is_no_pointer_is_refused_in_every_value(rt: HostRuntime) {
-    let alloc = rt.alloc();
     for (text, wanted) in &REFUSED {
-        assert!(rt;
-            Tree::Null
-                .pointer(*text)
-                .is_err_and(|error| error == *wanted)
-        );
-        assert!(rt;
-            Tree::Pairs(Vec::new(alloc))
-                .pointer(*text)
-                .is_err_and(|error| error == *wanted)
-        );
+        assert!(rt; refuses(Tree::Null, *text, wanted));
+        assert!(rt; refuses(Tree::Pairs(Vec::new(rt.alloc())), *text, wanted));
     }
 }
 

@@ -8,13 +8,20 @@ use std::alloc::Global;
 
 /// Whether strict mode reads the bytes as lenient mode does, with no depth and within this one.
 fn is_read(alloc: Global, input: &[u8], depth: usize) -> bool {
-    match (
-        tree_from_slice_strict(alloc, input),
-        tree_from_slice_within_strict(alloc, input, depth),
-        tree_from_slice(alloc, input),
-    ) {
-        (Ok(tree), Ok(within), Ok(whole)) => tree.is_same(&whole) && within.is_same(&whole),
-        _ => false,
+    match tree_from_slice(alloc, input) {
+        Ok(tree) => {
+            is_tree(tree_from_slice_strict(alloc, input), &tree)
+                && is_tree(tree_from_slice_within_strict(alloc, input, depth), &tree)
+        }
+        Err(_) => false,
+    }
+}
+
+/// Whether the answer is this tree.
+fn is_tree(answer: Result<Tree, DeserializeError<'_>>, wanted: &Tree) -> bool {
+    match answer {
+        Ok(tree) => tree.is_same(wanted),
+        Err(_) => false,
     }
 }
 
@@ -53,12 +60,18 @@ fn token(got: &'static str, expected: &'static str) -> DeserializeErrorKind<'sta
     DeserializeErrorKind::UnexpectedToken { got, expected }
 }
 
+/// Texts of the standard, and how deeply they nest.
+static READ: [(&[u8], usize); 3] = [
+    (b"1", 0),
+    (b" \t\n\r[ ] \t\n\r", 1),
+    (b"{\"a\":[-0.5e-3,\"\\u00e9\",null]}", 2),
+];
+
 #[test]
 fn a_text_of_the_standard_is_read(rt: HostRuntime) {
-    let alloc = rt.alloc();
-    assert!(rt; is_read(alloc, b"1", 0));
-    assert!(rt; is_read(alloc, b" \t\n\r[ ] \t\n\r", 1));
-    assert!(rt; is_read(alloc, b"{\"a\":[-0.5e-3,\"\\u00e9\",null]}", 2));
+    for &(input, depth) in &READ {
+        assert!(rt; is_read(rt.alloc(), input, depth));
+    }
 }
 
 #[test]
@@ -71,31 +84,25 @@ fn what_only_lenient_mode_takes_is_refused(rt: HostRuntime) {
     assert!(rt; refuses(alloc, b"1 x", unexpected('x'), Span::new(2, 1)));
 }
 
+/// Whether strict mode refuses the bytes so within the depth.
+fn refuses_within(
+    alloc: Global,
+    input: &[u8],
+    depth: usize,
+    kind: DeserializeErrorKind<'_>,
+    offset: usize,
+) -> bool {
+    let answer = tree_from_slice_within_strict(alloc, input, depth);
+    is_refusal(answer, &kind, Span::new(offset, 1))
+}
+
 #[test]
 fn a_depth_is_refused_at_its_bracket(rt: HostRuntime) {
     let alloc = rt.alloc();
     let too_deep = DeserializeErrorKind::InvalidValue {
         message: "nested too deeply",
     };
-    assert!(rt;
-        is_refusal(
-            tree_from_slice_within_strict(alloc, b" []", 0),
-            &too_deep,
-            Span::new(1, 1)
-        )
-    );
-    assert!(rt;
-        is_refusal(
-            tree_from_slice_within_strict(alloc, b"[[1],[[2]]] x", 2),
-            &too_deep,
-            Span::new(6, 1)
-        )
-    );
-    assert!(rt;
-        is_refusal(
-            tree_from_slice_within_strict(alloc, b"[1] x", 1),
-            &unexpected('x'),
-            Span::new(4, 1)
-        )
-    );
+    assert!(rt; refuses_within(alloc, b" []", 0, too_deep, 1));
+    assert!(rt; refuses_within(alloc, b"[[1],[[2]]] x", 2, too_deep, 6));
+    assert!(rt; refuses_within(alloc, b"[1] x", 1, unexpected('x'), 4));
 }

@@ -3,27 +3,50 @@
 use facet_format::{DeserializeError, DeserializeErrorKind, FormatParser, Span};
 use facet_json_core::{TranscodeError, transcode};
 use facet_json_parser::JsonParser;
-use facet_json_serializer::JsonSerializer;
+use facet_json_serializer::{JsonSerializeError, JsonSerializer};
 use std::alloc::Global;
 
 /// How `transcode` refuses after so many events of the input, where the parser does, and nothing was written before.
 fn refused_after(alloc: Global, input: &[u8], events: usize) -> Option<DeserializeError<'static>> {
     let mut parser = JsonParser::new(alloc, input);
-    for _i in 0..events {
+    if passes(&mut parser, events) {
+        refusal(alloc, &mut parser)
+    } else {
+        None
+    }
+}
+
+/// Whether so many events come.
+fn passes(parser: &mut JsonParser<'_>, events: usize) -> bool {
+    for _ in 0..events {
         if parser.next_event().is_err() {
-            return None;
+            return false;
         }
     }
+    true
+}
+
+/// How `transcode` refuses what comes, where the parser does, and nothing was written before.
+fn refusal(alloc: Global, parser: &mut JsonParser<'_>) -> Option<DeserializeError<'static>> {
     let mut serializer = JsonSerializer::new(alloc);
-    let passed = transcode(&mut parser, &mut serializer);
-    match (passed, serializer.finish()) {
-        (Err(TranscodeError::Read(error)), Ok(text)) if text.is_empty() => Some(error),
+    let passed = transcode(parser, &mut serializer);
+    let is_empty = is_empty(serializer.finish());
+    match passed {
+        Err(TranscodeError::Read(error)) if is_empty => Some(error),
         _ => None,
     }
 }
 
+/// Whether nothing was written.
+fn is_empty(written: Result<Vec<u8>, JsonSerializeError>) -> bool {
+    match written {
+        Ok(text) => text.is_empty(),
+        Err(_) => false,
+    }
+}
+
 /// An input, how many of its events are read before, what is got in place of a value, and where.
-const MISPLACED: [(&[u8], usize, &str, (usize, usize)); 6] = [
+static MISPLACED: [(&[u8], usize, &str, (usize, usize)); 6] = [
     (b"{\"a\":1}", 1, "key", (1, 3)),
     (b"{\"a\":1,\"b\":2}", 3, "key", (7, 3)),
     (b"{}", 1, "end", (1, 1)),

@@ -39,19 +39,26 @@ fn is_copied_alone(alloc: Global, tree: &Tree) -> Option<bool> {
 
 /// Whether a list of a value of each kind, which has so many items, is copied, and each item by itself.
 fn are_copied(alloc: Global, count: usize) -> Option<bool> {
-    let Ok(tree) = each_kind(alloc) else {
-        return None;
-    };
-    let items = tree.as_list().unwrap_or(&[]);
-    if items.len() != count {
-        return Some(false);
+    match each_kind(alloc) {
+        Ok(tree) => {
+            if items_are_copied(alloc, tree.as_list().unwrap_or(&[]), count)? {
+                is_copied(alloc, &tree)
+            } else {
+                Some(false)
+            }
+        }
+        Err(AllocError) => None,
     }
+}
+
+/// Whether there are so many items, and each is copied.
+fn items_are_copied(alloc: Global, items: &[Tree], count: usize) -> Option<bool> {
     for item in items {
         if !is_copied_alone(alloc, item)? {
             return Some(false);
         }
     }
-    is_copied(alloc, &tree)
+    Some(items.len() == count)
 }
 
 #[test]
@@ -82,10 +89,12 @@ fn keeps(alloc: Global, owned: RawJson<'static>, text: &str) -> Option<bool> {
     }
 }
 
+static RAW_TEXTS: [&str; 3] = ["[1, {}]", "x", ""];
+
 #[test]
 fn a_growth_is_refused_in_a_raw_text(rt: HostRuntime) {
     let alloc = rt.alloc();
-    for text in ["[1, {}]", "x", ""] {
+    for &text in &RAW_TEXTS {
         assert!(rt;
             but_once(is_owned(alloc, text), is_owned(alloc, text)),
             "{text}"
@@ -93,13 +102,15 @@ fn a_growth_is_refused_in_a_raw_text(rt: HostRuntime) {
     }
 }
 
-/// `[[1,2,3,4,5],[6,7],[],[8]]`
+/// The numbers of `[[1,2,3,4,5],[6,7],[],[8]]`.
+static LISTS: [&[u64]; 4] = [&[1, 2, 3, 4, 5], &[6, 7], &[], &[8]];
+
+/// A list of them.
 fn lists(alloc: Global) -> Result<Tree, AllocError> {
     let mut items = Vec::new(alloc);
-    items.push(numbers(alloc, &[1, 2, 3, 4, 5])?)?;
-    items.push(numbers(alloc, &[6, 7])?)?;
-    items.push(numbers(alloc, &[])?)?;
-    items.push(numbers(alloc, &[8])?)?;
+    for list in &LISTS {
+        items.push(numbers(alloc, *list)?)?;
+    }
     Ok(Tree::from(items))
 }
 
@@ -115,12 +126,23 @@ fn numbers(alloc: Global, numbers: &[u64]) -> Result<Tree, AllocError> {
 /// `["a\n",1.5,18446744073709551616]`
 fn texts(alloc: Global) -> Result<Tree, AllocError> {
     let mut items = Vec::new(alloc);
-    items.push(Tree::from(String::from_str(alloc, "a\n")?))?;
+    push_texts(alloc, &mut items)?;
+    Ok(Tree::from(items))
+}
+
+/// The items of that list.
+fn push_texts(alloc: Global, items: &mut Vec<Tree>) -> Result<(), AllocError> {
+    push_text(alloc, items, "a\n")?;
     if let Some(decimal) = Decimal::new("1.5") {
         items.push(Tree::from(decimal))?;
     }
-    items.push(Tree::from(String::from_str(alloc, "18446744073709551616")?))?;
-    Ok(Tree::from(items))
+    push_text(alloc, items, "18446744073709551616")
+}
+
+/// A text.
+fn push_text(alloc: Global, items: &mut Vec<Tree>, text: &str) -> Result<(), AllocError> {
+    items.push(Tree::from(String::from_str(alloc, text)?))?;
+    Ok(())
 }
 
 /// A value that is read.

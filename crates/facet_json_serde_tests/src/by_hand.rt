@@ -10,7 +10,7 @@ use serde::{Deserialize, Deserializer, Format};
 use std::alloc::Global;
 
 /// A part of a hundred.
-#[derive(Clone, Copy, Debug, PartialEq)]
+#[derive(Clone, Copy)]
 pub struct Percent(pub u64);
 
 impl<'de> Deserialize<'de> for Percent {
@@ -31,7 +31,7 @@ impl<'de> Deserialize<'de> for Percent {
 }
 
 /// A list of two whole numbers, the lower one first.
-#[derive(Clone, Copy, Debug, PartialEq)]
+#[derive(Clone, Copy)]
 pub struct Range {
     /// The first of the two.
     pub low: u64,

@@ -1,10 +1,10 @@
 //! The four forms of enum, and a broken text within each: it is told as the parser does, also after a rewind.
 
-use crate::again::again;
+use crate::again::{Case, expect};
 use serde::{Deserialize, Serialize};
 use std::test::Fail;
 
-#[derive(Debug, Drop, PartialEq, Serialize, Deserialize)]
+#[derive(Drop, Serialize, Deserialize)]
 enum Shape {
     Unknown,
     Sphere(f32),
@@ -12,14 +12,14 @@ enum Shape {
     Pair(u8, char),
 }
 
-#[derive(Debug, Drop, PartialEq, Serialize, Deserialize)]
+#[derive(Drop, Serialize, Deserialize)]
 #[serde(tag = "kind", rename_all = "snake_case")]
 pub(crate) enum Command {
     MoveTo { x: i32, y: i32 },
     Stop,
 }
 
-#[derive(Debug, Drop, PartialEq, Serialize, Deserialize)]
+#[derive(Drop, Serialize, Deserialize)]
 #[serde(tag = "t", content = "c")]
 enum Adjacent {
     One(u8),
@@ -27,7 +27,7 @@ enum Adjacent {
     Nothing,
 }
 
-#[derive(Debug, Drop, PartialEq, Serialize, Deserialize)]
+#[derive(Drop, Serialize, Deserialize)]
 #[serde(untagged)]
 enum Any {
     Number(f64),
@@ -37,7 +37,7 @@ enum Any {
 }
 
 /// By the variant's name: a text without data, else a map of one member.
-const SHAPES: [(&str, &str); 4] = [
+static SHAPES: [Case<'static>; 4] = [
     (
         r#"["Unknown",{"Sphere":1.5},{"Box":{"wide":1,"high":-2}},{"Pair":[7,"c"]}]"#,
         r#"["Unknown",{"Sphere":1.5},{"Box":{"wide":1,"high":-2}},{"Pair":[7,"c"]}]"#,
@@ -57,7 +57,7 @@ const SHAPES: [(&str, &str); 4] = [
 ];
 
 /// By a member of its own, which may stand anywhere.
-const COMMANDS: [(&str, &str); 4] = [
+static COMMANDS: [Case<'static>; 4] = [
     (
         r#"[{"kind":"move_to","x":1,"y":-2},{"kind":"stop"}]"#,
         r#"[{"kind":"move_to","x":1,"y":-2},{"kind":"stop"}]"#,
@@ -77,7 +77,7 @@ const COMMANDS: [(&str, &str); 4] = [
 ];
 
 /// By a member, beside one of the data.
-const ADJACENT: [(&str, &str); 3] = [
+static ADJACENT: [Case<'static>; 3] = [
     (
         r#"[{"t":"One","c":1},{"t":"Two","c":[1,2]},{"t":"Nothing"}]"#,
         r#"[{"t":"One","c":1},{"t":"Two","c":[1,2]},{"t":"Nothing"}]"#,
@@ -90,7 +90,7 @@ const ADJACENT: [(&str, &str); 3] = [
 ];
 
 /// By the first variant that fits.
-const UNTAGGED: [(&str, &str); 3] = [
+static UNTAGGED: [Case<'static>; 3] = [
     (
         r#"[1.5,"a",[1,2],{"a":1},"\u00e9",7]"#,
         "[1.5,\"a\",[1,2],{\"a\":1},\"\u{e9}\",7.0]",
@@ -108,23 +108,13 @@ const UNTAGGED: [(&str, &str); 3] = [
 #[test]
 fn enums_are_read_and_written(rt: HostRuntime) -> Result<(), Fail> {
     let alloc = rt.alloc();
-    for (input, expected) in SHAPES {
-        assert_eq!(rt; again::<Vec<Shape>>(alloc, input)?.as_str(), expected);
-    }
-    for (input, expected) in COMMANDS {
-        assert_eq!(rt; again::<Vec<Command>>(alloc, input)?.as_str(), expected);
-    }
-    Ok(())
+    expect::<Vec<Shape>>(&rt, alloc, &SHAPES)?;
+    expect::<Vec<Command>>(&rt, alloc, &COMMANDS)
 }
 
 #[test]
 fn enums_with_data_apart_are_read_and_written(rt: HostRuntime) -> Result<(), Fail> {
     let alloc = rt.alloc();
-    for (input, expected) in ADJACENT {
-        assert_eq!(rt; again::<Vec<Adjacent>>(alloc, input)?.as_str(), expected);
-    }
-    for (input, expected) in UNTAGGED {
-        assert_eq!(rt; again::<Vec<Any>>(alloc, input)?.as_str(), expected);
-    }
-    Ok(())
+    expect::<Vec<Adjacent>>(&rt, alloc, &ADJACENT)?;
+    expect::<Vec<Any>>(&rt, alloc, &UNTAGGED)
 }

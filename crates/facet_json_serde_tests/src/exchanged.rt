@@ -40,15 +40,33 @@ fn sample(alloc: Global, seed: &mut u64) -> Result<String, Fail> {
     )?)
 }
 
+/// Whether this library reads the text as that value.
+fn is_ours(alloc: Global, text: &str, value: &Value) -> Result<bool, Fail> {
+    let read: Value = facet_json_serde::from_str(alloc, text)?;
+    Ok(read == *value)
+}
+
+/// Whether `serde_json` reads as that value what this library writes of it.
+fn is_theirs_again(alloc: Global, value: &Value) -> Result<bool, Fail> {
+    let written = facet_json_serde::to_string(alloc, value)?;
+    let read: Value = serde_json::from_str(alloc, written.as_str())?;
+    Ok(read == *value)
+}
+
+/// Whether this library reads as that value what `serde_json` writes of it.
+fn is_ours_again(alloc: Global, value: &Value) -> Result<bool, Fail> {
+    let written = serde_json::to_string(alloc, value)?;
+    is_ours(alloc, written.as_str(), value)
+}
+
 /// Whether both read the text as one value, and each what the other one writes of it.
 fn is_exchanged(alloc: Global, text: &str) -> Result<bool, Fail> {
-    let theirs: Value = serde_json::from_str(alloc, text)?;
-    let ours: Value = facet_json_serde::from_str(alloc, text)?;
-    let written = serde_json::to_string(alloc, &theirs)?;
-    let read: Value = facet_json_serde::from_str(alloc, written.as_str())?;
-    let written = facet_json_serde::to_string(alloc, &ours)?;
-    let again: Value = serde_json::from_str(alloc, written.as_str())?;
-    Ok(ours == theirs && read == theirs && again == theirs)
+    let value: Value = serde_json::from_str(alloc, text)?;
+    Ok(
+        is_ours(alloc, text, &value)?
+            && is_ours_again(alloc, &value)?
+            && is_theirs_again(alloc, &value)?,
+    )
 }
 
 #[test]

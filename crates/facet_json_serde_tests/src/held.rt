@@ -1,9 +1,9 @@
 //! A parser and a writer that the caller holds.
 
-use crate::by_hand::{Percent, Range, read_percent, read_range};
-use facet_json_serde::{Error, ReadFault, Json, JsonParser, JsonWriter, SerializeOptions};
+use crate::by_hand::{read_percent, read_range};
+use facet_json_serde::{Error, Json, JsonParser, JsonWriter, ReadFault, SerializeOptions};
 use serde::Serialize;
-use std::test::Fail;
+use std::alloc::Global;
 
 /// A pair of bytes, with comments between them, and the end of the input.
 fn pair(input: &[u8], json: &mut Json<'_>) -> Result<(u8, u8), ReadFault> {
@@ -13,66 +13,93 @@ fn pair(input: &[u8], json: &mut Json<'_>) -> Result<(u8, u8), ReadFault> {
 }
 
 #[test]
-fn a_parser_is_held(rt: HostRuntime) -> Result<(), Fail> {
+fn a_parser_is_held(rt: HostRuntime) {
     let alloc = rt.alloc();
     let input = b"/* two */ [1, 2]\n".as_slice();
     let mut json = Json::new(alloc, JsonParser::new_jsonc(alloc, input));
-    let read = pair(input, &mut json).ok().ok_or("a pair")?;
-    assert_eq!(rt; read, (1, 2));
-    Ok(())
+    assert!(rt; pair(input, &mut json).ok() == Some((1, 2)));
+}
+
+/// Whether the error is shown so.
+fn is_shown(alloc: Global, error: &Error<'static>, text: &str) -> bool {
+    match format!(in alloc; "{error}") {
+        Ok(shown) => shown.as_str() == text,
+        Err(_) => false,
+    }
+}
+
+/// Whether the input is refused, and the fault told so.
+fn is_refused(alloc: Global, input: &[u8], json: &mut Json<'_>, text: &str) -> bool {
+    match pair(input, json) {
+        Ok(_) => false,
+        Err(fault) => is_shown(alloc, &json.told(fault), text),
+    }
 }
 
 #[test]
-fn a_fault_is_told(rt: HostRuntime) -> Result<(), Fail> {
+fn a_fault_is_told(rt: HostRuntime) {
     let alloc = rt.alloc();
     let input = b"[1, 2] [".as_slice();
     let mut json = Json::new(alloc, JsonParser::new_jsonc(alloc, input));
-    let fault = pair(input, &mut json).err().ok_or("a fault")?;
-    let error: Error<'static> = json.told(fault);
-    let shown = format!(in alloc; "{error}")?;
-    assert_eq!(rt; shown.as_str(), "trailing characters");
-    Ok(())
+    assert!(rt; is_refused(alloc, input, &mut json, "trailing characters"));
+}
+
+/// Whether a pair is written.
+fn takes_pair(writer: &mut JsonWriter<'_>) -> bool {
+    (1u8, "x").serialize(writer).is_ok()
 }
 
 #[test]
-fn a_writer_keeps_its_fault(rt: HostRuntime) -> Result<(), Fail> {
-    let alloc = rt.alloc();
+fn a_writer_keeps_its_fault(rt: HostRuntime) {
     let options = SerializeOptions::new().bytes_as_hex();
-    let mut writer = JsonWriter::new(alloc, options);
-    (1u8, "x").serialize(&mut writer).ok().ok_or("a pair")?;
+    let mut writer = JsonWriter::new(rt.alloc(), options);
+    assert!(rt; takes_pair(&mut writer));
     assert!(rt; 7u8.serialize(&mut writer).is_err());
     assert!(rt; writer.finish(&options).is_err());
-    Ok(())
 }
 
-#[test]
-fn a_writer_gives_its_text(rt: HostRuntime) -> Result<(), Fail> {
-    let alloc = rt.alloc();
-    let options = SerializeOptions::new().bytes_as_hex();
-    let mut writer = JsonWriter::new(alloc, options);
-    (1u8, "x").serialize(&mut writer).ok().ok_or("a pair")?;
-    let text = writer.finish(&options).ok().ok_or("a text")?;
-    assert_eq!(rt; text.as_slice(), br#"[1,"x"]"#.as_slice());
-    Ok(())
-}
-
-#[test]
-fn types_are_read_by_hand(rt: HostRuntime) -> Result<(), Fail> {
-    let alloc = rt.alloc();
-    let input = b" 99 ".as_slice();
-    let read = read_percent(alloc, input, JsonParser::new(alloc, input))
-        .ok()
-        .ok_or("a part")?;
-    assert_eq!(rt; read, Percent(99));
-    let input = b"101".as_slice();
-    assert!(rt; read_percent(alloc, input, JsonParser::new(alloc, input)).is_err());
-    let input = b"[2, 5]".as_slice();
-    let read = read_range(alloc, input, JsonParser::new(alloc, input))
-        .ok()
-        .ok_or("a range")?;
-    assert_eq!(rt; read, Range { low: 2, high: 5 });
-    for input in [b"[5,2]".as_slice(), b"[2]", b"[2,5,7]", b"[-2,5]", b"{}"] {
-        assert!(rt; read_range(alloc, input, JsonParser::new(alloc, input)).is_err());
+/// Whether this was written.
+fn is_text<E: Drop>(written: Result<Vec<u8>, E>, text: &[u8]) -> bool {
+    match written {
+        Ok(written) => written.as_slice() == text,
+        Err(_) => false,
     }
-    Ok(())
+}
+
+#[test]
+fn a_writer_gives_its_text(rt: HostRuntime) {
+    let options = SerializeOptions::new().bytes_as_hex();
+    let mut writer = JsonWriter::new(rt.alloc(), options);
+    assert!(rt; takes_pair(&mut writer));
+    assert!(rt; is_text(writer.finish(&options), br#"[1,"x"]"#));
+}
+
+/// The part of a hundred that the input has.
+fn percent(alloc: Global, input: &[u8]) -> Option<u64> {
+    match read_percent(alloc, input, JsonParser::new(alloc, input)) {
+        Ok(part) => Some(part.0),
+        Err(_) => None,
+    }
+}
+
+/// The two numbers that the input has, the lower one first.
+fn range(alloc: Global, input: &[u8]) -> Option<(u64, u64)> {
+    match read_range(alloc, input, JsonParser::new(alloc, input)) {
+        Ok(range) => Some((range.low, range.high)),
+        Err(_) => None,
+    }
+}
+
+/// Inputs that have no such numbers.
+static NO_RANGES: [&[u8]; 5] = [b"[5,2]", b"[2]", b"[2,5,7]", b"[-2,5]", b"{}"];
+
+#[test]
+fn types_are_read_by_hand(rt: HostRuntime) {
+    let alloc = rt.alloc();
+    assert!(rt; percent(alloc, b" 99 ") == Some(99));
+    assert!(rt; percent(alloc, b"101").is_none());
+    assert!(rt; range(alloc, b"[2, 5]") == Some((2, 5)));
+    for input in &NO_RANGES {
+        assert!(rt; range(alloc, *input).is_none());
+    }
 }

@@ -1,21 +1,21 @@
 //! Numbers, texts, tuples, maps, and the structs that are no maps.
 
-use crate::again::again;
+use crate::again::{Case, expect};
 use serde::{Deserialize, Serialize};
 use std::collections::BTreeMap;
 use std::test::Fail;
 
-#[derive(Debug, Drop, PartialEq, Serialize, Deserialize)]
+#[derive(Drop, Serialize, Deserialize)]
 struct Unit;
 
-#[derive(Debug, Drop, PartialEq, Serialize, Deserialize)]
+#[derive(Drop, Serialize, Deserialize)]
 struct Metres(f64);
 
-#[derive(Debug, Drop, PartialEq, Serialize, Deserialize)]
+#[derive(Drop, Serialize, Deserialize)]
 struct Row(i128, Option<Unit>, String);
 
 /// Floats: the nearest to the text, whatever its form; `-0` keeps its sign; what is not finite is refused.
-const FLOATS: [(&str, &str); 8] = [
+static FLOATS: [Case<'static>; 8] = [
     ("-0", "-0.0"),
     ("0.1", "0.1"),
     ("1e300", "1e300"),
@@ -33,7 +33,7 @@ const FLOATS: [(&str, &str); 8] = [
 ];
 
 /// A struct with one part is that part, one without is null, and one with several is a list.
-const ROWS: [(&str, &str); 4] = [
+static ROWS: [Case<'static>; 4] = [
     (
         r#"[-170141183460469231731687303715884105728,null,"x"]"#,
         r#"[-170141183460469231731687303715884105728,null,"x"]"#,
@@ -53,7 +53,7 @@ const ROWS: [(&str, &str); 4] = [
 ];
 
 /// Maps: keys that are whole numbers stand between quotes, as numbers of RFC 8259.
-const COUNTS: [(&str, &str); 5] = [
+static COUNTS: [Case<'static>; 5] = [
     (r#"{"2":true,"-1":false,}"#, r#"{"-1":false,"2":true}"#),
     (
         r#"{"+1":true}"#,
@@ -74,7 +74,7 @@ const COUNTS: [(&str, &str); 5] = [
 ];
 
 /// Options in a list, and tuples in one.
-const OPTIONS: [(&str, &str); 2] = [
+static OPTIONS: [Case<'static>; 2] = [
     (r#"[null,[true,"\u00e9"],]"#, "[null,[true,\"\u{e9}\"]]"),
     (
         r#"[[true,"ab"]]"#,
@@ -83,7 +83,7 @@ const OPTIONS: [(&str, &str); 2] = [
 ];
 
 /// Texts and maps of them, with escapes.
-const WORDS: [(&str, &str); 2] = [
+static WORDS: [Case<'static>; 2] = [
     (r#"{"a\n":"x\ty","b":"c"}"#, r#"{"a\n":"x\ty","b":"c"}"#),
     (
         r#"{"a":["b"]}"#,
@@ -94,35 +94,14 @@ const WORDS: [(&str, &str); 2] = [
 #[test]
 fn numbers_are_read_and_written(rt: HostRuntime) -> Result<(), Fail> {
     let alloc = rt.alloc();
-    for (input, expected) in FLOATS {
-        assert_eq!(rt; again::<Metres>(alloc, input)?.as_str(), expected);
-    }
-    for (input, expected) in ROWS {
-        assert_eq!(rt; again::<Row>(alloc, input)?.as_str(), expected);
-    }
-    Ok(())
+    expect::<Metres>(&rt, alloc, &FLOATS)?;
+    expect::<Row>(&rt, alloc, &ROWS)
 }
 
 #[test]
 fn maps_are_read_and_written(rt: HostRuntime) -> Result<(), Fail> {
     let alloc = rt.alloc();
-    for (input, expected) in COUNTS {
-        assert_eq!(rt;
-            again::<BTreeMap<i64, bool>>(alloc, input)?.as_str(),
-            expected
-        );
-    }
-    for (input, expected) in OPTIONS {
-        assert_eq!(rt;
-            again::<Vec<Option<(bool, char)>>>(alloc, input)?.as_str(),
-            expected
-        );
-    }
-    for (input, expected) in WORDS {
-        assert_eq!(rt;
-            again::<BTreeMap<String, String>>(alloc, input)?.as_str(),
-            expected
-        );
-    }
-    Ok(())
+    expect::<BTreeMap<i64, bool>>(&rt, alloc, &COUNTS)?;
+    expect::<Vec<Option<(bool, char)>>>(&rt, alloc, &OPTIONS)?;
+    expect::<BTreeMap<String, String>>(&rt, alloc, &WORDS)
 }

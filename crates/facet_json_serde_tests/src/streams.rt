@@ -86,27 +86,42 @@ fn write(alloc: Global, fails_at: usize) -> (Result<(), StreamError<'static>>, V
     (answer, bytes)
 }
 
+/// Whether the list is the text's.
+fn is_list(answer: Result<Vec<u8>, StreamError<'_>>) -> bool {
+    match answer {
+        Ok(list) => list.as_slice() == [1u8, 20, 3].as_slice(),
+        Err(_) => false,
+    }
+}
+
 #[test]
 fn a_read_fails_in_turn(rt: HostRuntime) {
     let alloc = rt.alloc();
     for at in 0..4 {
         assert!(rt; has_failed(read(alloc, at)), "at {at}");
     }
-    match read(alloc, 4) {
-        Ok(list) => assert_eq!(rt; list.as_slice(), [1u8, 20, 3].as_slice()),
-        Err(_) => assert!(rt; false),
-    }
+    assert!(rt; is_list(read(alloc, 4)));
+}
+
+/// Whether a write of the list ends as this write fails, and what came before it is taken.
+fn write_fails(alloc: Global, at: usize) -> bool {
+    let (answer, taken) = write(alloc, at);
+    taken.len() == at.saturating_mul(3)
+        && TEXT.as_bytes().starts_with(taken.as_slice())
+        && has_failed(answer)
+}
+
+/// Whether the list is written where this write, which is not made, would fail.
+fn is_written(alloc: Global, at: usize) -> bool {
+    let (answer, taken) = write(alloc, at);
+    taken.as_slice() == TEXT.as_bytes() && answer.is_ok()
 }
 
 #[test]
 fn a_write_fails_in_turn(rt: HostRuntime) {
     let alloc = rt.alloc();
     for at in 0..3 {
-        let (answer, taken) = write(alloc, at);
-        assert!(rt; has_failed(answer), "at {at}");
-        assert!(rt; taken.len() == at.saturating_mul(3), "at {at}");
-        assert!(rt; TEXT.as_bytes().starts_with(taken.as_slice()), "at {at}");
+        assert!(rt; write_fails(alloc, at), "at {at}");
     }
-    let (answer, taken) = write(alloc, 3);
-    assert!(rt; answer.is_ok() && taken.as_slice() == TEXT.as_bytes());
+    assert!(rt; is_written(alloc, 3));
 }

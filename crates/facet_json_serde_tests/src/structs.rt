@@ -1,11 +1,12 @@
 //! Structs: renamed fields, borrowed texts, what is left out, flattened and recursive ones.
 
-use crate::again::again;
+use crate::again::{Case, expect};
 use serde::{Deserialize, Serialize};
+use std::alloc::{AllocError, Global};
 use std::borrow::CowStr;
 use std::test::Fail;
 
-#[derive(Debug, Drop, PartialEq, Serialize, Deserialize)]
+#[derive(Drop, Serialize, Deserialize)]
 #[serde(rename_all = "camelCase")]
 struct Moon<'a> {
     name: &'a str,
@@ -15,7 +16,7 @@ struct Moon<'a> {
     orbit_days: f64,
 }
 
-#[derive(Debug, Drop, PartialEq, Serialize, Deserialize)]
+#[derive(Drop, Serialize, Deserialize)]
 #[serde(deny_unknown_fields)]
 pub(crate) struct Account {
     #[serde(rename = "ID", alias = "id")]
@@ -26,7 +27,7 @@ pub(crate) struct Account {
     cache: u8,
 }
 
-#[derive(Debug, Drop, PartialEq, Serialize, Deserialize)]
+#[derive(Drop, Serialize, Deserialize)]
 struct Outer {
     id: u32,
     #[serde(flatten)]
@@ -34,13 +35,13 @@ struct Outer {
     after: bool,
 }
 
-#[derive(Debug, Drop, PartialEq, Serialize, Deserialize)]
+#[derive(Drop, Serialize, Deserialize)]
 struct Inner {
     a: Option<char>,
     b: u128,
 }
 
-#[derive(Debug, Drop, PartialEq, Serialize, Deserialize)]
+#[derive(Drop, Serialize, Deserialize)]
 #[serde(recursive)]
 #[cycle(folder)]
 struct Folder {
@@ -51,7 +52,7 @@ struct Folder {
 
 /// Renamed fields, a default, members in any order, unknown ones passed, and texts that are lent where they have no escape. A missing field is told
 /// by the name that it has in Rust, as serde's derive here does.
-const MOONS: [(&str, &str); 6] = [
+static MOONS: [Case<'static>; 6] = [
     (
         r#"{"name":"Io","longNote":"a","orbitDays":1.769}"#,
         r#"{"name":"Io","longNote":"a","orbitDays":1.769}"#,
@@ -79,7 +80,7 @@ const MOONS: [(&str, &str); 6] = [
 ];
 
 /// An alias, a field that is left out, one that is skipped both ways, and no unknown fields. A duplicate is told by the name in Rust.
-const ACCOUNTS: [(&str, &str); 10] = [
+static ACCOUNTS: [Case<'static>; 10] = [
     (r#"{"ID":-7,"note":"x"}"#, r#"{"ID":-7,"note":"x"}"#),
     (r#"{"id":7,"note":null}"#, r#"{"ID":7}"#),
     (
@@ -117,7 +118,7 @@ const ACCOUNTS: [(&str, &str); 10] = [
 ];
 
 /// A flattened struct, and a number of 128 bits.
-const OUTERS: [(&str, &str); 3] = [
+static OUTERS: [Case<'static>; 3] = [
     (
         r#"{"id":1,"a":"x","b":340282366920938463463374607431768211455,"after":true}"#,
         r#"{"id":1,"a":"x","b":340282366920938463463374607431768211455,"after":true}"#,
@@ -133,7 +134,7 @@ const OUTERS: [(&str, &str); 3] = [
 ];
 
 /// A type that holds itself.
-const FOLDERS: [(&str, &str); 2] = [
+static FOLDERS: [Case<'static>; 2] = [
     (
         r#"{"name":"a","folders":[{"name":"b","folders":[]},{"name":"c","folders":[{"name":"d","folders":[]}]}]}"#,
         r#"{"name":"a","folders":[{"name":"b","folders":[]},{"name":"c","folders":[{"name":"d","folders":[]}]}]}"#,
@@ -147,41 +148,27 @@ const FOLDERS: [(&str, &str); 2] = [
 #[test]
 fn structs_are_read_and_written(rt: HostRuntime) -> Result<(), Fail> {
     let alloc = rt.alloc();
-    for (input, expected) in MOONS {
-        assert_eq!(rt; again::<Moon<'_>>(alloc, input)?.as_str(), expected);
-    }
-    for (input, expected) in ACCOUNTS {
-        assert_eq!(rt; again::<Account>(alloc, input)?.as_str(), expected);
-    }
-    Ok(())
+    expect::<Moon<'_>>(&rt, alloc, &MOONS)?;
+    expect::<Account>(&rt, alloc, &ACCOUNTS)
 }
 
 #[test]
 fn structs_in_structs_are_read_and_written(rt: HostRuntime) -> Result<(), Fail> {
     let alloc = rt.alloc();
-    for (input, expected) in OUTERS {
-        assert_eq!(rt; again::<Outer>(alloc, input)?.as_str(), expected);
-    }
-    for (input, expected) in FOLDERS {
-        assert_eq!(rt; again::<Folder>(alloc, input)?.as_str(), expected);
-    }
-    Ok(())
+    expect::<Outer>(&rt, alloc, &OUTERS)?;
+    expect::<Folder>(&rt, alloc, &FOLDERS)
+}
+
+/// A moon with an unknown member that is nested so many times.
+fn nested(alloc: Global, depth: usize) -> Result<String, AllocError> {
+    let (opening, closing) = ("[".repeat(alloc, depth)?, "]".repeat(alloc, depth)?);
+    format!(in alloc; r#"{{"name":"Io","deep":{opening}{closing},"longNote":"a"}}"#)
 }
 
 #[test]
 fn deep_values_are_passed(rt: HostRuntime) -> Result<(), Fail> {
     let alloc = rt.alloc();
-    let mut input = String::from_str(alloc, r#"{"name":"Io","deep":"#)?;
-    for _ in 0..100_000 {
-        input.push_str("[")?;
-    }
-    for _ in 0..100_000 {
-        input.push_str("]")?;
-    }
-    input.push_str(r#","longNote":"a"}"#)?;
-    assert_eq!(rt;
-        again::<Moon<'_>>(alloc, input.as_str())?.as_str(),
-        r#"{"name":"Io","longNote":"a","orbitDays":0.0}"#
-    );
-    Ok(())
+    let input = nested(alloc, 100_000)?;
+    let written = r#"{"name":"Io","longNote":"a","orbitDays":0.0}"#;
+    expect::<Moon<'_>>(&rt, alloc, &[(input.as_str(), written)])
 }

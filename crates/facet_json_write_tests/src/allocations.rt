@@ -4,13 +4,11 @@
 
 use crate::trees::list_of_trees;
 use crate::writers::{FORMS, Form, is_after, sample, tabs_and_hex, text_by, write_by};
-use crate::written::{Call, make};
+use crate::written::{Call, Layout, make, options};
 use facet_json::{
     to_string, to_string_pretty, to_string_with_options, to_vec, to_vec_pretty, to_vec_with_options,
 };
-use facet_json_serializer::{
-    HexBytesOptions, JsonSerializeError, JsonSerializer, SerializeOptions,
-};
+use facet_json_serializer::{JsonSerializeError, JsonSerializer};
 use facet_json_tree::{Tree, WriteError};
 use std::alloc::Global;
 use std::io::ErrorKind;
@@ -18,25 +16,6 @@ use std::io::ErrorKind;
 /// Whether a call that was made twice gave its whole answer, but for one time at most in which memory ran out.
 fn but_once(first: Option<bool>, again: Option<bool>) -> bool {
     first.unwrap_or(true) && again.unwrap_or(true) && (first.is_some() || again.is_some())
-}
-
-/// How the text is laid out.
-#[derive(Clone, Copy)]
-enum Layout {
-    Compact,
-    Pretty,
-    ShortHex,
-}
-
-/// The options of a layout.
-fn options(layout: Layout) -> SerializeOptions<'static> {
-    match layout {
-        Layout::Compact => SerializeOptions::new(),
-        Layout::Pretty => SerializeOptions::new().pretty(),
-        Layout::ShortHex => SerializeOptions::new().bytes_as_hex_with_options(
-            HexBytesOptions::new().truncate(3).head_tail(2, 1),
-        ),
-    }
 }
 
 /// Calls, each with the number of its refusal or 0, and the text that they write.
@@ -147,12 +126,12 @@ static ROWS: [Row; 6] = [
         text: "[\n  {\n    \"a\": 1\n  }\n]",
     },
     Row {
-        layout: Layout::ShortHex,
+        layout: Layout::ShortHex(3, 2, 1),
         calls: &[(Call::Bytes(&[0, 1, 2, 255]), 0)],
         text: "\"0x0001..<1 bytes>..ff\"",
     },
     Row {
-        layout: Layout::ShortHex,
+        layout: Layout::ShortHex(3, 2, 1),
         calls: &[],
         text: "",
     },

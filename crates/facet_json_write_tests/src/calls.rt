@@ -1,131 +1,133 @@
 //! Calls in any order, compact and indented.
 
-use crate::written::{Call, writes, writes_decimal, writes_scalar};
+use crate::samples::is_displayed;
+use crate::written::{Call, Layout, Row, expect_written, writes_decimal, writes_scalar};
 use facet_format::{FormatSerializer, ScalarValue};
 use facet_json_serializer::{JsonSerializeError, JsonSerializer, SerializeOptions};
 use std::alloc::Global;
 
-#[test]
-fn calls_that_do_not_fit_are_refused_and_change_nothing(rt: HostRuntime) {
-    let list = [Call::BeginSeq, Call::EndStruct, Call::EndSeq];
-    assert!(rt; writes(rt.alloc(), SerializeOptions::new(), &list, &[2], "[]"));
-    let outside = [Call::Key("a"), Call::EndSeq, Call::EndStruct];
-    assert!(rt;
-        writes(
-            rt.alloc(),
-            SerializeOptions::new(),
-            &outside,
-            &[1, 3, 2],
-            ""
-        )
-    );
-    let inside = [
-        Call::BeginStruct,
-        Call::EndSeq,
-        Call::EndStruct,
-        Call::Key("a"),
-    ];
-    assert!(rt; writes(rt.alloc(), SerializeOptions::new(), &inside, &[3, 1], "{}"));
-}
+/// Calls of which some do not fit: these are refused, and change nothing.
+static REFUSED: [Row; 3] = [
+    (
+        Layout::Compact,
+        &[Call::BeginSeq, Call::EndStruct, Call::EndSeq],
+        &[2],
+        "[]",
+    ),
+    (
+        Layout::Compact,
+        &[Call::Key("a"), Call::EndSeq, Call::EndStruct],
+        &[1, 3, 2],
+        "",
+    ),
+    (
+        Layout::Compact,
+        &[
+            Call::BeginStruct,
+            Call::EndSeq,
+            Call::EndStruct,
+            Call::Key("a"),
+        ],
+        &[3, 1],
+        "{}",
+    ),
+];
+
+/// Values that stand where they are written.
+static PLACED: [Row; 3] = [
+    (
+        Layout::Compact,
+        &[
+            Call::BeginStruct,
+            Call::Number(1),
+            Call::Key("a"),
+            Call::Key("b"),
+        ],
+        &[],
+        "{1\"a\":,\"b\":",
+    ),
+    (
+        Layout::Compact,
+        &[
+            Call::BeginStruct,
+            Call::BeginSeq,
+            Call::EndSeq,
+            Call::Key("a"),
+        ],
+        &[],
+        "{[]\"a\":",
+    ),
+    (
+        Layout::Compact,
+        &[Call::Number(1), Call::Raw("[ 2]"), Call::Text("x")],
+        &[],
+        "1[ 2]\"x\"",
+    ),
+];
+
+/// An object of an empty list and another one.
+const MEMBERS: &[Call<'static>] = &[
+    Call::BeginStruct,
+    Call::Key("a"),
+    Call::BeginSeq,
+    Call::EndSeq,
+    Call::Key("b"),
+    Call::BeginSeq,
+    Call::Number(1),
+    Call::EndSeq,
+    Call::EndStruct,
+];
+
+/// A list of structs.
+const STRUCTS: &[Call<'static>] = &[
+    Call::BeginStruct,
+    Call::Key("List"),
+    Call::BeginSeq,
+    Call::BeginStruct,
+    Call::Key("Number"),
+    Call::Number(10),
+    Call::EndStruct,
+    Call::BeginStruct,
+    Call::Key("Number"),
+    Call::Number(20),
+    Call::EndStruct,
+    Call::BeginStruct,
+    Call::Key("Number"),
+    Call::Number(30),
+    Call::EndStruct,
+    Call::EndSeq,
+    Call::EndStruct,
+];
+
+/// Items and members, and what separates them.
+static SEPARATED: [Row; 4] = [
+    (Layout::Compact, MEMBERS, &[], "{\"a\":[],\"b\":[1]}"),
+    (
+        Layout::Pretty,
+        MEMBERS,
+        &[],
+        "{\n  \"a\": [],\n  \"b\": [\n    1\n  ]\n}",
+    ),
+    (
+        Layout::Tabs,
+        MEMBERS,
+        &[],
+        "{\n\t\"a\": [],\n\t\"b\": [\n\t\t1\n\t]\n}",
+    ),
+    (
+        Layout::Pretty,
+        STRUCTS,
+        &[],
+        "{\n  \"List\": [\n    {\n      \"Number\": 10\n    },\n    {\n      \"Number\": 20\n    },\n    {\n      \"Number\": 30\n    }\n  ]\n}",
+    ),
+];
 
 #[test]
-fn values_stand_where_they_are_written(rt: HostRuntime) {
-    let keys = [
-        Call::BeginStruct,
-        Call::Number(1),
-        Call::Key("a"),
-        Call::Key("b"),
-    ];
-    assert!(rt;
-        writes(
-            rt.alloc(),
-            SerializeOptions::new(),
-            &keys,
-            &[],
-            "{1\"a\":,\"b\":"
-        )
-    );
-    let marks = [
-        Call::BeginStruct,
-        Call::BeginSeq,
-        Call::EndSeq,
-        Call::Key("a"),
-    ];
-    assert!(rt;
-        writes(
-            rt.alloc(),
-            SerializeOptions::new(),
-            &marks,
-            &[],
-            "{[]\"a\":"
-        )
-    );
-    let roots = [Call::Number(1), Call::Raw("[ 2]"), Call::Text("x")];
-    assert!(rt;
-        writes(
-            rt.alloc(),
-            SerializeOptions::new(),
-            &roots,
-            &[],
-            "1[ 2]\"x\""
-        )
-    );
-}
-
-#[test]
-fn items_and_members_are_separated(rt: HostRuntime) {
-    let calls = [
-        Call::BeginStruct,
-        Call::Key("a"),
-        Call::BeginSeq,
-        Call::EndSeq,
-        Call::Key("b"),
-        Call::BeginSeq,
-        Call::Number(1),
-        Call::EndSeq,
-        Call::EndStruct,
-    ];
-    let layouts = [
-        (SerializeOptions::new(), "{\"a\":[],\"b\":[1]}"),
-        (
-            SerializeOptions::new().pretty(),
-            "{\n  \"a\": [],\n  \"b\": [\n    1\n  ]\n}",
-        ),
-        (
-            SerializeOptions::new().indent("\t"),
-            "{\n\t\"a\": [],\n\t\"b\": [\n\t\t1\n\t]\n}",
-        ),
-    ];
-    for (options, text) in &layouts {
-        assert!(rt; writes(rt.alloc(), *options, &calls, &[], text));
-    }
-}
-
-#[test]
-fn a_list_of_structs_is_indented(rt: HostRuntime) {
-    let calls = [
-        Call::BeginStruct,
-        Call::Key("List"),
-        Call::BeginSeq,
-        Call::BeginStruct,
-        Call::Key("Number"),
-        Call::Number(10),
-        Call::EndStruct,
-        Call::BeginStruct,
-        Call::Key("Number"),
-        Call::Number(20),
-        Call::EndStruct,
-        Call::BeginStruct,
-        Call::Key("Number"),
-        Call::Number(30),
-        Call::EndStruct,
-        Call::EndSeq,
-        Call::EndStruct,
-    ];
-    let text =
-        "{\n  \"List\": [\n    {\n      \"Number\": 10\n    },\n    {\n      \"Number\": 20\n    },\n    {\n      \"Number\": 30\n    }\n  ]\n}";
-    let pretty = SerializeOptions::new().pretty();
-    assert!(rt; writes(rt.alloc(), pretty, &calls, &[], text));
+fn calls_are_written_or_refused(rt: HostRuntime) {
+    let alloc = rt.alloc();
+    expect_written(&rt, alloc, &REFUSED);
+    expect_written(&rt, alloc, &PLACED);
+    expect_written(&rt, alloc, &SEPARATED);
 }
 
 /// Whether the value is written as this text, without options.
@@ -177,23 +179,11 @@ fn a_new_serializer_is_compact_and_names_its_format(rt: HostRuntime) {
 #[test]
 fn refusals_have_their_texts(rt: HostRuntime) {
     let alloc = rt.alloc();
-    let texts = [
-        (
-            JsonSerializeError::KeyOutsideStruct,
-            "field_key called outside of a struct",
-        ),
-        (
-            JsonSerializeError::NoStructToEnd,
-            "end_struct called without matching begin_struct",
-        ),
-        (
-            JsonSerializeError::NoListToEnd,
-            "end_seq called without matching begin_seq",
-        ),
-        (JsonSerializeError::OutOfMemory, "out of memory"),
-    ];
-    for (refusal, text) in &texts {
-        let shown = format!(in alloc; "{refusal}").expect(&rt, "memory");
-        assert!(rt; shown.as_str() == *text);
-    }
+    let text = "field_key called outside of a struct";
+    assert!(rt; is_displayed(alloc, &JsonSerializeError::KeyOutsideStruct, text));
+    let text = "end_struct called without matching begin_struct";
+    assert!(rt; is_displayed(alloc, &JsonSerializeError::NoStructToEnd, text));
+    let text = "end_seq called without matching begin_seq";
+    assert!(rt; is_displayed(alloc, &JsonSerializeError::NoListToEnd, text));
+    assert!(rt; is_displayed(alloc, &JsonSerializeError::OutOfMemory, "out of memory"));
 }

@@ -1,136 +1,55 @@
 //! Kinds whose texts hold characters past ASCII.
 
-use crate::samples::{is_reported, is_told};
+use crate::samples::{Row, Sample, Scan, expect_told, is_reported, made};
 use facet_format::Span;
 use facet_json_core::{JsonError, JsonErrorKind};
-use facet_json_token::ScanErrorKind;
-use std::alloc::{AllocError, Global};
+use std::alloc::Global;
 
-/// A kind, by the texts that it holds.
-#[derive(Clone, Copy)]
-enum Sample {
-    Char(char),
-    End(&'static str),
-    CharIn(char, &'static str),
-    EndIn(&'static str, &'static str),
-    Token(&'static str, &'static str),
-    Expected(&'static str),
-    Mismatch(&'static str, &'static str),
-    Unknown(&'static str, &'static str, Option<&'static str>),
-    Missing(&'static str),
-    Value(&'static str),
-    Range(&'static str, &'static str),
-    Key(&'static str),
-    Solver(&'static str),
-    Io(&'static str),
-}
-
-/// The kind of the sample.
-fn made(alloc: Global, sample: Sample) -> Result<JsonErrorKind, AllocError> {
-    Ok(match sample {
-        Sample::Char(character) => JsonErrorKind::Scan(ScanErrorKind::UnexpectedChar(character)),
-        Sample::End(place) => JsonErrorKind::Scan(ScanErrorKind::UnexpectedEof(place)),
-        Sample::CharIn(character, expected_type) => JsonErrorKind::ScanWithContext {
-            error: ScanErrorKind::UnexpectedChar(character),
-            expected_type,
-        },
-        Sample::EndIn(place, expected_type) => JsonErrorKind::ScanWithContext {
-            error: ScanErrorKind::UnexpectedEof(place),
-            expected_type,
-        },
-        Sample::Token(got, expected) => JsonErrorKind::UnexpectedToken {
-            got: String::from_str(alloc, got)?,
-            expected,
-        },
-        Sample::Expected(expected) => JsonErrorKind::UnexpectedEof { expected },
-        Sample::Mismatch(expected, got) => JsonErrorKind::TypeMismatch { expected, got },
-        Sample::Unknown(field, expected, suggestion) => {
-            unknown(alloc, field, expected, suggestion)?
-        }
-        Sample::Missing(field) => JsonErrorKind::MissingField {
-            field,
-            object_start: None,
-            object_end: None,
-        },
-        Sample::Value(message) => JsonErrorKind::InvalidValue {
-            message: String::from_str(alloc, message)?,
-        },
-        Sample::Range(value, target_type) => JsonErrorKind::NumberOutOfRange {
-            value: String::from_str(alloc, value)?,
-            target_type,
-        },
-        Sample::Key(key) => JsonErrorKind::DuplicateKey {
-            key: String::from_str(alloc, key)?,
-        },
-        Sample::Solver(message) => JsonErrorKind::Solver(String::from_str(alloc, message)?),
-        Sample::Io(message) => JsonErrorKind::Io(String::from_str(alloc, message)?),
-    })
-}
-
-/// A field that the type does not have, which has this one alone.
-fn unknown(
-    alloc: Global,
-    field: &str,
-    expected: &'static str,
-    suggestion: Option<&'static str>,
-) -> Result<JsonErrorKind, AllocError> {
-    let mut names = Vec::new(alloc);
-    names.push(expected)?;
-    Ok(JsonErrorKind::UnknownField {
-        field: String::from_str(alloc, field)?,
-        expected: names,
-        suggestion,
-    })
-}
-
-/// A sample, and what is told of its kind.
-type Row = (Sample, &'static str, &'static str, &'static str);
-
-const ROWS: [Row; 20] = [
+static ROWS: [Row; 20] = [
     (
-        Sample::Char('名'),
+        Sample::Scan(Scan::Char('名')),
         "json::scan",
         "UnexpectedChar('名')",
         "unexpected '名'",
     ),
     (
-        Sample::Char('😀'),
+        Sample::Scan(Scan::Char('😀')),
         "json::scan",
         "UnexpectedChar('😀')",
         "unexpected '😀'",
     ),
     (
-        Sample::Char('\u{0}'),
+        Sample::Scan(Scan::Char('\u{0}')),
         "json::scan",
         "UnexpectedChar('\\0')",
         "unexpected '\u{0}'",
     ),
     (
-        Sample::Char('\u{7f}'),
+        Sample::Scan(Scan::Char('\u{7f}')),
         "json::scan",
         "UnexpectedChar('\\u{7f}')",
         "unexpected '\u{7f}'",
     ),
     (
-        Sample::Char('\u{ff}'),
+        Sample::Scan(Scan::Char('\u{ff}')),
         "json::scan",
         "UnexpectedChar('ÿ')",
         "unexpected 'ÿ'",
     ),
     (
-        Sample::End("in größe"),
+        Sample::Scan(Scan::End("in größe")),
         "json::scan",
         "UnexpectedEof(\"in größe\")",
         "unexpected end of input in größe",
     ),
     (
-        Sample::CharIn('é', "größe"),
+        Sample::ScanIn(Scan::Char('é'), "größe"),
         "json::scan",
         "UnexpectedChar('é') (while parsing größe)",
         "unexpected 'é', expected größe",
     ),
     (
-        Sample::EndIn("in 名", "größe"),
+        Sample::ScanIn(Scan::End("in 名"), "größe"),
         "json::scan",
         "UnexpectedEof(\"in 名\") (while parsing größe)",
         "unexpected end of input, expected größe",
@@ -154,13 +73,13 @@ const ROWS: [Row; 20] = [
         "expected größe, got 名",
     ),
     (
-        Sample::Unknown("名", "größe", None),
+        Sample::Unknown("名", &["größe"], None),
         "json::unknown_field",
         "unknown field `名`, expected one of: [\"größe\"]",
         "unknown field '名'",
     ),
     (
-        Sample::Unknown("名", "a\"ö\\", Some("größe")),
+        Sample::Unknown("名", &["a\"ö\\"], Some("größe")),
         "json::unknown_field",
         "unknown field `名`, expected one of: [\"a\\\"ö\\\\\"] (did you mean `größe`?)",
         "unknown field '名' - did you mean 'größe'?",
@@ -204,11 +123,8 @@ const ROWS: [Row; 20] = [
     ),
 ];
 
-/// Whether the kind is there, and reported with this message.
-fn is_shown(alloc: Global, made: Result<JsonErrorKind, AllocError>, text: &str) -> bool {
-    let Ok(kind) = made else {
-        return false;
-    };
+/// Whether the kind is reported with this message.
+fn is_shown(alloc: Global, kind: JsonErrorKind, text: &str) -> bool {
     let error = JsonError::new(kind, Span::new(1, 1));
     match format!(in alloc; "{text} at line 1, column 2\n[x]\n ^") {
         Ok(shown) => is_reported(alloc, &error, "[x]", shown.as_str()),
@@ -216,11 +132,19 @@ fn is_shown(alloc: Global, made: Result<JsonErrorKind, AllocError>, text: &str) 
     }
 }
 
+/// Whether the kind of the sample is.
+fn shows(alloc: Global, sample: Sample, text: &str) -> bool {
+    match made(alloc, sample) {
+        Ok(kind) => is_shown(alloc, kind, text),
+        Err(_) => false,
+    }
+}
+
 #[test]
 fn each_kind(rt: HostRuntime) {
     let alloc = rt.alloc();
-    for &(sample, code, text, label) in &ROWS {
-        assert!(rt; is_told(alloc, made(alloc, sample), code, text, label));
-        assert!(rt; is_shown(alloc, made(alloc, sample), text));
+    expect_told(&rt, alloc, &ROWS);
+    for row in &ROWS {
+        assert!(rt; shows(alloc, row.0, row.2), "{}", row.2);
     }
 }

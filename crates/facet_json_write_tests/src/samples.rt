@@ -1,56 +1,159 @@
-//! Errors that the tests look at, and what they look at.
+//! Kinds of errors that the tests look at, and what they look at.
 
+use facet_format::DeserializeErrorKind;
 use facet_json_core::{JsonError, JsonErrorKind, Report};
+use facet_json_serializer::JsonSerializeError;
+use facet_json_token::ScanErrorKind;
 use std::alloc::{AllocError, Global};
+use std::fmt::Display;
+use std::process::Abort;
 
-/// A field that the type does not have.
-pub fn unknown_field(
-    alloc: Global,
-    suggestion: Option<&'static str>,
-) -> Result<JsonErrorKind, AllocError> {
-    unknown(alloc, "nmae", suggestion)
+/// What is wrong where no token stands.
+#[derive(Clone, Copy)]
+pub enum Scan {
+    Char(char),
+    End(&'static str),
+    Utf8,
 }
 
-/// A field of this name, which the type does not have.
-pub fn unknown(
+/// A kind, by what it holds.
+#[derive(Clone, Copy)]
+pub enum Sample {
+    Scan(Scan),
+    ScanIn(Scan, &'static str),
+    Token(&'static str, &'static str),
+    Expected(&'static str),
+    Mismatch(&'static str, &'static str),
+    Unknown(&'static str, &'static [&'static str], Option<&'static str>),
+    Missing(&'static str),
+    Value(&'static str),
+    Range(&'static str, &'static str),
+    Key(&'static str),
+    Utf8,
+    Solver(&'static str),
+    Io(&'static str),
+    Read(DeserializeErrorKind<'static>),
+    KeyOutside,
+    NoStruct,
+    NoList,
+    NotWritten,
+    OutOfMemory,
+}
+
+/// A kind, its name, its message and its label.
+pub type Row = (Sample, &'static str, &'static str, &'static str);
+
+fn scan_error(scan: Scan) -> ScanErrorKind {
+    match scan {
+        Scan::Char(character) => ScanErrorKind::UnexpectedChar(character),
+        Scan::End(place) => ScanErrorKind::UnexpectedEof(place),
+        Scan::Utf8 => ScanErrorKind::InvalidUtf8,
+    }
+}
+
+/// The kind of the sample.
+pub fn made(alloc: Global, sample: Sample) -> Result<JsonErrorKind, AllocError> {
+    Ok(match sample {
+        Sample::Scan(scan) => JsonErrorKind::Scan(scan_error(scan)),
+        Sample::ScanIn(scan, expected_type) => JsonErrorKind::ScanWithContext {
+            error: scan_error(scan),
+            expected_type,
+        },
+        Sample::Expected(expected) => JsonErrorKind::UnexpectedEof { expected },
+        Sample::Mismatch(expected, got) => JsonErrorKind::TypeMismatch { expected, got },
+        Sample::Missing(field) => JsonErrorKind::MissingField {
+            field,
+            object_start: None,
+            object_end: None,
+        },
+        Sample::Utf8 => JsonErrorKind::InvalidUtf8,
+        Sample::Read(refusal) => JsonErrorKind::Read(refusal),
+        Sample::KeyOutside => JsonErrorKind::Write(JsonSerializeError::KeyOutsideStruct),
+        Sample::NoStruct => JsonErrorKind::Write(JsonSerializeError::NoStructToEnd),
+        Sample::NoList => JsonErrorKind::Write(JsonSerializeError::NoListToEnd),
+        Sample::NotWritten => JsonErrorKind::Write(JsonSerializeError::OutOfMemory),
+        Sample::OutOfMemory => JsonErrorKind::OutOfMemory,
+        Sample::Unknown(field, names, suggestion) => unknown(alloc, field, names, suggestion)?,
+        Sample::Token(text, _)
+        | Sample::Value(text)
+        | Sample::Range(text, _)
+        | Sample::Key(text)
+        | Sample::Solver(text)
+        | Sample::Io(text) => with_text(sample, String::from_str(alloc, text)?),
+    })
+}
+
+/// The kind of a sample that holds this text.
+fn with_text(sample: Sample, text: String) -> JsonErrorKind {
+    match sample {
+        Sample::Token(_, expected) => JsonErrorKind::UnexpectedToken {
+            got: text,
+            expected,
+        },
+        Sample::Value(_) => JsonErrorKind::InvalidValue { message: text },
+        Sample::Range(_, target_type) => JsonErrorKind::NumberOutOfRange {
+            value: text,
+            target_type,
+        },
+        Sample::Key(_) => JsonErrorKind::DuplicateKey { key: text },
+        Sample::Solver(_) => JsonErrorKind::Solver(text),
+        _ => JsonErrorKind::Io(text),
+    }
+}
+
+/// A field that the type does not have, which has those of these names.
+fn unknown(
     alloc: Global,
     field: &str,
+    names: &[&'static str],
     suggestion: Option<&'static str>,
 ) -> Result<JsonErrorKind, AllocError> {
-    let mut expected = Vec::new(alloc);
-    expected.push("name")?;
-    expected.push("age")?;
     Ok(JsonErrorKind::UnknownField {
         field: String::from_str(alloc, field)?,
-        expected,
+        expected: Vec::from_slice(alloc, names)?,
         suggestion,
     })
 }
 
-/// Whether the kind is there, and has this name, this message and this label.
-pub fn is_told(
-    alloc: Global,
-    made: Result<JsonErrorKind, AllocError>,
-    code: &str,
-    text: &str,
-    label: &str,
-) -> bool {
-    let Ok(kind) = made else {
-        return false;
-    };
-    match (format!(in alloc; "{kind}"), kind.label(alloc)) {
-        (Ok(shown), Ok(said)) => {
-            kind.code() == code && shown.as_str() == text && said.as_str() == label
-        }
-        _ => false,
+/// Whether the value is displayed so.
+pub fn is_displayed<T: Display>(alloc: Global, value: &T, text: &str) -> bool {
+    match format!(in alloc; "{value}") {
+        Ok(shown) => shown.as_str() == text,
+        Err(_) => false,
+    }
+}
+
+/// Whether the kind has this label, or memory runs out.
+pub fn is_labelled(alloc: Global, kind: &JsonErrorKind, label: &str) -> Option<bool> {
+    match kind.label(alloc) {
+        Ok(said) => Some(said.as_str() == label),
+        Err(AllocError) => None,
+    }
+}
+
+/// Whether the kind has this name, this message and this label.
+fn is_told(alloc: Global, kind: &JsonErrorKind, row: &Row) -> bool {
+    kind.code() == row.1
+        && is_displayed(alloc, kind, row.2)
+        && is_labelled(alloc, kind, row.3) == Some(true)
+}
+
+/// Whether the kind of the row is told so.
+fn holds(alloc: Global, row: &Row) -> bool {
+    match made(alloc, row.0) {
+        Ok(kind) => is_told(alloc, &kind, row),
+        Err(_) => false,
+    }
+}
+
+/// Fails where a kind isn't told as its row says.
+pub fn expect_told(rt: &impl Abort, alloc: Global, rows: &[Row]) {
+    for row in rows {
+        assert!(rt; holds(alloc, row), "{}", row.2);
     }
 }
 
 /// Whether the error is reported so.
 pub fn is_reported(alloc: Global, error: &JsonError, source: &str, text: &str) -> bool {
-    let report = Report { error, source };
-    match format!(in alloc; "{report}") {
-        Ok(shown) => shown.as_str() == text,
-        Err(_) => false,
-    }
+    is_displayed(alloc, &Report { error, source }, text)
 }

@@ -22,7 +22,7 @@ fn error_of(row: &Row) -> JsonError {
     }
 }
 
-const ROWS: [Row; 19] = [
+static ROWS: [Row; 19] = [
     // An empty source, whose end is its start.
     Row {
         kind: DeserializeErrorKind::UnexpectedEof { expected: "value" },

@@ -1,9 +1,52 @@
 //! What a list of calls writes, and how each is answered.
 
 use facet_format::{Decimal, FormatSerializer, ScalarValue};
-use facet_json_serializer::{JsonSerializeError, JsonSerializer, SerializeOptions};
+use facet_json_serializer::{
+    HexBytesOptions, JsonSerializeError, JsonSerializer, SerializeOptions,
+};
 use std::alloc::Global;
 use std::borrow::CowStr;
+use std::process::Abort;
+
+/// How the text is laid out.
+#[derive(Clone, Copy)]
+pub enum Layout {
+    /// Nothing between tokens.
+    Compact,
+    /// A line for each item and member.
+    Pretty,
+    /// The same with tabs.
+    Tabs,
+    /// Bytes as lists, which is asked for.
+    Lists,
+    /// Bytes as hexadecimal digits.
+    Hex,
+    /// The same, but above so many only so many of the first and of the last.
+    ShortHex(usize, usize, usize),
+}
+
+/// The options of a layout.
+pub fn options(layout: Layout) -> SerializeOptions<'static> {
+    let options = SerializeOptions::new();
+    match layout {
+        Layout::Compact => options,
+        Layout::Pretty => options.pretty(),
+        Layout::Tabs => options.indent("\t"),
+        Layout::Lists => options.bytes_as_array(),
+        Layout::Hex => options.bytes_as_hex(),
+        Layout::ShortHex(above, head, tail) => options.bytes_as_hex_with_options(
+            HexBytesOptions::new().truncate(above).head_tail(head, tail),
+        ),
+    }
+}
+
+/// How calls are written, the calls, the numbers of the refusals among their answers, and the text.
+pub type Row = (
+    Layout,
+    &'static [Call<'static>],
+    &'static [u8],
+    &'static str,
+);
 
 /// A call.
 #[derive(Debug, Clone, Copy)]
@@ -53,26 +96,38 @@ pub fn make(serializer: &mut JsonSerializer<'_>, call: Call<'_>) -> Result<(), J
 }
 
 /// Whether the calls write this text, and those that are refused are refused with these numbers.
-pub fn writes(
-    alloc: Global,
-    options: SerializeOptions<'_>,
-    calls: &[Call<'_>],
-    refusals: &[u8],
-    text: &str,
-) -> bool {
-    let mut serializer = JsonSerializer::with_options(alloc, options);
+fn writes(alloc: Global, row: &Row) -> bool {
+    let &(layout, calls, refusals, text) = row;
+    let mut serializer = JsonSerializer::with_options(alloc, options(layout));
+    are_refused(&mut serializer, calls, refusals) && is_text(serializer.finish(), text)
+}
+
+/// Whether those of the calls that are refused are refused with these numbers.
+fn are_refused(serializer: &mut JsonSerializer<'_>, calls: &[Call<'_>], refusals: &[u8]) -> bool {
     let mut refused = 0;
     for call in calls {
-        if let Err(refusal) = make(&mut serializer, *call) {
+        if let Err(refusal) = make(serializer, *call) {
             if refused >= refusals.len() || refusals[refused] != refusal.code() {
                 return false;
             }
             refused += 1;
         }
     }
-    match serializer.finish() {
-        Ok(written) => refused == refusals.len() && written.as_slice() == text.as_bytes(),
+    refused == refusals.len()
+}
+
+/// Whether this was written.
+fn is_text(answer: Result<Vec<u8>, JsonSerializeError>, text: &str) -> bool {
+    match answer {
+        Ok(written) => written.as_slice() == text.as_bytes(),
         Err(_) => false,
+    }
+}
+
+/// Fails where calls aren't written and refused as their row says.
+pub fn expect_written(rt: &impl Abort, alloc: Global, rows: &[Row]) {
+    for row in rows {
+        assert!(rt; writes(alloc, row), "{}", row.3);
     }
 }
 
@@ -83,10 +138,7 @@ pub fn writes_scalar(
     value: ScalarValue<'_>,
     text: &str,
 ) -> bool {
-    match scalar_text(alloc, options, value) {
-        Ok(written) => written.as_slice() == text.as_bytes(),
-        Err(_) => false,
-    }
+    is_text(scalar_text(alloc, options, value), text)
 }
 
 /// The text of a value.
