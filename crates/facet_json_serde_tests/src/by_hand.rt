@@ -5,7 +5,7 @@ ghost use Rattle.serde.specs.Event.{unsigned};
 ghost use Rattle.serde.specs.Steps.{Gives};
 ghost use Rattle.facet_json_serde_tests.specs.ByHand.{GivesPair, PassesNumber, PassesPair};
 
-use facet_json_serde::{ReadFault, Json, JsonParser};
+use facet_json_serde::{Json, JsonParser, ReadFault};
 use serde::{Deserialize, Deserializer, Format};
 use std::alloc::Global;
 
