@@ -39,7 +39,7 @@ fn both_tell(alloc: Global, text: &str, events: usize, end: u8) -> bool {
 /// Inputs, how many events come, and the end, which is 0, or the code of a refusal.
 static ROWS: [(&str, usize, u8); 6] = [
     ("[1]", 3, 0),
-    ("{\"a\":\"b\"} x", 4, 0),
+    (r#"{"a":"b"} x"#, 4, 0),
     ("", 0, 2),
     ("[1 2", 2, 3),
     ("[1,@", 2, 1),

@@ -163,36 +163,32 @@ fn lines_come_however_the_bytes_do(rt: HostRuntime) {
     }
 }
 
-#[test]
-fn no_byte_is_lost_where_a_read_fails(rt: HostRuntime) {
-    let alloc = rt.alloc();
+/// Whether so many failures of each row are told, where each read that gives a byte fails in turn.
+fn each_fails(alloc: Global, kind: ErrorKind, told: usize) -> bool {
     for row in ROWS {
         for fails_at in 0..row.0.len() {
             let way = Way {
                 buffer: 4,
                 longest: 1,
                 fails_at,
-                kind: ErrorKind::BrokenPipe,
+                kind,
             };
-            assert!(rt; failures(alloc, row, way) == Some(1));
+            if failures(alloc, row, way) != Some(told) {
+                return false;
+            }
         }
     }
+    true
+}
+
+#[test]
+fn no_byte_is_lost_where_a_read_fails(rt: HostRuntime) {
+    assert!(rt; each_fails(rt.alloc(), ErrorKind::BrokenPipe, 1));
 }
 
 #[test]
 fn an_interrupted_read_is_tried_again(rt: HostRuntime) {
-    let alloc = rt.alloc();
-    for row in ROWS {
-        for fails_at in 0..row.0.len() {
-            let way = Way {
-                buffer: 4,
-                longest: 1,
-                fails_at,
-                kind: ErrorKind::Interrupted,
-            };
-            assert!(rt; failures(alloc, row, way) == Some(0));
-        }
-    }
+    assert!(rt; each_fails(rt.alloc(), ErrorKind::Interrupted, 0));
 }
 
 /// Where a line is refused: its number, and the span on it.
