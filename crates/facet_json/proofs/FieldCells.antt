@@ -3,7 +3,7 @@ use Rattle.std.specs.Prelude.{ℕ, List}
 use Rattle.std.proofs.Common.{◌≡◌, Bool, true, false, inl, inr, Option, Some, ap, ◌∙◌}
 use Rattle.facet_format.specs.Complaint.{Refusal}
 use Rattle.facet_json_document.specs.Now.{Now}
-use Rattle.facet_json_meaning.specs.Reading.{IsRead, IsUnread}
+use Rattle.facet_json_core.specs.Meaning.Reading.{IsRead, IsUnread}
 use Rattle.facet_json.specs.Fields.{Reading, begins_with, other_names, seen_by, field_step}
 
 module _ {V S : Type 0} (reading : Reading V) (others : List (List ℕ) → List ℕ → S → Reading S) (names : List (List ℕ)) (key : List ℕ) (seen : Option V × S) where

@@ -3,12 +3,12 @@ use Rattle.std.proofs.Common.{◌≡◌, ℕ, List, Option, refl, ap, ◌∙◌}
 use Rattle.std.specs.Option.{option_and_then}
 use Rattle.facet_json_document.specs.Meaning.{text_in_tree, meaning}
 use Rattle.facet_json_document.specs.Node.{Members}
-use Rattle.facet_json_meaning.specs.Laws.{SameReading}
-use Rattle.facet_json_meaning.specs.Nodes.{same_scalars, same_arrays, same_objects, SameMembers, same_no_members, same_member}
-use Rattle.facet_json_meaning.specs.Optional.{optional}
-use Rattle.facet_json_meaning.proofs.Leaves.LeafLaws.{same-means}
-use Rattle.facet_json_meaning.proofs.Objects.MapLaws.{and_then-same}
-use Rattle.facet_json_meaning.proofs.Nullable.OptionalLaws.{optional-same}
+use Rattle.facet_json_core.specs.Meaning.Laws.{SameReading}
+use Rattle.facet_json_core.specs.Meaning.Nodes.{same_scalars, same_arrays, same_objects, SameMembers, same_no_members, same_member}
+use Rattle.facet_json_core.specs.Meaning.Optional.{optional}
+use Rattle.facet_json_core.proofs.Meaning.Leaves.LeafLaws.{same-means}
+use Rattle.facet_json_core.proofs.Meaning.Objects.MapLaws.{and_then-same}
+use Rattle.facet_json_core.proofs.Meaning.Nullable.OptionalLaws.{optional-same}
 use Rattle.facet_json.specs.Fields.{Reading, Table, none, need, maybe, seen_by, begins_with, other_names, field_step, after_members, fields_of}
 
 -- What a member adds is told by its text.

@@ -12,15 +12,15 @@ use Rattle.facet_json_document.specs.Node.{Node, scalar, Members, member}
 use Rattle.facet_json_document.specs.Node as node
 use Rattle.facet_json_document.specs.Meaning.{text_in_tree, meaning}
 use Rattle.facet_json_document.specs.Now.{Now, ahead, GoesOn}
-use Rattle.facet_json_meaning.specs.Nodes.{StandsBefore, KeepsOn}
-use Rattle.facet_json_meaning.specs.Objects.{members_of, BeginsObject, IsNoObject, PassesKey, LacksKey}
-use Rattle.facet_json_meaning.specs.OneValue.{IsInside}
-use Rattle.facet_json_meaning.specs.Reading.{IsRead, IsUnread}
-use Rattle.facet_json_meaning.proofs.Keeping.{keeps-then}
-use Rattle.facet_json_meaning.proofs.Walks.NextOnWalk.{goes-keeps}
+use Rattle.facet_json_core.specs.Meaning.Nodes.{StandsBefore, KeepsOn}
+use Rattle.facet_json_core.specs.Meaning.Objects.{members_of, BeginsObject, IsNoObject, PassesKey, LacksKey}
+use Rattle.facet_json_core.specs.Meaning.OneValue.{IsInside}
+use Rattle.facet_json_core.specs.Meaning.Reading.{IsRead, IsUnread}
+use Rattle.facet_json_core.proofs.Meaning.Keeping.{keeps-then}
+use Rattle.facet_json_core.proofs.Meaning.Walks.NextOnWalk.{goes-keeps}
 use Rattle.facet_json_core.specs.Refusing.{IsAbout}
 use Rattle.facet_json.specs.Fields.{LacksField, Reading, Table, after_members, fields_of}
-use Rattle.facet_json_meaning.proofs.Objects.MembersOnWalk.{AtMembers, object-begins, at-key, key-comes, at-end}
+use Rattle.facet_json_core.proofs.Meaning.Objects.MembersOnWalk.{AtMembers, object-begins, at-key, key-comes, at-end}
 
 module _ {V : Type 0} (t : Table V) (names : List (List ℕ)) where
   -- So much is known of the fields of the node before which the parser stood, and it stands before the members that are left.

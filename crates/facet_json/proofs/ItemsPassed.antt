@@ -7,11 +7,11 @@ use Rattle.facet_format.specs.Cursor.{Cursor}
 use Rattle.facet_format.specs.Part.{Source}
 use Rattle.facet_json_document.specs.Node.{Node, Nodes, no_nodes, item}
 use Rattle.facet_json_document.specs.Now.{Now, ahead}
-use Rattle.facet_json_meaning.specs.ListSteps.{ends_list}
-use Rattle.facet_json_meaning.specs.Passing.{anything, LacksAlone}
-use Rattle.facet_json_meaning.specs.Inner.Taking.{Takes, StaysBefore}
-use Rattle.facet_json_meaning.specs.Reading.{IsRead, IsUnread}
-use Rattle.facet_json_meaning.proofs.Sequences.ListSteps.{AtItems, at-event, ends-after, goes-on, at-spot, item-before, item-after, items-closed, at-lacks}
+use Rattle.facet_json_core.specs.Meaning.ListSteps.{ends_list}
+use Rattle.facet_json_core.specs.Meaning.Passing.{anything, LacksAlone}
+use Rattle.facet_json_core.specs.Meaning.Inner.Taking.{Takes, StaysBefore}
+use Rattle.facet_json_core.specs.Meaning.Reading.{IsRead, IsUnread}
+use Rattle.facet_json_core.proofs.Meaning.Sequences.ListSteps.{AtItems, at-event, ends-after, goes-on, at-spot, item-before, item-after, items-closed, at-lacks}
 use Rattle.facet_json.specs.Pointed.{item_node}
 use Rattle.facet_json.specs.Inner.Pointing.{FindsItem, LacksItems, less_one, zero_is}
 

@@ -9,13 +9,13 @@ use Rattle.facet_format.specs.Part.{Source}
 use Rattle.facet_json_document.specs.Node.{Node, scalar, array, object, Nodes, Members}
 use Rattle.facet_json_document.specs.Now.{Now}
 use Rattle.facet_json_document.specs.Walk.{walk}
-use Rattle.facet_json_meaning.specs.ListSteps.{nodes_of, begins_list}
-use Rattle.facet_json_meaning.specs.Nodes.{StandsBefore}
-use Rattle.facet_json_meaning.specs.Objects.{members_of, begins_object}
-use Rattle.facet_json_meaning.specs.Passing.{WalksPast, LacksAlone}
-use Rattle.facet_json_meaning.proofs.Objects.MembersOnWalk.{AtMembers, object-begins}
-use Rattle.facet_json_meaning.proofs.Sequences.ListSteps.{array-begins}
-use Rattle.facet_json_meaning.proofs.Walks.FirstEvents.{first_event, first-stands, first-passed, after-one}
+use Rattle.facet_json_core.specs.Meaning.ListSteps.{nodes_of, begins_list}
+use Rattle.facet_json_core.specs.Meaning.Nodes.{StandsBefore}
+use Rattle.facet_json_core.specs.Meaning.Objects.{members_of, begins_object}
+use Rattle.facet_json_core.specs.Meaning.Passing.{WalksPast, LacksAlone}
+use Rattle.facet_json_core.proofs.Meaning.Objects.MembersOnWalk.{AtMembers, object-begins}
+use Rattle.facet_json_core.proofs.Meaning.Sequences.ListSteps.{array-begins}
+use Rattle.facet_json_core.proofs.Meaning.Walks.FirstEvents.{first_event, first-stands, first-passed, after-one}
 use Rattle.facet_json_tree.specs.Pointer.{index}
 use Rattle.facet_json_facet.specs.Finding.{from_key, StandsAmong, FindsKey, FindsFirst, FindsNone, LacksMembers}
 use Rattle.facet_json.specs.Pointed.{first_value, item_node, child_node, LacksNode}

@@ -6,7 +6,7 @@ use Rattle.facet_format.specs.Cursor.{Cursor}
 use Rattle.facet_format.specs.Part.{Source}
 use Rattle.facet_json_document.specs.Node.{Node}
 use Rattle.facet_json_document.specs.Now.{Now}
-use Rattle.facet_json_meaning.specs.Nodes.{StandsBefore}
+use Rattle.facet_json_core.specs.Meaning.Nodes.{StandsBefore}
 use Rattle.facet_json_tree.specs.Inner.PointerParts.{unescaped, before_slash}
 use Rattle.facet_json_tree.specs.Pointer.{IsPointer}
 use Rattle.facet_json_tree.proofs.PointerSteps.{first-left, only-whole}

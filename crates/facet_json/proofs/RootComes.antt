@@ -12,9 +12,9 @@ use Rattle.facet_json_document.specs.Now.{Now, fresh, fresh_in}
 use Rattle.facet_json_document.specs.UnreadLaws.{RefusalWithin}
 use Rattle.facet_json_document.proofs.StandsOnWalk.{fresh-stands}
 use Rattle.facet_json_core.specs.Refusing.{ComesTo, TellsRefusal}
-use Rattle.facet_json_meaning.specs.Nodes.{KeepsOn, StandsBefore}
-use Rattle.facet_json_meaning.specs.Reading.{IsRead, IsUnread}
-use Rattle.facet_json_meaning.proofs.Refusals.{keeps-there}
+use Rattle.facet_json_core.specs.Meaning.Nodes.{KeepsOn, StandsBefore}
+use Rattle.facet_json_core.specs.Meaning.Reading.{IsRead, IsUnread}
+use Rattle.facet_json_core.proofs.Meaning.Refusals.{keeps-there}
 use Rattle.facet_json.specs.Inputs.{IsReadFrom, IsToldOf, IsUnreadFrom}
 
 root-comes : (input : List ℕ) (mode : Mode) (root : Node) (tree : Tree) → IsDocument input mode root tree →

@@ -14,7 +14,7 @@ use Rattle.facet_json_document.specs.Now.{Now, fresh, on_input, current_span_of}
 use Rattle.facet_json_document.specs.SkipLaws.{GoesOnWith, with_value, after_separator}
 use Rattle.facet_json_document.proofs.Parts.PartsWithin.{run-ahead}
 use Rattle.facet_json_document.proofs.TokensInOrder.{tokens-in_order}
-use Rattle.facet_json_meaning.specs.OneValue.{PassesValue}
+use Rattle.facet_json_core.specs.Meaning.OneValue.{PassesValue}
 use Rattle.facet_json.specs.Inputs.{BeginsWithRun, BeginsWithRunTo}
 
 -- No separator stands before the root.

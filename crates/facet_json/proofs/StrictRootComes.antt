@@ -16,8 +16,8 @@ use Rattle.facet_json_document.specs.UnreadLaws.{RefusalWithin}
 use Rattle.facet_json_document.proofs.CallsLead.{none-lead, led-moves}
 use Rattle.facet_json_document.proofs.OneRun.EndsAtRun.{ends_at_run}
 use Rattle.facet_json_document.proofs.StrictAnswered.{strict-stands}
-use Rattle.facet_json_meaning.specs.Nodes.{StandsBefore, KeepsOn}
-use Rattle.facet_json_meaning.specs.Reading.{IsRead, IsUnread}
+use Rattle.facet_json_core.specs.Meaning.Nodes.{StandsBefore, KeepsOn}
+use Rattle.facet_json_core.specs.Meaning.Reading.{IsRead, IsUnread}
 use Rattle.facet_json.specs.Inputs.{IsReadStrictly, IsUnreadStrictly}
 
 strict_root-comes : (input : List ℕ) (root : Node) (tree : Tree) → IsStrictDocument input root tree →

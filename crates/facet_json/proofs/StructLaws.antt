@@ -11,13 +11,13 @@ use Rattle.facet_json_document.specs.Text.{text, members_text, default_options}
 use Rattle.facet_json_document.specs.Tree.{pairs, no_pairs, pair}
 use Rattle.facet_json_document.specs.AsRead.{RawParts, RawMembers, IsDocumentText}
 use Rattle.facet_json_document.proofs.Rfc.Encoded.{ascii}
-use Rattle.facet_json_meaning.proofs.TypeLaws.{nullable-laws}
-use Rattle.facet_json_meaning.proofs.Nodes.TextsWithin.{ReadsAnywhere, reads-anywhere, reads-alone, text-depth}
+use Rattle.facet_json_core.proofs.Meaning.TypeLaws.{nullable-laws}
+use Rattle.facet_json_core.proofs.Meaning.Nodes.TextsWithin.{ReadsAnywhere, reads-anywhere, reads-alone, text-depth}
 use Rattle.facet_json.specs.Fields.{Table, table, need, maybe, field_step, need_ends, maybe_ends, fields_of}
 use Rattle.facet_json.specs.Shapes.{Shape, ShapeLaws, nullable, FieldList, no_more, needs, may_have, struct_of, is_text, lacks, are_names}
 use Rattle.facet_json.proofs.FieldLaws.{SameSteps, none-same, need-same, maybe-same, fields-same}
 use Rattle.facet_json.proofs.FieldsBack.{FieldsAre, none-are, field-are}
-use Rattle.facet_json_meaning.proofs.Objects.ObjectTexts.{MembersAnywhere, members-none, members-join, object-whole}
+use Rattle.facet_json_core.proofs.Meaning.Objects.ObjectTexts.{MembersAnywhere, members-none, members-join, object-whole}
 
 -- ---- names
 

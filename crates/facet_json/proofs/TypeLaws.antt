@@ -1,7 +1,7 @@
 -- The laws of each type, under this crate's name: what a crate above cites of a clause has to be declared in a crate that it uses.
-use Rattle.facet_json_meaning.proofs.TypeLaws as laws
-use Rattle.facet_json_meaning.specs.Shapes.{Shape, ShapeLaws, nullable}
-use Rattle.facet_json_meaning.specs.Types as types
+use Rattle.facet_json_core.proofs.Meaning.TypeLaws as laws
+use Rattle.facet_json_core.specs.Meaning.Shapes.{Shape, ShapeLaws, nullable}
+use Rattle.facet_json_core.specs.Meaning.Types as types
 
 pub bool-laws : ShapeLaws types.bool
 bool-laws = laws.bool-laws

@@ -7,9 +7,9 @@ use Rattle.facet_format.specs.Complaint.{missing_field, Refusal, refusal_at}
 use Rattle.facet_format.specs.Span.{Span}
 use Rattle.facet_json_document.specs.Meaning.{text_in_tree, meaning}
 use Rattle.facet_json_document.specs.Node.{scalar, array, object, Members, no_members, member}
-use Rattle.facet_json_meaning.specs.Optional.{optional}
-use Rattle.facet_json_meaning.specs.Passing.{anything}
-pub use Rattle.facet_json_meaning.specs.Shapes.{Reading}
+use Rattle.facet_json_core.specs.Meaning.Optional.{optional}
+use Rattle.facet_json_core.specs.Meaning.Passing.{anything}
+pub use Rattle.facet_json_core.specs.Meaning.Shapes.{Reading}
 
 -- ---- names
 

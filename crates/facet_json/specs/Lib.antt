@@ -95,22 +95,22 @@ pub use Rattle.facet_json_core.specs.Reading
 pub use Rattle.facet_json_core.specs.Refusing
 pub use Rattle.facet_json_core.specs.Transcode
 pub use Rattle.facet_json_core.specs.TranscodeViews
-pub use Rattle.facet_json_meaning.specs.Nodes
-pub use Rattle.facet_json_meaning.specs.Passing
-pub use Rattle.facet_json_meaning.specs.Peeking
-pub use Rattle.facet_json_meaning.specs.Reading as TypedReading
-pub use Rattle.facet_json_meaning.specs.Laws as TypedLaws
-pub use Rattle.facet_json_meaning.specs.SameBytes
-pub use Rattle.facet_json_meaning.specs.StrictTexts as StrictReading
-pub use Rattle.facet_json_meaning.specs.Readings
-pub use Rattle.facet_json_meaning.specs.Borrowed
-pub use Rattle.facet_json_meaning.specs.Optional
-pub use Rattle.facet_json_meaning.specs.Lists
-pub use Rattle.facet_json_meaning.specs.ListSteps
-pub use Rattle.facet_json_meaning.specs.Objects
-pub use Rattle.facet_json_meaning.specs.Maps
-pub use Rattle.facet_json_meaning.specs.Trees as TypedTrees
-pub use Rattle.facet_json_meaning.specs.Types
+pub use Rattle.facet_json_core.specs.Meaning.Nodes
+pub use Rattle.facet_json_core.specs.Meaning.Passing
+pub use Rattle.facet_json_core.specs.Meaning.Peeking
+pub use Rattle.facet_json_core.specs.Meaning.Reading as TypedReading
+pub use Rattle.facet_json_core.specs.Meaning.Laws as TypedLaws
+pub use Rattle.facet_json_core.specs.Meaning.SameBytes
+pub use Rattle.facet_json_core.specs.Meaning.StrictTexts as StrictReading
+pub use Rattle.facet_json_core.specs.Meaning.Readings
+pub use Rattle.facet_json_core.specs.Meaning.Borrowed
+pub use Rattle.facet_json_core.specs.Meaning.Optional
+pub use Rattle.facet_json_core.specs.Meaning.Lists
+pub use Rattle.facet_json_core.specs.Meaning.ListSteps
+pub use Rattle.facet_json_core.specs.Meaning.Objects
+pub use Rattle.facet_json_core.specs.Meaning.Maps
+pub use Rattle.facet_json_core.specs.Meaning.Trees as TypedTrees
+pub use Rattle.facet_json_core.specs.Meaning.Types
 pub use Rattle.facet_json_tree.specs.Depth
 pub use Rattle.facet_json_facet.specs.Finding
 pub use Rattle.facet_format.specs.Views as FormatViews

@@ -9,7 +9,7 @@ use Rattle.facet_json_document.specs.Node.{Node, scalar, array, object, Nodes, n
 use Rattle.facet_json_document.specs.Now.{Now}
 use Rattle.facet_json_document.specs.Walk.{walk}
 use Rattle.facet_json_core.specs.Reading.{LacksMemory}
-use Rattle.facet_json_meaning.specs.Nodes.{StandsBefore, StandsAfter}
+use Rattle.facet_json_core.specs.Meaning.Nodes.{StandsBefore, StandsAfter}
 use Rattle.facet_json_tree.specs.Pointer.{IsPointer, index}
 use Rattle.facet_json_facet.specs.Finding.{from_key}
 

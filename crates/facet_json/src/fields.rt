@@ -8,9 +8,9 @@ ghost use Rattle.facet_format.specs.Span.{stop};
 ghost use Rattle.facet_format.specs.Views.{refusal_of, span_of};
 ghost use Rattle.facet_json_document.specs.Now.{ahead, current_span_of as last_read};
 ghost use Rattle.facet_json_document.specs.UnreadLaws.{RefusalWithin};
-ghost use Rattle.facet_json_meaning.specs.Nodes.{KeepsOn};
-ghost use Rattle.facet_json_meaning.specs.OneValue.{PassesValue, IsAfterKey};
-ghost use Rattle.facet_json_meaning.specs.Reading.{IsRead, IsUnread};
+ghost use Rattle.facet_json_core.specs.Meaning.Nodes.{KeepsOn};
+ghost use Rattle.facet_json_core.specs.Meaning.OneValue.{PassesValue, IsAfterKey};
+ghost use Rattle.facet_json_core.specs.Meaning.Reading.{IsRead, IsUnread};
 ghost use Rattle.facet_json_core.specs.Refusing.{TellsRefusal};
 ghost use Rattle.facet_json.specs.Fields.{field_step, keys, table, fields_of, begins_with, first_name, other_names, joined, LacksField};
 
@@ -214,7 +214,7 @@ impl<'de, T: Facet<'de>, R: Fields<'de>> Fields<'de> for Maybe<T, R> {
     type Slots = (Option<Option<T>>, R::Slots);
 
     ghost use Rattle.std.specs.Prelude.{Option, None};
-    ghost use Rattle.facet_json_meaning.specs.Optional.{optional};
+    ghost use Rattle.facet_json_core.specs.Meaning.Optional.{optional};
     ghost use Rattle.facet_json.specs.Fields.{maybe_ends};
 
     ghost Seen = { Option (Option T.View) × R.Seen };

@@ -8,7 +8,7 @@ ghost use Rattle.facet_format.specs.HeldText.{text_of};
 ghost use Rattle.facet_format.specs.Views.{event_of, refusal_of};
 ghost use Rattle.facet_json_document.specs.UnreadLaws.{RefusalWithin};
 ghost use Rattle.facet_json_core.specs.Refusing.{mismatch_of, TellsRefusal};
-ghost use Rattle.facet_json_meaning.specs.Nodes.{KeepsOn};
+ghost use Rattle.facet_json_core.specs.Meaning.Nodes.{KeepsOn};
 ghost use Rattle.facet_json_tree.specs.Inner.PointerParts.{unescaped};
 ghost use Rattle.facet_json_tree.specs.Pointer.{IsPointer, index};
 ghost use Rattle.facet_json_tree.specs.PointerViews.{Refuses};

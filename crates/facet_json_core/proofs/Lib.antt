@@ -3,6 +3,7 @@ pub mod Cuts
 pub mod DocumentFromRoot
 pub mod DocumentPassed
 pub mod Lines
+pub mod Meaning
 pub mod Misplaced
 pub mod Names
 pub mod NextEventComes

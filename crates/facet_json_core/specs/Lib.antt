@@ -29,6 +29,7 @@ pub use Rattle.facet_json_document.specs.Headline
 pub mod ErrorKind
 pub mod ErrorViews
 pub mod Line
+pub mod Meaning
 pub mod Reading
 pub mod Refusing
 pub mod Report

@@ -1,6 +1,7 @@
 //! What the definitions of documents, parsers and serializers mean, in the subject's own words: each law is the contract of a function
 //! without effect.
 
+mod meaning;
 mod trust;
 
 pub use facet_json_document::laws::{
@@ -13,4 +14,8 @@ pub use facet_json_document::laws::{
     strict_input_comes, strict_is_plain, unknown_changes_nothing, walk_is_one_value,
 };
 pub use facet_json_serializer::laws::{taken_in_order, tree_by_calls, tree_taken};
+pub use meaning::{
+    document_comes_back, document_is_readable, document_nodes_are_spelled, same_bytes_same_text,
+    strict_reads_texts,
+};
 pub use trust::{trusted_agrees, trusted_agrees_jsonc, trusted_agrees_strict};

@@ -15,16 +15,16 @@ use Rattle.facet_json_document.specs.Now.{Now, GoesOn}
 use Rattle.facet_json_document.specs.Tree.{Pairs}
 use Rattle.facet_json_document.specs.Walk.{walk, walk_members, event_at, key_event}
 use Rattle.facet_json_document.proofs.TreesOfParts.{member_meant}
-use Rattle.facet_json_meaning.specs.Nodes.{StandsBefore, KeepsOn}
-use Rattle.facet_json_meaning.specs.Objects.{PassesKey, LacksKey}
-use Rattle.facet_json_meaning.specs.OneValue.{IsInside, PassesValue, PassesKeyInside}
-use Rattle.facet_json_meaning.specs.Passing.{anything, WalksPast}
-use Rattle.facet_json_meaning.specs.Reading.{IsRead, IsUnread}
-use Rattle.facet_json_meaning.proofs.Keeping.{keeps-then}
-use Rattle.facet_json_meaning.proofs.Objects.MembersOnWalk.{AtMembers, at-key, at-end, key-comes}
-use Rattle.facet_json_meaning.proofs.OneValue.WithinValues.{inside-value}
-use Rattle.facet_json_meaning.proofs.WalkPlaces.{drop-node, drop-suc}
-use Rattle.facet_json_meaning.proofs.Walks.NextOnWalk.{goes-keeps}
+use Rattle.facet_json_core.specs.Meaning.Nodes.{StandsBefore, KeepsOn}
+use Rattle.facet_json_core.specs.Meaning.Objects.{PassesKey, LacksKey}
+use Rattle.facet_json_core.specs.Meaning.OneValue.{IsInside, PassesValue, PassesKeyInside}
+use Rattle.facet_json_core.specs.Meaning.Passing.{anything, WalksPast}
+use Rattle.facet_json_core.specs.Meaning.Reading.{IsRead, IsUnread}
+use Rattle.facet_json_core.proofs.Meaning.Keeping.{keeps-then}
+use Rattle.facet_json_core.proofs.Meaning.Objects.MembersOnWalk.{AtMembers, at-key, at-end, key-comes}
+use Rattle.facet_json_core.proofs.Meaning.OneValue.WithinValues.{inside-value}
+use Rattle.facet_json_core.proofs.Meaning.WalkPlaces.{drop-node, drop-suc}
+use Rattle.facet_json_core.proofs.Meaning.Walks.NextOnWalk.{goes-keeps}
 use Rattle.facet_json_facet.specs.Finding.{is_named, from_key, walk_from, StandsAmong, FindsKey, LacksMembers, PassesNextKey, PassesOthers, no_other, one_more}
 use Rattle.facet_json_facet.proofs.TakenNext.{stays-put}
 

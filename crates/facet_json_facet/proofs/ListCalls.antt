@@ -13,7 +13,7 @@ use Rattle.facet_json_serializer.specs.Views.{call_answer_of, write_refusal_of}
 use Rattle.facet_json_tree.specs.Write.{HasWritten, IsOfRust}
 use Rattle.facet_json_tree.proofs.CallsLeft.{AreLeft, first-made, tree-made, last-answered, last-refused, last-spent}
 use Rattle.facet_json_tree.proofs.OfRust.{item-of_rust, no_item-of_rust, seen-of_rust}
-use Rattle.facet_json_meaning.specs.Lists.{trees_by, list_by}
+use Rattle.facet_json_core.specs.Meaning.Lists.{trees_by, list_by}
 use Rattle.facet_json_facet.proofs.ScalarsOfRust.{on-ok}
 
 module _ {T V : Type 0} (view : T → V) (tree_by : V → Tree) (always : V → Type 0) where

@@ -5,8 +5,8 @@ use Rattle.facet_format.specs.Cursor.{event}
 use Rattle.facet_format.specs.Event.{Event}
 use Rattle.facet_json_document.specs.Now.{Now, GoesOn}
 use Rattle.facet_json_parser.specs.Inner.Wanted.{PassesWanted}
-use Rattle.facet_json_meaning.proofs.OneValue.EventsPassed.{next-passes_by_kind}
-use Rattle.facet_json_meaning.proofs.Walks.NextOnWalk.{answer-walks}
+use Rattle.facet_json_core.proofs.Meaning.OneValue.EventsPassed.{next-passes_by_kind}
+use Rattle.facet_json_core.proofs.Meaning.Walks.NextOnWalk.{answer-walks}
 use Rattle.facet_json_facet.specs.Inner.Taking.{TakesNext}
 
 pub wanted-takes : {A : Type 0} (given : A → Event) (old new : Now) (o : Option A) →

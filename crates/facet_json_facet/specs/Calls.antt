@@ -3,6 +3,6 @@ pub use Rattle.facet_format.specs.Views.{refusal_of}
 pub use Rattle.facet_json_document.specs.Now.{ahead}
 pub use Rattle.facet_json_document.specs.UnreadLaws.{RefusalWithin}
 pub use Rattle.facet_json_core.specs.Refusing.{TellsRefusal}
-pub use Rattle.facet_json_meaning.specs.Nodes.{KeepsOn}
-pub use Rattle.facet_json_meaning.specs.OneValue.{PassesValue}
-pub use Rattle.facet_json_meaning.specs.Reading.{IsRead, IsUnread, HasDocument, EndsStrictly}
+pub use Rattle.facet_json_core.specs.Meaning.Nodes.{KeepsOn}
+pub use Rattle.facet_json_core.specs.Meaning.OneValue.{PassesValue}
+pub use Rattle.facet_json_core.specs.Meaning.Reading.{IsRead, IsUnread, HasDocument, EndsStrictly}

@@ -14,9 +14,9 @@ use Rattle.facet_json_document.specs.Now.{Now, StandsAt}
 use Rattle.facet_json_document.specs.Tree.{Pairs}
 use Rattle.facet_json_document.specs.Walk.{walk_members, event_at}
 use Rattle.facet_json_core.specs.Reading.{LacksMemory}
-use Rattle.facet_json_meaning.specs.Nodes.{StandsBefore}
-use Rattle.facet_json_meaning.specs.Objects.{key_or_end}
-use Rattle.facet_json_meaning.specs.OneValue.{PassesValue}
+use Rattle.facet_json_core.specs.Meaning.Nodes.{StandsBefore}
+use Rattle.facet_json_core.specs.Meaning.Objects.{key_or_end}
+use Rattle.facet_json_core.specs.Meaning.OneValue.{PassesValue}
 
 -- ---- on a walk
 

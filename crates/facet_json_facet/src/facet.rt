@@ -27,7 +27,7 @@ pub type ReadResult<'t, T> = Result<T, DeserializeError<'t>>;
 /// input is read only where it has a document. `laws` are what the shape has to keep.
 pub trait Facet<'de>: Sized + Drop {
     ghost use Rattle.std.specs.Prelude.{Bool, false};
-    ghost use Rattle.facet_json_meaning.specs.Shapes.{Shape, ShapeLaws};
+    ghost use Rattle.facet_json_core.specs.Meaning.Shapes.{Shape, ShapeLaws};
 
     /// What is seen of values.
     ghost View: { Type 0 };

@@ -5,7 +5,7 @@ ghost use Rattle.facet_format.specs.Complaint.{no_memory};
 ghost use Rattle.facet_format.specs.Views.{event_of, scalar_value_of};
 ghost use Rattle.facet_json_serializer.specs.Serializer.{scalar_tree};
 ghost use Rattle.facet_json_tree.specs.Write.{IsOfRust};
-ghost use Rattle.facet_json_meaning.specs.Readings.{taken, leaf};
+ghost use Rattle.facet_json_core.specs.Meaning.Readings.{taken, leaf};
 ghost use Rattle.facet_json_facet.specs.Calls.{refusal_of, ahead, RefusalWithin, TellsRefusal, KeepsOn, PassesValue, IsRead, IsUnread, HasDocument, EndsStrictly};
 ghost use Rattle.facet_json_facet.specs.Inner.Taking.{TakesNext, IsTakenOf};
 
@@ -23,8 +23,8 @@ pub(crate) trait Leaf: Sized + Drop {
     ghost use Rattle.facet_format.specs.Event.{Event};
     ghost use Rattle.facet_json_document.specs.Tree.{Tree};
     ghost use Rattle.facet_json_core.specs.Refusing.{LacksOrIsAbout};
-    ghost use Rattle.facet_json_meaning.specs.Laws.{ReadsBack};
-    ghost use Rattle.facet_json_meaning.specs.Readings.{leaf};
+    ghost use Rattle.facet_json_core.specs.Meaning.Laws.{ReadsBack};
+    ghost use Rattle.facet_json_core.specs.Meaning.Readings.{leaf};
 
     /// What is seen of values.
     ghost View: { Type 0 };
@@ -89,8 +89,8 @@ pub(crate) trait Leaf: Sized + Drop {
 /// ```
 impl<'de, T: Leaf> Facet<'de> for T {
     ghost use Rattle.std.specs.Prelude.{true};
-    ghost use Rattle.facet_json_meaning.specs.Types.{scalar};
-    ghost use Rattle.facet_json_meaning.proofs.TypeLaws.{scalar-laws};
+    ghost use Rattle.facet_json_core.specs.Meaning.Types.{scalar};
+    ghost use Rattle.facet_json_core.proofs.Meaning.TypeLaws.{scalar-laws};
 
     ghost View = { T.View };
 

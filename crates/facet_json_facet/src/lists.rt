@@ -2,7 +2,7 @@
 
 ghost use Rattle.std.specs.Prelude.{◌≡◌, ◌<◌, false, cond, map, None, IfOk, IfErr, OnOk};
 ghost use Rattle.std.specs.List.{All};
-ghost use Rattle.facet_json_meaning.specs.Lists.{list_of};
+ghost use Rattle.facet_json_core.specs.Meaning.Lists.{list_of};
 ghost use Rattle.facet_json_facet.specs.Calls.{refusal_of, ahead, RefusalWithin, TellsRefusal, KeepsOn, PassesValue, IsRead, IsUnread};
 
 use crate::facet::{Facet, value_in};
@@ -27,8 +27,8 @@ use std::alloc::Global;
 impl<'de, T: Facet<'de>> Facet<'de> for Vec<T> {
     ghost use Rattle.std.specs.Prelude.{List, map};
     ghost use Rattle.std.specs.List.{All};
-    ghost use Rattle.facet_json_meaning.specs.Types.{list};
-    ghost use Rattle.facet_json_meaning.proofs.TypeLaws.{list-laws};
+    ghost use Rattle.facet_json_core.specs.Meaning.Types.{list};
+    ghost use Rattle.facet_json_core.proofs.Meaning.TypeLaws.{list-laws};
 
     ghost View = { List T.View };
 

@@ -5,7 +5,7 @@ ghost use Rattle.std.specs.BTreeMap.{insert_entry};
 ghost use Rattle.std.specs.List.{All};
 ghost use Rattle.std.specs.String.{string_cmp};
 ghost use Rattle.facet_format.specs.Complaint.{no_memory};
-ghost use Rattle.facet_json_meaning.specs.Maps.{seen_entries, map_of};
+ghost use Rattle.facet_json_core.specs.Meaning.Maps.{seen_entries, map_of};
 ghost use Rattle.facet_json_facet.specs.Calls.{refusal_of, ahead, RefusalWithin, TellsRefusal, KeepsOn, PassesValue, IsRead, IsUnread};
 
 use crate::facet::{Facet, value_in};
@@ -18,9 +18,9 @@ use std::collections::BTreeMap;
 
 impl<'de, T: Facet<'de>> Facet<'de> for BTreeMap<String, T> {
     ghost use Rattle.std.specs.List.{All};
-    ghost use Rattle.facet_json_meaning.specs.Maps.{Entries, seen_entries};
-    ghost use Rattle.facet_json_meaning.specs.Types.{entries};
-    ghost use Rattle.facet_json_meaning.proofs.TypeLaws.{entries-laws};
+    ghost use Rattle.facet_json_core.specs.Meaning.Maps.{Entries, seen_entries};
+    ghost use Rattle.facet_json_core.specs.Meaning.Types.{entries};
+    ghost use Rattle.facet_json_core.proofs.Meaning.TypeLaws.{entries-laws};
 
     ghost View = { Entries T.View };
 

@@ -2,7 +2,7 @@
 
 ghost use Rattle.std.specs.Prelude.{◌≡◌, ◌<◌, false, cond, None, IfOk, IfErr, OnOk};
 ghost use Rattle.std.specs.Option.{option_map, IfSome};
-ghost use Rattle.facet_json_meaning.specs.Optional.{optional};
+ghost use Rattle.facet_json_core.specs.Meaning.Optional.{optional};
 ghost use Rattle.facet_json_facet.specs.Calls.{refusal_of, ahead, RefusalWithin, TellsRefusal, KeepsOn, PassesValue, IsRead, IsUnread};
 
 use crate::facet::{Facet, value_in};
@@ -21,8 +21,8 @@ use std::alloc::Global;
 impl<'de, T: Facet<'de>> Facet<'de> for Option<T> {
     ghost use Rattle.std.specs.Prelude.{Option};
     ghost use Rattle.std.specs.Option.{option_map, IfSome};
-    ghost use Rattle.facet_json_meaning.specs.Shapes.{nullable};
-    ghost use Rattle.facet_json_meaning.proofs.TypeLaws.{nullable-laws};
+    ghost use Rattle.facet_json_core.specs.Meaning.Shapes.{nullable};
+    ghost use Rattle.facet_json_core.proofs.Meaning.TypeLaws.{nullable-laws};
 
     ghost View = { Option T.View };
 

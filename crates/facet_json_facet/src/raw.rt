@@ -3,7 +3,7 @@
 ghost use Rattle.std.specs.Prelude.{◌≡◌, ◌<◌, true, false, None, IfOk, IfErr, OnOk};
 ghost use Rattle.facet_format.specs.Complaint.{no_memory};
 ghost use Rattle.facet_format.specs.Event.{bytes_of, owned, is_owned};
-ghost use Rattle.facet_json_meaning.specs.Readings.{raw_of};
+ghost use Rattle.facet_json_core.specs.Meaning.Readings.{raw_of};
 ghost use Rattle.facet_json_facet.specs.Calls.{refusal_of, ahead, RefusalWithin, TellsRefusal, KeepsOn, PassesValue, IsRead, IsUnread, HasDocument, EndsStrictly};
 
 use crate::facet::Facet;
@@ -16,8 +16,8 @@ use std::alloc::Global;
 impl<'de> Facet<'de> for RawJson<'de> {
     ghost use Rattle.std.specs.Prelude.{◌≡◌, ℕ, List, true};
     ghost use Rattle.facet_format.specs.Event.{bytes_of, is_owned};
-    ghost use Rattle.facet_json_meaning.specs.Types.{raw};
-    ghost use Rattle.facet_json_meaning.proofs.TypeLaws.{raw-laws};
+    ghost use Rattle.facet_json_core.specs.Meaning.Types.{raw};
+    ghost use Rattle.facet_json_core.proofs.Meaning.TypeLaws.{raw-laws};
 
     ghost View = { List ℕ };
 

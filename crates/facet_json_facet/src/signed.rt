@@ -9,8 +9,8 @@ impl Number for i8 {
     ghost use Rattle.facet_json_document.specs.Tree.{i64 as i64_tree};
     ghost use Rattle.facet_json_document.specs.AsRead.{FitsBits};
     ghost use Rattle.facet_json_tree.proofs.OfRust.{fits-within};
-    ghost use Rattle.facet_json_meaning.specs.Readings.{signed_in};
-    ghost use Rattle.facet_json_meaning.proofs.Leaves.WholeNumbers.{i8-reads_back};
+    ghost use Rattle.facet_json_core.specs.Meaning.Readings.{signed_in};
+    ghost use Rattle.facet_json_core.proofs.Meaning.Leaves.WholeNumbers.{i8-reads_back};
     ghost use Rattle.facet_json_facet.specs.Inner.NumberLaws.{signed-tries, signed-of_rust};
 
     ghost called = { codes "i8" };
@@ -48,8 +48,8 @@ impl Number for i16 {
     ghost use Rattle.facet_json_document.specs.Tree.{i64 as i64_tree};
     ghost use Rattle.facet_json_document.specs.AsRead.{FitsBits};
     ghost use Rattle.facet_json_tree.proofs.OfRust.{fits-within};
-    ghost use Rattle.facet_json_meaning.specs.Readings.{signed_in};
-    ghost use Rattle.facet_json_meaning.proofs.Leaves.WholeNumbers.{i16-reads_back};
+    ghost use Rattle.facet_json_core.specs.Meaning.Readings.{signed_in};
+    ghost use Rattle.facet_json_core.proofs.Meaning.Leaves.WholeNumbers.{i16-reads_back};
     ghost use Rattle.facet_json_facet.specs.Inner.NumberLaws.{signed-tries, signed-of_rust};
 
     ghost called = { codes "i16" };
@@ -87,8 +87,8 @@ impl Number for i32 {
     ghost use Rattle.facet_json_document.specs.Tree.{i64 as i64_tree};
     ghost use Rattle.facet_json_document.specs.AsRead.{FitsBits};
     ghost use Rattle.facet_json_tree.proofs.OfRust.{fits-within};
-    ghost use Rattle.facet_json_meaning.specs.Readings.{signed_in};
-    ghost use Rattle.facet_json_meaning.proofs.Leaves.WholeNumbers.{i32-reads_back};
+    ghost use Rattle.facet_json_core.specs.Meaning.Readings.{signed_in};
+    ghost use Rattle.facet_json_core.proofs.Meaning.Leaves.WholeNumbers.{i32-reads_back};
     ghost use Rattle.facet_json_facet.specs.Inner.NumberLaws.{signed-tries, signed-of_rust};
 
     ghost called = { codes "i32" };
@@ -126,8 +126,8 @@ impl Number for i64 {
     ghost use Rattle.facet_json_document.specs.Tree.{i64 as i64_tree};
     ghost use Rattle.facet_json_document.specs.AsRead.{FitsBits};
     ghost use Rattle.facet_json_tree.proofs.OfRust.{fits-within};
-    ghost use Rattle.facet_json_meaning.specs.Readings.{signed_in};
-    ghost use Rattle.facet_json_meaning.proofs.Leaves.WholeNumbers.{i64-reads_back};
+    ghost use Rattle.facet_json_core.specs.Meaning.Readings.{signed_in};
+    ghost use Rattle.facet_json_core.proofs.Meaning.Leaves.WholeNumbers.{i64-reads_back};
     ghost use Rattle.facet_json_facet.specs.Inner.NumberLaws.{signed-tries, signed-of_rust};
 
     ghost called = { codes "i64" };
@@ -165,8 +165,8 @@ impl Number for isize {
     ghost use Rattle.facet_json_document.specs.Tree.{i64 as i64_tree};
     ghost use Rattle.facet_json_document.specs.AsRead.{FitsBits};
     ghost use Rattle.facet_json_tree.proofs.OfRust.{fits-within};
-    ghost use Rattle.facet_json_meaning.specs.Readings.{signed_in};
-    ghost use Rattle.facet_json_meaning.proofs.Leaves.WholeNumbers.{i64-reads_back};
+    ghost use Rattle.facet_json_core.specs.Meaning.Readings.{signed_in};
+    ghost use Rattle.facet_json_core.proofs.Meaning.Leaves.WholeNumbers.{i64-reads_back};
     ghost use Rattle.facet_json_facet.specs.Inner.NumberLaws.{signed-tries, signed-of_rust};
 
     ghost called = { codes "isize" };

@@ -3,7 +3,7 @@
 ghost use Rattle.std.specs.Prelude.{◌≡◌, ◌<◌, IfOk, IfErr, OnOk, None, Some, string_bytes};
 ghost use Rattle.facet_format.specs.Complaint.{no_memory, refusal_at};
 ghost use Rattle.facet_format.specs.Views.{event_of, span_of};
-ghost use Rattle.facet_json_meaning.specs.Borrowed.{borrowed_text, lent, made_text, IsNotLent};
+ghost use Rattle.facet_json_core.specs.Meaning.Borrowed.{borrowed_text, lent, made_text, IsNotLent};
 ghost use Rattle.facet_json_facet.specs.Calls.{refusal_of, ahead, RefusalWithin, TellsRefusal, KeepsOn, PassesValue, IsRead, IsUnread, HasDocument, EndsStrictly};
 
 use crate::facet::Facet;
@@ -26,8 +26,8 @@ impl Leaf for String {
     ghost use Rattle.facet_json_document.specs.Tree.{text as text_tree};
     ghost use Rattle.facet_json_core.specs.Refusing.{mismatch_of};
     ghost use Rattle.facet_json_core.proofs.Refusing.{lacks-about};
-    ghost use Rattle.facet_json_meaning.specs.Readings.{text_of_tree};
-    ghost use Rattle.facet_json_meaning.proofs.Leaves.TextLaws.{text-reads_back};
+    ghost use Rattle.facet_json_core.specs.Meaning.Readings.{text_of_tree};
+    ghost use Rattle.facet_json_core.proofs.Meaning.Leaves.TextLaws.{text-reads_back};
 
     ghost View = { List ℕ };
 
@@ -74,8 +74,8 @@ impl Leaf for String {
 /// ```
 impl<'de> Facet<'de> for &'de str {
     ghost use Rattle.std.specs.Prelude.{ℕ, List, true};
-    ghost use Rattle.facet_json_meaning.specs.Types.{borrowed};
-    ghost use Rattle.facet_json_meaning.proofs.TypeLaws.{borrowed-laws};
+    ghost use Rattle.facet_json_core.specs.Meaning.Types.{borrowed};
+    ghost use Rattle.facet_json_core.proofs.Meaning.TypeLaws.{borrowed-laws};
 
     ghost View = { List ℕ };
 

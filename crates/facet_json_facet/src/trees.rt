@@ -19,8 +19,8 @@ use std::alloc::Global;
 impl<'de> Facet<'de> for Tree {
     ghost use Rattle.std.specs.Prelude.{true};
     ghost use Rattle.facet_json_document.specs.Tree.{Tree as SpecTree};
-    ghost use Rattle.facet_json_meaning.specs.Types.{any};
-    ghost use Rattle.facet_json_meaning.proofs.TypeLaws.{any-laws};
+    ghost use Rattle.facet_json_core.specs.Meaning.Types.{any};
+    ghost use Rattle.facet_json_core.proofs.Meaning.TypeLaws.{any-laws};
     ghost use Rattle.facet_json_tree.specs.Views.{tree_view};
 
     ghost View = { SpecTree };

@@ -13,8 +13,8 @@ impl Leaf for bool {
     ghost use Rattle.facet_json_document.specs.Tree.{bool as bool_tree};
     ghost use Rattle.facet_json_core.specs.Refusing.{mismatch_of};
     ghost use Rattle.facet_json_core.proofs.Refusing.{mismatch-about};
-    ghost use Rattle.facet_json_meaning.specs.Readings.{bool_of};
-    ghost use Rattle.facet_json_meaning.proofs.Leaves.TruthLaws.{bool-reads_back};
+    ghost use Rattle.facet_json_core.specs.Meaning.Readings.{bool_of};
+    ghost use Rattle.facet_json_core.proofs.Meaning.Leaves.TruthLaws.{bool-reads_back};
 
     ghost View = { Bool };
 

@@ -7,8 +7,8 @@ impl Number for u8 {
     ghost use Rattle.std.specs.Prelude.{codes, ◌<◌, ◌^◌};
     ghost use Rattle.std.specs.Int.{w8};
     ghost use Rattle.facet_json_document.specs.Tree.{u64 as u64_tree};
-    ghost use Rattle.facet_json_meaning.specs.Readings.{unsigned_in};
-    ghost use Rattle.facet_json_meaning.proofs.Leaves.WholeNumbers.{u8-reads_back};
+    ghost use Rattle.facet_json_core.specs.Meaning.Readings.{unsigned_in};
+    ghost use Rattle.facet_json_core.proofs.Meaning.Leaves.WholeNumbers.{u8-reads_back};
     ghost use Rattle.facet_json_facet.specs.Inner.NumberLaws.{unsigned-tries, unsigned-of_rust};
 
     ghost called = { codes "u8" };
@@ -44,8 +44,8 @@ impl Number for u16 {
     ghost use Rattle.std.specs.Prelude.{codes, ◌<◌, ◌^◌};
     ghost use Rattle.std.specs.Int.{w16};
     ghost use Rattle.facet_json_document.specs.Tree.{u64 as u64_tree};
-    ghost use Rattle.facet_json_meaning.specs.Readings.{unsigned_in};
-    ghost use Rattle.facet_json_meaning.proofs.Leaves.WholeNumbers.{u16-reads_back};
+    ghost use Rattle.facet_json_core.specs.Meaning.Readings.{unsigned_in};
+    ghost use Rattle.facet_json_core.proofs.Meaning.Leaves.WholeNumbers.{u16-reads_back};
     ghost use Rattle.facet_json_facet.specs.Inner.NumberLaws.{unsigned-tries, unsigned-of_rust};
 
     ghost called = { codes "u16" };
@@ -81,8 +81,8 @@ impl Number for u32 {
     ghost use Rattle.std.specs.Prelude.{codes, ◌<◌, ◌^◌};
     ghost use Rattle.std.specs.Int.{w32};
     ghost use Rattle.facet_json_document.specs.Tree.{u64 as u64_tree};
-    ghost use Rattle.facet_json_meaning.specs.Readings.{unsigned_in};
-    ghost use Rattle.facet_json_meaning.proofs.Leaves.WholeNumbers.{u32-reads_back};
+    ghost use Rattle.facet_json_core.specs.Meaning.Readings.{unsigned_in};
+    ghost use Rattle.facet_json_core.proofs.Meaning.Leaves.WholeNumbers.{u32-reads_back};
     ghost use Rattle.facet_json_facet.specs.Inner.NumberLaws.{unsigned-tries, unsigned-of_rust};
 
     ghost called = { codes "u32" };
@@ -118,8 +118,8 @@ impl Number for u64 {
     ghost use Rattle.std.specs.Prelude.{codes, ◌<◌, ◌^◌};
     ghost use Rattle.std.specs.Int.{w64};
     ghost use Rattle.facet_json_document.specs.Tree.{u64 as u64_tree};
-    ghost use Rattle.facet_json_meaning.specs.Readings.{unsigned_in};
-    ghost use Rattle.facet_json_meaning.proofs.Leaves.WholeNumbers.{u64-reads_back};
+    ghost use Rattle.facet_json_core.specs.Meaning.Readings.{unsigned_in};
+    ghost use Rattle.facet_json_core.proofs.Meaning.Leaves.WholeNumbers.{u64-reads_back};
     ghost use Rattle.facet_json_facet.specs.Inner.NumberLaws.{unsigned-tries, unsigned-of_rust};
 
     ghost called = { codes "u64" };
@@ -155,8 +155,8 @@ impl Number for usize {
     ghost use Rattle.std.specs.Prelude.{codes, ◌<◌, ◌^◌};
     ghost use Rattle.std.specs.Int.{w64};
     ghost use Rattle.facet_json_document.specs.Tree.{u64 as u64_tree};
-    ghost use Rattle.facet_json_meaning.specs.Readings.{unsigned_in};
-    ghost use Rattle.facet_json_meaning.proofs.Leaves.WholeNumbers.{u64-reads_back};
+    ghost use Rattle.facet_json_core.specs.Meaning.Readings.{unsigned_in};
+    ghost use Rattle.facet_json_core.proofs.Meaning.Leaves.WholeNumbers.{u64-reads_back};
     ghost use Rattle.facet_json_facet.specs.Inner.NumberLaws.{unsigned-tries, unsigned-of_rust};
 
     ghost called = { codes "usize" };

@@ -5,7 +5,7 @@ ghost use Rattle.facet_format.specs.Complaint.{number_out_of_range, refusal_at};
 ghost use Rattle.facet_format.specs.Views.{event_of, refusal_of, scalar_value_of, span_of};
 ghost use Rattle.facet_json_core.specs.Refusing.{mismatch_of};
 ghost use Rattle.facet_json_serializer.specs.Serializer.{scalar_tree};
-ghost use Rattle.facet_json_meaning.specs.Readings.{taken, whole_of};
+ghost use Rattle.facet_json_core.specs.Meaning.Readings.{taken, whole_of};
 
 use crate::leaves::Leaf;
 use crate::steps::next::take_next;
@@ -24,8 +24,8 @@ pub(crate) trait Number: TryFrom<i128, Error = TryFromIntError> + Drop {
     ghost use Rattle.std.specs.Option.{option_and_then};
     ghost use Rattle.facet_json_document.specs.Tree.{Tree};
     ghost use Rattle.facet_json_tree.specs.Write.{IsOfRust};
-    ghost use Rattle.facet_json_meaning.specs.Laws.{ReadsBack};
-    ghost use Rattle.facet_json_meaning.specs.Readings.{leaf, whole_of};
+    ghost use Rattle.facet_json_core.specs.Meaning.Laws.{ReadsBack};
+    ghost use Rattle.facet_json_core.specs.Meaning.Readings.{leaf, whole_of};
 
     /// What the type is called.
     ghost called: { List ℕ };
@@ -76,7 +76,7 @@ impl<T: Number> Leaf for T {
     ghost use Rattle.facet_format.specs.Complaint.{number_out_of_range, refusal_at};
     ghost use Rattle.facet_json_core.specs.Refusing.{mismatch_of};
     ghost use Rattle.facet_json_core.proofs.Refusing.{either-about};
-    ghost use Rattle.facet_json_meaning.specs.Readings.{whole_of};
+    ghost use Rattle.facet_json_core.specs.Meaning.Readings.{whole_of};
 
     ghost View = { T };
 

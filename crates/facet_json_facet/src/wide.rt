@@ -1,7 +1,7 @@
 //! Whole numbers of 128 bits: `u128` and `i128`. Within 64 bits they are read as numbers, past them as the texts of their digits.
 
 ghost use Rattle.std.specs.Prelude.{◌≡◌};
-ghost use Rattle.facet_json_meaning.specs.Readings.{unsigned_text, signed_text};
+ghost use Rattle.facet_json_core.specs.Meaning.Readings.{unsigned_text, signed_text};
 
 use crate::leaves::Leaf;
 use crate::whole::out_of_range;
@@ -17,8 +17,8 @@ impl Leaf for u128 {
     ghost use Rattle.facet_json_document.specs.Tree.{u128 as u128_tree};
     ghost use Rattle.facet_json_core.specs.Refusing.{mismatch_of};
     ghost use Rattle.facet_json_core.proofs.Refusing.{either-about};
-    ghost use Rattle.facet_json_meaning.specs.Readings.{u128_of};
-    ghost use Rattle.facet_json_meaning.proofs.Leaves.WideNumbers.{u128-reads_back};
+    ghost use Rattle.facet_json_core.specs.Meaning.Readings.{u128_of};
+    ghost use Rattle.facet_json_core.proofs.Meaning.Leaves.WideNumbers.{u128-reads_back};
 
     ghost View = { ℕ };
 
@@ -71,8 +71,8 @@ impl Leaf for i128 {
     ghost use Rattle.facet_json_document.specs.AsRead.{FitsBits};
     ghost use Rattle.facet_json_core.specs.Refusing.{mismatch_of};
     ghost use Rattle.facet_json_core.proofs.Refusing.{mismatch-about};
-    ghost use Rattle.facet_json_meaning.specs.Readings.{i128_of};
-    ghost use Rattle.facet_json_meaning.proofs.Leaves.WideNumbers.{i128-reads_back};
+    ghost use Rattle.facet_json_core.specs.Meaning.Readings.{i128_of};
+    ghost use Rattle.facet_json_core.proofs.Meaning.Leaves.WideNumbers.{i128-reads_back};
 
     ghost View = { ℤ };
 

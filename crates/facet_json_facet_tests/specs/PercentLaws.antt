@@ -3,11 +3,11 @@ use Rattle.std.proofs.Common.{◌≡◌, ◌≤◌, ℕ, cond, Some, None, ap, �
 use Rattle.std.specs.Option.{option_and_then}
 use Rattle.std.proofs.lemmas.Bool.{le-leb}
 use Rattle.facet_json_document.specs.Tree.{u64}
-use Rattle.facet_json_meaning.specs.Laws.{SameReading, ReadsBack}
-use Rattle.facet_json_meaning.specs.Readings.{unsigned_of}
-use Rattle.facet_json_meaning.specs.Shapes.{ShapeLaws}
-use Rattle.facet_json_meaning.proofs.Leaves.LeafLaws.{leaf-same}
-use Rattle.facet_json_meaning.proofs.Leaves.WholeNumbers.{u8-reads_back}
+use Rattle.facet_json_core.specs.Meaning.Laws.{SameReading, ReadsBack}
+use Rattle.facet_json_core.specs.Meaning.Readings.{unsigned_of}
+use Rattle.facet_json_core.specs.Meaning.Shapes.{ShapeLaws}
+use Rattle.facet_json_core.proofs.Meaning.Leaves.LeafLaws.{leaf-same}
+use Rattle.facet_json_core.proofs.Meaning.Leaves.WholeNumbers.{u8-reads_back}
 use Rattle.facet_json_facet_tests.specs.Percents.{percent_in, percent_of, percent}
 
 pub percent-some : (n : ℕ) → n ≤ 100 → percent_in n ≡ Some n

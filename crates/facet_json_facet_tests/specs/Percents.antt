@@ -2,8 +2,8 @@
 use Rattle.std.specs.Prelude.{ℕ, ◌≤◌, cond, nat_le, Option, Some, None}
 use Rattle.std.specs.Option.{option_and_then}
 use Rattle.facet_json_document.specs.Tree.{u64}
-use Rattle.facet_json_meaning.specs.Readings.{leaf, unsigned_of}
-use Rattle.facet_json_meaning.specs.Shapes.{Reading, Shape, shape}
+use Rattle.facet_json_core.specs.Meaning.Readings.{leaf, unsigned_of}
+use Rattle.facet_json_core.specs.Meaning.Shapes.{Reading, Shape, shape}
 
 abbrev pub percent_in : ℕ → Option ℕ
 percent_in n = cond (nat_le n 100) (Some n) None

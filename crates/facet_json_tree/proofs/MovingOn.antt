@@ -4,11 +4,11 @@ use Rattle.facet_format.specs.Event.{Event}
 use Rattle.facet_format.specs.Cursor.{next, event}
 use Rattle.facet_format.specs.Steps.{IsStep}
 use Rattle.facet_json_document.specs.Now.{Now, StandsAt}
-use Rattle.facet_json_meaning.specs.Nodes.{KeepsOn}
-use Rattle.facet_json_meaning.specs.Passing.{MovesOn}
-use Rattle.facet_json_meaning.proofs.Keeping.{keeps-then}
-use Rattle.facet_json_meaning.proofs.Walks.NextOnWalk.{answer-walks}
-use Rattle.facet_json_meaning.proofs.OfTrees.TreeOnWalk.{moves_trans, moves_past}
+use Rattle.facet_json_core.specs.Meaning.Nodes.{KeepsOn}
+use Rattle.facet_json_core.specs.Meaning.Passing.{MovesOn}
+use Rattle.facet_json_core.proofs.Meaning.Keeping.{keeps-then}
+use Rattle.facet_json_core.proofs.Meaning.Walks.NextOnWalk.{answer-walks}
+use Rattle.facet_json_core.proofs.Meaning.OfTrees.TreeOnWalk.{moves_trans, moves_past}
 use Rattle.facet_json_tree.specs.Inner.Reading.{LeadsOn}
 
 -- ---- on a walk

@@ -14,7 +14,7 @@ use Rattle.facet_json_document.specs.Move.{Moves}
 use Rattle.facet_json_document.specs.Next.{PassesNext}
 use Rattle.facet_json_core.specs.Told.{tree_of_scalar, opens, begins}
 use Rattle.facet_json_core.specs.Reading.{LacksMemory, IsUnreadBy, IsValueUnread}
-use Rattle.facet_json_meaning.proofs.OneValue.EventsPassed.{next-passes_by_kind}
+use Rattle.facet_json_core.proofs.Meaning.OneValue.EventsPassed.{next-passes_by_kind}
 use Rattle.facet_json_tree.specs.Inner.Reading.{AreItemsRead, AreMembersRead, HasBegun, whole, a_list, an_object, BeganValue, IsFilled}
 use Rattle.facet_json_tree.proofs.FirstEventTells.{told-begins, broken-opens, list-told, object-told, list-broken, object-broken}
 

@@ -7,9 +7,9 @@ use Rattle.facet_json_document.specs.Move.{Moves}
 use Rattle.facet_json_document.specs.Next.{PassesNext}
 use Rattle.facet_json_document.specs.Now.{Now, SameInput}
 use Rattle.facet_json_core.specs.Told.{tree_of_scalar}
-use Rattle.facet_json_meaning.specs.OneValue.{PassesValue, IsInside, PassesByKind}
-use Rattle.facet_json_meaning.proofs.OneValue.EventsPassed.{next-passes_by_kind}
-use Rattle.facet_json_meaning.proofs.OneValue.WithinValues.{inside-value}
+use Rattle.facet_json_core.specs.Meaning.OneValue.{PassesValue, IsInside, PassesByKind}
+use Rattle.facet_json_core.proofs.Meaning.OneValue.EventsPassed.{next-passes_by_kind}
+use Rattle.facet_json_core.proofs.Meaning.OneValue.WithinValues.{inside-value}
 use Rattle.facet_json_tree.specs.Inner.Reading.{HasBegun, whole, a_list, an_object, BeganValue, BeganMember, PassedEnd, IsKey, PassesRest}
 use Rattle.facet_json_tree.proofs.ValuesBegin.{scalar-no_list, scalar-no_pairs}
 

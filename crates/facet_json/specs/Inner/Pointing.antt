@@ -7,8 +7,8 @@ use Rattle.facet_format.specs.Part.{Source}
 use Rattle.facet_json_document.specs.Node.{Node, Nodes}
 use Rattle.facet_json_document.specs.Now.{Now}
 use Rattle.facet_json_core.specs.Reading.{LacksMemory}
-use Rattle.facet_json_meaning.specs.Nodes.{StandsBefore, StandsAfter}
-use Rattle.facet_json_meaning.proofs.Sequences.ListSteps.{AtItems}
+use Rattle.facet_json_core.specs.Meaning.Nodes.{StandsBefore, StandsAfter}
+use Rattle.facet_json_core.proofs.Meaning.Sequences.ListSteps.{AtItems}
 use Rattle.facet_json.specs.Pointed.{item_node, child_node, StandsBeforeIt}
 use Rattle.facet_json.specs.declared.pointer.Begun.{Begun}
 use Rattle.facet_json.specs.declared.pointer.Begun.TheVariants as begun

@@ -8,8 +8,8 @@ use Rattle.facet_json_document.specs.Tree.{i64, u64}
 use Rattle.facet_json_document.specs.AsRead.{WellFormed, RawParts}
 use Rattle.facet_json_tree.specs.Write.{IsOfRust}
 use Rattle.facet_json_tree.proofs.OfRust.{fits-within}
-use Rattle.facet_json_meaning.specs.Readings.{signed_in, unsigned_in}
-use Rattle.facet_json_meaning.proofs.Leaves.WholeNumbers.{signed-holds, signed-lacks, unsigned-holds, unsigned-lacks}
+use Rattle.facet_json_core.specs.Meaning.Readings.{signed_in, unsigned_in}
+use Rattle.facet_json_core.proofs.Meaning.Leaves.WholeNumbers.{signed-holds, signed-lacks, unsigned-holds, unsigned-lacks}
 
 pub signed-tries : {E : Type 0} (w : Width) (z : ℤ) (r : Result ℤ E) → OkIff r (FitsSigned w z) z →
     IfOk r (λ n. signed_in (hbits w) z ≡ Some n) × IfErr r (λ e. signed_in (hbits w) z ≡ None)

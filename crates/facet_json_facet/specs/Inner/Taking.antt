@@ -8,12 +8,12 @@ use Rattle.facet_format.specs.Views.{refusal_of, span_of}
 use Rattle.facet_json_document.specs.Now.{Now, ahead, GoesOn}
 use Rattle.facet_json_document.specs.Next.{PassesNext}
 use Rattle.facet_json_document.specs.Tree.{Tree}
-use Rattle.facet_json_meaning.specs.Inner.Taking.{Takes}
-use Rattle.facet_json_meaning.specs.ListSteps.{ends_list}
-use Rattle.facet_json_meaning.specs.OneValue.{PassesByKind, PassesEndOf, PassesValue}
-use Rattle.facet_json_meaning.specs.Optional.{is_null_event}
-use Rattle.facet_json_meaning.specs.Passing.{WalksPast}
-use Rattle.facet_json_meaning.specs.Readings.{taken}
+use Rattle.facet_json_core.specs.Meaning.Inner.Taking.{Takes}
+use Rattle.facet_json_core.specs.Meaning.ListSteps.{ends_list}
+use Rattle.facet_json_core.specs.Meaning.OneValue.{PassesByKind, PassesEndOf, PassesValue}
+use Rattle.facet_json_core.specs.Meaning.Optional.{is_null_event}
+use Rattle.facet_json_core.specs.Meaning.Passing.{WalksPast}
+use Rattle.facet_json_core.specs.Meaning.Readings.{taken}
 
 -- The event came next, and is passed.
 pub record TakesNext (old : Now) (given : Event) (new : Now) : Type 0 where

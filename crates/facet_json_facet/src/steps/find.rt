@@ -4,7 +4,7 @@ ghost use Rattle.std.specs.Prelude.{◌≡◌, ◌<◌, None, Some, IfOk, IfErr,
 ghost use Rattle.std.specs.Str.{bytes_eq};
 ghost use Rattle.facet_format.specs.Event.{bytes_of, object};
 ghost use Rattle.facet_format.specs.HeldText.{text_of};
-ghost use Rattle.facet_json_meaning.specs.OneValue.{PassesKeyInside, PassesEndOf};
+ghost use Rattle.facet_json_core.specs.Meaning.OneValue.{PassesKeyInside, PassesEndOf};
 ghost use Rattle.facet_json_facet.specs.Calls.{refusal_of, ahead, RefusalWithin, TellsRefusal, KeepsOn};
 ghost use Rattle.facet_json_facet.specs.Finding.{FindsKey, LacksMembers, PassesUpTo};
 

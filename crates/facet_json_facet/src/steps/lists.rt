@@ -5,13 +5,13 @@ ghost use Rattle.facet_format.specs.Event.{array};
 ghost use Rattle.facet_format.specs.Views.{event_of};
 ghost use Rattle.facet_json_document.specs.Now.{GoesOn};
 ghost use Rattle.facet_json_core.specs.Refusing.{mismatch_of};
-ghost use Rattle.facet_json_meaning.specs.ListSteps.{begins_list, ends_list, BeginsList, IsNoList};
-ghost use Rattle.facet_json_meaning.specs.Peeking.{Finds};
-ghost use Rattle.facet_json_meaning.specs.Inner.Taking.{StaysBefore};
+ghost use Rattle.facet_json_core.specs.Meaning.ListSteps.{begins_list, ends_list, BeginsList, IsNoList};
+ghost use Rattle.facet_json_core.specs.Meaning.Peeking.{Finds};
+ghost use Rattle.facet_json_core.specs.Meaning.Inner.Taking.{StaysBefore};
 ghost use Rattle.facet_json_facet.specs.Calls.{refusal_of, ahead, RefusalWithin, TellsRefusal};
 ghost use Rattle.facet_json_facet.specs.Inner.Taking.{TakesEnd};
-ghost use Rattle.facet_json_meaning.specs.OneValue.{IsInside, LooksAhead};
-ghost use Rattle.facet_json_meaning.specs.Passing.{LacksAlone};
+ghost use Rattle.facet_json_core.specs.Meaning.OneValue.{IsInside, LooksAhead};
+ghost use Rattle.facet_json_core.specs.Meaning.Passing.{LacksAlone};
 
 use crate::steps::next::{next_of_value, take_next};
 use facet_format::{DeserializeError, FormatParser, ParseEvent, ParseEventKind};

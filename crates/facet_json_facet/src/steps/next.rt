@@ -7,11 +7,11 @@ ghost use Rattle.facet_json_facet.specs.Inner.Taking.{TakesNext, TakesNull};
 ghost use Rattle.facet_json_document.specs.Now.{GoesOn};
 ghost use Rattle.facet_json_document.specs.Next.{PassesNext};
 ghost use Rattle.facet_json_core.specs.Refusing.{mismatch_of};
-ghost use Rattle.facet_json_meaning.specs.Passing.{WalksPast, LacksAlone, PassesNull, LacksNull};
-ghost use Rattle.facet_json_meaning.specs.OneValue.{PassesByKind, LooksAhead};
-ghost use Rattle.facet_json_meaning.specs.Optional.{is_null_event};
-ghost use Rattle.facet_json_meaning.specs.Peeking.{Finds};
-ghost use Rattle.facet_json_meaning.specs.Inner.Taking.{StaysBefore};
+ghost use Rattle.facet_json_core.specs.Meaning.Passing.{WalksPast, LacksAlone, PassesNull, LacksNull};
+ghost use Rattle.facet_json_core.specs.Meaning.OneValue.{PassesByKind, LooksAhead};
+ghost use Rattle.facet_json_core.specs.Meaning.Optional.{is_null_event};
+ghost use Rattle.facet_json_core.specs.Meaning.Peeking.{Finds};
+ghost use Rattle.facet_json_core.specs.Meaning.Inner.Taking.{StaysBefore};
 ghost use Rattle.facet_json_facet.specs.Calls.{refusal_of, ahead, RefusalWithin, TellsRefusal, PassesValue};
 
 use facet_format::{DeserializeError, FormatParser, ParseEvent, ParseEventKind, ScalarValue, Span};

@@ -7,8 +7,8 @@ ghost use Rattle.facet_format.specs.HeldText.{text_of};
 ghost use Rattle.facet_format.specs.Views.{event_of};
 ghost use Rattle.facet_json_document.specs.Now.{GoesOn};
 ghost use Rattle.facet_json_core.specs.Refusing.{mismatch_of};
-ghost use Rattle.facet_json_meaning.specs.Objects.{begins_object, key_or_end, BeginsObject, IsNoObject, PassesKey, LacksKey};
-ghost use Rattle.facet_json_meaning.specs.OneValue.{IsInside, PassesMemberOrEnd};
+ghost use Rattle.facet_json_core.specs.Meaning.Objects.{begins_object, key_or_end, BeginsObject, IsNoObject, PassesKey, LacksKey};
+ghost use Rattle.facet_json_core.specs.Meaning.OneValue.{IsInside, PassesMemberOrEnd};
 ghost use Rattle.facet_json_facet.specs.Calls.{refusal_of, ahead, RefusalWithin, TellsRefusal};
 ghost use Rattle.facet_json_facet.specs.Finding.{PassesNextKey};
 

@@ -1,8 +1,8 @@
 //! A value that is passed unread.
 
 ghost use Rattle.std.specs.Prelude.{◌≡◌, ◌<◌, None, IfErr, OnOk};
-ghost use Rattle.facet_json_meaning.specs.OneValue.{IsAfterKey};
-ghost use Rattle.facet_json_meaning.specs.Passing.{anything};
+ghost use Rattle.facet_json_core.specs.Meaning.OneValue.{IsAfterKey};
+ghost use Rattle.facet_json_core.specs.Meaning.Passing.{anything};
 ghost use Rattle.facet_json_facet.specs.Calls.{refusal_of, ahead, RefusalWithin, TellsRefusal, KeepsOn, PassesValue, IsRead, IsUnread};
 
 use facet_format::{DeserializeError, FormatParser};

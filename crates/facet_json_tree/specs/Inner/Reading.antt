@@ -7,8 +7,8 @@ use Rattle.facet_json_document.specs.Future.{Future, gives}
 use Rattle.facet_json_document.specs.Now.{Now, ahead, future_of, SameInput}
 use Rattle.facet_json_core.specs.Told.{tree_of_scalar, opens, begins, TellsItems, TellsMembers, BreaksItems, BreaksMembers}
 use Rattle.facet_json_core.specs.Reading.{LacksMemory, IsReadBy, IsUnreadBy, IsValueRead}
-use Rattle.facet_json_meaning.specs.OneValue.{PassesEndOf, PassesKeyInside, PassesByKind}
-use Rattle.facet_json_meaning.specs.Passing.{MovesOn}
+use Rattle.facet_json_core.specs.Meaning.OneValue.{PassesEndOf, PassesKeyInside, PassesByKind}
+use Rattle.facet_json_core.specs.Meaning.Passing.{MovesOn}
 use Rattle.facet_json_tree.specs.Depth.{too_deep_at}
 use Rattle.facet_json_tree.specs.Inner.Beyond.{Admits, SameBeyond, IsUnreadWithin, IsValueUnreadWithin}
 

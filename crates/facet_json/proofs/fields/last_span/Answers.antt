@@ -1,4 +1,4 @@
-use Rattle.facet_json_meaning.proofs.Refusals.{told-last}
+use Rattle.facet_json_core.proofs.Meaning.Refusals.{told-last}
 use Rattle.facet_json.proofs.fields.last_span.Goals as goal
 
 pub returns-clause-told : goal.returns-clause-told

@@ -5,13 +5,13 @@ use Rattle.facet_format.specs.Event.{bytes_of}
 use Rattle.facet_format.specs.HeldText.{text_of}
 use Rattle.facet_format.specs.Views.{refusal_of}
 use Rattle.facet_format.proofs.HeldTexts.{held-bytes}
-use Rattle.facet_json_meaning.proofs.Keeping.{keeps-then}
-use Rattle.facet_json_meaning.proofs.OneValue.WithinValues.{inside-member}
-use Rattle.facet_json_meaning.proofs.Walks.NextOnWalk.{goes-keeps}
+use Rattle.facet_json_core.proofs.Meaning.Keeping.{keeps-then}
+use Rattle.facet_json_core.proofs.Meaning.OneValue.WithinValues.{inside-member}
+use Rattle.facet_json_core.proofs.Meaning.Walks.NextOnWalk.{goes-keeps}
 use Rattle.facet_json.specs.Fields.{keys, table}
 use Rattle.facet_json.proofs.FieldSteps.{missing-about, way-begin, way-goes_on, fields-not_begun, fields-no_key, fields-no_value, fields-end, fields-missing}
 use Rattle.facet_json_core.proofs.Refusing.{comes-then, end-tells, goes-there, tells-later}
-use Rattle.facet_json_meaning.proofs.Refusals.{keeps-there}
+use Rattle.facet_json_core.proofs.Meaning.Refusals.{keeps-there}
 use Rattle.facet_json.proofs.fields.read_fields.Goals as goal
 
 pub returns-in_err-begin_object-clause-unread : goal.returns-in_err-begin_object-clause-unread

@@ -1,8 +1,8 @@
 use Rattle.std.proofs.lemmas.Result.{IfOk-weaker, IfErr-weaker, err_from_is_err_and}
 use Rattle.facet_format.specs.Views.{refusal_of}
 use Rattle.facet_json_core.proofs.Refusing.{event-tells, goes-there, mismatch-about, tells-later}
-use Rattle.facet_json_meaning.proofs.Keeping.{keeps-then}
-use Rattle.facet_json_meaning.proofs.Walks.NextOnWalk.{goes-keeps}
+use Rattle.facet_json_core.proofs.Meaning.Keeping.{keeps-then}
+use Rattle.facet_json_core.proofs.Meaning.Walks.NextOnWalk.{goes-keeps}
 use Rattle.facet_json_tree.specs.Inner.PointerParts.{unescaped}
 use Rattle.facet_json_tree.proofs.PointerIndex.{index-unescaped}
 use Rattle.facet_json.proofs.NodesPointed.{in-object, in-object-lacks, in-list, in-list-lacks, in-scalar, no-value, no-event}

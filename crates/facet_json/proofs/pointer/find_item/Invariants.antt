@@ -1,5 +1,5 @@
 use Rattle.facet_json_document.specs.Now.{ahead}
-use Rattle.facet_json_meaning.specs.Nodes.{KeepsOn}
+use Rattle.facet_json_core.specs.Meaning.Nodes.{KeepsOn}
 use Rattle.facet_json_tree.specs.Pointer.{index}
 use Rattle.facet_json.proofs.ItemsPassed.{AreLeft}
 use Rattle.facet_json.proofs.pointer.find_item.Given as goal

@@ -1,6 +1,6 @@
 use Rattle.std.proofs.Common.{subst, List, ℕ, refl}
 use Rattle.std.proofs.lemmas.Result.{err_from_is_err_and}
-use Rattle.facet_json_meaning.proofs.Walks.NextOnWalk.{goes-keeps}
+use Rattle.facet_json_core.proofs.Meaning.Walks.NextOnWalk.{goes-keeps}
 use Rattle.facet_json_tree.specs.Pointer.{IsPointer}
 use Rattle.facet_json_tree.specs.PointerViews.{IsWrongAt}
 use Rattle.facet_json_tree.proofs.PointerRefusals.{refuses}

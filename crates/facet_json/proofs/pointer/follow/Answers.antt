@@ -3,9 +3,9 @@ use Rattle.std.proofs.lemmas.List.{take_rest, drop_all}
 use Rattle.std.proofs.lemmas.Result.{err_from_is_err_and}
 use Rattle.facet_format.specs.Views.{refusal_of}
 use Rattle.facet_json_core.proofs.Refusing.{tells-later}
-use Rattle.facet_json_meaning.proofs.Keeping.{keeps-then}
-use Rattle.facet_json_meaning.proofs.Refusals.{keeps-there}
-use Rattle.facet_json_meaning.proofs.Walks.NextOnWalk.{goes-keeps}
+use Rattle.facet_json_core.proofs.Meaning.Keeping.{keeps-then}
+use Rattle.facet_json_core.proofs.Meaning.Refusals.{keeps-there}
+use Rattle.facet_json_core.proofs.Meaning.Walks.NextOnWalk.{goes-keeps}
 use Rattle.facet_json_tree.specs.Inner.PointerParts.{before_slash}
 use Rattle.facet_json_tree.proofs.PointerSteps.{next-within}
 use Rattle.facet_json_facet.proofs.TakenNext.{stays-put}

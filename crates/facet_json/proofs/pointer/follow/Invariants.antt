@@ -1,5 +1,5 @@
 use Rattle.std.proofs.Common.{◌≤◌, ◌-◌, ℕ, List, length, drop}
-use Rattle.facet_json_meaning.specs.Nodes.{KeepsOn}
+use Rattle.facet_json_core.specs.Meaning.Nodes.{KeepsOn}
 use Rattle.facet_json_tree.specs.Pointer.{IsPointer}
 use Rattle.facet_json.proofs.PointersFollowed.{AreFollowed}
 use Rattle.facet_json.proofs.pointer.follow.Given as goal

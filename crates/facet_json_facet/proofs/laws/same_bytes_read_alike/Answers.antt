@@ -1,5 +1,5 @@
 use Rattle.std.proofs.Common.{rules}
-use Rattle.facet_json_meaning.proofs.Nodes.NodesWithin.{bytes-read_alike}
+use Rattle.facet_json_core.proofs.Meaning.Nodes.NodesWithin.{bytes-read_alike}
 use Rattle.facet_json_facet.proofs.laws.same_bytes_read_alike.Goals as goal
 
 pub returns-clause-reading : goal.returns-clause-reading

@@ -1,8 +1,8 @@
 use Rattle.std.proofs.lemmas.Result.{err_from_is_err_and, IfOk-weaker, IfErr-weaker}
 use Rattle.facet_format.specs.Views.{refusal_of}
 use Rattle.facet_json_core.proofs.Refusing.{lacks-tells}
-use Rattle.facet_json_meaning.specs.Readings.{leaf}
-use Rattle.facet_json_meaning.proofs.Leaves.LeafReadings.{leaf-read, leaf-refused, leaf-document, leaf-strict, none-unread}
+use Rattle.facet_json_core.specs.Meaning.Readings.{leaf}
+use Rattle.facet_json_core.proofs.Meaning.Leaves.LeafReadings.{leaf-read, leaf-refused, leaf-document, leaf-strict, none-unread}
 use Rattle.facet_json_facet.proofs.leaves.take_slowly.Goals as goal
 
 pub returns-in_err-next_of_value-clause-unread : goal.returns-in_err-next_of_value-clause-unread

@@ -4,13 +4,13 @@ use Rattle.std.proofs.lemmas.List.Elements.{All-nil, All-push, All-same}
 use Rattle.std.proofs.lemmas.Result.{err_from_is_err_and}
 use Rattle.facet_format.specs.Event.{array}
 use Rattle.facet_format.specs.Views.{refusal_of}
-use Rattle.facet_json_meaning.proofs.Keeping.{keeps-then}
-use Rattle.facet_json_meaning.proofs.OneValue.WithinValues.{inside-value, inside-stays}
-use Rattle.facet_json_meaning.proofs.Sequences.ListSteps.{ReadSoFar, list-begins, list-none, list-goes_on, list-more, list-unread, list-ends, list-unseen}
-use Rattle.facet_json_meaning.proofs.Walks.NextOnWalk.{goes-keeps}
+use Rattle.facet_json_core.proofs.Meaning.Keeping.{keeps-then}
+use Rattle.facet_json_core.proofs.Meaning.OneValue.WithinValues.{inside-value, inside-stays}
+use Rattle.facet_json_core.proofs.Meaning.Sequences.ListSteps.{ReadSoFar, list-begins, list-none, list-goes_on, list-more, list-unread, list-ends, list-unseen}
+use Rattle.facet_json_core.proofs.Meaning.Walks.NextOnWalk.{goes-keeps}
 use Rattle.facet_json_core.specs.Refusing.{without_memory}
 use Rattle.facet_json_core.proofs.Refusing.{comes-then, goes-there, tells-later}
-use Rattle.facet_json_meaning.proofs.Refusals.{keeps-there}
+use Rattle.facet_json_core.proofs.Meaning.Refusals.{keeps-there}
 use Rattle.facet_json_facet.proofs.lists.list_in.Goals as goal
 
 pub returns-in_err-begin_list-clause-unread : goal.returns-in_err-begin_list-clause-unread

@@ -2,9 +2,9 @@ use Rattle.std.proofs.Common.{◌≡◌, ◌<◌, false, cond, map}
 use Rattle.std.specs.List.{All}
 use Rattle.facet_format.specs.Event.{array}
 use Rattle.facet_json_document.specs.Now.{ahead}
-use Rattle.facet_json_meaning.specs.Nodes.{KeepsOn}
-use Rattle.facet_json_meaning.specs.OneValue.{IsInside}
-use Rattle.facet_json_meaning.proofs.Sequences.ListSteps.{ReadSoFar}
+use Rattle.facet_json_core.specs.Meaning.Nodes.{KeepsOn}
+use Rattle.facet_json_core.specs.Meaning.OneValue.{IsInside}
+use Rattle.facet_json_core.proofs.Meaning.Sequences.ListSteps.{ReadSoFar}
 use Rattle.facet_json_facet.proofs.lists.list_in.Given as goal
 
 abbrev pub invariant-loop-items : goal.invariant-loop-items

@@ -4,11 +4,11 @@ use Rattle.std.proofs.lemmas.List.Elements.{All-nil, All-same}
 use Rattle.std.proofs.lemmas.Option.{MatchOption-at_none}
 use Rattle.std.proofs.lemmas.Result.{err_from_is_err_and}
 use Rattle.facet_format.specs.Views.{refusal_of}
-use Rattle.facet_json_meaning.proofs.Objects.MapEntries.{all-inserted, entries-begin, entry-read}
-use Rattle.facet_json_meaning.proofs.Objects.MapReadings.{map-not_begun, map-no_value, map-no_key, map-ends}
+use Rattle.facet_json_core.proofs.Meaning.Objects.MapEntries.{all-inserted, entries-begin, entry-read}
+use Rattle.facet_json_core.proofs.Meaning.Objects.MapReadings.{map-not_begun, map-no_value, map-no_key, map-ends}
 use Rattle.facet_json_core.specs.Refusing.{without_memory}
 use Rattle.facet_json_core.proofs.Refusing.{comes-then, goes-there, tells-later}
-use Rattle.facet_json_meaning.proofs.Refusals.{keeps-there}
+use Rattle.facet_json_core.proofs.Meaning.Refusals.{keeps-there}
 use Rattle.facet_json_facet.proofs.maps.map_in.Goals as goal
 
 pub returns-in_err-begin_object-clause-unread : goal.returns-in_err-begin_object-clause-unread

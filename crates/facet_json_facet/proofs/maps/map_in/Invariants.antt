@@ -1,7 +1,7 @@
 use Rattle.std.proofs.Common.{◌≡◌, false, cond}
 use Rattle.std.specs.List.{All}
 use Rattle.facet_json_document.specs.Now.{ahead}
-use Rattle.facet_json_meaning.proofs.Objects.MapEntries.{IsUnderWay}
+use Rattle.facet_json_core.proofs.Meaning.Objects.MapEntries.{IsUnderWay}
 use Rattle.facet_json_facet.proofs.maps.map_in.Given as goal
 
 abbrev pub invariant-loop-map : goal.invariant-loop-map

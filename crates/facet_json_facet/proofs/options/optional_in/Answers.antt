@@ -1,11 +1,11 @@
 use Rattle.std.proofs.Common.{cond}
 use Rattle.std.proofs.lemmas.Result.{err_from_is_err_and}
 use Rattle.facet_format.specs.Views.{refusal_of}
-use Rattle.facet_json_meaning.specs.Optional.{optional}
-use Rattle.facet_json_meaning.proofs.Leaves.LeafReadings.{none-unread}
-use Rattle.facet_json_meaning.proofs.Nullable.OptionalReadings.{null-read, value-read, value-unread}
+use Rattle.facet_json_core.specs.Meaning.Optional.{optional}
+use Rattle.facet_json_core.proofs.Meaning.Leaves.LeafReadings.{none-unread}
+use Rattle.facet_json_core.proofs.Meaning.Nullable.OptionalReadings.{null-read, value-read, value-unread}
 use Rattle.facet_json_core.proofs.Refusing.{goes-there, tells-later}
-use Rattle.facet_json_meaning.proofs.OneValue.WithinValues.{value-stays}
+use Rattle.facet_json_core.proofs.Meaning.OneValue.WithinValues.{value-stays}
 use Rattle.facet_json_facet.proofs.options.optional_in.Goals as goal
 
 pub returns-in_err-take_null-clause-unread : goal.returns-in_err-take_null-clause-unread

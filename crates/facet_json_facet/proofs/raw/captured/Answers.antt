@@ -1,10 +1,10 @@
 use Rattle.std.proofs.Common.{refl}
 use Rattle.std.proofs.lemmas.Result.{err_from_is_err_and}
-use Rattle.facet_json_meaning.proofs.Walks.RawOnWalk.{answer-captures, answer-uncaptured}
+use Rattle.facet_json_core.proofs.Meaning.Walks.RawOnWalk.{answer-captures, answer-uncaptured}
 use Rattle.facet_format.specs.Cursor.{capture}
 use Rattle.facet_json_core.proofs.Refusing.{call-tells}
-use Rattle.facet_json_meaning.proofs.Refusals.{capture-frees}
-use Rattle.facet_json_meaning.proofs.OneValue.PartsPassed.{captured-value}
+use Rattle.facet_json_core.proofs.Meaning.Refusals.{capture-frees}
+use Rattle.facet_json_core.proofs.Meaning.OneValue.PartsPassed.{captured-value}
 use Rattle.facet_json_facet.proofs.raw.captured.Goals as goal
 
 pub returns-in_err-text-clause-unread : goal.returns-in_err-text-clause-unread

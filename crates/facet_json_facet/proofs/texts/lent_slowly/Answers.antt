@@ -1,11 +1,11 @@
 use Rattle.std.proofs.Common.{refl}
 use Rattle.std.proofs.lemmas.Result.{err_from_is_err_and, IfOk-weaker, IfErr-weaker}
 use Rattle.facet_format.specs.Views.{refusal_of}
-use Rattle.facet_json_meaning.specs.Borrowed.{borrowed_text}
-use Rattle.facet_json_meaning.proofs.Leaves.BorrowedLaws.{borrowed-read, borrowed-unread, borrowed-document, borrowed-strict}
-use Rattle.facet_json_meaning.proofs.Leaves.LeafReadings.{none-unread}
+use Rattle.facet_json_core.specs.Meaning.Borrowed.{borrowed_text}
+use Rattle.facet_json_core.proofs.Meaning.Leaves.BorrowedLaws.{borrowed-read, borrowed-unread, borrowed-document, borrowed-strict}
+use Rattle.facet_json_core.proofs.Meaning.Leaves.LeafReadings.{none-unread}
 use Rattle.facet_json_core.proofs.Refusing.{either-about, event-tells}
-use Rattle.facet_json_meaning.proofs.OneValue.KindsPassed.{lent-passed}
+use Rattle.facet_json_core.proofs.Meaning.OneValue.KindsPassed.{lent-passed}
 use Rattle.facet_json_facet.proofs.texts.lent_slowly.Goals as goal
 
 pub returns-in_err-next_of_value-clause-unread : goal.returns-in_err-next_of_value-clause-unread

@@ -1,5 +1,5 @@
 use Rattle.std.proofs.Common.{sym}
-use Rattle.facet_json_meaning.proofs.Leaves.WideNumbers.{signed_text-unparsed}
+use Rattle.facet_json_core.proofs.Meaning.Leaves.WideNumbers.{signed_text-unparsed}
 use Rattle.facet_json_facet.proofs.wide.signed_text.Goals as goal
 
 pub returns-in_default : goal.returns-in_default

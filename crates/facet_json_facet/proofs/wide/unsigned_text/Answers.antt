@@ -2,7 +2,7 @@ use Rattle.std.proofs.Common.{sym, ◌∙◌}
 use Rattle.std.specs.Str.{bytes_eq}
 use Rattle.std.proofs.lemmas.Bool.Decides.{not_from_Decides}
 use Rattle.std.proofs.lemmas.Slice.Eq.{bytes_eq-Decides}
-use Rattle.facet_json_meaning.proofs.Leaves.WideNumbers.{unsigned_text-parsed, unsigned_text-other, unsigned_text-unparsed}
+use Rattle.facet_json_core.proofs.Meaning.Leaves.WideNumbers.{unsigned_text-parsed, unsigned_text-other, unsigned_text-unparsed}
 use Rattle.facet_json_facet.proofs.wide.unsigned_text.Goals as goal
 
 pub returns-in_default : goal.returns-in_default

@@ -2,7 +2,7 @@ use Rattle.std.proofs.Common.{◌∙◌, ap, refl, rules}
 use Rattle.std.proofs.lemmas.List.{map-append}
 use Rattle.std.proofs.lemmas.Option.{MatchOption-at_none, MatchOption-at_some}
 use Rattle.std.proofs.lemmas.Result.{err_from_is_err_and}
-use Rattle.facet_json_meaning.proofs.Keeping.{keeps-then}
+use Rattle.facet_json_core.proofs.Meaning.Keeping.{keeps-then}
 use Rattle.facet_json_tree.specs.Views.{tree_view}
 use Rattle.facet_json_tree.proofs.TreeViews.{tree_view-List, tree_view-Pairs, trees_view-none, pairs_view-none}
 use Rattle.facet_json_tree.proofs.ReadingValues.{read-at, went-behind}
@@ -13,7 +13,7 @@ use Rattle.facet_json_tree.proofs.ReadingWithin.{within-same, within-at, item-wi
 use Rattle.facet_json_tree.proofs.BeyondEvents.{item-leveled, member-leveled, items-leveled, members-leveled}
 use Rattle.facet_json_tree.proofs.ValuesBegin.{begun-no_end, list-filled, object-filled}
 use Rattle.facet_json_core.specs.Refusing.{without_memory}
-use Rattle.facet_json_meaning.proofs.Refusals.{keeps-there}
+use Rattle.facet_json_core.proofs.Meaning.Refusals.{keeps-there}
 use Rattle.facet_json_core.proofs.Refusing.{tells-later}
 use Rattle.facet_json_tree.proofs.ValuesPassed.{item-inside, member-inside}
 use Rattle.facet_json_tree.proofs.reader.+read.Goals as goal

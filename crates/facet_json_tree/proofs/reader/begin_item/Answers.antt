@@ -2,7 +2,7 @@ use Rattle.std.proofs.Common.{ap}
 use Rattle.std.proofs.lemmas.Result.{err_from_is_err_and}
 use Rattle.facet_format.specs.Event.{sequence_end}
 use Rattle.facet_format.specs.Views.{event_kind_of}
-use Rattle.facet_json_meaning.proofs.Walks.NextOnWalk.{goes-keeps}
+use Rattle.facet_json_core.proofs.Meaning.Walks.NextOnWalk.{goes-keeps}
 use Rattle.facet_json_tree.proofs.BeyondEvents.{none-leveled}
 use Rattle.facet_json_tree.proofs.ItemsRead.{not_list_end, items-none}
 use Rattle.facet_json_tree.proofs.MovingOn.{moves-next}

@@ -5,9 +5,9 @@ use Rattle.facet_format.specs.Event.{struct_end}
 use Rattle.facet_json_tree.proofs.BeyondEvents.{none-leveled}
 use Rattle.facet_json_tree.proofs.MembersRead.{members-none}
 use Rattle.facet_json_tree.proofs.ReadingWithin.{within-same, lacks-within, none-members-within, no_key-within, member-within}
-use Rattle.facet_json_meaning.proofs.Keeping.{keeps-then}
-use Rattle.facet_json_meaning.proofs.OfTrees.TreeOnWalk.{moves_trans}
-use Rattle.facet_json_meaning.proofs.Walks.NextOnWalk.{goes-keeps}
+use Rattle.facet_json_core.proofs.Meaning.Keeping.{keeps-then}
+use Rattle.facet_json_core.proofs.Meaning.OfTrees.TreeOnWalk.{moves_trans}
+use Rattle.facet_json_core.proofs.Meaning.Walks.NextOnWalk.{goes-keeps}
 use Rattle.facet_json_tree.proofs.MovingOn.{moves-next}
 use Rattle.facet_json_core.proofs.Refusing.{goes-there, lacks-tells, tells-later}
 use Rattle.facet_json_tree.proofs.ValuesPassed.{end-passed, member-began}

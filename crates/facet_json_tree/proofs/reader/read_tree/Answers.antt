@@ -1,7 +1,7 @@
 use Rattle.std.proofs.Common.{Result, Ok, Err}
 use Rattle.std.specs.Prelude.{IfOk, IfErr}
 use Rattle.std.proofs.lemmas.Result.{IfOk-weaker, IfErr-weaker}
-use Rattle.facet_json_meaning.proofs.OfTrees.TreeOnWalk.{read_of_told, unread_of_told, document_of_told, strict_of_told}
+use Rattle.facet_json_core.proofs.Meaning.OfTrees.TreeOnWalk.{read_of_told, unread_of_told, document_of_told, strict_of_told}
 use Rattle.facet_json_tree.proofs.ReadingWithin.{unlimited-unread}
 use Rattle.facet_json_tree.proofs.reader.read_tree.Goals as goal
 

@@ -1,10 +1,10 @@
 use Rattle.std.proofs.Common.{rules}
 use Rattle.std.proofs.lemmas.Result.{IfOk-weaker, IfErr-weaker}
-use Rattle.facet_json_meaning.proofs.Keeping.{keeps-then}
+use Rattle.facet_json_core.proofs.Meaning.Keeping.{keeps-then}
 use Rattle.facet_json_tree.proofs.ReadingValues.{read-at}
 use Rattle.facet_json_tree.proofs.ReadingWithin.{within-at, within-same}
 use Rattle.facet_json_tree.proofs.BeyondEvents.{value-leveled}
-use Rattle.facet_json_meaning.proofs.Refusals.{keeps-there}
+use Rattle.facet_json_core.proofs.Meaning.Refusals.{keeps-there}
 use Rattle.facet_json_core.proofs.Refusing.{tells-later}
 use Rattle.facet_json_tree.proofs.ValuesPassed.{value-passed}
 use Rattle.facet_json_tree.proofs.reader.read_value.Goals as goal

@@ -1,5 +1,5 @@
 use Rattle.std.proofs.lemmas.Result.{err_from_is_err_and}
-use Rattle.facet_json_meaning.proofs.Refusals.{keeps-there}
+use Rattle.facet_json_core.proofs.Meaning.Refusals.{keeps-there}
 use Rattle.facet_json_core.proofs.Refusing.{goes-there, comes-then, tells-later}
 use Rattle.facet_json_tree.specs.Inner.Beyond.{no_value, not_over}
 use Rattle.facet_json_tree.proofs.strict.strict_document.Goals as goal

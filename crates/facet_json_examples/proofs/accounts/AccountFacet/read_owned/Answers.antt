@@ -1,7 +1,7 @@
 use Rattle.std.proofs.Common.{ℤ, map, subst, string_bytes, sym, rules, w32, SFits}
 use Rattle.std.proofs.lemmas.Int.{to_z-of_z}
 use Rattle.std.specs.Option.{option_map}
-use Rattle.facet_json_meaning.specs.Reading.{IsRead}
+use Rattle.facet_json_core.specs.Meaning.Reading.{IsRead}
 use Rattle.facet_json_examples.specs.Accounts.{account}
 use Rattle.facet_json_examples.proofs.accounts.AccountFacet.read_owned.Goals as goal
 

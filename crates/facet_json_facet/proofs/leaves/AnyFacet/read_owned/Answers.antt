@@ -1,7 +1,7 @@
 use Rattle.std.proofs.lemmas.Result.{IfOk-weaker, IfErr-weaker}
 use Rattle.facet_format.specs.Views.{refusal_of}
 use Rattle.facet_json_core.proofs.Refusing.{lacks-tells}
-use Rattle.facet_json_meaning.proofs.Leaves.LeafReadings.{leaf-read, leaf-refused, leaf-document, leaf-strict}
+use Rattle.facet_json_core.proofs.Meaning.Leaves.LeafReadings.{leaf-read, leaf-refused, leaf-document, leaf-strict}
 use Rattle.facet_json_facet.proofs.leaves.AnyFacet.read_owned.Goals as goal
 
 pub returns-in-Some-clause-read : goal.returns-in-Some-clause-read

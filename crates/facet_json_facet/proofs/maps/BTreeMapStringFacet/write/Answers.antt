@@ -2,7 +2,7 @@ use Rattle.std.proofs.Common.{refl}
 use Rattle.std.proofs.lemmas.Result.{err_from_is_err_and}
 use Rattle.facet_json_tree.proofs.CallsLeft.{left-refused, left-spent, last-answered, last-refused, last-spent}
 use Rattle.facet_json_tree.proofs.OfRust.{seen-of_rust}
-use Rattle.facet_json_meaning.proofs.Objects.MapEntries.{seen-map}
+use Rattle.facet_json_core.proofs.Meaning.Objects.MapEntries.{seen-map}
 use Rattle.facet_json_facet.proofs.ScalarsOfRust.{on-ok}
 use Rattle.facet_json_facet.proofs.MapCalls.{map-begun, key-left, entry-written, end-left, all-of_rust, all-have}
 use Rattle.facet_json_facet.proofs.maps.BTreeMapStringFacet.write.Goals as goal

@@ -1,6 +1,6 @@
 use Rattle.std.proofs.Common.{ap}
 use Rattle.std.specs.Option.{option_map}
-use Rattle.facet_json_meaning.specs.Optional.{optional_tree}
+use Rattle.facet_json_core.specs.Meaning.Optional.{optional_tree}
 use Rattle.facet_json_tree.proofs.ScalarCalls.{scalar-called}
 use Rattle.facet_json_facet.proofs.ScalarsOfRust.{on-ok, null-of_rust}
 use Rattle.facet_json_facet.proofs.options.OptionFacet.write.Goals as goal

@@ -1,7 +1,7 @@
 use Rattle.std.proofs.Common.{sym, ap, subst, rules}
 use Rattle.facet_format.specs.Event.{bytes_of, is_owned}
-use Rattle.facet_json_meaning.specs.Reading.{IsRead}
-use Rattle.facet_json_meaning.specs.Readings.{raw_of}
+use Rattle.facet_json_core.specs.Meaning.Reading.{IsRead}
+use Rattle.facet_json_core.specs.Meaning.Readings.{raw_of}
 use Rattle.facet_json_facet.proofs.raw.RawJsonFacet.read.Goals as goal
 
 pub returns-clause-read : goal.returns-clause-read

@@ -1,8 +1,8 @@
 use Rattle.std.proofs.Common.{sym, ap, subst}
 use Rattle.std.proofs.lemmas.Result.{IfErr-weaker, IfOk-weaker}
 use Rattle.facet_format.specs.Event.{bytes_of, is_owned}
-use Rattle.facet_json_meaning.specs.Reading.{IsRead}
-use Rattle.facet_json_meaning.specs.Readings.{raw_of}
+use Rattle.facet_json_core.specs.Meaning.Reading.{IsRead}
+use Rattle.facet_json_core.specs.Meaning.Readings.{raw_of}
 use Rattle.facet_json_core.specs.Refusing.{without_memory}
 use Rattle.facet_json_facet.proofs.raw.RawJsonFacet.read_owned.Goals as goal
 

@@ -5,7 +5,7 @@ use Rattle.facet_format.specs.Event.{bytes_of}
 use Rattle.facet_format.specs.HeldText.{text_of}
 use Rattle.facet_format.specs.Views.{refusal_of}
 use Rattle.facet_json_core.proofs.Refusing.{comes-then, goes-there, tells-later}
-use Rattle.facet_json_meaning.proofs.Refusals.{keeps-there}
+use Rattle.facet_json_core.proofs.Meaning.Refusals.{keeps-there}
 use Rattle.facet_json_facet.proofs.KeysFound.{search-begins, other-passed, key-found, none-found, no-key, no-value}
 use Rattle.facet_json_facet.proofs.steps.find.find_key.Goals as goal
 

@@ -1,8 +1,8 @@
 use Rattle.std.proofs.lemmas.Result.{err_from_is_err_and, IfErr-weaker, on_ok_weaker}
 use Rattle.facet_format.specs.Views.{refusal_of}
-use Rattle.facet_json_meaning.specs.ListSteps.{nodes_of}
-use Rattle.facet_json_meaning.proofs.Leaves.LeafReadings.{none-unread}
-use Rattle.facet_json_meaning.proofs.Sequences.ListSteps.{no_list-begins}
+use Rattle.facet_json_core.specs.Meaning.ListSteps.{nodes_of}
+use Rattle.facet_json_core.proofs.Meaning.Leaves.LeafReadings.{none-unread}
+use Rattle.facet_json_core.proofs.Meaning.Sequences.ListSteps.{no_list-begins}
 use Rattle.facet_json_core.proofs.Refusing.{event-tells, mismatch-about}
 use Rattle.facet_json_facet.proofs.steps.lists.begin_list.Goals as goal
 

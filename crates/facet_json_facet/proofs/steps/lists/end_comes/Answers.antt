@@ -1,11 +1,11 @@
 use Rattle.std.proofs.Common.{refl, sym, rules}
 use Rattle.std.proofs.lemmas.Result.{err_from_is_err_and}
 use Rattle.facet_format.specs.Views.{event_of}
-use Rattle.facet_json_meaning.proofs.Walks.PeekOnWalk.{peek-finds, peek-lacks, peek-no_end}
+use Rattle.facet_json_core.proofs.Meaning.Walks.PeekOnWalk.{peek-finds, peek-lacks, peek-no_end}
 use Rattle.facet_format.specs.Cursor.{peek}
 use Rattle.facet_json_core.proofs.Refusing.{call-tells}
-use Rattle.facet_json_meaning.specs.ListSteps.{ends_list}
-use Rattle.facet_json_meaning.proofs.OneValue.WithinValues.{peek-looks, peek-looks_past}
+use Rattle.facet_json_core.specs.Meaning.ListSteps.{ends_list}
+use Rattle.facet_json_core.proofs.Meaning.OneValue.WithinValues.{peek-looks, peek-looks_past}
 use Rattle.facet_json_facet.proofs.steps.lists.end_comes.Goals as goal
 
 pub returns-in_err-event-clause-lacks : goal.returns-in_err-event-clause-lacks

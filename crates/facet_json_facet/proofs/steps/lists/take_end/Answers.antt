@@ -1,7 +1,7 @@
 -- Another first byte begins no end.
 use Rattle.facet_format.specs.Event.{sequence_end}
-use Rattle.facet_json_meaning.specs.ListSteps.{ends_list}
-use Rattle.facet_json_meaning.proofs.Walks.LookAhead.{never-stays, end-alone}
+use Rattle.facet_json_core.specs.Meaning.ListSteps.{ends_list}
+use Rattle.facet_json_core.proofs.Meaning.Walks.LookAhead.{never-stays, end-alone}
 use Rattle.facet_json_facet.proofs.steps.lists.take_end.Goals as goal
 
 pub returns-then-comes_other-clause-stays : goal.returns-then-comes_other-clause-stays

@@ -1,10 +1,10 @@
 use Rattle.std.proofs.lemmas.Result.{err_from_is_err_and}
 use Rattle.facet_format.specs.Event.{array}
 use Rattle.facet_json_core.proofs.Refusing.{goes-there, tells-later}
-use Rattle.facet_json_meaning.specs.ListSteps.{ends_list}
-use Rattle.facet_json_meaning.proofs.OneValue.KindsPassed.{list-ended}
-use Rattle.facet_json_meaning.proofs.OneValue.WithinValues.{inside-stays, next-is}
-use Rattle.facet_json_meaning.proofs.Walks.LookAhead.{finds-lacks, finds-stays, finds-takes}
+use Rattle.facet_json_core.specs.Meaning.ListSteps.{ends_list}
+use Rattle.facet_json_core.proofs.Meaning.OneValue.KindsPassed.{list-ended}
+use Rattle.facet_json_core.proofs.Meaning.OneValue.WithinValues.{inside-stays, next-is}
+use Rattle.facet_json_core.proofs.Meaning.Walks.LookAhead.{finds-lacks, finds-stays, finds-takes}
 use Rattle.facet_json_facet.proofs.steps.lists.take_end_slowly.Goals as goal
 
 pub returns-in_err-_end-clause-lacks : goal.returns-in_err-_end-clause-lacks

@@ -1,10 +1,10 @@
 use Rattle.std.proofs.Common.{refl}
 use Rattle.std.proofs.lemmas.Result.{err_from_is_err_and}
 use Rattle.facet_format.specs.Views.{refusal_of}
-use Rattle.facet_json_meaning.proofs.Walks.NextOnWalk.{answer-walks, answer-lacks, answer-no_end}
+use Rattle.facet_json_core.proofs.Meaning.Walks.NextOnWalk.{answer-walks, answer-lacks, answer-no_end}
 use Rattle.facet_format.specs.Cursor.{next}
 use Rattle.facet_json_core.proofs.Refusing.{call-tells, over-tells}
-use Rattle.facet_json_meaning.proofs.OneValue.EventsPassed.{next-passes_by_kind}
+use Rattle.facet_json_core.proofs.Meaning.OneValue.EventsPassed.{next-passes_by_kind}
 use Rattle.facet_json_facet.proofs.steps.next.next_of_value.Goals as goal
 
 pub returns-in_err-event-clause-lacks : goal.returns-in_err-event-clause-lacks

@@ -4,10 +4,10 @@ use Rattle.facet_format.specs.Complaint.{Refusal}
 use Rattle.facet_format.specs.Event.{Event}
 use Rattle.facet_format.specs.Views.{refusal_of}
 use Rattle.facet_json_document.specs.Now.{Now}
-use Rattle.facet_json_meaning.specs.Optional.{is_null_event}
-use Rattle.facet_json_meaning.specs.Passing.{WalksPast, LacksAlone, LacksNull}
+use Rattle.facet_json_core.specs.Meaning.Optional.{is_null_event}
+use Rattle.facet_json_core.specs.Meaning.Passing.{WalksPast, LacksAlone, LacksNull}
 use Rattle.facet_json_core.proofs.Refusing.{event-tells, mismatch-about}
-use Rattle.facet_json_meaning.proofs.OneValue.KindsPassed.{null-passed}
+use Rattle.facet_json_core.proofs.Meaning.OneValue.KindsPassed.{null-passed}
 use Rattle.facet_json_facet.proofs.steps.next.pass_null.Goals as goal
 
 -- Where memory alone was lacking, it was before null.

@@ -1,7 +1,7 @@
 -- Another first byte begins no null.
 use Rattle.facet_format.specs.Event.{scalar, null}
-use Rattle.facet_json_meaning.specs.Optional.{is_null_event}
-use Rattle.facet_json_meaning.proofs.Walks.LookAhead.{never-stays, null-alone}
+use Rattle.facet_json_core.specs.Meaning.Optional.{is_null_event}
+use Rattle.facet_json_core.proofs.Meaning.Walks.LookAhead.{never-stays, null-alone}
 use Rattle.facet_json_facet.proofs.steps.next.take_null.Goals as goal
 
 pub returns-then-comes_other-clause-stays : goal.returns-then-comes_other-clause-stays

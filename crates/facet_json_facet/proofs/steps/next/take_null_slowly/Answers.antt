@@ -1,10 +1,10 @@
 use Rattle.std.proofs.Common.{arith}
 use Rattle.std.proofs.lemmas.Result.{err_from_is_err_and}
 use Rattle.facet_json_core.proofs.Refusing.{goes-there, tells-later}
-use Rattle.facet_json_meaning.specs.Optional.{is_null_event}
-use Rattle.facet_json_meaning.proofs.OneValue.KindsPassed.{null-passed}
-use Rattle.facet_json_meaning.proofs.OneValue.WithinValues.{value-stays, next-is}
-use Rattle.facet_json_meaning.proofs.Walks.LookAhead.{finds-lacks, finds-stays, finds-takes}
+use Rattle.facet_json_core.specs.Meaning.Optional.{is_null_event}
+use Rattle.facet_json_core.proofs.Meaning.OneValue.KindsPassed.{null-passed}
+use Rattle.facet_json_core.proofs.Meaning.OneValue.WithinValues.{value-stays, next-is}
+use Rattle.facet_json_core.proofs.Meaning.Walks.LookAhead.{finds-lacks, finds-stays, finds-takes}
 use Rattle.facet_json_facet.proofs.steps.next.take_null_slowly.Goals as goal
 
 pub returns-in_err-_null-clause-lacks : goal.returns-in_err-_null-clause-lacks

@@ -1,8 +1,8 @@
 use Rattle.std.proofs.lemmas.Result.{IfErr-weaker, err_from_is_err_and, on_ok_weaker}
 use Rattle.facet_format.specs.Views.{refusal_of}
-use Rattle.facet_json_meaning.specs.Objects.{members_of}
-use Rattle.facet_json_meaning.proofs.Leaves.LeafReadings.{none-unread}
-use Rattle.facet_json_meaning.proofs.Objects.MembersOnWalk.{object-unread}
+use Rattle.facet_json_core.specs.Meaning.Objects.{members_of}
+use Rattle.facet_json_core.proofs.Meaning.Leaves.LeafReadings.{none-unread}
+use Rattle.facet_json_core.proofs.Meaning.Objects.MembersOnWalk.{object-unread}
 use Rattle.facet_json_core.proofs.Refusing.{event-tells, mismatch-about}
 use Rattle.facet_json_facet.proofs.steps.objects.begin_object.Goals as goal
 

@@ -1,10 +1,10 @@
 use Rattle.std.proofs.Common.{refl, rules}
 use Rattle.std.proofs.lemmas.Result.{err_from_is_err_and}
-use Rattle.facet_json_meaning.proofs.Walks.SkipOnWalk.{answer-skips, answer-unskipped}
+use Rattle.facet_json_core.proofs.Meaning.Walks.SkipOnWalk.{answer-skips, answer-unskipped}
 use Rattle.facet_format.specs.Cursor.{skip}
 use Rattle.facet_json_core.proofs.Refusing.{call-tells}
-use Rattle.facet_json_meaning.proofs.Refusals.{skip-frees}
-use Rattle.facet_json_meaning.proofs.OneValue.PartsPassed.{skipped-value}
+use Rattle.facet_json_core.proofs.Meaning.Refusals.{skip-frees}
+use Rattle.facet_json_core.proofs.Meaning.OneValue.PartsPassed.{skipped-value}
 use Rattle.facet_json_facet.proofs.steps.values.pass_value.Goals as goal
 
 pub returns-in_err-skip_value-clause-unread : goal.returns-in_err-skip_value-clause-unread

@@ -1,5 +1,5 @@
 use Rattle.std.proofs.Common.{refl}
-use Rattle.facet_json_meaning.proofs.Leaves.BorrowedLaws.{borrowed-read, borrowed-document, borrowed-strict}
+use Rattle.facet_json_core.proofs.Meaning.Leaves.BorrowedLaws.{borrowed-read, borrowed-document, borrowed-strict}
 use Rattle.facet_json_facet.proofs.texts.RefStrFacet.read.Goals as goal
 
 pub returns-in-Some-clause-read : goal.returns-in-Some-clause-read

@@ -2,7 +2,7 @@ use Rattle.std.proofs.Common.{◌<◌, ◌≤◌, arith}
 use Rattle.std.proofs.lemmas.Result.{err_from_is_err_and}
 use Rattle.facet_format.specs.Views.{refusal_of}
 use Rattle.facet_json_core.specs.Refusing.{of_a_type}
-use Rattle.facet_json_meaning.proofs.Refusals.{keeps-there}
+use Rattle.facet_json_core.proofs.Meaning.Refusals.{keeps-there}
 use Rattle.facet_json_core.proofs.Refusing.{last-passed}
 use Rattle.facet_json_facet_tests.proofs.PercentLaws.{percent-read, percent-refused, percent-unread}
 use Rattle.facet_json_facet_tests.proofs.own.PercentFacet.read_owned.Goals as goal

@@ -1,5 +1,0 @@
-use Rattle.facet_json_meaning.proofs.OfTrees.DocumentTrees as laws
-use Rattle.facet_json_meaning.proofs.laws.document_is_readable.Goals as goal
-
-pub returns : goal.returns
-returns c = laws.document_is_readable
