@@ -1,4 +1,5 @@
 pub mod ComesBack
+pub mod EventsFollowed
 pub mod FieldCells
 pub mod FieldLaws
 pub mod FieldSteps

@@ -1,4 +1,5 @@
 -- Definitions that serve private contracts alone.
+pub mod Followed
 pub mod LinePieces
 pub mod LinePlaces
 pub mod Pointing

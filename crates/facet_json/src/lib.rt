@@ -6,6 +6,7 @@
 //! with its place in the source; a writer's or a reader's own failure alone stays a `WriteError` or a `LineError`.
 #![tactic(auto)]
 
+mod checking;
 mod documents;
 mod fields;
 mod find_error;
@@ -24,6 +25,7 @@ mod strict;
 mod writers;
 mod writing;
 
+pub use checking::{check, check_jsonc, check_strict};
 pub use documents::Documents;
 pub use facet_format::{
     ContainerKind, Decimal, DeserializeError, DeserializeErrorKind, FieldKey, FieldLocationHint,

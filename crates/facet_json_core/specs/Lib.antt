@@ -1,6 +1,6 @@
 pub use Rattle.facet_json_document.specs.Node
 pub use Rattle.facet_json_document.specs.Tree
-pub use Rattle.facet_json_document.specs.Meaning
+pub use Rattle.facet_json_document.specs.Meaning as DocumentMeaning
 pub use Rattle.facet_json_document.specs.Document
 pub use Rattle.facet_json_document.specs.Order
 pub use Rattle.facet_json_document.specs.Language

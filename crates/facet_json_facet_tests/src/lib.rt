@@ -9,6 +9,8 @@ mod allocations;
 #[cfg(test)]
 mod bounds;
 #[cfg(test)]
+mod checking;
+#[cfg(test)]
 mod containers;
 #[cfg(test)]
 mod cuts;

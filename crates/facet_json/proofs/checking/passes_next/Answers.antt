@@ -1,0 +1,16 @@
+use Rattle.std.proofs.Common.{refl}
+use Rattle.std.proofs.lemmas.Result.{err_from_is_err_and}
+use Rattle.facet_format.specs.Cursor.{next}
+use Rattle.facet_json_core.proofs.Refusing.{call-tells}
+use Rattle.facet_json.proofs.EventsFollowed.{none-next}
+use Rattle.facet_json.proofs.checking.passes_next.Goals as goal
+
+pub returns-in_err-next_event-clause-refused : goal.returns-in_err-next_event-clause-refused
+returns-in_err-next_event-clause-refused c free =
+    let p = err_from_is_err_and c.from_residual.result c.from_residual.ensures.1 in
+    rw (p.1, p.2) (none-next _ free refl c.in_err-next_event.ensures.moves)
+
+pub returns-in_err-next_event-clause-tells : goal.returns-in_err-next_event-clause-tells
+returns-in_err-next_event-clause-tells c =
+    let p = err_from_is_err_and c.from_residual.result c.from_residual.ensures.1 in
+    rw (p.1, p.2) (call-tells _ _ next _ _ c.in_err-next_event.ensures.moves refl)
