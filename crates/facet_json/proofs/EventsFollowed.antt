@@ -37,9 +37,10 @@ leads-nowhere start = ([], refl)
 pub leads-past : {start : Future} {given : Event} {old new : Now} → Leads start (future_of old) → PassesNext old given new →
     Leads start (future_of new)
 leads-past {given = given} {old = old} {new = new} led gave =
-    let p : Passed = record { event = given; last = gave.last } in
-    (led.0 ++ p ∷ [],
-     led.1 ∙ ap (events_before led.0) gave.comes ∙ sym (events_before-append led.0 (p ∷ []) (future_of new)))
+    let p : Passed = record { event = given; last = gave.last } in (
+      led.0 ++ p ∷ [],
+      led.1 ∙ ap (events_before led.0) gave.comes ∙ sym (events_before-append led.0 (p ∷ []) (future_of new)),
+    )
 
 -- Where all is over, nothing is refused.
 over-step : (old : Now) (d : Cursor Reader) (r : Refusal) (answer : Answer) → old.cursor.refusal ≡ None → future_of old ≡ finished →
