@@ -8,14 +8,14 @@ pub returns-in_err-passes_next-clause-refused : goal.returns-in_err-passes_next-
 returns-in_err-passes_next-clause-refused c free =
     let i = c.loop.invariant in
     let p = err_from_is_err_and c.from_residual.result c.from_residual.ensures.1 in
-    rw (p.1, p.2) (refused-past _ _ i.same i.led (c.in_err-passes_next.ensures.refused (i.free free)))
+    rw (p.1, p.2) (refused-past _ _ i.same i.led (c.in_err-passes_next.ensures.refused.0 (i.free free)))
 
 pub returns-in_err-passes_next-clause-tells : goal.returns-in_err-passes_next-clause-tells
 returns-in_err-passes_next-clause-tells c =
     let i = c.loop.invariant in
     let e = c.in_err-passes_next.ensures in
     let p = err_from_is_err_and c.from_residual.result c.from_residual.ensures.1 in
-    rw (p.1, p.2) (comes-then i.came (goes-there e.onward), tells-later i.came e.tells)
+    rw (p.1, p.2) (comes-then i.came (goes-there e.onward), tells-later i.came e.refused.1)
 
 pub loop-preserved : goal.loop-preserved
 loop-preserved c =

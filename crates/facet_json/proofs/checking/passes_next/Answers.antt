@@ -6,11 +6,7 @@ use Rattle.facet_json.proofs.EventsFollowed.{none-next}
 use Rattle.facet_json.proofs.checking.passes_next.Goals as goal
 
 pub returns-in_err-next_event-clause-refused : goal.returns-in_err-next_event-clause-refused
-returns-in_err-next_event-clause-refused c free =
+returns-in_err-next_event-clause-refused c =
+    let moves = c.in_err-next_event.ensures.moves in
     let p = err_from_is_err_and c.from_residual.result c.from_residual.ensures.1 in
-    rw (p.1, p.2) (none-next _ free refl c.in_err-next_event.ensures.moves)
-
-pub returns-in_err-next_event-clause-tells : goal.returns-in_err-next_event-clause-tells
-returns-in_err-next_event-clause-tells c =
-    let p = err_from_is_err_and c.from_residual.result c.from_residual.ensures.1 in
-    rw (p.1, p.2) (call-tells _ _ next _ _ c.in_err-next_event.ensures.moves refl)
+    rw (p.1, p.2) (λ free. none-next _ free refl moves, call-tells _ _ next _ _ moves refl)
