@@ -10,15 +10,19 @@ mod documents;
 mod fields;
 mod find_error;
 pub mod float;
+mod formatting;
 pub mod laws;
+mod layout;
 mod lent;
 mod line_pieces;
 mod lines;
 pub mod made;
+mod pieces;
 mod pointer;
 mod prefix;
 mod reading;
 pub mod scanner;
+mod spacing;
 pub mod steps;
 mod strict;
 mod writers;
@@ -46,6 +50,7 @@ pub use facet_json_tree::{
     tree_from_slice_within_strict, write_tree,
 };
 pub use fields::{Done, Fields, Maybe, Need, read_fields};
+pub use formatting::{FormatOptions, format_text, format_text_strict};
 pub use lent::{LentFields, write_fields};
 pub use lines::{Line, LineError, Lines};
 pub use prefix::{from_slice_prefix, from_str_prefix};
@@ -53,6 +58,7 @@ pub use reading::{
     from_slice, from_slice_borrowed, from_slice_borrowed_jsonc, from_slice_jsonc, from_str,
     from_str_borrowed, from_str_borrowed_jsonc, from_str_jsonc,
 };
+pub use spacing::Indent;
 pub use strict::{from_slice_strict, from_str_strict};
 pub use writers::{to_writer_std, to_writer_std_pretty, to_writer_std_with_options};
 pub use writing::{
