@@ -1,4 +1,6 @@
+pub mod AllTokens
 pub mod ComesBack
+pub mod EventsUp
 pub mod FieldCells
 pub mod FieldLaws
 pub mod FieldSteps
@@ -9,6 +11,7 @@ pub mod LinePiecesRead
 pub mod LinesRead
 pub mod MemberCalls
 pub mod NodesPointed
+pub mod OneDocuments
 pub mod PieceComments
 pub mod PieceShapes
 pub mod PieceSteps
@@ -20,4 +23,5 @@ pub mod RunBegins
 pub mod Spaced
 pub mod StrictRootComes
 pub mod StructLaws
+pub mod TokensBehind
 pub mod TypeLaws

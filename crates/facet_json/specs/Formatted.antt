@@ -1,5 +1,5 @@
 -- Which texts are formatted, and how the others are refused.
-use Rattle.std.specs.Prelude.{◌≡◌, ◌⊎◌, ℕ, List}
+use Rattle.std.specs.Prelude.{◌≡◌, ◌≢◌, ◌⊎◌, ℕ, List}
 use Rattle.facet_format.specs.Complaint.{Refusal}
 use Rattle.facet_format.specs.Event.{Passed}
 use Rattle.facet_json_token.specs.Gap.{Mode, plain}
@@ -27,7 +27,7 @@ HasOneDocument text mode = (root : Node) × (tree : Tree) × IsOneDocument text 
 pub data RefusesOne (text : List ℕ) (mode : Mode) (refusal : Refusal) : Type 0 where
   no_document : Refuses text mode refusal → RefusesOne text mode refusal
   more_follows : (root : Node) (tree : Tree) (rest : Tokens) → Reads text (tokens text mode) root tree rest →
-      IsStuck text after_root rest refusal → RefusesOne text mode refusal
+      rest ≢ ended → IsStuck text after_root rest refusal → RefusesOne text mode refusal
 
 -- Memory ran out, or the text is not one document, and is refused so.
 abbrev pub LacksOrRefusesOne : List ℕ → Mode → Refusal → Type 0
