@@ -270,7 +270,8 @@ comment-came rest text n e h same =
     sym (take-append-drop (suc n) all) ∙ ap (λ l. l ++ drop (suc n) all) t.whole_is ∙ append_assoc text t.spaces (drop (suc n) all) in
     let left : drop (length text) all ≡ t.spaces ++ drop (suc n) all = ap (drop (length text)) split ∙ drop_at text _ (length text) refl in
     let behind : pieces jsonc (drop (length text) all) ≡ pieces jsonc (drop (suc n) all) =
-    ap (pieces jsonc) left ∙ pieces-spaces jsonc t.spaces (drop (suc n) all) t.blank in
-    (split ∙ ap (λ l. text ++ l) (sym left),
-     pieces-gap jsonc slash n rest e ∙ ap (λ l. with_comment l (pieces jsonc (drop n rest))) same
-         ∙ ap (with_comment text) (sym behind))
+    ap (pieces jsonc) left ∙ pieces-spaces jsonc t.spaces (drop (suc n) all) t.blank in (
+      split ∙ ap (λ l. text ++ l) (sym left),
+      pieces-gap jsonc slash n rest e ∙ ap (λ l. with_comment l (pieces jsonc (drop n rest))) same
+          ∙ ap (with_comment text) (sym behind),
+    )

@@ -101,10 +101,11 @@ module _ (text : List ℕ) (at : ℕ) (first : slice_get text at ≡ Some slash)
       by None is f = cc
       by (Some m) is f =
           let there : end ≡ (at + 2) + m = cc in
-          let size : suc (suc m) ≡ end - at = omega (arith, there) in
-          (omega (arith, there),
-           subst (λ n. IsPiece jsonc (drop at text) sort.Block n) size
-               (subst (λ l. IsPiece jsonc l sort.Block (suc (suc m))) (sym (after-mark text at star first second)) (block-piece (drop (at + 2) text) m is)))
+          let size : suc (suc m) ≡ end - at = omega (arith, there) in (
+            omega (arith, there),
+            subst (λ n. IsPiece jsonc (drop at text) sort.Block n) size
+                (subst (λ l. IsPiece jsonc l sort.Block (suc (suc m))) (sym (after-mark text at star first second)) (block-piece (drop (at + 2) text) m is)),
+          )
 
   -- A line comment whose text ends there.
   line_by : slice_get text (at + 1) ≡ Some slash → (end stops : ℕ) → IsPiece jsonc (drop at text) sort.Line (length (trimmed (take (stops - at) (drop at text)))) →

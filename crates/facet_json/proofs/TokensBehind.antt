@@ -24,7 +24,11 @@ use Rattle.facet_json_document.specs.UnreadLaws.{RefusalWithin}
 use Rattle.facet_json_document.proofs.Spans.EventsWithin.{refused-within}
 use Rattle.facet_json_document.proofs.WalkComes.{reads-turn}
 use Rattle.facet_json_reader.specs.declared.reader.Held.{Held}
-use Rattle.facet_json_reader.specs.Views.{IsRefusedBefore, without_memory, at_a_stop, GivesHeld}
+use Rattle.facet_json_reader.specs.declared.reader.Reader.{Reader as RustReader}
+use Rattle.facet_json_reader.specs.declared.refusal.Refused.{Refused}
+use Rattle.facet_json_reader.specs.PlaceViews.{refused_of}
+use Rattle.facet_json_reader.specs.Views.{stage_of, comes_at, coming, IsRefusedBefore, without_memory, at_a_stop, IsUpcoming}
+use Rattle.facet_format.specs.Views.{span_of}
 use Rattle.facet_json.specs.Inner.Checking.{IsStuckBehind}
 
 module _ (text : List ℕ) (mode : Mode) (at to : ℕ) (is : to ≡ past_gap text at mode) where
@@ -73,23 +77,28 @@ module _ (text : List ℕ) (mode : Mode) (last : Span) (inside : stop last ≤ l
   comes : future_at text (lenient mode) reader ≡ stuck after_root behind
   comes = behind-stuck text behind
 
-  refused_by : (f : Future) (r : Refusal) → IsRefusedBefore text last f r → f ≡ stuck after_root behind → IsStuck text after_root behind r
-  refused_by _ _ (without_memory p future takes) e = cc
-  refused_by _ r (at_a_stop place rest _ so) e =
+  before_by : (f : Future) (before : Span) (r : Refusal) → IsRefusedBefore text before f r → f ≡ stuck after_root behind → IsStuck text after_root behind r
+  before_by _ before _ (without_memory p future takes) e = cc
+  before_by _ before r (at_a_stop place rest _ so) e =
       let here : place ≡ after_root = cc in
       let left : rest ≡ behind = cc in
       rw (← here, ← left) so
 
-  -- They are refused so.
-  pub stuck-behind : (r : Refusal) → (behind ≡ ended → ⊥) → IsRefusedBefore text last (future_at text (lenient mode) reader) r → IsStuckBehind text behind r
-  stuck-behind r some was = record { some = some; so = refused_by _ r was comes }
-
   pub stuck-within : (r : Refusal) → IsStuck text after_root behind r → RefusalWithin text r
   stuck-within r so = refused-within text (lenient mode) reader r inside (subst (λ f. RefusedAt text f r) (sym comes) so)
 
-  -- No event comes there, and not the end.
-  pub no-end : future_at text (lenient mode) reader ≡ finished → ⊥
-  no-end e = let bad : stuck after_root behind ≡ finished = sym comes ∙ e in cc
+  -- ---- what a reader there answers
 
-  pub no-event : (h : Held) → GivesHeld (future_at text (lenient mode) reader) h → ⊥
-  no-event h (rest, e) = let bad = sym comes ∙ e in cc
+  module _ (r : RustReader) (no_containers : r.contexts ≡ []) (at_root : stage_of r.stage ≡ within after_root) (there : span_of r.last ≡ last) where
+    coming-stuck : coming text (lenient mode) r ≡ stuck after_root behind
+    coming-stuck =
+        ap (λ s. comes_at text (lenient mode) s (stage_of r.stage) (stop (span_of r.last))) no_containers
+        ∙ ap (λ s. comes_at text (lenient mode) [] s (stop (span_of r.last))) at_root
+        ∙ ap (λ s. comes_at text (lenient mode) [] (within after_root) (stop s)) there ∙ comes
+
+    pub upcoming-refuses : (o : Option Held) → IsUpcoming text (lenient mode) r (Ok o) → ⊥
+    upcoming-refuses None e = let bad : stuck after_root behind ≡ finished = sym coming-stuck ∙ e in cc
+    upcoming-refuses (Some h) (rest, e) = let bad = sym coming-stuck ∙ e in cc
+
+    pub upcoming-refused : (e : Refused) → IsUpcoming text (lenient mode) r (Err e) → (behind ≡ ended → ⊥) → IsStuckBehind text behind (refused_of e)
+    upcoming-refused e was some = record { some = some; so = before_by _ (span_of r.last) (refused_of e) was coming-stuck }

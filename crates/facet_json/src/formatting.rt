@@ -42,7 +42,9 @@ pub struct FormatOptions {
 
 impl FormatOptions {
     /// Two spaces for each container.
-    pub fn new() -> FormatOptions {
+    pub fn new() -> FormatOptions
+        ensures { result ≡ record { indent = Indent.Spaces 2 } }
+    {
         FormatOptions {
             indent: Indent::Spaces(2),
         }
@@ -51,7 +53,9 @@ impl FormatOptions {
 
 impl Default for FormatOptions {
     /// Two spaces for each container.
-    fn default() -> FormatOptions {
+    fn default() -> FormatOptions
+        ensures { result ≡ record { indent = Indent.Spaces 2 } }
+    {
         FormatOptions::new()
     }
 }

@@ -123,12 +123,7 @@ pub(crate) fn push_space(
 }
 
 /// Appends line feeds and an indent.
-fn push_line(
-    out: &mut Sink,
-    feeds: &[u8],
-    indent: Indent,
-    depth: usize,
-) -> Result<(), AllocError>
+fn push_line(out: &mut Sink, feeds: &[u8], indent: Indent, depth: usize) -> Result<(), AllocError>
     ensures { OnOk result (IsIndented (out.old ++ feeds.now) out.new) }
 {
     out.extend_from_slice(feeds)?;

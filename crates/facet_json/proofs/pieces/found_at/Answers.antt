@@ -10,7 +10,8 @@ use Rattle.facet_json.proofs.pieces.found_at.Goals as goal
 pub returns-then-is_blank : goal.returns-then-is_blank
 returns-then-is_blank c =
     let mode = mode_of c.args.mode in
-    let text = c.args.text.now in
-    (slice_get_within text c.args.at c.args.first c.requires,
-     ap (pieces mode) (drop-at_byte text c.args.at c.args.first c.requires)
-         ∙ pieces-blank mode c.args.first (drop (c.args.at + 1) text) (sym c.is_blank.ensures ∙ c.if-is_blank.true))
+    let text = c.args.text.now in (
+      slice_get_within text c.args.at c.args.first c.requires,
+      ap (pieces mode) (drop-at_byte text c.args.at c.args.first c.requires)
+          ∙ pieces-blank mode c.args.first (drop (c.args.at + 1) text) (sym c.is_blank.ensures ∙ c.if-is_blank.true),
+    )
