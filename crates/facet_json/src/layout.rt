@@ -84,7 +84,7 @@ impl Layout<'_> {
         ensures laid { IfOk result (λ p. IsLaidOut (mode_of self.now.mode) self.now.text.now p.at p.last out.new) }
     {
         if self.trails(sort, end) {
-            return Ok(progress.past(progress.last, end));
+            return Ok(progress.past_comma(end));
         }
         let space = self.space_before(progress, sort, end);
         push_space(out, space, self.indent, sort.depth_at(progress.depth))?;
@@ -123,16 +123,28 @@ impl Progress {
         }
     }
 
-    /// After a piece that ends there, where this one was written last.
-    fn past(self, last: Sort, end: usize) -> Progress
+    /// After a piece that is written, and ends there.
+    fn past(self, sort: Sort, end: usize) -> Progress
         ensures at { result.at ≡ end }
-        ensures last { result.last ≡ last }
+        ensures last { result.last ≡ sort }
     {
         Progress {
             at: end,
-            last,
+            last: sort,
             breaks: Breaks::None,
-            depth: last.depth_after(self.depth),
+            depth: sort.depth_after(self.depth),
+        }
+    }
+
+    /// After a comma that is not written, and ends there.
+    fn past_comma(self, end: usize) -> Progress
+        ensures at { result.at ≡ end }
+        ensures last { result.last ≡ self.last }
+    {
+        Progress {
+            at: end,
+            breaks: Breaks::None,
+            ..self
         }
     }
 }
