@@ -1,5 +1,4 @@
 pub mod ComesBack
-pub mod EventsFollowed
 pub mod FieldCells
 pub mod FieldLaws
 pub mod FieldSteps

@@ -1,5 +1,4 @@
 -- Definitions that serve private contracts alone.
-pub mod Followed
 pub mod LinePieces
 pub mod LinePlaces
 pub mod Pointing

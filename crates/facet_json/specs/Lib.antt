@@ -120,11 +120,13 @@ pub use Rattle.facet_json_scan.specs.Laws as ScanLaws
 pub use Rattle.facet_json_document.specs.Laws as DocumentLaws
 pub mod Documents
 pub mod Fields
+pub use Rattle.facet_json_layout.specs.Formatted
 pub mod Inner
 pub mod Inputs
 pub mod LineViews
 pub mod Lines
 pub mod Made
+pub use Rattle.facet_json_layout.specs.Pieces
 pub mod Pointed
 pub mod PointedViews
 pub mod Shapes

@@ -6,7 +6,6 @@
 //! with its place in the source; a writer's or a reader's own failure alone stays a `WriteError` or a `LineError`.
 #![tactic(auto)]
 
-mod checking;
 mod documents;
 mod fields;
 mod find_error;
@@ -25,7 +24,6 @@ mod strict;
 mod writers;
 mod writing;
 
-pub use checking::{check, check_jsonc, check_strict};
 pub use documents::Documents;
 pub use facet_format::{
     ContainerKind, Decimal, DeserializeError, DeserializeErrorKind, FieldKey, FieldLocationHint,
@@ -37,6 +35,9 @@ pub use facet_json_core::{
     TranscodeError, drive, pass_end, position_at, transcode,
 };
 pub use facet_json_facet::{Facet, ReadResult};
+pub use facet_json_layout::{
+    FormatOptions, Indent, check, check_jsonc, check_strict, format_text, format_text_strict,
+};
 pub use facet_json_parser::JsonParser;
 pub use facet_json_reader::{MaterializedToken, TokenKind};
 pub use facet_json_serializer::{

@@ -1,0 +1,11 @@
+pub mod AllTokens
+pub mod EventsUp
+pub mod LaidOut
+pub mod OneDocuments
+pub mod PieceComments
+pub mod PieceShapes
+pub mod PieceSteps
+pub mod PiecesCut
+pub mod PiecesFound
+pub mod Spaced
+pub mod TokensBehind

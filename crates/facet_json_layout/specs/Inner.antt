@@ -1,0 +1,3 @@
+-- Definitions that serve private contracts alone.
+pub mod Checking
+pub mod Layout

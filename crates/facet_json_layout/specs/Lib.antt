@@ -1,0 +1,3 @@
+pub mod Formatted
+pub mod Inner
+pub mod Pieces

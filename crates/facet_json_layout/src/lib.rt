@@ -1,0 +1,12 @@
+//! Whether an input has a document, of which nothing is kept, and a text laid out anew with its comments.
+#![tactic(auto)]
+
+mod checking;
+mod formatting;
+mod layout;
+mod pieces;
+mod spacing;
+
+pub use checking::{check, check_jsonc, check_strict};
+pub use formatting::{FormatOptions, format_text, format_text_strict};
+pub use spacing::Indent;
