@@ -1,6 +1,6 @@
 //! The kinds of this library's own: what its reader's and its writer's refusals become, and out of memory.
 
-use crate::samples::{Row, Sample, expect_told};
+use crate::error_samples::{Row, Sample, expect_told};
 use facet_format::DeserializeErrorKind;
 
 /// Refusals of readers.

@@ -1,6 +1,6 @@
 //! Calls in any order, compact and indented.
 
-use crate::samples::is_displayed;
+use crate::error_samples::is_displayed;
 use crate::written::{Call, Layout, Row, expect_written, writes_decimal, writes_scalar};
 use facet_format::{FormatSerializer, ScalarValue};
 use facet_json_serializer::{JsonSerializeError, JsonSerializer, SerializeOptions};

@@ -1,6 +1,6 @@
 //! Reports of each kind of refusal, at each sort of place.
 
-use crate::samples::is_reported;
+use crate::error_samples::is_reported;
 use facet_format::{DeserializeErrorKind, Span};
 use facet_json_core::{JsonError, JsonErrorKind};
 use facet_json_serializer::JsonSerializeError;

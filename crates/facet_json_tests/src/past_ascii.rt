@@ -1,6 +1,6 @@
 //! Kinds whose texts hold characters past ASCII.
 
-use crate::samples::{Row, Sample, Scan, expect_told, is_reported, made};
+use crate::error_samples::{Row, Sample, Scan, expect_told, is_reported, made};
 use facet_format::Span;
 use facet_json_core::{JsonError, JsonErrorKind};
 use std::alloc::Global;

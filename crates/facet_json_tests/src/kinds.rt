@@ -1,6 +1,6 @@
 //! Kinds: their name, their message and their label.
 
-use crate::samples::{Row, Sample, Scan, expect_told};
+use crate::error_samples::{Row, Sample, Scan, expect_told};
 
 static ROWS: [Row; 21] = [
     // Scans.

@@ -2,7 +2,7 @@
 //! of their requests for memory, which is refused, and they have to pass in every such run. Each call is made twice, its set-up too: as
 //! one request is refused in a run, memory runs out in one of the two at most, and the other gives the whole answer.
 
-use crate::samples::{Sample, Scan, is_labelled, made};
+use crate::error_samples::{Sample, Scan, is_labelled, made};
 use facet_format::{DeserializeErrorKind, Span};
 use facet_json_core::{JsonError, JsonErrorKind};
 use std::alloc::{AllocError, Global};

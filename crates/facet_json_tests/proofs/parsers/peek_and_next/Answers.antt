@@ -3,7 +3,7 @@ use Rattle.std.proofs.lemmas.Option.{same_Some}
 use Rattle.facet_format.specs.Event.{Event}
 use Rattle.facet_format.specs.Cursor.{Answer, event, batch, saved, restored, spans, skipped, raw, on_walk}
 use Rattle.facet_format.proofs.CursorSteps.{peek-next}
-use Rattle.facet_json_read_tests.proofs.parsers.peek_and_next.Goals as goal
+use Rattle.facet_json_tests.proofs.parsers.peek_and_next.Goals as goal
 
 -- the event that was answered
 abbrev event_in : Answer → Option Event

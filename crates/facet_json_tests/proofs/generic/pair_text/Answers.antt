@@ -8,7 +8,7 @@ use Rattle.facet_json_document.specs.Tree as trees
 use Rattle.facet_json_serializer.specs.Serializer.{Writing, Takes}
 use Rattle.facet_json_serializer.specs.TreeCalls.{tree_calls, item_calls}
 use Rattle.facet_json_serializer.proofs.CallsTaken.{tree_taken}
-use Rattle.facet_json_write_tests.proofs.generic.pair_text.Goals as goal
+use Rattle.facet_json_tests.proofs.generic.pair_text.Goals as goal
 
 -- nothing is written
 abbrev fresh : Writing

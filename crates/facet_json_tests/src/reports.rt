@@ -1,6 +1,6 @@
 //! Errors from refusals, with their source, and shown with the place.
 
-use crate::samples::is_reported;
+use crate::error_samples::is_reported;
 use facet_format::{DeserializeError, DeserializeErrorKind, Span};
 use facet_json_core::{JsonError, JsonErrorKind, Position, position_at};
 
