@@ -4,6 +4,8 @@ pub mod BeyondOnWalk
 pub mod CallsLeft
 pub mod DepthOfNodes
 pub mod DocumentWithin
+pub mod EditLaws
+pub mod Edits
 pub mod FirstEventTells
 pub mod ItemsRead
 pub mod Lookups

@@ -1,5 +1,8 @@
 pub mod Content
 pub mod Depth
+pub mod Edit
+pub mod EditLaws
+pub mod EditViews
 pub mod Inner
 pub mod Lookup
 pub mod OutputViews

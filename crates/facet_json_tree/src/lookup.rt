@@ -112,7 +112,7 @@ fn last_named_mut<'t>(members: &'t mut [(String, Tree)], key: &str) -> Option<&'
 }
 
 /// The index of the last member with this name.
-fn index_of_last(members: &[(String, Tree)], key: &str) -> Option<usize>
+pub fn index_of_last(members: &[(String, Tree)], key: &str) -> Option<usize>
     ensures found { MatchOption result
         (last_member key.now (pairs_view members.now) ≡ None)
         (IsLastNamed key.now members.now) }
