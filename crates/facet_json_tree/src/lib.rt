@@ -13,6 +13,7 @@ mod lookup;
 mod not_stored;
 pub mod pointer;
 mod pointer_error;
+mod pointer_mut;
 mod reader;
 mod strict;
 mod tree;
