@@ -1,11 +1,15 @@
 //! Tests of what reads: of `facet_format`, `facet_json_token`, `facet_json_scan` and `facet_json_parser`, what public types derive, copies of
 //! events, decimals, generic code over parsers, points that are forgotten, rows read in pieces of each length, with a read that fails; of
-//! `facet_json_tree`, what is looked up, what JSON pointers name, what values are, copies, values from what they hold, trees that are read within
+//! `facet_json_tree`, what is looked up and changed, what JSON pointers name, what values are, copies, values from what they hold, trees that are read within
 //! a depth, and how a value is refused that is passed without a tree; and all that with allocations that fail.
 #![tactic(auto)]
 
 #[cfg(test)]
 mod allocations;
+#[cfg(test)]
+mod change_allocations;
+#[cfg(test)]
+mod changes;
 #[cfg(test)]
 mod contents;
 #[cfg(test)]
