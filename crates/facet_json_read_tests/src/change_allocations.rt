@@ -79,3 +79,39 @@ fn a_growth_is_refused_in_an_object(rt: HostRuntime) {
         );
     }
 }
+
+/// Whether a tree becomes an object by that patch; or memory runs out, and it is as it was.
+fn is_merged(alloc: Global, mut tree: Tree, patch: &Tree, before: &Tree) -> Option<bool> {
+    match tree.merge_patch(alloc, patch) {
+        Ok(()) => Some(tree.is_same(patch)),
+        Err(AllocError) if tree.is_same(before) => None,
+        Err(AllocError) => Some(false),
+    }
+}
+
+/// Whether `[true,null,[]]` becomes `{"b":[true,null,[]]}`; or memory runs out.
+fn merges(alloc: Global) -> Option<bool> {
+    let Ok(patch) = object_once(alloc) else {
+        return None;
+    };
+    let Ok(before) = list(alloc) else {
+        return None;
+    };
+    match before.clone(alloc) {
+        Ok(tree) => is_merged(alloc, tree, &patch, &before),
+        Err(AllocError) => None,
+    }
+}
+
+/// `{"b":[true,null,[]]}`
+fn object_once(alloc: Global) -> Result<Tree, AllocError> {
+    let mut tree = object(alloc)?;
+    let _ = tree.remove("a");
+    Ok(tree)
+}
+
+#[test]
+fn a_growth_is_refused_in_a_merge(rt: HostRuntime) {
+    let alloc = rt.alloc();
+    assert!(rt; but_once(merges(alloc), merges(alloc)));
+}

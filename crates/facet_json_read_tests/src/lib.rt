@@ -27,6 +27,8 @@ mod forgetting;
 #[cfg(test)]
 mod lookups;
 #[cfg(test)]
+mod merges;
+#[cfg(test)]
 mod parsers;
 #[cfg(test)]
 mod pieces;

@@ -10,6 +10,7 @@ pub mod FirstEventTells
 pub mod ItemsRead
 pub mod Lookups
 pub mod MembersRead
+pub mod Merges
 pub mod MovingOn
 pub mod OfRust
 pub mod PointerIndex

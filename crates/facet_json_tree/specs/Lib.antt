@@ -5,6 +5,7 @@ pub mod EditLaws
 pub mod EditViews
 pub mod Inner
 pub mod Lookup
+pub mod Merge
 pub mod OutputViews
 pub mod Pointer
 pub mod PointerViews

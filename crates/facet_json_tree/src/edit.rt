@@ -113,7 +113,7 @@ fn push_to(items: &mut Vec<Tree>, item: Tree) -> Result<(), NotStored>
 }
 
 /// Stores a value as that of the last member of this name, or of a new one.
-fn insert_member(
+pub fn insert_member(
     members: &mut Vec<(String, Tree)>,
     alloc: Global,
     key: &str,
@@ -160,7 +160,7 @@ fn push_member(
 }
 
 /// Removes the members of this name.
-fn remove_members(members: &mut Vec<(String, Tree)>, key: &str) -> Option<Tree>
+pub fn remove_members(members: &mut Vec<(String, Tree)>, key: &str) -> Option<Tree>
     ensures found { option_map tree_view result ≡ last_member key.now (pairs_view members.old.items) }
     ensures left { pairs_view members.new.items ≡ drop_members key.now (pairs_view members.old.items) }
 {

@@ -10,6 +10,7 @@ mod error;
 mod from;
 pub mod laws;
 mod lookup;
+mod merge;
 mod not_stored;
 pub mod pointer;
 mod pointer_error;
