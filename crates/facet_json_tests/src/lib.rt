@@ -14,6 +14,10 @@ mod byte_types;
 #[cfg(test)]
 mod calls;
 #[cfg(test)]
+mod change_allocations;
+#[cfg(test)]
+mod changes;
+#[cfg(test)]
 mod contents;
 #[cfg(test)]
 mod copies;
@@ -39,6 +43,8 @@ mod generic;
 mod kinds;
 #[cfg(test)]
 mod lookups;
+#[cfg(test)]
+mod merges;
 #[cfg(test)]
 mod options;
 #[cfg(test)]

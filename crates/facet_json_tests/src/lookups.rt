@@ -91,7 +91,7 @@ fn is_changed(tree: &mut Tree, part: Part<'_>) -> bool {
 }
 
 /// Whether the tree is the document's.
-fn is_document(alloc: Global, tree: &Tree, document: &str) -> bool {
+pub fn is_document(alloc: Global, tree: &Tree, document: &str) -> bool {
     match tree_from_slice(alloc, document.as_bytes()) {
         Ok(wanted) => *tree == wanted,
         Err(_) => false,

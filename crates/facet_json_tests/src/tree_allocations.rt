@@ -13,7 +13,7 @@ use facet_json_tree::{
 use std::alloc::{AllocError, Global};
 
 /// Whether a call that was made twice gave its whole answer, but for one time at most in which memory ran out.
-fn but_once(first: Option<bool>, again: Option<bool>) -> bool {
+pub fn but_once(first: Option<bool>, again: Option<bool>) -> bool {
     first.unwrap_or(true) && again.unwrap_or(true) && (first.is_some() || again.is_some())
 }
 

@@ -4,10 +4,13 @@ pub mod BeyondOnWalk
 pub mod CallsLeft
 pub mod DepthOfNodes
 pub mod DocumentWithin
+pub mod EditLaws
+pub mod Edits
 pub mod FirstEventTells
 pub mod ItemsRead
 pub mod Lookups
 pub mod MembersRead
+pub mod Merges
 pub mod MovingOn
 pub mod OfRust
 pub mod PointerIndex

@@ -102,3 +102,22 @@ before_slash-length (b ∷ text) = by_stop b text (b == slash) (before_slash-len
 pub next-within : (text : List ℕ) (start : ℕ) → start < length text
     → start + (1 + length (before_slash (drop (start + 1) text))) ≤ length text
 next-within text start h = omega (arith, before_slash-length (drop (start + 1) text), length-drop (start + 1) text)
+
+-- the same, by a token that is the first one, and what it names
+pub next-none : (pointer token : List ℕ) (start : ℕ) (found : Tree) (names : List (List ℕ)) (whole : Tree) → start < length pointer
+    → token ≡ before_slash (drop (start + 1) pointer) → child (unescaped token) found ≡ None
+    → Reached (drop start pointer) found names whole → None ≡ named names whole
+next-none pointer token start found names whole h is nothing at =
+    sym ((next pointer start found names whole h at).none (ap (λ t. child (unescaped t) found) (sym is) ∙ nothing))
+
+pub next-some : (pointer token : List ℕ) (start : ℕ) (found t : Tree) (names : List (List ℕ)) (whole : Tree) → start < length pointer
+    → token ≡ before_slash (drop (start + 1) pointer) → child (unescaped token) found ≡ Some t
+    → Reached (drop start pointer) found names whole → Reached (drop (start + (1 + length token)) pointer) t names whole
+next-some pointer token start found t names whole h is here at =
+    subst (λ (n : ℕ). Reached (drop (start + (1 + n)) pointer) t names whole) (sym (ap length is))
+    ((next pointer start found names whole h at).some t (ap (λ k. child (unescaped k) found) (sym is) ∙ here))
+
+pub next-ends : (pointer token : List ℕ) (start : ℕ) → start < length pointer → token ≡ before_slash (drop (start + 1) pointer)
+    → start + (1 + length token) ≤ length pointer
+next-ends pointer token start h is =
+    subst (λ (n : ℕ). start + (1 + n) ≤ length pointer) (sym (ap length is)) (next-within pointer start h)

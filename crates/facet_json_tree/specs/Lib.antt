@@ -1,7 +1,11 @@
 pub mod Content
 pub mod Depth
+pub mod Edit
+pub mod EditLaws
+pub mod EditViews
 pub mod Inner
 pub mod Lookup
+pub mod Merge
 pub mod OutputViews
 pub mod Pointer
 pub mod PointerViews

@@ -34,7 +34,7 @@ impl Tree {
 
 /// The same value, in memory of its own.
 #[cycle(copy)]
-fn copy_tree(tree: &Tree, alloc: Global) -> Result<Tree, AllocError>
+pub fn copy_tree(tree: &Tree, alloc: Global) -> Result<Tree, AllocError>
     ensures { MatchResult result
         (λ copy. tree_view copy ≡ tree_view tree.now)
         (λ _. may_allocate (tree_view tree.now) ≡ true) }

@@ -1,16 +1,20 @@
-//! A JSON value in memory, `Tree`: when two are equal, what stands in one, copies, and how one is made; how one is read from a parser's events
-//! (`read_tree`, `tree_from_slice` and its kin, also within a depth, and from texts of RFC 8259 alone); and how it is written by a
-//! serializer's calls (`write_tree`). A failure to write a text to a writer is a `WriteError`.
+//! A JSON value in memory, `Tree`: when two are equal, what stands in one, copies, how one is made and changed; how one is read from a
+//! parser's events (`read_tree`, `tree_from_slice` and its kin, also within a depth, and from texts of RFC 8259 alone); and how it is
+//! written by a serializer's calls (`write_tree`). A failure to write a text to a writer is a `WriteError`.
 #![tactic(auto)]
 
 mod content;
 mod copy;
+mod edit;
 mod error;
 mod from;
 pub mod laws;
 mod lookup;
+mod merge;
+mod not_stored;
 pub mod pointer;
 mod pointer_error;
+mod pointer_mut;
 mod reader;
 mod strict;
 mod tree;
@@ -19,6 +23,7 @@ mod within;
 mod writers;
 
 pub use error::WriteError;
+pub use not_stored::NotStored;
 pub use pointer_error::PointerError;
 pub use reader::{read_tree, tree_from_slice, tree_from_slice_jsonc};
 pub use strict::{tree_from_slice_strict, tree_from_slice_within_strict};

@@ -92,7 +92,7 @@ fn last_named<'t>(members: &'t [(String, Tree)], key: &str) -> Option<&'t Tree>
 }
 
 /// The item at this index, to be changed.
-fn item_of_mut(items: &mut [Tree], index: usize) -> Option<&mut Tree>
+pub fn item_of_mut(items: &mut [Tree], index: usize) -> Option<&mut Tree>
     ensures { option_map (λ t. tree_view t.now) result ≡ item_at index (trees_view items.old) }
 {
     if index < items.len() {
@@ -112,7 +112,7 @@ fn last_named_mut<'t>(members: &'t mut [(String, Tree)], key: &str) -> Option<&'
 }
 
 /// The index of the last member with this name.
-fn index_of_last(members: &[(String, Tree)], key: &str) -> Option<usize>
+pub fn index_of_last(members: &[(String, Tree)], key: &str) -> Option<usize>
     ensures found { MatchOption result
         (last_member key.now (pairs_view members.now) ≡ None)
         (IsLastNamed key.now members.now) }

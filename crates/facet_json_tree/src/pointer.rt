@@ -37,10 +37,19 @@ impl Tree {
         ensures ok { IfOk result (λ found. PointsTo pointer.now (tree_view self.now) (option_map (λ t. tree_view t.now) found)) }
         ensures err { IfErr result (λ error. Refuses pointer.now error) }
     {
-        let bytes = pointer.as_bytes();
-        check(bytes)?;
+        let bytes = checked(pointer)?;
         Ok(named(self, bytes))
     }
+}
+
+/// The bytes of a text that is a pointer.
+pub fn checked(text: &str) -> Result<&[u8], PointerError>
+    ensures ok { IfOk result (λ bytes. (names : List (List ℕ)) × IsPointer text.now names × (bytes.now ≡ text.now)) }
+    ensures err { IfErr result (λ error. Refuses text.now error) }
+{
+    let bytes = text.as_bytes();
+    check(bytes)?;
+    Ok(bytes)
 }
 
 /// Refuses a text that is no pointer.
@@ -126,7 +135,7 @@ fn member_named<'t>(members: &'t [(String, Tree)], token: &[u8]) -> Option<&'t T
 }
 
 /// The index of the last member whose name a token stands for.
-fn last_with_name(members: &[(String, Tree)], token: &[u8]) -> Option<usize>
+pub fn last_with_name(members: &[(String, Tree)], token: &[u8]) -> Option<usize>
     ensures found { MatchOption result
         (last_member (unescaped token.now) (pairs_view members.now) ≡ None)
         (IsLastNamed (unescaped token.now) members.now) }
