@@ -1,5 +1,5 @@
 -- What a change of a list of the code leaves in its view.
-use Rattle.std.proofs.Common.{◌≡◌, ℕ, zero, suc, ◌+◌, ◌<◌, Bool, true, false, not, List, [], ◌∷◌, ◌++◌, length, get_or, take, drop, Option, Some, None, if◌then◌else◌, String, Global, string_bytes, refl, sym, ap, subst, ◌∙◌, arith}
+use Rattle.std.proofs.Common.{◌≡◌, ℕ, zero, suc, ◌+◌, ◌<◌, Bool, true, false, not, List, [], ◌∷◌, ◌++◌, length, get_or, drop, Option, Some, None, if◌then◌else◌, String, Global, string_bytes, refl, sym, ap, subst, ◌∙◌, arith}
 use Rattle.std.specs.Prelude.{slice_set, ◌&&◌, ◌≤◌, is_none, cond}
 use Rattle.facet_json_tree.proofs.Lookups.{last_member-at}
 use Rattle.std.specs.List.{filter, remove}
@@ -9,7 +9,7 @@ use Rattle.facet_json_document.specs.Tree.{Pairs, no_pairs, pair}
 use Rattle.facet_json_document.specs.Tree as tree
 use Rattle.facet_json_tree.specs.Edit.{push_item, drop_item, set_member, drop_members}
 use Rattle.facet_json_tree.specs.Inner.LastNamed.{IsLastNamed}
-use Rattle.facet_json_tree.specs.Lookup.{last_member, item_at}
+use Rattle.facet_json_tree.specs.Lookup.{last_member}
 use Rattle.facet_json_tree.specs.Same.{same_bytes}
 use Rattle.facet_json_tree.specs.Views.{tree_view, trees_view, pairs_view}
 use Rattle.facet_json_tree.specs.declared.tree.Tree.{Tree}

@@ -1,7 +1,5 @@
-use Rattle.std.proofs.Common.{rules, Some, ap, sym, ◌∙◌}
-use Rattle.std.proofs.lemmas.Result.{IfOk-weaker, on_ok_weaker}
-use Rattle.facet_json_document.specs.Tree.{pairs}
-use Rattle.facet_json_tree.specs.Edit.{inserted, set_member}
+use Rattle.std.proofs.Common.{rules, ap, sym, ◌∙◌}
+use Rattle.std.proofs.lemmas.Result.{IfOk-weaker}
 use Rattle.facet_json_tree.specs.Lookup.{last_member, member}
 use Rattle.facet_json_tree.specs.Views.{tree_view, pairs_view}
 use Rattle.facet_json_tree.proofs.TreeViews.{tree_view-Pairs}
