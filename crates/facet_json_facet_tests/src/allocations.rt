@@ -10,7 +10,7 @@ use facet_json::{
     Done, LineError, Lines, Need, from_slice, from_slice_borrowed, from_slice_borrowed_jsonc,
     from_slice_jsonc, from_slice_prefix, from_slice_strict, from_str, from_str_borrowed,
     from_str_borrowed_jsonc, from_str_jsonc, from_str_prefix, from_str_strict, read_fields, to_vec,
-    write_fields,
+    tree, write_fields,
 };
 use facet_json_core::RawJson;
 use facet_json_examples::accounts::Account;
@@ -18,7 +18,7 @@ use facet_json_facet::Facet;
 use facet_json_parser::JsonParser;
 use facet_json_serializer::{JsonSerializeError, JsonSerializer};
 use facet_json_tree::Tree;
-use std::alloc::Global;
+use std::alloc::{AllocError, Global};
 use std::collections::BTreeMap;
 use std::process::Abort;
 
@@ -850,4 +850,29 @@ fn sum_of_lines(alloc: Global) -> Option<u64> {
 #[test]
 fn a_growth_is_refused_in_a_line(rt: HostRuntime) {
     assert!(rt; sum_of_lines(rt.alloc()) == Some(321));
+}
+
+/// A tree in which each part that takes memory stands in a list and in an object.
+fn made_tree(alloc: Global, name: &str) -> Result<Tree, AllocError> {
+    let lent = tree!(in alloc; [name])?;
+    tree!(in alloc; {"list": ["b", [null], &lent], (name): {"c": 1u8, "d": {}}, "tree": lent})
+}
+
+/// The text of it.
+const MADE_TREE: &str =
+    "{\"list\":[\"b\",[null],[\"a\"]],\"a\":{\"c\":1,\"d\":{}},\"tree\":[\"a\"]}";
+
+/// Whether the tree is made whole.
+fn is_made(alloc: Global) -> Option<bool> {
+    match made_tree(alloc, "a") {
+        Ok(tree) => is_written(to_vec(alloc, &tree), MADE_TREE),
+        Err(_) => None,
+    }
+}
+
+#[test]
+fn a_growth_is_refused_in_a_tree_that_is_written_down(rt: HostRuntime) {
+    let alloc = rt.alloc();
+    let first = is_made(alloc);
+    assert!(rt; but_once(first, is_made(alloc)));
 }

@@ -1,17 +1,10 @@
 //! Reads the configuration file of a server, JSON with comments, and prints the settings with what was left out filled in. Where something is
 //! wrong with the file, it says what, and shows the place. `config [FILE]`: without a file it reads the standard input.
 
+use crate::input::{name_of, text_of};
 use crate::settings::{Settings, read_settings};
 use facet_json_serde::{Error, to_string_pretty};
-use std::{fs, io};
-
-/// The text of the file of this name, or of the standard input.
-fn text_of(rt: &HostRuntime, file: Option<&str>) -> io::Result<String> {
-    match file {
-        Some(name) => fs::read_to_string(rt, name),
-        None => io::read_to_string(rt.alloc(), rt.stdin()),
-    }
-}
+use std::io;
 
 /// Prints the settings, with what was left out.
 fn show(rt: &HostRuntime, settings: &Settings) -> io::Result<u8> {
@@ -41,9 +34,11 @@ fn answer(rt: &HostRuntime, name: &str, text: &str) -> io::Result<u8> {
     }
 }
 
-/// Reads the file, and prints its settings or what is wrong with it. What is answered is the status: 0 where the settings are printed, and 1
-/// where something is wrong with them.
+/// Reads the file, and prints its settings or what is wrong with it. What is answered is the status: 0 where the settings are printed, 1 where
+/// something is wrong with them, and 2 where the file can't be read.
 pub fn run(rt: &HostRuntime, file: Option<&str>) -> io::Result<u8> {
-    let text = text_of(rt, file)?;
-    answer(rt, file.unwrap_or("<stdin>"), text.as_str())
+    match text_of(rt, file)? {
+        Some(text) => answer(rt, name_of(file), text.as_str()),
+        None => Ok(2),
+    }
 }

@@ -1,9 +1,7 @@
 //! Which lines of a log are wanted.
 
-use facet_json::steps::{begin_object, find_key};
-use facet_json::{
-    DeserializeError, Facet, JsonError, JsonParser, LineError, Lines, RawJson, from_str,
-};
+use crate::members::member;
+use facet_json::{DeserializeError, JsonError, LineError, Lines, from_str};
 use std::alloc::Global;
 use std::io;
 use std::io::{BufRead, ErrorKind, Write};
@@ -34,13 +32,9 @@ pub fn is_wanted<'t>(
     record: &[u8],
     wanted: Wanted<'_>,
 ) -> Result<bool, DeserializeError<'t>> {
-    let mut parser = JsonParser::new(alloc, record);
-    begin_object(&mut parser)?;
-    if find_key(&mut parser, wanted.name)? {
-        let json = RawJson::read(alloc, &mut parser)?;
-        is_value(alloc, json.as_str(), wanted.value)
-    } else {
-        Ok(false)
+    match member(alloc, record, wanted.name)? {
+        Some(json) => is_value(alloc, json, wanted.value),
+        None => Ok(false),
     }
 }
 

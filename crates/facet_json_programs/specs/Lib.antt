@@ -1,0 +1,4 @@
+pub mod Answers
+pub mod Coming
+pub mod Faults
+pub mod Methods

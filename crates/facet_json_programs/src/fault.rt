@@ -1,0 +1,67 @@
+//! Why a request has no result.
+
+ghost use Rattle.std.specs.Prelude.{◌≡◌};
+ghost use Rattle.facet_json.specs.FormatViews.{complaint_of};
+ghost use Rattle.facet_json_programs.specs.Faults.{or_memory};
+ghost use Rattle.facet_json_programs.specs.declared.fault.Fault.TheVariants.{Request, Memory};
+
+use facet_json::{DeserializeError, DeserializeErrorKind, JsonSerializeError};
+
+/// Why a request has no result (JSON-RPC 2.0, section 5.1).
+#[derive(Debug, Clone, Copy, PartialEq, Eq)]
+pub enum Fault {
+    /// The line is no text of RFC 8259.
+    Parse,
+    /// It is no request.
+    Request,
+    /// No method has that name.
+    Method,
+    /// The method doesn't take these parameters.
+    Params,
+    /// An allocation failed.
+    Memory,
+    /// The line is longer than the limit.
+    Length,
+}
+
+impl Fault {
+    /// What an answer has in place of a result, as JSON text.
+    pub fn json(self) -> &'static str {
+        match self {
+            Fault::Parse => r#"{"code":-32700,"message":"Parse error"}"#,
+            Fault::Request => r#"{"code":-32600,"message":"Invalid Request"}"#,
+            Fault::Method => r#"{"code":-32601,"message":"Method not found"}"#,
+            Fault::Params => r#"{"code":-32602,"message":"Invalid params"}"#,
+            Fault::Memory => r#"{"code":-32603,"message":"Internal error"}"#,
+            Fault::Length => r#"{"code":-32000,"message":"Request too long"}"#,
+        }
+    }
+
+    /// The fault of a reader that was refused so: a lack of memory, or else this one.
+    pub fn or_memory(self, kind: DeserializeErrorKind<'_>) -> Fault
+        ensures { result ≡ or_memory (complaint_of kind.entry) self }
+    {
+        match kind {
+            DeserializeErrorKind::OutOfMemory => Fault::Memory,
+            _ => self,
+        }
+    }
+}
+
+/// A part of the request is refused so.
+impl From<DeserializeError<'static>> for Fault {
+    ghost from_gives = { λ refused fault. fault ≡ or_memory (complaint_of refused.kind) Request };
+
+    fn from(refused: DeserializeError<'static>) -> Fault {
+        Fault::Request.or_memory(refused.kind)
+    }
+}
+
+/// Writing lacks nothing but memory.
+impl From<JsonSerializeError> for Fault {
+    ghost from_gives = { λ _ fault. fault ≡ Memory };
+
+    fn from(_refused: JsonSerializeError) -> Fault {
+        Fault::Memory
+    }
+}

@@ -1,0 +1,106 @@
+//! Requests of JSON-RPC 2.0, a request a line, whose parameters stay text.
+
+ghost use Rattle.std.specs.Prelude.{◌≡◌, ◌<◌, ◌⊎◌, true, None, OnOk, IfOk, IfErr, MatchBool};
+ghost use Rattle.facet_json.specs.Complaint.{out_of_memory};
+ghost use Rattle.facet_json.specs.FormatViews.{complaint_of};
+ghost use Rattle.facet_json.specs.Now.{ahead};
+ghost use Rattle.facet_json.specs.StrictDocument.{IsStrict};
+ghost use Rattle.facet_json_programs.specs.Coming.{Ends, BreaksOff, IsBehind};
+ghost use Rattle.facet_json_programs.specs.declared.fault.Fault.TheVariants.{Parse, Memory};
+
+use crate::fault::Fault;
+use crate::members::member;
+use facet_json::laws::strict_input_comes;
+use facet_json::{FormatParser, JsonParser, ParseError, from_str};
+use std::alloc::Global;
+
+/// A request (JSON-RPC 2.0, section 4), which borrows of its line.
+#[derive(Drop)]
+pub struct Request<'de> {
+    /// What its answer has in the same place, as it stands in the line. A request without is a notification, and has no answer.
+    pub id: Option<&'de str>,
+    /// What is asked for.
+    pub method: String,
+    /// An array or an object, as it stands in the line.
+    pub params: &'de str,
+}
+
+/// Passes the next event. What is answered is whether there was one.
+fn pass_event(parser: &mut JsonParser<'_>) -> Result<bool, ParseError<'static>>
+    ensures passed { IfOk result (λ is. MatchBool is (IsBehind parser.old parser.new) (Ends parser.old)) }
+    ensures refused { parser.old.cursor.refusal ≡ None → IfErr result (λ e. (complaint_of e.kind ≡ out_of_memory) ⊎ BreaksOff parser.old) }
+    ensures shorter { IfOk result (λ is. is ≡ true → ahead parser.new < ahead parser.old) }
+{
+    let event = parser.next_event()?;
+    Ok(event.is_some())
+}
+
+/// Passes all events of a document, to its end.
+fn pass_all(parser: &mut JsonParser<'_>) -> Result<(), ParseError<'static>>
+    ensures ends { OnOk result (Ends parser.old) }
+    ensures refused { parser.old.cursor.refusal ≡ None → IfErr result (λ e. (complaint_of e.kind ≡ out_of_memory) ⊎ BreaksOff parser.old) }
+{
+    while pass_event(parser)? {}
+    Ok(())
+}
+
+/// Checks that a line is one text of RFC 8259, and keeps nothing of it.
+fn check(alloc: Global, line: &[u8]) -> Result<(), Fault>
+    ensures strict { OnOk result (IsStrict line.now) }
+    ensures fault { IfErr result (λ fault. (fault ≡ Memory) ⊎ ((fault ≡ Parse) × (IsStrict line.now → ⊥))) }
+{
+    strict_input_comes();
+    match pass_all(&mut JsonParser::new_strict(alloc, line)) {
+        Ok(()) => Ok(()),
+        Err(refused) => Err(Fault::Parse.or_memory(refused.kind)),
+    }
+}
+
+/// The text that a part is.
+fn text_in(alloc: Global, json: &str) -> Result<String, Fault> {
+    if json.starts_with('"') {
+        Ok(from_str(alloc, json)?)
+    } else {
+        Err(Fault::Request)
+    }
+}
+
+/// Whether a part is a string, a number or null.
+fn is_id(json: &str) -> bool {
+    !matches!(json.as_bytes(), [b'{' | b'[' | b't' | b'f', ..])
+}
+
+/// Whether a part is an array or an object.
+fn is_structured(json: &str) -> bool {
+    matches!(json.as_bytes(), [b'{' | b'[', ..])
+}
+
+/// Checks that a line has the version's member.
+fn check_version(alloc: Global, line: &[u8]) -> Result<(), Fault> {
+    let version = member(alloc, line, "jsonrpc")?.ok_or(Fault::Request)?;
+    if text_in(alloc, version)?.as_str() == "2.0" {
+        Ok(())
+    } else {
+        Err(Fault::Request)
+    }
+}
+
+/// The request that a line is. The first member of each name counts.
+pub fn read_request<'de>(alloc: Global, line: &'de [u8]) -> Result<Request<'de>, Fault>
+    ensures strict { OnOk result (IsStrict line.now) }
+{
+    check(alloc, line)?;
+    check_version(alloc, line)?;
+    let id = member(alloc, line, "id")?;
+    let params = member(alloc, line, "params")?.unwrap_or("[]");
+    let method = member(alloc, line, "method")?.ok_or(Fault::Request)?;
+    if is_id(id.unwrap_or("null")) && is_structured(params) {
+        Ok(Request {
+            id,
+            method: text_in(alloc, method)?,
+            params,
+        })
+    } else {
+        Err(Fault::Request)
+    }
+}
