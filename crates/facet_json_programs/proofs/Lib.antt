@@ -1,1 +1,1 @@
-pub mod Coming
+pub mod LineFaults

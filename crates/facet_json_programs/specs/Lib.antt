@@ -1,4 +1,3 @@
 pub mod Answers
-pub mod Coming
 pub mod Faults
 pub mod Methods

@@ -1,17 +1,12 @@
 //! Requests of JSON-RPC 2.0, a request a line, whose parameters stay text.
 
-ghost use Rattle.std.specs.Prelude.{◌≡◌, ◌<◌, ◌⊎◌, true, None, OnOk, IfOk, IfErr, MatchBool};
-ghost use Rattle.facet_json.specs.Complaint.{out_of_memory};
-ghost use Rattle.facet_json.specs.FormatViews.{complaint_of};
-ghost use Rattle.facet_json.specs.Now.{ahead};
+ghost use Rattle.std.specs.Prelude.{◌≡◌, ◌⊎◌, OnOk, IfErr};
 ghost use Rattle.facet_json.specs.StrictDocument.{IsStrict};
-ghost use Rattle.facet_json_programs.specs.Coming.{Ends, BreaksOff, IsBehind};
 ghost use Rattle.facet_json_programs.specs.declared.fault.Fault.TheVariants.{Parse, Memory};
 
 use crate::fault::Fault;
 use crate::members::member;
-use facet_json::laws::strict_input_comes;
-use facet_json::{FormatParser, JsonParser, ParseError, from_str};
+use facet_json::{check_strict, from_str};
 use std::alloc::Global;
 
 /// A request (JSON-RPC 2.0, section 4), which borrows of its line.
@@ -25,32 +20,12 @@ pub struct Request<'de> {
     pub params: &'de str,
 }
 
-/// Passes the next event. What is answered is whether there was one.
-fn pass_event(parser: &mut JsonParser<'_>) -> Result<bool, ParseError<'static>>
-    ensures passed { IfOk result (λ is. MatchBool is (IsBehind parser.old parser.new) (Ends parser.old)) }
-    ensures refused { parser.old.cursor.refusal ≡ None → IfErr result (λ e. (complaint_of e.kind ≡ out_of_memory) ⊎ BreaksOff parser.old) }
-    ensures shorter { IfOk result (λ is. is ≡ true → ahead parser.new < ahead parser.old) }
-{
-    let event = parser.next_event()?;
-    Ok(event.is_some())
-}
-
-/// Passes all events of a document, to its end.
-fn pass_all(parser: &mut JsonParser<'_>) -> Result<(), ParseError<'static>>
-    ensures ends { OnOk result (Ends parser.old) }
-    ensures refused { parser.old.cursor.refusal ≡ None → IfErr result (λ e. (complaint_of e.kind ≡ out_of_memory) ⊎ BreaksOff parser.old) }
-{
-    while pass_event(parser)? {}
-    Ok(())
-}
-
 /// Checks that a line is one text of RFC 8259, and keeps nothing of it.
 fn check(alloc: Global, line: &[u8]) -> Result<(), Fault>
     ensures strict { OnOk result (IsStrict line.now) }
     ensures fault { IfErr result (λ fault. (fault ≡ Memory) ⊎ ((fault ≡ Parse) × (IsStrict line.now → ⊥))) }
 {
-    strict_input_comes();
-    match pass_all(&mut JsonParser::new_strict(alloc, line)) {
+    match check_strict(alloc, line) {
         Ok(()) => Ok(()),
         Err(refused) => Err(Fault::Parse.or_memory(refused.kind)),
     }
