@@ -13,6 +13,7 @@ pub mod MemberCalls
 pub mod NodesPointed
 pub mod OneDocuments
 pub mod PieceComments
+pub mod PieceRows
 pub mod PieceShapes
 pub mod PieceSteps
 pub mod PiecesCut

@@ -6,6 +6,7 @@
 //! with its place in the source; a writer's or a reader's own failure alone stays a `WriteError` or a `LineError`.
 #![tactic(auto)]
 
+mod checking;
 mod documents;
 mod fields;
 mod find_error;

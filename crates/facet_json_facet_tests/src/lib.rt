@@ -23,6 +23,8 @@ mod finding;
 #[cfg(test)]
 mod floats;
 #[cfg(test)]
+mod layouts;
+#[cfg(test)]
 mod lengths;
 #[cfg(test)]
 mod lent;

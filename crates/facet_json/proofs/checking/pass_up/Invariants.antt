@@ -2,7 +2,7 @@
 use Rattle.std.proofs.Common.{◌≡◌, None}
 use Rattle.facet_json_document.specs.Now.{ahead}
 use Rattle.facet_json.specs.Inner.Checking.{PassesSome}
-use Rattle.facet_json.proofs.formatting.pass_up.Given as goal
+use Rattle.facet_json.proofs.checking.pass_up.Given as goal
 
 abbrev pub invariant-loop : goal.invariant-loop
 invariant-loop l = record {

@@ -2,7 +2,7 @@
 use Rattle.std.proofs.Common.{◌∙◌}
 use Rattle.std.proofs.lemmas.Result.{err_from_is_err_and}
 use Rattle.facet_json.proofs.EventsUp.{some-more, up-to_end, refused-after, told-free}
-use Rattle.facet_json.proofs.formatting.pass_up.Goals as goal
+use Rattle.facet_json.proofs.checking.pass_up.Goals as goal
 
 pub returns-in_err-passes_event-clause-refused : goal.returns-in_err-passes_event-clause-refused
 returns-in_err-passes_event-clause-refused c free =

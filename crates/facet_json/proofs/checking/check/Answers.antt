@@ -3,7 +3,7 @@ use Rattle.std.proofs.lemmas.Result.{IfErr-weaker, on_ok_weaker}
 use Rattle.facet_format.specs.Views.{refusal_of, span_of}
 use Rattle.facet_json_token.specs.Views.{mode_of}
 use Rattle.facet_json.proofs.OneDocuments.{nothing-behind, more-behind}
-use Rattle.facet_json.proofs.formatting.check.Goals as goal
+use Rattle.facet_json.proofs.checking.check.Goals as goal
 
 pub returns-clause-document : goal.returns-clause-document
 returns-clause-document c =

@@ -19,7 +19,7 @@ use Rattle.facet_json_token.specs.Cut.{past_gap}
 use Rattle.facet_json_token.specs.Views.{mode_of}
 use Rattle.facet_json.specs.Inner.Checking.{IsStuckBehind}
 use Rattle.facet_json.proofs.TokensBehind.{gap-ends, gap-more, stuck-within, upcoming-refuses, upcoming-refused}
-use Rattle.facet_json.proofs.formatting.pass_behind.Goals as goal
+use Rattle.facet_json.proofs.checking.pass_behind.Goals as goal
 
 pub returns-then-skip_gap-text-clause-done : goal.returns-then-skip_gap-text-clause-done
 returns-then-skip_gap-text-clause-done c =

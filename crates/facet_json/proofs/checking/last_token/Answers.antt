@@ -4,7 +4,7 @@ use Rattle.std.proofs.lemmas.Result.{IfErr-weaker}
 use Rattle.facet_format.specs.Views.{refusal_of}
 use Rattle.facet_json_token.specs.Gap.{plain, jsonc}
 use Rattle.facet_json.proofs.OneDocuments.{breaks-off}
-use Rattle.facet_json.proofs.formatting.last_token.Goals as goal
+use Rattle.facet_json.proofs.checking.last_token.Goals as goal
 
 pub returns-in-Plain-clause-refused : goal.returns-in-Plain-clause-refused
 returns-in-Plain-clause-refused c =
