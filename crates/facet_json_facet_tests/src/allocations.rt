@@ -5,12 +5,13 @@
 use facet_format::{
     DeserializeError, DeserializeErrorKind, FormatParser, ParseError, ParseEvent, Span,
 };
+use facet_json::scanner::Mode;
 use facet_json::steps::{FindError, begin_object, find_key, find_pointer};
 use facet_json::{
-    Done, LineError, Lines, Need, from_slice, from_slice_borrowed, from_slice_borrowed_jsonc,
-    from_slice_jsonc, from_slice_prefix, from_slice_strict, from_str, from_str_borrowed,
-    from_str_borrowed_jsonc, from_str_jsonc, from_str_prefix, from_str_strict, read_fields, to_vec,
-    tree, write_fields,
+    Done, FormatOptions, LineError, Lines, Need, format_text, from_slice, from_slice_borrowed,
+    from_slice_borrowed_jsonc, from_slice_jsonc, from_slice_prefix, from_slice_strict, from_str,
+    from_str_borrowed, from_str_borrowed_jsonc, from_str_jsonc, from_str_prefix, from_str_strict,
+    read_fields, to_vec, tree, write_fields,
 };
 use facet_json_core::RawJson;
 use facet_json_examples::accounts::Account;
@@ -875,4 +876,26 @@ fn a_growth_is_refused_in_a_tree_that_is_written_down(rt: HostRuntime) {
     let alloc = rt.alloc();
     let first = is_made(alloc);
     assert!(rt; but_once(first, is_made(alloc)));
+}
+
+/// A text that is laid out, and how.
+const TO_LAY_OUT: (&str, &str) = (
+    "{\"\\u0061\":[1,],// a\n}",
+    "{\n  \"\\u0061\": [\n    1\n  ] // a\n}\n",
+);
+
+/// Whether it is laid out so, or memory ran out.
+fn lays_out(alloc: Global) -> Option<bool> {
+    let (text, wanted) = TO_LAY_OUT;
+    match format_text(alloc, text.as_bytes(), Mode::Jsonc, FormatOptions::new()) {
+        Ok(found) => Some(found.as_slice() == wanted.as_bytes()),
+        Err(error) if error.kind == DeserializeErrorKind::OutOfMemory => None,
+        Err(_) => Some(false),
+    }
+}
+
+#[test]
+fn a_growth_is_refused_in_a_layout(rt: HostRuntime) {
+    let first = lays_out(rt.alloc());
+    assert!(rt; but_once(first, lays_out(rt.alloc())));
 }

@@ -25,6 +25,8 @@ mod finding;
 #[cfg(test)]
 mod floats;
 #[cfg(test)]
+mod layouts;
+#[cfg(test)]
 mod lengths;
 #[cfg(test)]
 mod lent;

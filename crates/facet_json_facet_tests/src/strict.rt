@@ -8,7 +8,7 @@ use facet_json_facet::Facet;
 use std::alloc::Global;
 
 /// Whether the answer is this refusal.
-fn is_refused<T: Drop>(
+pub(crate) fn is_refused<T: Drop>(
     answer: Result<T, DeserializeError<'_>>,
     kind: &DeserializeErrorKind<'_>,
     span: Span,
@@ -31,7 +31,7 @@ fn refuses<'de, T: Facet<'de>>(
 }
 
 /// The refusal of a byte that may not stand there.
-fn unexpected(ch: char) -> DeserializeErrorKind<'static> {
+pub(crate) fn unexpected(ch: char) -> DeserializeErrorKind<'static> {
     DeserializeErrorKind::UnexpectedChar {
         ch,
         expected: "valid JSON token",
@@ -39,7 +39,7 @@ fn unexpected(ch: char) -> DeserializeErrorKind<'static> {
 }
 
 /// The refusal of a token that may not stand there.
-fn token(got: &'static str, expected: &'static str) -> DeserializeErrorKind<'static> {
+pub(crate) fn token(got: &'static str, expected: &'static str) -> DeserializeErrorKind<'static> {
     DeserializeErrorKind::UnexpectedToken { got, expected }
 }
 

@@ -3,6 +3,7 @@ pub mod EventsUp
 pub mod LaidOut
 pub mod OneDocuments
 pub mod PieceComments
+pub mod PieceRows
 pub mod PieceShapes
 pub mod PieceSteps
 pub mod PiecesCut
