@@ -1,8 +1,13 @@
 //! Checks JSON files for a person.
 #![tactic(auto)]
 
+mod advice;
 mod arguments;
+mod check;
 mod excerpt;
+mod files;
+mod repeats;
+mod report;
 mod shown;
 
 use std::process::ExitCode;

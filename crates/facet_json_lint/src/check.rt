@@ -1,0 +1,135 @@
+//! Whether a source is one document, with nothing but a gap behind it (RFC 8259, section 2).
+
+ghost use Rattle.facet_json_document.specs.Now.{ahead};
+
+use crate::arguments::Language;
+use facet_format::{
+    DeserializeErrorKind, FormatParser, ParseError, ParseEvent, ParseEventKind, ScalarValue, Span,
+};
+use facet_json_parser::JsonParser;
+use std::alloc::Global;
+
+/// What is expected behind a document.
+const END: &str = "end of input";
+
+/// Why a source is not one document.
+#[derive(Debug, Clone, Copy)]
+pub struct Fault {
+    /// What is wrong, and where.
+    pub error: ParseError<'static>,
+    /// The innermost bracket that is open there.
+    pub opened: Option<Span>,
+}
+
+/// Checks that the source is one document.
+///
+/// # Errors
+///
+/// As the parser's `next_event`; and what stands behind the document, which was to be the end of the input.
+pub fn check(alloc: Global, language: Language, source: &[u8]) -> Result<(), Fault> {
+    let mut parser = parser_of(alloc, language, source);
+    let mut open = Vec::new(alloc);
+    match pass_events(&mut parser, &mut open) {
+        Ok(()) => check_behind(alloc, language, source, end_of(&parser)),
+        Err(error) => Err(Fault {
+            error,
+            opened: open.last().copied(),
+        }),
+    }
+}
+
+/// A parser of the source, before it.
+pub fn parser_of<'de>(alloc: Global, language: Language, source: &'de [u8]) -> JsonParser<'de> {
+    match language {
+        Language::Plain => JsonParser::new(alloc, source),
+        Language::Jsonc => JsonParser::new_jsonc(alloc, source),
+        Language::Strict => JsonParser::new_strict(alloc, source),
+    }
+}
+
+/// Passes the events of a document, and keeps which brackets are open.
+fn pass_events(
+    parser: &mut JsonParser<'_>,
+    open: &mut Vec<Span>,
+) -> Result<(), ParseError<'static>> {
+    while let Some(event) = parser.next_event()? {
+        let ParseEvent { kind, span } = event;
+        match kind {
+            ParseEventKind::StructStart(_) | ParseEventKind::SequenceStart(_) => {
+                if open.push(span).is_err() {
+                    return Err(ParseError::new(span, DeserializeErrorKind::OutOfMemory));
+                }
+            }
+            ParseEventKind::StructEnd | ParseEventKind::SequenceEnd => {
+                open.pop();
+            }
+            ParseEventKind::FieldKey(_) | ParseEventKind::Scalar(_) => {}
+        }
+    }
+    Ok(())
+}
+
+/// Where the last token that was read ends.
+fn end_of(parser: &JsonParser<'_>) -> usize {
+    match parser.current_span() {
+        Some(span) => span.offset.saturating_add(span.len),
+        None => 0,
+    }
+}
+
+/// Checks that nothing but a gap stands behind a document that ends there.
+fn check_behind(
+    alloc: Global,
+    language: Language,
+    source: &[u8],
+    end: usize,
+) -> Result<(), Fault> {
+    let (before, rest) = source.split_at(end.min(source.len()));
+    let mut parser = parser_of(alloc, language, rest);
+    let ParseError { span, kind } = match parser.next_event() {
+        Ok(Some(event)) => unexpected(event.span, name_of(&event.kind)),
+        Ok(None) => return Ok(()),
+        Err(error) => match error.kind {
+            DeserializeErrorKind::UnexpectedEof { expected: "value" } => return Ok(()),
+            DeserializeErrorKind::UnexpectedToken { got, .. } => unexpected(error.span, got),
+            _ => error,
+        },
+    };
+    let offset = before.len().saturating_add(span.offset);
+    Err(Fault {
+        error: ParseError::new(Span::new(offset, span.len), kind),
+        opened: None,
+    })
+}
+
+/// The refusal of a token behind the document.
+fn unexpected<'t>(span: Span, got: &'t str) -> ParseError<'t> {
+    ParseError::new(span, DeserializeErrorKind::UnexpectedToken { got, expected: END })
+}
+
+/// The name of the token that such an event comes from.
+fn name_of(kind: &ParseEventKind<'_>) -> &'static str {
+    match kind {
+        ParseEventKind::StructStart(_) => "ObjectStart",
+        ParseEventKind::StructEnd => "ObjectEnd",
+        ParseEventKind::SequenceStart(_) => "ArrayStart",
+        ParseEventKind::SequenceEnd => "ArrayEnd",
+        ParseEventKind::FieldKey(_) => "String",
+        ParseEventKind::Scalar(value) => scalar_name(value),
+    }
+}
+
+/// The name of the token that such a value comes from.
+fn scalar_name(value: &ScalarValue<'_>) -> &'static str {
+    match value {
+        ScalarValue::Null | ScalarValue::Unit => "Null",
+        ScalarValue::Bool(true) => "True",
+        ScalarValue::Bool(false) => "False",
+        ScalarValue::I64(_) => "I64",
+        ScalarValue::U64(_) => "U64",
+        ScalarValue::I128(_) => "I128",
+        ScalarValue::U128(_) => "U128",
+        ScalarValue::Decimal(_) => "Decimal",
+        ScalarValue::Char(_) | ScalarValue::Str(_) | ScalarValue::Bytes(_) => "String",
+    }
+}
