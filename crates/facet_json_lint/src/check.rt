@@ -21,6 +21,35 @@ pub struct Fault {
     pub opened: Option<Span>,
 }
 
+impl Fault {
+    /// Where it is told: what is missing at the end of the source is told behind the last of it that is no white space.
+    pub fn told_at(self, source: &[u8]) -> Span {
+        let Span { offset, len } = self.error.span;
+        if len > 0 {
+            return self.error.span;
+        }
+        Span::new(offset.min(source.trim_ascii_end().len()), 0)
+    }
+
+    /// The bracket that is open there, where a closing one is missing.
+    pub fn unclosed(self) -> Option<Span> {
+        match self.error.kind {
+            DeserializeErrorKind::UnexpectedEof {
+                expected: "',' or '}'" | "',' or ']'" | "field name or '}'" | "value or ']'" | "value",
+            } => self.opened,
+            DeserializeErrorKind::UnexpectedToken {
+                got: "ArrayEnd",
+                expected: "',' or '}'" | "field name or '}'",
+            } => self.opened,
+            DeserializeErrorKind::UnexpectedToken {
+                got: "ObjectEnd",
+                expected: "',' or ']'",
+            } => self.opened,
+            _ => None,
+        }
+    }
+}
+
 /// Checks that the source is one document.
 ///
 /// # Errors

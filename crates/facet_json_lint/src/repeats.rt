@@ -20,6 +20,18 @@ pub struct Repeat {
     pub first: usize,
 }
 
+impl Repeat {
+    /// The key as it stands in the source, without its quotes.
+    pub fn key(self, source: &[u8]) -> &[u8] {
+        let (_, rest) = source.split_at(self.offset.min(source.len()));
+        let (key, _) = rest.split_at(self.len.min(rest.len()));
+        match key {
+            [b'"', inner @ .., b'"'] => inner,
+            _ => key,
+        }
+    }
+}
+
 /// A key, whose text is decoded.
 #[derive(PartialEq, Eq, PartialOrd, Ord, Drop)]
 struct Key<'de> {
