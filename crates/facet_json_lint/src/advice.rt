@@ -1,5 +1,6 @@
 //! What a person can do about an error.
 
+use crate::arguments::Language;
 use facet_format::{DeserializeErrorKind, Span};
 
 /// Where an error stands.
@@ -11,19 +12,19 @@ pub struct Place<'a> {
     meant: &'a [u8],
     /// What begins with them.
     rest: &'a [u8],
-    /// Whether comments are read.
-    has_comments: bool,
+    /// How the source is read.
+    language: Language,
 }
 
 impl<'a> Place<'a> {
     /// The place of these bytes in a source.
-    pub fn new(source: &'a [u8], span: Span, has_comments: bool) -> Place<'a> {
+    pub fn new(source: &'a [u8], span: Span, language: Language) -> Place<'a> {
         let (before, rest) = source.split_at(span.offset.min(source.len()));
         Place {
             before,
             meant: &rest[..span.len.min(rest.len())],
             rest,
-            has_comments,
+            language,
         }
     }
 
@@ -154,10 +155,12 @@ fn on_bytes(meant: &[u8]) -> &'static str {
 /// Where no token begins, or a string or a number is none.
 fn on_character(character: char, place: Place<'_>) -> &'static str {
     match place.meant {
-        [b'\\', ..] => "four hexadecimal digits stand after \\u",
+        [_, _, ..] if place.before.ends_with(b"\\u") => "four hexadecimal digits stand after \\u",
         [b'-'] => "a digit is missing after the minus",
         [b'-' | b'0'..=b'9', ..] => on_number(place.meant),
-        [_, _, _, _] if character == '?' => "four hexadecimal digits stand after \\u",
+        [b'\0'..=b'\x1F', ..] if place.language == Language::Strict => {
+            "write this control character as an escape, such as \\n or \\u001f"
+        }
         _ if place.before.ends_with(b"\\") => {
             "write two backslashes: the escapes are \\\" \\\\ \\/ \\b \\f \\n \\r \\t and \\u with four digits"
         }
@@ -175,14 +178,14 @@ fn on_number(number: &[u8]) -> &'static str {
             "this number takes more than 128 bits: write it as a string"
         }
         [b'0', b'0'..=b'9', ..] => "remove the zeros at the front of this number",
-        _ => "a digit is missing: they stand before and behind a point, and after an e",
+        _ => "digits stand on both sides of a point, and after an e",
     }
 }
 
 /// Where a token can't begin with this character.
 fn on_stray(character: char, place: Place<'_>) -> &'static str {
     match character {
-        '\0'..='\x1F' => "write this control character as an escape, such as \\n or \\u001f",
+        '\0'..='\x1F' => "remove this control character",
         '\'' | '`' => "strings and keys stand in double quotes",
         '\u{E2}' if is_quote(place.rest) => "strings and keys stand in double quotes",
         '/' | '#' => on_comment(place),
@@ -204,7 +207,7 @@ fn is_quote(text: &[u8]) -> bool {
 fn on_comment(place: Place<'_>) -> &'static str {
     match place.rest {
         [b'/', b'/' | b'*', ..] => "comments are read with --jsonc",
-        _ if place.has_comments => "a comment begins with // or /*",
+        _ if place.language == Language::Jsonc => "a comment begins with // or /*",
         _ => "a comment begins with // or /*, and is read with --jsonc",
     }
 }

@@ -1,7 +1,7 @@
 //! Checks files, one after another, and reports what is wrong with them.
 
 use crate::advice::{Place, advice};
-use crate::arguments::{Language, Layout, Options};
+use crate::arguments::{Layout, Options};
 use crate::check::{Fault, check, parser_of};
 use crate::files;
 use crate::format::formatted;
@@ -214,8 +214,7 @@ impl Lint<'_> {
             return Ok(Verdict::Reported);
         }
         let span = fault.told_at(source.text);
-        let has_comments = self.options.language == Language::Jsonc;
-        let place = Place::new(source.text, span, has_comments);
+        let place = Place::new(source.text, span, self.options.language);
         let report = Report {
             name: source.shown,
             source: source.text,
