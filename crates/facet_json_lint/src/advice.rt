@@ -3,6 +3,9 @@
 use crate::arguments::Language;
 use facet_format::{DeserializeErrorKind, Span};
 
+/// What to do about a word that is none of JSON.
+const WORDS: &str = "a word other than true, false and null stands in double quotes";
+
 /// Where an error stands.
 #[derive(Debug, Clone, Copy)]
 pub struct Place<'a> {
@@ -164,7 +167,7 @@ fn on_character(character: char, place: Place<'_>) -> &'static str {
         _ if place.before.ends_with(b"\\") => {
             "write two backslashes: the escapes are \\\" \\\\ \\/ \\b \\f \\n \\r \\t and \\u with four digits"
         }
-        _ if place.is_in_word() => "the words of JSON are true, false and null",
+        _ if place.is_in_word() => WORDS,
         _ if place.rest.starts_with(b"\xEF\xBB\xBF") => "remove the byte order mark",
         _ => on_stray(character, place),
     }
@@ -221,6 +224,6 @@ fn on_word(word: &[u8]) -> &'static str {
         }
         b"None" | b"nil" | b"undefined" => "the word for no value is null",
         b"NaN" | b"Infinity" | b"inf" => "JSON has no such number: write null, or a string",
-        _ => "keys, and words but true, false and null, stand in double quotes",
+        _ => WORDS,
     }
 }

@@ -56,6 +56,8 @@ pub enum Misuse<'a> {
     Unknown(&'a str),
     /// Two options that exclude each other.
     Both(&'static str, &'static str),
+    /// A word is not UTF-8.
+    NoText,
     /// There is no memory for the list of files.
     Memory,
 }
@@ -65,6 +67,7 @@ impl fmt::Display for Misuse<'_> {
         match self {
             Misuse::Unknown(word) => write!(f, "there is no option {word}"),
             Misuse::Both(one, other) => write!(f, "{one} and {other} exclude each other"),
+            Misuse::NoText => f.write_str("a word is not UTF-8"),
             Misuse::Memory => f.write_str("out of memory"),
         }
     }

@@ -16,7 +16,7 @@ mod report;
 mod shown;
 mod tally;
 
-use crate::arguments::{Layout, Options, Request, request_of};
+use crate::arguments::{Layout, Misuse, Options, Request, request_of};
 use crate::lint::Lint;
 use crate::report::Colours;
 use std::io::{BufWriter, ErrorKind, IsTerminal};
@@ -73,9 +73,19 @@ fn check_all(rt: &HostRuntime, options: Options, names: &[&str]) -> io::Result<u
     }
 }
 
+/// Tells that the arguments are wrong.
+fn refuse(rt: &HostRuntime, misuse: Misuse<'_>) -> io::Result<u8> {
+    eprintln!(rt; "facet_json_lint: {misuse}\n{USAGE}")?;
+    Ok(2)
+}
+
 /// Does what the program was called for, and answers the status.
 fn run(rt: &HostRuntime) -> io::Result<u8> {
-    let args: Vec<String> = env::args(rt)?.skip(1).collect(rt.alloc())?;
+    let args: Vec<String> = match env::args(rt) {
+        Ok(args) => args.skip(1).collect(rt.alloc())?,
+        Err(error) if error.kind() == ErrorKind::InvalidData => return refuse(rt, Misuse::NoText),
+        Err(error) => return Err(error),
+    };
     match request_of(rt.alloc(), args.as_slice()) {
         Ok(Request::Lint(options, names)) => check_all(rt, options, names.as_slice()),
         Ok(Request::Help) => {
@@ -86,10 +96,7 @@ fn run(rt: &HostRuntime) -> io::Result<u8> {
             println!(rt; "{VERSION}")?;
             Ok(0)
         }
-        Err(misuse) => {
-            eprintln!(rt; "facet_json_lint: {misuse}\n{USAGE}")?;
-            Ok(2)
-        }
+        Err(misuse) => refuse(rt, misuse),
     }
 }
 
