@@ -1,12 +1,12 @@
 //! Whether a source is one document, with nothing but a gap behind it (RFC 8259, section 2).
 
-ghost use Rattle.facet_json_document.specs.Now.{ahead};
+ghost use Rattle.facet_json.specs.Now.{ahead};
 
 use crate::arguments::Language;
-use facet_format::{
-    DeserializeErrorKind, FormatParser, ParseError, ParseEvent, ParseEventKind, ScalarValue, Span,
+use facet_json::{
+    DeserializeErrorKind, FormatParser, JsonParser, ParseError, ParseEvent, ParseEventKind,
+    ScalarValue, Span,
 };
-use facet_json_parser::JsonParser;
 use std::alloc::Global;
 
 /// What is expected behind a document.

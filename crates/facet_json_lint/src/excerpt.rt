@@ -4,7 +4,7 @@ ghost use Rattle.std.specs.Prelude.{◌≤◌, ◌+◌, IfOk, string_bytes};
 ghost use Rattle.facet_json_lint.specs.Columns.{columns as width};
 
 use crate::shown::{Side, columns, cut_to, shown};
-use facet_format::Span;
+use facet_json::Span;
 use std::alloc::{AllocError, Global};
 
 /// The most columns of a line that are shown.

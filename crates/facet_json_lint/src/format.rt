@@ -1,7 +1,7 @@
 //! The layout of the formatter.
 
 use crate::arguments::Language;
-use facet_format::ParseError;
+use facet_json::ParseError;
 use std::alloc::{AllocError, Global};
 
 /// The text of the source's document, laid out, with its comments.

@@ -1,11 +1,10 @@
 //! Keys that come twice in an object (RFC 8259, section 4, says that they should not).
 
-ghost use Rattle.facet_json_document.specs.Now.{ahead};
+ghost use Rattle.facet_json.specs.Now.{ahead};
 
-use facet_format::{
-    DeserializeErrorKind, FormatParser, ParseError, ParseEvent, ParseEventKind, Span,
+use facet_json::{
+    DeserializeErrorKind, FormatParser, JsonParser, ParseError, ParseEvent, ParseEventKind,
 };
-use facet_json_parser::JsonParser;
 use std::alloc::{AllocError, Global};
 use std::borrow::CowStr;
 

@@ -2,8 +2,7 @@
 
 use crate::excerpt::Excerpt;
 use crate::shown::columns;
-use facet_format::Span;
-use facet_json_core::{JsonErrorKind, Position, position_at};
+use facet_json::{JsonErrorKind, Position, Span, position_at};
 use std::alloc::Global;
 use std::io::Write;
 use std::{fmt, io};

@@ -1,7 +1,8 @@
 //! How a source is shown on a terminal: so that nothing in it garbles the terminal, and that the columns which it takes are known.
 
-ghost use Rattle.std.specs.Prelude.{◌≡◌, ◌≤◌};
+ghost use Rattle.std.specs.Prelude.{◌≡◌, ◌≢◌, ◌≤◌, true, OnOk, IfOk, string_bytes};
 ghost use Rattle.facet_json_lint.specs.Columns.{columns as width};
+ghost use Rattle.facet_json_lint.specs.Shown.{IsHarmless};
 
 use std::alloc::{AllocError, Global};
 use unicode_width::UnicodeWidthStr;
@@ -14,21 +15,33 @@ const TAB: &str = "    ";
 
 /// Whether a terminal shows the character where it stands. It acts on control characters, and sets text after those that turn its direction
 /// (Unicode Standard Annex 9) elsewhere.
-fn is_shown(character: char) -> bool {
-    !character.is_control()
-        && !matches!(character, '\u{2028}'..='\u{202E}' | '\u{2066}'..='\u{2069}')
+fn is_shown(character: char) -> bool
+    ensures { result ≡ true → (0x20 ≤ character) × (character ≢ 0x7F) }
+{
+    match character {
+        '\0'..='\x1F' | '\x7F'..='\u{9F}' => false,
+        '\u{2028}'..='\u{202E}' | '\u{2066}'..='\u{2069}' => false,
+        _ => true,
+    }
+}
+
+/// Appends the character as it is shown.
+fn push_shown(shown: &mut String, character: char) -> Result<(), AllocError>
+    ensures { IsHarmless (string_bytes shown.old) → OnOk result (IsHarmless (string_bytes shown.new)) }
+{
+    match character {
+        '\t' => shown.push_str(TAB),
+        _ if is_shown(character) => shown.push(character),
+        _ => shown.push(REPLACEMENT),
+    }
 }
 
 /// Appends the text as it is shown.
-fn push_shown(shown: &mut String, text: &str) -> Result<(), AllocError> {
+fn push_text(shown: &mut String, text: &str) -> Result<(), AllocError>
+    ensures { IsHarmless (string_bytes shown.old) → OnOk result (IsHarmless (string_bytes shown.new)) }
+{
     for character in text.chars() {
-        if character == '\t' {
-            shown.push_str(TAB)?;
-        } else if is_shown(character) {
-            shown.push(character)?;
-        } else {
-            shown.push(REPLACEMENT)?;
-        }
+        push_shown(shown, character)?;
     }
     Ok(())
 }
@@ -38,12 +51,14 @@ fn push_shown(shown: &mut String, text: &str) -> Result<(), AllocError> {
 /// ```text
 /// shown(alloc, b"\t\"a\x1b\xff\"")?     "    \"a\u{FFFD}\u{FFFD}\""
 /// ```
-pub fn shown(alloc: Global, bytes: &[u8]) -> Result<String, AllocError> {
+pub fn shown(alloc: Global, bytes: &[u8]) -> Result<String, AllocError>
+    ensures { IfOk result (λ text. IsHarmless (string_bytes text)) }
+{
     let mut text = String::new(alloc);
     for chunk in bytes.utf8_chunks() {
-        push_shown(&mut text, chunk.valid())?;
+        push_text(&mut text, chunk.valid())?;
         if !chunk.invalid().is_empty() {
-            text.push(REPLACEMENT)?;
+            push_shown(&mut text, REPLACEMENT)?;
         }
     }
     Ok(text)
