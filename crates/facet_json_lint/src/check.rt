@@ -1,6 +1,9 @@
 //! Whether a source is one document, with nothing but a gap behind it (RFC 8259, section 2).
 
-ghost use Rattle.facet_json.specs.Now.{ahead};
+ghost use Rattle.std.specs.Prelude.{◌≡◌, ℕ, List, OnOk};
+ghost use Rattle.facet_json_document.specs.Now.{ahead, fresh_in};
+ghost use Rattle.facet_json_lint.specs.declared.arguments.Language.{Language};
+ghost use Rattle.facet_json_lint.specs.Checked.{read_as, HasDocumentIn};
 
 use crate::arguments::Language;
 use facet_json::{
@@ -55,7 +58,9 @@ impl Fault {
 /// # Errors
 ///
 /// As the parser's `next_event`; and what stands behind the document, which was to be the end of the input.
-pub fn check(alloc: Global, language: Language, source: &[u8]) -> Result<(), Fault> {
+pub fn check(alloc: Global, language: Language, source: &[u8]) -> Result<(), Fault>
+    ensures document { OnOk result (HasDocumentIn (read_as language) source.now) }
+{
     let mut parser = parser_of(alloc, language, source);
     let mut open = Vec::new(alloc);
     match pass_events(&mut parser, &mut open) {
@@ -68,7 +73,9 @@ pub fn check(alloc: Global, language: Language, source: &[u8]) -> Result<(), Fau
 }
 
 /// A parser of the source, before it.
-pub fn parser_of<'de>(alloc: Global, language: Language, source: &'de [u8]) -> JsonParser<'de> {
+pub fn parser_of<'de>(alloc: Global, language: Language, source: &'de [u8]) -> JsonParser<'de>
+    ensures { result ≡ fresh_in source.now (read_as language) }
+{
     match language {
         Language::Plain => JsonParser::new(alloc, source),
         Language::Jsonc => JsonParser::new_jsonc(alloc, source),
@@ -80,20 +87,31 @@ pub fn parser_of<'de>(alloc: Global, language: Language, source: &'de [u8]) -> J
 fn pass_events(
     parser: &mut JsonParser<'_>,
     open: &mut Vec<Span>,
-) -> Result<(), ParseError<'static>> {
-    while let Some(event) = parser.next_event()? {
-        let ParseEvent { kind, span } = event;
-        match kind {
-            ParseEventKind::StructStart(_) | ParseEventKind::SequenceStart(_) => {
-                if open.push(span).is_err() {
-                    return Err(ParseError::new(span, DeserializeErrorKind::OutOfMemory));
-                }
-            }
-            ParseEventKind::StructEnd | ParseEventKind::SequenceEnd => {
-                open.pop();
-            }
-            ParseEventKind::FieldKey(_) | ParseEventKind::Scalar(_) => {}
+) -> Result<(), ParseError<'static>>
+    ensures document { (language : Language) (source : List ℕ) → parser.old ≡ fresh_in source (read_as language)
+        → OnOk result (HasDocumentIn (read_as language) source) }
+{
+    loop {
+        match parser.next_event() {
+            Ok(Some(event)) => follow(open, &event)?,
+            Ok(None) => return Ok(()),
+            Err(error) => return Err(error),
         }
+    }
+}
+
+/// Keeps which brackets are open after one more event.
+fn follow(open: &mut Vec<Span>, event: &ParseEvent<'_>) -> Result<(), ParseError<'static>> {
+    match event.kind {
+        ParseEventKind::StructStart(_) | ParseEventKind::SequenceStart(_) => {
+            if open.push(event.span).is_err() {
+                return Err(ParseError::new(event.span, DeserializeErrorKind::OutOfMemory));
+            }
+        }
+        ParseEventKind::StructEnd | ParseEventKind::SequenceEnd => {
+            open.pop();
+        }
+        ParseEventKind::FieldKey(_) | ParseEventKind::Scalar(_) => {}
     }
     Ok(())
 }

@@ -52,7 +52,7 @@ impl Lint<'_> {
             writeln!(output, "{tally}")?;
         }
         output.flush()?;
-        Ok(tally.status(self.options.layout == Layout::Made))
+        Ok(tally.status())
     }
 
     /// Checks a file.
@@ -132,7 +132,8 @@ impl Lint<'_> {
     /// Tells which keys of a source come twice that is changed, or would be.
     fn keys_of_changed<W: Write>(self, source: Source<'_>, output: &mut W) -> io::Result<Verdict> {
         match self.keys(source, output)? {
-            Verdict::Fine => Ok(Verdict::Changed),
+            Verdict::Fine if self.options.layout == Layout::Made => Ok(Verdict::Changed),
+            Verdict::Fine => Ok(Verdict::Unlike),
             verdict => Ok(verdict),
         }
     }

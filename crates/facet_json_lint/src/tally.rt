@@ -9,8 +9,10 @@ pub enum Verdict {
     Fine,
     /// Something is reported.
     Reported,
-    /// Its layout is another than that of the formatter.
+    /// It is laid out anew.
     Changed,
+    /// It would be.
+    Unlike,
     /// It can't be read or written.
     Failed,
 }
@@ -21,6 +23,7 @@ pub struct Tally {
     fine: usize,
     reported: usize,
     changed: usize,
+    unlike: usize,
     failed: usize,
 }
 
@@ -31,6 +34,7 @@ impl Tally {
             fine: 0,
             reported: 0,
             changed: 0,
+            unlike: 0,
             failed: 0,
         }
     }
@@ -41,16 +45,17 @@ impl Tally {
             Verdict::Fine => &mut self.fine,
             Verdict::Reported => &mut self.reported,
             Verdict::Changed => &mut self.changed,
+            Verdict::Unlike => &mut self.unlike,
             Verdict::Failed => &mut self.failed,
         };
         *count = count.saturating_add(1);
     }
 
-    /// The status that tells of the files: 2 where one failed, 1 where something is reported, or would change, and else 0.
-    pub fn status(self, is_written: bool) -> u8 {
+    /// The status that tells of the files: 2 where one failed, 1 where something is said of one, and else 0.
+    pub fn status(self) -> u8 {
         if self.failed > 0 {
             2
-        } else if self.reported > 0 || (self.changed > 0 && !is_written) {
+        } else if self.reported > 0 || self.unlike > 0 {
             1
         } else {
             0
@@ -62,6 +67,7 @@ impl Tally {
         self.fine
             .saturating_add(self.reported)
             .saturating_add(self.changed)
+            .saturating_add(self.unlike)
             .saturating_add(self.failed)
     }
 }
@@ -72,6 +78,7 @@ impl fmt::Display for Tally {
         write!(f, "{} files: {} fine", self.files(), self.fine)?;
         write_count(f, self.reported, "reported")?;
         write_count(f, self.changed, "changed")?;
+        write_count(f, self.unlike, "would change")?;
         write_count(f, self.failed, "failed")
     }
 }
