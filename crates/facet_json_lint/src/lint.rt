@@ -2,17 +2,19 @@
 
 use crate::advice::{Place, advice};
 use crate::arguments::{Layout, Options};
-use crate::check::{Fault, check, parser_of};
+use crate::check::{Fault, check, formatted, parser_of};
 use crate::files;
-use crate::format::formatted;
 use crate::repeats::{Repeat, repeats};
 use crate::report::{Aside, Colours, Report, write_report};
 use crate::shown::shown;
 use crate::tally::{Tally, Verdict};
-use facet_json::{JsonErrorKind, Span};
+use facet_json::{DeserializeError, Indent, JsonErrorKind, Span};
 use std::alloc::AllocError;
 use std::io;
 use std::io::{ErrorKind, Write};
+
+/// How the formatter indents.
+const INDENT: Indent = Indent::Spaces(2);
 
 /// The most repeated keys of a file that are reported one by one.
 const MOST_REPEATS: usize = 20;
@@ -77,6 +79,20 @@ impl Lint<'_> {
         shown(self.rt.alloc(), name.as_bytes())
     }
 
+    /// Checks a source.
+    fn source<W: Write>(self, source: Source<'_>, output: &mut W) -> io::Result<Verdict> {
+        if let Err(fault) = check(self.rt.alloc(), self.options.language, source.text) {
+            return self.tell_fault(source, fault, output);
+        }
+        if self.options.layout == Layout::Kept {
+            return self.keys(source, output);
+        }
+        match formatted(self.rt.alloc(), self.options.language, source.text, INDENT) {
+            Ok(text) => self.lay_out(source, text.as_slice(), output),
+            Err(error) => self.tell_error(source, error, output),
+        }
+    }
+
     /// Tells that a file can't be read or written.
     fn fail<W: Write>(self, name: &str, error: &io::Error, output: &mut W) -> io::Result<Verdict> {
         output.flush()?;
@@ -88,45 +104,42 @@ impl Lint<'_> {
         Ok(Verdict::Failed)
     }
 
-    /// Checks a source.
-    fn source<W: Write>(self, source: Source<'_>, output: &mut W) -> io::Result<Verdict> {
-        if let Err(fault) = check(self.rt.alloc(), self.options.language, source.text) {
-            return self.tell_fault(source, fault, output);
+    /// Has a source be laid out so, or tells that it would be.
+    fn lay_out<W: Write>(
+        self,
+        source: Source<'_>,
+        text: &[u8],
+        output: &mut W,
+    ) -> io::Result<Verdict> {
+        let is_same = text == source.text;
+        if self.options.layout == Layout::Compared {
+            return self.compare(source, is_same, output);
         }
-        match self.options.layout {
-            Layout::Kept => self.keys(source, output),
-            Layout::Compared => self.compare(source, output),
-            Layout::Made => self.format(source, output),
+        let changed = Source { text, ..source };
+        if source.name == "-" {
+            self.rt.stdout().write_all(text)?;
+        } else if is_same {
+            return self.keys(source, output);
+        } else if let Err(error) = files::replace(self.rt, source.name, text) {
+            return self.fail(source.shown, &error, output);
         }
+        self.keys_of_changed(changed, output)
     }
 
     /// Tells whether the formatter would change the source, and which keys come twice.
-    fn compare<W: Write>(self, source: Source<'_>, output: &mut W) -> io::Result<Verdict> {
-        let text = formatted(self.rt.alloc(), self.options.language, source.text)?;
-        if text.as_slice() == source.text {
+    fn compare<W: Write>(
+        self,
+        source: Source<'_>,
+        is_same: bool,
+        output: &mut W,
+    ) -> io::Result<Verdict> {
+        if is_same {
             return self.keys(source, output);
         }
         if !self.options.is_quiet {
             writeln!(output, "{}: would change", source.shown)?;
         }
         self.keys_of_changed(source, output)
-    }
-
-    /// Has the formatter change the source, and tells which keys of what it makes come twice.
-    fn format<W: Write>(self, source: Source<'_>, output: &mut W) -> io::Result<Verdict> {
-        let text = formatted(self.rt.alloc(), self.options.language, source.text)?;
-        let changed = Source {
-            text: text.as_slice(),
-            ..source
-        };
-        if source.name == "-" {
-            self.rt.stdout().write_all(changed.text)?;
-        } else if changed.text == source.text {
-            return self.keys(source, output);
-        } else if let Err(error) = files::replace(self.rt, source.name, changed.text) {
-            return self.fail(source.shown, &error, output);
-        }
-        self.keys_of_changed(changed, output)
     }
 
     /// Tells which keys of a source come twice that is changed, or would be.
@@ -146,14 +159,8 @@ impl Lint<'_> {
         let alloc = self.rt.alloc();
         let mut parser = parser_of(alloc, self.options.language, source.text);
         match repeats(alloc, &mut parser) {
-            Ok(found) => self.tell_repeats(source, found.as_slice(), output),
-            Err(error) => {
-                let fault = Fault {
-                    error,
-                    opened: None,
-                };
-                self.tell_fault(source, fault, output)
-            }
+            Ok(found) => self.tell_repeats(source, found, output),
+            Err(error) => self.tell_error(source, error, output),
         }
     }
 
@@ -161,7 +168,7 @@ impl Lint<'_> {
     fn tell_repeats<W: Write>(
         self,
         source: Source<'_>,
-        found: &[Repeat],
+        found: Vec<Repeat>,
         output: &mut W,
     ) -> io::Result<Verdict> {
         if found.is_empty() {
@@ -201,6 +208,20 @@ impl Lint<'_> {
             }),
         };
         write_report(alloc, &report, self.colours, output)
+    }
+
+    /// Tells of an error that no open bracket is to blame for.
+    fn tell_error<W: Write>(
+        self,
+        source: Source<'_>,
+        error: DeserializeError<'static>,
+        output: &mut W,
+    ) -> io::Result<Verdict> {
+        let fault = Fault {
+            error,
+            opened: None,
+        };
+        self.tell_fault(source, fault, output)
     }
 
     /// Tells why a source is no document.

@@ -9,7 +9,6 @@ mod arguments;
 mod check;
 mod excerpt;
 mod files;
-mod format;
 mod lint;
 mod repeats;
 mod report;

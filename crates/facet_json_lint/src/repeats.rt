@@ -2,9 +2,7 @@
 
 ghost use Rattle.facet_json.specs.Now.{ahead};
 
-use facet_json::{
-    DeserializeErrorKind, FormatParser, JsonParser, ParseError, ParseEvent, ParseEventKind,
-};
+use facet_json::{DeserializeError, FormatParser, JsonParser, ParseEvent, ParseEventKind};
 use std::alloc::{AllocError, Global};
 use std::borrow::CowStr;
 
@@ -103,17 +101,14 @@ fn find(keys: &[Key<'_>], repeats: &mut Vec<Repeat>) -> Result<(), AllocError> {
 pub fn repeats(
     alloc: Global,
     parser: &mut JsonParser<'_>,
-) -> Result<Vec<Repeat>, ParseError<'static>> {
+) -> Result<Vec<Repeat>, DeserializeError<'static>> {
     let mut search = Search {
         keys: Vec::new(alloc),
         starts: Vec::new(alloc),
         repeats: Vec::new(alloc),
     };
     while let Some(event) = parser.next_event()? {
-        let span = event.span;
-        if search.take(event).is_err() {
-            return Err(ParseError::new(span, DeserializeErrorKind::OutOfMemory));
-        }
+        search.take(event)?;
     }
     search.repeats.sort_unstable();
     Ok(search.repeats)
