@@ -111,31 +111,21 @@ impl Lint<'_> {
         text: &[u8],
         output: &mut W,
     ) -> io::Result<Verdict> {
-        let is_same = text == source.text;
-        if self.options.layout == Layout::Compared {
-            return self.compare(source, is_same, output);
-        }
-        let changed = Source { text, ..source };
-        if source.name == "-" {
+        let is_made = self.options.layout == Layout::Made;
+        if is_made && source.name == "-" {
             self.rt.stdout().write_all(text)?;
-        } else if is_same {
+        } else if text == source.text {
             return self.keys(source, output);
+        } else if !is_made {
+            return self.tell_unlike(source, output);
         } else if let Err(error) = files::replace(self.rt, source.name, text) {
             return self.fail(source.shown, &error, output);
         }
-        self.keys_of_changed(changed, output)
+        self.keys_of_changed(Source { text, ..source }, output)
     }
 
-    /// Tells whether the formatter would change the source, and which keys come twice.
-    fn compare<W: Write>(
-        self,
-        source: Source<'_>,
-        is_same: bool,
-        output: &mut W,
-    ) -> io::Result<Verdict> {
-        if is_same {
-            return self.keys(source, output);
-        }
+    /// Tells that the formatter would change a source, and which of its keys come twice.
+    fn tell_unlike<W: Write>(self, source: Source<'_>, output: &mut W) -> io::Result<Verdict> {
         if !self.options.is_quiet {
             writeln!(output, "{}: would change", source.shown)?;
         }
