@@ -38,12 +38,18 @@ impl<'a> Place<'a> {
 
     /// Whether a letter stands right before it.
     fn is_in_word(self) -> bool {
-        self.before.last().is_some_and(|byte| byte.is_ascii_alphabetic())
+        self.before
+            .last()
+            .is_some_and(|byte| byte.is_ascii_alphabetic())
     }
 
     /// The letters and digits that begin there.
     fn word(self) -> &'a [u8] {
-        let len = self.rest.iter().take_while(|byte| byte.is_ascii_alphanumeric()).count();
+        let len = self
+            .rest
+            .iter()
+            .take_while(|byte| byte.is_ascii_alphanumeric())
+            .count();
         &self.rest[..len]
     }
 }
@@ -103,7 +109,8 @@ fn after_item(got: &str) -> &'static str {
 /// Behind a key's string.
 fn after_key(got: &str) -> &'static str {
     match got {
-        "Comma" | "ObjectEnd" | "ArrayEnd" | "Eof" => "a colon and a value are missing after the key",
+        "Comma" | "ObjectEnd" | "ArrayEnd" | "Eof" =>
+            "a colon and a value are missing after the key",
         _ => "a colon is missing before this value",
     }
 }

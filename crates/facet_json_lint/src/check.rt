@@ -39,7 +39,11 @@ impl Fault {
     pub fn unclosed(self) -> Option<Span> {
         match self.error.kind {
             DeserializeErrorKind::UnexpectedEof {
-                expected: "',' or '}'" | "',' or ']'" | "field name or '}'" | "value or ']'" | "value",
+                expected: "',' or '}'"
+                | "',' or ']'"
+                | "field name or '}'"
+                | "value or ']'"
+                | "value",
             } => self.opened,
             DeserializeErrorKind::UnexpectedToken {
                 got: "ArrayEnd",

@@ -87,7 +87,12 @@ fn window(bytes: &[u8], side: Side) -> &[u8] {
 }
 
 /// The bytes as they are shown, cut at this side to so many columns, and two dots where something is cut off.
-fn shown_within(alloc: Global, bytes: &[u8], most: usize, side: Side) -> Result<String, AllocError> {
+fn shown_within(
+    alloc: Global,
+    bytes: &[u8],
+    most: usize,
+    side: Side,
+) -> Result<String, AllocError> {
     let part = window(bytes, side);
     let whole = shown(alloc, part)?;
     let kept = cut_to(whole.as_str(), most, side);
@@ -106,7 +111,11 @@ fn meant_of(line: &[u8], len: usize) -> &[u8] {
     if meant.is_empty() {
         return meant;
     }
-    let more = rest.iter().take(3).take_while(|byte| **byte & 0xC0 == 0x80).count();
+    let more = rest
+        .iter()
+        .take(3)
+        .take_while(|byte| **byte & 0xC0 == 0x80)
+        .count();
     &line[..meant.len() + more]
 }
 

@@ -32,7 +32,14 @@ pub fn replace(rt: &HostRuntime, name: &str, text: &[u8]) -> io::Result<()> {
         return Err(io::Error::new(ErrorKind::InvalidInput, "not a regular file"));
     }
     let (file, new) = create_beside(rt, path.as_str())?;
-    let moved = fill_and_move(rt, file, new.as_str(), path.as_str(), metadata.permissions(), text);
+    let moved = fill_and_move(
+        rt,
+        file,
+        new.as_str(),
+        path.as_str(),
+        metadata.permissions(),
+        text,
+    );
     if moved.is_err() {
         // The first failure tells more than this one.
         let _ = fs::remove_file(rt, new.as_str());
@@ -44,7 +51,12 @@ pub fn replace(rt: &HostRuntime, name: &str, text: &[u8]) -> io::Result<()> {
 fn create_beside(rt: &HostRuntime, path: &str) -> io::Result<(File, String)> {
     for number in 0..MOST_NAMES {
         let name = format!(in rt.alloc(); "{path}.{number}.new")?;
-        match OpenOptions::new().write(true).create_new(true).mode(0o600).open(rt, name.as_str()) {
+        match OpenOptions::new()
+            .write(true)
+            .create_new(true)
+            .mode(0o600)
+            .open(rt, name.as_str())
+        {
             Ok(file) => return Ok((file, name)),
             Err(error) if error.kind() == ErrorKind::AlreadyExists => {}
             Err(error) => return Err(error),

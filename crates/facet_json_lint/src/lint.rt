@@ -8,7 +8,7 @@ use crate::repeats::{Repeat, repeats};
 use crate::report::{Aside, Colours, Report, write_report};
 use crate::shown::shown;
 use crate::tally::{Tally, Verdict};
-use facet_json::{DeserializeError, Indent, JsonErrorKind, Span};
+use facet_json::{DeserializeError, DeserializeErrorKind, Indent, JsonErrorKind, Span};
 use std::alloc::AllocError;
 use std::io;
 use std::io::{ErrorKind, Write};
@@ -214,13 +214,20 @@ impl Lint<'_> {
         self.tell_fault(source, fault, output)
     }
 
-    /// Tells why a source is no document.
+    /// Tells why a source is no document, or that there is not enough memory for it.
     fn tell_fault<W: Write>(
         self,
         source: Source<'_>,
         fault: Fault,
         output: &mut W,
     ) -> io::Result<Verdict> {
+        if matches!(fault.error.kind, DeserializeErrorKind::OutOfMemory) {
+            return self.fail(
+                source.shown,
+                &io::Error::from(ErrorKind::OutOfMemory),
+                output,
+            );
+        }
         if self.options.is_quiet {
             return Ok(Verdict::Reported);
         }

@@ -23,7 +23,8 @@ use std::process::ExitCode;
 use std::{env, io};
 
 /// How the program is called.
-const USAGE: &str = "usage: facet_json_lint [--strict | --jsonc] [--repeated-keys] [--format | --check] [--quiet] [FILE..]";
+const USAGE: &str =
+    "usage: facet_json_lint [--strict | --jsonc] [--repeated-keys] [--format | --check] [--quiet] [FILE..]";
 
 /// What it does.
 const HELP: &str = "

@@ -100,7 +100,11 @@ pub fn write_report<W: Write>(
 }
 
 /// Writes where and what is wrong.
-fn write_message<W: Write>(report: &Report<'_>, colours: Colours, output: &mut W) -> io::Result<()> {
+fn write_message<W: Write>(
+    report: &Report<'_>,
+    colours: Colours,
+    output: &mut W,
+) -> io::Result<()> {
     let Position { line, column } = position_at(report.source, report.span.offset);
     let Report { name, kind, .. } = report;
     let Colours { place, end, .. } = colours;
