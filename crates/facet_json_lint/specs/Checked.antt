@@ -1,0 +1,13 @@
+-- What a source is that is checked.
+use Rattle.std.specs.Prelude.{ℕ, List}
+use Rattle.facet_json.specs.Gap.{plain, jsonc}
+use Rattle.facet_json.specs.Formatted.{HasOneDocument}
+use Rattle.facet_json.specs.StrictDocument.{IsStrict}
+use Rattle.facet_json_lint.specs.declared.arguments.Language.{Language}
+use Rattle.facet_json_lint.specs.declared.arguments.Language.TheVariants.{Plain, Jsonc, Strict}
+
+-- All of the source is one document, with nothing but a gap around it.
+abbrev pub IsDocument : Language → List ℕ → Type 0
+IsDocument Plain source = HasOneDocument source plain
+IsDocument Jsonc source = HasOneDocument source jsonc
+IsDocument Strict source = IsStrict source

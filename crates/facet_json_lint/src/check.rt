@@ -1,0 +1,138 @@
+//! Whether a source is one document, with nothing but a gap around it (RFC 8259, section 2), and how it is laid out.
+
+ghost use Rattle.std.specs.Prelude.{OnOk, IfErr};
+ghost use Rattle.facet_json.specs.Now.{ahead};
+ghost use Rattle.facet_json.specs.FormatViews.{refusal_of};
+ghost use Rattle.facet_json.specs.Reading.{LacksMemory};
+ghost use Rattle.facet_json_lint.specs.Checked.{IsDocument};
+
+use crate::arguments::Language;
+use facet_json::scanner::Mode;
+use facet_json::{
+    DeserializeError, DeserializeErrorKind, FormatOptions, FormatParser, Indent, JsonParser,
+    ParseEvent, ParseEventKind, Span, format_text, format_text_strict,
+};
+use std::alloc::{AllocError, Global};
+
+/// Why a source is not one document.
+#[derive(Debug, Clone, Copy)]
+pub struct Fault {
+    /// What is wrong, and where.
+    pub error: DeserializeError<'static>,
+    /// The innermost bracket that is open there.
+    pub opened: Option<Span>,
+}
+
+impl Fault {
+    /// Where it is told: what is missing at the end of the source is told behind the last of it that is no white space.
+    pub fn told_at(self, source: &[u8]) -> Span {
+        match self.error.span {
+            Some(Span { offset, len: 0 }) => {
+                Span::new(offset.min(source.trim_ascii_end().len()), 0)
+            }
+            Some(span) => span,
+            None => Span::new(0, 0),
+        }
+    }
+
+    /// The bracket that is open there, where a closing one is missing.
+    pub fn unclosed(self) -> Option<Span> {
+        match self.error.kind {
+            DeserializeErrorKind::UnexpectedEof {
+                expected: "',' or '}'"
+                | "',' or ']'"
+                | "field name or '}'"
+                | "value or ']'"
+                | "value",
+            } => self.opened,
+            DeserializeErrorKind::UnexpectedToken {
+                got: "ArrayEnd",
+                expected: "',' or '}'" | "field name or '}'",
+            } => self.opened,
+            DeserializeErrorKind::UnexpectedToken {
+                got: "ObjectEnd",
+                expected: "',' or ']'",
+            } => self.opened,
+            _ => None,
+        }
+    }
+}
+
+/// Checks that the source is one document.
+///
+/// # Errors
+///
+/// As `formatted`.
+pub fn check(alloc: Global, language: Language, source: &[u8]) -> Result<(), Fault>
+    ensures document { OnOk result (IsDocument language source.now) }
+    ensures only { IsDocument language source.now → IfErr result (λ fault. LacksMemory (refusal_of fault.error)) }
+{
+    // Without an indent the text is no longer than a few times the source, however deep it is.
+    match formatted(alloc, language, source, Indent::Spaces(0)) {
+        Ok(_) => Ok(()),
+        Err(error) => Err(Fault {
+            error,
+            opened: opened(alloc, language, source),
+        }),
+    }
+}
+
+/// The document of the source, laid out, with its comments.
+///
+/// # Errors
+///
+/// As `format_text`, and where RFC 8259 alone is read as `format_text_strict`.
+pub fn formatted(
+    alloc: Global,
+    language: Language,
+    source: &[u8],
+    indent: Indent,
+) -> Result<Vec<u8>, DeserializeError<'static>>
+    ensures document { OnOk result (IsDocument language source.now) }
+    ensures only { IsDocument language source.now → IfErr result (λ error. LacksMemory (refusal_of error)) }
+{
+    let options = FormatOptions { indent };
+    match language {
+        Language::Plain => format_text(alloc, source, Mode::Plain, options),
+        Language::Jsonc => format_text(alloc, source, Mode::Jsonc, options),
+        Language::Strict => format_text_strict(alloc, source, options),
+    }
+}
+
+/// A parser of the source, before it.
+pub fn parser_of<'de>(alloc: Global, language: Language, source: &'de [u8]) -> JsonParser<'de> {
+    match language {
+        Language::Plain => JsonParser::new(alloc, source),
+        Language::Jsonc => JsonParser::new_jsonc(alloc, source),
+        Language::Strict => JsonParser::new_strict(alloc, source),
+    }
+}
+
+/// The innermost bracket that is open where the source's events end, as far as there is memory to tell.
+fn opened(alloc: Global, language: Language, source: &[u8]) -> Option<Span> {
+    let mut open = Vec::new(alloc);
+    match pass_events(&mut parser_of(alloc, language, source), &mut open) {
+        Ok(()) => open.last().copied(),
+        Err(_) => None,
+    }
+}
+
+/// Passes all events, and keeps which brackets are open.
+fn pass_events(parser: &mut JsonParser<'_>, open: &mut Vec<Span>) -> Result<(), AllocError> {
+    while let Ok(Some(event)) = parser.next_event() {
+        follow(open, &event)?;
+    }
+    Ok(())
+}
+
+/// Keeps which brackets are open after one more event.
+fn follow(open: &mut Vec<Span>, event: &ParseEvent<'_>) -> Result<(), AllocError> {
+    match event.kind {
+        ParseEventKind::StructStart(_) | ParseEventKind::SequenceStart(_) => open.push(event.span)?,
+        ParseEventKind::StructEnd | ParseEventKind::SequenceEnd => {
+            open.pop();
+        }
+        ParseEventKind::FieldKey(_) | ParseEventKind::Scalar(_) => {}
+    }
+    Ok(())
+}

@@ -1,0 +1,115 @@
+//! Keys that come twice in an object (RFC 8259, section 4, says that they should not).
+
+ghost use Rattle.facet_json.specs.Now.{ahead};
+
+use facet_json::{DeserializeError, FormatParser, JsonParser, ParseEvent, ParseEventKind};
+use std::alloc::{AllocError, Global};
+use std::borrow::CowStr;
+
+/// A key that its object had before. They are in the order in which they come.
+#[derive(Debug, Clone, Copy, PartialEq, Eq, PartialOrd, Ord)]
+pub struct Repeat {
+    /// Its offset in the source, in bytes.
+    pub offset: usize,
+    /// How many bytes it has, with its quotes.
+    pub len: usize,
+    /// The offset of the first such key of the object.
+    pub first: usize,
+}
+
+impl Repeat {
+    /// The key as it stands in the source, without its quotes.
+    pub fn key(self, source: &[u8]) -> &[u8] {
+        let (_, rest) = source.split_at(self.offset.min(source.len()));
+        let (key, _) = rest.split_at(self.len.min(rest.len()));
+        match key {
+            [b'"', inner @ .., b'"'] => inner,
+            _ => key,
+        }
+    }
+}
+
+/// A key, whose text is decoded.
+#[derive(PartialEq, Eq, PartialOrd, Ord, Drop)]
+struct Key<'de> {
+    name: CowStr<'de>,
+    offset: usize,
+    len: usize,
+}
+
+/// The keys of the objects that are open, and what was found.
+#[derive(Drop)]
+struct Search<'de> {
+    /// The keys, those of the innermost object last.
+    keys: Vec<Key<'de>>,
+    /// For each open object, how many keys the others had.
+    starts: Vec<usize>,
+    repeats: Vec<Repeat>,
+}
+
+impl<'de> Search<'de> {
+    /// Takes one more event.
+    fn take(&mut self, event: ParseEvent<'de>) -> Result<(), AllocError> {
+        let ParseEvent { kind, span } = event;
+        match kind {
+            ParseEventKind::StructStart(_) => self.starts.push(self.keys.len())?,
+            ParseEventKind::StructEnd => self.close()?,
+            ParseEventKind::FieldKey(key) => self.keys.push(Key {
+                name: key.name,
+                offset: span.offset,
+                len: span.len,
+            })?,
+            ParseEventKind::SequenceStart(_)
+            | ParseEventKind::SequenceEnd
+            | ParseEventKind::Scalar(_) => {}
+        }
+        Ok(())
+    }
+
+    /// Finds the repeats of the innermost object, which ends, and lets its keys go.
+    fn close(&mut self) -> Result<(), AllocError> {
+        let start = self.starts.pop().unwrap_or(0).min(self.keys.len());
+        let keys = &mut self.keys[start..];
+        keys.sort_unstable();
+        find(keys, &mut self.repeats)?;
+        self.keys.truncate(start);
+        Ok(())
+    }
+}
+
+/// Finds the repeats among sorted keys of an object.
+fn find(keys: &[Key<'_>], repeats: &mut Vec<Repeat>) -> Result<(), AllocError> {
+    let mut first: Option<&Key<'_>> = None;
+    for key in keys {
+        match first {
+            Some(known) if known.name == key.name => repeats.push(Repeat {
+                offset: key.offset,
+                len: key.len,
+                first: known.offset,
+            })?,
+            _ => first = Some(key),
+        }
+    }
+    Ok(())
+}
+
+/// The repeated keys of the document before which the parser stands, in the order in which they come.
+///
+/// # Errors
+///
+/// As the parser's `next_event`, and where there is no memory for the keys of the open objects.
+pub fn repeats(
+    alloc: Global,
+    parser: &mut JsonParser<'_>,
+) -> Result<Vec<Repeat>, DeserializeError<'static>> {
+    let mut search = Search {
+        keys: Vec::new(alloc),
+        starts: Vec::new(alloc),
+        repeats: Vec::new(alloc),
+    };
+    while let Some(event) = parser.next_event()? {
+        search.take(event)?;
+    }
+    search.repeats.sort_unstable();
+    Ok(search.repeats)
+}
