@@ -36,7 +36,8 @@ pub use facet_json_core::{
 };
 pub use facet_json_facet::{Facet, ReadResult};
 pub use facet_json_layout::{
-    FormatOptions, Indent, check, check_jsonc, check_strict, format_text, format_text_strict,
+    FormatOptions, Indent, check, check_jsonc, check_strict, check_whole, format_text,
+    format_text_strict,
 };
 pub use facet_json_parser::JsonParser;
 pub use facet_json_reader::{MaterializedToken, TokenKind};

@@ -124,12 +124,17 @@ module _ (text : List ℕ) (mode : Mode) where
       inr (more_follows d.root d.tree (tokens_from text mode (stop last)) d.reads behind.some behind.so)
 
   -- One document is not refused.
-  pub one-not_refused : (r : Refusal) → HasOneDocument text mode → RefusesOne text mode r → ⊥
+  one-not_refused : (r : Refusal) → HasOneDocument text mode → RefusesOne text mode r → ⊥
   one-not_refused r one (no_document refuses) =
       refused_has_none text mode r one.0 one.1 refuses (record { rest = ended; reads = one.2 })
   one-not_refused r one (more_follows root tree rest reads some so) =
       let same = one_spelling (tokens text mode) _ _ _ _ reads.spells one.2.spells in
       some same.1
+
+  -- Where the text is one, only memory is lacked.
+  pub one-lacks : (r : Refusal) → HasOneDocument text mode → LacksMemory r ⊎ RefusesOne text mode r → LacksMemory r
+  one-lacks r one (inl lacks) = lacks
+  one-lacks r one (inr refuses) = absurd (one-not_refused r one refuses)
 
 -- ---- strict ones
 

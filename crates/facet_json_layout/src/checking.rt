@@ -87,12 +87,19 @@ pub fn check_strict<'t>(alloc: Global, input: &[u8]) -> Result<(), DeserializeEr
 }
 
 /// Checks that all of the text is one document: nothing but a gap follows it.
-pub(crate) fn check_one<'t>(
-    alloc: Global,
-    text: &[u8],
-    mode: Mode,
-) -> Result<(), DeserializeError<'t>>
+///
+/// ```text
+/// check_whole(alloc, b"[1] // one", Mode::Jsonc)    Ok
+/// check_whole(alloc, b"[1] 2", Mode::Plain)         Err: UnexpectedToken { got: "U64", expected: "end of input" }, span 4+1
+/// ```
+///
+/// # Errors
+///
+/// As `check`, or `check_jsonc`, where no document begins; and what stands behind the document: `UnexpectedToken`, expected `end of input`, where it
+/// is a token, and else as a scanner refuses it. Or out of memory. A span is an offset and a length in bytes.
+pub fn check_whole<'t>(alloc: Global, text: &[u8], mode: Mode) -> Result<(), DeserializeError<'t>>
     ensures document { OnOk result (HasOneDocument text.now (mode_of mode)) }
+    ensures only { HasOneDocument text.now (mode_of mode) → IfErr result (λ e. LacksMemory (refusal_of e)) }
     ensures refused { IfErr result (λ e. LacksOrRefusesOne text.now (mode_of mode) (refusal_of e)) }
     ensures within { IfErr result (λ e. RefusalWithin text.now (refusal_of e)) }
 {

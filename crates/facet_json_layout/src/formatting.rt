@@ -11,7 +11,7 @@ ghost use Rattle.facet_json_core.specs.Reading.{LacksMemory};
 ghost use Rattle.facet_json_layout.specs.Formatted.{HasOneDocument, LacksOrBreaksOff, LacksOrRefusesOne};
 ghost use Rattle.facet_json_layout.specs.Inner.Layout.{all_tokens};
 
-use crate::checking::{check_one, check_strict};
+use crate::checking::{check_whole, check_strict};
 use crate::layout::Layout;
 use crate::spacing::Indent;
 use facet_format::DeserializeError;
@@ -69,8 +69,7 @@ impl Default for FormatOptions {
 ///
 /// # Errors
 ///
-/// As `tree_from_slice`, or `tree_from_slice_jsonc`, where no document begins; and what stands behind the document: `UnexpectedToken`,
-/// expected `end of input`, where it is a token, and else as a scanner refuses it. Or out of memory. A span is an offset and a length in bytes.
+/// As `check_whole`.
 pub fn format_text<'t>(
     alloc: Global,
     text: &[u8],
@@ -83,7 +82,7 @@ pub fn format_text<'t>(
     ensures refused { IfErr result (λ e. LacksOrRefusesOne text.now (mode_of mode) (refusal_of e)) }
     ensures within { IfErr result (λ e. RefusalWithin text.now (refusal_of e)) }
 {
-    check_one(alloc, text, mode)?;
+    check_whole(alloc, text, mode)?;
     lay_out(alloc, text, mode, options)
 }
 
@@ -91,7 +90,7 @@ pub fn format_text<'t>(
 ///
 /// # Errors
 ///
-/// As `tree_from_slice_strict`.
+/// As `check_strict`.
 pub fn format_text_strict<'t>(
     alloc: Global,
     text: &[u8],

@@ -7,6 +7,6 @@ mod layout;
 mod pieces;
 mod spacing;
 
-pub use checking::{check, check_jsonc, check_strict};
+pub use checking::{check, check_jsonc, check_strict, check_whole};
 pub use formatting::{FormatOptions, format_text, format_text_strict};
 pub use spacing::Indent;
