@@ -9,8 +9,8 @@ ghost use Rattle.facet_json_lint.specs.Checked.{IsDocument};
 use crate::arguments::Language;
 use facet_json::scanner::Mode;
 use facet_json::{
-    DeserializeError, DeserializeErrorKind, FormatOptions, FormatParser, Indent, JsonParser,
-    ParseEvent, ParseEventKind, Span, format_text, format_text_strict,
+    DeserializeError, DeserializeErrorKind, FormatOptions, FormatParser, JsonParser, ParseEvent,
+    ParseEventKind, Span, check_strict, check_whole, format_text, format_text_strict,
 };
 use std::alloc::{AllocError, Global};
 
@@ -62,18 +62,33 @@ impl Fault {
 ///
 /// # Errors
 ///
-/// As `formatted`.
+/// As `check_whole`, and where RFC 8259 alone is read as `check_strict`.
 pub fn check(alloc: Global, language: Language, source: &[u8]) -> Result<(), Fault>
     ensures document { OnOk result (IsDocument language source.now) }
     ensures only { IsDocument language source.now → IfErr result (λ fault. LacksMemory (refusal_of fault.error)) }
 {
-    // Without an indent the text is no longer than a few times the source, however deep it is.
-    match formatted(alloc, language, source, Indent::Spaces(0)) {
-        Ok(_) => Ok(()),
+    match checked(alloc, language, source) {
+        Ok(()) => Ok(()),
         Err(error) => Err(Fault {
             error,
             opened: opened(alloc, language, source),
         }),
+    }
+}
+
+/// Whether the source is one document, as the library tells it.
+fn checked(
+    alloc: Global,
+    language: Language,
+    source: &[u8],
+) -> Result<(), DeserializeError<'static>>
+    ensures document { OnOk result (IsDocument language source.now) }
+    ensures only { IsDocument language source.now → IfErr result (λ error. LacksMemory (refusal_of error)) }
+{
+    match language {
+        Language::Plain => check_whole(alloc, source, Mode::Plain),
+        Language::Jsonc => check_whole(alloc, source, Mode::Jsonc),
+        Language::Strict => check_strict(alloc, source),
     }
 }
 
@@ -86,12 +101,11 @@ pub fn formatted(
     alloc: Global,
     language: Language,
     source: &[u8],
-    indent: Indent,
 ) -> Result<Vec<u8>, DeserializeError<'static>>
     ensures document { OnOk result (IsDocument language source.now) }
     ensures only { IsDocument language source.now → IfErr result (λ error. LacksMemory (refusal_of error)) }
 {
-    let options = FormatOptions { indent };
+    let options = FormatOptions::new();
     match language {
         Language::Plain => format_text(alloc, source, Mode::Plain, options),
         Language::Jsonc => format_text(alloc, source, Mode::Jsonc, options),

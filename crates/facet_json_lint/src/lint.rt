@@ -8,13 +8,10 @@ use crate::repeats::{Repeat, repeats};
 use crate::report::{Aside, Colours, Report, write_report};
 use crate::shown::shown;
 use crate::tally::{Tally, Verdict};
-use facet_json::{DeserializeError, DeserializeErrorKind, Indent, JsonErrorKind, Span};
+use facet_json::{DeserializeError, DeserializeErrorKind, JsonErrorKind, Span};
 use std::alloc::AllocError;
 use std::io;
 use std::io::{ErrorKind, Write};
-
-/// How the formatter indents.
-const INDENT: Indent = Indent::Spaces(2);
 
 /// The most repeated keys of a file that are reported one by one.
 const MOST_REPEATS: usize = 20;
@@ -87,7 +84,7 @@ impl Lint<'_> {
         if self.options.layout == Layout::Kept {
             return self.keys(source, output);
         }
-        match formatted(self.rt.alloc(), self.options.language, source.text, INDENT) {
+        match formatted(self.rt.alloc(), self.options.language, source.text) {
             Ok(text) => self.lay_out(source, text.as_slice(), output),
             Err(error) => self.tell_error(source, error, output),
         }
