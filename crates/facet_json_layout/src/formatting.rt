@@ -11,7 +11,7 @@ ghost use Rattle.facet_json_core.specs.Reading.{LacksMemory};
 ghost use Rattle.facet_json_layout.specs.Formatted.{HasOneDocument, LacksOrBreaksOff, LacksOrRefusesOne};
 ghost use Rattle.facet_json_layout.specs.Inner.Layout.{all_tokens};
 
-use crate::checking::{check_whole, check_strict};
+use crate::checking::{check_strict, check_whole};
 use crate::layout::Layout;
 use crate::spacing::Indent;
 use facet_format::DeserializeError;
