@@ -38,8 +38,6 @@ mod numbers;
 #[cfg(test)]
 mod own;
 #[cfg(test)]
-mod pointers;
-#[cfg(test)]
 mod prefix;
 #[cfg(test)]
 mod raws;

@@ -68,6 +68,8 @@ mod runs;
 #[cfg(test)]
 mod samples;
 #[cfg(test)]
+mod searches;
+#[cfg(test)]
 mod shown;
 #[cfg(test)]
 mod sources;

@@ -21,7 +21,7 @@ fn names_within(alloc: Global, tree: &Tree, pointer: &str, wanted: Option<&str>)
 }
 
 /// Whether the tree is the document's.
-fn is_document(alloc: Global, tree: &Tree, document: &str) -> bool {
+pub(crate) fn is_document(alloc: Global, tree: &Tree, document: &str) -> bool {
     match tree_from_slice(alloc, document.as_bytes()) {
         Ok(wanted) => tree.is_same(&wanted),
         Err(_) => false,
@@ -29,11 +29,11 @@ fn is_document(alloc: Global, tree: &Tree, document: &str) -> bool {
 }
 
 /// The document of RFC 6901, section 5.
-const DOCUMENT: &str =
+pub(crate) const DOCUMENT: &str =
     r#"{"foo":["bar","baz"],"":0,"a/b":1,"c%d":2,"e^f":3,"g|h":4,"i\\j":5,"k\"l":6," ":7,"m~n":8}"#;
 
 /// The pointers of that section, and what each names.
-static NAMED: [(&str, &str); 12] = [
+pub(crate) static NAMED: [(&str, &str); 12] = [
     ("", DOCUMENT),
     ("/foo", r#"["bar","baz"]"#),
     ("/foo/0", r#""bar""#),

@@ -1,8 +1,9 @@
 //! A search by a JSON pointer, with the document and the pointers of RFC 6901, section 5, and with others.
 
+use crate::pointers::{DOCUMENT, NAMED, is_document};
 use facet_format::{DeserializeError, FormatParser};
 use facet_json::steps::{FindError, find_pointer};
-use facet_json::{PointerError, Tree, read_tree, tree_from_slice};
+use facet_json::{PointerError, Tree, read_tree};
 use facet_json_parser::JsonParser;
 use std::alloc::Global;
 use std::process::Abort;
@@ -17,14 +18,7 @@ fn names(alloc: Global, input: &str, pointer: &str, wanted: &str) -> bool {
 /// Whether this value was read.
 fn is_read(alloc: Global, read: Result<Tree, DeserializeError<'_>>, wanted: &str) -> bool {
     match read {
-        Ok(found) => is_tree(alloc, &found, wanted),
-        Err(_) => false,
-    }
-}
-
-fn is_tree(alloc: Global, found: &Tree, wanted: &str) -> bool {
-    match tree_from_slice(alloc, wanted.as_bytes()) {
-        Ok(wanted) => found.is_same(&wanted),
+        Ok(found) => is_document(alloc, &found, wanted),
         Err(_) => false,
     }
 }
@@ -51,29 +45,9 @@ fn lacks(alloc: Global, input: &str, pointer: &str, passed: usize) -> bool {
             .is_some_and(|span| span.end() == passed)
 }
 
-/// The document of RFC 6901, section 5.
-const DOCUMENT: &str =
-    r#"{"foo":["bar","baz"],"":0,"a/b":1,"c%d":2,"e^f":3,"g|h":4,"i\\j":5,"k\"l":6," ":7,"m~n":8}"#;
-
-/// The pointers of that section, and what each names.
-static OF_THE_RFC: [(&str, &str); 12] = [
-    ("", DOCUMENT),
-    ("/foo", r#"["bar","baz"]"#),
-    ("/foo/0", r#""bar""#),
-    ("/", "0"),
-    ("/a~1b", "1"),
-    ("/c%d", "2"),
-    ("/e^f", "3"),
-    ("/g|h", "4"),
-    (r"/i\j", "5"),
-    (r#"/k"l"#, "6"),
-    ("/ ", "7"),
-    ("/m~0n", "8"),
-];
-
 #[test]
-fn the_pointers_of_the_rfc_name_their_values(rt: HostRuntime) {
-    for &(pointer, wanted) in &OF_THE_RFC {
+fn the_pointers_of_the_rfc_lead_to_their_values(rt: HostRuntime) {
+    for &(pointer, wanted) in &NAMED {
         assert!(rt;
             names(rt.alloc(), DOCUMENT, pointer, wanted),
             "at {pointer}"
