@@ -5,10 +5,10 @@ ghost use Rattle.facet_format.specs.Views.{refusal_of};
 ghost use Rattle.facet_json_token.specs.Gap.{plain};
 ghost use Rattle.facet_json_token.specs.Views.{mode_of};
 ghost use Rattle.facet_json_layout.specs.Pieces.{pieces, without_trailing_commas};
+ghost use Rattle.facet_json_layout.specs.Formatted.{HasOneDocument, LacksOrBreaksOff, LacksOrRefusesOne};
 ghost use Rattle.facet_json_document.specs.StrictDocument.{IsStrict};
 ghost use Rattle.facet_json_document.specs.UnreadLaws.{RefusalWithin};
 ghost use Rattle.facet_json_core.specs.Reading.{LacksMemory};
-ghost use Rattle.facet_json_layout.specs.Formatted.{HasOneDocument, LacksOrBreaksOff, LacksOrRefusesOne};
 ghost use Rattle.facet_json_layout.specs.Inner.Layout.{all_tokens};
 
 use crate::checking::{check_strict, check_whole};
