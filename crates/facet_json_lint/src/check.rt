@@ -1,7 +1,6 @@
 //! Whether a source is one document, with nothing but a gap around it (RFC 8259, section 2), and how it is laid out.
 
 ghost use Rattle.std.specs.Prelude.{OnOk, IfErr};
-ghost use Rattle.facet_json.specs.Now.{ahead};
 ghost use Rattle.facet_json.specs.FormatViews.{refusal_of};
 ghost use Rattle.facet_json.specs.Reading.{LacksMemory};
 ghost use Rattle.facet_json_lint.specs.Checked.{IsDocument};

@@ -1,8 +1,5 @@
 //! The part of a source that a report shows: a line, cut around what is meant where it is long.
 
-ghost use Rattle.std.specs.Prelude.{◌≤◌, ◌+◌, IfOk, string_bytes};
-ghost use Rattle.facet_json_lint.specs.Columns.{columns as width};
-
 use crate::shown::{Side, columns, cut_to, shown};
 use facet_json::Span;
 use std::alloc::{AllocError, Global};

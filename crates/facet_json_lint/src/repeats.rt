@@ -1,7 +1,5 @@
 //! Keys that come twice in an object (RFC 8259, section 4, says that they should not).
 
-ghost use Rattle.facet_json.specs.Now.{ahead};
-
 use facet_json::{DeserializeError, FormatParser, JsonParser, ParseEvent, ParseEventKind};
 use std::alloc::{AllocError, Global};
 use std::borrow::CowStr;
