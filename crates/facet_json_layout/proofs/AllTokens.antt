@@ -67,7 +67,7 @@ comment-bound (a ∷ c ∷ bytes) n e = by ((a == slash) && (c == star)) ((a == 
     by false true f = line-bound bytes _ n refl f
     by false false f = absurd (omega (arith, f))
 
-piece-bound : (mode : Mode) (bytes : List ℕ) (n : ℕ) → piece_len mode whole bytes ≡ suc n → suc n ≤ length bytes
+pub piece-bound : (mode : Mode) (bytes : List ℕ) (n : ℕ) → piece_len mode whole bytes ≡ suc n → suc n ≤ length bytes
 piece-bound mode [] n e = absurd (omega (arith, e))
 piece-bound plain (b ∷ bytes) n e = by (is_space b) e
   where
@@ -82,8 +82,16 @@ piece-bound jsonc (b ∷ bytes) n e = by (is_space b) e
 
 module _ (text : List ℕ) (mode : Mode) where
   -- Where the same is cut, the same tokens stand.
-  tokens-same : (p q : ℕ) → cut text p mode ≡ cut text q mode → tokens_from text mode p ≡ tokens_from text mode q
+  pub tokens-same : (p q : ℕ) → cut text p mode ≡ cut text q mode → tokens_from text mode p ≡ tokens_from text mode q
   tokens-same p q e = tokens_by_first text mode p _ e ∙ sym (tokens_by_first text mode q _ refl)
+
+  -- Where no gap stands, this is cut.
+  pub cut-here : (at b : ℕ) (bytes : List ℕ) → drop at text ≡ b ∷ bytes → piece_len mode whole (b ∷ bytes) ≡ 0 →
+      cut text at mode ≡ cut_here mode at (b ∷ bytes)
+  unfolding cut
+  cut-here at b bytes here e =
+      let past : past_gap text at mode ≡ at = omega (arith, gap_len-none mode whole (drop at text) (ap (piece_len mode whole) here ∙ e)) in
+      ap (λ n. cut_here mode n (drop n text)) past ∙ ap (cut_here mode at) here
 
   -- what is known of the pieces after so many bytes of the piece before
   abbrev EndsFrom : List ℕ → Type 0
@@ -111,12 +119,6 @@ module _ (text : List ℕ) (mode : Mode) where
         subst AllEnd (tokens-same at (at + suc n) same ∙ ap (tokens_from text mode) to) ends in
         comment-tokens (trimmed (take (suc n) (b ∷ bytes))) (pieces_from mode n bytes) (further n (suc at) past_one (omega (arith, left, w)) there)
 
-    cut-here : piece_len mode whole (b ∷ bytes) ≡ 0 → cut text at mode ≡ cut_here mode at (b ∷ bytes)
-    unfolding cut
-    cut-here e =
-        let past : past_gap text at mode ≡ at = omega (arith, gap_len-none mode whole (drop at text) (ap (piece_len mode whole) here ∙ e)) in
-        ap (λ n. cut_here mode n (drop n text)) past ∙ ap (cut_here mode at) here
-
     never : (c : Cut) → cut_here mode at (b ∷ bytes) ≡ c → by_first text mode c ≡ tokens_from text mode at → AllEnd (tokens_from text mode at) →
         (t : Token) × (cut_here mode at (b ∷ bytes) ≡ token t)
     never (token t) is tokens_are ends = (t, is)
@@ -131,7 +133,7 @@ module _ (text : List ℕ) (mode : Mode) where
     token-ends : piece_len mode whole (b ∷ bytes) ≡ 0 → AllEnd (tokens_from text mode at) →
         all_tokens (after_cut mode (b ∷ bytes) bytes (cut_here mode 0 (b ∷ bytes))) ≡ true
     token-ends e ends =
-        let found = never (cut_here mode at (b ∷ bytes)) refl (sym (tokens_by_first text mode at _ (cut-here e))) ends in
+        let found = never (cut_here mode at (b ∷ bytes)) refl (sym (tokens_by_first text mode at _ (cut-here at b bytes here e))) ends in
         let t = found.0 in
         let n = t.span.len in
         let shape : ShapeAt at (b ∷ bytes) t = subst (CutShape at (b ∷ bytes)) found.1 (here_shape mode at (b ∷ bytes)) in
@@ -144,7 +146,7 @@ module _ (text : List ℕ) (mode : Mode) where
         ap (cut_here mode 0) (sym (take-append-drop n (b ∷ bytes))) ∙ cut_here-shape mode 0 front behind there.0 there.1 ∙ ap (token_at there.0 0) size in
         let to : stop t.span ≡ suc at + (n - 1) = omega (arith, shape.starts, some.1) in
         let ends_there : AllEnd (tokens_from text mode (suc at + (n - 1))) =
-        subst (λ m. AllEnd (tokens_from text mode m)) to (subst AllEnd (tokens_by_first text mode at (token t) (cut-here e ∙ found.1)) ends) in
+        subst (λ m. AllEnd (tokens_from text mode m)) to (subst AllEnd (tokens_by_first text mode at (token t) (cut-here at b bytes here e ∙ found.1)) ends) in
         ap (λ c. all_tokens (after_cut mode (b ∷ bytes) bytes c)) cut_0
         ∙ further (n - 1) (suc at) past_one (omega (arith, left, shape.within, some.1)) ends_there
 

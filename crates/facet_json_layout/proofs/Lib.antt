@@ -8,5 +8,9 @@ pub mod PieceShapes
 pub mod PieceSteps
 pub mod PiecesCut
 pub mod PiecesFound
+pub mod SameDocuments
+pub mod SameTokens
+pub mod SameTrees
 pub mod Spaced
+pub mod TokenTexts
 pub mod TokensBehind

@@ -27,6 +27,10 @@ IsOneDocument text mode root tree = Reads text (tokens text mode) root tree ende
 abbrev pub HasOneDocument : List ℕ → Mode → Type 0
 HasOneDocument text mode = (root : Node) × (tree : Tree) × IsOneDocument text mode root tree
 
+-- Where all of the one text is a document, so is all of the other, and it has the same tree.
+abbrev pub HaveOneTree : List ℕ → List ℕ → Mode → Type 0
+HaveOneTree text other mode = (root : Node) (tree : Tree) → IsOneDocument text mode root tree → (node : Node) × IsOneDocument other mode node tree
+
 -- The text is not one document: it begins with none, or a token or a fault stands behind it. It is refused so.
 pub data RefusesOne (text : List ℕ) (mode : Mode) (refusal : Refusal) : Type 0 where
   no_document : Refuses text mode refusal → RefusesOne text mode refusal

@@ -5,7 +5,7 @@ ghost use Rattle.facet_format.specs.Views.{refusal_of};
 ghost use Rattle.facet_json_token.specs.Gap.{plain};
 ghost use Rattle.facet_json_token.specs.Views.{mode_of};
 ghost use Rattle.facet_json_layout.specs.Pieces.{pieces, without_trailing_commas};
-ghost use Rattle.facet_json_layout.specs.Formatted.{HasOneDocument, LacksOrBreaksOff, LacksOrRefusesOne};
+ghost use Rattle.facet_json_layout.specs.Formatted.{HasOneDocument, HaveOneTree, LacksOrBreaksOff, LacksOrRefusesOne};
 ghost use Rattle.facet_json_document.specs.StrictDocument.{IsStrict};
 ghost use Rattle.facet_json_document.specs.UnreadLaws.{RefusalWithin};
 ghost use Rattle.facet_json_core.specs.Reading.{LacksMemory};
@@ -77,6 +77,7 @@ pub fn format_text<'t>(
     options: FormatOptions,
 ) -> Result<Vec<u8>, DeserializeError<'t>>
     ensures pieces { IfOk result (λ v. pieces (mode_of mode) v.items ≡ without_trailing_commas (pieces (mode_of mode) text.now)) }
+    ensures tree { IfOk result (λ v. HaveOneTree text.now v.items (mode_of mode)) }
     ensures document { OnOk result (HasOneDocument text.now (mode_of mode)) }
     ensures only { HasOneDocument text.now (mode_of mode) → IfErr result (λ e. LacksMemory (refusal_of e)) }
     ensures refused { IfErr result (λ e. LacksOrRefusesOne text.now (mode_of mode) (refusal_of e)) }
@@ -97,6 +98,7 @@ pub fn format_text_strict<'t>(
     options: FormatOptions,
 ) -> Result<Vec<u8>, DeserializeError<'t>>
     ensures pieces { IfOk result (λ v. pieces plain v.items ≡ without_trailing_commas (pieces plain text.now)) }
+    ensures tree { IfOk result (λ v. HaveOneTree text.now v.items plain) }
     ensures document { OnOk result (IsStrict text.now) }
     ensures only { IsStrict text.now → IfErr result (λ e. LacksMemory (refusal_of e)) }
     ensures refused { IfErr result (λ e. LacksOrBreaksOff text.now (refusal_of e)) }
@@ -115,6 +117,7 @@ fn lay_out<'t>(
 ) -> Result<Vec<u8>, DeserializeError<'t>>
     requires { all_tokens (pieces (mode_of mode) text.now) ≡ true }
     ensures pieces { IfOk result (λ v. pieces (mode_of mode) v.items ≡ without_trailing_commas (pieces (mode_of mode) text.now)) }
+    ensures tree { IfOk result (λ v. HaveOneTree text.now v.items (mode_of mode)) }
     ensures refused { IfErr result (λ e. LacksMemory (refusal_of e)) }
     ensures within { IfErr result (λ e. RefusalWithin text.now (refusal_of e)) }
 {
