@@ -43,16 +43,7 @@ module _ (these those : List ℕ) where
 
   string-open : (kind : Kind) → is_string kind ≡ true → is_closing kind ≡ false
   string-open (token.string s f h) e = refl
-  string-open token.null e = cc
-  string-open token.true_literal e = cc
-  string-open token.false_literal e = cc
-  string-open (token.number s f h) e = cc
-  string-open object_start e = cc
-  string-open object_end e = cc
-  string-open array_start e = cc
-  string-open array_end e = cc
-  string-open colon e = cc
-  string-open comma e = cc
+  string-open kind e = cc
 
   -- ---- the first token
 

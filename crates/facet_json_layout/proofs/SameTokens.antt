@@ -75,11 +75,7 @@ module _ (these those : List ℕ) where
     where
       never-structural : {b : ℕ} {kind : Kind} {s f : ℕ} → IsStructural b kind → number s f hint ≡ kind → ⊥
       never-structural object_starts e = cc
-      never-structural object_ends e = cc
-      never-structural array_starts e = cc
-      never-structural array_ends e = cc
-      never-structural colon_stands e = cc
-      never-structural comma_stands e = cc
+      never-structural h e = cc
   by-shapes t u at to x rest behind _ _ e f (IsShape.numeral _ _ hint is longest) (IsShape.literal _ kind _ h) stands there =
       let same = kind-once at x rest _ kind (IsShape.numeral x rest hint is longest) (IsShape.literal x kind rest h) in
       absurd (never-literal h same)

@@ -10,7 +10,7 @@ use Rattle.facet_json_token.specs.Gap.{Mode}
 use Rattle.facet_json_token.specs.Token.{Kind, Token, comma}
 use Rattle.facet_json_token.specs.Tokens.{Tokens, ended, next}
 use Rattle.facet_json_token.specs.TokenList.{tokens}
-use Rattle.facet_json_token.specs.Shape.{IsStructural, object_starts, object_ends, array_starts, array_ends, colon_stands, comma_stands, IsLiteral, null_stands, true_stands, false_stands, IsShape}
+use Rattle.facet_json_token.specs.Shape.{IsStructural, object_ends, array_ends, comma_stands, IsLiteral, null_stands, true_stands, false_stands, IsShape}
 use Rattle.facet_json_document.specs.Node.{Node, Spells}
 use Rattle.facet_json_document.specs.StrictDocument.{is_closing, begins_closing}
 use Rattle.facet_json_document.specs.Tree.{Tree}
@@ -25,12 +25,8 @@ use Rattle.facet_json_layout.proofs.TokenTexts.{texts, closing_first, without, t
 -- ---- commas and closing brackets by their texts
 
 comma-structural : {b : ℕ} {kind : Kind} → IsStructural b kind → (b == bytes.comma) ≡ true → kind ≡ comma
-comma-structural object_starts e = cc
-comma-structural object_ends e = cc
-comma-structural array_starts e = cc
-comma-structural array_ends e = cc
-comma-structural colon_stands e = cc
 comma-structural comma_stands e = refl
+comma-structural h e = cc
 
 comma-literal : {word : List ℕ} {kind : Kind} → IsLiteral word kind → is_comma word ≡ true → kind ≡ comma
 comma-literal null_stands e = cc
@@ -51,12 +47,9 @@ comma-by at (b ∷ x) rest _ (IsShape.numeral _ _ hint is longest) e =
     absurd (number-no_comma b (begins_number-is (b ∷ x) hint is.numeral) e)
 
 closing-structural : {b : ℕ} {kind : Kind} → IsStructural b kind → closes b ≡ true → is_closing kind ≡ true
-closing-structural object_starts e = cc
 closing-structural object_ends e = refl
-closing-structural array_starts e = cc
 closing-structural array_ends e = refl
-closing-structural colon_stands e = cc
-closing-structural comma_stands e = cc
+closing-structural h e = cc
 
 closing-literal : {word : List ℕ} {kind : Kind} → IsLiteral word kind → closing_first (word ∷ []) ≡ true → is_closing kind ≡ true
 closing-literal null_stands e = cc
