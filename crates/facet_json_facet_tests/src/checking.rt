@@ -1,36 +1,34 @@
 //! Inputs of which nothing is kept: whether they have a document, in each language, or what is refused.
 
-use facet_format::{DeserializeError, Span};
+use facet_format::DeserializeError;
 use facet_json::{check, check_jsonc, check_strict};
 
-/// An input, and the span that `check`, `check_jsonc` and `check_strict` refuse, where they refuse it.
-type Row<'r> = (&'r str, Option<Span>, Option<Span>, Option<Span>);
+/// Where a refusal stands: an offset and a length.
+type At = Option<(usize, usize)>;
 
-/// A span of so many bytes there.
-const fn at(offset: usize, len: usize) -> Option<Span> {
-    Some(Span { offset, len })
-}
+/// An input, and what `check`, `check_jsonc` and `check_strict` refuse, where they refuse it.
+type Row<'r> = (&'r str, At, At, At);
 
 static INPUTS: [Row<'static>; 12] = [
     ("[1,2]", None, None, None),
     (" {\"a\": [null, {}]} ", None, None, None),
     ("\"\\u0041\"", None, None, None),
-    ("[1,]", None, None, at(3, 1)),
-    ("[1] x", None, None, at(4, 1)),
-    ("007", None, None, at(0, 3)),
-    ("/* a */1", at(0, 1), None, at(0, 1)),
-    ("[1 // a\n]", at(3, 1), None, at(3, 1)),
-    ("[1 2]", at(3, 1), at(3, 1), at(3, 1)),
-    ("", at(0, 0), at(0, 0), at(0, 0)),
-    ("\"a", at(0, 2), at(0, 2), at(0, 2)),
-    ("[1}", at(2, 1), at(2, 1), at(2, 1)),
+    ("[1,]", None, None, Some((3, 1))),
+    ("[1] x", None, None, Some((4, 1))),
+    ("007", None, None, Some((0, 3))),
+    ("/* a */1", Some((0, 1)), None, Some((0, 1))),
+    ("[1 // a\n]", Some((3, 1)), None, Some((3, 1))),
+    ("[1 2]", Some((3, 1)), Some((3, 1)), Some((3, 1))),
+    ("", Some((0, 0)), Some((0, 0)), Some((0, 0))),
+    ("\"a", Some((0, 2)), Some((0, 2)), Some((0, 2))),
+    ("[1}", Some((2, 1)), Some((2, 1)), Some((2, 1))),
 ];
 
 /// What is refused.
-fn refused(checked: Result<(), DeserializeError<'_>>) -> Option<Span> {
+fn refused(checked: Result<(), DeserializeError<'_>>) -> At {
     match checked {
         Ok(()) => None,
-        Err(error) => error.span,
+        Err(error) => error.span.map(|span| (span.offset, span.len)),
     }
 }
 
