@@ -41,6 +41,15 @@ pub events_before-append : (a b : List Passed) (f : Future) →
 events_before-append [] b f = refl
 events_before-append (p ∷ a) b f = ap (gives p) (events_before-append a b f)
 
+-- Those that end alike are the same.
+pub events_before-same : (a b : List Passed) → events_before a finished ≡ events_before b finished → a ≡ b
+events_before-same [] [] e = refl
+events_before-same [] (q ∷ b) e = cc
+events_before-same (p ∷ a) [] e = cc
+events_before-same (p ∷ a) (q ∷ b) e =
+    let more : events_before a finished ≡ events_before b finished = cc in
+    let rest = events_before-same a b more in cc
+
 -- With a token with which no document goes on its turn is to stop.
 pub nowhere-stops : (way : Turn) → leads_on way ≡ false → way ≡ stops
 nowhere-stops stops e = refl

@@ -25,27 +25,14 @@ use Rattle.facet_json_document.proofs.Parts.TokensAfterRuns.{tokens_from-run}
 use Rattle.facet_json_document.proofs.RefusedHasNone.{refused_has_none}
 use Rattle.facet_json_document.proofs.Runs.SpelledRuns.{spelled_is_run}
 use Rattle.facet_json_document.proofs.Spelling.OneSpelling.{one_spelling}
-use Rattle.facet_json_document.proofs.StrictRoot.{strict_input-comes, strict_document-comes}
+use Rattle.facet_json_document.proofs.StrictRoot.{no_end, strict_input-comes, strict_document-comes}
+use Rattle.facet_json_document.proofs.WalkComes.{events_before-same}
 use Rattle.facet_json_core.specs.Reading.{LacksMemory}
 use Rattle.facet_json_layout.specs.Formatted.{HasDocument, HasOneDocument, RefusesOne, no_document, more_follows, BreaksOff, LacksOrBreaksOff}
 use Rattle.facet_json_layout.specs.Inner.Checking.{last_after, PassesUp, IsStuckBehind}
 use Rattle.facet_json_layout.proofs.EventsUp.{last-append}
 
 -- ---- how events end
-
-events-same : (a b : List Passed) → events_before a finished ≡ events_before b finished → a ≡ b
-events-same [] [] e = refl
-events-same [] (q ∷ b) e = cc
-events-same (p ∷ a) [] e = cc
-events-same (p ∷ a) (q ∷ b) e =
-    let more : events_before a finished ≡ events_before b finished = cc in
-    let rest = events-same a b more in cc
-
-never-ends : (a b : List Passed) (place : Place) (ts : Tokens) → events_before a (stuck place ts) ≡ events_before b finished → ⊥
-never-ends [] [] place ts e = cc
-never-ends [] (q ∷ b) place ts e = cc
-never-ends (p ∷ a) [] place ts e = cc
-never-ends (p ∷ a) (q ∷ b) place ts e = let more : events_before a (stuck place ts) ≡ events_before b finished = cc in never-ends a b place ts more
 
 stuck-same : (a b : List Passed) (place here : Place) (ts rest : Tokens) → events_before a (stuck place ts) ≡ events_before b (stuck here rest) →
     (place ≡ here) × (ts ≡ rest)
@@ -73,19 +60,19 @@ module _ (text : List ℕ) (mode : Mode) where
 
   up_by : (last : Span) → PassesUp (fresh text mode) last → RootComes text mode → PassesDocument last
   up_by last up (document_comes node tree d comes) =
-      let same = events-same up.events (walk text node) (sym up.comes ∙ comes) in
+      let same = events_before-same up.events (walk text node) (sym up.comes ∙ comes) in
       let ends : last ≡ (last_token_of node).span = up.ends ∙ ap (last_after (span_at 0 0)) same ∙ walk-last text (span_at 0 0) node in
       let run = spelled_is_run (tokens text mode) d.rest node d.reads.spells in
       let rest : d.rest ≡ tokens_from text mode (stop last) =
       sym (tokens_from-run text mode 0 (tokens text mode) d.rest (last_token_of node) run refl) ∙ ap (λ s. tokens_from text mode (stop s)) (sym ends) in
       record { root = node; tree = tree; reads = subst (Reads text (tokens text mode) node tree) rest d.reads }
-  up_by last up (prefix_comes events here left front comes) = absurd (never-ends events up.events here left (sym comes ∙ up.comes))
+  up_by last up (prefix_comes events here left front comes) = absurd (no_end text events up.events here left (sym comes ∙ up.comes))
 
   pub document-passed : (last : Span) → PassesUp (fresh text mode) last → PassesDocument last
   document-passed last up = up_by last up (input-comes text mode)
 
   off_by : (r : Refusal) → BreaksOff (fresh text mode) r → RootComes text mode → Refuses text mode r
-  off_by r b (document_comes node tree d comes) = absurd (never-ends b.events (walk text node) b.place b.rest (sym b.comes ∙ comes))
+  off_by r b (document_comes node tree d comes) = absurd (no_end text b.events (walk text node) b.place b.rest (sym b.comes ∙ comes))
   off_by r b (prefix_comes events here left front comes) =
       let same = stuck-same b.events events b.place here b.rest left (sym b.comes ∙ comes) in
       record { events = events; after = record { here = here; rest = left; prefix = front; stuck = rw (← same.0, ← same.1) b.so } }
@@ -141,14 +128,14 @@ module _ (text : List ℕ) (mode : Mode) where
 module _ (text : List ℕ) where
   strict_by : (last : Span) → PassesUp (fresh_in text (strict plain)) last → strictly.StrictRootComes text → IsStrict text
   strict_by last up (strictly.document_comes root tree d comes) = (root, tree, d)
-  strict_by last up (strictly.no_document_comes events here rest none comes) = absurd (never-ends events up.events here rest (sym comes ∙ up.comes))
+  strict_by last up (strictly.no_document_comes events here rest none comes) = absurd (no_end text events up.events here rest (sym comes ∙ up.comes))
 
   pub strict-passed : (last : Span) → PassesUp (fresh_in text (strict plain)) last → IsStrict text
   strict-passed last up = strict_by last up (strict_input-comes text)
 
   strict-not_refused : (r : Refusal) → IsStrict text → BreaksOff (fresh_in text (strict plain)) r → ⊥
   strict-not_refused r (root, tree, d) b =
-      never-ends b.events (walk text root) b.place b.rest (sym b.comes ∙ strict_document-comes text root tree d)
+      no_end text b.events (walk text root) b.place b.rest (sym b.comes ∙ strict_document-comes text root tree d)
 
   pub strict-lacks : (r : Refusal) → IsStrict text → LacksOrBreaksOff text r → LacksMemory r
   strict-lacks r one (inl lacks) = lacks

@@ -1,6 +1,6 @@
 -- Trees on a walk: where a parser passes what events tell, it passes the node that stands there, and what they tell is the node's tree.
 use Rattle.std.specs.Prelude.{ℕ, List, drop, length}
-use Rattle.std.proofs.Common.{◌≡◌, inl, ℕ, suc, List, [], ◌∷◌, None, Some, refl, sym, ap, ap₂, ◌∙◌, subst, arith, length-append}
+use Rattle.std.proofs.Common.{◌≡◌, inl, ℕ, suc, List, [], ◌∷◌, None, Some, refl, sym, ap, ◌∙◌, subst, arith, length-append}
 use Rattle.std.proofs.lemmas.List.{length-drop}
 use Rattle.facet_format.specs.Complaint.{Refusal}
 use Rattle.facet_format.specs.Cursor.{Cursor, at_spot, unpeeked}
@@ -11,7 +11,7 @@ use Rattle.facet_json_document.specs.Meaning.{tree_of}
 use Rattle.facet_json_document.specs.Node.{Node}
 use Rattle.facet_json_document.specs.Tree.{Tree}
 use Rattle.facet_json_document.specs.Walk.{walk}
-use Rattle.facet_json_document.proofs.WalkComes.{events_before-append}
+use Rattle.facet_json_document.proofs.WalkComes.{events_before-append, events_before-same}
 use Rattle.facet_json_document.specs.Now.{Now, future_of}
 use Rattle.facet_json_core.specs.Told.{Tells}
 use Rattle.facet_json_core.specs.Reading.{IsValueRead, IsValueUnread}
@@ -39,16 +39,6 @@ moves_past old new given walks w c stands free =
 
 -- ---- the place after a node
 
--- Events after which all is finished are known by what comes.
-events-same : (ps qs : List Passed) → events_before ps finished ≡ events_before qs finished → ps ≡ qs
-events-same [] [] e = refl
-events-same [] (q ∷ qs) e = cc
-events-same (p ∷ ps) [] e = cc
-events-same (p ∷ ps) (q ∷ qs) e =
-    let first : p ≡ q = cc in
-    let others : events_before ps finished ≡ events_before qs finished = cc in
-    ap₂ (λ x xs. x ∷ xs) first (events-same ps qs others)
-
 module _ (old : Now) (w : Source) (c : Cursor ℕ) (node : Node) (before : StandsBefore old w c node) where
   -- Before a node, what comes tells the node's tree.
   before-tells : Tells (future_of old) before.value (events_before before.others finished)
@@ -64,7 +54,7 @@ module _ (old : Now) (w : Source) (c : Cursor ℕ) (node : Node) (before : Stand
   after-node new left on =
       let begins = before.stands.spot.place.place_within in
       let ends = on.stands.spot.place.place_within in
-      let others = events-same (drop on.place w.events) before.others (sym on.stands.spot.place.comes ∙ left) in
+      let others = events_before-same (drop on.place w.events) before.others (sym on.stands.spot.place.comes ∙ left) in
       let all = sym (length-drop c.spot.place w.events) ∙ ap length before.comes ∙ length-append (walk w.bytes node) before.others in
       let rest = sym (length-drop on.place w.events) ∙ ap length others in
       record {
