@@ -46,7 +46,7 @@ pub use facet_json_serializer::{
     BytesFormat, HexBytesOptions, JsonSerializeError, JsonSerializer, SerializeOptions,
 };
 pub use facet_json_tree::{
-    NotStored, PointerError, Tree, WriteError, read_tree, tree_from_slice, tree_from_slice_jsonc,
+    NotStored, OwnedDecimal, PointerError, Tree, WriteError, read_tree, tree_from_slice, tree_from_slice_jsonc,
     tree_from_slice_strict, tree_from_slice_within, tree_from_slice_within_jsonc,
     tree_from_slice_within_strict, write_tree,
 };
