@@ -30,13 +30,15 @@ pub enum Tree {
     I128(i128),
     /// A whole number without a sign, within 128 bits.
     U128(u128),
-    /// A number with a fraction or an exponent, as its text.
+    /// A number with a fraction or an exponent, as its text: `OwnedDecimal::from_string` makes one of a text, `OwnedDecimal::new` of a
+    /// `Decimal`.
     Decimal(OwnedDecimal),
     /// A text. Whole numbers past 64 bits are read as the text of their digits.
     Text(String),
     /// Bytes, which are written as a list of numbers or as hexadecimal text.
     Bytes(Vec<u8>),
-    /// JSON text, which is written as it stands, unchecked: whoever makes one says that it is JSON.
+    /// JSON text, which is written as it stands, unchecked: whoever makes such a value says that it is JSON. That of a `RawJson` is
+    /// `raw.0.into_owned(alloc)?`.
     Raw(String),
     /// An array.
     List(Vec<Tree>),
@@ -44,7 +46,7 @@ pub enum Tree {
     Pairs(Vec<(String, Tree)>),
 }
 
-/// A list of so many items, or an object of so many members, takes so much room.
+// The bytes that an item of a list takes, and a member of an object.
 const _: () = prove!(size_of::<Tree>() == 32);
 
 const _: () = prove!(size_of::<(String, Tree)>() == 64);
