@@ -7,6 +7,7 @@ pub mod ItemsPassed
 pub mod LinePiecesRead
 pub mod LinesRead
 pub mod MemberCalls
+pub mod NamesCompared
 pub mod NodesPointed
 pub mod PointersFollowed
 pub mod RootComes

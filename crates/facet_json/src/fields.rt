@@ -18,6 +18,7 @@ use facet_format::{DeserializeError, DeserializeErrorKind, FormatParser, Span};
 use facet_json_facet::steps::{begin_object, next_name, pass_value};
 use facet_json_facet::{Facet, value_in};
 use facet_json_parser::JsonParser;
+use facet_json_token::cutting::common_len;
 use std::alloc::Global;
 
 /// A list of fields, as `Need(name, Need(age, Done))`, that `read_fields` reads. The input lives for `'de`.
@@ -183,6 +184,7 @@ impl<'de, T: Facet<'de>, R: Fields<'de>> Fields<'de> for Need<T, R> {
         (None, R::none())
     }
 
+    #[inline(always)]
     fn put<'t>(
         slots: &mut (Option<T>, R::Slots),
         names: &[&str],
@@ -239,6 +241,7 @@ impl<'de, T: Facet<'de>, R: Fields<'de>> Fields<'de> for Maybe<T, R> {
         (None, R::none())
     }
 
+    #[inline(always)]
     fn put<'t>(
         slots: &mut (Option<Option<T>>, R::Slots),
         names: &[&str],
@@ -317,6 +320,7 @@ fn put_first<'t, 'de, T: Facet<'de>, R: Fields<'de>>(
 /// - `TypeMismatch`: what stands there is no object; with the span of its first token.
 /// - `MissingField`: the first of the names that has to be there and isn't; with the span of the closing bracket.
 /// - What a field's type says of its value, and what the parser says where no document goes on. Or out of memory.
+#[inline(always)]
 pub fn read_fields<'de, 't, F: Fields<'de>>(
     alloc: Global,
     parser: &mut JsonParser<'de>,
@@ -352,12 +356,19 @@ fn is_first(names: &[&str], key: &str) -> bool
     }
 }
 
-/// Whether two texts are the same. Most names differ in their lengths already.
+/// Whether a key is this name. Most differ in their lengths already. The letters of a short name that is a constant become constants, without
+/// a loop or a call.
 #[inline(always)]
-fn is_same(a: &str, b: &str) -> bool
-    ensures { result ≡ bytes_eq a.now b.now }
+fn is_same(name: &str, key: &str) -> bool
+    ensures { result ≡ bytes_eq name.now key.now }
 {
-    a.len() == b.len() && a == b
+    if name.len() != key.len() {
+        return false;
+    }
+    if name.len() > 16 {
+        return name == key;
+    }
+    common_len(key.as_bytes(), 0, name.as_bytes()) == name.len()
 }
 
 /// The first of the names.

@@ -21,6 +21,8 @@ mod entries;
 #[cfg(test)]
 mod example_records;
 #[cfg(test)]
+mod field_names;
+#[cfg(test)]
 mod finding;
 #[cfg(test)]
 mod floats;
