@@ -6,6 +6,7 @@
 mod content;
 mod copy;
 mod edit;
+mod entry;
 mod error;
 mod from;
 pub mod laws;
@@ -16,6 +17,7 @@ pub mod pointer;
 mod pointer_error;
 mod pointer_mut;
 mod reader;
+mod sort;
 mod strict;
 mod tree;
 mod tree_calls;
