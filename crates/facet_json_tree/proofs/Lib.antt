@@ -24,6 +24,8 @@ pub mod ReadBack
 pub mod ReadingValues
 pub mod ReadingWithin
 pub mod ScalarCalls
+pub mod Shown
+pub mod ShownTexts
 pub mod Sortings
 pub mod StableOrder
 pub mod StrictWithin
