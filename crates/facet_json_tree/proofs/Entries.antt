@@ -1,13 +1,15 @@
 -- Where a new member stands.
-use Rattle.std.proofs.Common.{◌≡◌, ℕ, suc, List, [], ◌∷◌, length, get_or, None, String, Global, refl, ap}
+use Rattle.std.proofs.Common.{◌≡◌, ℕ, suc, ◌<◌, List, [], ◌∷◌, length, get_or, None, String, Global, string_bytes, refl, ap, arith}
 use Rattle.facet_json_document.specs.Tree.{no_pairs, pair, Pairs}
 use Rattle.facet_json_document.specs.Tree as tree
 use Rattle.facet_json_tree.specs.Edit.{set_member}
+use Rattle.facet_json_tree.specs.Inner.LastNamed.{IsLastNamed}
+use Rattle.facet_json_tree.specs.Inner.WithMember.{with_member}
 use Rattle.facet_json_tree.specs.Lookup.{last_member}
 use Rattle.facet_json_tree.specs.Views.{tree_view, pairs_view}
 use Rattle.facet_json_tree.specs.declared.tree.Tree.{Tree}
-use Rattle.std.specs.Prelude.{string_bytes}
 use Rattle.facet_json_tree.proofs.Edits.{has_none}
+use Rattle.facet_json_tree.proofs.Lookups.{last_member-at}
 use Rattle.facet_json_tree.proofs.TreeViews.{pairs_view-none}
 
 -- There is one more member, and the last has the value.
@@ -35,3 +37,13 @@ set_member-end key x (m ∷ ms) (n ∷ ns) none is =
     let rest : pairs_view ns ≡ set_member key x (pairs_view ms) = cc in
     let more = set_member-end key x ms ns parts.rest rest in
     record { long = ap suc more.long; value = more.value }
+
+-- nothing is added where one has the name
+pub with_member-there : (key : List ℕ) (x : tree.Tree) (ms : List (String Global × Tree)) (i : ℕ) → i < length ms → IsLastNamed key ms i
+    → with_member key x (pairs_view ms) ≡ pairs_view ms
+with_member-there key x [] i h at = absurd (omega arith)
+with_member-there key x (m ∷ ms) i h at = rw (last_member-at key (m ∷ ms) i m h at) refl
+
+pub with_member-new : (key : List ℕ) (x : tree.Tree) (members : Pairs) → last_member key members ≡ None
+    → with_member key x members ≡ set_member key x members
+with_member-new key x members none = rw none refl

@@ -1,10 +1,11 @@
 //! A member of an object to be changed where it stands, whether it was there or not.
 
-ghost use Rattle.std.specs.Prelude.{◌≡◌, ◌<◌, length, IfErr, IfOk};
+ghost use Rattle.std.specs.Prelude.{◌≡◌, ◌<◌, length, IfErr, IfOk, OnErr, OnOk};
 ghost use Rattle.std.specs.List.{HoldsAt};
 ghost use Rattle.std.specs.Option.{unwrap_or};
 ghost use Rattle.facet_json_tree.specs.Edit.{inserted};
 ghost use Rattle.facet_json_tree.specs.EditViews.{GivesBack, IsMemory, value_of};
+ghost use Rattle.facet_json_tree.specs.Inner.WithMember.{with_member};
 ghost use Rattle.facet_json_tree.specs.Lookup.{last_member, member};
 ghost use Rattle.facet_json_tree.specs.Views.{tree_view, pairs_view};
 
@@ -69,6 +70,8 @@ fn index_or_insert(
 ) -> Result<usize, NotStored>
     ensures held { IfOk result (HoldsAt (λ m. tree_view m.1 ≡ unwrap_or (last_member key.now (pairs_view members.old.items)) (tree_view value)) members.new.items) }
     ensures within { IfOk result (λ i. i < length members.new.items) }
+    ensures stored { OnOk result (pairs_view members.new.items ≡ with_member key.now (tree_view value) (pairs_view members.old.items)) }
+    ensures unchanged { OnErr result (members.new.items ≡ members.old.items) }
     ensures refused { IfErr result (λ e. tree_view (value_of e) ≡ tree_view value) }
     ensures memory { IfErr result IsMemory }
 {
