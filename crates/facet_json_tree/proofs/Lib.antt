@@ -26,6 +26,7 @@ pub mod ReadingWithin
 pub mod ScalarCalls
 pub mod Shown
 pub mod ShownTexts
+pub mod SortedLaws
 pub mod Sortings
 pub mod StableOrder
 pub mod StrictWithin

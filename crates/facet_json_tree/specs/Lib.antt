@@ -11,5 +11,6 @@ pub mod Pointer
 pub mod PointerViews
 pub mod Same
 pub mod Sorted
+pub mod SortedLaws
 pub mod Views
 pub mod Write
