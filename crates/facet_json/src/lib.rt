@@ -46,9 +46,9 @@ pub use facet_json_serializer::{
     BytesFormat, HexBytesOptions, JsonSerializeError, JsonSerializer, SerializeOptions,
 };
 pub use facet_json_tree::{
-    NotStored, PointerError, Tree, WriteError, read_tree, tree_from_slice, tree_from_slice_jsonc,
-    tree_from_slice_strict, tree_from_slice_within, tree_from_slice_within_jsonc,
-    tree_from_slice_within_strict, write_tree,
+    NotStored, OwnedDecimal, PointerError, Tree, WriteError, read_tree, tree_from_slice,
+    tree_from_slice_jsonc, tree_from_slice_strict, tree_from_slice_within,
+    tree_from_slice_within_jsonc, tree_from_slice_within_strict, write_tree,
 };
 pub use fields::{Done, Fields, Maybe, Need, read_fields};
 pub use lent::{LentFields, write_fields};

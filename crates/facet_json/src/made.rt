@@ -10,7 +10,7 @@ ghost use Rattle.std.specs.declared.string.String.{String as RustString};
 
 use facet_format::Decimal;
 use facet_json_core::RawJson;
-use facet_json_tree::Tree;
+use facet_json_tree::{OwnedDecimal, Tree};
 use std::alloc::{AllocError, Global};
 
 /// A tree as JSON is written: `null`, lists and objects as they stand, and an expression where a value may stand, whose type has `IntoTree`. The
@@ -275,9 +275,18 @@ impl IntoTree for i128 {
     }
 }
 
-/// The number, as its text.
-impl IntoTree for Decimal<'static> {
+/// A copy of the number's text.
+impl IntoTree for Decimal<'_> {
     ghost tree = { λ d. tree.decimal (bytes_of d) };
+
+    fn into_tree(self, alloc: Global) -> Result<Tree, AllocError> {
+        Ok(Tree::Decimal(OwnedDecimal::new(alloc, &self)?))
+    }
+}
+
+/// The number, as its text.
+impl IntoTree for OwnedDecimal {
+    ghost tree = { tree.decimal };
 
     fn into_tree(self, _alloc: Global) -> Result<Tree, AllocError> {
         Ok(Tree::Decimal(self))
@@ -320,12 +329,12 @@ impl IntoTree for &Tree {
     }
 }
 
-/// The JSON text, which is written as it stands, unchecked.
-impl IntoTree for RawJson<'static> {
+/// The JSON text, copied where it is borrowed, which is written as it stands, unchecked.
+impl IntoTree for RawJson<'_> {
     ghost tree = { λ json. tree.raw (bytes_of json) };
 
-    fn into_tree(self, _alloc: Global) -> Result<Tree, AllocError> {
-        Ok(Tree::Raw(self))
+    fn into_tree(self, alloc: Global) -> Result<Tree, AllocError> {
+        Ok(Tree::Raw(self.0.into_owned(alloc)?))
     }
 }
 

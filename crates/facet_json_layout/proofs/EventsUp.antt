@@ -13,8 +13,7 @@ use Rattle.facet_json_document.specs.Move.{Moves}
 use Rattle.facet_json_document.proofs.MoveLaws.{with_cursor, StepOf, by_step}
 use Rattle.facet_json_document.proofs.MovesNext.{event-comes, end-comes, next-passes, next-over}
 use Rattle.facet_json_document.proofs.WalkComes.{events_before-append}
-use Rattle.facet_json_core.specs.Reading.{LacksMemory, GivesNone, lacks_memory, is_stuck}
-use Rattle.facet_json_core.proofs.NextEventComes.{next-refused}
+use Rattle.facet_json_core.specs.Reading.{LacksMemory}
 use Rattle.facet_json_layout.specs.Formatted.{BreaksOff}
 use Rattle.facet_json_layout.specs.Inner.Checking.{last_after, PassesSome, PassesUp, Told}
 
@@ -58,9 +57,21 @@ end-stays : (old new : Now) → Moves old next (event (Ok None)) new → StaysAt
 end-stays old new move = by_step (StaysAtEnd old) old new move (λ d step. end_stays old d _ refl step)
 
 -- It was refused.
-breaks-there : (now : Now) (r : Refusal) → GivesNone now r → LacksMemory r ⊎ BreaksOff now r
-breaks-there now r (lacks_memory lacks) = inl lacks
-breaks-there now r (is_stuck place rest comes so) = inr (record { events = []; place = place; rest = rest; comes = comes; so = so })
+stuck_there : (now : Now) (r : Refusal) (future : Future) → future_of now ≡ future → RefusedAt now.buffer future r → BreaksOff now r
+stuck_there now r (gives p future) e so = absurd so
+stuck_there now r finished e so = absurd so
+stuck_there now r (stuck place rest) e so = record { events = []; place = place; rest = rest; comes = e; so = so }
+
+refused_step : (now : Now) (d : Cursor Reader) (r : Refusal) (answer : Answer) → now.cursor.refusal ≡ None → answer ≡ event (Err r) →
+    StepOf now next answer d → LacksMemory r ⊎ BreaksOff now r
+refused_step now d r answer free is (repeats s call _ f a) = cc
+refused_step now d r answer free is (passes_without_memory p none up takes off) =
+    let same : no_memory_at (current_span (on_input now.buffer now.language) now.cursor.spot) ≡ r = cc in
+    inl (ap (λ (x : Refusal). x.complaint) (sym same))
+refused_step now d r answer free is (passes_nothing q none up so) =
+    let same : q ≡ r = cc in
+    inr (rw (← same) (stuck_there now q (future_of now) refl so))
+refused_step now d r answer free is _ = cc
 
 -- ---- all calls
 
@@ -95,7 +106,7 @@ up-to_end old now new last some move told =
 -- Or a refusal.
 pub refused-after : (old now new : Now) (r : Refusal) → PassesSome old now → now.buffer ≡ old.buffer → now.cursor.refusal ≡ None →
     Moves now next (event (Err r)) new → LacksMemory r ⊎ BreaksOff old r
-refused-after old now new r some same free move = by (breaks-there now r (next-refused r free refl move))
+refused-after old now new r some same free move = by (refused_step now new.cursor r _ free refl move.step)
   where
     by : LacksMemory r ⊎ BreaksOff now r → LacksMemory r ⊎ BreaksOff old r
     by (inl lacks) = inl lacks

@@ -2,7 +2,7 @@
 
 use crate::row::{first_word, write_lines};
 use facet_json::{
-    Decimal, RawJson, SerializeOptions, Tree, to_string, to_string_pretty, to_string_with_options,
+    OwnedDecimal, SerializeOptions, Tree, to_string, to_string_pretty, to_string_with_options,
     to_vec, to_vec_pretty, to_vec_with_options, tree_from_slice,
 };
 use std::alloc::{AllocError, Global};
@@ -15,9 +15,9 @@ fn tree_of(alloc: Global, text: &str) -> Option<Tree> {
         ("i64", digits) => Some(Tree::I64(digits.parse().ok()?)),
         ("i128", digits) => Some(Tree::I128(digits.parse().ok()?)),
         ("u128", digits) => Some(Tree::U128(digits.parse().ok()?)),
-        ("literal", digits) => Some(Tree::Decimal(Decimal::new(literal(digits)?)?)),
+        ("literal", digits) => Some(Tree::Decimal(decimal_of(alloc, digits)?)),
         ("bytes", numbers) => Some(Tree::Bytes(bytes_of(alloc, numbers)?)),
-        ("raw", text) => Some(Tree::Raw(RawJson::from_owned(String::from_str(alloc, text).ok()?))),
+        ("raw", text) => Some(Tree::Raw(String::from_str(alloc, text).ok()?)),
         ("some", _) => some_leaves(alloc),
         ("empty", _) => empty_ones(alloc),
         _ => tree_from_slice(alloc, text.as_bytes()).ok(),
@@ -64,17 +64,9 @@ fn empty_ones(alloc: Global) -> Option<Tree> {
     Some(Tree::List(items))
 }
 
-/// The same text, as it stands here.
-fn literal(text: &str) -> Option<&'static str> {
-    match text {
-        "1." => Some("1."),
-        "-.5" => Some("-.5"),
-        "5e-05" => Some("5e-05"),
-        "0.0" => Some("0.0"),
-        "1.0" => Some("1.0"),
-        "1.00" => Some("1.00"),
-        _ => None,
-    }
+/// The decimal of this text.
+fn decimal_of(alloc: Global, text: &str) -> Option<OwnedDecimal> {
+    OwnedDecimal::from_string(String::from_str(alloc, text).ok()?).ok()
 }
 
 /// Whether the tree and that of the text are equal, unless there is none.

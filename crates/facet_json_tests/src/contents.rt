@@ -2,7 +2,7 @@
 
 use crate::samples::{list, object};
 use facet_format::Decimal;
-use facet_json_tree::Tree;
+use facet_json_tree::{OwnedDecimal, Tree};
 use std::alloc::Global;
 
 /// Whether the value is this whole number in each type that has it, and none in the others.
@@ -74,11 +74,9 @@ fn null_and_unit_are_null(rt: HostRuntime) {
 }
 
 /// Whether the number of this text is told by it.
-fn tells_decimal(text: &'static str) -> bool {
-    match Decimal::new(text) {
-        Some(decimal) => is_decimal(&Tree::from(decimal), text),
-        None => false,
-    }
+fn tells_decimal(alloc: Global, text: &str) -> Option<bool> {
+    let decimal = OwnedDecimal::new(alloc, &Decimal::new(text)?).ok()?;
+    Some(is_decimal(&Tree::from(decimal), text))
 }
 
 /// Whether the value is the number of this text, and no whole number.
@@ -98,7 +96,7 @@ fn truth_values_and_decimals_are_told(rt: HostRuntime) {
     assert!(rt; truth(Tree::Bool(true)) == Some(true));
     assert!(rt; truth(Tree::Bool(false)) == Some(false));
     assert!(rt; truth(Tree::Null).is_none() && Tree::Null.as_decimal().is_none());
-    assert!(rt; tells_decimal("-0.50"));
+    assert!(rt; tells_decimal(rt.alloc(), "-0.50") == Some(true));
 }
 
 /// Whether a text is told.
@@ -117,11 +115,18 @@ fn is_text(value: &Tree, text: &str) -> bool {
     }
 }
 
+/// Whether the value of a JSON text tells it, and nothing else.
+fn tells_raw(alloc: Global, text: &str) -> Option<bool> {
+    let value = Tree::Raw(String::from_str(alloc, text).ok()?);
+    Some(value.as_raw()?.as_str() == text && value.as_str().is_none())
+}
+
 #[test]
 fn texts_are_told(rt: HostRuntime) {
     assert!(rt; tells_text(rt.alloc(), "a text"));
     assert!(rt; tells_text(rt.alloc(), ""));
-    assert!(rt; Tree::Char('a').as_str().is_none());
+    assert!(rt; Tree::Char('a').as_str().is_none() && Tree::Null.as_raw().is_none());
+    assert!(rt; tells_raw(rt.alloc(), "[1]") == Some(true));
 }
 
 /// How many items the list of the samples lends.

@@ -3,11 +3,11 @@
 use facet_format::Decimal;
 use std::alloc::Global;
 
-static TEXTS: [&str; 10] = [
+pub static TEXTS: [&str; 10] = [
     "1.", "-.5", "1.e5", "0.0", "5e-05", "-0.50", "1.0", "3.14", "1E-5", "-0.0e+0",
 ];
 
-static REFUSED: [&str; 13] = [
+pub static REFUSED: [&str; 13] = [
     "", ".5", "1e", "1e+", "-.", "-e1", ".e1", "5", "-5", "1e5 ", " 1e5", "1.5x", "1.5.5",
 ];
 

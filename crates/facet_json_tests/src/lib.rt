@@ -52,6 +52,8 @@ mod options;
 #[cfg(test)]
 mod own;
 #[cfg(test)]
+mod owned_decimals;
+#[cfg(test)]
 mod parsers;
 #[cfg(test)]
 mod past_ascii;

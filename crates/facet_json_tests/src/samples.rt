@@ -1,8 +1,7 @@
 //! Values that the tests look into.
 
 use facet_format::Decimal;
-use facet_json_core::RawJson;
-use facet_json_tree::Tree;
+use facet_json_tree::{OwnedDecimal, Tree};
 use std::alloc::{AllocError, Global};
 
 /// `[true,null,[]]`
@@ -48,31 +47,30 @@ fn push_member(
 /// A list of a value of each kind.
 pub fn each_kind(alloc: Global) -> Result<Tree, AllocError> {
     let mut items = Vec::new(alloc);
-    push_numbers(&mut items)?;
+    push_numbers(alloc, &mut items)?;
     push_texts(alloc, &mut items)?;
     items.push(object(alloc)?)?;
     Ok(Tree::from(items))
 }
 
-/// Values that allocate nothing of their own.
-fn push_numbers(items: &mut Vec<Tree>) -> Result<(), AllocError> {
+/// A unit, a character, and numbers, of which the decimal alone allocates.
+fn push_numbers(alloc: Global, items: &mut Vec<Tree>) -> Result<(), AllocError> {
     items.push(Tree::Unit)?;
     items.push(Tree::from('x'))?;
     items.push(Tree::from(-1i64))?;
     items.push(Tree::from(-170141183460469231731687303715884105728i128))?;
     items.push(Tree::from(340282366920938463463374607431768211455u128))?;
     if let Some(decimal) = Decimal::new("1.50") {
-        items.push(Tree::from(decimal))?;
+        items.push(Tree::from(OwnedDecimal::new(alloc, &decimal)?))?;
     }
     Ok(())
 }
 
-/// Texts, bytes, and raw texts, of the program and in memory of their own.
+/// Texts, bytes, and raw texts.
 fn push_texts(alloc: Global, items: &mut Vec<Tree>) -> Result<(), AllocError> {
     items.push(Tree::from(String::from_str(alloc, "a text")?))?;
     items.push(Tree::Bytes(Vec::from_slice(alloc, &[1, 255])?))?;
-    items.push(Tree::from(RawJson::new("[1, 2]")))?;
-    let raw = RawJson::from_owned(String::from_str(alloc, "{ }")?);
-    items.push(Tree::from(raw))?;
+    items.push(Tree::Raw(String::from_str(alloc, "[1, 2]")?))?;
+    items.push(Tree::Raw(String::from_str(alloc, "{ }")?))?;
     Ok(())
 }

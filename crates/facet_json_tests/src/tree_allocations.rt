@@ -7,7 +7,7 @@ use facet_format::{Decimal, DeserializeError, DeserializeErrorKind};
 use facet_json_core::RawJson;
 use facet_json_parser::JsonParser;
 use facet_json_tree::{
-    Tree, read_tree, tree_from_slice, tree_from_slice_jsonc, tree_from_slice_strict,
+    OwnedDecimal, Tree, read_tree, tree_from_slice, tree_from_slice_jsonc, tree_from_slice_strict,
     tree_from_slice_within, tree_from_slice_within_jsonc, tree_from_slice_within_strict,
 };
 use std::alloc::{AllocError, Global};
@@ -134,7 +134,7 @@ fn texts(alloc: Global) -> Result<Tree, AllocError> {
 fn push_texts(alloc: Global, items: &mut Vec<Tree>) -> Result<(), AllocError> {
     push_text(alloc, items, "a\n")?;
     if let Some(decimal) = Decimal::new("1.5") {
-        items.push(Tree::from(decimal))?;
+        items.push(Tree::from(OwnedDecimal::new(alloc, &decimal)?))?;
     }
     push_text(alloc, items, "18446744073709551616")
 }

@@ -2,7 +2,6 @@
 use Rattle.std.proofs.Common.{◌≡◌, ℕ, suc, ◌+◌, ◌<◌, Bool, List, [], ◌∷◌, ◌++◌, length, get_or, drop, refl, sym, ap, ◌∙◌, rules, Vec, String, Global, string_bytes}
 use Rattle.std.specs.Prelude.{ℤ}
 use Rattle.std.proofs.lemmas.List.{drop_more}
-use Rattle.facet_format.specs.Event.{Text, bytes_of}
 use Rattle.facet_json_document.specs.Tree as tree
 use Rattle.facet_json_tree.specs.Views.{tree_view, trees_view, pairs_view}
 use Rattle.facet_json_tree.specs.declared.tree.Tree.{Tree, the_lemmas}
@@ -32,7 +31,7 @@ tree_view-I128 n = search (rules, the_lemmas)
 pub tree_view-U128 : (n : ℕ) → tree_view (code.U128 n) ≡ tree.u128 n
 tree_view-U128 n = search (rules, the_lemmas)
 
-pub tree_view-Decimal : (digits : Text) → tree_view (code.Decimal digits) ≡ tree.decimal (bytes_of digits)
+pub tree_view-Decimal : (digits : List ℕ) → tree_view (code.Decimal digits) ≡ tree.decimal digits
 tree_view-Decimal digits = search (rules, the_lemmas)
 
 pub tree_view-Text : (s : String Global) → tree_view (code.Text s) ≡ tree.text (string_bytes s)
@@ -41,7 +40,7 @@ tree_view-Text s = search (rules, the_lemmas)
 pub tree_view-Bytes : (v : Vec ℕ Global) → tree_view (code.Bytes v) ≡ tree.bytes v.items
 tree_view-Bytes v = search (rules, the_lemmas)
 
-pub tree_view-Raw : (t : Text) → tree_view (code.Raw t) ≡ tree.raw (bytes_of t)
+pub tree_view-Raw : (t : String Global) → tree_view (code.Raw t) ≡ tree.raw (string_bytes t)
 tree_view-Raw t = search (rules, the_lemmas)
 
 pub tree_view-List : (v : Vec Tree Global) → tree_view (code.List v) ≡ tree.list (trees_view v.items)

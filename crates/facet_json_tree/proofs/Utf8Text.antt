@@ -19,7 +19,7 @@ use Rattle.facet_json_tree.specs.Write.{IsOfRust}
 use Rattle.facet_json_tree.proofs.Utf8Parts.{ascii-IsUtf8, decimal-IsUtf8, signed-IsUtf8, quoted-IsUtf8, bytes-IsUtf8, new_line-IsUtf8, separator-IsUtf8, line_at_end-IsUtf8, colon-IsUtf8, bool-IsUtf8}
 
 -- a text with a value is a number
-valued-is_number : (t : List ℕ) (value : Number) → number t float ≡ Some value → is_number t float ≡ true
+pub valued-is_number : (t : List ℕ) (value : Number) → number t float ≡ Some value → is_number t float ≡ true
 unfolding number
 valued-is_number t value e = by (is_number t float) e
   where

@@ -1,7 +1,7 @@
 -- What a value is, apart from the variant that holds it (RFC 8259, section 3).
 use Rattle.std.specs.Prelude.{◌≡◌, ℕ, ℤ, pos, Bool, true, false, List, Option, Some, None, MatchOption, SomeIff, FitsSigned, unsigned_abs}
 use Rattle.std.specs.Int.{Width, FitsUnsigned}
-use Rattle.facet_json_document.specs.Tree.{Tree, null, unit, bool, char, i64, u64, i128, u128, decimal, text, list, pairs, Trees, Pairs}
+use Rattle.facet_json_document.specs.Tree.{Tree, null, unit, bool, char, i64, u64, i128, u128, decimal, text, raw, list, pairs, Trees, Pairs}
 
 -- what JSON has as `null`
 abbrev pub is_null : Tree → Bool
@@ -21,6 +21,11 @@ as_str _ = None
 abbrev pub as_decimal : Tree → Option (List ℕ)
 as_decimal (decimal t) = Some t
 as_decimal _ = None
+
+-- JSON text that is written as it stands
+abbrev pub as_raw : Tree → Option (List ℕ)
+as_raw (raw t) = Some t
+as_raw _ = None
 
 abbrev pub as_list : Tree → Option Trees
 as_list (list items) = Some items

@@ -4,7 +4,6 @@ use Rattle.std.specs.declared.string.String.{String}
 use Rattle.std.specs.declared.alloc.Global.{Global}
 use Rattle.facet_json_tree.specs.declared.tree.Tree.{Tree as RustTree, fold-Tree}
 use Rattle.facet_json_tree.specs.declared.tree.Tree.TheOpen.{Tree-F}
-use Rattle.facet_format.specs.Event.{bytes_of}
 use Rattle.facet_json_document.specs.Tree.{Tree, Trees, no_trees, Pairs, no_pairs}
 use Rattle.facet_json_document.specs.Tree as tree
 
@@ -26,10 +25,10 @@ tree_step (Tree-F.I64 n) = tree.i64 n
 tree_step (Tree-F.U64 n) = tree.u64 n
 tree_step (Tree-F.I128 n) = tree.i128 n
 tree_step (Tree-F.U128 n) = tree.u128 n
-tree_step (Tree-F.Decimal digits) = tree.decimal (bytes_of digits)
+tree_step (Tree-F.Decimal digits) = tree.decimal digits
 tree_step (Tree-F.Text t) = tree.text (string_bytes t)
 tree_step (Tree-F.Bytes v) = tree.bytes v.items
-tree_step (Tree-F.Raw t) = tree.raw (bytes_of t)
+tree_step (Tree-F.Raw t) = tree.raw (string_bytes t)
 tree_step (Tree-F.List v) = tree.list (trees_of v.items)
 tree_step (Tree-F.Pairs v) = tree.pairs (pairs_of v.items)
 

@@ -9,6 +9,7 @@ ghost use Rattle.facet_json_tree.specs.Views.{tree_view, trees_view, pairs_view}
 
 use crate::tree::Tree;
 use facet_format::Decimal;
+use facet_json_core::RawJson;
 
 impl Tree {
     /// Whether JSON has the value as `null` (RFC 8259, section 3), as it has `Null` and `Unit`.
@@ -132,11 +133,26 @@ impl Tree {
     /// of 1.50: as_decimal()                                   Some: its text is "1.50"
     /// of 1: as_decimal()                                      None
     /// ```
-    pub fn as_decimal(&self) -> Option<&Decimal<'static>>
-        ensures { option_map (λ d. bytes_of d.now) result ≡ content.as_decimal (tree_view self.now) }
+    pub fn as_decimal(&self) -> Option<Decimal<'_>>
+        ensures { option_map bytes_of result ≡ content.as_decimal (tree_view self.now) }
     {
         match self {
-            Tree::Decimal(decimal) => Some(decimal),
+            Tree::Decimal(decimal) => Some(decimal.as_decimal()),
+            _ => None,
+        }
+    }
+
+    /// The JSON text of a `Raw`, unchecked.
+    ///
+    /// ```text
+    /// Tree::Raw(copy of "[1]").as_raw()                       Some: its text is "[1]"
+    /// of "[1]": as_raw()                                      None
+    /// ```
+    pub fn as_raw(&self) -> Option<RawJson<'_>>
+        ensures { option_map bytes_of result ≡ content.as_raw (tree_view self.now) }
+    {
+        match self {
+            Tree::Raw(json) => Some(RawJson::new(json.as_str())),
             _ => None,
         }
     }

@@ -1,17 +1,14 @@
 //! Copies of values.
 
 ghost use Rattle.std.specs.Prelude.{◌≡◌, true, MatchResult, IfOk};
-ghost use Rattle.facet_format.specs.Event.{bytes_of};
 ghost use Rattle.facet_json_tree.specs.Content.{may_allocate};
 ghost use Rattle.facet_json_tree.specs.Views.{tree_view, trees_view, pairs_view};
 
 use crate::tree::Tree;
-use facet_json_core::RawJson;
 use std::alloc::{AllocError, Global};
-use std::borrow::CowStr;
 
 impl Tree {
-    /// The same value, in memory of its own. Texts, numbers and JSON text that are borrowed for ever stay borrowed.
+    /// The same value, in memory of its own.
     ///
     /// Lists and objects are copied by recursion, a level of the stack for each level of nesting.
     ///
@@ -51,19 +48,9 @@ pub fn copy_tree(tree: &Tree, alloc: Global) -> Result<Tree, AllocError>
         Tree::Decimal(decimal) => Ok(Tree::Decimal(decimal.clone(alloc)?)),
         Tree::Text(text) => Ok(Tree::Text(String::from_str(alloc, text.as_str())?)),
         Tree::Bytes(bytes) => Ok(Tree::Bytes(Vec::from_slice(alloc, bytes)?)),
-        Tree::Raw(json) => Ok(Tree::Raw(copy_raw(json, alloc)?)),
+        Tree::Raw(json) => Ok(Tree::Raw(String::from_str(alloc, json.as_str())?)),
         Tree::List(items) => Ok(Tree::List(copy_items(items, alloc)?)),
         Tree::Pairs(members) => Ok(Tree::Pairs(copy_members(members, alloc)?)),
-    }
-}
-
-/// The same JSON text: a borrowed one stays borrowed, an owned one is copied.
-fn copy_raw(json: &RawJson<'static>, alloc: Global) -> Result<RawJson<'static>, AllocError>
-    ensures { IfOk result (λ copy. bytes_of copy ≡ bytes_of json.now) }
-{
-    match &json.0 {
-        CowStr::Borrowed(text) => Ok(RawJson::new(*text)),
-        CowStr::Owned(text) => Ok(RawJson::from_owned(String::from_str(alloc, text.as_str())?)),
     }
 }
 

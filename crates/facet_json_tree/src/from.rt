@@ -1,13 +1,11 @@
 //! Values from what they hold: `Tree::from(7u64)` is `Tree::U64(7)`. Nothing is allocated or refused.
 
 ghost use Rattle.std.specs.Prelude.{◌≡◌, string_bytes};
-ghost use Rattle.facet_format.specs.Event.{bytes_of};
 ghost use Rattle.facet_json_document.specs.Tree as tree;
 ghost use Rattle.facet_json_tree.specs.Views.{tree_view, trees_view, pairs_view};
 
+use crate::owned_decimal::OwnedDecimal;
 use crate::tree::Tree;
-use facet_format::Decimal;
-use facet_json_core::RawJson;
 
 /// `true` or `false`.
 impl From<bool> for Tree {
@@ -64,10 +62,10 @@ impl From<u128> for Tree {
 }
 
 /// The number, as its text.
-impl From<Decimal<'static>> for Tree {
-    ghost from_gives = { λ d t. tree_view t ≡ tree.decimal (bytes_of d) };
+impl From<OwnedDecimal> for Tree {
+    ghost from_gives = { λ d t. tree_view t ≡ tree.decimal d };
 
-    fn from(d: Decimal<'static>) -> Tree {
+    fn from(d: OwnedDecimal) -> Tree {
         Tree::Decimal(d)
     }
 }
@@ -78,15 +76,6 @@ impl From<String> for Tree {
 
     fn from(text: String) -> Tree {
         Tree::Text(text)
-    }
-}
-
-/// The JSON text, which is written as it stands, unchecked.
-impl From<RawJson<'static>> for Tree {
-    ghost from_gives = { λ json t. tree_view t ≡ tree.raw (bytes_of json) };
-
-    fn from(json: RawJson<'static>) -> Tree {
-        Tree::Raw(json)
     }
 }
 

@@ -14,6 +14,7 @@ pub mod laws;
 mod lookup;
 mod merge;
 mod not_stored;
+mod owned_decimal;
 pub mod pointer;
 mod pointer_error;
 mod pointer_mut;
@@ -27,6 +28,7 @@ mod writers;
 
 pub use error::WriteError;
 pub use not_stored::NotStored;
+pub use owned_decimal::OwnedDecimal;
 pub use pointer_error::PointerError;
 pub use reader::{read_tree, tree_from_slice, tree_from_slice_jsonc};
 pub use strict::{tree_from_slice_strict, tree_from_slice_within_strict};

@@ -1,8 +1,8 @@
 //! Reads the tree of a value, event by event and by recursion.
 
 ghost use Rattle.std.specs.Prelude.{◌≡◌, ◌≤◌, ◌<◌, ◌+◌, ◌⊎◌, ◌++◌, ◌∷◌, false, [], string_bytes, length, None, Some, IfOk, IfErr, IfSome, OnOk, MatchResult, MatchOption};
-ghost use Rattle.facet_format.specs.Complaint.{no_memory, out_of_memory, type_mismatch, refusal_at};
-ghost use Rattle.facet_format.specs.Event.{bytes_of, sequence_end, struct_end, array, object};
+ghost use Rattle.facet_format.specs.Complaint.{out_of_memory, type_mismatch, refusal_at};
+ghost use Rattle.facet_format.specs.Event.{sequence_end, struct_end, array, object};
 ghost use Rattle.facet_format.specs.Views.{event_of, refusal_of, scalar_value_of, span_of};
 ghost use Rattle.facet_json_token.specs.Gap.{plain, jsonc};
 ghost use Rattle.facet_json_document.specs.Node.{Node};
@@ -25,10 +25,11 @@ ghost use Rattle.facet_json_tree.specs.Inner.Beyond.{inner as spec_inner, Admits
 ghost use Rattle.facet_json_tree.specs.Inner.Reading.{WentOn, LeadsOn, AreItemsRead, AreMembersRead, AreItemsUnreadWithin, AreMembersUnreadWithin, HasBegun, IsRefused, BeganValue, BeganMember, PassedEnd, IsKey, IsFilled, PassesRest, IsLevel, IsUnfilled};
 ghost use Rattle.facet_json_tree.specs.Views.{tree_view, trees_view, pairs_view};
 
+use crate::owned_decimal::OwnedDecimal;
 use crate::tree::Tree;
 use facet_format::{
-    Decimal, DeserializeError, DeserializeErrorKind, FormatParser, ParseEvent, ParseEventKind,
-    ScalarValue, Span,
+    DeserializeError, DeserializeErrorKind, FormatParser, ParseEvent, ParseEventKind, ScalarValue,
+    Span,
 };
 use facet_json_core::next_of_value;
 use facet_json_parser::JsonParser;
@@ -414,20 +415,9 @@ fn scalar<'t>(
         ScalarValue::Bool(b) => Ok(Tree::Bool(b)),
         ScalarValue::I64(n) => Ok(Tree::I64(n)),
         ScalarValue::U64(n) => Ok(Tree::U64(n)),
-        ScalarValue::Decimal(decimal) => Ok(Tree::Decimal(owned(alloc, decimal)?)),
+        ScalarValue::Decimal(decimal) => Ok(Tree::Decimal(OwnedDecimal::new(alloc, &decimal)?)),
         ScalarValue::Str(text) => Ok(Tree::Text(text.into_owned(alloc)?)),
         _ => Err(mismatch("value", "scalar", span)),
-    }
-}
-
-/// The same number, its text in memory of its own.
-fn owned<'t>(alloc: Global, decimal: Decimal<'_>) -> Result<Decimal<'static>, DeserializeError<'t>>
-    ensures text { IfOk result (λ d. bytes_of d ≡ bytes_of decimal.entry) }
-    ensures refused { IfErr result (λ e. refusal_of e ≡ no_memory) }
-{
-    match decimal.into_owned(alloc) {
-        Ok(decimal) => Ok(decimal),
-        Err(_) => Err(DeserializeError::out_of_memory()),
     }
 }
 

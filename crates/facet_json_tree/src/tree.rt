@@ -6,8 +6,7 @@ ghost use Rattle.facet_json_tree.specs.Same.{same_tree};
 ghost use Rattle.facet_json_tree.specs.Views.{tree_view, trees_view, pairs_view};
 ghost use Rattle.facet_json_tree.specs.Inner.SameLaws.{same_tree-equivalence};
 
-use facet_format::Decimal;
-use facet_json_core::RawJson;
+use crate::owned_decimal::OwnedDecimal;
 
 /// A JSON value. Lists and pairs keep their order, and a key that comes twice stands twice.
 ///
@@ -31,19 +30,26 @@ pub enum Tree {
     I128(i128),
     /// A whole number without a sign, within 128 bits.
     U128(u128),
-    /// A number with a fraction or an exponent, as its text.
-    Decimal(Decimal<'static>),
+    /// A number with a fraction or an exponent, as its text: `OwnedDecimal::from_string` makes one of a text, `OwnedDecimal::new` of a
+    /// `Decimal`.
+    Decimal(OwnedDecimal),
     /// A text. Whole numbers past 64 bits are read as the text of their digits.
     Text(String),
     /// Bytes, which are written as a list of numbers or as hexadecimal text.
     Bytes(Vec<u8>),
-    /// JSON text, which is written as it stands, unchecked.
-    Raw(RawJson<'static>),
+    /// JSON text, which is written as it stands, unchecked: whoever makes such a value says that it is JSON. That of a `RawJson` is
+    /// `raw.0.into_owned(alloc)?`.
+    Raw(String),
     /// An array.
     List(Vec<Tree>),
     /// An object, its members in order.
     Pairs(Vec<(String, Tree)>),
 }
+
+// The bytes that an item of a list takes, and a member of an object.
+const _: () = prove!(size_of::<Tree>() == 32);
+
+const _: () = prove!(size_of::<(String, Tree)>() == 64);
 
 /// Equal exactly where the values are, lists and pairs in their order.
 impl PartialEq for Tree {

@@ -140,12 +140,12 @@ write_tree-returns-in-Bytes-clause-of_rust t c =
 pub write_tree-returns-in-Raw-clause-written : goal.write_tree-returns-in-Raw-clause-written
 unfolding text
 write_tree-returns-in-Raw-clause-written t c =
-    raw-called _ _ _ (tree_view c.args.tree.now) _ (λ o depth. c.as_str-in-Raw.ensures ∙ ap (text o depth) (sym (ap tree_view c.in-Raw.is ∙ tree_view-Raw _))) c.write_raw-in-Raw.ensures
+    raw-called _ _ _ (tree_view c.args.tree.now) _ (λ o depth. c.as_str-in-Raw.ensures.value ∙ ap (text o depth) (sym (ap tree_view c.in-Raw.is ∙ tree_view-Raw _))) c.write_raw-in-Raw.ensures
 
 pub write_tree-returns-in-Raw-clause-of_rust : goal.write_tree-returns-in-Raw-clause-of_rust
 unfolding WellFormed RawParts
 write_tree-returns-in-Raw-clause-of_rust t c =
-    seen-of_rust _ _ _ (ap tree_view c.in-Raw.is ∙ tree_view-Raw _) ((tt, subst (λ json. is_utf8 json ≡ true) c.as_str-in-Raw.ensures (is_utf8-from_IsUtf8 _ c.as_str-in-Raw.utf8)))
+    seen-of_rust _ _ _ (ap tree_view c.in-Raw.is ∙ tree_view-Raw _) ((tt, subst (λ json. is_utf8 json ≡ true) c.as_str-in-Raw.ensures.value (is_utf8-from_IsUtf8 _ c.as_str-in-Raw.utf8)))
 
 pub write_tree-returns-in-Pairs-clause-written : goal.write_tree-returns-in-Pairs-clause-written
 write_tree-returns-in-Pairs-clause-written t c =
