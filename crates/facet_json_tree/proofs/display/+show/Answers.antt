@@ -88,7 +88,7 @@ pub show-returns-in-Raw : goal.show-returns-in-Raw
 unfolding text
 show-returns-in-Raw g t c plain ok =
     let is = ap (text default_options 0) (ap tree_view c.in-Raw.is ∙ tree_view-Raw _) in
-    has_written_of_eq _ _ _ _ _ (c.as_str-in-Raw.ensures ∙ sym is) (c.write_str-in-Raw.ensures.writes plain ok)
+    has_written_of_eq _ _ _ _ _ (c.as_str-in-Raw.ensures.value ∙ sym is) (c.write_str-in-Raw.ensures.writes plain ok)
 
 pub show-returns-in_ok-write_str-in-List : goal.show-returns-in_ok-write_str-in-List
 unfolding text
