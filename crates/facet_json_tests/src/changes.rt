@@ -1,4 +1,4 @@
-//! Changes of values: items and members that are stored and removed, and what a pointer lends.
+//! Changes of values: items and members that are stored and removed, and what a pointer or a name lends.
 
 use crate::lookups::is_document;
 use facet_json_tree::{NotStored, Tree, tree_from_slice};
@@ -17,6 +17,8 @@ enum Change {
     RemoveItem(usize),
     /// What this pointer names becomes `false`.
     Point(&'static str),
+    /// The member of this name is lent, or a new one, and becomes `null`.
+    Lend(&'static str),
 }
 
 /// What is answered where the value is of the wrong kind.
@@ -25,7 +27,7 @@ const WRONG_KIND: &str = "wrong kind";
 /// A document, a change, the document of the value that it answers, or nothing, and what the document becomes.
 type Row = (&'static str, Change, &'static str, &'static str);
 
-static ROWS: [Row; 35] = [
+static ROWS: [Row; 42] = [
     ("[]", Change::Push, "", "[false]"),
     ("[1,[2]]", Change::Push, "", "[1,[2],false]"),
     ("{}", Change::Push, WRONG_KIND, "{}"),
@@ -101,6 +103,28 @@ static ROWS: [Row; 35] = [
     ),
     ("[1,2]", Change::Point("/01"), "", "[1,2]"),
     ("[1,2]", Change::Point("1"), "no pointer", "[1,2]"),
+    ("{}", Change::Lend("a"), "false", r#"{"a":null}"#),
+    (r#"{"a":[1]}"#, Change::Lend("a"), "[1]", r#"{"a":null}"#),
+    (
+        r#"{"b":{"a":1}}"#,
+        Change::Lend("a"),
+        "false",
+        r#"{"b":{"a":1},"a":null}"#,
+    ),
+    (
+        r#"{"a":1,"":2,"c":3}"#,
+        Change::Lend(""),
+        "2",
+        r#"{"a":1,"":null,"c":3}"#,
+    ),
+    (
+        r#"{"a":1,"b":2,"a":3,"c":4}"#,
+        Change::Lend("a"),
+        "3",
+        r#"{"a":1,"b":2,"a":null,"c":4}"#,
+    ),
+    ("[]", Change::Lend("a"), WRONG_KIND, "[]"),
+    ("null", Change::Lend(""), WRONG_KIND, "null"),
 ];
 
 /// Whether a value is the document's, or there is none where nothing is wanted.
@@ -147,6 +171,18 @@ fn points(tree: &mut Tree, pointer: &str, wanted: &str) -> bool {
     }
 }
 
+/// Whether the value that is wanted is lent, which becomes `null`.
+fn lends(alloc: Global, tree: &mut Tree, key: &str, wanted: &str) -> bool {
+    match tree.get_or_insert(alloc, key, Tree::Bool(false)) {
+        Ok(lent) => {
+            let is_wanted = is_document(alloc, lent, wanted);
+            *lent = Tree::Null;
+            is_wanted
+        }
+        Err(error) => is_given_back(error, wanted),
+    }
+}
+
 /// Whether the change answers what is wanted.
 fn answers(alloc: Global, tree: &mut Tree, change: Change, wanted: &str) -> bool {
     match change {
@@ -155,6 +191,7 @@ fn answers(alloc: Global, tree: &mut Tree, change: Change, wanted: &str) -> bool
         Change::Remove(key) => is_value(alloc, tree.remove(key), wanted),
         Change::RemoveItem(index) => is_value(alloc, tree.remove_item(index), wanted),
         Change::Point(pointer) => points(tree, pointer, wanted),
+        Change::Lend(key) => lends(alloc, tree, key, wanted),
     }
 }
 

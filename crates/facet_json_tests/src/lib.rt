@@ -1,8 +1,8 @@
 //! Tests that aren't rows of a program. Of what reads: formats, tokens, growing buffers, parsers, what public types derive, copies of events, decimals,
-//! generic code over parsers, points that are forgotten, rows read in pieces of each length, with a read that fails; trees looked up and changed,
-//! JSON pointers, what values are, copies, trees within a depth, how a value is refused that is passed without a tree. Of what writes: the texts
-//! of calls, refusals, generic code over serializers; what each kind of error is called, displayed and labelled, errors with their source, and
-//! reports. And all that with allocations that fail.
+//! generic code over parsers, points that are forgotten, rows read in pieces of each length, with a read that fails; trees looked up, changed,
+//! sorted and displayed, JSON pointers, what values are, copies, trees within a depth, how a value is refused that is passed without a tree. Of
+//! what writes: the texts of calls, refusals, generic code over serializers; what each kind of error is called, displayed and labelled, errors
+//! with their source, and reports. And all that with allocations that fail.
 #![tactic(auto)]
 
 #[cfg(test)]
@@ -27,6 +27,8 @@ mod decimals;
 mod decoding_allocations;
 #[cfg(test)]
 mod depth;
+#[cfg(test)]
+mod displayed;
 #[cfg(test)]
 mod error_allocations;
 #[cfg(test)]
@@ -73,6 +75,8 @@ mod samples;
 mod searches;
 #[cfg(test)]
 mod shown;
+#[cfg(test)]
+mod sorting;
 #[cfg(test)]
 mod sources;
 #[cfg(test)]

@@ -45,9 +45,9 @@ stands_last key seen ms i same within last =
     record { within = subst (λ xs. i < length xs) same within; last = subst (λ xs. IsLastNamed key xs i) same last }
 
 -- No member of the name comes first, and none after it.
-record HasNone (key name : List ℕ) (others : Pairs) : Type 0 where
-  first : same_bytes name key ≡ false
-  rest : last_member key others ≡ None
+pub record HasNone (key name : List ℕ) (others : Pairs) : Type 0 where
+  pub first : same_bytes name key ≡ false
+  pub rest : last_member key others ≡ None
 
 by_last : (o : Option tree.Tree) (same : Bool) (x : tree.Tree) → option_or o (if same then Some x else None) ≡ None
     → (same ≡ false) × (o ≡ None)
@@ -55,7 +55,7 @@ by_last (Some y) same x e = cc
 by_last None true x e = cc
 by_last None false x e = (refl, refl)
 
-has_none : (key name : List ℕ) (x : tree.Tree) (others : Pairs) → last_member key (pair name x others) ≡ None → HasNone key name others
+pub has_none : (key name : List ℕ) (x : tree.Tree) (others : Pairs) → last_member key (pair name x others) ≡ None → HasNone key name others
 has_none key name x others e =
     let parts = by_last (last_member key others) (same_bytes name key) x e in record { first = parts.0; rest = parts.1 }
 

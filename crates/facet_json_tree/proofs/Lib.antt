@@ -6,6 +6,7 @@ pub mod DepthOfNodes
 pub mod DocumentWithin
 pub mod EditLaws
 pub mod Edits
+pub mod Entries
 pub mod FirstEventTells
 pub mod ItemsRead
 pub mod Lookups
@@ -23,6 +24,11 @@ pub mod ReadBack
 pub mod ReadingValues
 pub mod ReadingWithin
 pub mod ScalarCalls
+pub mod Shown
+pub mod ShownTexts
+pub mod SortedLaws
+pub mod Sortings
+pub mod StableOrder
 pub mod StrictWithin
 pub mod TreeViews
 pub mod Utf8Parts

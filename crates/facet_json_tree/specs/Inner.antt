@@ -6,3 +6,4 @@ pub mod LastNamed
 pub mod PointerParts
 pub mod Reading
 pub mod SameLaws
+pub mod WithMember

@@ -10,5 +10,7 @@ pub mod OutputViews
 pub mod Pointer
 pub mod PointerViews
 pub mod Same
+pub mod Sorted
+pub mod SortedLaws
 pub mod Views
 pub mod Write
