@@ -21,4 +21,6 @@ pub use facet_json_document::laws::{
 };
 pub use facet_json_facet::laws::same_bytes_read_alike;
 pub use facet_json_scan::laws as scanner;
-pub use facet_json_tree::laws::{changes_are_found, first_beyond_is_deeper};
+pub use facet_json_tree::laws::{
+    changes_are_found, first_beyond_is_deeper, sorted_members_are_found,
+};

@@ -1,11 +1,11 @@
 //! A document is read, written, and stands for the same again, with no premise left to the caller.
 
-ghost use Rattle.std.specs.Prelude.{◌≡◌, codes, IfOk, MatchResult};
 ghost use Rattle.facet_json.specs.Document.{IsDocument, IsWholeDocument};
 ghost use Rattle.facet_json.specs.ErrorKind.{kind_code};
 ghost use Rattle.facet_json.specs.ErrorViews.{error_kind_of};
 ghost use Rattle.facet_json.specs.Gap.{plain};
 ghost use Rattle.facet_json.specs.Node.{Node};
+ghost use Rattle.std.specs.Prelude.{◌≡◌, codes, IfOk, MatchResult};
 ghost use Rattle.facet_json.specs.Text.{default_options, text};
 ghost use Rattle.facet_json.specs.Tree.{Tree};
 ghost use Rattle.facet_json.specs.TypedTrees.{without_plus};

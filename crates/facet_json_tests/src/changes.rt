@@ -103,7 +103,6 @@ static ROWS: [Row; 42] = [
     ),
     ("[1,2]", Change::Point("/01"), "", "[1,2]"),
     ("[1,2]", Change::Point("1"), "no pointer", "[1,2]"),
-    ("{}", Change::Lend("a"), "false", r#"{"a":null}"#),
     (r#"{"a":[1]}"#, Change::Lend("a"), "[1]", r#"{"a":null}"#),
     (
         r#"{"b":{"a":1}}"#,
@@ -111,20 +110,21 @@ static ROWS: [Row; 42] = [
         "false",
         r#"{"b":{"a":1},"a":null}"#,
     ),
+    ("[]", Change::Lend("a"), WRONG_KIND, "[]"),
+    ("null", Change::Lend(""), WRONG_KIND, "null"),
     (
         r#"{"a":1,"":2,"c":3}"#,
         Change::Lend(""),
         "2",
         r#"{"a":1,"":null,"c":3}"#,
     ),
+    ("{}", Change::Lend("a"), "false", r#"{"a":null}"#),
     (
         r#"{"a":1,"b":2,"a":3,"c":4}"#,
         Change::Lend("a"),
         "3",
         r#"{"a":1,"b":2,"a":null,"c":4}"#,
     ),
-    ("[]", Change::Lend("a"), WRONG_KIND, "[]"),
-    ("null", Change::Lend(""), WRONG_KIND, "null"),
 ];
 
 /// Whether a value is the document's, or there is none where nothing is wanted.

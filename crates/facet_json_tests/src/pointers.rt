@@ -107,8 +107,9 @@ fn tokens_lead_into_a_value(rt: HostRuntime) {
 }
 
 /// Texts that are no pointers, and why.
-static REFUSED: [(&str, PointerError); 9] = [
+pub(crate) static REFUSED: [(&str, PointerError); 10] = [
     ("foo", PointerError::NoSlash),
+    ("0", PointerError::NoSlash),
     ("~", PointerError::NoSlash),
     ("#/foo", PointerError::NoSlash),
     ("/~", PointerError::LoneTilde(1)),

@@ -1,6 +1,6 @@
 //! A search by a JSON pointer, with the document and the pointers of RFC 6901, section 5, and with others.
 
-use crate::pointers::{DOCUMENT, NAMED, is_document};
+use crate::pointers::{DOCUMENT, NAMED, REFUSED, is_document};
 use facet_format::{DeserializeError, FormatParser};
 use facet_json::steps::{FindError, find_pointer};
 use facet_json::{PointerError, Tree, read_tree};
@@ -189,23 +189,9 @@ fn refuses(alloc: Global, text: &str, wanted: PointerError) -> bool {
         && parser.current_span().is_some_and(|span| span.end() == 1)
 }
 
-/// Texts that are no pointers, and why.
-static NO_POINTERS: [(&str, PointerError); 10] = [
-    ("foo", PointerError::NoSlash),
-    ("0", PointerError::NoSlash),
-    ("~", PointerError::NoSlash),
-    ("#/foo", PointerError::NoSlash),
-    ("/~", PointerError::LoneTilde(1)),
-    ("/~2", PointerError::LoneTilde(1)),
-    ("/~~0", PointerError::LoneTilde(1)),
-    ("/a~/b", PointerError::LoneTilde(2)),
-    ("/~0~1~", PointerError::LoneTilde(5)),
-    ("/é~", PointerError::LoneTilde(3)),
-];
-
 #[test]
 fn what_is_no_pointer_is_refused(rt: HostRuntime) {
-    for &(text, wanted) in &NO_POINTERS {
+    for &(text, wanted) in &REFUSED {
         assert!(rt; refuses(rt.alloc(), text, wanted), "of {text}");
     }
 }
