@@ -33,9 +33,9 @@ begins-object (event.field_key name) e = cc
 begins-object (event.scalar value) e = cc
 
 begins-list : (kind : EventKind) → begun_by kind ≡ Some begun.List → begins_list kind ≡ true
+begins-list (sequence_start kind) e = refl
 begins-list (struct_start kind) e = cc
 begins-list event.struct_end e = cc
-begins-list (sequence_start kind) e = refl
 begins-list event.sequence_end e = cc
 begins-list (event.field_key name) e = cc
 begins-list (event.scalar value) e = cc
