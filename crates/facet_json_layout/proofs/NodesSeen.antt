@@ -1,5 +1,5 @@
 -- What a value of a document tells of its nodes.
-use Rattle.std.proofs.Common.{◌≡◌, ℕ, suc, ◌+◌, ◌<◌, ◌≤◌, Bool, true, false, List, [], ◌∷◌, length, drop, get_or, Option, Some, None, refl, sym, ap, ap₂, ◌∙◌, arith, subst}
+use Rattle.std.proofs.Common.{◌≡◌, ℕ, zero, suc, ◌+◌, ◌-◌, ◌<◌, ◌≤◌, Bool, true, false, List, [], ◌∷◌, length, drop, get_or, Option, Some, None, refl, sym, ap, ap₂, ◌∙◌, arith, subst}
 use Rattle.std.specs.Prelude.{MatchOption, if◌then◌else◌}
 use Rattle.std.specs.Borrow.{Bor}
 use Rattle.std.specs.Option.{unwrap_or, option_map, option_or}
@@ -10,11 +10,11 @@ use Rattle.facet_format.specs.Event as event
 use Rattle.facet_format.specs.Views.{scalar_value_of}
 use Rattle.facet_format.specs.declared.event.ScalarValue.{ScalarValue}
 use Rattle.facet_json_core.specs.Told.{tree_of_scalar}
-use Rattle.facet_json_document.specs.Tree.{Tree, no_trees, no_pairs, pair}
+use Rattle.facet_json_document.specs.Tree.{Tree, tree, no_trees, pair, no_pairs}
 use Rattle.facet_json_tree.specs.Lookup.{item, item_at, member, last_member}
 use Rattle.facet_json_tree.specs.Same.{same_bytes}
-use Rattle.facet_json_layout.specs.Nodes.{Node, leaf, key, list, object, closing, nothing, inner, is_closing, is_leaf, is_key, is_list, is_object, items, members, value_of, values, value_at, value_in, node_view, nodes_view, value_view}
-use Rattle.facet_json_layout.specs.Inner.Looking.{HoldsOthers, of_list, of_object, IsLeaf, from, Stands, IsMember}
+use Rattle.facet_json_layout.specs.Nodes.{Node, leaf, key, list, object, closing, nothing, inner, is_closing, is_leaf, is_key, is_list, is_object, items, members, value_of, values, value_at, value_in, trees_len, pairs_len, len, node_view, nodes_view, value_view}
+use Rattle.facet_json_layout.specs.Inner.Looking.{HoldsOthers, of_nothing, of_list, of_object, IsLeaf, from, Stands, IsItem, IsMember}
 use Rattle.facet_json_layout.specs.declared.document.node.Node.{Node as RustNode}
 use Rattle.facet_json_layout.specs.declared.document.node.Node.TheVariants as rust
 use Rattle.facet_json_layout.specs.declared.document.value.Value.{Value}
@@ -44,13 +44,13 @@ value-stands v n s = value-there (nodes_view v.nodes.now) v.index n _ _ s.here
 
 not-leaf : (n : Node) (later : List (Node × Tree)) → is_leaf n ≡ false → HoldsOthers (value_of n later)
 not-leaf (leaf t) later e = cc
-not-leaf (key name) later e = of_list no_trees
+not-leaf (key name) later e = of_nothing
 not-leaf (list k) later e = of_list (items 0 later)
 not-leaf (object k) later e = of_object (members 0 later)
-not-leaf closing later e = of_list no_trees
+not-leaf closing later e = of_nothing
 
 pub no-leaf : (v : Value) → from v v.index ≡ [] → IsLeaf (value_view v) None
-no-leaf v e = subst HoldsOthers (sym (empty-value v e)) (of_list no_trees)
+no-leaf v e = subst HoldsOthers (sym (empty-value v e)) (of_nothing)
 
 -- the node tells the value that holds no others
 abbrev pub TellsLeaf : Node → Option (Bor ScalarValue) → Type 0
@@ -96,11 +96,27 @@ item-begins v w at n s c nodes index =
     ∙ sym (ap (λ l. item_at 0 (items 0 l)) s.here ∙ ap (item_at 0) (items-first n _ (from v (suc at)) c))
 
 -- The items behind it begin behind its nodes.
-pub item-next : (v : Value) (at to : ℕ) (n : Node) → Stands v at n → is_closing n ≡ false → from v to ≡ drop (inner n) (from v (suc at)) → (k : ℕ) →
-    item_at (suc k) (items 0 (from v at)) ≡ item_at k (items 0 (from v to))
-item-next v at to n s c e k =
-    ap (λ l. item_at (suc k) (items 0 l)) s.here ∙ ap (item_at (suc k)) (items-first n _ (from v (suc at)) c)
-    ∙ ap (λ l. item_at k (items 0 l)) (sym e)
+pub item-stands : (v : Value) (at to : ℕ) (n : Node) → Stands v at n → is_closing n ≡ false → from v to ≡ drop (inner n) (from v (suc at)) →
+    at < to → to ≤ length v.nodes.now → IsItem v at to
+item-stands v at to n s c e further within = record {
+  item = value_of n (from v (suc at));
+  are = ap (items 0) s.here ∙ items-first n (value_of n (from v (suc at))) (from v (suc at)) c
+      ∙ ap (λ l. tree (value_of n (from v (suc at))) (items 0 l)) (sym e);
+  further = further;
+  within = within;
+}
+
+-- The search for an item goes on behind another.
+pub item-later : (v : Value) (at to left : ℕ) (found : Option Tree) → found ≡ item_at left (items 0 (from v at)) → IsItem v at to → 0 < left →
+    found ≡ item_at (left - 1) (items 0 (from v to))
+item-later v at to zero found e i some = absurd (omega (arith, some))
+item-later v at to (suc left) found e i some =
+    let one : suc left - 1 ≡ left = omega arith in
+    e ∙ ap (item_at (suc left)) i.are ∙ ap (λ k. item_at k (items 0 (from v to))) (sym one)
+
+pub no-item-left : (v : Value) (at left : ℕ) (found : Option Tree) → found ≡ item_at left (items 0 (from v at)) →
+    items 0 (from v at) ≡ no_trees → found ≡ None
+no-item-left v at left found e none = e ∙ ap (item_at left) none
 
 -- ---- behind a node's own nodes
 
@@ -183,3 +199,42 @@ member-found v w at behind to name wanted last before e m same nodes index b =
     e ∙ ap (λ ms. option_or (last_member wanted ms) before) m.are
     ∙ named (same_bytes name wanted) (last_member wanted (members 0 (from v to))) t before same
     ∙ ap (λ x. option_or (last_member wanted (members 0 (from v to))) (Some x)) (sym view)
+
+-- ---- how many
+
+list-len : (n : Node) (later : List (Node × Tree)) → is_list n ≡ true → len (value_of n later) ≡ Some (trees_len (items 0 later))
+list-len (list k) later e = refl
+list-len (leaf t) later e = cc
+list-len (key name) later e = cc
+list-len (object k) later e = cc
+list-len closing later e = cc
+
+object-len : (n : Node) (later : List (Node × Tree)) → is_object n ≡ true → len (value_of n later) ≡ Some (pairs_len (members 0 later))
+object-len (object k) later e = refl
+object-len (leaf t) later e = cc
+object-len (key name) later e = cc
+object-len (list k) later e = cc
+object-len closing later e = cc
+
+scalar-len : (s : Scalar) → len (unwrap_or (tree_of_scalar s) nothing) ≡ None
+scalar-len event.null = refl
+scalar-len _ = refl
+
+other-len : (n : RustNode) (later : List (Node × Tree)) → is_list (node_view n) ≡ false → is_object (node_view n) ≡ false →
+    len (value_of (node_view n) later) ≡ None
+other-len (rust.Leaf s) later e f = scalar-len (scalar_value_of s)
+other-len (rust.Key name) later e f = refl
+other-len (rust.List k) later e f = cc
+other-len (rust.Object k) later e f = cc
+other-len rust.End later e f = refl
+
+pub len-of_list : (v : Value) (n : Node) → Stands v v.index n → is_list n ≡ true → len (value_view v) ≡ Some (trees_len (items 0 (from v (suc v.index))))
+len-of_list v n s e = ap len (value-stands v n s) ∙ list-len n (from v (suc v.index)) e
+
+pub len-of_object : (v : Value) (n : Node) → Stands v v.index n → is_object n ≡ true →
+    len (value_view v) ≡ Some (pairs_len (members 0 (from v (suc v.index))))
+len-of_object v n s e = ap len (value-stands v n s) ∙ object-len n (from v (suc v.index)) e
+
+pub no-len : (v : Value) (n : RustNode) → Stands v v.index (node_view n) → is_list (node_view n) ≡ false → is_object (node_view n) ≡ false →
+    len (value_view v) ≡ None
+no-len v n s e f = ap len (value-stands v (node_view n) s) ∙ other-len n (from v (suc v.index)) e f

@@ -67,7 +67,7 @@ members zero (_ ∷ xs) = no_pairs
 
 -- what stands for a value where none begins, as at a key or an end
 abbrev pub nothing : Tree
-nothing = trees.list no_trees
+nothing = trees.bytes []
 
 -- the value that begins at a node
 abbrev pub value_of : Node → List (Node × Tree) → Tree
@@ -87,6 +87,22 @@ value_in (Some x) = x.1
 -- the value that begins at the node of this index, the first at 0
 abbrev pub value_at : List Node → ℕ → Tree
 value_at nodes index = value_in (slice_get (values nodes) index)
+
+-- ---- how many
+
+abbrev pub trees_len : Trees → ℕ
+trees_len no_trees = 0
+trees_len (tree t ts) = suc (trees_len ts)
+
+abbrev pub pairs_len : Pairs → ℕ
+pairs_len no_pairs = 0
+pairs_len (pair name t ps) = suc (pairs_len ps)
+
+-- how many items or members a list or an object has
+abbrev pub len : Tree → Option ℕ
+len (trees.list ts) = Some (trees_len ts)
+len (trees.pairs ps) = Some (pairs_len ps)
+len _ = None
 
 -- ---- what the types of the code stand for
 

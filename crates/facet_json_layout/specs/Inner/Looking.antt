@@ -5,14 +5,14 @@ use Rattle.facet_format.specs.Views.{scalar_value_of}
 use Rattle.facet_format.specs.declared.event.ScalarValue.{ScalarValue}
 use Rattle.std.specs.Option.{unwrap_or}
 use Rattle.facet_json_core.specs.Told.{tree_of_scalar}
-use Rattle.facet_json_document.specs.Tree.{Tree, list, pairs, Trees, no_trees, Pairs, no_pairs, pair}
-use Rattle.facet_json_tree.specs.Lookup.{item_at}
+use Rattle.facet_json_document.specs.Tree.{Tree, list, pairs, Trees, no_trees, tree, Pairs, no_pairs, pair}
 use Rattle.facet_json_layout.specs.Nodes.{Node, nothing, items, members, value_of, value_at, values, node_view, nodes_view}
 use Rattle.facet_json_layout.specs.declared.document.node.Node.{Node as RustNode}
 use Rattle.facet_json_layout.specs.declared.document.value.Value.{Value}
 
--- a value that may hold others
+-- a value that may hold others, or stands for none
 pub data HoldsOthers : Tree → Type 0 where
+  of_nothing : HoldsOthers nothing
   of_list : (ts : Trees) → HoldsOthers (list ts)
   of_object : (ps : Pairs) → HoldsOthers (pairs ps)
 
@@ -33,10 +33,16 @@ pub record Stands (v : Value) (at : ℕ) (n : Node) : Type 0 where
 abbrev pub IsNodeAt : Value → ℕ → Option (Bor RustNode) → Type 0
 IsNodeAt v at answer = MatchOption answer (from v at ≡ []) (λ n. Stands v at (node_view n.now))
 
+-- An item stands there, and those behind it begin further on.
+pub record IsItem (v : Value) (at : ℕ) (next : ℕ) : Type 0 where
+  pub item : Tree
+  pub are : items 0 (from v at) ≡ tree item (items 0 (from v next))
+  pub further : at < next
+  pub within : next ≤ length v.nodes.now
+
 -- the answer is where the items behind the one that stands there begin, where one does
 abbrev pub IsNextItem : Value → ℕ → Option ℕ → Type 0
-IsNextItem v at answer = MatchOption answer (items 0 (from v at) ≡ no_trees)
-    (λ next. (k : ℕ) → item_at (suc k) (items 0 (from v at)) ≡ item_at k (items 0 (from v next)))
+IsNextItem v at answer = MatchOption answer (items 0 (from v at) ≡ no_trees) (λ next. IsItem v at next)
 
 -- A member with this name stands there, and those behind it begin further on.
 pub record IsMember (v : Value) (at : ℕ) (name : List ℕ) (next : ℕ) : Type 0 where

@@ -6,7 +6,7 @@ ghost use Rattle.facet_format.specs.Event.{bytes_of};
 ghost use Rattle.facet_json_tree.specs.Content as content;
 ghost use Rattle.facet_json_tree.specs.Content.{TellsUnsigned, TellsSigned};
 ghost use Rattle.facet_json_tree.specs.Lookup.{member, item, item_at, last_member};
-ghost use Rattle.facet_json_layout.specs.Nodes.{value_view, node_view, inner, items, members};
+ghost use Rattle.facet_json_layout.specs.Nodes.{value_view, node_view, inner, items, members, len, trees_len, pairs_len};
 ghost use Rattle.facet_json_layout.specs.Inner.Looking.{IsLeaf, IsNodeAt, IsNextItem, IsMemberAt, from};
 
 use crate::document::node::Node;
@@ -155,6 +155,54 @@ impl<'d, 'i> Value<'d, 'i> {
             return None;
         }
         self.item_of_list(index)
+    }
+
+    /// How many items or members the value has (RFC 8259, sections 4 and 5), where it is a list or an object. They are counted one by one, and what
+    /// they hold is passed at once.
+    ///
+    /// ```text
+    /// of [7,[8,9]]: len()                                     Some(2)
+    /// of "a": len()                                           None
+    /// ```
+    pub fn len(&self) -> Option<usize>
+        ensures { result ≡ len (value_view self.now) }
+    {
+        let node = self.node(self.index)?;
+        if node.is_list() {
+            return Some(self.items_len());
+        }
+        if node.is_object() {
+            return Some(self.members_len());
+        }
+        None
+    }
+
+    /// How many items a list has.
+    fn items_len(&self) -> usize
+        requires { self.now.index < length self.now.nodes.now }
+        ensures { result ≡ trees_len (items 0 (from self.now (suc self.now.index))) }
+    {
+        let mut at = self.index + 1;
+        let mut len = 0;
+        while let Some(next) = self.next_item(at) {
+            at = next;
+            len += 1;
+        }
+        len
+    }
+
+    /// How many members an object has.
+    fn members_len(&self) -> usize
+        requires { self.now.index < length self.now.nodes.now }
+        ensures { result ≡ pairs_len (members 0 (from self.now (suc self.now.index))) }
+    {
+        let mut at = self.index + 1;
+        let mut len = 0;
+        while let Some((_, next)) = self.member_there(at) {
+            at = next;
+            len += 1;
+        }
+        len
     }
 
     /// The value that holds no others, where it is one.
