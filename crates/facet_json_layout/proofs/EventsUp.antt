@@ -103,20 +103,24 @@ up-to_end old now new last some move told =
       ends = told ∙ seen ∙ ap (λ s. s.place.last) end.stays ∙ some.ends;
     }
 
--- Or a refusal.
-pub refused-after : (old now new : Now) (r : Refusal) → PassesSome old now → now.buffer ≡ old.buffer → now.cursor.refusal ≡ None →
-    Moves now next (event (Err r)) new → LacksMemory r ⊎ BreaksOff old r
-refused-after old now new r some same free move = by (refused_step now new.cursor r _ free refl move.step)
+-- Or a refusal, after events that came.
+pub refused-later : (old now new : Now) (events : List Passed) (r : Refusal) → future_of old ≡ events_before events (future_of now) →
+    now.buffer ≡ old.buffer → now.cursor.refusal ≡ None → Moves now next (event (Err r)) new → LacksMemory r ⊎ BreaksOff old r
+refused-later old now new events r comes same free move = by (refused_step now new.cursor r _ free refl move.step)
   where
     by : LacksMemory r ⊎ BreaksOff now r → LacksMemory r ⊎ BreaksOff old r
     by (inl lacks) = inl lacks
     by (inr b) = inr (record {
-      events = some.events ++ b.events;
+      events = events ++ b.events;
       place = b.place;
       rest = b.rest;
-      comes = some.comes ∙ ap (events_before some.events) b.comes ∙ sym (events_before-append some.events b.events (stuck b.place b.rest));
+      comes = comes ∙ ap (events_before events) b.comes ∙ sym (events_before-append events b.events (stuck b.place b.rest));
       so = subst (λ l. IsStuck l b.place b.rest r) same b.so;
     })
+
+pub refused-after : (old now new : Now) (r : Refusal) → PassesSome old now → now.buffer ≡ old.buffer → now.cursor.refusal ≡ None →
+    Moves now next (event (Err r)) new → LacksMemory r ⊎ BreaksOff old r
+refused-after old now new r some same free move = refused-later old now new some.events r some.comes same free move
 
 -- The call that tells whether there was an event changes neither the input nor a refusal.
 pub told-free : (some : Bool) (old new : Now) → Told some old new → new.cursor.refusal ≡ None

@@ -1,6 +1,10 @@
 pub mod AllTokens
 pub mod EventsUp
 pub mod LaidOut
+pub mod NodeTables
+pub mod NodesBuilt
+pub mod NodesRead
+pub mod NodesSeen
 pub mod OneDocuments
 pub mod PieceComments
 pub mod PieceRows

@@ -1,3 +1,5 @@
 -- Definitions that serve private contracts alone.
+pub mod Building
 pub mod Checking
 pub mod Layout
+pub mod Looking

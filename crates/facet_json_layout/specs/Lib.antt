@@ -1,3 +1,4 @@
 pub mod Formatted
 pub mod Inner
+pub mod Nodes
 pub mod Pieces

@@ -1,0 +1,106 @@
+-- The nodes of all events of an input are its document's.
+use Rattle.std.proofs.Common.{◌≡◌, ◌⊎◌, inl, inr, ℕ, Bool, true, false, List, [], ◌∷◌, ◌++◌, sym, ap, ◌∙◌, subst}
+use Rattle.std.specs.Prelude.{Some, None, Err}
+use Rattle.facet_format.specs.Complaint.{Refusal}
+use Rattle.facet_format.specs.Cursor.{event, next}
+use Rattle.facet_format.specs.Event.{Passed}
+use Rattle.facet_json_token.specs.Gap.{Mode, plain}
+use Rattle.facet_json_core.specs.Reading.{LacksMemory}
+use Rattle.facet_json_core.proofs.WalkTells.{walk-tells}
+use Rattle.facet_json_document.specs.Document.{IsDocument}
+use Rattle.facet_json_document.specs.EventLaws.{RootComes, document_comes, prefix_comes}
+use Rattle.facet_json_document.specs.Future.{finished, events_before}
+use Rattle.facet_json_document.specs.Language.{strict}
+use Rattle.facet_json_document.specs.Meaning.{tree_of}
+use Rattle.facet_json_document.specs.Move.{Moves}
+use Rattle.facet_json_document.specs.Node.{Node}
+use Rattle.facet_json_document.specs.Now.{Now, fresh, fresh_in, future_of}
+use Rattle.facet_json_document.specs.StrictDocument.{IsStrictDocument}
+use Rattle.facet_json_document.specs.StrictLaws as strictly
+use Rattle.facet_json_document.specs.Tree.{Tree}
+use Rattle.facet_json_document.specs.Walk.{walk}
+use Rattle.facet_json_document.proofs.LongestPrefix.{input-comes}
+use Rattle.facet_json_document.proofs.MovesNext.{next-passes, next-over}
+use Rattle.facet_json_document.proofs.StrictRoot.{no_end, strict_input-comes, strict_document-comes}
+use Rattle.facet_json_document.proofs.WalkComes.{document-comes, events_before-append}
+use Rattle.facet_json_layout.specs.Formatted.{BreaksOff}
+use Rattle.facet_json_layout.specs.Nodes.{Node as DocumentNode, value_at}
+use Rattle.facet_json_layout.specs.Inner.Building.{Nodes, added, none_yet, Adds, AddsSome, AddsAll}
+use Rattle.facet_json_layout.proofs.EventsUp.{refused-later}
+use Rattle.facet_json_layout.proofs.NodesBuilt.{added-append, built-tree}
+
+-- ---- one call
+
+-- One event more.
+pub adds-more : (old now new : Now) (was is : Nodes) → AddsSome old now was → Adds true now new was is → AddsSome old new is
+adds-more old now new was is some told =
+    let one = next-passes now new told.0 told.1 in
+    let p : Passed = record { event = told.0; last = one.last } in
+    record {
+      events = some.events ++ p ∷ [];
+      comes = some.comes ∙ ap (events_before some.events) one.comes ∙ sym (events_before-append some.events (p ∷ []) (future_of new));
+      nodes = told.2 ∙ ap (added told.0.kind) some.nodes ∙ sym (added-append some.events (p ∷ []) none_yet);
+    }
+
+-- Then the end.
+pub adds-all : (old now new : Now) (was is : Nodes) → AddsSome old now was → Adds false now new was is → AddsAll old is.nodes
+adds-all old now new was is some told =
+    let over = next-over now new told.0 in
+    record {
+      events = some.events;
+      comes = some.comes ∙ ap (events_before some.events) over.over;
+      made = ap (λ (s : Nodes). s.nodes) (told.1 ∙ some.nodes);
+    }
+
+-- Or a refusal.
+pub adds-refused : (old now new : Now) (was : Nodes) (r : Refusal) → AddsSome old now was → now.buffer ≡ old.buffer → now.cursor.refusal ≡ None →
+    LacksMemory r ⊎ Moves now next (event (Err r)) new → LacksMemory r ⊎ BreaksOff old r
+adds-refused old now new was r some same free (inl lacks) = inl lacks
+adds-refused old now new was r some same free (inr move) = refused-later old now new some.events r some.comes same free move
+
+-- The parser is not refused.
+pub adds-free : (some : Bool) (old new : Now) (was is : Nodes) → Adds some old new was is → new.cursor.refusal ≡ None
+adds-free true old new was is told = (next-passes old new told.0 told.1).free
+adds-free false old new was is told = (next-over old new told.0).free
+
+-- ---- whole documents
+
+-- Where a document's walk comes, its value begins at the first node.
+walk-value : (text : List ℕ) (now : Now) (node : Node) (value : Tree) (nodes : List DocumentNode) → AddsAll now nodes →
+    future_of now ≡ events_before (walk text node) finished → tree_of text node ≡ Some value → value_at nodes 0 ≡ value
+walk-value text now node value nodes all comes has =
+    ap (λ l. value_at l 0) all.made
+    ∙ built-tree (events_before (walk text node) finished) value (walk-tells text node value finished has) all.events (sym comes ∙ all.comes)
+
+module _ (text : List ℕ) (mode : Mode) where
+  -- It is the one that is read.
+  pub value-only : (nodes : List DocumentNode) (root : Node) (value : Tree) → AddsAll (fresh text mode) nodes → IsDocument text mode root value →
+      value_at nodes 0 ≡ value
+  value-only nodes root value all d =
+      walk-value text (fresh text mode) root value nodes all (document-comes text mode root value d) d.reads.has_tree
+
+  read_by : (nodes : List DocumentNode) → AddsAll (fresh text mode) nodes → RootComes text mode →
+      (root : Node) × IsDocument text mode root (value_at nodes 0)
+  read_by nodes all (document_comes root value d comes) =
+      (root, subst (IsDocument text mode root) (sym (value-only nodes root value all d)) d)
+  read_by nodes all (prefix_comes events here rest front comes) = absurd (no_end text events all.events here rest (sym comes ∙ all.comes))
+
+  pub value-read : (nodes : List DocumentNode) → AddsAll (fresh text mode) nodes → (root : Node) × IsDocument text mode root (value_at nodes 0)
+  value-read nodes all = read_by nodes all (input-comes text mode)
+
+module _ (text : List ℕ) where
+  pub strict-only : (nodes : List DocumentNode) (root : Node) (value : Tree) → AddsAll (fresh_in text (strict plain)) nodes →
+      IsStrictDocument text root value → value_at nodes 0 ≡ value
+  strict-only nodes root value all d =
+      walk-value text (fresh_in text (strict plain)) root value nodes all (strict_document-comes text root value d) d.whole.reads.has_tree
+
+  strict_by : (nodes : List DocumentNode) → AddsAll (fresh_in text (strict plain)) nodes → strictly.StrictRootComes text →
+      (root : Node) × IsStrictDocument text root (value_at nodes 0)
+  strict_by nodes all (strictly.document_comes root value d comes) =
+      (root, subst (IsStrictDocument text root) (sym (strict-only nodes root value all d)) d)
+  strict_by nodes all (strictly.no_document_comes events here rest none comes) =
+      absurd (no_end text events all.events here rest (sym comes ∙ all.comes))
+
+  pub strict-read : (nodes : List DocumentNode) → AddsAll (fresh_in text (strict plain)) nodes →
+      (root : Node) × IsStrictDocument text root (value_at nodes 0)
+  strict-read nodes all = strict_by nodes all (strict_input-comes text)

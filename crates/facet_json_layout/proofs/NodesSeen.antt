@@ -1,0 +1,240 @@
+-- What a value of a document tells of its nodes.
+use Rattle.std.proofs.Common.{◌≡◌, ℕ, zero, suc, ◌+◌, ◌-◌, ◌<◌, ◌≤◌, Bool, true, false, List, [], ◌∷◌, length, drop, get_or, Option, Some, None, refl, sym, ap, ap₂, ◌∙◌, arith, subst}
+use Rattle.std.specs.Prelude.{MatchOption, if◌then◌else◌}
+use Rattle.std.specs.Borrow.{Bor}
+use Rattle.std.specs.Option.{unwrap_or, option_map, option_or}
+use Rattle.std.proofs.lemmas.List.{drop-drop, length-map}
+use Rattle.std.proofs.lemmas.Option.{slice_get-map, slice_get-get_or}
+use Rattle.facet_format.specs.Event.{Scalar}
+use Rattle.facet_format.specs.Event as event
+use Rattle.facet_format.specs.Views.{scalar_value_of}
+use Rattle.facet_format.specs.declared.event.ScalarValue.{ScalarValue}
+use Rattle.facet_json_core.specs.Told.{tree_of_scalar}
+use Rattle.facet_json_document.specs.Tree.{Tree, tree, no_trees, pair, no_pairs}
+use Rattle.facet_json_tree.specs.Lookup.{item, item_at, member, last_member}
+use Rattle.facet_json_tree.specs.Same.{same_bytes}
+use Rattle.facet_json_layout.specs.Nodes.{Node, leaf, key, list, object, closing, nothing, inner, is_closing, is_leaf, is_key, is_list, is_object, items, members, value_of, values, value_at, value_in, trees_len, pairs_len, len, node_view, nodes_view, value_view}
+use Rattle.facet_json_layout.specs.Inner.Looking.{HoldsOthers, of_nothing, of_list, of_object, IsLeaf, from, Stands, IsItem, IsMember}
+use Rattle.facet_json_layout.specs.declared.document.node.Node.{Node as RustNode}
+use Rattle.facet_json_layout.specs.declared.document.node.Node.TheVariants as rust
+use Rattle.facet_json_layout.specs.declared.document.value.Value.{Value}
+use Rattle.facet_json_layout.proofs.NodeTables.{stands-there, none-there, value-there, no_value-there, items-first, members-first, members-none}
+
+-- ---- nodes
+
+-- A node that is read there stands there.
+pub node-stands : (v : Value) (at : ℕ) (n : RustNode) → (at < length v.nodes.now) × ((d : RustNode) → n ≡ get_or v.nodes.now at d) →
+    Stands v at (node_view n)
+node-stands v at n h = record {
+  within = h.0;
+  here = stands-there (nodes_view v.nodes.now) at (node_view n) (slice_get-map node_view v.nodes.now at ∙ ap (option_map node_view) (slice_get-get_or v.nodes.now at n h.0 ∙ ap Some (sym (h.1 n))));
+}
+
+-- Behind all nodes none does.
+pub no-node : (v : Value) (at : ℕ) → length v.nodes.now ≤ at → from v at ≡ []
+no-node v at h = none-there (nodes_view v.nodes.now) at (omega (arith, h, length-map v.nodes.now node_view))
+
+-- ---- the value at the node
+
+pub empty-value : (v : Value) → from v v.index ≡ [] → value_view v ≡ nothing
+empty-value v e = ap value_in (no_value-there (nodes_view v.nodes.now) v.index e)
+
+pub value-stands : (v : Value) (n : Node) → Stands v v.index n → value_view v ≡ value_of n (from v (suc v.index))
+value-stands v n s = value-there (nodes_view v.nodes.now) v.index n _ _ s.here
+
+not-leaf : (n : Node) (later : List (Node × Tree)) → is_leaf n ≡ false → HoldsOthers (value_of n later)
+not-leaf (leaf t) later e = cc
+not-leaf (key name) later e = of_nothing
+not-leaf (list k) later e = of_list (items 0 later)
+not-leaf (object k) later e = of_object (members 0 later)
+not-leaf closing later e = of_nothing
+
+pub no-leaf : (v : Value) → from v v.index ≡ [] → IsLeaf (value_view v) None
+no-leaf v e = subst HoldsOthers (sym (empty-value v e)) (of_nothing)
+
+-- the node tells the value that holds no others
+abbrev pub TellsLeaf : Node → Option (Bor ScalarValue) → Type 0
+TellsLeaf n answer = MatchOption answer (is_leaf n ≡ false) (λ s. n ≡ leaf (unwrap_or (tree_of_scalar (scalar_value_of s.now)) nothing))
+
+pub leaf-told : (v : Value) (n : Node) (answer : Option (Bor ScalarValue)) → Stands v v.index n → TellsLeaf n answer → IsLeaf (value_view v) answer
+leaf-told v n None s h = subst HoldsOthers (sym (value-stands v n s)) (not-leaf n (from v (suc v.index)) h)
+leaf-told v n (Some x) s h = value-stands v n s ∙ ap (λ m. value_of m (from v (suc v.index))) h
+
+-- ---- items
+
+scalar-item : (s : Scalar) (i : ℕ) → item i (unwrap_or (tree_of_scalar s) nothing) ≡ None
+scalar-item event.null i = refl
+scalar-item _ i = refl
+
+-- Only a list has items.
+no_list-item : (n : RustNode) (later : List (Node × Tree)) (i : ℕ) → is_list (node_view n) ≡ false → item i (value_of (node_view n) later) ≡ None
+no_list-item (rust.Leaf s) later i e = scalar-item (scalar_value_of s) i
+no_list-item (rust.Key name) later i e = refl
+no_list-item (rust.List k) later i e = cc
+no_list-item (rust.Object k) later i e = refl
+no_list-item rust.End later i e = refl
+
+pub no-items : (v : Value) (n : RustNode) (i : ℕ) → Stands v v.index (node_view n) → is_list (node_view n) ≡ false → item i (value_view v) ≡ None
+no-items v n i s e = ap (item i) (value-stands v (node_view n) s) ∙ no_list-item n (from v (suc v.index)) i e
+
+list-item : (n : Node) (later : List (Node × Tree)) (i : ℕ) → is_list n ≡ true → item i (value_of n later) ≡ item_at i (items 0 later)
+list-item (list k) later i e = refl
+list-item (leaf t) later i e = cc
+list-item (key name) later i e = cc
+list-item (object k) later i e = cc
+list-item closing later i e = cc
+
+pub items-are : (v : Value) (n : Node) (i : ℕ) → Stands v v.index n → is_list n ≡ true → item i (value_view v) ≡ item_at i (items 0 (from v (suc v.index)))
+items-are v n i s e = ap (item i) (value-stands v n s) ∙ list-item n (from v (suc v.index)) i e
+
+-- Where no end stands, an item begins.
+pub item-begins : (v w : Value) (at : ℕ) (n : Node) → Stands v at n → is_closing n ≡ false → w.nodes.now ≡ v.nodes.now → w.index ≡ at →
+    Some (value_view w) ≡ item_at 0 (items 0 (from v at))
+item-begins v w at n s c nodes index =
+    let view : value_view w ≡ value_at (nodes_view v.nodes.now) at = ap₂ (λ l i. value_at (nodes_view l) i) nodes index in
+    ap Some (view ∙ value-there (nodes_view v.nodes.now) at n _ _ s.here)
+    ∙ sym (ap (λ l. item_at 0 (items 0 l)) s.here ∙ ap (item_at 0) (items-first n _ (from v (suc at)) c))
+
+-- The items behind it begin behind its nodes.
+pub item-stands : (v : Value) (at to : ℕ) (n : Node) → Stands v at n → is_closing n ≡ false → from v to ≡ drop (inner n) (from v (suc at)) →
+    at < to → to ≤ length v.nodes.now → IsItem v at to
+item-stands v at to n s c e further within = record {
+  item = value_of n (from v (suc at));
+  are = ap (items 0) s.here ∙ items-first n (value_of n (from v (suc at))) (from v (suc at)) c
+      ∙ ap (λ l. tree (value_of n (from v (suc at))) (items 0 l)) (sym e);
+  further = further;
+  within = within;
+}
+
+-- The search for an item goes on behind another.
+pub item-later : (v : Value) (at to left : ℕ) (found : Option Tree) → found ≡ item_at left (items 0 (from v at)) → IsItem v at to → 0 < left →
+    found ≡ item_at (left - 1) (items 0 (from v to))
+item-later v at to zero found e i some = absurd (omega (arith, some))
+item-later v at to (suc left) found e i some =
+    let one : suc left - 1 ≡ left = omega arith in
+    e ∙ ap (item_at (suc left)) i.are ∙ ap (λ k. item_at k (items 0 (from v to))) (sym one)
+
+pub no-item-left : (v : Value) (at left : ℕ) (found : Option Tree) → found ≡ item_at left (items 0 (from v at)) →
+    items 0 (from v at) ≡ no_trees → found ≡ None
+no-item-left v at left found e none = e ∙ ap (item_at left) none
+
+-- ---- behind a node's own nodes
+
+pub past-there : (v : Value) (at k j : ℕ) → j ≡ k → from v (at + 1 + j) ≡ drop k (from v (suc at))
+past-there v at k j e =
+    let there : at + 1 + j ≡ suc at + k = omega (arith, e) in
+    ap (from v) there ∙ sym (drop-drop k (suc at) (values (nodes_view v.nodes.now)))
+
+pub past-end : (v : Value) (at k : ℕ) → length v.nodes.now ≤ suc at + k → from v (length v.nodes.now) ≡ drop k (from v (suc at))
+past-end v at k h =
+    no-node v (length v.nodes.now) (omega arith)
+    ∙ sym (drop-drop k (suc at) (values (nodes_view v.nodes.now)) ∙ no-node v (suc at + k) h)
+
+-- ---- members
+
+scalar-member : (s : Scalar) (name : List ℕ) → member name (unwrap_or (tree_of_scalar s) nothing) ≡ None
+scalar-member event.null name = refl
+scalar-member _ name = refl
+
+no_object-member : (n : RustNode) (later : List (Node × Tree)) (name : List ℕ) → is_object (node_view n) ≡ false →
+    member name (value_of (node_view n) later) ≡ None
+no_object-member (rust.Leaf s) later name e = scalar-member (scalar_value_of s) name
+no_object-member (rust.Key k) later name e = refl
+no_object-member (rust.List k) later name e = refl
+no_object-member (rust.Object k) later name e = cc
+no_object-member rust.End later name e = refl
+
+-- Only an object has members.
+pub no-members : (v : Value) (n : RustNode) (name : List ℕ) → Stands v v.index (node_view n) → is_object (node_view n) ≡ false →
+    member name (value_view v) ≡ None
+no-members v n name s e = ap (member name) (value-stands v (node_view n) s) ∙ no_object-member n (from v (suc v.index)) name e
+
+object-member : (n : Node) (later : List (Node × Tree)) (name : List ℕ) → is_object n ≡ true →
+    member name (value_of n later) ≡ last_member name (members 0 later)
+object-member (object k) later name e = refl
+object-member (leaf t) later name e = cc
+object-member (key other) later name e = cc
+object-member (list k) later name e = cc
+object-member closing later name e = cc
+
+pub members-are : (v : Value) (n : Node) (name : List ℕ) → Stands v v.index n → is_object n ≡ true →
+    member name (value_view v) ≡ last_member name (members 0 (from v (suc v.index)))
+members-are v n name s e = ap (member name) (value-stands v n s) ∙ object-member n (from v (suc v.index)) name e
+
+-- A key and a value behind it are a member.
+pub member-stands : (v : Value) (at behind to : ℕ) (m n : Node) (name : List ℕ) → Stands v at m → m ≡ key name → behind ≡ suc at → Stands v behind n →
+    from v to ≡ drop (inner n) (from v (suc behind)) → behind < to → to ≤ length v.nodes.now → IsMember v at name to
+member-stands v at behind to m n name first is b second left further within =
+    let rest = from v (suc behind) in
+    let there : from v (suc at) ≡ (n, value_of n rest) ∷ rest = ap (from v) (sym b) ∙ second.here in
+    record {
+      are = ap (members 0) first.here ∙ ap (λ k. members 0 ((k, value_of k (from v (suc at))) ∷ from v (suc at))) is
+          ∙ ap (λ l. members 0 ((key name, nothing) ∷ l)) there ∙ members-first name nothing n _ rest
+          ∙ ap₂ (pair name) (sym (value-there (nodes_view v.nodes.now) (suc at) n _ rest there)) (ap (members 0) (sym left));
+      further = omega (arith, further, b);
+      within = within;
+    }
+
+-- No key, no member.
+pub no-member : (v : Value) (at : ℕ) (n : Node) → Stands v at n → is_key n ≡ false → members 0 (from v at) ≡ no_pairs
+no-member v at n s e = ap (members 0) s.here ∙ members-none n _ (from v (suc at)) e
+
+-- A member that is found counts, but for one behind it.
+keep : (behind : Option Tree) (t : Tree) (before : Option Tree) → option_or (option_or behind (Some t)) before ≡ option_or behind (Some t)
+keep None t before = refl
+keep (Some u) t before = refl
+
+named : (b : Bool) (behind : Option Tree) (t : Tree) (before : Option Tree) → true ≡ b →
+    option_or (option_or behind (if b then Some t else None)) before ≡ option_or behind (Some t)
+named true behind t before e = keep behind t before
+named false behind t before e = cc
+
+pub member-found : (v w : Value) (at behind to : ℕ) (name wanted : List ℕ) (last before : Option Tree) →
+    last ≡ option_or (last_member wanted (members 0 (from v at))) before → IsMember v at name to → true ≡ same_bytes name wanted →
+    w.nodes.now ≡ v.nodes.now → w.index ≡ behind → behind ≡ suc at →
+    last ≡ option_or (last_member wanted (members 0 (from v to))) (Some (value_view w))
+member-found v w at behind to name wanted last before e m same nodes index b =
+    let t = value_at (nodes_view v.nodes.now) (suc at) in
+    let view : value_view w ≡ t = ap₂ (λ l i. value_at (nodes_view l) i) nodes (index ∙ b) in
+    e ∙ ap (λ ms. option_or (last_member wanted ms) before) m.are
+    ∙ named (same_bytes name wanted) (last_member wanted (members 0 (from v to))) t before same
+    ∙ ap (λ x. option_or (last_member wanted (members 0 (from v to))) (Some x)) (sym view)
+
+-- ---- how many
+
+list-len : (n : Node) (later : List (Node × Tree)) → is_list n ≡ true → len (value_of n later) ≡ Some (trees_len (items 0 later))
+list-len (list k) later e = refl
+list-len (leaf t) later e = cc
+list-len (key name) later e = cc
+list-len (object k) later e = cc
+list-len closing later e = cc
+
+object-len : (n : Node) (later : List (Node × Tree)) → is_object n ≡ true → len (value_of n later) ≡ Some (pairs_len (members 0 later))
+object-len (object k) later e = refl
+object-len (leaf t) later e = cc
+object-len (key name) later e = cc
+object-len (list k) later e = cc
+object-len closing later e = cc
+
+scalar-len : (s : Scalar) → len (unwrap_or (tree_of_scalar s) nothing) ≡ None
+scalar-len event.null = refl
+scalar-len _ = refl
+
+other-len : (n : RustNode) (later : List (Node × Tree)) → is_list (node_view n) ≡ false → is_object (node_view n) ≡ false →
+    len (value_of (node_view n) later) ≡ None
+other-len (rust.Leaf s) later e f = scalar-len (scalar_value_of s)
+other-len (rust.Key name) later e f = refl
+other-len (rust.List k) later e f = cc
+other-len (rust.Object k) later e f = cc
+other-len rust.End later e f = refl
+
+pub len-of_list : (v : Value) (n : Node) → Stands v v.index n → is_list n ≡ true → len (value_view v) ≡ Some (trees_len (items 0 (from v (suc v.index))))
+len-of_list v n s e = ap len (value-stands v n s) ∙ list-len n (from v (suc v.index)) e
+
+pub len-of_object : (v : Value) (n : Node) → Stands v v.index n → is_object n ≡ true →
+    len (value_view v) ≡ Some (pairs_len (members 0 (from v (suc v.index))))
+len-of_object v n s e = ap len (value-stands v n s) ∙ object-len n (from v (suc v.index)) e
+
+pub no-len : (v : Value) (n : RustNode) → Stands v v.index (node_view n) → is_list (node_view n) ≡ false → is_object (node_view n) ≡ false →
+    len (value_view v) ≡ None
+no-len v n s e f = ap len (value-stands v (node_view n) s) ∙ other-len n (from v (suc v.index)) e f

@@ -1,0 +1,15 @@
+-- Some events were passed, and their nodes added.
+use Rattle.std.proofs.Common.{◌≡◌, None}
+use Rattle.facet_json_document.specs.Now.{ahead}
+use Rattle.facet_json_layout.specs.Inner.Building.{AddsSome, built_view}
+use Rattle.facet_json_layout.proofs.document.build.build.Given as goal
+
+abbrev pub invariant-loop-built : goal.invariant-loop-built
+invariant-loop-built l = record {
+  passed : AddsSome l.fn.parser l.parser (built_view l.built);
+  buffer : l.parser.buffer ≡ l.fn.parser.buffer;
+  free : l.fn.parser.cursor.refusal ≡ None → l.parser.cursor.refusal ≡ None;
+}
+
+abbrev pub decreases-loop-built : goal.decreases-loop-built
+decreases-loop-built l = ahead l.parser

@@ -1,0 +1,123 @@
+-- A document as a list of nodes, each of its values and keys one, in the order in which they stand: a container is followed by the nodes of what it
+-- holds and by one for its end. What values begin at which node.
+use Rattle.std.specs.Prelude.{ℕ, zero, suc, Bool, true, false, List, [], ◌∷◌, Option, Some, None, map, slice_get}
+use Rattle.std.specs.Option.{unwrap_or}
+use Rattle.facet_format.specs.Event.{bytes_of}
+use Rattle.facet_format.specs.HeldText.{text_of}
+use Rattle.facet_format.specs.Views.{scalar_value_of}
+use Rattle.facet_json_core.specs.Told.{tree_of_scalar}
+use Rattle.facet_json_document.specs.Tree.{Tree, Trees, no_trees, tree, Pairs, no_pairs, pair}
+use Rattle.facet_json_document.specs.Tree as trees
+use Rattle.facet_json_layout.specs.declared.document.node.Node.{Node as RustNode}
+use Rattle.facet_json_layout.specs.declared.document.node.Node.TheVariants as rust
+use Rattle.facet_json_layout.specs.declared.document.value.Value.{Value}
+use Rattle.facet_json_layout.specs.declared.document.Document.{Document}
+
+pub data Node : Type 0 where
+  -- a value that holds no others
+  leaf : Tree → Node
+  key : List ℕ → Node
+  -- with the number of nodes up to its end, that of the end with them
+  list : (inner : ℕ) → Node
+  object : (inner : ℕ) → Node
+  closing : Node
+
+-- how many nodes after this one belong to it
+abbrev pub inner : Node → ℕ
+inner (list n) = n
+inner (object n) = n
+inner _ = 0
+
+abbrev pub is_closing : Node → Bool
+is_closing closing = true
+is_closing _ = false
+
+abbrev pub is_leaf : Node → Bool
+is_leaf (leaf t) = true
+is_leaf _ = false
+
+abbrev pub is_key : Node → Bool
+is_key (key name) = true
+is_key _ = false
+
+abbrev pub is_list : Node → Bool
+is_list (list n) = true
+is_list _ = false
+
+abbrev pub is_object : Node → Bool
+is_object (object n) = true
+is_object _ = false
+
+-- ---- the values that begin at nodes
+
+-- the items of a list whose nodes come after the next so many, which belong to the item before; each node has the value that begins there
+abbrev pub items : ℕ → List (Node × Tree) → Trees
+items n [] = no_trees
+items (suc n) (x ∷ xs) = items n xs
+items zero ((closing, t) ∷ xs) = no_trees
+items zero ((n, t) ∷ xs) = tree t (items (inner n) xs)
+
+-- the members of an object, likewise: after a key's node its value begins
+abbrev pub members : ℕ → List (Node × Tree) → Pairs
+members n [] = no_pairs
+members (suc n) (x ∷ xs) = members n xs
+members zero ((key name, t) ∷ []) = no_pairs
+members zero ((key name, t) ∷ (x ∷ xs)) = pair name x.1 (members (inner x.0) xs)
+members zero (_ ∷ xs) = no_pairs
+
+-- what stands for a value where none begins, as at a key or an end
+abbrev pub nothing : Tree
+nothing = trees.bytes []
+
+-- the value that begins at a node
+abbrev pub value_of : Node → List (Node × Tree) → Tree
+value_of (leaf t) later = t
+value_of (list n) later = trees.list (items 0 later)
+value_of (object n) later = trees.pairs (members 0 later)
+value_of _ later = nothing
+
+unfoldable pub values : List Node → List (Node × Tree)
+values [] = []
+values (n ∷ nodes) = (n, value_of n (values nodes)) ∷ values nodes
+
+abbrev pub value_in : Option (Node × Tree) → Tree
+value_in None = nothing
+value_in (Some x) = x.1
+
+-- the value that begins at the node of this index, the first at 0
+abbrev pub value_at : List Node → ℕ → Tree
+value_at nodes index = value_in (slice_get (values nodes) index)
+
+-- ---- how many
+
+abbrev pub trees_len : Trees → ℕ
+trees_len no_trees = 0
+trees_len (tree t ts) = suc (trees_len ts)
+
+abbrev pub pairs_len : Pairs → ℕ
+pairs_len no_pairs = 0
+pairs_len (pair name t ps) = suc (pairs_len ps)
+
+-- how many items or members a list or an object has
+abbrev pub len : Tree → Option ℕ
+len (trees.list ts) = Some (trees_len ts)
+len (trees.pairs ps) = Some (pairs_len ps)
+len _ = None
+
+-- ---- what the types of the code stand for
+
+abbrev pub node_view : RustNode → Node
+node_view (rust.Leaf value) = leaf (unwrap_or (tree_of_scalar (scalar_value_of value)) nothing)
+node_view (rust.Key name) = key (bytes_of (text_of name))
+node_view (rust.List n) = list n
+node_view (rust.Object n) = object n
+node_view rust.End = closing
+
+abbrev pub nodes_view : List RustNode → List Node
+nodes_view nodes = map node_view nodes
+
+abbrev pub value_view : Value → Tree
+value_view v = value_at (nodes_view v.nodes.now) v.index
+
+abbrev pub document_view : Document → Tree
+document_view d = value_at (nodes_view d.nodes.items) 0

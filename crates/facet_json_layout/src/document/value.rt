@@ -1,0 +1,303 @@
+//! The values of a document.
+
+ghost use Rattle.std.specs.Prelude.{◌≡◌, ◌<◌, ◌≤◌, suc, length, drop, option_map};
+ghost use Rattle.std.specs.Int.{w64};
+ghost use Rattle.facet_format.specs.Event.{bytes_of};
+ghost use Rattle.facet_json_tree.specs.Content as content;
+ghost use Rattle.facet_json_tree.specs.Content.{TellsUnsigned, TellsSigned};
+ghost use Rattle.facet_json_tree.specs.Lookup.{member, item, item_at, last_member};
+ghost use Rattle.facet_json_layout.specs.Nodes.{value_view, node_view, inner, items, members, len, trees_len, pairs_len};
+ghost use Rattle.facet_json_layout.specs.Inner.Looking.{IsLeaf, IsNodeAt, IsNextItem, IsMemberAt, from};
+
+use crate::document::node::Node;
+use facet_format::{Decimal, ScalarValue};
+
+/// A value of a document: a place in it, which is copied freely.
+#[derive(Clone, Copy)]
+pub struct Value<'d, 'i> {
+    /// The document's nodes.
+    nodes: &'d [Node<'i>],
+    /// The index of the value's node.
+    index: usize,
+}
+
+impl<'d, 'i> Value<'d, 'i> {
+    /// The value whose node has this index.
+    pub(crate) fn at(nodes: &'d [Node<'i>], index: usize) -> Value<'d, 'i>
+        ensures nodes { result.nodes.now ≡ nodes.now }
+        ensures index { result.index ≡ index }
+    {
+        Value { nodes, index }
+    }
+
+    /// Whether the value is `null` (RFC 8259, section 3).
+    ///
+    /// ```text
+    /// of null: is_null()                                      true
+    /// of false: is_null()                                     false
+    /// ```
+    pub fn is_null(&self) -> bool
+        ensures { result ≡ content.is_null (value_view self.now) }
+    {
+        match self.leaf() {
+            Some(ScalarValue::Null) => true,
+            Some(ScalarValue::Unit) => true,
+            _ => false,
+        }
+    }
+
+    /// The truth value (RFC 8259, section 3), where it is one.
+    ///
+    /// ```text
+    /// of true: as_bool()                                      Some(true)
+    /// of 1: as_bool()                                         None
+    /// ```
+    pub fn as_bool(&self) -> Option<bool>
+        ensures { result ≡ content.as_bool (value_view self.now) }
+    {
+        match self.leaf() {
+            Some(ScalarValue::Bool(b)) => Some(*b),
+            _ => None,
+        }
+    }
+
+    /// The text of a string (RFC 8259, section 7), unescaped, or of a whole number past 64 bits. It lies in the input where no escape stands in it.
+    ///
+    /// ```text
+    /// of "a\n": as_str()                                      Some("a" and a line feed)
+    /// of 1: as_str()                                          None
+    /// ```
+    pub fn as_str(&self) -> Option<&'d str>
+        ensures { option_map (λ t. t.now) result ≡ content.as_str (value_view self.now) }
+    {
+        match self.leaf() {
+            Some(ScalarValue::Str(text)) => Some(text.as_str()),
+            _ => None,
+        }
+    }
+
+    /// The whole number that the value is, where it is one of 64 bits without a sign (RFC 8259, section 6).
+    ///
+    /// ```text
+    /// of 5: as_u64()                                          Some(5)
+    /// of -5: as_u64()                                         None
+    /// ```
+    pub fn as_u64(&self) -> Option<u64>
+        ensures { TellsUnsigned w64 (value_view self.now) result }
+    {
+        match self.leaf() {
+            Some(ScalarValue::I64(n)) => u64::try_from(*n).ok(),
+            Some(ScalarValue::U64(n)) => Some(*n),
+            _ => None,
+        }
+    }
+
+    /// The whole number that the value is, where it is one of 64 bits with a sign.
+    ///
+    /// ```text
+    /// of -5: as_i64()                                         Some(-5)
+    /// of 9223372036854775808: as_i64()                        None
+    /// ```
+    pub fn as_i64(&self) -> Option<i64>
+        ensures { TellsSigned w64 (value_view self.now) result }
+    {
+        match self.leaf() {
+            Some(ScalarValue::I64(n)) => Some(*n),
+            Some(ScalarValue::U64(n)) => i64::try_from(*n).ok(),
+            _ => None,
+        }
+    }
+
+    /// The number, as its text, where it has a fraction or an exponent (RFC 8259, section 6).
+    ///
+    /// ```text
+    /// of 1.50: as_decimal()                                   Some: its text is "1.50"
+    /// of 1: as_decimal()                                      None
+    /// ```
+    pub fn as_decimal(&self) -> Option<&'d Decimal<'i>>
+        ensures { option_map (λ d. bytes_of d.now) result ≡ content.as_decimal (value_view self.now) }
+    {
+        match self.leaf() {
+            Some(ScalarValue::Decimal(decimal)) => Some(decimal),
+            _ => None,
+        }
+    }
+
+    /// The value of an object's member with this name: of several with one name the last counts, as a map reads them (RFC 8259, section 4). Other
+    /// values have no members. The names are compared one by one, and what the members hold is passed at once.
+    ///
+    /// ```text
+    /// of {"a":1,"b":2,"a":3}: get("a")                        Some: 3
+    /// get("c")                                                None
+    /// ```
+    pub fn get(&self, key: &str) -> Option<Value<'d, 'i>>
+        ensures { option_map value_view result ≡ member key.now (value_view self.now) }
+    {
+        let node = self.node(self.index)?;
+        if !node.is_object() {
+            return None;
+        }
+        self.last_named(key)
+    }
+
+    /// The item of a list at this index, the first at 0 (RFC 8259, section 5). Other values have no items. What the items before it hold is passed
+    /// at once.
+    ///
+    /// ```text
+    /// of [7,true]: item(1)                                    Some: true
+    /// item(2)                                                 None
+    /// ```
+    pub fn item(&self, index: usize) -> Option<Value<'d, 'i>>
+        ensures { option_map value_view result ≡ item index (value_view self.now) }
+    {
+        let node = self.node(self.index)?;
+        if !node.is_list() {
+            return None;
+        }
+        self.item_of_list(index)
+    }
+
+    /// How many items or members the value has (RFC 8259, sections 4 and 5), where it is a list or an object. They are counted one by one, and what
+    /// they hold is passed at once.
+    ///
+    /// ```text
+    /// of [7,[8,9]]: len()                                     Some(2)
+    /// of "a": len()                                           None
+    /// ```
+    pub fn len(&self) -> Option<usize>
+        ensures { result ≡ len (value_view self.now) }
+    {
+        let node = self.node(self.index)?;
+        if node.is_list() {
+            return Some(self.items_len());
+        }
+        if node.is_object() {
+            return Some(self.members_len());
+        }
+        None
+    }
+
+    /// How many items a list has.
+    fn items_len(&self) -> usize
+        requires { self.now.index < length self.now.nodes.now }
+        ensures { result ≡ trees_len (items 0 (from self.now (suc self.now.index))) }
+    {
+        let mut at = self.index + 1;
+        let mut len = 0;
+        while let Some(next) = self.next_item(at) {
+            at = next;
+            len += 1;
+        }
+        len
+    }
+
+    /// How many members an object has.
+    fn members_len(&self) -> usize
+        requires { self.now.index < length self.now.nodes.now }
+        ensures { result ≡ pairs_len (members 0 (from self.now (suc self.now.index))) }
+    {
+        let mut at = self.index + 1;
+        let mut len = 0;
+        while let Some((_, next)) = self.member_there(at) {
+            at = next;
+            len += 1;
+        }
+        len
+    }
+
+    /// The value that holds no others, where it is one.
+    fn leaf(&self) -> Option<&'d ScalarValue<'i>>
+        ensures { IsLeaf (value_view self.now) result }
+    {
+        let node = self.node(self.index)?;
+        node.leaf()
+    }
+
+    /// The node of this index.
+    fn node(&self, at: usize) -> Option<&'d Node<'i>>
+        ensures { IsNodeAt self.now at result }
+    {
+        match self.nodes.get(at) {
+            Some(node) => Some(node),
+            None => None,
+        }
+    }
+
+    /// The index after a node and those that belong to it.
+    fn past(&self, at: usize, node: &Node<'i>) -> usize
+        requires { at < length self.now.nodes.now }
+        ensures left { from self.now result ≡ drop (inner (node_view node.now)) (from self.now (suc at)) }
+        ensures further { at < result }
+        ensures within { result ≤ length self.now.nodes.now }
+    {
+        let inner = node.inner();
+        let len = self.nodes.len();
+        if inner < len - at - 1 {
+            at + 1 + inner
+        } else {
+            len
+        }
+    }
+
+    /// The item of a list at this index.
+    fn item_of_list(&self, index: usize) -> Option<Value<'d, 'i>>
+        requires { self.now.index < length self.now.nodes.now }
+        ensures { option_map value_view result ≡ item_at index (items 0 (from self.now (suc self.now.index))) }
+    {
+        let mut at = self.index + 1;
+        let mut left = index;
+        while left > 0 {
+            at = self.next_item(at)?;
+            left -= 1;
+        }
+        self.item_there(at)
+    }
+
+    /// The index of the item behind the one at this index.
+    fn next_item(&self, at: usize) -> Option<usize>
+        ensures { IsNextItem self.now at result }
+    {
+        let node = self.node(at)?;
+        if node.is_end() {
+            return None;
+        }
+        Some(self.past(at, node))
+    }
+
+    /// The item at this index, where no end stands there.
+    fn item_there(&self, at: usize) -> Option<Value<'d, 'i>>
+        ensures { option_map value_view result ≡ item_at 0 (items 0 (from self.now at)) }
+    {
+        let node = self.node(at)?;
+        if node.is_end() {
+            return None;
+        }
+        Some(Value::at(self.nodes, at))
+    }
+
+    /// The value of the last member with this name.
+    fn last_named(&self, key: &str) -> Option<Value<'d, 'i>>
+        requires { self.now.index < length self.now.nodes.now }
+        ensures { option_map value_view result ≡ last_member key.now (members 0 (from self.now (suc self.now.index))) }
+    {
+        let mut at = self.index + 1;
+        let mut found = None;
+        while let Some((name, next)) = self.member_there(at) {
+            if name == key {
+                found = Some(Value::at(self.nodes, at + 1));
+            }
+            at = next;
+        }
+        found
+    }
+
+    /// The name of the member at this index, and the index of the one behind it.
+    fn member_there(&self, at: usize) -> Option<(&'d str, usize)>
+        ensures { IsMemberAt self.now at result }
+    {
+        let key = self.node(at)?;
+        let name = key.name()?;
+        let value = self.node(at + 1)?;
+        Some((name, self.past(at + 1, value)))
+    }
+}
