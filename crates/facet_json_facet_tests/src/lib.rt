@@ -15,6 +15,8 @@ mod containers;
 #[cfg(test)]
 mod cuts;
 #[cfg(test)]
+mod document_values;
+#[cfg(test)]
 mod driving;
 #[cfg(test)]
 mod entries;

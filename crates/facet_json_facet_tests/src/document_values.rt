@@ -1,0 +1,282 @@
+//! Documents as lists of nodes: what is found in them, and what they are by each call. The wanted values are those of RFC 8259 for these texts.
+
+use facet_format::DeserializeError;
+use facet_json::{Document, Value};
+use std::alloc::Global;
+
+/// What a value is.
+#[derive(Clone, Copy)]
+enum Wanted {
+    /// `null`
+    Null,
+    /// A truth value.
+    Truth(bool),
+    /// A whole number without a sign.
+    Large(u64),
+    /// One with a minus.
+    Negative(i64),
+    /// A number with a fraction or an exponent.
+    Decimal(&'static str),
+    /// A text.
+    Text(&'static str),
+    /// An array or an object with so many items or members.
+    Holds(usize),
+    /// No value.
+    Nothing,
+}
+
+/// A text, the name of a member of its root, and the index of an item of that, each where one is looked for; and what is found.
+struct Row {
+    text: &'static str,
+    name: Option<&'static str>,
+    index: Option<usize>,
+    wanted: Wanted,
+}
+
+static ROWS: [Row; 24] = [
+    Row {
+        text: " null ",
+        name: None,
+        index: None,
+        wanted: Wanted::Null,
+    },
+    Row {
+        text: "true",
+        name: None,
+        index: None,
+        wanted: Wanted::Truth(true),
+    },
+    Row {
+        text: "18446744073709551615",
+        name: None,
+        index: None,
+        wanted: Wanted::Large(18446744073709551615),
+    },
+    Row {
+        text: "18446744073709551616",
+        name: None,
+        index: None,
+        wanted: Wanted::Text("18446744073709551616"),
+    },
+    Row {
+        text: "-5",
+        name: None,
+        index: None,
+        wanted: Wanted::Negative(-5),
+    },
+    Row {
+        text: "1.50",
+        name: None,
+        index: None,
+        wanted: Wanted::Decimal("1.50"),
+    },
+    Row {
+        text: "\"a\\n\\u00e9\"",
+        name: None,
+        index: None,
+        wanted: Wanted::Text("a\n\u{e9}"),
+    },
+    Row {
+        text: "[]",
+        name: None,
+        index: None,
+        wanted: Wanted::Holds(0),
+    },
+    Row {
+        text: "{}",
+        name: None,
+        index: None,
+        wanted: Wanted::Holds(0),
+    },
+    Row {
+        text: "{}",
+        name: Some("a"),
+        index: None,
+        wanted: Wanted::Nothing,
+    },
+    Row {
+        text: "[]",
+        name: None,
+        index: Some(0),
+        wanted: Wanted::Nothing,
+    },
+    Row {
+        text: "[[1,[2]],{\"a\":3},4]",
+        name: None,
+        index: None,
+        wanted: Wanted::Holds(3),
+    },
+    Row {
+        text: "[[1,[2]],{\"a\":3},4]",
+        name: None,
+        index: Some(0),
+        wanted: Wanted::Holds(2),
+    },
+    Row {
+        text: "[[1,[2]],{\"a\":3},4]",
+        name: None,
+        index: Some(2),
+        wanted: Wanted::Large(4),
+    },
+    Row {
+        text: "[[1,[2]],{\"a\":3},4]",
+        name: None,
+        index: Some(3),
+        wanted: Wanted::Nothing,
+    },
+    Row {
+        text: "[1]",
+        name: Some("a"),
+        index: None,
+        wanted: Wanted::Nothing,
+    },
+    Row {
+        text: "{\"a\":[1]}",
+        name: None,
+        index: Some(0),
+        wanted: Wanted::Nothing,
+    },
+    Row {
+        text: "{\"b\":{\"a\":1},\"c\":[{\"a\":2}],\"a\":3}",
+        name: Some("a"),
+        index: None,
+        wanted: Wanted::Large(3),
+    },
+    Row {
+        text: "{\"b\":{\"a\":1}}",
+        name: Some("a"),
+        index: None,
+        wanted: Wanted::Nothing,
+    },
+    Row {
+        text: "{\"a\":1,\"b\":[],\"a\":[7,false]}",
+        name: Some("a"),
+        index: Some(1),
+        wanted: Wanted::Truth(false),
+    },
+    Row {
+        text: "{\"a\":1,\"b\":2,\"a\":3}",
+        name: None,
+        index: None,
+        wanted: Wanted::Holds(3),
+    },
+    Row {
+        text: "{\"\\u0061b\":\"x\"}",
+        name: Some("ab"),
+        index: None,
+        wanted: Wanted::Text("x"),
+    },
+    Row {
+        text: "{\"\":[[[]],-1,]}",
+        name: Some(""),
+        index: Some(1),
+        wanted: Wanted::Negative(-1),
+    },
+    Row {
+        text: "\"a\"",
+        name: Some("a"),
+        index: None,
+        wanted: Wanted::Nothing,
+    },
+];
+
+/// Whether a value is this, and by no other call anything else.
+fn is_wanted(value: &Value<'_, '_>, wanted: Wanted) -> bool {
+    let (mut truth, mut large, mut negative, mut decimal, mut text, mut len) = (
+        None, None, None, None, None, None,
+    );
+    let mut null = false;
+    match wanted {
+        Wanted::Null => null = true,
+        Wanted::Truth(b) => truth = Some(b),
+        Wanted::Large(n) => {
+            large = Some(n);
+            negative = i64::try_from(n).ok();
+        }
+        Wanted::Negative(n) => negative = Some(n),
+        Wanted::Decimal(digits) => decimal = Some(digits),
+        Wanted::Text(content) => text = Some(content),
+        Wanted::Holds(n) => len = Some(n),
+        Wanted::Nothing => return false,
+    }
+    value.is_null() == null
+        && value.as_bool() == truth
+        && value.as_u64() == large
+        && value.as_i64() == negative
+        && value.as_str() == text
+        && value.len() == len
+        && is_decimal(value, decimal)
+}
+
+/// Whether the value is the number of this text, or none with a fraction or an exponent.
+fn is_decimal(value: &Value<'_, '_>, wanted: Option<&str>) -> bool {
+    match value.as_decimal() {
+        Some(decimal) => wanted == Some(decimal.as_str()),
+        None => wanted.is_none(),
+    }
+}
+
+/// What is found there.
+fn found<'d, 'i>(document: &'d Document<'i>, row: &Row) -> Option<Value<'d, 'i>> {
+    let mut value = document.root();
+    if let Some(name) = row.name {
+        value = value.get(name)?;
+    }
+    if let Some(index) = row.index {
+        value = value.item(index)?;
+    }
+    Some(value)
+}
+
+/// Whether the row is told.
+fn is_told(alloc: Global, row: &Row) -> bool {
+    match Document::parse(alloc, row.text.as_bytes()) {
+        Ok(document) => match found(&document, row) {
+            Some(value) => is_wanted(&value, row.wanted),
+            None => matches!(row.wanted, Wanted::Nothing),
+        },
+        Err(_) => false,
+    }
+}
+
+#[test]
+fn values_are_found(rt: HostRuntime) {
+    let alloc = rt.alloc();
+    for row in &ROWS {
+        assert!(rt; is_told(alloc, row));
+    }
+}
+
+/// Where a refusal stands: an offset and a length.
+type At = Option<(usize, usize)>;
+
+/// An input, and what `parse`, `parse_jsonc` and `parse_strict` refuse, where they refuse it.
+type Refused = (&'static str, At, At, At);
+
+static REFUSED: [Refused; 6] = [
+    ("[1,]", None, None, Some((3, 1))),
+    ("[1] x", None, None, Some((4, 1))),
+    ("[1, /* one */]", Some((4, 1)), None, Some((4, 1))),
+    ("[1 2]", Some((3, 1)), Some((3, 1)), Some((3, 1))),
+    ("", Some((0, 0)), Some((0, 0)), Some((0, 0))),
+    ("[1}", Some((2, 1)), Some((2, 1)), Some((2, 1))),
+];
+
+/// What is refused.
+fn refused(read: Result<Document<'_>, DeserializeError<'_>>) -> At {
+    match read {
+        Ok(_) => None,
+        Err(error) => error.span.map(|span| (span.offset, span.len)),
+    }
+}
+
+#[test]
+fn what_is_no_document_is_refused(rt: HostRuntime) {
+    let alloc = rt.alloc();
+    for &(input, lenient, with_comments, strict) in &REFUSED {
+        let bytes = input.as_bytes();
+        assert!(rt; refused(Document::parse(alloc, bytes)) == lenient);
+        assert!(rt; refused(Document::parse_jsonc(alloc, bytes)) == with_comments);
+        assert!(rt; refused(Document::parse_strict(alloc, bytes)) == strict);
+    }
+}
