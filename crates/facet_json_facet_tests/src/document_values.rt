@@ -280,3 +280,59 @@ fn what_is_no_document_is_refused(rt: HostRuntime) {
         assert!(rt; refused(Document::parse_strict(alloc, bytes)) == strict);
     }
 }
+
+/// The members of the object, by their names and numbers.
+static MEMBERS: [(&str, Option<u64>); 3] = [("a", Some(1)), ("b", None), ("a", Some(4))];
+
+/// Whether these are a value's members.
+fn holds_members(value: &Value<'_, '_>) -> bool {
+    let Some(members) = value.members() else {
+        return false;
+    };
+    let mut index = 0;
+    for (name, member) in members {
+        if index >= MEMBERS.len()
+            || name != MEMBERS[index].0
+            || member.as_u64() != MEMBERS[index].1
+        {
+            return false;
+        }
+        index += 1;
+    }
+    index == MEMBERS.len()
+}
+
+/// The numbers among the items of the list.
+static ITEMS: [Option<u64>; 3] = [Some(7), None, Some(9)];
+
+/// Whether these are a value's items.
+fn holds_items(value: &Value<'_, '_>) -> bool {
+    let Some(items) = value.items() else {
+        return false;
+    };
+    let mut index = 0;
+    for item in items {
+        if index >= ITEMS.len() || item.as_u64() != ITEMS[index] {
+            return false;
+        }
+        index += 1;
+    }
+    index == ITEMS.len()
+}
+
+#[test]
+fn what_is_held_comes_in_order(rt: HostRuntime) {
+    let alloc = rt.alloc();
+    match Document::parse(alloc, b"{\"a\":1,\"b\":[2,{\"a\":3}],\"\\u0061\":4}") {
+        Ok(document) => assert!(rt;
+            holds_members(&document.root()) && document.root().items().is_none()
+        ),
+        Err(_) => assert!(rt; false),
+    }
+    match Document::parse(alloc, b"[7,[8],9]") {
+        Ok(document) => assert!(rt;
+            holds_items(&document.root()) && document.root().members().is_none()
+        ),
+        Err(_) => assert!(rt; false),
+    }
+}
