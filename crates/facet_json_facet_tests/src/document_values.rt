@@ -1,7 +1,7 @@
 //! Documents as lists of nodes: what is found in them, and what they are by each call. The wanted values are those of RFC 8259 for these texts.
 
 use facet_format::DeserializeError;
-use facet_json::{Document, Value};
+use facet_json::{Document, Value, ValueKind};
 use std::alloc::Global;
 
 /// What a value is.
@@ -180,6 +180,21 @@ static ROWS: [Row; 24] = [
     },
 ];
 
+/// Whether a value is of this kind.
+fn has_kind(value: &Value<'_, '_>, wanted: Wanted) -> bool {
+    let kind = value.kind();
+    match wanted {
+        Wanted::Null => kind == ValueKind::Null,
+        Wanted::Truth(_) => kind == ValueKind::Bool,
+        Wanted::Large(_) => kind == ValueKind::Number,
+        Wanted::Negative(_) => kind == ValueKind::Number,
+        Wanted::Decimal(_) => kind == ValueKind::Number,
+        Wanted::Text(_) => kind == ValueKind::Text,
+        Wanted::Holds(_) => kind == ValueKind::List || kind == ValueKind::Object,
+        Wanted::Nothing => false,
+    }
+}
+
 /// Whether a value is this, and by no other call anything else.
 fn is_wanted(value: &Value<'_, '_>, wanted: Wanted) -> bool {
     let (mut truth, mut large, mut negative, mut decimal, mut text, mut len) = (
@@ -206,6 +221,7 @@ fn is_wanted(value: &Value<'_, '_>, wanted: Wanted) -> bool {
         && value.as_str() == text
         && value.len() == len
         && is_decimal(value, decimal)
+        && has_kind(value, wanted)
 }
 
 /// Whether the value is the number of this text, or none with a fraction or an exponent.

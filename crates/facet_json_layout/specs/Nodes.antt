@@ -11,6 +11,8 @@ use Rattle.facet_json_document.specs.Tree.{Tree, Trees, no_trees, tree, Pairs, n
 use Rattle.facet_json_document.specs.Tree as trees
 use Rattle.facet_json_layout.specs.declared.document.node.Node.{Node as RustNode}
 use Rattle.facet_json_layout.specs.declared.document.node.Node.TheVariants as rust
+use Rattle.facet_json_layout.specs.declared.document.node.ValueKind.{ValueKind}
+use Rattle.facet_json_layout.specs.declared.document.node.ValueKind.TheVariants as kind
 use Rattle.facet_json_layout.specs.declared.document.value.Value.{Value}
 use Rattle.facet_json_layout.specs.declared.document.held.Items.{Items}
 use Rattle.facet_json_layout.specs.declared.document.held.Members.{Members}
@@ -90,6 +92,22 @@ value_in (Some x) = x.1
 -- the value that begins at the node of this index, the first at 0
 abbrev pub value_at : List Node → ℕ → Tree
 value_at nodes index = value_in (slice_get (values nodes) index)
+
+-- ---- what they are
+
+-- what a value is in JSON (RFC 8259, section 3); none of a document is any other than these
+abbrev pub kind_of : Tree → ValueKind
+kind_of (trees.bool b) = kind.Bool
+kind_of (trees.i64 n) = kind.Number
+kind_of (trees.u64 n) = kind.Number
+kind_of (trees.i128 n) = kind.Number
+kind_of (trees.u128 n) = kind.Number
+kind_of (trees.decimal digits) = kind.Number
+kind_of (trees.char c) = kind.Text
+kind_of (trees.text t) = kind.Text
+kind_of (trees.list ts) = kind.List
+kind_of (trees.pairs ps) = kind.Object
+kind_of _ = kind.Null
 
 -- ---- how many, and which
 

@@ -23,6 +23,7 @@ use facet_format::DeserializeError;
 use facet_json_parser::JsonParser;
 pub use held::{Items, Members};
 use node::Node;
+pub use node::ValueKind;
 use std::alloc::Global;
 pub use value::Value;
 

@@ -6,11 +6,11 @@ ghost use Rattle.facet_format.specs.Event.{bytes_of};
 ghost use Rattle.facet_json_tree.specs.Content as content;
 ghost use Rattle.facet_json_tree.specs.Content.{TellsUnsigned, TellsSigned};
 ghost use Rattle.facet_json_tree.specs.Lookup.{member, item, item_at, last_member};
-ghost use Rattle.facet_json_layout.specs.Nodes.{value_view, node_view, inner, items, members, items_left, members_left, len, trees_len, pairs_len, trees_list, pairs_list};
+ghost use Rattle.facet_json_layout.specs.Nodes.{kind_of, value_view, node_view, inner, items, members, items_left, members_left, len, trees_len, pairs_len, trees_list, pairs_list};
 ghost use Rattle.facet_json_layout.specs.Inner.Looking.{IsLeaf, IsNodeAt, IsNextItem, IsMemberAt, from};
 
 use crate::document::held::{Items, Members};
-use crate::document::node::Node;
+use crate::document::node::{Node, ValueKind};
 use facet_format::{Decimal, ScalarValue};
 
 /// A value of a document: a place in it, which is copied freely.
@@ -29,6 +29,20 @@ impl<'d, 'i> Value<'d, 'i> {
         ensures index { result.index ≡ index }
     {
         Value { nodes, index }
+    }
+
+    /// What the value is (RFC 8259, section 3).
+    ///
+    /// ```text
+    /// of 1.5: kind()                                          ValueKind::Number
+    /// ```
+    pub fn kind(&self) -> ValueKind
+        ensures { result ≡ kind_of (value_view self.now) }
+    {
+        match self.node(self.index) {
+            Some(node) => node.kind(),
+            None => ValueKind::Null,
+        }
     }
 
     /// Whether the value is `null` (RFC 8259, section 3).
