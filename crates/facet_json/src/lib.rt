@@ -37,8 +37,8 @@ pub use facet_json_core::{
 };
 pub use facet_json_facet::{Facet, ReadResult};
 pub use facet_json_layout::{
-    Document, FormatOptions, Indent, Value, check, check_jsonc, check_strict, check_whole,
-    format_text, format_text_strict,
+    Document, FormatOptions, Indent, Items, Members, Value, ValueKind, check, check_jsonc,
+    check_strict, check_whole, format_text, format_text_strict,
 };
 pub use facet_json_parser::JsonParser;
 pub use facet_json_reader::{MaterializedToken, TokenKind};

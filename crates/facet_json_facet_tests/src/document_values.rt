@@ -1,7 +1,7 @@
 //! Documents as lists of nodes: what is found in them, and what they are by each call. The wanted values are those of RFC 8259 for these texts.
 
 use facet_format::DeserializeError;
-use facet_json::{Document, Value};
+use facet_json::{Document, Value, ValueKind};
 use std::alloc::Global;
 
 /// What a value is.
@@ -180,6 +180,21 @@ static ROWS: [Row; 24] = [
     },
 ];
 
+/// Whether a value is of this kind.
+fn has_kind(value: &Value<'_, '_>, wanted: Wanted) -> bool {
+    let kind = value.kind();
+    match wanted {
+        Wanted::Null => kind == ValueKind::Null,
+        Wanted::Truth(_) => kind == ValueKind::Bool,
+        Wanted::Large(_) => kind == ValueKind::Number,
+        Wanted::Negative(_) => kind == ValueKind::Number,
+        Wanted::Decimal(_) => kind == ValueKind::Number,
+        Wanted::Text(_) => kind == ValueKind::Text,
+        Wanted::Holds(_) => kind == ValueKind::List || kind == ValueKind::Object,
+        Wanted::Nothing => false,
+    }
+}
+
 /// Whether a value is this, and by no other call anything else.
 fn is_wanted(value: &Value<'_, '_>, wanted: Wanted) -> bool {
     let (mut truth, mut large, mut negative, mut decimal, mut text, mut len) = (
@@ -206,6 +221,7 @@ fn is_wanted(value: &Value<'_, '_>, wanted: Wanted) -> bool {
         && value.as_str() == text
         && value.len() == len
         && is_decimal(value, decimal)
+        && has_kind(value, wanted)
 }
 
 /// Whether the value is the number of this text, or none with a fraction or an exponent.
@@ -278,5 +294,61 @@ fn what_is_no_document_is_refused(rt: HostRuntime) {
         assert!(rt; refused(Document::parse(alloc, bytes)) == lenient);
         assert!(rt; refused(Document::parse_jsonc(alloc, bytes)) == with_comments);
         assert!(rt; refused(Document::parse_strict(alloc, bytes)) == strict);
+    }
+}
+
+/// The members of the object, by their names and numbers.
+static MEMBERS: [(&str, Option<u64>); 3] = [("a", Some(1)), ("b", None), ("a", Some(4))];
+
+/// Whether these are a value's members.
+fn holds_members(value: &Value<'_, '_>) -> bool {
+    let Some(members) = value.members() else {
+        return false;
+    };
+    let mut index = 0;
+    for (name, member) in members {
+        if index >= MEMBERS.len()
+            || name != MEMBERS[index].0
+            || member.as_u64() != MEMBERS[index].1
+        {
+            return false;
+        }
+        index += 1;
+    }
+    index == MEMBERS.len()
+}
+
+/// The numbers among the items of the list.
+static ITEMS: [Option<u64>; 3] = [Some(7), None, Some(9)];
+
+/// Whether these are a value's items.
+fn holds_items(value: &Value<'_, '_>) -> bool {
+    let Some(items) = value.items() else {
+        return false;
+    };
+    let mut index = 0;
+    for item in items {
+        if index >= ITEMS.len() || item.as_u64() != ITEMS[index] {
+            return false;
+        }
+        index += 1;
+    }
+    index == ITEMS.len()
+}
+
+#[test]
+fn what_is_held_comes_in_order(rt: HostRuntime) {
+    let alloc = rt.alloc();
+    match Document::parse(alloc, b"{\"a\":1,\"b\":[2,{\"a\":3}],\"\\u0061\":4}") {
+        Ok(document) => assert!(rt;
+            holds_members(&document.root()) && document.root().items().is_none()
+        ),
+        Err(_) => assert!(rt; false),
+    }
+    match Document::parse(alloc, b"[7,[8],9]") {
+        Ok(document) => assert!(rt;
+            holds_items(&document.root()) && document.root().members().is_none()
+        ),
+        Err(_) => assert!(rt; false),
     }
 }

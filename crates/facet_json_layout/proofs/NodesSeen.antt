@@ -11,12 +11,16 @@ use Rattle.facet_format.specs.Views.{scalar_value_of}
 use Rattle.facet_format.specs.declared.event.ScalarValue.{ScalarValue}
 use Rattle.facet_json_core.specs.Told.{tree_of_scalar}
 use Rattle.facet_json_document.specs.Tree.{Tree, tree, no_trees, pair, no_pairs}
+use Rattle.facet_json_tree.specs.Content.{as_list, as_pairs}
 use Rattle.facet_json_tree.specs.Lookup.{item, item_at, member, last_member}
 use Rattle.facet_json_tree.specs.Same.{same_bytes}
-use Rattle.facet_json_layout.specs.Nodes.{Node, leaf, key, list, object, closing, nothing, inner, is_closing, is_leaf, is_key, is_list, is_object, items, members, value_of, values, value_at, value_in, trees_len, pairs_len, len, node_view, nodes_view, value_view}
+use Rattle.facet_json_layout.specs.Nodes.{Node, leaf, key, list, object, closing, nothing, inner, is_closing, is_leaf, is_key, is_list, is_object, items, members, value_of, values, value_at, value_in, trees_len, pairs_len, len, trees_list, pairs_list, node_view, nodes_view, value_view}
 use Rattle.facet_json_layout.specs.Inner.Looking.{HoldsOthers, of_nothing, of_list, of_object, IsLeaf, from, Stands, IsItem, IsMember}
 use Rattle.facet_json_layout.specs.declared.document.node.Node.{Node as RustNode}
 use Rattle.facet_json_layout.specs.declared.document.node.Node.TheVariants as rust
+use Rattle.facet_json_layout.specs.Nodes.{items_left as held_items, members_left as held_members}
+use Rattle.facet_json_layout.specs.declared.document.held.Items.{Items}
+use Rattle.facet_json_layout.specs.declared.document.held.Members.{Members}
 use Rattle.facet_json_layout.specs.declared.document.value.Value.{Value}
 use Rattle.facet_json_layout.proofs.NodeTables.{stands-there, none-there, value-there, no_value-there, items-first, members-first, members-none}
 
@@ -99,9 +103,8 @@ item-begins v w at n s c nodes index =
 pub item-stands : (v : Value) (at to : ℕ) (n : Node) → Stands v at n → is_closing n ≡ false → from v to ≡ drop (inner n) (from v (suc at)) →
     at < to → to ≤ length v.nodes.now → IsItem v at to
 item-stands v at to n s c e further within = record {
-  item = value_of n (from v (suc at));
   are = ap (items 0) s.here ∙ items-first n (value_of n (from v (suc at))) (from v (suc at)) c
-      ∙ ap (λ l. tree (value_of n (from v (suc at))) (items 0 l)) (sym e);
+      ∙ ap₂ (λ t l. tree t (items 0 l)) (sym (value-there (nodes_view v.nodes.now) at n _ _ s.here)) (sym e);
   further = further;
   within = within;
 }
@@ -238,3 +241,74 @@ len-of_object v n s e = ap len (value-stands v n s) ∙ object-len n (from v (su
 pub no-len : (v : Value) (n : RustNode) → Stands v v.index (node_view n) → is_list (node_view n) ≡ false → is_object (node_view n) ≡ false →
     len (value_view v) ≡ None
 no-len v n s e f = ap len (value-stands v (node_view n) s) ∙ other-len n (from v (suc v.index)) e f
+
+-- ---- one after another
+
+-- What is left of the items.
+pub item-left : (v : Value) (at to : ℕ) → IsItem v at to → v.index ≡ at →
+    trees_list (items 0 (from v at)) ≡ value_view v ∷ trees_list (items 0 (from v to))
+item-left v at to i index =
+    ap trees_list i.are ∙ ap (λ k. value_at (nodes_view v.nodes.now) k ∷ trees_list (items 0 (from v to))) (sym index)
+
+-- What is left of the members.
+pub member-left : (v w : Value) (at to behind : ℕ) (name : List ℕ) → IsMember v at name to → w.nodes.now ≡ v.nodes.now → w.index ≡ behind → behind ≡ suc at →
+    pairs_list (members 0 (from v at)) ≡ (name, value_view w) ∷ pairs_list (members 0 (from v to))
+member-left v w at to behind name m nodes index b =
+    ap pairs_list m.are
+    ∙ ap (λ t. (name, t) ∷ pairs_list (members 0 (from v to))) (sym (ap₂ (λ l i. value_at (nodes_view l) i) nodes (index ∙ b)))
+
+pub items-from : (v : Value) (w : Items) (at : ℕ) → w.nodes.now ≡ v.nodes.now → w.at ≡ at → at ≡ suc v.index →
+    held_items w ≡ trees_list (items 0 (from v (suc v.index)))
+items-from v w at nodes is b = ap₂ (λ l k. trees_list (items 0 (drop k (values (nodes_view l))))) nodes (is ∙ b)
+
+pub members-from : (v : Value) (w : Members) (at : ℕ) → w.nodes.now ≡ v.nodes.now → w.at ≡ at → at ≡ suc v.index →
+    held_members w ≡ pairs_list (members 0 (from v (suc v.index)))
+members-from v w at nodes is b = ap₂ (λ l k. pairs_list (members 0 (drop k (values (nodes_view l))))) nodes (is ∙ b)
+
+list-held : (n : Node) (later : List (Node × Tree)) → is_list n ≡ true → as_list (value_of n later) ≡ Some (items 0 later)
+list-held (list k) later e = refl
+list-held (leaf t) later e = cc
+list-held (key name) later e = cc
+list-held (object k) later e = cc
+list-held closing later e = cc
+
+scalar-list : (s : Scalar) → as_list (unwrap_or (tree_of_scalar s) nothing) ≡ None
+scalar-list event.null = refl
+scalar-list _ = refl
+
+other-list : (n : RustNode) (later : List (Node × Tree)) → is_list (node_view n) ≡ false → as_list (value_of (node_view n) later) ≡ None
+other-list (rust.Leaf s) later e = scalar-list (scalar_value_of s)
+other-list (rust.Key name) later e = refl
+other-list (rust.List k) later e = cc
+other-list (rust.Object k) later e = refl
+other-list rust.End later e = refl
+
+pub list-of : (v : Value) (n : Node) → Stands v v.index n → is_list n ≡ true → as_list (value_view v) ≡ Some (items 0 (from v (suc v.index)))
+list-of v n s e = ap as_list (value-stands v n s) ∙ list-held n (from v (suc v.index)) e
+
+pub no-list : (v : Value) (n : RustNode) → Stands v v.index (node_view n) → is_list (node_view n) ≡ false → as_list (value_view v) ≡ None
+no-list v n s e = ap as_list (value-stands v (node_view n) s) ∙ other-list n (from v (suc v.index)) e
+
+object-held : (n : Node) (later : List (Node × Tree)) → is_object n ≡ true → as_pairs (value_of n later) ≡ Some (members 0 later)
+object-held (object k) later e = refl
+object-held (leaf t) later e = cc
+object-held (key name) later e = cc
+object-held (list k) later e = cc
+object-held closing later e = cc
+
+scalar-pairs : (s : Scalar) → as_pairs (unwrap_or (tree_of_scalar s) nothing) ≡ None
+scalar-pairs event.null = refl
+scalar-pairs _ = refl
+
+other-pairs : (n : RustNode) (later : List (Node × Tree)) → is_object (node_view n) ≡ false → as_pairs (value_of (node_view n) later) ≡ None
+other-pairs (rust.Leaf s) later e = scalar-pairs (scalar_value_of s)
+other-pairs (rust.Key name) later e = refl
+other-pairs (rust.List k) later e = refl
+other-pairs (rust.Object k) later e = cc
+other-pairs rust.End later e = refl
+
+pub pairs-of : (v : Value) (n : Node) → Stands v v.index n → is_object n ≡ true → as_pairs (value_view v) ≡ Some (members 0 (from v (suc v.index)))
+pairs-of v n s e = ap as_pairs (value-stands v n s) ∙ object-held n (from v (suc v.index)) e
+
+pub no-pairs : (v : Value) (n : RustNode) → Stands v v.index (node_view n) → is_object (node_view n) ≡ false → as_pairs (value_view v) ≡ None
+no-pairs v n s e = ap as_pairs (value-stands v (node_view n) s) ∙ other-pairs n (from v (suc v.index)) e

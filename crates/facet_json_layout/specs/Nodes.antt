@@ -1,6 +1,7 @@
 -- A document as a list of nodes, each of its values and keys one, in the order in which they stand: a container is followed by the nodes of what it
 -- holds and by one for its end. What values begin at which node.
-use Rattle.std.specs.Prelude.{ℕ, zero, suc, Bool, true, false, List, [], ◌∷◌, Option, Some, None, map, slice_get}
+use Rattle.std.specs.Prelude.{ℕ, zero, suc, Bool, true, false, List, [], ◌∷◌, Option, Some, None, map, drop, slice_get}
+use Rattle.std.specs.Borrow.{Bor}
 use Rattle.std.specs.Option.{unwrap_or}
 use Rattle.facet_format.specs.Event.{bytes_of}
 use Rattle.facet_format.specs.HeldText.{text_of}
@@ -10,7 +11,11 @@ use Rattle.facet_json_document.specs.Tree.{Tree, Trees, no_trees, tree, Pairs, n
 use Rattle.facet_json_document.specs.Tree as trees
 use Rattle.facet_json_layout.specs.declared.document.node.Node.{Node as RustNode}
 use Rattle.facet_json_layout.specs.declared.document.node.Node.TheVariants as rust
+use Rattle.facet_json_layout.specs.declared.document.node.ValueKind.{ValueKind}
+use Rattle.facet_json_layout.specs.declared.document.node.ValueKind.TheVariants as kind
 use Rattle.facet_json_layout.specs.declared.document.value.Value.{Value}
+use Rattle.facet_json_layout.specs.declared.document.held.Items.{Items}
+use Rattle.facet_json_layout.specs.declared.document.held.Members.{Members}
 use Rattle.facet_json_layout.specs.declared.document.Document.{Document}
 
 pub data Node : Type 0 where
@@ -88,7 +93,23 @@ value_in (Some x) = x.1
 abbrev pub value_at : List Node → ℕ → Tree
 value_at nodes index = value_in (slice_get (values nodes) index)
 
--- ---- how many
+-- ---- what they are
+
+-- what a value is in JSON (RFC 8259, section 3); none of a document is any other than these
+abbrev pub kind_of : Tree → ValueKind
+kind_of (trees.bool b) = kind.Bool
+kind_of (trees.i64 n) = kind.Number
+kind_of (trees.u64 n) = kind.Number
+kind_of (trees.i128 n) = kind.Number
+kind_of (trees.u128 n) = kind.Number
+kind_of (trees.decimal digits) = kind.Number
+kind_of (trees.char c) = kind.Text
+kind_of (trees.text t) = kind.Text
+kind_of (trees.list ts) = kind.List
+kind_of (trees.pairs ps) = kind.Object
+kind_of _ = kind.Null
+
+-- ---- how many, and which
 
 abbrev pub trees_len : Trees → ℕ
 trees_len no_trees = 0
@@ -97,6 +118,15 @@ trees_len (tree t ts) = suc (trees_len ts)
 abbrev pub pairs_len : Pairs → ℕ
 pairs_len no_pairs = 0
 pairs_len (pair name t ps) = suc (pairs_len ps)
+
+-- one after another
+abbrev pub trees_list : Trees → List Tree
+trees_list no_trees = []
+trees_list (tree t ts) = t ∷ trees_list ts
+
+abbrev pub pairs_list : Pairs → List (List ℕ × Tree)
+pairs_list no_pairs = []
+pairs_list (pair name t ps) = (name, t) ∷ pairs_list ps
 
 -- how many items or members a list or an object has
 abbrev pub len : Tree → Option ℕ
@@ -118,6 +148,16 @@ nodes_view nodes = map node_view nodes
 
 abbrev pub value_view : Value → Tree
 value_view v = value_at (nodes_view v.nodes.now) v.index
+
+-- those that are still to come
+abbrev pub items_left : Items → List Tree
+items_left i = trees_list (items 0 (drop i.at (values (nodes_view i.nodes.now))))
+
+abbrev pub members_left : Members → List (List ℕ × Tree)
+members_left m = pairs_list (members 0 (drop m.at (values (nodes_view m.nodes.now))))
+
+abbrev pub member_view : Bor (List ℕ) × Value → List ℕ × Tree
+member_view m = (m.0.now, value_view m.1)
 
 abbrev pub document_view : Document → Tree
 document_view d = value_at (nodes_view d.nodes.items) 0

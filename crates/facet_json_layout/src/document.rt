@@ -14,13 +14,16 @@ ghost use Rattle.facet_json_layout.specs.Formatted.{LacksOrBreaksOff};
 ghost use Rattle.facet_json_layout.specs.Nodes.{document_view, value_view};
 
 mod build;
+mod held;
 mod node;
 mod value;
 
 use build::build;
 use facet_format::DeserializeError;
 use facet_json_parser::JsonParser;
+pub use held::{Items, Members};
 use node::Node;
+pub use node::ValueKind;
 use std::alloc::Global;
 pub use value::Value;
 

@@ -9,6 +9,6 @@ mod pieces;
 mod spacing;
 
 pub use checking::{check, check_jsonc, check_strict, check_whole};
-pub use document::{Document, Value};
+pub use document::{Document, Items, Members, Value, ValueKind};
 pub use formatting::{FormatOptions, format_text, format_text_strict};
 pub use spacing::Indent;

@@ -35,8 +35,7 @@ IsNodeAt v at answer = MatchOption answer (from v at ≡ []) (λ n. Stands v at 
 
 -- An item stands there, and those behind it begin further on.
 pub record IsItem (v : Value) (at : ℕ) (next : ℕ) : Type 0 where
-  pub item : Tree
-  pub are : items 0 (from v at) ≡ tree item (items 0 (from v next))
+  pub are : items 0 (from v at) ≡ tree (value_at (nodes_view v.nodes.now) at) (items 0 (from v next))
   pub further : at < next
   pub within : next ≤ length v.nodes.now
 

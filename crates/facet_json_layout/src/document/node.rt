@@ -1,10 +1,11 @@
 //! The nodes of a document.
 
-ghost use Rattle.std.specs.Prelude.{◌≡◌, false, MatchOption};
+ghost use Rattle.std.specs.Prelude.{◌≡◌, false, List, MatchOption};
 ghost use Rattle.std.specs.Option.{unwrap_or};
 ghost use Rattle.facet_format.specs.Views.{scalar_value_of};
 ghost use Rattle.facet_json_core.specs.Told.{tree_of_scalar};
-ghost use Rattle.facet_json_layout.specs.Nodes.{leaf, key, node_view, nothing, is_leaf, is_key, is_list, is_object, is_closing, inner as spec_inner};
+ghost use Rattle.facet_json_document.specs.Tree.{Tree};
+ghost use Rattle.facet_json_layout.specs.Nodes.{Node as SpecNode, kind_of, value_of, leaf, key, node_view, nothing, is_leaf, is_key, is_list, is_object, is_closing, inner as spec_inner};
 
 use facet_format::ScalarValue;
 use std::borrow::CowStr;
@@ -24,7 +25,37 @@ pub enum Node<'i> {
     End,
 }
 
+/// What a value is in JSON (RFC 8259, section 3).
+#[derive(Debug, Clone, Copy, PartialEq, Eq)]
+pub enum ValueKind {
+    /// `null`
+    Null,
+    /// `true` or `false`
+    Bool,
+    /// A number.
+    Number,
+    /// A string, or a whole number past 64 bits, which is read as the text of its digits.
+    Text,
+    /// An array.
+    List,
+    /// An object.
+    Object,
+}
+
 impl<'i> Node<'i> {
+    /// What the value is that begins here.
+    pub(crate) fn kind(&self) -> ValueKind
+        ensures { (later : List (SpecNode × Tree)) → result ≡ kind_of (value_of (node_view self.now) later) }
+    {
+        match self {
+            Node::Leaf(value) => kind_of_scalar(value),
+            Node::List(_) => ValueKind::List,
+            Node::Object(_) => ValueKind::Object,
+            Node::Key(_) => ValueKind::Null,
+            Node::End => ValueKind::Null,
+        }
+    }
+
     /// How many of the next nodes belong to this one.
     pub(crate) fn inner(&self) -> usize
         ensures { result ≡ spec_inner (node_view self.now) }
@@ -76,5 +107,19 @@ impl<'i> Node<'i> {
         ensures { result ≡ is_closing (node_view self.now) }
     {
         matches!(self, Node::End)
+    }
+}
+
+/// What a value is that holds no others.
+fn kind_of_scalar(value: &ScalarValue<'_>) -> ValueKind
+    ensures { result ≡ kind_of (unwrap_or (tree_of_scalar (scalar_value_of value.now)) nothing) }
+{
+    match value {
+        ScalarValue::Bool(_) => ValueKind::Bool,
+        ScalarValue::I64(_) => ValueKind::Number,
+        ScalarValue::U64(_) => ValueKind::Number,
+        ScalarValue::Decimal(_) => ValueKind::Number,
+        ScalarValue::Str(_) => ValueKind::Text,
+        _ => ValueKind::Null,
     }
 }

@@ -6,10 +6,11 @@ ghost use Rattle.facet_format.specs.Event.{bytes_of};
 ghost use Rattle.facet_json_tree.specs.Content as content;
 ghost use Rattle.facet_json_tree.specs.Content.{TellsUnsigned, TellsSigned};
 ghost use Rattle.facet_json_tree.specs.Lookup.{member, item, item_at, last_member};
-ghost use Rattle.facet_json_layout.specs.Nodes.{value_view, node_view, inner, items, members, len, trees_len, pairs_len};
+ghost use Rattle.facet_json_layout.specs.Nodes.{kind_of, value_view, node_view, inner, items, members, items_left, members_left, len, trees_len, pairs_len, trees_list, pairs_list};
 ghost use Rattle.facet_json_layout.specs.Inner.Looking.{IsLeaf, IsNodeAt, IsNextItem, IsMemberAt, from};
 
-use crate::document::node::Node;
+use crate::document::held::{Items, Members};
+use crate::document::node::{Node, ValueKind};
 use facet_format::{Decimal, ScalarValue};
 
 /// A value of a document: a place in it, which is copied freely.
@@ -28,6 +29,20 @@ impl<'d, 'i> Value<'d, 'i> {
         ensures index { result.index ≡ index }
     {
         Value { nodes, index }
+    }
+
+    /// What the value is (RFC 8259, section 3).
+    ///
+    /// ```text
+    /// of 1.5: kind()                                          ValueKind::Number
+    /// ```
+    pub fn kind(&self) -> ValueKind
+        ensures { result ≡ kind_of (value_view self.now) }
+    {
+        match self.node(self.index) {
+            Some(node) => node.kind(),
+            None => ValueKind::Null,
+        }
     }
 
     /// Whether the value is `null` (RFC 8259, section 3).
@@ -177,6 +192,38 @@ impl<'d, 'i> Value<'d, 'i> {
         None
     }
 
+    /// The items of a list, in order (RFC 8259, section 5).
+    ///
+    /// ```text
+    /// of [7,[8]]: items()                                     Some: 7, then [8]
+    /// of {}: items()                                          None
+    /// ```
+    pub fn items(&self) -> Option<Items<'d, 'i>>
+        ensures { option_map items_left result ≡ option_map trees_list (content.as_list (value_view self.now)) }
+    {
+        let node = self.node(self.index)?;
+        if !node.is_list() {
+            return None;
+        }
+        Some(Items::new(self.nodes, self.index + 1))
+    }
+
+    /// The members of an object, in order (RFC 8259, section 4). A name that comes twice stands twice.
+    ///
+    /// ```text
+    /// of {"a":1,"a":2}: members()                             Some: ("a", 1), then ("a", 2)
+    /// of []: members()                                        None
+    /// ```
+    pub fn members(&self) -> Option<Members<'d, 'i>>
+        ensures { option_map members_left result ≡ option_map pairs_list (content.as_pairs (value_view self.now)) }
+    {
+        let node = self.node(self.index)?;
+        if !node.is_object() {
+            return None;
+        }
+        Some(Members::new(self.nodes, self.index + 1))
+    }
+
     /// How many items a list has.
     fn items_len(&self) -> usize
         requires { self.now.index < length self.now.nodes.now }
@@ -254,7 +301,7 @@ impl<'d, 'i> Value<'d, 'i> {
     }
 
     /// The index of the item behind the one at this index.
-    fn next_item(&self, at: usize) -> Option<usize>
+    pub(crate) fn next_item(&self, at: usize) -> Option<usize>
         ensures { IsNextItem self.now at result }
     {
         let node = self.node(at)?;
@@ -292,7 +339,7 @@ impl<'d, 'i> Value<'d, 'i> {
     }
 
     /// The name of the member at this index, and the index of the one behind it.
-    fn member_there(&self, at: usize) -> Option<(&'d str, usize)>
+    pub(crate) fn member_there(&self, at: usize) -> Option<(&'d str, usize)>
         ensures { IsMemberAt self.now at result }
     {
         let key = self.node(at)?;
