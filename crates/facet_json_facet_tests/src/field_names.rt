@@ -29,6 +29,7 @@ static THREE: [(&str, (u8, Option<u8>, u8)); 14] = [
         "{\"a\":1,\"ab\":2,\"seventeen_letters\":3}",
         (1, Some(2), 3),
     ),
+    ("{\"a\":1,\"a\":4,\"seventeen_letters\":3}", (4, None, 3)),
     (
         "{\"seventeen_letters\":3,\"ab\":2,\"a\":1}",
         (1, Some(2), 3),
@@ -42,7 +43,6 @@ static THREE: [(&str, (u8, Option<u8>, u8)); 14] = [
         "{\"a\":1,\"ab\":null,\"seventeen_letters\":3}",
         (1, None, 3),
     ),
-    ("{\"a\":1,\"a\":4,\"seventeen_letters\":3}", (4, None, 3)),
     (
         "{\"a\":1,\"ab\":2,\"seventeen_letters\":3,\"ab\":5,\"a\":4}",
         (4, Some(5), 3),

@@ -21,12 +21,19 @@ fn is_written(alloc: Global, text: &str, written: &str) -> bool {
     }
 }
 
+/// Texts, and how they are written.
+static WRITTEN: [(&str, &str); 3] = [
+    ("", "\"\""),
+    ("a\"b\\\n", "\"a\\\"b\\\\\\n\""),
+    ("\u{1f600}", "\"\u{1f600}\""),
+];
+
 #[test]
 fn texts_are_read_and_written(rt: HostRuntime) {
     let alloc = rt.alloc();
-    assert!(rt; is_written(alloc, "", "\"\""));
-    assert!(rt; is_written(alloc, "a\"b\\\n", "\"a\\\"b\\\\\\n\""));
-    assert!(rt; is_written(alloc, "\u{1f600}", "\"\u{1f600}\""));
+    for &(text, written) in &WRITTEN {
+        assert!(rt; is_written(alloc, text, written), "of {written}");
+    }
     assert!(rt; reads_text(alloc, "\"a\\u0062\\ud83d\\ude00\"", "ab\u{1f600}"));
 }
 

@@ -1,17 +1,17 @@
 //! An input read into one list of nodes, made in one pass and without recursion.
 
-ghost use Rattle.std.specs.Prelude.{◌≡◌, ◌⊎◌, IfOk, IfErr, MatchResult};
 ghost use Rattle.facet_format.specs.Views.{refusal_of};
 ghost use Rattle.facet_json_token.specs.Gap.{jsonc, plain};
+ghost use Rattle.facet_json_layout.specs.Nodes.{document_view, value_view};
 ghost use Rattle.facet_json_document.specs.Document.{IsDocument};
 ghost use Rattle.facet_json_document.specs.Node.{Node as Root};
 ghost use Rattle.facet_json_document.specs.PrefixRefusal.{Refuses};
+ghost use Rattle.std.specs.Prelude.{◌≡◌, ◌⊎◌, IfOk, IfErr, MatchResult};
 ghost use Rattle.facet_json_document.specs.StrictDocument.{IsStrictDocument};
 ghost use Rattle.facet_json_document.specs.Tree.{Tree};
+ghost use Rattle.facet_json_layout.specs.Formatted.{LacksOrBreaksOff};
 ghost use Rattle.facet_json_document.specs.UnreadLaws.{RefusalWithin};
 ghost use Rattle.facet_json_core.specs.Reading.{LacksMemory};
-ghost use Rattle.facet_json_layout.specs.Formatted.{LacksOrBreaksOff};
-ghost use Rattle.facet_json_layout.specs.Nodes.{document_view, value_view};
 
 mod build;
 mod held;

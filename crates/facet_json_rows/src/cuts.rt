@@ -58,16 +58,16 @@ pub fn tell_cuts(
         if len > 0 {
             told.push_str("; ")?;
         }
-        tell_cut(alloc, mode, is_trusted, &input[..len], told)?;
+        tell_cut(alloc, &input[..len], mode, is_trusted, told)?;
     }
     Ok(())
 }
 
 fn tell_cut(
     alloc: Global,
+    input: &[u8],
     mode: Mode,
     is_trusted: bool,
-    input: &[u8],
     told: &mut String,
 ) -> Result<(), AllocError> {
     let mut parser = parser_of(alloc, mode, is_trusted, input);

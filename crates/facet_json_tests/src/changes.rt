@@ -104,12 +104,6 @@ static ROWS: [Row; 42] = [
     ("[1,2]", Change::Point("/01"), "", "[1,2]"),
     ("[1,2]", Change::Point("1"), "no pointer", "[1,2]"),
     (r#"{"a":[1]}"#, Change::Lend("a"), "[1]", r#"{"a":null}"#),
-    (
-        r#"{"b":{"a":1}}"#,
-        Change::Lend("a"),
-        "false",
-        r#"{"b":{"a":1},"a":null}"#,
-    ),
     ("[]", Change::Lend("a"), WRONG_KIND, "[]"),
     ("null", Change::Lend(""), WRONG_KIND, "null"),
     (
@@ -119,6 +113,12 @@ static ROWS: [Row; 42] = [
         r#"{"a":1,"":null,"c":3}"#,
     ),
     ("{}", Change::Lend("a"), "false", r#"{"a":null}"#),
+    (
+        r#"{"b":{"a":1}}"#,
+        Change::Lend("a"),
+        "false",
+        r#"{"b":{"a":1},"a":null}"#,
+    ),
     (
         r#"{"a":1,"b":2,"a":3,"c":4}"#,
         Change::Lend("a"),

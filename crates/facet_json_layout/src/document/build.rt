@@ -4,13 +4,13 @@ ghost use Rattle.std.specs.Prelude.{◌≡◌, ◌<◌, ◌⊎◌, Err, true, fa
 ghost use Rattle.facet_format.specs.Complaint.{no_memory};
 ghost use Rattle.facet_format.specs.Cursor.{event, next};
 ghost use Rattle.facet_format.specs.Views.{refusal_of, event_kind_of};
+ghost use Rattle.facet_json_layout.specs.Inner.Building.{added, also, begun, closed, container, ended, built_view, none_yet, Adds, AddsAll};
 ghost use Rattle.facet_json_core.specs.Reading.{LacksMemory};
 ghost use Rattle.facet_json_document.specs.Move.{Moves};
 ghost use Rattle.facet_json_document.specs.Now.{ahead};
 ghost use Rattle.facet_json_document.specs.UnreadLaws.{RefusalWithin};
 ghost use Rattle.facet_json_layout.specs.Formatted.{BreaksOff};
 ghost use Rattle.facet_json_layout.specs.Nodes.{Node as SpecNode, leaf, list, object, closing, node_view, nodes_view};
-ghost use Rattle.facet_json_layout.specs.Inner.Building.{added, also, begun, closed, container, ended, built_view, none_yet, Adds, AddsAll};
 
 use crate::document::node::Node;
 use facet_format::{ContainerKind, DeserializeError, FormatParser, ParseEventKind};
