@@ -218,10 +218,11 @@ impl<'i> JsonWriter<'i> {
         if self.at_key {
             return self.key_text(text);
         }
-        match Decimal::of_number(text) {
-            Some(decimal) => self.scalar(ScalarValue::Decimal(decimal)),
-            None => Err(self.fail(Refusal::InvalidValue)),
+        if Decimal::of_number(text).is_none() {
+            return Err(self.fail(Refusal::InvalidValue));
         }
+        let answer = self.value.number(text);
+        self.settle(answer)
     }
 }
 
