@@ -1,6 +1,6 @@
 //! JSON as a `Format` of `serde`'s: the events of a parser, and a look ahead of one. Here is what the steps of `format` stand on.
 
-ghost use Rattle.std.specs.Prelude.{◌≡◌, true, [], IfOk, IfSome, OnOk, MatchBool, MatchOption};
+ghost use Rattle.std.specs.Prelude.{◌≡◌, true, [], IfOk, OnOk, MatchBool, MatchOption};
 ghost use Rattle.std.specs.Cow.{cow_str_bytes};
 ghost use Rattle.facet_format.specs.Event.{scalar, decimal};
 ghost use Rattle.facet_format.specs.Views.{event_of, span_of};
@@ -479,31 +479,44 @@ impl<'de> Json<'de> {
         }
     }
 
-    /// A copy of where it stands, or `None` where there is no memory for it.
+    /// Keeps where the parser stands, and the event that is ahead, as the last mark. Without memory for it the answer is no.
     #[inline(always)]
-    fn kept(&mut self) -> Option<Marked<'de>>
-        ensures { IfSome result (λ _. (self.new.parser ≡ with_kept self.old.parser) × (self.new.ahead ≡ self.old.ahead)) }
+    fn keep_point(&mut self, ahead: Option<ParseEvent<'de>>) -> bool
+        ensures { result ≡ true → (self.new.parser ≡ with_kept self.old.parser) × (self.new.ahead ≡ self.old.ahead) }
     {
-        let ahead = match &self.ahead {
-            Ahead::Event(event) => Some(event.clone(self.alloc).ok()?),
-            _ => None,
+        let Ok(point) = self.parser.save() else {
+            return false;
         };
-        let point = self.parser.save().ok()?;
-        Some(Marked {
+        let marked = Marked {
             point,
             ahead,
             last: self.last,
             at_key: self.at_key,
-        })
+        };
+        self.marks.push(marked).is_ok()
+    }
+
+    /// The same with a copy of the event that is ahead.
+    #[inline(never)]
+    fn keep_with_event(&mut self) -> bool
+        ensures { result ≡ true → (self.new.parser ≡ with_kept self.old.parser) × (self.new.ahead ≡ self.old.ahead) }
+    {
+        let Ahead::Event(event) = &self.ahead else {
+            return false;
+        };
+        match event.clone(self.alloc) {
+            Ok(event) => self.keep_point(Some(event)),
+            Err(_) => false,
+        }
     }
 
     /// Keeps where it stands as the last mark.
     fn keep_here(&mut self) -> Result<(), ReadFault>
         ensures { OnOk result ((self.new.parser ≡ with_kept self.old.parser) × (self.new.ahead ≡ self.old.ahead)) }
     {
-        let is_kept = match self.kept() {
-            Some(marked) => self.marks.push(marked).is_ok(),
-            None => false,
+        let is_kept = match &self.ahead {
+            Ahead::Event(_) => self.keep_with_event(),
+            _ => self.keep_point(None),
         };
         if is_kept {
             Ok(())
