@@ -3,10 +3,10 @@ use Rattle.std.proofs.Common.{◌≡◌, ℕ, Bool, true, false, List, [], ◌�
 use Rattle.std.proofs.lemmas.Bool.{true≢false}
 use Rattle.std.proofs.lemmas.Option.{same_Some}
 use mathlib.Core.Logic.{∥∥₁_map}
-use Rattle.facet_format.specs.SerializerCall.{SerializerCall, begin_struct, field_key, end_struct, begin_seq, end_seq, scalar, TakesAll, IsServed}
+use Rattle.facet_format.specs.SerializerCall.{SerializerCall, begin_struct, field_key, end_struct, begin_seq, end_seq, scalar, raw_scalar, TakesAll, IsServed}
 use Rattle.facet_json_document.specs.Text.{Options, text}
 use Rattle.facet_json_document.specs.Tree.{Tree, list, pairs, Trees, no_trees, tree, Pairs, no_pairs, pair}
-use Rattle.facet_json_serializer.specs.Serializer.{Writing, Takes, IsSpent}
+use Rattle.facet_json_serializer.specs.Serializer.{Writing, WriteRefusal, addition, Takes, Appends, appends, refuses, runs_out, stays_out, IsSpent}
 use Rattle.facet_json_serializer.specs.TreeCalls.{tree_calls}
 use Rattle.facet_json_serializer.proofs.CallsTaken.{tree_taken}
 use Rattle.facet_json_serde.specs.declared.stage.Stage.{Stage}
@@ -57,16 +57,36 @@ has_more o old new call stage after around outer step goes has =
       is_around = next.is_around;
     }
 
+-- A call that is served goes on with the value as one that appends the same.
+pub served-goes_on_as : {E : Type 0} (o : Options) (old new : Option Writing) (asked call : SerializerCall) (stage after : Stage) (around outer : List Stage)
+    (result : Result (Unit {0}) E) (x : Unit {0}) → result ≡ Ok x → IsServed Takes IsSpent old asked result new → (Takes old asked new → Takes old call new)
+    → GoesOnFrom call stage around after outer → IsBegun o old stage around → IsBegun o new after outer
+served-goes_on_as {E} o old new asked call stage after around outer result x ok served same goes begun =
+    let it : IsServed {E = E} Takes IsSpent old asked (Ok x) new = subst (λ r. IsServed Takes IsSpent old asked r new) ok served in
+    ∥∥₁_map begun (λ cases. elim cases [
+      | inl spent ↦ absurd (true≢false (sym (it.1 spent)))
+      | inr has ↦ inr (has_more o old new call stage after around outer (same it.0) goes has)
+    ])
+
 -- a call that is served goes on with the value
 pub served-goes_on : {E : Type 0} (o : Options) (old new : Option Writing) (call : SerializerCall) (stage after : Stage) (around outer : List Stage) (result : Result (Unit {0}) E)
     (x : Unit {0}) → result ≡ Ok x → IsServed Takes IsSpent old call result new → GoesOnFrom call stage around after outer → IsBegun o old stage around
     → IsBegun o new after outer
-served-goes_on {E} o old new call stage after around outer result x ok served goes begun =
-    let it : IsServed {E = E} Takes IsSpent old call (Ok x) new = subst (λ r. IsServed Takes IsSpent old call r new) ok served in
-    ∥∥₁_map begun (λ cases. elim cases [
-      | inl spent ↦ absurd (true≢false (sym (it.1 spent)))
-      | inr has ↦ inr (has_more o old new call stage after around outer it.0 goes has)
-    ])
+served-goes_on o old new call stage after around outer result x ok served goes begun =
+    served-goes_on_as o old new call call stage after around outer result x ok served (λ taken. taken) goes begun
+
+-- a call that appends the same
+same-appended : (old new : Option Writing) (asked call : SerializerCall) (answer : Result (Unit {0}) WriteRefusal)
+    → ((w : Writing) → addition w.options w.stack asked ≡ addition w.options w.stack call) → Appends old asked answer new → Appends old call answer new
+same-appended old new asked call answer same (appends w _ a can) = appends w call a (sym (same w) ∙ can)
+same-appended old new asked call answer same (refuses w _ why cannot) = refuses w call why (sym (same w) ∙ cannot)
+same-appended old new asked call answer same (runs_out w _ a can) = runs_out w call a (sym (same w) ∙ can)
+same-appended old new asked call answer same (stays_out _) = stays_out call
+
+-- A number's text is appended as the number is.
+pub decimal-taken : (old new : Option Writing) (t : List ℕ) → Takes old (raw_scalar t) new → Takes old (scalar (event.decimal (borrowed t))) new
+unfolding text
+decimal-taken old new t taken = same-appended old new (raw_scalar t) (scalar (event.decimal (borrowed t))) (Ok tt) (λ w. refl) taken
 
 -- ---- trees of Rust's
 

@@ -1,6 +1,8 @@
 -- What is read, said in the words of a step.
 use Rattle.std.proofs.Common.{◌≡◌, ℕ, ℤ, Bool, true, false, List, refl, sym, subst}
 use Rattle.facet_format.specs.Event.{Event, EventKind, struct_start, struct_end, sequence_start, sequence_end, field_key, scalar, null, unit, bool, char, i64, u64, i128, u128, decimal, text, bytes}
+use Rattle.facet_json_document.specs.Move.{with_kept}
+use Rattle.facet_json_document.specs.Next.{PassesNext}
 use Rattle.facet_json_document.specs.Now.{Now}
 use Rattle.serde.specs.Names.{Finds}
 use Rattle.serde.specs.declared.name.Name.{Name}
@@ -35,3 +37,7 @@ text-signed (scalar (i128 n)) t v is writes = absurd is
 text-signed (scalar (u128 n)) t v is writes = absurd is
 text-signed (scalar (decimal d)) t v is writes = absurd is
 text-signed (scalar (bytes b)) t v is writes = absurd is
+
+-- What comes after a point was kept came before.
+pub kept_passes : (old new : Now) (given : Event) → PassesNext (with_kept old) given new → PassesNext old given new
+kept_passes old new given passes = record { last = passes.last; comes = passes.comes; free = passes.free }

@@ -20,6 +20,7 @@ use Rattle.facet_json_serde.specs.declared.json.Json.{Json}
 abbrev pub StandsBefore : Ahead → Now → Now → Type 0
 StandsBefore ahead.Nothing parser now = parser ≡ now
 StandsBefore (ahead.Event held) parser now = PassesNext now (event_of held) parser
+StandsBefore ahead.Back parser now = parser ≡ now
 StandsBefore (ahead.Stopped kind span) parser now = ⊥
 
 abbrev pub Stands : Json → Now → Type 0

@@ -404,7 +404,7 @@ impl<'de> Format for Json<'de> {
         let found = match &self.ahead {
             Ahead::Event(event) => kind_of(event, self.at_key, input),
             Ahead::Stopped(kind, span) => return Err(ReadFault::at(*kind, *span)),
-            Ahead::Nothing => None,
+            Ahead::Nothing | Ahead::Back => None,
         };
         match found {
             Some(kind) => Ok(kind),
@@ -515,7 +515,6 @@ impl<'de> Format for Json<'de> {
         }
         self.forget(mark.saturating_add(1));
         self.go_back();
-        self.keep();
     }
 
     fn release(&mut self, mark: usize) {

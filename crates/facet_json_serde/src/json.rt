@@ -4,6 +4,7 @@ ghost use Rattle.std.specs.Prelude.{◌≡◌, true, [], IfOk, OnOk, MatchBool, 
 ghost use Rattle.std.specs.Cow.{cow_str_bytes};
 ghost use Rattle.facet_format.specs.Event.{scalar, decimal};
 ghost use Rattle.facet_format.specs.Views.{event_of, span_of};
+ghost use Rattle.facet_json_document.specs.Move.{with_kept};
 ghost use Rattle.facet_json_document.specs.Next.{PassesNext};
 ghost use Rattle.facet_json_reader.specs.Inner.Soughts.{event_of_member};
 ghost use Rattle.serde.specs.Event.{nothing, map_ends};
@@ -16,7 +17,7 @@ use facet_format::{
     Decimal, FormatParser, ParseEvent, ParseEventKind, SavePoint, ScalarValue, Span,
 };
 use facet_json_parser::{JsonParser, comes_other, next_wanted};
-use facet_json_reader::{Member, Null, Sought, Wanted};
+use facet_json_reader::{Member, Null, Sought, Wanted, Whole};
 use std::alloc::Global;
 use std::borrow::CowStr;
 
@@ -27,6 +28,8 @@ pub(crate) enum Ahead<'de> {
     Nothing,
     /// This event, which the parser has passed.
     Event(ParseEvent<'de>),
+    /// Nothing, after a return to the last mark, which is kept again before anything is read.
+    Back,
     /// No event ever: reading failed so, and no rewind brings it back.
     Stopped(ReadFaultKind, Span),
 }
@@ -94,6 +97,18 @@ fn quoted<'de>(text: CowStr<'de>, input: &[u8], span: Span) -> Result<CowStr<'de
     }
 }
 
+/// Whether such a scalar comes, which is passed then. Else nothing changes.
+#[inline(always)]
+fn passes<'de, W: Wanted<'de>>(parser: &mut JsonParser<'de>) -> bool {
+    next_wanted::<W>(parser).is_some()
+}
+
+/// Passes a scalar, where a few bytes decide that it comes. Else nothing changes.
+#[inline(always)]
+fn passes_scalar<'de>(parser: &mut JsonParser<'de>) -> bool {
+    passes::<&'de str>(parser) || passes::<Whole>(parser) || passes::<bool>(parser)
+}
+
 impl<'de> Json<'de> {
     /// The format before the parser's next event. It does not allocate.
     pub fn new(alloc: Global, parser: JsonParser<'de>) -> Json<'de>
@@ -116,7 +131,7 @@ impl<'de> Json<'de> {
     /// Another type, where `end of input` is expected, if more of the document comes; what the parser refuses; or the fault for which reading stopped.
     pub fn finish(&mut self) -> Result<(), ReadFault> {
         match &self.ahead {
-            Ahead::Nothing => {}
+            Ahead::Nothing | Ahead::Back => {}
             Ahead::Event(event) => return Err(self.mismatch(
                 Sort::EndOfInput,
                 &event.kind,
@@ -279,7 +294,8 @@ impl<'de> Json<'de> {
         Ok(self.take_ahead()?)
     }
 
-    /// Takes the event that is ahead.
+    /// Takes the event that is ahead, or keeps the mark to which it returned before it reads one.
+    #[tactic(auto, using(crate::proofs::StepsRead::kept_passes))]
     fn take_ahead(&mut self) -> Result<ParseEvent<'de>, ReadFault>
         ensures passes { IfOk result (λ e. Passes self.old (event_of e) self.new) }
         ensures free { OnOk result (self.new.ahead ≡ Ahead.Nothing) }
@@ -290,6 +306,10 @@ impl<'de> Json<'de> {
                 Ok(event)
             }
             Ahead::Nothing => self.read(),
+            Ahead::Back => {
+                self.keep_again()?;
+                self.read()
+            }
             Ahead::Stopped(kind, span) => {
                 self.ahead = Ahead::Stopped(kind, span);
                 Err(ReadFault::at(kind, span))
@@ -302,8 +322,8 @@ impl<'de> Json<'de> {
     pub(crate) fn look(&mut self) -> Result<(), ReadFault>
         ensures { OnOk result (Stays self.old self.new) }
     {
-        if let Ahead::Nothing = &self.ahead {
-            let event = self.read()?;
+        if let Ahead::Nothing | Ahead::Back = &self.ahead {
+            let event = self.take()?;
             self.ahead = Ahead::Event(event);
         }
         Ok(())
@@ -337,7 +357,7 @@ impl<'de> Json<'de> {
                     return Ok(false);
                 }
             }
-            Ahead::Nothing => return Ok(false),
+            Ahead::Nothing | Ahead::Back => return Ok(false),
             Ahead::Stopped(kind, span) => return Err(ReadFault::at(*kind, *span)),
         }
         self.ahead = Ahead::Nothing;
@@ -450,45 +470,93 @@ impl<'de> Json<'de> {
     /// Passes a value, unread.
     #[inline(always)]
     pub(crate) fn pass(&mut self) -> Result<(), ReadFault> {
+        if passes_scalar(&mut self.parser) {
+            return Ok(());
+        }
         match self.parser.skip_value() {
             Ok(()) => Ok(()),
             Err(refused) => Err(self.stop(ReadFaultKind::Parser, refused.span)),
         }
     }
 
-    /// A copy of where it stands, or `None` where there is no memory for it.
-    fn kept(&mut self) -> Option<Marked<'de>> {
-        let ahead = match &self.ahead {
-            Ahead::Event(event) => Some(event.clone(self.alloc).ok()?),
-            _ => None,
+    /// Keeps where the parser stands, and the event that is ahead, as the last mark. Without memory for it the answer is no.
+    #[inline(always)]
+    fn keep_point(&mut self, ahead: Option<ParseEvent<'de>>) -> bool
+        ensures { result ≡ true → (self.new.parser ≡ with_kept self.old.parser) × (self.new.ahead ≡ self.old.ahead) }
+    {
+        let Ok(point) = self.parser.save() else {
+            return false;
         };
-        let point = self.parser.save().ok()?;
-        Some(Marked {
+        let marked = Marked {
             point,
             ahead,
             last: self.last,
             at_key: self.at_key,
-        })
+        };
+        self.marks.push(marked).is_ok()
+    }
+
+    /// The same with a copy of the event that is ahead.
+    #[inline(never)]
+    fn keep_with_event(&mut self) -> bool
+        ensures { result ≡ true → (self.new.parser ≡ with_kept self.old.parser) × (self.new.ahead ≡ self.old.ahead) }
+    {
+        let Ahead::Event(event) = &self.ahead else {
+            return false;
+        };
+        match event.clone(self.alloc) {
+            Ok(event) => self.keep_point(Some(event)),
+            Err(_) => false,
+        }
+    }
+
+    /// Keeps where it stands as the last mark.
+    fn keep_here(&mut self) -> Result<(), ReadFault>
+        ensures { OnOk result ((self.new.parser ≡ with_kept self.old.parser) × (self.new.ahead ≡ self.old.ahead)) }
+    {
+        let is_kept = match &self.ahead {
+            Ahead::Event(_) => self.keep_with_event(),
+            _ => self.keep_point(None),
+        };
+        if is_kept {
+            Ok(())
+        } else {
+            Err(self.stop(ReadFaultKind::Memory, self.last))
+        }
+    }
+
+    /// Keeps the mark to which it returned again, as the last one.
+    #[inline(never)]
+    fn keep_again(&mut self) -> Result<(), ReadFault>
+        ensures { OnOk result ((self.new.parser ≡ with_kept self.old.parser) × (self.new.ahead ≡ Ahead.Nothing)) }
+    {
+        self.ahead = Ahead::Nothing;
+        self.keep_here()
     }
 
     /// Keeps where it stands as the last mark, or stops where there is no memory for it.
     pub(crate) fn keep(&mut self) {
-        let is_kept = match self.kept() {
-            Some(marked) => self.marks.push(marked).is_ok(),
-            None => false,
+        let is_ready = match &self.ahead {
+            Ahead::Back => self.keep_again().is_ok(),
+            Ahead::Stopped(_, _) => false,
+            _ => true,
         };
-        if !is_kept {
-            self.stop(ReadFaultKind::Memory, self.last);
+        if is_ready {
+            self.keep_here().ok();
         }
     }
 
-    /// How many marks are kept.
+    /// How many marks there are, with the one to which it returned.
     pub(crate) fn marks(&self) -> usize {
-        self.marks.len()
+        let returned = usize::from(matches!(&self.ahead, Ahead::Back));
+        self.marks.len().saturating_add(returned)
     }
 
-    /// Goes back to the last mark, which is dropped.
+    /// Goes back to the last mark.
     pub(crate) fn go_back(&mut self) {
+        if let Ahead::Back = &self.ahead {
+            return;
+        }
         let Some(marked) = self.marks.pop() else {
             return;
         };
@@ -499,16 +567,24 @@ impl<'de> Json<'de> {
             at_key,
         } = marked;
         self.parser.restore(point);
-        self.ahead = match ahead {
-            Some(event) => Ahead::Event(event),
-            None => Ahead::Nothing,
-        };
         self.last = last;
         self.at_key = at_key;
+        match ahead {
+            Some(event) => {
+                self.ahead = Ahead::Event(event);
+                self.keep();
+            }
+            None => self.ahead = Ahead::Back,
+        }
     }
 
     /// Drops the marks from this one on.
     pub(crate) fn forget(&mut self, mark: usize) {
+        if let Ahead::Back = &self.ahead {
+            if mark < self.marks() {
+                self.ahead = Ahead::Nothing;
+            }
+        }
         for _ in mark..self.marks.len() {
             if let Some(marked) = self.marks.pop() {
                 self.parser.forget(marked.point);

@@ -1,6 +1,7 @@
 //! Writes the calls of one value, and no others: so what is written is the text of a tree, whatever is asked.
 
 ghost use Rattle.std.specs.Prelude.{◌≡◌, true, IfOk};
+ghost use Rattle.facet_format.specs.Event.{decimal, borrowed};
 ghost use Rattle.facet_format.specs.Views.{scalar_value_of};
 ghost use Rattle.facet_json_serializer.specs.OptionsViews.{options_of};
 ghost use Rattle.facet_json_serde.specs.OneValue.{IsBegun, IsTextOfTree, IsTree};
@@ -41,6 +42,23 @@ impl<'i> OneValue<'i> {
             return Err(Refusal::NotOneValue);
         }
         match self.calls.scalar(value) {
+            Ok(()) => {
+                self.stage = self.stage.after_value();
+                Ok(())
+            }
+            Err(_) => Err(Refusal::OutOfMemory),
+        }
+    }
+
+    /// Writes a number with a fraction or an exponent, by its text.
+    #[inline(always)]
+    pub(crate) fn number(&mut self, text: &str) -> Result<(), Refusal>
+        requires { IsTree (decimal (borrowed text.now)) }
+    {
+        if !self.stage.takes_value() {
+            return Err(Refusal::NotOneValue);
+        }
+        match self.calls.raw_scalar(text) {
             Ok(()) => {
                 self.stage = self.stage.after_value();
                 Ok(())

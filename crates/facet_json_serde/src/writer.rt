@@ -4,12 +4,11 @@ ghost use Rattle.std.specs.Prelude.{◌≡◌, true, IfOk};
 ghost use Rattle.facet_json_serializer.specs.OptionsViews.{options_of};
 ghost use Rattle.facet_format.specs.Views.{scalar_value_of};
 ghost use Rattle.facet_json_serde.specs.OneValue.{IsTextOfTree, IsTree};
-ghost use Rattle.facet_format.specs.Number.{float};
-ghost use Rattle.facet_format.specs.NumberParts.{is_number};
+ghost use Rattle.facet_format.specs.Event.{decimal, borrowed};
 
 use crate::fault::{Refusal, WriteFault};
 use crate::one_value::OneValue;
-use facet_format::{Decimal, ScalarValue};
+use facet_format::ScalarValue;
 use facet_json_serializer::SerializeOptions;
 use serde::{Case, NameKind, Serializer};
 use std::alloc::Global;
@@ -213,15 +212,13 @@ impl<'i> JsonWriter<'i> {
     /// Writes the text of a number with a fraction or an exponent.
     #[inline(always)]
     fn number(&mut self, text: &str) -> Result<(), WriteFault>
-        requires { is_number text.now float ≡ true }
+        requires { IsTree (decimal (borrowed text.now)) }
     {
         if self.at_key {
             return self.key_text(text);
         }
-        match Decimal::of_number(text) {
-            Some(decimal) => self.scalar(ScalarValue::Decimal(decimal)),
-            None => Err(self.fail(Refusal::InvalidValue)),
-        }
+        let answer = self.value.number(text);
+        self.settle(answer)
     }
 }
 
@@ -276,7 +273,7 @@ impl<'i> Serializer for JsonWriter<'i> {
         self.scalar(ScalarValue::U128(v))
     }
 
-    #[tactic(auto, using(crate::proofs::FloatTexts::plain_is_number))]
+    #[tactic(auto, using(crate::proofs::FloatTexts::plain_has_value))]
     fn f32(&mut self, v: f32) -> Result<(), WriteFault> {
         self.not_flat()?;
         if !v.is_finite() {
@@ -286,7 +283,7 @@ impl<'i> Serializer for JsonWriter<'i> {
     }
 
     #[inline(always)]
-    #[tactic(auto, using(crate::proofs::FloatTexts::plain_is_number))]
+    #[tactic(auto, using(crate::proofs::FloatTexts::plain_has_value))]
     fn f64(&mut self, v: f64) -> Result<(), WriteFault> {
         self.not_flat()?;
         if !v.is_finite() {
