@@ -2,7 +2,6 @@
 //! they should be, failed allocations change nothing else, and types of a user's own are read and written too.
 #![tactic(auto)]
 
-// Nothing stands here but tests.
 #[cfg(test)]
 mod accounts;
 #[cfg(test)]

@@ -5,8 +5,6 @@
 //! with their source, and reports. And all that with allocations that fail.
 #![tactic(auto)]
 
-// All modules are of tests; those whose names end with `allocations` try each request
-// for memory refused in turn, alone.
 #[cfg(test)]
 mod allocations;
 #[cfg(test)]
