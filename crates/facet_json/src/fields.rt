@@ -330,12 +330,12 @@ pub fn read_fields<'de, 't, F: Fields<'de>>(
     ensures read { IfOk result (λ f. IsRead (fields_of (table F.start (F.step borrows) F.ends) (keys names.now)) parser.old (F.view f) parser.new) }
     ensures owned { borrows ≡ false → IfOk result F.owned }
     ensures unread { IfErr result (λ e. IsUnread (fields_of (table F.start (F.step borrows) F.ends) (keys names.now)) parser.old (refusal_of e)) }
-    ensures keeps { KeepsOn parser.old parser.new }
-    ensures shorter { OnOk result (ahead parser.new < ahead parser.old) }
     ensures one_value { OnOk result (PassesValue parser.old parser.new) }
-    ensures within { IfErr result (λ e. RefusalWithin parser.new.buffer (refusal_of e)) }
-    ensures free { OnOk result (parser.new.cursor.refusal ≡ None) }
     ensures tells { IfErr result (λ e. TellsRefusal parser.old parser.new (refusal_of e)) }
+    ensures within { IfErr result (λ e. RefusalWithin parser.new.buffer (refusal_of e)) }
+    ensures keeps { KeepsOn parser.old parser.new }
+    ensures free { OnOk result (parser.new.cursor.refusal ≡ None) }
+    ensures shorter { OnOk result (ahead parser.new < ahead parser.old) }
 {
     begin_object(parser)?;
     let mut slots = F::none();

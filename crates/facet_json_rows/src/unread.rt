@@ -23,7 +23,7 @@ pub fn tell_parts(
     told: &mut String,
 ) -> Result<(), AllocError> {
     for _ in 0..=len {
-        tell_part(alloc, parser, call, is_peeked, len, told)?;
+        tell_part(alloc, call, is_peeked, parser, len, told)?;
         if !matches!(parser.next_event(), Ok(Some(_))) {
             return Ok(());
         }
@@ -34,9 +34,9 @@ pub fn tell_parts(
 /// What the call does where the parser stands, which stands there afterwards.
 fn tell_part(
     alloc: Global,
-    parser: &mut JsonParser<'_>,
     call: Unread,
     is_peeked: bool,
+    parser: &mut JsonParser<'_>,
     len: usize,
     told: &mut String,
 ) -> Result<(), AllocError> {
