@@ -31,8 +31,8 @@ static WRITTEN: [(&str, &str); 3] = [
 #[test]
 fn texts_are_read_and_written(rt: HostRuntime) {
     let alloc = rt.alloc();
-    for &(text, written) in &WRITTEN {
-        assert!(rt; is_written(alloc, text, written), "of {written}");
+    for row in &WRITTEN {
+        assert!(rt; is_written(alloc, row.0, row.1), "of {}", row.1);
     }
     assert!(rt; reads_text(alloc, "\"a\\u0062\\ud83d\\ude00\"", "ab\u{1f600}"));
 }

@@ -64,6 +64,10 @@ static ROWS: [(Sample, &str); 31] = [
         "unexpected end of input, expected value",
     ),
     (
+        Sample::Read(DeserializeErrorKind::InvalidUtf8),
+        "invalid UTF-8",
+    ),
+    (
         Sample::Read(DeserializeErrorKind::UnexpectedEof {
             expected: "in string",
         }),
@@ -75,10 +79,6 @@ static ROWS: [(Sample, &str); 31] = [
             expected: "value",
         }),
         "expected value, got 'Comma'",
-    ),
-    (
-        Sample::Read(DeserializeErrorKind::InvalidUtf8),
-        "invalid UTF-8",
     ),
     (
         Sample::Read(DeserializeErrorKind::InvalidValue {
