@@ -102,10 +102,11 @@ static REPEATED: [(&str, u8); 4] = [
 
 #[test]
 fn a_member_goes_to_the_field_of_its_name(rt: HostRuntime) {
+    let alloc = rt.alloc();
     for &(input, wanted) in &THREE {
-        assert!(rt; is_three(rt.alloc(), input, wanted), "of {input}");
+        assert!(rt; is_three(alloc, input, wanted), "of {input}");
     }
     for &(input, number) in &REPEATED {
-        assert!(rt; is_first_of_two(rt.alloc(), input, number), "of {input}");
+        assert!(rt; is_first_of_two(alloc, input, number), "of {input}");
     }
 }

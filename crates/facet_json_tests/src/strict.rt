@@ -28,22 +28,22 @@ fn is_tree(answer: Result<Tree, DeserializeError<'_>>, wanted: &Tree) -> bool {
 /// Whether the answer is this refusal.
 fn is_refusal(
     answer: Result<Tree, DeserializeError<'_>>,
-    kind: &DeserializeErrorKind<'_>,
     span: Span,
+    kind: &DeserializeErrorKind<'_>,
 ) -> bool {
     match answer {
         Ok(_) => false,
-        Err(error) => error.kind == *kind && error.span == Some(span),
+        Err(error) => error.span == Some(span) && error.kind == *kind,
     }
 }
 
 /// Whether strict mode refuses the bytes so, with no depth and within the greatest.
 fn refuses(alloc: Global, input: &[u8], kind: DeserializeErrorKind<'_>, span: Span) -> bool {
-    is_refusal(tree_from_slice_strict(alloc, input), &kind, span)
+    is_refusal(tree_from_slice_strict(alloc, input), span, &kind)
         && is_refusal(
             tree_from_slice_within_strict(alloc, input, usize::MAX),
-            &kind,
             span,
+            &kind,
         )
 }
 
@@ -93,7 +93,7 @@ fn refuses_within(
     offset: usize,
 ) -> bool {
     let answer = tree_from_slice_within_strict(alloc, input, depth);
-    is_refusal(answer, &kind, Span::new(offset, 1))
+    is_refusal(answer, Span::new(offset, 1), &kind)
 }
 
 #[test]

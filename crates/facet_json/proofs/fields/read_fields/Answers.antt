@@ -62,11 +62,11 @@ loop-slots-preserved g c =
 
 pub loop-slots-preserved-in_ok-put : goal.loop-slots-preserved-in_ok-put
 loop-slots-preserved-in_ok-put g c =
+    let member = c.in_ok-key.ensures.member in
+    let at_value = MatchOption-at_some _ _ c.in-Some.key c.in-Some.is member in
     let t = table g.F.Fields.start (g.F.Fields.step c.args.borrows) g.F.Fields.ends in
     let named = rw c.in-Some.is at c.in_ok-key.ensures.passed in
     let read = rw (c.as_str.ensures.value ∙ held-bytes c.in-Some.key) at c.in_ok-put.ensures.read in
-    let member = c.in_ok-key.ensures.member in
-    let at_value = MatchOption-at_some _ _ c.in-Some.key c.in-Some.is member in
     let inside = inside-member c.args.parser.now c.loop-slots.parser c.next_name.new.parser c.put.new.parser _ c.in-Some.key c.loop-slots.invariant.way.inside member c.in-Some.is c.put.ensures.keeps.input (c.in_ok-put.ensures.one_value at_value.1) in
     record {
       way = way-goes_on t (keys c.args.names.now) c.args.parser.now c.loop-slots.parser c.next_name.new.parser c.put.new.parser _ _ (bytes_of (text_of c.in-Some.key)) c.loop-slots.invariant.way named c.in_ok-key.ensures.onward read c.put.ensures.keeps inside;
@@ -97,16 +97,16 @@ returns-clause-one_value g c =
     let passed = MatchOption-at_none _ _ c.in_default.is c.in_ok-key.ensures.member _ c.loop-slots.invariant.way.inside in
     IfOk-weaker c.finish.result _ _ (λ f full. passed) c.finish.ensures.full
 
-pub returns-in_err-key-clause-tells : goal.returns-in_err-key-clause-tells
-returns-in_err-key-clause-tells g c =
-    let p = err_from_is_err_and c.from_residual-in_err-key.result c.from_residual-in_err-key.ensures.1 in
-    rw (p.1, p.2) (tells-later (keeps-there c.loop-slots.invariant.way.keeps) c.in_err-key.ensures.tells)
-
 pub returns-in_err-put-clause-tells : goal.returns-in_err-put-clause-tells
 returns-in_err-put-clause-tells g c =
     let p = err_from_is_err_and c.from_residual-in_err-put.result c.from_residual-in_err-put.ensures.1 in
     let came = comes-then (keeps-there c.loop-slots.invariant.way.keeps) (goes-there c.next_name.ensures.onward) in
     rw (p.1, p.2) (tells-later came c.in_err-put.ensures.tells)
+
+pub returns-in_err-key-clause-tells : goal.returns-in_err-key-clause-tells
+returns-in_err-key-clause-tells g c =
+    let p = err_from_is_err_and c.from_residual-in_err-key.result c.from_residual-in_err-key.ensures.1 in
+    rw (p.1, p.2) (tells-later (keeps-there c.loop-slots.invariant.way.keeps) c.in_err-key.ensures.tells)
 
 pub returns-clause-tells : goal.returns-clause-tells
 returns-clause-tells g c =

@@ -28,24 +28,24 @@ returns-then-is_named-clause-finds c =
     let named = rw c.in-Some.is at c.in_ok-key.ensures.passed in
     key-found (unescaped c.args.token.now) _ _ _ (bytes_of (text_of c.in-Some.key)) c.loop-key.invariant named (sym c.is_named.ensures ∙ c.if-is_named.true)
 
-pub returns-in_err-pass_value-clause-lacks : goal.returns-in_err-pass_value-clause-lacks
-returns-in_err-pass_value-clause-lacks c =
-    let p = err_from_is_err_and c.from_residual-in_err-pass_value.result c.from_residual-in_err-pass_value.ensures.1 in
-    let named = rw c.in-Some.is at c.in_ok-key.ensures.passed in
-    rw (p.1, p.2) (no-value (unescaped c.args.token.now) _ _ _ (bytes_of (text_of c.in-Some.key)) (refusal_of c.in_err-pass_value.field-0.0) c.loop-key.invariant named c.in_err-pass_value.ensures.unread)
-
 pub returns-in_err-pass_value-clause-tells : goal.returns-in_err-pass_value-clause-tells
 returns-in_err-pass_value-clause-tells c =
     let p = err_from_is_err_and c.from_residual-in_err-pass_value.result c.from_residual-in_err-pass_value.ensures.1 in
     let came = comes-then (keeps-there c.loop-key.invariant.keeps) (goes-there c.next_name.ensures.onward) in
     rw (p.1, p.2) (tells-later came c.in_err-pass_value.ensures.tells)
 
+pub returns-in_err-pass_value-clause-lacks : goal.returns-in_err-pass_value-clause-lacks
+returns-in_err-pass_value-clause-lacks c =
+    let p = err_from_is_err_and c.from_residual-in_err-pass_value.result c.from_residual-in_err-pass_value.ensures.1 in
+    let named = rw c.in-Some.is at c.in_ok-key.ensures.passed in
+    rw (p.1, p.2) (no-value (unescaped c.args.token.now) _ _ _ (bytes_of (text_of c.in-Some.key)) (refusal_of c.in_err-pass_value.field-0.0) c.loop-key.invariant named c.in_err-pass_value.ensures.unread)
+
 pub loop-key-preserved : goal.loop-key-preserved
 loop-key-preserved c =
+    let at_value = MatchOption-at_some _ _ c.in-Some.key c.in-Some.is c.in_ok-key.ensures.member in
     let named = rw c.in-Some.is at c.in_ok-key.ensures.passed in
     let next = rw c.in-Some.is at c.in_ok-key.ensures.next in
     let other = sym c.is_named.ensures ∙ c.if-is_named.false in
-    let at_value = MatchOption-at_some _ _ c.in-Some.key c.in-Some.is c.in_ok-key.ensures.member in
     let value = c.in_ok-pass_value.ensures in
     other-passed (unescaped c.args.token.now) _ _ _ _ (bytes_of (text_of c.in-Some.key)) c.loop-key.invariant named next other at_value c.in_ok-key.ensures.onward value.read value.keeps (value.one_value at_value.1)
 
