@@ -8,10 +8,10 @@ use facet_format::{
 use facet_json::scanner::Mode;
 use facet_json::steps::{FindError, begin_object, find_key, find_pointer};
 use facet_json::{
-    Done, FormatOptions, LineError, Lines, Need, format_text, from_slice, from_slice_borrowed,
-    from_slice_borrowed_jsonc, from_slice_jsonc, from_slice_prefix, from_slice_strict, from_str,
-    from_str_borrowed, from_str_borrowed_jsonc, from_str_jsonc, from_str_prefix, from_str_strict,
-    read_fields, to_vec, tree, write_fields,
+    Document, Done, FormatOptions, LineError, Lines, Need, format_text, from_slice,
+    from_slice_borrowed, from_slice_borrowed_jsonc, from_slice_jsonc, from_slice_prefix,
+    from_slice_strict, from_str, from_str_borrowed, from_str_borrowed_jsonc, from_str_jsonc,
+    from_str_prefix, from_str_strict, read_fields, to_vec, tree, write_fields,
 };
 use facet_json_core::RawJson;
 use facet_json_examples::accounts::Account;
@@ -898,4 +898,20 @@ fn lays_out(alloc: Global) -> Option<bool> {
 fn a_growth_is_refused_in_a_layout(rt: HostRuntime) {
     let first = lays_out(rt.alloc());
     assert!(rt; but_once(first, lays_out(rt.alloc())));
+}
+
+/// Whether a text with an escape, a container within another and a number past 64 bits is read into nodes, if memory suffices.
+fn is_in_nodes(alloc: Global) -> Option<bool> {
+    let text = "[{\"\\u0061\":18446744073709551616},\"\\n\"]";
+    match Document::parse(alloc, text.as_bytes()) {
+        Ok(document) => Some(document.root().len() == Some(2)),
+        Err(error) if error.kind == DeserializeErrorKind::OutOfMemory => None,
+        Err(_) => Some(false),
+    }
+}
+
+#[test]
+fn a_growth_is_refused_in_a_document(rt: HostRuntime) {
+    let first = is_in_nodes(rt.alloc());
+    assert!(rt; but_once(first, is_in_nodes(rt.alloc())));
 }
