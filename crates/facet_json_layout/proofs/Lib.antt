@@ -12,6 +12,7 @@ pub mod PieceShapes
 pub mod PieceSteps
 pub mod PiecesCut
 pub mod PiecesFound
+pub mod PointersSeen
 pub mod SameDocuments
 pub mod SameTokens
 pub mod SameTrees
