@@ -19,3 +19,4 @@ pub mod SameTrees
 pub mod Spaced
 pub mod TokenTexts
 pub mod TokensBehind
+pub mod TreesCopied
