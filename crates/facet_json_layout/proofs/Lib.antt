@@ -5,6 +5,7 @@ pub mod NodeTables
 pub mod NodesBuilt
 pub mod NodesRead
 pub mod NodesSeen
+pub mod NodesWithin
 pub mod OneDocuments
 pub mod PieceComments
 pub mod PieceRows

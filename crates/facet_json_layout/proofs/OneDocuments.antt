@@ -34,7 +34,7 @@ use Rattle.facet_json_layout.proofs.EventsUp.{last-append}
 
 -- ---- how events end
 
-stuck-same : (a b : List Passed) (place here : Place) (ts rest : Tokens) → events_before a (stuck place ts) ≡ events_before b (stuck here rest) →
+pub stuck-same : (a b : List Passed) (place here : Place) (ts rest : Tokens) → events_before a (stuck place ts) ≡ events_before b (stuck here rest) →
     (place ≡ here) × (ts ≡ rest)
 stuck-same [] [] place here ts rest e = (cc, cc)
 stuck-same [] (q ∷ b) place here ts rest e = cc
