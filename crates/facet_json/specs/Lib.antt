@@ -16,6 +16,7 @@ pub use Rattle.facet_json_token.specs.Decoded
 pub use Rattle.facet_json_tree.specs.Depth
 pub use Rattle.facet_json_document.specs.Document
 pub use Rattle.facet_json_document.specs.Laws as DocumentLaws
+pub use Rattle.facet_json_layout.specs.Nodes as DocumentNodes
 pub mod Documents
 pub use Rattle.facet_json_tree.specs.Edit
 pub use Rattle.facet_json_tree.specs.EditLaws

@@ -15,6 +15,10 @@ mod containers;
 #[cfg(test)]
 mod cuts;
 #[cfg(test)]
+mod document_depths;
+#[cfg(test)]
+mod document_pointers;
+#[cfg(test)]
 mod document_values;
 #[cfg(test)]
 mod driving;

@@ -6,6 +6,8 @@ use Rattle.facet_format.specs.Event.{Event, Passed}
 use Rattle.facet_format.specs.Span.{Span}
 use Rattle.facet_format.specs.Cursor.{next, Answer, event, Cursor, current_span, no_memory_at, repeats, passes, passes_without_memory, passes_the_end, passes_nothing}
 use Rattle.facet_json_document.specs.Future.{Future, gives, finished, stuck, events_before}
+use Rattle.facet_json_token.specs.Tokens.{Tokens}
+use Rattle.facet_json_document.specs.Place.{Place}
 use Rattle.facet_json_document.specs.Reader.{Reader}
 use Rattle.facet_json_document.specs.Refusal.{IsStuck}
 use Rattle.facet_json_document.specs.Now.{Now, RefusedAt, on_input, future_of, current_span_of}
@@ -56,22 +58,31 @@ end_stays now d answer is _ = cc
 end-stays : (old new : Now) → Moves old next (event (Ok None)) new → StaysAtEnd old new
 end-stays old new move = by_step (StaysAtEnd old) old new move (λ d step. end_stays old d _ refl step)
 
--- It was refused.
-stuck_there : (now : Now) (r : Refusal) (future : Future) → future_of now ≡ future → RefusedAt now.buffer future r → BreaksOff now r
-stuck_there now r (gives p future) e so = absurd so
-stuck_there now r finished e so = absurd so
-stuck_there now r (stuck place rest) e so = record { events = []; place = place; rest = rest; comes = e; so = so }
+-- Nothing goes on with what comes next, and it is refused so.
+pub record StopsHere (now : Now) (refusal : Refusal) : Type 0 where
+  pub place : Place
+  pub rest : Tokens
+  pub comes : future_of now ≡ stuck place rest
+  pub so : IsStuck now.buffer place rest refusal
+
+stops_there : (now : Now) (r : Refusal) (future : Future) → future_of now ≡ future → RefusedAt now.buffer future r → StopsHere now r
+stops_there now r (gives p future) e so = absurd so
+stops_there now r finished e so = absurd so
+stops_there now r (stuck place rest) e so = record { place = place; rest = rest; comes = e; so = so }
 
 refused_step : (now : Now) (d : Cursor Reader) (r : Refusal) (answer : Answer) → now.cursor.refusal ≡ None → answer ≡ event (Err r) →
-    StepOf now next answer d → LacksMemory r ⊎ BreaksOff now r
+    StepOf now next answer d → LacksMemory r ⊎ StopsHere now r
 refused_step now d r answer free is (repeats s call _ f a) = cc
 refused_step now d r answer free is (passes_without_memory p none up takes off) =
     let same : no_memory_at (current_span (on_input now.buffer now.language) now.cursor.spot) ≡ r = cc in
     inl (ap (λ (x : Refusal). x.complaint) (sym same))
 refused_step now d r answer free is (passes_nothing q none up so) =
     let same : q ≡ r = cc in
-    inr (rw (← same) (stuck_there now q (future_of now) refl so))
+    inr (rw (← same) (stops_there now q (future_of now) refl so))
 refused_step now d r answer free is _ = cc
+
+pub refused-next : (old new : Now) (r : Refusal) → old.cursor.refusal ≡ None → Moves old next (event (Err r)) new → LacksMemory r ⊎ StopsHere old r
+refused-next old new r free move = refused_step old new.cursor r _ free refl move.step
 
 -- ---- all calls
 
@@ -104,23 +115,22 @@ up-to_end old now new last some move told =
     }
 
 -- Or a refusal, after events that came.
-pub refused-later : (old now new : Now) (events : List Passed) (r : Refusal) → future_of old ≡ events_before events (future_of now) →
-    now.buffer ≡ old.buffer → now.cursor.refusal ≡ None → Moves now next (event (Err r)) new → LacksMemory r ⊎ BreaksOff old r
-refused-later old now new events r comes same free move = by (refused_step now new.cursor r _ free refl move.step)
-  where
-    by : LacksMemory r ⊎ BreaksOff now r → LacksMemory r ⊎ BreaksOff old r
-    by (inl lacks) = inl lacks
-    by (inr b) = inr (record {
-      events = events ++ b.events;
-      place = b.place;
-      rest = b.rest;
-      comes = comes ∙ ap (events_before events) b.comes ∙ sym (events_before-append events b.events (stuck b.place b.rest));
-      so = subst (λ l. IsStuck l b.place b.rest r) same b.so;
-    })
+pub stops-later : (old now : Now) (events : List Passed) (r : Refusal) → future_of old ≡ events_before events (future_of now) →
+    now.buffer ≡ old.buffer → StopsHere now r → BreaksOff old r
+stops-later old now events r comes same s = record {
+  events = events;
+  place = s.place;
+  rest = s.rest;
+  comes = comes ∙ ap (events_before events) s.comes;
+  so = subst (λ l. IsStuck l s.place s.rest r) same s.so;
+}
 
 pub refused-after : (old now new : Now) (r : Refusal) → PassesSome old now → now.buffer ≡ old.buffer → now.cursor.refusal ≡ None →
     Moves now next (event (Err r)) new → LacksMemory r ⊎ BreaksOff old r
-refused-after old now new r some same free move = refused-later old now new some.events r some.comes same free move
+refused-after old now new r some same free move = elim (refused-next now new r free move) [
+  | inl lacks ↦ inl lacks
+  | inr s ↦ inr (stops-later old now some.events r some.comes same s)
+]
 
 -- The call that tells whether there was an event changes neither the input nor a refusal.
 pub told-free : (some : Bool) (old new : Now) → Told some old new → new.cursor.refusal ≡ None

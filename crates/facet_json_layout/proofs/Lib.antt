@@ -5,6 +5,7 @@ pub mod NodeTables
 pub mod NodesBuilt
 pub mod NodesRead
 pub mod NodesSeen
+pub mod NodesWithin
 pub mod OneDocuments
 pub mod PieceComments
 pub mod PieceRows
@@ -12,9 +13,11 @@ pub mod PieceShapes
 pub mod PieceSteps
 pub mod PiecesCut
 pub mod PiecesFound
+pub mod PointersSeen
 pub mod SameDocuments
 pub mod SameTokens
 pub mod SameTrees
 pub mod Spaced
 pub mod TokenTexts
 pub mod TokensBehind
+pub mod TreesCopied

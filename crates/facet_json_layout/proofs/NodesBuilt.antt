@@ -10,7 +10,7 @@ use Rattle.facet_json_document.specs.Tree.{Tree, Trees, no_trees, tree, Pairs, n
 use Rattle.facet_json_document.specs.Tree as trees
 use Rattle.facet_json_document.proofs.WalkComes.{events_before-append, events_before-same}
 use Rattle.facet_json_layout.specs.Nodes.{Node, leaf, key, list, object, closing, nothing, inner, is_closing, items, members, value_of, values, value_at}
-use Rattle.facet_json_layout.specs.Inner.Building.{Nodes, added, all_added, also, ended_by, none_yet}
+use Rattle.facet_json_layout.specs.Inner.Building.{Nodes, added, all_added, also, begun, ended_by, none_yet}
 use Rattle.facet_json_layout.proofs.NodeTables.{items-first, members-first, values-past}
 
 -- ---- nodes after nodes
@@ -40,21 +40,20 @@ pub record BuildsValue (f : Future) (t : Tree) (rest : Future) : Type 0 where
   pub builds : (s : Nodes) → all_added events s ≡ after s (first ∷ own)
   pub tells : (more : List Node) → value_of first (values (own ++ more)) ≡ t
 
-record BuildsItems (f : Future) (ts : Trees) (rest : Future) : Type 0 where
+-- The events of what a container holds come, up to its end, and add these nodes to it.
+record BuildsHeld {X : Type 0} (container : ℕ → Node) (held : List (Node × Tree) → X) (f : Future) (x : X) (rest : Future) : Type 0 where
   events : List Passed
   comes : f ≡ events_before events rest
   own : List Node
   builds : (nodes : List Node) (start : ℕ) (others : List ℕ) →
-      all_added events (within nodes start others) ≡ ended_by list (nodes ++ own) (start ∷ others)
-  tells : (more : List Node) → items 0 (values (own ++ closing ∷ more)) ≡ ts
+      all_added events (within nodes start others) ≡ ended_by container (nodes ++ own) (start ∷ others)
+  tells : (more : List Node) → held (values (own ++ closing ∷ more)) ≡ x
 
-record BuildsMembers (f : Future) (ps : Pairs) (rest : Future) : Type 0 where
-  events : List Passed
-  comes : f ≡ events_before events rest
-  own : List Node
-  builds : (nodes : List Node) (start : ℕ) (others : List ℕ) →
-      all_added events (within nodes start others) ≡ ended_by object (nodes ++ own) (start ∷ others)
-  tells : (more : List Node) → members 0 (values (own ++ closing ∷ more)) ≡ ps
+abbrev BuildsItems : Future → Trees → Future → Type 0
+BuildsItems = BuildsHeld list (items 0)
+
+abbrev BuildsMembers : Future → Pairs → Future → Type 0
+BuildsMembers = BuildsHeld object (members 0)
 
 -- ---- containers
 
@@ -72,9 +71,28 @@ container-ends container s n own =
     ∙ ap (λ l. record { nodes = l ++ closing ∷ []; unclosed = s.unclosed }) put
     ∙ ap (λ l. record { nodes = l; unclosed = s.unclosed }) (append_assoc s.nodes (container (suc (length own)) ∷ own) (closing ∷ []))
 
--- What stands behind a container's end.
-behind_end : (own more : List Node) → (own ++ closing ∷ []) ++ more ≡ own ++ closing ∷ more
-behind_end own more = append_assoc own (closing ∷ []) more
+-- What a container's events build, from those of what it holds.
+module _ {X : Type 0} (container : ℕ → Node) (held : List (Node × Tree) → X) (whole : X → Tree)
+    (size : (n : ℕ) → inner (container n) ≡ n) (begins : (n : ℕ) → is_closing (container n) ≡ false)
+    (tells : (n : ℕ) (later : List (Node × Tree)) → value_of (container n) later ≡ whole (held later)) where
+  builds-container : {p : Passed} {f rest : Future} {x : X} → ((s : Nodes) → added p.event.kind s ≡ begun (container 0) s) →
+      BuildsHeld container held f x rest → BuildsValue (gives p f) (whole x) rest
+  builds-container {p = p} opens h = record {
+    events = p ∷ h.events;
+    comes = ap (gives p) h.comes;
+    first = container (suc (length h.own));
+    own = h.own ++ closing ∷ [];
+    size = size (suc (length h.own)) ∙ omega (arith, length-append h.own (closing ∷ []));
+    begins = begins (suc (length h.own));
+    builds = λ s. ap (all_added h.events) (opens s)
+        ∙ h.builds (s.nodes ++ container 0 ∷ []) (length s.nodes) s.unclosed ∙ container-ends container s (container 0) h.own;
+    tells = λ more. tells (suc (length h.own)) (values ((h.own ++ closing ∷ []) ++ more))
+        ∙ ap (λ l. whole (held (values l))) (append_assoc h.own (closing ∷ []) more) ∙ ap whole (h.tells more);
+  }
+
+-- Behind a value's own nodes the others are left.
+left-behind : {f rest : Future} {t : Tree} (v : BuildsValue f t rest) (left : List Node) → drop (inner v.first) (values (v.own ++ left)) ≡ values left
+left-behind v left = ap (λ n. drop n (values (v.own ++ left))) v.size ∙ values-past v.own left
 
 -- ---- all values
 
@@ -93,31 +111,9 @@ mutual
     tells = λ more. refl;
   }
   builds-value (a_list p inner rest kind ts k tells) =
-      let i = builds-items tells in
-      record {
-        events = p ∷ i.events;
-        comes = ap (gives p) i.comes;
-        first = list (suc (length i.own));
-        own = i.own ++ closing ∷ [];
-        size = omega (arith, length-append i.own (closing ∷ []));
-        begins = refl;
-        builds = λ s. ap (λ kind. all_added i.events (added kind s)) k
-            ∙ i.builds (s.nodes ++ list 0 ∷ []) (length s.nodes) s.unclosed ∙ container-ends list s (list 0) i.own;
-        tells = λ more. ap (λ l. trees.list (items 0 (values l))) (behind_end i.own more) ∙ ap trees.list (i.tells more);
-      }
+      builds-container list (items 0) trees.list (λ n. refl) (λ n. refl) (λ n later. refl) (λ s. ap (λ kind. added kind s) k) (builds-items tells)
   builds-value (an_object p inner rest kind ps k tells) =
-      let m = builds-members tells in
-      record {
-        events = p ∷ m.events;
-        comes = ap (gives p) m.comes;
-        first = object (suc (length m.own));
-        own = m.own ++ closing ∷ [];
-        size = omega (arith, length-append m.own (closing ∷ []));
-        begins = refl;
-        builds = λ s. ap (λ kind. all_added m.events (added kind s)) k
-            ∙ m.builds (s.nodes ++ object 0 ∷ []) (length s.nodes) s.unclosed ∙ container-ends object s (object 0) m.own;
-        tells = λ more. ap (λ l. trees.pairs (members 0 (values l))) (behind_end m.own more) ∙ ap trees.pairs (m.tells more);
-      }
+      builds-container object (members 0) trees.pairs (λ n. refl) (λ n. refl) (λ n later. refl) (λ s. ap (λ kind. added kind s) k) (builds-members tells)
 
   builds-items : {f rest : Future} {ts : Trees} → TellsItems f ts rest → BuildsItems f ts rest
   builds-items (no_item last rest k) = record {
@@ -141,11 +137,9 @@ mutual
             ∙ ap (λ l. ended_by list l (start ∷ around)) (append_assoc nodes (v.first ∷ v.own) i.own);
         tells = λ more.
             let left = i.own ++ closing ∷ more in
-            let past : drop (inner v.first) (values (v.own ++ left)) ≡ values left =
-            ap (λ n. drop n (values (v.own ++ left))) v.size ∙ values-past v.own left in
             ap (λ l. items 0 (values l)) (append_assoc (v.first ∷ v.own) i.own (closing ∷ more))
             ∙ items-first v.first (value_of v.first (values (v.own ++ left))) (values (v.own ++ left)) v.begins
-            ∙ ap₂ tree (v.tells left) (ap (items 0) past ∙ i.tells more);
+            ∙ ap₂ tree (v.tells left) (ap (items 0) (left-behind v left) ∙ i.tells more);
       }
 
   builds-members : {f rest : Future} {ps : Pairs} → TellsMembers f ps rest → BuildsMembers f ps rest
@@ -172,11 +166,9 @@ mutual
             ∙ ap (λ l. ended_by object l (start ∷ around)) (append_assoc (nodes ++ named ∷ []) (v.first ∷ v.own) m.own ∙ append_assoc nodes (named ∷ []) ((v.first ∷ v.own) ++ m.own));
         tells = λ more.
             let left = m.own ++ closing ∷ more in
-            let past : drop (inner v.first) (values (v.own ++ left)) ≡ values left =
-            ap (λ n. drop n (values (v.own ++ left))) v.size ∙ values-past v.own left in
             ap (λ l. members 0 (values (named ∷ l))) (append_assoc (v.first ∷ v.own) m.own (closing ∷ more))
             ∙ members-first (bytes_of name) nothing v.first (value_of v.first (values (v.own ++ left))) (values (v.own ++ left))
-            ∙ ap₂ (pair (bytes_of name)) (v.tells left) (ap (members 0) past ∙ m.tells more);
+            ∙ ap₂ (pair (bytes_of name)) (v.tells left) (ap (members 0) (left-behind v left) ∙ m.tells more);
       }
 
 -- Where the events of all of a value were added, it begins at the first node.

@@ -1,9 +1,9 @@
 -- The nodes of all events of an input are its document's.
 use Rattle.std.proofs.Common.{◌≡◌, ◌⊎◌, inl, inr, ℕ, Bool, true, false, List, [], ◌∷◌, ◌++◌, sym, ap, ◌∙◌, subst}
-use Rattle.std.specs.Prelude.{Some, None, Err}
+use Rattle.std.specs.Prelude.{Option, Some, None, Err}
 use Rattle.facet_format.specs.Complaint.{Refusal}
 use Rattle.facet_format.specs.Cursor.{event, next}
-use Rattle.facet_format.specs.Event.{Passed}
+use Rattle.facet_format.specs.Event.{Event, Passed}
 use Rattle.facet_json_token.specs.Gap.{Mode, plain}
 use Rattle.facet_json_core.specs.Reading.{LacksMemory}
 use Rattle.facet_json_core.proofs.WalkTells.{walk-tells}
@@ -13,6 +13,7 @@ use Rattle.facet_json_document.specs.Future.{finished, events_before}
 use Rattle.facet_json_document.specs.Language.{strict}
 use Rattle.facet_json_document.specs.Meaning.{tree_of}
 use Rattle.facet_json_document.specs.Move.{Moves}
+use Rattle.facet_json_document.specs.Next.{PassesNext}
 use Rattle.facet_json_document.specs.Node.{Node}
 use Rattle.facet_json_document.specs.Now.{Now, fresh, fresh_in, future_of}
 use Rattle.facet_json_document.specs.StrictDocument.{IsStrictDocument}
@@ -23,10 +24,12 @@ use Rattle.facet_json_document.proofs.LongestPrefix.{input-comes}
 use Rattle.facet_json_document.proofs.MovesNext.{next-passes, next-over}
 use Rattle.facet_json_document.proofs.StrictRoot.{no_end, strict_input-comes, strict_document-comes}
 use Rattle.facet_json_document.proofs.WalkComes.{document-comes, events_before-append}
-use Rattle.facet_json_layout.specs.Formatted.{BreaksOff}
+use Rattle.facet_json_layout.specs.Formatted.{BreaksOff, BreaksOffWithin, as_ever, opens_beyond}
 use Rattle.facet_json_layout.specs.Nodes.{Node as DocumentNode, value_at}
-use Rattle.facet_json_layout.specs.Inner.Building.{Nodes, added, none_yet, Adds, AddsSome, AddsAll}
-use Rattle.facet_json_layout.proofs.EventsUp.{refused-later}
+use Rattle.facet_json_layout.specs.Inner.Building.{Nodes, added, none_yet, Adds, AddsSome, AddsAll, Leaves, IsTooDeep, RefusesNext, stops, too_deep}
+use Rattle.facet_json_tree.specs.Inner.Beyond.{beyond, SameBeyond}
+use Rattle.facet_json_tree.proofs.BeyondEvents.{unlimited-none}
+use Rattle.facet_json_layout.proofs.EventsUp.{refused-next, stops-later}
 use Rattle.facet_json_layout.proofs.NodesBuilt.{added-append, built-tree}
 
 -- ---- one call
@@ -53,10 +56,39 @@ adds-all old now new was is some told =
     }
 
 -- Or a refusal.
-pub adds-refused : (old now new : Now) (was : Nodes) (r : Refusal) → AddsSome old now was → now.buffer ≡ old.buffer → now.cursor.refusal ≡ None →
-    LacksMemory r ⊎ Moves now next (event (Err r)) new → LacksMemory r ⊎ BreaksOff old r
-adds-refused old now new was r some same free (inl lacks) = inl lacks
-adds-refused old now new was r some same free (inr move) = refused-later old now new some.events r some.comes same free move
+pub adds-refused : (limit room : Option ℕ) (old now new : Now) (was : Nodes) (r : Refusal) → AddsSome old now was →
+    SameBeyond (future_of old) limit (future_of now) room → now.buffer ≡ old.buffer → now.cursor.refusal ≡ None →
+    LacksMemory r ⊎ RefusesNext room now new r → LacksMemory r ⊎ BreaksOffWithin limit old r
+adds-refused limit room old now new was r some level same free (inl lacks) = inl lacks
+adds-refused limit room old now new was r some level same free (inr (too_deep span found so)) = inr (opens_beyond span (level.same ∙ found) so)
+adds-refused limit room old now new was r some level same free (inr (stops move)) = elim (refused-next now new r free move) [
+  | inl lacks ↦ inl lacks
+  | inr s ↦ inr (as_ever (stops-later old now some.events r some.comes same s) (level.same ∙ ap (λ f. beyond f room) s.comes))
+]
+
+-- At the end no container was opened beyond the limit.
+pub adds-shallow : (limit room : Option ℕ) (old now new : Now) (was is : Nodes) → SameBeyond (future_of old) limit (future_of now) room →
+    Adds false now new was is → beyond (future_of old) limit ≡ None
+adds-shallow limit room old now new was is level told = level.same ∙ ap (λ f. beyond f room) (next-over now new told.0).over
+
+-- ---- one event within a depth
+
+pub leveled : (room left : Option ℕ) (old new : Now) (e : Event) → PassesNext old e new → Leaves room e.kind e.span left →
+    SameBeyond (future_of old) room (future_of new) left
+leveled room left old new e passed leaves =
+    record { same = ap (λ f. beyond f room) passed.comes ∙ leaves (beyond (future_of new)) }
+
+pub refused-deep : (room : Option ℕ) (old new : Now) (e : Event) (r : Refusal) → PassesNext old e new →
+    LacksMemory r ⊎ IsTooDeep room e.kind e.span r → LacksMemory r ⊎ RefusesNext room old new r
+refused-deep room old new e r passed (inl lacks) = inl lacks
+refused-deep room old new e r passed (inr deep) =
+    inr (too_deep e.span (ap (λ f. beyond f room) passed.comes ∙ deep.opens (beyond (future_of new))) deep.so)
+
+-- Without a limit none is too deep.
+pub unlimited : (now : Now) (r : Refusal) → LacksMemory r ⊎ BreaksOffWithin None now r → LacksMemory r ⊎ BreaksOff now r
+unlimited now r (inl lacks) = inl lacks
+unlimited now r (inr (as_ever b none)) = inr b
+unlimited now r (inr (opens_beyond span found so)) = let none = unlimited-none (future_of now) in cc
 
 -- The parser is not refused.
 pub adds-free : (some : Bool) (old new : Now) (was is : Nodes) → Adds some old new was is → new.cursor.refusal ≡ None

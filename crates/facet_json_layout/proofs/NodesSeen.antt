@@ -11,6 +11,7 @@ use Rattle.facet_format.specs.Views.{scalar_value_of}
 use Rattle.facet_format.specs.declared.event.ScalarValue.{ScalarValue}
 use Rattle.facet_json_core.specs.Told.{tree_of_scalar}
 use Rattle.facet_json_document.specs.Tree.{Tree, tree, no_trees, pair, no_pairs}
+use Rattle.facet_json_document.specs.Tree as trees
 use Rattle.facet_json_tree.specs.Content.{as_list, as_pairs}
 use Rattle.facet_json_tree.specs.Lookup.{item, item_at, member, last_member}
 use Rattle.facet_json_tree.specs.Same.{same_bytes}
@@ -64,32 +65,83 @@ pub leaf-told : (v : Value) (n : Node) (answer : Option (Bor ScalarValue)) → S
 leaf-told v n None s h = subst HoldsOthers (sym (value-stands v n s)) (not-leaf n (from v (suc v.index)) h)
 leaf-told v n (Some x) s h = value-stands v n s ∙ ap (λ m. value_of m (from v (suc v.index))) h
 
--- ---- items
+-- ---- what holds others
 
-scalar-item : (s : Scalar) (i : ℕ) → item i (unwrap_or (tree_of_scalar s) nothing) ≡ None
-scalar-item event.null i = refl
-scalar-item _ i = refl
+scalar-list : (s : Scalar) → as_list (unwrap_or (tree_of_scalar s) nothing) ≡ None
+scalar-list event.null = refl
+scalar-list _ = refl
 
--- Only a list has items.
-no_list-item : (n : RustNode) (later : List (Node × Tree)) (i : ℕ) → is_list (node_view n) ≡ false → item i (value_of (node_view n) later) ≡ None
-no_list-item (rust.Leaf s) later i e = scalar-item (scalar_value_of s) i
-no_list-item (rust.Key name) later i e = refl
-no_list-item (rust.List k) later i e = cc
-no_list-item (rust.Object k) later i e = refl
-no_list-item rust.End later i e = refl
+scalar-pairs : (s : Scalar) → as_pairs (unwrap_or (tree_of_scalar s) nothing) ≡ None
+scalar-pairs event.null = refl
+scalar-pairs _ = refl
 
+other-list : (n : RustNode) (later : List (Node × Tree)) → is_list (node_view n) ≡ false → as_list (value_of (node_view n) later) ≡ None
+other-list (rust.Leaf s) later e = scalar-list (scalar_value_of s)
+other-list (rust.Key name) later e = refl
+other-list (rust.List k) later e = cc
+other-list (rust.Object k) later e = refl
+other-list rust.End later e = refl
+
+other-pairs : (n : RustNode) (later : List (Node × Tree)) → is_object (node_view n) ≡ false → as_pairs (value_of (node_view n) later) ≡ None
+other-pairs (rust.Leaf s) later e = scalar-pairs (scalar_value_of s)
+other-pairs (rust.Key name) later e = refl
+other-pairs (rust.List k) later e = refl
+other-pairs (rust.Object k) later e = cc
+other-pairs rust.End later e = refl
+
+a-list : (n : Node) (later : List (Node × Tree)) → is_list n ≡ true → value_of n later ≡ trees.list (items 0 later)
+a-list (list k) later e = refl
+a-list (leaf t) later e = cc
+a-list (key name) later e = cc
+a-list (object k) later e = cc
+a-list closing later e = cc
+
+an-object : (n : Node) (later : List (Node × Tree)) → is_object n ≡ true → value_of n later ≡ trees.pairs (members 0 later)
+an-object (object k) later e = refl
+an-object (leaf t) later e = cc
+an-object (key name) later e = cc
+an-object (list k) later e = cc
+an-object closing later e = cc
+
+-- The value at a list's node is a list, at an object's an object, and at others neither.
+pub list-of : (v : Value) (n : Node) → Stands v v.index n → is_list n ≡ true → value_view v ≡ trees.list (items 0 (from v (suc v.index)))
+list-of v n s e = value-stands v n s ∙ a-list n (from v (suc v.index)) e
+
+pub object-of : (v : Value) (n : Node) → Stands v v.index n → is_object n ≡ true → value_view v ≡ trees.pairs (members 0 (from v (suc v.index)))
+object-of v n s e = value-stands v n s ∙ an-object n (from v (suc v.index)) e
+
+pub no-list : (v : Value) (n : RustNode) → Stands v v.index (node_view n) → is_list (node_view n) ≡ false → as_list (value_view v) ≡ None
+no-list v n s e = ap as_list (value-stands v (node_view n) s) ∙ other-list n (from v (suc v.index)) e
+
+pub no-pairs : (v : Value) (n : RustNode) → Stands v v.index (node_view n) → is_object (node_view n) ≡ false → as_pairs (value_view v) ≡ None
+no-pairs v n s e = ap as_pairs (value-stands v (node_view n) s) ∙ other-pairs n (from v (suc v.index)) e
+
+no_list-item : (t : Tree) (i : ℕ) → as_list t ≡ None → item i t ≡ None
+no_list-item (trees.list ts) i e = cc
+no_list-item _ i e = refl
+
+no_object-member : (t : Tree) (name : List ℕ) → as_pairs t ≡ None → member name t ≡ None
+no_object-member (trees.pairs ps) name e = cc
+no_object-member _ name e = refl
+
+neither-len : (t : Tree) → as_list t ≡ None → as_pairs t ≡ None → len t ≡ None
+neither-len (trees.list ts) e f = cc
+neither-len (trees.pairs ps) e f = cc
+neither-len _ e f = refl
+
+-- Only a list has items, only an object members, and no other value a number of them.
 pub no-items : (v : Value) (n : RustNode) (i : ℕ) → Stands v v.index (node_view n) → is_list (node_view n) ≡ false → item i (value_view v) ≡ None
-no-items v n i s e = ap (item i) (value-stands v (node_view n) s) ∙ no_list-item n (from v (suc v.index)) i e
+no-items v n i s e = no_list-item (value_view v) i (no-list v n s e)
 
-list-item : (n : Node) (later : List (Node × Tree)) (i : ℕ) → is_list n ≡ true → item i (value_of n later) ≡ item_at i (items 0 later)
-list-item (list k) later i e = refl
-list-item (leaf t) later i e = cc
-list-item (key name) later i e = cc
-list-item (object k) later i e = cc
-list-item closing later i e = cc
+pub no-members : (v : Value) (n : RustNode) (name : List ℕ) → Stands v v.index (node_view n) → is_object (node_view n) ≡ false →
+    member name (value_view v) ≡ None
+no-members v n name s e = no_object-member (value_view v) name (no-pairs v n s e)
 
-pub items-are : (v : Value) (n : Node) (i : ℕ) → Stands v v.index n → is_list n ≡ true → item i (value_view v) ≡ item_at i (items 0 (from v (suc v.index)))
-items-are v n i s e = ap (item i) (value-stands v n s) ∙ list-item n (from v (suc v.index)) i e
+pub no-len : (v : Value) (n : RustNode) → Stands v v.index (node_view n) → is_list (node_view n) ≡ false → is_object (node_view n) ≡ false →
+    len (value_view v) ≡ None
+no-len v n s e f = neither-len (value_view v) (no-list v n s e) (no-pairs v n s f)
+
+-- ---- items
 
 -- Where no end stands, an item begins.
 pub item-begins : (v w : Value) (at : ℕ) (n : Node) → Stands v at n → is_closing n ≡ false → w.nodes.now ≡ v.nodes.now → w.index ≡ at →
@@ -135,35 +187,6 @@ past-end v at k h =
 
 -- ---- members
 
-scalar-member : (s : Scalar) (name : List ℕ) → member name (unwrap_or (tree_of_scalar s) nothing) ≡ None
-scalar-member event.null name = refl
-scalar-member _ name = refl
-
-no_object-member : (n : RustNode) (later : List (Node × Tree)) (name : List ℕ) → is_object (node_view n) ≡ false →
-    member name (value_of (node_view n) later) ≡ None
-no_object-member (rust.Leaf s) later name e = scalar-member (scalar_value_of s) name
-no_object-member (rust.Key k) later name e = refl
-no_object-member (rust.List k) later name e = refl
-no_object-member (rust.Object k) later name e = cc
-no_object-member rust.End later name e = refl
-
--- Only an object has members.
-pub no-members : (v : Value) (n : RustNode) (name : List ℕ) → Stands v v.index (node_view n) → is_object (node_view n) ≡ false →
-    member name (value_view v) ≡ None
-no-members v n name s e = ap (member name) (value-stands v (node_view n) s) ∙ no_object-member n (from v (suc v.index)) name e
-
-object-member : (n : Node) (later : List (Node × Tree)) (name : List ℕ) → is_object n ≡ true →
-    member name (value_of n later) ≡ last_member name (members 0 later)
-object-member (object k) later name e = refl
-object-member (leaf t) later name e = cc
-object-member (key other) later name e = cc
-object-member (list k) later name e = cc
-object-member closing later name e = cc
-
-pub members-are : (v : Value) (n : Node) (name : List ℕ) → Stands v v.index n → is_object n ≡ true →
-    member name (value_view v) ≡ last_member name (members 0 (from v (suc v.index)))
-members-are v n name s e = ap (member name) (value-stands v n s) ∙ object-member n (from v (suc v.index)) name e
-
 -- A key and a value behind it are a member.
 pub member-stands : (v : Value) (at behind to : ℕ) (m n : Node) (name : List ℕ) → Stands v at m → m ≡ key name → behind ≡ suc at → Stands v behind n →
     from v to ≡ drop (inner n) (from v (suc behind)) → behind < to → to ≤ length v.nodes.now → IsMember v at name to
@@ -203,45 +226,6 @@ member-found v w at behind to name wanted last before e m same nodes index b =
     ∙ named (same_bytes name wanted) (last_member wanted (members 0 (from v to))) t before same
     ∙ ap (λ x. option_or (last_member wanted (members 0 (from v to))) (Some x)) (sym view)
 
--- ---- how many
-
-list-len : (n : Node) (later : List (Node × Tree)) → is_list n ≡ true → len (value_of n later) ≡ Some (trees_len (items 0 later))
-list-len (list k) later e = refl
-list-len (leaf t) later e = cc
-list-len (key name) later e = cc
-list-len (object k) later e = cc
-list-len closing later e = cc
-
-object-len : (n : Node) (later : List (Node × Tree)) → is_object n ≡ true → len (value_of n later) ≡ Some (pairs_len (members 0 later))
-object-len (object k) later e = refl
-object-len (leaf t) later e = cc
-object-len (key name) later e = cc
-object-len (list k) later e = cc
-object-len closing later e = cc
-
-scalar-len : (s : Scalar) → len (unwrap_or (tree_of_scalar s) nothing) ≡ None
-scalar-len event.null = refl
-scalar-len _ = refl
-
-other-len : (n : RustNode) (later : List (Node × Tree)) → is_list (node_view n) ≡ false → is_object (node_view n) ≡ false →
-    len (value_of (node_view n) later) ≡ None
-other-len (rust.Leaf s) later e f = scalar-len (scalar_value_of s)
-other-len (rust.Key name) later e f = refl
-other-len (rust.List k) later e f = cc
-other-len (rust.Object k) later e f = cc
-other-len rust.End later e f = refl
-
-pub len-of_list : (v : Value) (n : Node) → Stands v v.index n → is_list n ≡ true → len (value_view v) ≡ Some (trees_len (items 0 (from v (suc v.index))))
-len-of_list v n s e = ap len (value-stands v n s) ∙ list-len n (from v (suc v.index)) e
-
-pub len-of_object : (v : Value) (n : Node) → Stands v v.index n → is_object n ≡ true →
-    len (value_view v) ≡ Some (pairs_len (members 0 (from v (suc v.index))))
-len-of_object v n s e = ap len (value-stands v n s) ∙ object-len n (from v (suc v.index)) e
-
-pub no-len : (v : Value) (n : RustNode) → Stands v v.index (node_view n) → is_list (node_view n) ≡ false → is_object (node_view n) ≡ false →
-    len (value_view v) ≡ None
-no-len v n s e f = ap len (value-stands v (node_view n) s) ∙ other-len n (from v (suc v.index)) e f
-
 -- ---- one after another
 
 -- What is left of the items.
@@ -264,51 +248,3 @@ items-from v w at nodes is b = ap₂ (λ l k. trees_list (items 0 (drop k (value
 pub members-from : (v : Value) (w : Members) (at : ℕ) → w.nodes.now ≡ v.nodes.now → w.at ≡ at → at ≡ suc v.index →
     held_members w ≡ pairs_list (members 0 (from v (suc v.index)))
 members-from v w at nodes is b = ap₂ (λ l k. pairs_list (members 0 (drop k (values (nodes_view l))))) nodes (is ∙ b)
-
-list-held : (n : Node) (later : List (Node × Tree)) → is_list n ≡ true → as_list (value_of n later) ≡ Some (items 0 later)
-list-held (list k) later e = refl
-list-held (leaf t) later e = cc
-list-held (key name) later e = cc
-list-held (object k) later e = cc
-list-held closing later e = cc
-
-scalar-list : (s : Scalar) → as_list (unwrap_or (tree_of_scalar s) nothing) ≡ None
-scalar-list event.null = refl
-scalar-list _ = refl
-
-other-list : (n : RustNode) (later : List (Node × Tree)) → is_list (node_view n) ≡ false → as_list (value_of (node_view n) later) ≡ None
-other-list (rust.Leaf s) later e = scalar-list (scalar_value_of s)
-other-list (rust.Key name) later e = refl
-other-list (rust.List k) later e = cc
-other-list (rust.Object k) later e = refl
-other-list rust.End later e = refl
-
-pub list-of : (v : Value) (n : Node) → Stands v v.index n → is_list n ≡ true → as_list (value_view v) ≡ Some (items 0 (from v (suc v.index)))
-list-of v n s e = ap as_list (value-stands v n s) ∙ list-held n (from v (suc v.index)) e
-
-pub no-list : (v : Value) (n : RustNode) → Stands v v.index (node_view n) → is_list (node_view n) ≡ false → as_list (value_view v) ≡ None
-no-list v n s e = ap as_list (value-stands v (node_view n) s) ∙ other-list n (from v (suc v.index)) e
-
-object-held : (n : Node) (later : List (Node × Tree)) → is_object n ≡ true → as_pairs (value_of n later) ≡ Some (members 0 later)
-object-held (object k) later e = refl
-object-held (leaf t) later e = cc
-object-held (key name) later e = cc
-object-held (list k) later e = cc
-object-held closing later e = cc
-
-scalar-pairs : (s : Scalar) → as_pairs (unwrap_or (tree_of_scalar s) nothing) ≡ None
-scalar-pairs event.null = refl
-scalar-pairs _ = refl
-
-other-pairs : (n : RustNode) (later : List (Node × Tree)) → is_object (node_view n) ≡ false → as_pairs (value_of (node_view n) later) ≡ None
-other-pairs (rust.Leaf s) later e = scalar-pairs (scalar_value_of s)
-other-pairs (rust.Key name) later e = refl
-other-pairs (rust.List k) later e = refl
-other-pairs (rust.Object k) later e = cc
-other-pairs rust.End later e = refl
-
-pub pairs-of : (v : Value) (n : Node) → Stands v v.index n → is_object n ≡ true → as_pairs (value_view v) ≡ Some (members 0 (from v (suc v.index)))
-pairs-of v n s e = ap as_pairs (value-stands v n s) ∙ object-held n (from v (suc v.index)) e
-
-pub no-pairs : (v : Value) (n : RustNode) → Stands v v.index (node_view n) → is_object (node_view n) ≡ false → as_pairs (value_view v) ≡ None
-no-pairs v n s e = ap as_pairs (value-stands v (node_view n) s) ∙ other-pairs n (from v (suc v.index)) e

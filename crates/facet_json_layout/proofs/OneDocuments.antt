@@ -9,7 +9,7 @@ use Rattle.facet_json_token.specs.Tokens.{Tokens, ended}
 use Rattle.facet_json_token.specs.TokenList.{tokens, tokens_from}
 use Rattle.facet_json_document.specs.Document.{Reads}
 use Rattle.facet_json_document.specs.EventLaws.{RootComes, document_comes, prefix_comes}
-use Rattle.facet_json_document.specs.Future.{finished, stuck, events_before}
+use Rattle.facet_json_document.specs.Future.{stuck, events_before}
 use Rattle.facet_json_document.specs.Language.{strict}
 use Rattle.facet_json_document.specs.Node.{Node, scalar, array, object}
 use Rattle.facet_json_document.specs.Now.{fresh, fresh_in}
@@ -34,7 +34,7 @@ use Rattle.facet_json_layout.proofs.EventsUp.{last-append}
 
 -- ---- how events end
 
-stuck-same : (a b : List Passed) (place here : Place) (ts rest : Tokens) → events_before a (stuck place ts) ≡ events_before b (stuck here rest) →
+pub stuck-same : (a b : List Passed) (place here : Place) (ts rest : Tokens) → events_before a (stuck place ts) ≡ events_before b (stuck here rest) →
     (place ≡ here) × (ts ≡ rest)
 stuck-same [] [] place here ts rest e = (cc, cc)
 stuck-same [] (q ∷ b) place here ts rest e = cc

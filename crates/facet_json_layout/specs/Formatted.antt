@@ -1,7 +1,8 @@
 -- Which texts are formatted, and how the others are refused.
-use Rattle.std.specs.Prelude.{◌≡◌, ◌≢◌, ◌⊎◌, ℕ, List}
+use Rattle.std.specs.Prelude.{◌≡◌, ◌≢◌, ◌⊎◌, ℕ, List, Option, Some, None}
 use Rattle.facet_format.specs.Complaint.{Refusal}
 use Rattle.facet_format.specs.Event.{Passed}
+use Rattle.facet_format.specs.Span.{Span}
 use Rattle.facet_json_token.specs.Gap.{Mode, plain}
 use Rattle.facet_json_token.specs.Tokens.{Tokens, ended}
 use Rattle.facet_json_token.specs.TokenList.{tokens}
@@ -14,6 +15,8 @@ use Rattle.facet_json_document.specs.Place.{Place, after_root}
 use Rattle.facet_json_document.specs.PrefixRefusal.{Refuses, IsStuck}
 use Rattle.facet_json_document.specs.Tree.{Tree}
 use Rattle.facet_json_core.specs.Reading.{LacksMemory}
+use Rattle.facet_json_tree.specs.Depth.{too_deep_at}
+use Rattle.facet_json_tree.specs.Inner.Beyond.{beyond}
 
 -- The text begins with a document.
 abbrev pub HasDocument : List ℕ → Mode → Type 0
@@ -52,3 +55,8 @@ pub record BreaksOff (now : Now) (refusal : Refusal) : Type 0 where
 -- Memory ran out, or RFC 8259 has no such text, and it is refused so.
 abbrev pub LacksOrBreaksOff : List ℕ → Refusal → Type 0
 LacksOrBreaksOff text refusal = LacksMemory refusal ⊎ BreaksOff (fresh_in text (strict plain)) refusal
+
+-- After some events nothing goes on with what comes, and none of them opens a container beyond the limit; or one does. It is refused so.
+pub data BreaksOffWithin (limit : Option ℕ) (now : Now) (refusal : Refusal) : Type 0 where
+  as_ever : BreaksOff now refusal → beyond (future_of now) limit ≡ None → BreaksOffWithin limit now refusal
+  opens_beyond : (span : Span) → beyond (future_of now) limit ≡ Some span → refusal ≡ too_deep_at span → BreaksOffWithin limit now refusal

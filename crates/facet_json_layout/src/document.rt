@@ -1,15 +1,22 @@
 //! An input read into one list of nodes, made in one pass and without recursion.
 
+ghost use Rattle.facet_format.specs.Span.{Span};
 ghost use Rattle.facet_format.specs.Views.{refusal_of};
 ghost use Rattle.facet_json_token.specs.Gap.{jsonc, plain};
-ghost use Rattle.facet_json_layout.specs.Nodes.{document_view, value_view};
+ghost use Rattle.facet_json_token.specs.Views.{mode_of};
+ghost use Rattle.facet_json_document.specs.Language.{strict};
+ghost use Rattle.facet_json_document.specs.Now.{fresh, fresh_in, future_of};
+ghost use Rattle.facet_json_layout.specs.Inner.Building.{AddsAll};
+ghost use Rattle.facet_json_layout.specs.Nodes.{document_view, nodes_view, value_view};
 ghost use Rattle.facet_json_document.specs.Document.{IsDocument};
 ghost use Rattle.facet_json_document.specs.Node.{Node as Root};
 ghost use Rattle.facet_json_document.specs.PrefixRefusal.{Refuses};
-ghost use Rattle.std.specs.Prelude.{◌≡◌, ◌⊎◌, IfOk, IfErr, MatchResult};
+ghost use Rattle.std.specs.Prelude.{◌≡◌, ◌≤◌, ◌⊎◌, None, Some, IfOk, IfErr, OnOk, MatchResult};
 ghost use Rattle.facet_json_document.specs.StrictDocument.{IsStrictDocument};
 ghost use Rattle.facet_json_document.specs.Tree.{Tree};
-ghost use Rattle.facet_json_layout.specs.Formatted.{LacksOrBreaksOff};
+ghost use Rattle.facet_json_layout.specs.Formatted.{BreaksOffWithin, LacksOrBreaksOff};
+ghost use Rattle.facet_json_tree.specs.Depth.{depth_of, first_beyond, too_deep_at, RefusesWithin};
+ghost use Rattle.facet_json_tree.specs.Inner.Beyond.{beyond};
 ghost use Rattle.facet_json_document.specs.UnreadLaws.{RefusalWithin};
 ghost use Rattle.facet_json_core.specs.Reading.{LacksMemory};
 
@@ -21,6 +28,7 @@ mod value;
 use build::build;
 use facet_format::DeserializeError;
 use facet_json_parser::JsonParser;
+use facet_json_token::Mode;
 pub use held::{Items, Members};
 use node::Node;
 pub use node::ValueKind;
@@ -53,8 +61,9 @@ impl<'i> Document<'i> {
             → MatchResult result (λ d. document_view d ≡ value) (λ e. LacksMemory (refusal_of e)) }
         ensures within { IfErr result (λ e. RefusalWithin input.now (refusal_of e)) }
     {
-        let nodes = build(alloc, &mut JsonParser::new(alloc, input))?;
-        Ok(Document { nodes })
+        Ok(Document {
+            nodes: lenient_nodes(alloc, input, Mode::Plain, None)?,
+        })
     }
 
     /// Reads as `parse`, where comments may stand wherever white space may.
@@ -76,8 +85,9 @@ impl<'i> Document<'i> {
             → MatchResult result (λ d. document_view d ≡ value) (λ e. LacksMemory (refusal_of e)) }
         ensures within { IfErr result (λ e. RefusalWithin input.now (refusal_of e)) }
     {
-        let nodes = build(alloc, &mut JsonParser::new_jsonc(alloc, input))?;
-        Ok(Document { nodes })
+        Ok(Document {
+            nodes: lenient_nodes(alloc, input, Mode::Jsonc, None)?,
+        })
     }
 
     /// Reads one text of RFC 8259, with white space alone around it, as `tree_from_slice_strict` does.
@@ -100,8 +110,95 @@ impl<'i> Document<'i> {
             → MatchResult result (λ d. document_view d ≡ value) (λ e. LacksMemory (refusal_of e)) }
         ensures within { IfErr result (λ e. RefusalWithin input.now (refusal_of e)) }
     {
-        let nodes = build(alloc, &mut JsonParser::new_strict(alloc, input))?;
-        Ok(Document { nodes })
+        Ok(Document {
+            nodes: strict_nodes(alloc, input, None)?,
+        })
+    }
+
+    /// Reads as `parse`, where the document nests no deeper than `depth`, as `tree_from_slice_within` does: an array or object counts one, and one
+    /// within it counts one more (RFC 8259, section 9, lets a reader limit their depth). A scalar has depth 0. Reading does not recurse; a caller that
+    /// goes down into the values by recursion, or takes their tree, is bounded so.
+    ///
+    /// ```text
+    /// Document::parse_within(alloc, b"[[1]]", 2)    Ok: its root is a list of a list
+    /// Document::parse_within(alloc, b"[[1]]", 1)    Err: InvalidValue { message: "nested too deeply" }, span 1+1
+    /// ```
+    ///
+    /// # Errors
+    ///
+    /// As `parse`; and at the first opening bracket with `depth` containers around it already, whatever stands after it: `InvalidValue`, its span the
+    /// bracket's offset and length in bytes.
+    pub fn parse_within<'t>(
+        alloc: Global,
+        input: &'i [u8],
+        depth: usize,
+    ) -> Result<Document<'i>, DeserializeError<'t>>
+        ensures document { IfOk result (λ d. (root : Root) × IsDocument input.now plain root (document_view d) × (depth_of root ≤ depth)) }
+        ensures only { (root : Root) (value : Tree) → IsDocument input.now plain root value → depth_of root ≤ depth
+            → MatchResult result (λ d. document_view d ≡ value) (λ e. LacksMemory (refusal_of e)) }
+        ensures deeper { (root : Root) (value : Tree) (s : Span) → IsDocument input.now plain root value → first_beyond depth root ≡ Some s
+            → MatchResult result (λ _. ⊥) (λ e. LacksMemory (refusal_of e) ⊎ (refusal_of e ≡ too_deep_at s)) }
+        ensures refused { IfErr result (λ e. LacksMemory (refusal_of e) ⊎ RefusesWithin input.now plain depth (refusal_of e)) }
+        ensures within { IfErr result (λ e. RefusalWithin input.now (refusal_of e)) }
+    {
+        Ok(Document {
+            nodes: lenient_nodes(alloc, input, Mode::Plain, Some(depth))?,
+        })
+    }
+
+    /// Reads as `parse_jsonc`, where the document nests no deeper than `depth`, which counts as in `parse_within`. A bracket within a comment counts
+    /// nothing.
+    ///
+    /// ```text
+    /// Document::parse_within_jsonc(alloc, b"[/* [[ */ 1]", 1)    Ok: its root is a list of 1
+    /// ```
+    ///
+    /// # Errors
+    ///
+    /// As `parse_within`, and as `parse_jsonc`.
+    pub fn parse_within_jsonc<'t>(
+        alloc: Global,
+        input: &'i [u8],
+        depth: usize,
+    ) -> Result<Document<'i>, DeserializeError<'t>>
+        ensures document { IfOk result (λ d. (root : Root) × IsDocument input.now jsonc root (document_view d) × (depth_of root ≤ depth)) }
+        ensures only { (root : Root) (value : Tree) → IsDocument input.now jsonc root value → depth_of root ≤ depth
+            → MatchResult result (λ d. document_view d ≡ value) (λ e. LacksMemory (refusal_of e)) }
+        ensures deeper { (root : Root) (value : Tree) (s : Span) → IsDocument input.now jsonc root value → first_beyond depth root ≡ Some s
+            → MatchResult result (λ _. ⊥) (λ e. LacksMemory (refusal_of e) ⊎ (refusal_of e ≡ too_deep_at s)) }
+        ensures refused { IfErr result (λ e. LacksMemory (refusal_of e) ⊎ RefusesWithin input.now jsonc depth (refusal_of e)) }
+        ensures within { IfErr result (λ e. RefusalWithin input.now (refusal_of e)) }
+    {
+        Ok(Document {
+            nodes: lenient_nodes(alloc, input, Mode::Jsonc, Some(depth))?,
+        })
+    }
+
+    /// Reads as `parse_strict`, where the text nests no deeper than `depth`, which counts as in `parse_within`.
+    ///
+    /// ```text
+    /// Document::parse_within_strict(alloc, b"[[1]]", 1)    Err: InvalidValue { message: "nested too deeply" }, span 1+1
+    /// ```
+    ///
+    /// # Errors
+    ///
+    /// As `parse_strict`; and at the first opening bracket beyond the depth, as `parse_within`.
+    pub fn parse_within_strict<'t>(
+        alloc: Global,
+        input: &'i [u8],
+        depth: usize,
+    ) -> Result<Document<'i>, DeserializeError<'t>>
+        ensures document { IfOk result (λ d. (root : Root) × IsStrictDocument input.now root (document_view d) × (depth_of root ≤ depth)) }
+        ensures only { (root : Root) (value : Tree) → IsStrictDocument input.now root value → depth_of root ≤ depth
+            → MatchResult result (λ d. document_view d ≡ value) (λ e. LacksMemory (refusal_of e)) }
+        ensures deeper { (root : Root) (value : Tree) (s : Span) → IsStrictDocument input.now root value → first_beyond depth root ≡ Some s
+            → MatchResult result (λ _. ⊥) (λ e. LacksMemory (refusal_of e) ⊎ (refusal_of e ≡ too_deep_at s)) }
+        ensures refused { IfErr result (λ e. LacksMemory (refusal_of e) ⊎ BreaksOffWithin (Some depth) (fresh_in input.now (strict plain)) (refusal_of e)) }
+        ensures within { IfErr result (λ e. RefusalWithin input.now (refusal_of e)) }
+    {
+        Ok(Document {
+            nodes: strict_nodes(alloc, input, Some(depth))?,
+        })
     }
 
     /// The document's value.
@@ -114,4 +211,36 @@ impl<'i> Document<'i> {
     {
         Value::at(self.nodes.as_slice(), 0)
     }
+}
+
+/// The nodes of the lenient document that the bytes begin with, which nests no deeper, where there is a limit.
+fn lenient_nodes<'i, 't>(
+    alloc: Global,
+    input: &'i [u8],
+    mode: Mode,
+    depth: Option<usize>,
+) -> Result<Vec<Node<'i>>, DeserializeError<'t>>
+    ensures nodes { IfOk result (λ v. AddsAll (fresh input.now (mode_of mode)) (nodes_view v.items)) }
+    ensures shallow { OnOk result (beyond (future_of (fresh input.now (mode_of mode))) depth ≡ None) }
+    ensures refused { IfErr result (λ e. LacksMemory (refusal_of e) ⊎ BreaksOffWithin depth (fresh input.now (mode_of mode)) (refusal_of e)) }
+    ensures within { IfErr result (λ e. RefusalWithin input.now (refusal_of e)) }
+{
+    match mode {
+        Mode::Plain => build(alloc, &mut JsonParser::new(alloc, input), depth),
+        Mode::Jsonc => build(alloc, &mut JsonParser::new_jsonc(alloc, input), depth),
+    }
+}
+
+/// The nodes of the text of RFC 8259 that the bytes are, likewise.
+fn strict_nodes<'i, 't>(
+    alloc: Global,
+    input: &'i [u8],
+    depth: Option<usize>,
+) -> Result<Vec<Node<'i>>, DeserializeError<'t>>
+    ensures nodes { IfOk result (λ v. AddsAll (fresh_in input.now (strict plain)) (nodes_view v.items)) }
+    ensures shallow { OnOk result (beyond (future_of (fresh_in input.now (strict plain))) depth ≡ None) }
+    ensures refused { IfErr result (λ e. LacksMemory (refusal_of e) ⊎ BreaksOffWithin depth (fresh_in input.now (strict plain)) (refusal_of e)) }
+    ensures within { IfErr result (λ e. RefusalWithin input.now (refusal_of e)) }
+{
+    build(alloc, &mut JsonParser::new_strict(alloc, input), depth)
 }

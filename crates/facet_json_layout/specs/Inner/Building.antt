@@ -1,12 +1,16 @@
 -- How nodes are made of events.
-use Rattle.std.specs.Prelude.{◌≡◌, ℕ, ◌-◌, Bool, true, false, Some, None, Ok, List, [], ◌∷◌, ◌++◌, length, set, reverse}
+use Rattle.std.specs.Prelude.{◌≡◌, ℕ, ◌-◌, Bool, true, false, Option, Some, None, Ok, Err, List, [], ◌∷◌, ◌++◌, length, set, reverse}
 use Rattle.std.specs.Option.{unwrap_or}
+use Rattle.facet_format.specs.Complaint.{Refusal}
 use Rattle.facet_format.specs.Cursor.{event, next}
 use Rattle.facet_format.specs.Event.{Event, EventKind, struct_start, struct_end, sequence_start, sequence_end, field_key, scalar, bytes_of, Passed}
+use Rattle.facet_format.specs.Span.{Span}
 use Rattle.facet_json_core.specs.Told.{tree_of_scalar}
 use Rattle.facet_json_document.specs.Future.{finished, events_before}
 use Rattle.facet_json_document.specs.Move.{Moves}
 use Rattle.facet_json_document.specs.Now.{Now, future_of}
+use Rattle.facet_json_tree.specs.Depth.{beyond_event, too_deep_at}
+use Rattle.facet_json_tree.specs.Inner.Beyond.{beyond}
 use Rattle.facet_json_layout.specs.Nodes.{Node, leaf, key, list, object, closing, nothing, nodes_view}
 use Rattle.facet_format.specs.declared.event.ContainerKind.{ContainerKind as RustContainerKind}
 use Rattle.facet_format.specs.declared.event.ContainerKind.TheVariants as rust
@@ -77,3 +81,19 @@ pub record AddsAll (old : Now) (nodes : List Node) : Type 0 where
   pub events : List Passed
   pub comes : future_of old ≡ events_before events finished
   pub made : nodes ≡ (all_added events none_yet).nodes
+
+-- ---- within a depth
+
+-- Where so many containers may be opened before the event, so many may be opened after it.
+abbrev pub Leaves : Option ℕ → EventKind → Span → Option ℕ → Type 0
+Leaves room kind span left = (others : Option ℕ → Option Span) → beyond_event kind span others room ≡ others left
+
+-- The event opens a container where no more may be opened, and is refused for that.
+pub record IsTooDeep (room : Option ℕ) (kind : EventKind) (span : Span) (refusal : Refusal) : Type 0 where
+  pub opens : (others : Option ℕ → Option Span) → beyond_event kind span others room ≡ Some span
+  pub so : refusal ≡ too_deep_at span
+
+-- The next event is refused: nothing goes on so, or it opens a container where no more may be opened.
+pub data RefusesNext (room : Option ℕ) (old new : Now) (refusal : Refusal) : Type 0 where
+  stops : Moves old next (event (Err refusal)) new → RefusesNext room old new refusal
+  too_deep : (span : Span) → beyond (future_of old) room ≡ Some span → refusal ≡ too_deep_at span → RefusesNext room old new refusal

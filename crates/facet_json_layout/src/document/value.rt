@@ -9,6 +9,9 @@ ghost use Rattle.facet_json_tree.specs.Lookup.{member, item, item_at, last_membe
 ghost use Rattle.facet_json_layout.specs.Nodes.{kind_of, value_view, node_view, inner, items, members, items_left, members_left, len, trees_len, pairs_len, trees_list, pairs_list};
 ghost use Rattle.facet_json_layout.specs.Inner.Looking.{IsLeaf, IsNodeAt, IsNextItem, IsMemberAt, from};
 
+mod copying;
+mod pointer;
+
 use crate::document::held::{Items, Members};
 use crate::document::node::{Node, ValueKind};
 use facet_format::{Decimal, ScalarValue};

@@ -1,5 +1,5 @@
 -- Events are passed one after another, and their nodes added.
-use Rattle.std.proofs.Common.{◌∙◌}
+use Rattle.std.proofs.Common.{Ok, ap, ◌∙◌}
 use Rattle.std.proofs.lemmas.Result.{err_from_is_err_and}
 use Rattle.facet_json_layout.proofs.NodesRead.{adds-more, adds-refused, adds-free}
 use Rattle.facet_json_layout.proofs.document.build.build.Goals as goal
@@ -8,7 +8,7 @@ pub returns-in_err-adds_event-clause-refused : goal.returns-in_err-adds_event-cl
 returns-in_err-adds_event-clause-refused c free =
     let i = c.loop-built.invariant in
     let p = err_from_is_err_and c.from_residual.result c.from_residual.ensures.1 in
-    rw (p.1, p.2) (adds-refused _ _ _ _ _ i.passed i.buffer (i.free free) c.in_err-adds_event.ensures.refused)
+    rw (p.1, p.2) (adds-refused c.args.depth c.loop-built.built.room _ _ _ _ _ i.passed i.level i.buffer (i.free free) c.in_err-adds_event.ensures.refused)
 
 pub loop-built-preserved : goal.loop-built-preserved
 loop-built-preserved c =
@@ -17,5 +17,6 @@ loop-built-preserved c =
     record {
       passed = adds-more _ _ _ _ _ i.passed told;
       buffer = c.adds_event.ensures.same ∙ i.buffer;
+      level = record { same = i.level.same ∙ (c.in_ok-adds_event.ensures.level (ap Ok c.if-branch.true)).same };
       free = λ free. adds-free _ _ _ _ _ c.in_ok-adds_event.ensures.added;
     }

@@ -1,6 +1,7 @@
 -- Some events were passed, and their nodes added.
 use Rattle.std.proofs.Common.{◌≡◌, None}
-use Rattle.facet_json_document.specs.Now.{ahead}
+use Rattle.facet_json_document.specs.Now.{ahead, future_of}
+use Rattle.facet_json_tree.specs.Inner.Beyond.{SameBeyond}
 use Rattle.facet_json_layout.specs.Inner.Building.{AddsSome, built_view}
 use Rattle.facet_json_layout.proofs.document.build.build.Given as goal
 
@@ -8,6 +9,7 @@ abbrev pub invariant-loop-built : goal.invariant-loop-built
 invariant-loop-built l = record {
   passed : AddsSome l.fn.parser l.parser (built_view l.built);
   buffer : l.parser.buffer ≡ l.fn.parser.buffer;
+  level : SameBeyond (future_of l.fn.parser) l.fn.depth (future_of l.parser) l.built.room;
   free : l.fn.parser.cursor.refusal ≡ None → l.parser.cursor.refusal ≡ None;
 }
 

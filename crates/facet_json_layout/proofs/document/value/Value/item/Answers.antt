@@ -1,6 +1,6 @@
 use Rattle.std.proofs.Common.{sym, ap, ◌∙◌}
 use Rattle.facet_json_tree.specs.Lookup.{item}
-use Rattle.facet_json_layout.proofs.NodesSeen.{empty-value, no-items, items-are}
+use Rattle.facet_json_layout.proofs.NodesSeen.{empty-value, no-items, list-of}
 use Rattle.facet_json_layout.proofs.document.value.Value.item.Goals as goal
 
 pub returns-in_err-node : goal.returns-in_err-node
@@ -10,4 +10,4 @@ pub returns-then-not-is_list : goal.returns-then-not-is_list
 returns-then-not-is_list c = sym (no-items c.args.self.now _ c.args.index c.in_ok-node.ensures (sym c.if-not-is_list.ensures))
 
 pub returns : goal.returns
-returns c = c.item_of_list.ensures ∙ sym (items-are c.args.self.now _ c.args.index c.in_ok-node.ensures (sym c.if-not-is_list.ensures))
+returns c = c.item_of_list.ensures ∙ sym (ap (item c.args.index) (list-of c.args.self.now _ c.in_ok-node.ensures (sym c.if-not-is_list.ensures)))

@@ -15,4 +15,4 @@ returns-then-not-is_list c = sym (ap (option_map trees_list) (no-list c.args.sel
 pub returns : goal.returns
 returns c =
     ap Some (items-from c.args.self.now c.new.result (c.args.self.now.index + 1) c.new.ensures.nodes c.new.ensures.at (omega arith))
-    ∙ sym (ap (option_map trees_list) (list-of c.args.self.now _ c.in_ok-node.ensures (sym c.if-not-is_list.ensures)))
+    ∙ sym (ap (λ t. option_map trees_list (as_list t)) (list-of c.args.self.now _ c.in_ok-node.ensures (sym c.if-not-is_list.ensures)))

@@ -1,16 +1,16 @@
 use Rattle.std.proofs.Common.{Some, sym, ap, ◌∙◌}
 use Rattle.facet_json_layout.specs.Nodes.{len}
-use Rattle.facet_json_layout.proofs.NodesSeen.{empty-value, len-of_list, len-of_object, no-len}
+use Rattle.facet_json_layout.proofs.NodesSeen.{empty-value, list-of, object-of, no-len}
 use Rattle.facet_json_layout.proofs.document.value.Value.len.Goals as goal
 
 pub returns-in_err-node : goal.returns-in_err-node
 returns-in_err-node c = rw c.from_residual.ensures (sym (ap len (empty-value c.args.self.now c.in_err-node.ensures)))
 
 pub returns-then-is_list : goal.returns-then-is_list
-returns-then-is_list c = ap Some c.items_len.ensures ∙ sym (len-of_list c.args.self.now _ c.in_ok-node.ensures (sym c.if-is_list.ensures))
+returns-then-is_list c = ap Some c.items_len.ensures ∙ sym (ap len (list-of c.args.self.now _ c.in_ok-node.ensures (sym c.if-is_list.ensures)))
 
 pub returns-then-is_object : goal.returns-then-is_object
-returns-then-is_object c = ap Some c.members_len.ensures ∙ sym (len-of_object c.args.self.now _ c.in_ok-node.ensures (sym c.if-is_object.ensures))
+returns-then-is_object c = ap Some c.members_len.ensures ∙ sym (ap len (object-of c.args.self.now _ c.in_ok-node.ensures (sym c.if-is_object.ensures)))
 
 pub returns : goal.returns
 returns c = sym (no-len c.args.self.now _ c.in_ok-node.ensures (sym c.if-is_list.ensures) (sym c.if-is_object.ensures))

@@ -2,7 +2,7 @@ use Rattle.std.proofs.Common.{Some, ◌+◌, arith, sym, ap, ◌∙◌}
 use Rattle.std.specs.Option.{option_map}
 use Rattle.facet_json_tree.specs.Content.{as_pairs}
 use Rattle.facet_json_layout.specs.Nodes.{pairs_list}
-use Rattle.facet_json_layout.proofs.NodesSeen.{empty-value, members-from, pairs-of, no-pairs}
+use Rattle.facet_json_layout.proofs.NodesSeen.{empty-value, members-from, object-of, no-pairs}
 use Rattle.facet_json_layout.proofs.document.value.Value.members.Goals as goal
 
 pub returns-in_err-node : goal.returns-in_err-node
@@ -15,4 +15,4 @@ returns-then-not-is_object c = sym (ap (option_map pairs_list) (no-pairs c.args.
 pub returns : goal.returns
 returns c =
     ap Some (members-from c.args.self.now c.new.result (c.args.self.now.index + 1) c.new.ensures.nodes c.new.ensures.at (omega arith))
-    ∙ sym (ap (option_map pairs_list) (pairs-of c.args.self.now _ c.in_ok-node.ensures (sym c.if-not-is_object.ensures)))
+    ∙ sym (ap (λ t. option_map pairs_list (as_pairs t)) (object-of c.args.self.now _ c.in_ok-node.ensures (sym c.if-not-is_object.ensures)))

@@ -1,0 +1,177 @@
+//! What a JSON pointer names in a document of nodes, with the document and the pointers of RFC 6901, section 5; and the trees of values.
+
+use facet_json::{Document, PointerError, Tree, Value, tree_from_slice};
+use std::alloc::Global;
+
+/// Whether the value's tree is the text's.
+fn has_tree(alloc: Global, value: &Value<'_, '_>, text: &str) -> bool {
+    match (
+        value.to_tree(alloc),
+        tree_from_slice(alloc, text.as_bytes()),
+    ) {
+        (Ok(tree), Ok(wanted)) => tree.is_same(&wanted),
+        _ => false,
+    }
+}
+
+/// Whether the pointer names this value of the document, or nothing where nothing is wanted.
+fn names(alloc: Global, text: &str, pointer: &str, wanted: Option<&str>) -> bool {
+    let Ok(document) = Document::parse(alloc, text.as_bytes()) else {
+        return false;
+    };
+    match (document.root().pointer(pointer), wanted) {
+        (Ok(Some(found)), Some(wanted)) => has_tree(alloc, &found, wanted),
+        (Ok(None), None) => true,
+        _ => false,
+    }
+}
+
+/// The document of RFC 6901, section 5.
+const DOCUMENT: &str =
+    r#"{"foo":["bar","baz"],"":0,"a/b":1,"c%d":2,"e^f":3,"g|h":4,"i\\j":5,"k\"l":6," ":7,"m~n":8}"#;
+
+/// The pointers of that section, and what each names.
+static NAMED: [(&str, &str); 12] = [
+    ("", DOCUMENT),
+    ("/foo", r#"["bar","baz"]"#),
+    ("/foo/0", r#""bar""#),
+    ("/", "0"),
+    ("/a~1b", "1"),
+    ("/c%d", "2"),
+    ("/e^f", "3"),
+    ("/g|h", "4"),
+    (r"/i\j", "5"),
+    (r#"/k"l"#, "6"),
+    ("/ ", "7"),
+    ("/m~0n", "8"),
+];
+
+/// Pointers that name nothing in that document: no such name, no index, past the end, past 64 bits, or within a scalar.
+static UNNAMED: [&str; 16] = [
+    "/bar",
+    "/FOO",
+    "/foo ",
+    "/a",
+    "//",
+    "/foo/2",
+    "/foo/00",
+    "/foo/01",
+    "/foo/-",
+    "/foo/",
+    "/foo/+1",
+    "/foo/1e0",
+    "/foo/~01",
+    "/foo/18446744073709551616",
+    "/foo/184467440737095516160",
+    "/foo/0/0",
+];
+
+/// Documents with nested values, with names that look like escapes or indices, and with a name that comes twice.
+static WITHIN: [(&str, &str, Option<&str>); 11] = [
+    (r#"{"a":[0,{"b":[1,2]}]}"#, "/a/1/b/1", Some("2")),
+    ("[0,1,2,3,4,5,6,7,8,9,10,11,12,13]", "/12", Some("12")),
+    (r#"{"~1":1,"/":2}"#, "/~01", Some("1")),
+    (r#"{"~1":1,"/":2}"#, "/~1", Some("2")),
+    (r#"{"01":1}"#, "/01", Some("1")),
+    (r#"{"é":1}"#, "/é", Some("1")),
+    (r#"{"a":{"":1}}"#, "/a/", Some("1")),
+    (r#"{"a":1,"a":{"b":2}}"#, "/a/b", Some("2")),
+    (r#"{"a":{"b":2},"a":1}"#, "/a/b", None),
+    (r#"[{"a":1},{"a":2}]"#, "/0/a", Some("1")),
+    ("null", "", Some("null")),
+];
+
+#[test]
+fn pointers_name_values(rt: HostRuntime) {
+    let alloc = rt.alloc();
+    for (pointer, wanted) in &NAMED {
+        assert!(rt; names(alloc, DOCUMENT, *pointer, Some(*wanted)));
+    }
+    for pointer in &UNNAMED {
+        assert!(rt; names(alloc, DOCUMENT, *pointer, None));
+    }
+    for (text, pointer, wanted) in &WITHIN {
+        assert!(rt; names(alloc, *text, *pointer, *wanted));
+    }
+}
+
+/// Texts that are no pointers, and why.
+static REFUSED: [(&str, PointerError); 10] = [
+    ("foo", PointerError::NoSlash),
+    ("0", PointerError::NoSlash),
+    ("~", PointerError::NoSlash),
+    ("#/foo", PointerError::NoSlash),
+    ("/~", PointerError::LoneTilde(1)),
+    ("/~2", PointerError::LoneTilde(1)),
+    ("/~~0", PointerError::LoneTilde(1)),
+    ("/a~/b", PointerError::LoneTilde(2)),
+    ("/~0~1~", PointerError::LoneTilde(5)),
+    ("/é~", PointerError::LoneTilde(3)),
+];
+
+/// Whether the text is refused so in this document.
+fn refuses(alloc: Global, document: &str, text: &str, wanted: &PointerError) -> bool {
+    match Document::parse(alloc, document.as_bytes()) {
+        Ok(document) => match document.root().pointer(text) {
+            Ok(_) => false,
+            Err(error) => error == *wanted,
+        },
+        Err(_) => false,
+    }
+}
+
+#[test]
+fn what_is_no_pointer_is_refused(rt: HostRuntime) {
+    let alloc = rt.alloc();
+    for (text, wanted) in &REFUSED {
+        assert!(rt; refuses(alloc, "null", *text, wanted));
+        assert!(rt; refuses(alloc, "{}", *text, wanted));
+    }
+}
+
+/// Texts whose trees are taken from their nodes: scalars of each kind, containers without anything in them, within one another, and behind one another, a
+/// name that comes twice, and texts and names with escapes.
+static TREES: [&str; 14] = [
+    "null",
+    "true",
+    "18446744073709551615",
+    "-9223372036854775808",
+    "18446744073709551616",
+    "1.50",
+    r#""a\n\u00e9""#,
+    "[]",
+    "{}",
+    "[[],{},[[]],{\"\":{}}]",
+    "[[1,[2]],{\"a\":3},4]",
+    r#"{"a":1,"b":[7,false],"a":{"c":null}}"#,
+    r#"{"\u0061b":"x","c":"\u00e9"}"#,
+    "[1,[2,[3,[4,[5,{\"a\":[6]}]]]],7]",
+];
+
+/// Whether the tree of the text's nodes is the one that is read of it.
+fn is_copied(alloc: Global, text: &str) -> bool {
+    match Document::parse(alloc, text.as_bytes()) {
+        Ok(document) => has_tree(alloc, &document.root(), text),
+        Err(_) => false,
+    }
+}
+
+/// The tree of a value within a document that is gone.
+fn kept(alloc: Global, text: &str, name: &str) -> Option<Tree> {
+    let document = Document::parse(alloc, text.as_bytes()).ok()?;
+    let value = document.root().get(name)?;
+    value.to_tree(alloc).ok()
+}
+
+#[test]
+fn trees_are_taken_of_nodes(rt: HostRuntime) {
+    let alloc = rt.alloc();
+    for text in &TREES {
+        assert!(rt; is_copied(alloc, *text));
+    }
+    let tree = kept(alloc, r#"{"a":[1,"\u0062"],"b":2}"#, "a");
+    match (tree, tree_from_slice(alloc, br#"[1,"b"]"#)) {
+        (Some(tree), Ok(wanted)) => assert!(rt; tree.is_same(&wanted)),
+        _ => assert!(rt; false),
+    }
+}

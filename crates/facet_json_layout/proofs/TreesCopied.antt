@@ -1,0 +1,81 @@
+-- The trees that were copied of a list's items and an object's members are theirs, and a value is what its node tells.
+use Rattle.std.proofs.Common.{◌≡◌, ℕ, suc, ◌+◌, List, [], ◌∷◌, ◌++◌, map, drop, get_or, refl, sym, ap, ap₂, ◌∙◌, append_assoc, String, Global, string_bytes, subst}
+use Rattle.std.proofs.lemmas.List.{append-nil}
+use Rattle.facet_json_document.specs.Tree.{Tree, Trees, no_trees, tree, Pairs, no_pairs, pair}
+use Rattle.facet_json_tree.specs.Views.{tree_view, trees_view, pairs_view}
+use Rattle.facet_json_tree.specs.declared.tree.Tree.{Tree as RustTree}
+use Rattle.facet_json_layout.specs.Nodes.{items, members, trees_list, pairs_list, value_at, value_of, node_view, nodes_view, value_view}
+use Rattle.facet_json_layout.specs.Inner.Looking.{from, Stands, IsItem, IsMember}
+use Rattle.facet_json_layout.specs.declared.document.node.Node.{Node as RustNode}
+use Rattle.facet_json_layout.specs.declared.document.value.Value.{Value}
+use Rattle.facet_json_layout.proofs.NodesSeen.{value-stands}
+
+-- a member that was copied
+abbrev pub member_seen : String Global × RustTree → List ℕ × Tree
+member_seen m = (string_bytes m.0, tree_view m.1)
+
+-- These were copied, and others are left.
+abbrev pub ItemsCopied : Value → List RustTree → ℕ → Type 0
+ItemsCopied v copies at = trees_list (items 0 (from v (suc v.index))) ≡ map tree_view copies ++ trees_list (items 0 (from v at))
+
+abbrev pub MembersCopied : Value → List (String Global × RustTree) → ℕ → Type 0
+MembersCopied v copies at = pairs_list (members 0 (from v (suc v.index))) ≡ map member_seen copies ++ pairs_list (members 0 (from v at))
+
+one-more : {X Y : Type 0} (f : X → Y) (xs : List X) (x : X) (y : Y) (rest : List Y) → f x ≡ y → map f xs ++ y ∷ rest ≡ map f (xs ++ x ∷ []) ++ rest
+one-more f [] x y rest e = ap (λ z. z ∷ rest) (sym e)
+one-more f (z ∷ xs) x y rest e = ap (λ l. f z ∷ l) (one-more f xs x y rest e)
+
+pub item-copied : (v w : Value) (copies : List RustTree) (at to : ℕ) (copy : RustTree) → ItemsCopied v copies at → IsItem v at to →
+    tree_view copy ≡ value_view w → w.nodes.now ≡ v.nodes.now → w.index ≡ at → ItemsCopied v (copies ++ copy ∷ []) to
+item-copied v w copies at to copy so item same nodes index =
+    let seen : tree_view copy ≡ value_at (nodes_view v.nodes.now) at = same ∙ ap₂ (λ l i. value_at (nodes_view l) i) nodes index in
+    so ∙ ap (λ ts. map tree_view copies ++ trees_list ts) item.are ∙ one-more tree_view copies copy _ _ seen
+
+pub member-copied : (v w : Value) (copies : List (String Global × RustTree)) (at behind to : ℕ) (name : List ℕ) (text : String Global)
+    (copy : RustTree) → MembersCopied v copies at → IsMember v at name to → string_bytes text ≡ name → tree_view copy ≡ value_view w →
+    w.nodes.now ≡ v.nodes.now → w.index ≡ behind → behind ≡ suc at → MembersCopied v (copies ++ (text, copy) ∷ []) to
+member-copied v w copies at behind to name text copy so member named same nodes index b =
+    let seen : tree_view copy ≡ value_at (nodes_view v.nodes.now) (suc at) =
+    same ∙ ap₂ (λ l i. value_at (nodes_view l) i) nodes (index ∙ b) in
+    so ∙ ap (λ ps. map member_seen copies ++ pairs_list ps) member.are
+    ∙ one-more member_seen copies (text, copy) _ _ (ap₂ (λ n t. (n, t)) named seen)
+
+all-items : (copies : List RustTree) (ts : Trees) → trees_list ts ≡ map tree_view copies → trees_view copies ≡ ts
+all-items [] no_trees e = refl
+all-items [] (tree t ts) e = cc
+all-items (x ∷ copies) no_trees e = cc
+all-items (x ∷ copies) (tree t ts) e =
+    let first : t ≡ tree_view x = cc in
+    let more : trees_list ts ≡ map tree_view copies = cc in
+    ap₂ tree (sym first) (all-items copies ts more)
+
+all-members : (copies : List (String Global × RustTree)) (ps : Pairs) → pairs_list ps ≡ map member_seen copies → pairs_view copies ≡ ps
+all-members [] no_pairs e = refl
+all-members [] (pair name t ps) e = cc
+all-members (x ∷ copies) no_pairs e = cc
+all-members ((text, copy) ∷ copies) (pair name t ps) e =
+    let first : (name, t) ≡ (string_bytes text, tree_view copy) = ap (λ l. get_or l 0 (name, t)) e in
+    let more : pairs_list ps ≡ map member_seen copies = ap (drop 1) e in
+    ap₂ (λ n u. pair n u (pairs_view copies)) (sym (ap (λ m. m.0) first)) (sym (ap (λ m. m.1) first)) ∙ ap (pair name t) (all-members copies ps more)
+
+-- Where none is left, all were copied.
+pub items-copied : (v : Value) (copies : List RustTree) (at : ℕ) → ItemsCopied v copies at → items 0 (from v at) ≡ no_trees →
+    trees_view copies ≡ items 0 (from v (suc v.index))
+items-copied v copies at so none =
+    all-items copies _ (so ∙ ap (λ ts. map tree_view copies ++ trees_list ts) none ∙ append-nil (map tree_view copies))
+
+pub members-copied : (v : Value) (copies : List (String Global × RustTree)) (at : ℕ) → MembersCopied v copies at → members 0 (from v at) ≡ no_pairs →
+    pairs_view copies ≡ members 0 (from v (suc v.index))
+members-copied v copies at so none =
+    all-members copies _ (so ∙ ap (λ ps. map member_seen copies ++ pairs_list ps) none ∙ append-nil (map member_seen copies))
+
+-- ---- a value by its node
+
+-- The value at a node that is this one.
+pub value-of_node : (v : Value) (n m : RustNode) → Stands v v.index (node_view n) → n ≡ m → value_view v ≡ value_of (node_view m) (from v (suc v.index))
+value-of_node v n m s e = value-stands v (node_view n) s ∙ ap (λ k. value_of (node_view k) (from v (suc v.index))) e
+
+-- What is said of it is said of the value.
+pub said-of_node : (v : Value) (n m : RustNode) (said : Tree → Type 0) → Stands v v.index (node_view n) → n ≡ m →
+    said (value_of (node_view m) (from v (suc v.index))) → said (value_view v)
+said-of_node v n m said s e h = subst said (sym (value-of_node v n m s e)) h
