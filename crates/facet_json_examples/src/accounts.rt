@@ -11,7 +11,7 @@ use std::alloc::Global;
 
 /// An account, as `{"id":7,"name":"Ann","email":"a@b.example","active":true,"age":40,"score":-3,"visits":12,"tags":["new"]}`.
 /// The city and the parent may be missing.
-#[derive(PartialEq, Drop)]
+#[derive(Drop)]
 pub struct Account {
     pub id: u64,
     pub name: String,

@@ -8,7 +8,7 @@ use std::alloc::Global;
 
 /// Whom to write to, as `{"id":7,"name":"Ann","email":"a@b.example"}`. The input, which lends the texts, lives for `'de`:
 /// `from_slice_borrowed` reads it, where neither text holds an escape.
-#[derive(Debug, PartialEq, Drop)]
+#[derive(Drop)]
 pub struct Contact<'de> {
     /// The number of the account.
     pub id: u64,

@@ -10,7 +10,7 @@ use std::alloc::Global;
 use std::borrow::CowStr;
 
 /// A message, as `{"id":7,"method":"add","params":[1,2]}`. What it lacks is `None`.
-#[derive(Debug, Drop)]
+#[derive(Drop)]
 pub struct Message<'de> {
     /// The number by which it is answered.
     pub id: Option<u64>,

@@ -53,7 +53,7 @@ pub fn person_in<'t>(alloc: Global, input: &[u8]) -> Result<Person, DeserializeE
 }
 
 /// A response, as `{"status":200,"data":[1,2]}`.
-#[derive(Debug, PartialEq, Drop)]
+#[derive(Drop)]
 pub struct Response<T> {
     /// What became of the request.
     pub status: u32,
@@ -115,7 +115,7 @@ pub fn raw_response<'t, 'de>(
 }
 
 /// How often something is tried again.
-#[derive(Debug, PartialEq, Drop)]
+#[derive(PartialEq, Drop)]
 pub struct Retry {
     /// So many times.
     pub times: u32,
@@ -156,7 +156,7 @@ impl<'de> Facet<'de> for Retry {
 }
 
 /// A configuration, as `{"host":"a.example","tags":["new"],"retry":{"times":3}}`.
-#[derive(Debug, PartialEq, Drop)]
+#[derive(Drop)]
 pub struct Config {
     /// Who is called.
     pub host: String,

@@ -11,7 +11,7 @@ use facet_json::{DeserializeError, JsonSerializeError, to_vec, tree_from_slice};
 use std::alloc::Global;
 
 /// Why an input was not reformatted.
-#[derive(Debug, Drop)]
+#[derive(Drop)]
 pub enum ReformatError<'t> {
     /// It has no document, or memory ran out.
     Reading(DeserializeError<'t>),

@@ -7,7 +7,7 @@ use facet_json::{DeserializeErrorKind, Span};
 const WORDS: &str = "a word other than true, false and null stands in double quotes";
 
 /// Where an error stands.
-#[derive(Debug, Clone, Copy)]
+#[derive(Clone, Copy)]
 pub struct Place<'a> {
     /// What stands before it.
     before: &'a [u8],
@@ -38,19 +38,22 @@ impl<'a> Place<'a> {
 
     /// Whether a letter stands right before it.
     fn is_in_word(self) -> bool {
-        self.before
-            .last()
-            .is_some_and(|byte| byte.is_ascii_alphabetic())
+        match self.before.last() {
+            Some(byte) => byte.is_ascii_alphabetic(),
+            None => false,
+        }
     }
 
     /// The letters and digits that begin there.
-    fn word(self) -> &'a [u8] {
-        let len = self
-            .rest
-            .iter()
-            .take_while(|byte| byte.is_ascii_alphanumeric())
-            .count();
-        &self.rest[..len]
+    fn word(self) -> &'a str {
+        let mut len = 0_usize;
+        for byte in self.rest {
+            if !byte.is_ascii_alphanumeric() {
+                break;
+            }
+            len = len.saturating_add(1);
+        }
+        str::from_utf8(&self.rest[..len.min(self.rest.len())]).unwrap_or("")
     }
 }
 
@@ -168,7 +171,7 @@ fn on_character(character: char, place: Place<'_>) -> &'static str {
         [_, _, ..] if place.before.ends_with(b"\\u") => "four hexadecimal digits stand after \\u",
         [b'-'] => "a digit is missing after the minus",
         [b'-' | b'0'..=b'9', ..] => on_number(place.meant),
-        [b'\0'..=b'\x1F', ..] if place.language == Language::Strict => {
+        [b'\0'..=b'\x1F', ..] if matches!(place.language, Language::Strict) => {
             "write this control character as an escape, such as \\n or \\u001f"
         }
         _ if place.before.ends_with(b"\\") => {
@@ -184,12 +187,22 @@ fn on_character(character: char, place: Place<'_>) -> &'static str {
 fn on_number(number: &[u8]) -> &'static str {
     let digits = number.strip_prefix(b"-").unwrap_or(number);
     match digits {
-        _ if digits.len() > 38 && digits.iter().all(|byte| byte.is_ascii_digit()) => {
+        _ if digits.len() > 38 && are_digits(digits) => {
             "this number takes more than 128 bits: write it as a string"
         }
         [b'0', b'0'..=b'9', ..] => "remove the zeros at the front of this number",
         _ => "digits stand on both sides of a point, and after an e",
     }
+}
+
+/// Whether the bytes are digits alone.
+fn are_digits(bytes: &[u8]) -> bool {
+    for byte in bytes {
+        if !byte.is_ascii_digit() {
+            return false;
+        }
+    }
+    true
 }
 
 /// Where a token can't begin with this character.
@@ -217,20 +230,20 @@ fn is_quote(text: &[u8]) -> bool {
 fn on_comment(place: Place<'_>) -> &'static str {
     match place.rest {
         [b'/', b'/' | b'*', ..] => "comments are read with --jsonc",
-        _ if place.language == Language::Jsonc => "a comment begins with // or /*",
+        _ if matches!(place.language, Language::Jsonc) => "a comment begins with // or /*",
         _ => "a comment begins with // or /*, and is read with --jsonc",
     }
 }
 
 /// Where a word stands that is none of JSON.
-fn on_word(word: &[u8]) -> &'static str {
+fn on_word(word: &str) -> &'static str {
     match word {
-        b"" => "remove this character, or write it in a string",
-        b"True" | b"TRUE" | b"False" | b"FALSE" | b"Null" | b"NULL" => {
+        "" => "remove this character, or write it in a string",
+        "True" | "TRUE" | "False" | "FALSE" | "Null" | "NULL" => {
             "the words of JSON are true, false and null"
         }
-        b"None" | b"nil" | b"undefined" => "the word for no value is null",
-        b"NaN" | b"Infinity" | b"inf" => "JSON has no such number: write null, or a string",
+        "None" | "nil" | "undefined" => "the word for no value is null",
+        "NaN" | "Infinity" | "inf" => "JSON has no such number: write null, or a string",
         _ => WORDS,
     }
 }

@@ -15,7 +15,7 @@ pub enum Request<'a> {
 }
 
 /// How it is done.
-#[derive(Debug, Clone, Copy, PartialEq, Eq)]
+#[derive(Clone, Copy)]
 pub struct Options {
     /// How the files are read.
     pub language: Language,
@@ -28,7 +28,7 @@ pub struct Options {
 }
 
 /// How a file is read.
-#[derive(Debug, Clone, Copy, PartialEq, Eq)]
+#[derive(Clone, Copy)]
 pub enum Language {
     /// As RFC 8259 describes it, leniently.
     Plain,
@@ -39,7 +39,7 @@ pub enum Language {
 }
 
 /// What becomes of a file's layout.
-#[derive(Debug, Clone, Copy, PartialEq, Eq)]
+#[derive(Clone, Copy)]
 pub enum Layout {
     /// It stays.
     Kept,
@@ -50,7 +50,7 @@ pub enum Layout {
 }
 
 /// What is wrong with the arguments.
-#[derive(Debug, Clone, Copy)]
+#[derive(Clone, Copy)]
 pub enum Misuse<'a> {
     /// No option is called so.
     Unknown(&'a str),
@@ -117,19 +117,21 @@ impl Options {
 
     /// With an option that asks for this language.
     fn in_language<'a>(self, language: Language) -> Result<Options, Misuse<'a>> {
-        if self.language == Language::Plain || self.language == language {
-            Ok(Options { language, ..self })
-        } else {
-            Err(Misuse::Both("--strict", "--jsonc"))
+        match (self.language, language) {
+            (Language::Plain, _)
+            | (Language::Jsonc, Language::Jsonc)
+            | (Language::Strict, Language::Strict) => Ok(Options { language, ..self }),
+            _ => Err(Misuse::Both("--strict", "--jsonc")),
         }
     }
 
     /// With an option that asks for this layout.
     fn with_layout<'a>(self, layout: Layout) -> Result<Options, Misuse<'a>> {
-        if self.layout == Layout::Kept || self.layout == layout {
-            Ok(Options { layout, ..self })
-        } else {
-            Err(Misuse::Both("--format", "--check"))
+        match (self.layout, layout) {
+            (Layout::Kept, _)
+            | (Layout::Made, Layout::Made)
+            | (Layout::Compared, Layout::Compared) => Ok(Options { layout, ..self }),
+            _ => Err(Misuse::Both("--format", "--check")),
         }
     }
 }

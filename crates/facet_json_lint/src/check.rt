@@ -14,7 +14,7 @@ use facet_json::{
 use std::alloc::{AllocError, Global};
 
 /// Why a source is not one document.
-#[derive(Debug, Clone, Copy)]
+#[derive(Clone, Copy)]
 pub struct Fault {
     /// What is wrong, and where.
     pub error: DeserializeError<'static>,

@@ -14,7 +14,7 @@ const MOST_BEFORE: usize = 48;
 const MOST_BYTES: usize = 400;
 
 /// A line of a source, cut around what is meant.
-#[derive(Debug, Drop)]
+#[derive(Drop)]
 pub struct Excerpt {
     /// What stands before it.
     pub before: String,
@@ -104,16 +104,16 @@ fn shown_within(
 
 /// The bytes of the line that are meant, of which there are `len`, and what is left of the last one's character.
 fn meant_of(line: &[u8], len: usize) -> &[u8] {
-    let (meant, rest) = line.split_at(len.min(line.len()));
-    if meant.is_empty() {
-        return meant;
+    let mut end = len.min(line.len());
+    if end > 0 {
+        for byte in line[end..].iter().take(3) {
+            if *byte & 0xC0 != 0x80 {
+                break;
+            }
+            end = end.saturating_add(1);
+        }
     }
-    let more = rest
-        .iter()
-        .take(3)
-        .take_while(|byte| **byte & 0xC0 == 0x80)
-        .count();
-    &line[..meant.len() + more]
+    &line[..end.min(line.len())]
 }
 
 /// How many columns the bytes take, those that are looked at.

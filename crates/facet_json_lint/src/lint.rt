@@ -81,7 +81,7 @@ impl Lint<'_> {
         if let Err(fault) = check(self.rt.alloc(), self.options.language, source.text) {
             return self.tell_fault(source, fault, output);
         }
-        if self.options.layout == Layout::Kept {
+        if matches!(self.options.layout, Layout::Kept) {
             return self.keys(source, output);
         }
         match formatted(self.rt.alloc(), self.options.language, source.text) {
@@ -108,7 +108,7 @@ impl Lint<'_> {
         text: &[u8],
         output: &mut W,
     ) -> io::Result<Verdict> {
-        let is_made = self.options.layout == Layout::Made;
+        let is_made = matches!(self.options.layout, Layout::Made);
         if is_made && source.name == "-" {
             self.rt.stdout().write_all(text)?;
         } else if text == source.text {
@@ -132,7 +132,7 @@ impl Lint<'_> {
     /// Tells which keys of a source come twice that is changed, or would be.
     fn keys_of_changed<W: Write>(self, source: Source<'_>, output: &mut W) -> io::Result<Verdict> {
         match self.keys(source, output)? {
-            Verdict::Fine if self.options.layout == Layout::Made => Ok(Verdict::Changed),
+            Verdict::Fine if matches!(self.options.layout, Layout::Made) => Ok(Verdict::Changed),
             Verdict::Fine => Ok(Verdict::Unlike),
             verdict => Ok(verdict),
         }
@@ -236,12 +236,20 @@ impl Lint<'_> {
             span,
             kind: &JsonErrorKind::Read(fault.error.kind),
             advice: advice(&fault.error.kind, place),
-            aside: fault.unclosed().map(|opened| Aside {
-                what: "opened here",
-                offset: opened.offset,
-            }),
+            aside: opened_at(fault.unclosed()),
         };
         write_report(self.rt.alloc(), &report, self.colours, output)?;
         Ok(Verdict::Reported)
+    }
+}
+
+/// What a report tells of a bracket that is open.
+fn opened_at(bracket: Option<Span>) -> Option<Aside> {
+    match bracket {
+        Some(Span { offset, .. }) => Some(Aside {
+            what: "opened here",
+            offset,
+        }),
+        None => None,
     }
 }

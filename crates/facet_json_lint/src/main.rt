@@ -55,7 +55,7 @@ fn allows_colour(rt: &HostRuntime) -> bool {
 
 /// Checks the files, and answers the status.
 fn check_all(rt: &HostRuntime, options: Options, names: &[&str]) -> io::Result<u8> {
-    let is_text_written = options.layout == Layout::Made;
+    let is_text_written = matches!(options.layout, Layout::Made);
     let is_terminal = if is_text_written {
         rt.stderr().is_terminal()
     } else {

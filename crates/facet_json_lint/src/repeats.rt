@@ -5,7 +5,7 @@ use std::alloc::{AllocError, Global};
 use std::borrow::CowStr;
 
 /// A key that its object had before. They are in the order in which they come.
-#[derive(Debug, Clone, Copy, PartialEq, Eq, PartialOrd, Ord)]
+#[derive(Clone, Copy, PartialEq, Eq, PartialOrd, Ord)]
 pub struct Repeat {
     /// Its offset in the source, in bytes.
     pub offset: usize,

@@ -15,7 +15,7 @@ use std::{fmt, io};
 ///   ^^^^^^^^ a comma is missing before this key
 /// opened here: 1:1
 /// ```
-#[derive(Debug, Clone, Copy)]
+#[derive(Clone, Copy)]
 pub struct Report<'a> {
     /// What the source is called.
     pub name: &'a str,
@@ -32,7 +32,7 @@ pub struct Report<'a> {
 }
 
 /// Another place that a report names.
-#[derive(Debug, Clone, Copy)]
+#[derive(Clone, Copy)]
 pub struct Aside {
     /// What it is.
     pub what: &'static str,
@@ -41,7 +41,7 @@ pub struct Aside {
 }
 
 /// What begins and ends the parts of a report that stand out on a terminal (ECMA-48, section 8.3.117).
-#[derive(Debug, Clone, Copy)]
+#[derive(Clone, Copy)]
 pub struct Colours {
     place: &'static str,
     marks: &'static str,
@@ -68,7 +68,7 @@ impl Colours {
 }
 
 /// A character so many times.
-#[derive(Debug, Clone, Copy)]
+#[derive(Clone, Copy)]
 struct Row {
     character: char,
     count: usize,

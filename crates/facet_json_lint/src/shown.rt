@@ -73,7 +73,7 @@ pub fn columns(text: &str) -> usize
 }
 
 /// An end of a text.
-#[derive(Debug, Clone, Copy, PartialEq, Eq)]
+#[derive(Clone, Copy)]
 pub enum Side {
     /// Where it begins.
     Front,

@@ -3,7 +3,7 @@
 use std::fmt;
 
 /// What became of a file.
-#[derive(Debug, Clone, Copy, PartialEq, Eq)]
+#[derive(Clone, Copy)]
 pub enum Verdict {
     /// Nothing is to be said.
     Fine,
@@ -18,7 +18,7 @@ pub enum Verdict {
 }
 
 /// How many files became what.
-#[derive(Debug, Clone, Copy, PartialEq, Eq)]
+#[derive(Clone, Copy)]
 pub struct Tally {
     fine: usize,
     reported: usize,
@@ -76,17 +76,16 @@ impl Tally {
 impl fmt::Display for Tally {
     fn fmt<W: fmt::Write>(&self, f: &mut fmt::Formatter<W>) -> fmt::Result {
         write!(f, "{} files: {} fine", self.files(), self.fine)?;
-        write_count(f, self.reported, "reported")?;
-        write_count(f, self.changed, "changed")?;
-        write_count(f, self.unlike, "would change")?;
-        write_count(f, self.failed, "failed")
+        for (count, what) in &[
+            (self.reported, "reported"),
+            (self.changed, "changed"),
+            (self.unlike, "would change"),
+            (self.failed, "failed"),
+        ] {
+            if *count > 0 {
+                write!(f, ", {count} {what}")?;
+            }
+        }
+        Ok(())
     }
-}
-
-/// Writes how many files became what is named, where some did.
-fn write_count<W: fmt::Write>(f: &mut fmt::Formatter<W>, count: usize, what: &str) -> fmt::Result {
-    if count == 0 {
-        return Ok(());
-    }
-    write!(f, ", {count} {what}")
 }

@@ -8,7 +8,7 @@ ghost use Rattle.facet_json_programs.specs.declared.fault.Fault.TheVariants.{Req
 use facet_json::{DeserializeError, DeserializeErrorKind, JsonSerializeError};
 
 /// Why a request has no result (JSON-RPC 2.0, section 5.1).
-#[derive(Debug, Clone, Copy, PartialEq, Eq)]
+#[derive(Clone, Copy)]
 pub enum Fault {
     /// The line is no text of RFC 8259.
     Parse,

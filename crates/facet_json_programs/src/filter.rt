@@ -10,7 +10,7 @@ use std::io::{BufRead, ErrorKind, Write};
 pub const LONGEST_LINE: usize = 1_048_576;
 
 /// What is wanted of a record: that the first member of this name is this text, or a value that is written so.
-#[derive(Debug, Clone, Copy)]
+#[derive(Clone, Copy)]
 pub struct Wanted<'a> {
     pub name: &'a str,
     pub value: &'a str,

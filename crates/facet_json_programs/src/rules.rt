@@ -10,7 +10,7 @@ use facet_json::{
 use std::alloc::Global;
 
 /// The greatest sizes of a document's parts.
-#[derive(Debug, Clone, Copy)]
+#[derive(Clone, Copy)]
 pub struct Limits {
     /// How many containers stand within each other.
     pub depth: usize,
@@ -21,7 +21,7 @@ pub struct Limits {
 }
 
 /// A value that has to be there.
-#[derive(Debug, Clone, Copy)]
+#[derive(Clone, Copy)]
 pub struct Rule<'a> {
     /// Where, as a JSON pointer (RFC 6901).
     pub pointer: &'a str,

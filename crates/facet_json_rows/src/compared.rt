@@ -69,24 +69,12 @@ pub fn compare(
     written: &mut String,
 ) -> Result<(), AllocError> {
     let ([mode, ..], [way, ..]) = (modes, ways) else {
-        return writeln!(written, "NO MODE");
+        return written.push_str("NO MODE\n");
     };
     let told = told(alloc, *mode, false, *way, input)?;
-    write_told(alloc, modes, ways, input, told.as_str(), written)
-}
-
-/// Writes this, which is told of the input, and each other telling of it.
-fn write_told(
-    alloc: Global,
-    modes: &[Mode],
-    ways: &[Way<'_>],
-    input: &[u8],
-    told: &str,
-    written: &mut String,
-) -> Result<(), AllocError> {
     writeln!(written, "{told}")?;
     for mode in modes {
-        write_differences(alloc, *mode, ways, input, told, written)?;
+        write_differences(alloc, *mode, ways, input, told.as_str(), written)?;
     }
     Ok(())
 }
@@ -119,10 +107,11 @@ fn write_difference(
 ) -> Result<(), AllocError> {
     let told = told(alloc, mode, is_trusted, way, input)?;
     if told.as_str() == expected {
-        Ok(())
-    } else {
-        write_other(mode, is_trusted, way, told.as_str(), written)
+        return Ok(());
     }
+    let kind = if is_trusted { "trusted" } else { "checked" };
+    let (mode, way) = (mode_name(mode), way.name());
+    writeln!(written, "DIFFERS: {mode}, {kind}, {way}: {told}")
 }
 
 /// Writes where these ways to ask, and parsers that trust the input and that check it, tell different things of it.
@@ -149,19 +138,6 @@ fn mode_name(mode: Mode) -> &'static str {
     }
 }
 
-/// Writes another telling.
-fn write_other(
-    mode: Mode,
-    is_trusted: bool,
-    way: Way<'_>,
-    told: &str,
-    written: &mut String,
-) -> Result<(), AllocError> {
-    let kind = if is_trusted { "trusted" } else { "checked" };
-    let (mode, way) = (mode_name(mode), way.name());
-    writeln!(written, "DIFFERS: {mode}, {kind}, {way}: {told}")
-}
-
 /// What is told of the input.
 fn told(
     alloc: Global,
@@ -171,27 +147,15 @@ fn told(
     input: &[u8],
 ) -> Result<String, AllocError> {
     let mut told = String::new(alloc);
-    tell_input(alloc, mode, is_trusted, way, input, &mut told)?;
-    Ok(told)
-}
-
-/// Appends what is told of the input.
-fn tell_input(
-    alloc: Global,
-    mode: Mode,
-    is_trusted: bool,
-    way: Way<'_>,
-    input: &[u8],
-    told: &mut String,
-) -> Result<(), AllocError> {
     match way {
-        Way::Cuts => tell_cuts(alloc, mode, is_trusted, input, told),
-        Way::Tree => push_tree(alloc, mode, input, told),
+        Way::Cuts => tell_cuts(alloc, mode, is_trusted, input, &mut told)?,
+        Way::Tree => push_tree(alloc, mode, input, &mut told)?,
         _ => {
             let mut parser = parser_of(alloc, mode, is_trusted, input);
-            ask(alloc, &mut parser, way, input.len(), told)
+            ask(alloc, &mut parser, way, input.len(), &mut told)?;
         }
     }
+    Ok(told)
 }
 
 /// Appends what a parser of so many bytes tells when it is asked this way.
@@ -253,22 +217,8 @@ fn push_answers(
     telling: Telling,
     told: &mut String,
 ) -> Result<(), AllocError> {
-    push_each(
-        alloc,
-        drive(alloc, parser, calls)?.as_slice(),
-        telling,
-        told,
-    )
-}
-
-/// Appends the answers.
-fn push_each(
-    alloc: Global,
-    answers: &[Answer<'_>],
-    telling: Telling,
-    told: &mut String,
-) -> Result<(), AllocError> {
-    for answer in answers {
+    let answers = drive(alloc, parser, calls)?;
+    for answer in answers.as_slice() {
         push_answer(alloc, answer, telling, told)?;
     }
     Ok(())
@@ -350,18 +300,8 @@ fn tell_first_by_events(
     count: usize,
     told: &mut String,
 ) -> Result<(), AllocError> {
-    let come = come_at_once(alloc, parser, count)?;
-    tell_rest(alloc, parser, come, told)
-}
-
-/// How many of the first so many events come all at once; none where the answer has other than it says.
-fn come_at_once(
-    alloc: Global,
-    parser: &mut JsonParser<'_>,
-    count: usize,
-) -> Result<usize, AllocError> {
     let answers = drive(alloc, parser, &[Call::Events(count)])?;
-    Ok(come_in(answers.as_slice()))
+    tell_rest(alloc, parser, come_in(answers.as_slice()), told)
 }
 
 /// How many events the first answer has; none where it has other than it says.

@@ -24,7 +24,7 @@ pub fn answer_decode(
         Some((start, end)) if start <= end && end <= buffer.len() => {
             write_both(alloc, buffer, start, end, told)
         }
-        _ => writeln!(told, "NO RANGE"),
+        _ => told.push_str("NO RANGE\n"),
     }
 }
 
@@ -43,7 +43,7 @@ fn write_both(
     if agree(alloc, buffer, start, end) {
         return Ok(());
     }
-    writeln!(told, "DIFFERS: another decoder")
+    told.push_str("DIFFERS: another decoder\n")
 }
 
 fn write_decoded(
@@ -54,7 +54,7 @@ fn write_decoded(
         Ok(CowStr::Borrowed(text)) => writeln!(told, "borrowed {text:?}"),
         Ok(CowStr::Owned(text)) => writeln!(told, "owned {text:?}"),
         Err(DecodeError::Scan(error)) => write_refusal(error, told),
-        Err(DecodeError::OutOfMemory) => writeln!(told, "out of memory"),
+        Err(DecodeError::OutOfMemory) => told.push_str("out of memory\n"),
     }
 }
 
@@ -142,7 +142,7 @@ pub fn answer_repeated(
             let holds = repeats(alloc, content, text, count);
             writeln!(told, "{holds}")
         }
-        _ => writeln!(told, "NO COUNT"),
+        _ => told.push_str("NO COUNT\n"),
     }
 }
 

@@ -18,7 +18,7 @@ pub fn answer_long(
     match name {
         "number" => answer_number(words, input.as_bytes(), told),
         "parser" => answer_parser(alloc, words, input.as_bytes(), told),
-        _ => writeln!(told, "NO COMMAND"),
+        _ => told.push_str("NO COMMAND\n"),
     }
 }
 

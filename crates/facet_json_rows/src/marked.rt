@@ -31,7 +31,7 @@ pub fn answer_marked(
     let (name, words) = first_word(words);
     let (mode, words) = first_word(words);
     let Some(mode) = modes(mode).first() else {
-        return writeln!(told, "NO MODE");
+        return told.push_str("NO MODE\n");
     };
     match name {
         "scan" => answer_scan(alloc, *mode, words, input, told),
@@ -59,7 +59,7 @@ fn answer_parser(
             answer_calls(alloc, mode, is_trusted, calls.as_slice(), input, told)
         }
         ("queue", _, Ok(limit)) => answer_queue(alloc, mode, is_trusted, limit, input, told),
-        _ => writeln!(told, "NO CALLS"),
+        _ => told.push_str("NO CALLS\n"),
     }
 }
 
@@ -79,8 +79,8 @@ fn answer_calls(
     mark(alloc);
     match answers {
         Ok(answers) if is_whole => write_answers(alloc, answers.as_slice(), told),
-        Ok(_) => writeln!(told, "NO INPUT"),
-        Err(_) => writeln!(told, "NO ROOM"),
+        Ok(_) => told.push_str("NO INPUT\n"),
+        Err(_) => told.push_str("NO ROOM\n"),
     }
 }
 
@@ -91,11 +91,16 @@ fn write_answers(
     told: &mut String,
 ) -> Result<(), AllocError> {
     for answer in answers {
-        let mut line = String::new(alloc);
-        push_answer(alloc, answer, Telling::All, &mut line)?;
-        writeln!(told, "{line}")?;
+        write_answer(alloc, answer, told)?;
     }
     Ok(())
+}
+
+/// Writes a line for an answer.
+fn write_answer(alloc: Global, answer: &Answer<'_>, told: &mut String) -> Result<(), AllocError> {
+    let mut line = String::new(alloc);
+    push_answer(alloc, answer, Telling::All, &mut line)?;
+    writeln!(told, "{line}")
 }
 
 /// Writes the events that a parser of the input puts into one queue, up to so many at a time, and what ends that.
@@ -112,14 +117,7 @@ fn answer_queue(
     let mut events = VecDeque::new(alloc);
     let ended = fill(&mut parser, limit, input.len(), &mut events);
     mark(alloc);
-    let mut line = String::new(alloc);
-    push_answer(
-        alloc,
-        &Answer::Events(events, ended),
-        Telling::All,
-        &mut line,
-    )?;
-    writeln!(told, "{line}")
+    write_answer(alloc, &Answer::Events(events, ended), told)
 }
 
 /// Puts all events of an input of so many bytes into the queue, up to so many at a time, and answers how many it has then.
@@ -147,7 +145,7 @@ fn answer_scan(
 ) -> Result<(), AllocError> {
     let step = step.parse().unwrap_or(0);
     if step == 0 {
-        return writeln!(told, "NO STEP");
+        return told.push_str("NO STEP\n");
     }
     let gaps = match mode {
         Mode::Jsonc => Gaps::Jsonc,

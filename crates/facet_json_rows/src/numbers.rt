@@ -16,7 +16,7 @@ pub fn answer_number(words: &str, buffer: &[u8], told: &mut String) -> Result<()
         (Some(hint), Some((start, end))) if start <= end && end <= buffer.len() => {
             write_number(buffer, start, end, hint, told)
         }
-        _ => writeln!(told, "NO NUMBER"),
+        _ => told.push_str("NO NUMBER\n"),
     }
 }
 

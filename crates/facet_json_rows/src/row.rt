@@ -26,11 +26,11 @@ use std::io::ErrorKind;
 /// Writes what the row's command prints of the text between the quotes: `printf 'TEXT' | COMMAND`.
 pub fn answer(alloc: Global, row: &str, told: &mut String) -> Result<(), AllocError> {
     let Some((text, command)) = parts(row) else {
-        return writeln!(told, "NO ROW");
+        return told.push_str("NO ROW\n");
     };
     match printed(alloc, text)? {
         Some(input) => answer_command(alloc, command, input.as_slice(), told),
-        None => writeln!(told, "NO TEXT"),
+        None => told.push_str("NO TEXT\n"),
     }
 }
 
@@ -136,7 +136,7 @@ fn answer_text(
         "repeat" => answer_long(alloc, words, text, told),
         "equal" => answer_equal(alloc, text, told),
         "write" => answer_write(alloc, words, text, told),
-        _ => writeln!(told, "NO COMMAND"),
+        _ => told.push_str("NO COMMAND\n"),
     }
 }
 
@@ -183,7 +183,7 @@ fn answer_failed(
     told: &mut String,
 ) -> Result<(), AllocError> {
     let Some(words) = command.strip_prefix("facet_json_tool ") else {
-        return writeln!(told, "NO COMMAND");
+        return told.push_str("NO COMMAND\n");
     };
     let args = arguments(alloc, words)?;
     let mut reader = FaultyReader::new(input, 1, kind);
@@ -196,7 +196,7 @@ fn answer_failed(
 fn answer_ended(alloc: Global, way: &str, told: &mut String) -> Result<(), AllocError> {
     match ended(way) {
         Some(outcome) => write_end(alloc, outcome, b"", told),
-        None => writeln!(told, "NO END"),
+        None => told.push_str("NO END\n"),
     }
 }
 
@@ -222,7 +222,7 @@ fn write_end(
     write_lines(written, told)?;
     let mut line = Vec::new(alloc);
     if write_line(outcome, &mut line).is_err() {
-        return writeln!(told, "NO LINE");
+        return told.push_str("NO LINE\n");
     }
     write_lines(line.as_slice(), told)?;
     match status(outcome) {
@@ -310,7 +310,7 @@ fn answer_script(
 ) -> Result<(), AllocError> {
     match parse_script(alloc, script) {
         Ok(calls) => compare(alloc, modes, &[Way::ByCalls(calls.as_slice())], input, told),
-        Err(_) => writeln!(told, "NO SCRIPT"),
+        Err(_) => told.push_str("NO SCRIPT\n"),
     }
 }
 

@@ -33,7 +33,7 @@ pub fn answer_pieces(alloc: Global, input: &[u8], told: &mut String) -> Result<(
     write_other_pieces(input, told)?;
     write_other_scans(alloc, input, told)?;
     if told.len() == before {
-        writeln!(told, "as the whole")?;
+        told.push_str("as the whole\n")?;
     }
     Ok(())
 }

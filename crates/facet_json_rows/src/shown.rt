@@ -25,16 +25,6 @@ pub fn push(told: &mut String, text: &str, telling: Telling) -> Result<(), Alloc
     told.push_str(text)
 }
 
-/// Appends an event.
-fn push_event(
-    alloc: Global,
-    event: &ParseEvent<'_>,
-    telling: Telling,
-    told: &mut String,
-) -> Result<(), AllocError> {
-    push(told, event_shown(alloc, event)?.as_str(), telling)
-}
-
 /// Appends events, one after the other.
 fn push_events(
     alloc: Global,
@@ -43,7 +33,7 @@ fn push_events(
     told: &mut String,
 ) -> Result<(), AllocError> {
     for event in events {
-        push_event(alloc, event, telling, told)?;
+        push(told, event_shown(alloc, event)?.as_str(), telling)?;
     }
     Ok(())
 }

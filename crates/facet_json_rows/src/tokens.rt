@@ -27,7 +27,7 @@ pub fn answer_tokens(word: &str, input: &[u8], told: &mut String) -> Result<(), 
     match word {
         "plain" => write_tokens(Mode::Plain, input, told),
         "jsonc" => write_tokens(Mode::Jsonc, input, told),
-        _ => writeln!(told, "NO MODE"),
+        _ => told.push_str("NO MODE\n"),
     }
 }
 
@@ -45,7 +45,7 @@ fn write_tokens(mode: Mode, input: &[u8], told: &mut String) -> Result<(), Alloc
             None => return write_other_pieces(input, told),
         }
     }
-    writeln!(told, "DIFFERS: tokens after the input")
+    told.push_str("DIFFERS: tokens after the input\n")
 }
 
 /// Where the token ends; nothing of the end and of a refusal.
@@ -70,7 +70,7 @@ fn made(words: &str) -> Option<Scanner> {
 pub fn answer_scanner(words: &str, calls: &str, told: &mut String) -> Result<(), AllocError> {
     match made(words) {
         Some(mut scanner) => write_calls(&mut scanner, calls, told),
-        None => writeln!(told, "NO SCANNER"),
+        None => told.push_str("NO SCANNER\n"),
     }
 }
 
@@ -98,7 +98,7 @@ fn write_call(
         }
         _ => match called(scanner, name, buffer.as_bytes()) {
             Some(scanned) => write_scanned(&scanned, told),
-            None => writeln!(told, "NO CALL"),
+            None => told.push_str("NO CALL\n"),
         },
     }
 }

@@ -84,7 +84,7 @@ pub fn answer_equal(alloc: Global, input: &str, told: &mut String) -> Result<(),
     let (a, b) = input.split_once('|').unwrap_or((input, ""));
     match are_equal(alloc, a, b) {
         Some(equal) => writeln!(told, "{equal}"),
-        None => writeln!(told, "NO TREE"),
+        None => told.push_str("NO TREE\n"),
     }
 }
 
@@ -135,6 +135,6 @@ pub fn answer_write(
 ) -> Result<(), AllocError> {
     match text_of(alloc, input, word) {
         Some(text) => write_lines(text.as_bytes(), told),
-        None => writeln!(told, "NO TREE"),
+        None => told.push_str("NO TREE\n"),
     }
 }

@@ -48,8 +48,8 @@ fn tell_part(
     }
     let text = passed(alloc, parser, call)?;
     push(told, text.as_str(), Telling::All)?;
-    if text.starts_with("refused") {
-        tell_again(alloc, parser, call, text.as_str(), told)?;
+    if text.starts_with("refused") && !is_refused_again(alloc, parser, call, text.as_str())? {
+        push(told, "not again", Telling::All)?;
     }
     if !is_within(parser, len) {
         push(told, "outside", Telling::All)?;
@@ -68,23 +68,19 @@ fn is_within(parser: &mut JsonParser<'_>, len: usize) -> bool {
     last.end() <= len && next.end() <= len
 }
 
-/// What else than the refusal the call does once more, and the next event.
-fn tell_again(
+/// Whether the call once more, and then the next event, are refused so.
+fn is_refused_again(
     alloc: Global,
     parser: &mut JsonParser<'_>,
     call: Unread,
     refusal: &str,
-    told: &mut String,
-) -> Result<(), AllocError> {
-    let again = passed(alloc, parser, call)?;
-    let next = match parser.next_event() {
-        Err(error) => error_shown(alloc, &error)?,
-        Ok(_) => "no refusal".to_string(alloc)?,
-    };
-    if again.as_str() == refusal && next.as_str() == refusal {
-        Ok(())
-    } else {
-        push(told, "not again", Telling::All)
+) -> Result<bool, AllocError> {
+    if passed(alloc, parser, call)?.as_str() != refusal {
+        return Ok(false);
+    }
+    match parser.next_event() {
+        Err(error) => Ok(error_shown(alloc, &error)?.as_str() == refusal),
+        Ok(_) => Ok(false),
     }
 }
 
