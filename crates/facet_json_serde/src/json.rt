@@ -2,7 +2,6 @@
 
 ghost use Rattle.std.specs.Prelude.{◌≡◌, true, [], IfOk, OnOk, MatchBool, MatchOption};
 ghost use Rattle.std.specs.Cow.{cow_str_bytes};
-ghost use Rattle.facet_format.specs.Event.{scalar, decimal};
 ghost use Rattle.facet_format.specs.Views.{event_of, span_of};
 ghost use Rattle.facet_json_document.specs.Move.{with_kept};
 ghost use Rattle.facet_json_document.specs.Next.{PassesNext};
@@ -13,9 +12,7 @@ ghost use Rattle.facet_json_serde.specs.Ahead.{Stands, Stays, Reads, Passes, Giv
 use crate::error::Error;
 use crate::fault::{ReadFault, ReadFaultKind, Sort};
 use crate::found::{found_in, is_quoted};
-use facet_format::{
-    Decimal, FormatParser, ParseEvent, ParseEventKind, SavePoint, ScalarValue, Span,
-};
+use facet_format::{FormatParser, ParseEvent, ParseEventKind, SavePoint, ScalarValue, Span};
 use facet_json_parser::{JsonParser, comes_other, next_wanted};
 use facet_json_reader::{Member, Null, Sought, Wanted, Whole};
 use std::alloc::Global;
@@ -261,11 +258,11 @@ impl<'de> Json<'de> {
         Some(wanted)
     }
 
-    /// Takes a number with a fraction or an exponent, where a few bytes decide that it comes. Else nothing changes.
+    /// The same of a value that is no key.
     #[inline(always)]
-    pub(crate) fn decimal(&mut self) -> Option<Decimal<'de>>
+    pub(crate) fn plain<W: Wanted<'de>>(&mut self) -> Option<W>
         ensures { MatchOption result (self.new ≡ self.old)
-            (λ d. Passes self.old (record { kind = scalar (decimal d); span = span_of self.new.last }) self.new × (self.new.ahead ≡ Ahead.Nothing)) }
+            (λ w. Passes self.old (record { kind = W.kind w; span = span_of self.new.last }) self.new × (self.new.ahead ≡ Ahead.Nothing)) }
     {
         if self.at_key {
             return None;
