@@ -40,9 +40,9 @@ impl<'de> Json<'de> {
         ensures { IfOk result (λ v. Reads self.old (λ given. V.is input.now given v) self.new) }
     {
         let event = self.take()?;
-        match V::of_event(&event, at_key, input) {
+        match V::of_event(&event.0, at_key, input) {
             Ok(value) => Ok(value),
-            Err(why) => Err(self.unread(why, &event)),
+            Err(why) => Err(self.unread(why, &event.0)),
         }
     }
 
@@ -96,7 +96,7 @@ impl<'de> Json<'de> {
             (Gives self.old [] seq_ends self.new)) }
     {
         let item = self.take()?;
-        if let ParseEventKind::SequenceEnd = item.kind {
+        if let ParseEventKind::SequenceEnd = item.0.kind {
             return Ok(false);
         }
         self.ahead = Ahead::Event(item);
@@ -245,7 +245,7 @@ impl<'de> Format for Json<'de> {
     fn peek(&mut self, input: &[u8]) -> Result<Kind, ReadFault> {
         self.look()?;
         let found = match &self.ahead {
-            Ahead::Event(event) => kind_of(event, self.at_key, input),
+            Ahead::Event(event) => kind_of(&event.0, self.at_key, input),
             Ahead::Stopped(kind, span) => return Err(ReadFault::at(*kind, *span)),
             Ahead::Nothing | Ahead::Back => None,
         };
@@ -328,14 +328,14 @@ impl<'de> Format for Json<'de> {
 
     fn next_entry(&mut self, _input: &[u8]) -> Result<bool, ReadFault> {
         let event = self.take()?;
-        match &event.kind {
+        match &event.0.kind {
             ParseEventKind::FieldKey(_) => {
                 self.ahead = Ahead::Event(event);
                 self.at_key = true;
                 Ok(true)
             }
             ParseEventKind::StructEnd => Ok(false),
-            _ => Err(self.mismatch(Sort::Key, &event.kind, event.span)),
+            _ => Err(self.mismatch(Sort::Key, &event.0.kind, event.0.span)),
         }
     }
 
