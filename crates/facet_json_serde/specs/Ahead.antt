@@ -19,7 +19,7 @@ use Rattle.facet_json_serde.specs.declared.json.Json.{Json}
 -- Before the event that is ahead, the parser stood there. A format that stopped stands nowhere.
 abbrev pub StandsBefore : Ahead → Now → Now → Type 0
 StandsBefore ahead.Nothing parser now = parser ≡ now
-StandsBefore (ahead.Event held) parser now = PassesNext now (event_of held) parser
+StandsBefore (ahead.Event held) parser now = PassesNext now (event_of held.0) parser
 StandsBefore ahead.Back parser now = parser ≡ now
 StandsBefore (ahead.Stopped kind span) parser now = ⊥
 

@@ -1,14 +1,15 @@
 //! The steps of a `Format`, over the events of a parser.
 
-ghost use Rattle.std.specs.Prelude.{◌≡◌, true, None, [], IfOk, OnOk, MatchBool, slice_range, string_bytes};
+ghost use Rattle.std.specs.Prelude.{◌≡◌, [], IfOk, OnOk, MatchBool, slice_range, string_bytes};
 ghost use Rattle.std.specs.Cow.{cow_str_bytes};
-ghost use Rattle.serde.specs.Event.{boolean, signed, unsigned, single, double, text, seq_begins, seq_ends, map_begins, struct_begins};
-ghost use Rattle.facet_json_serde.specs.Ahead.{Gives, Picks, Stays, Shows, BeginsList};
+ghost use Rattle.serde.specs.Event.{text, seq_ends};
+ghost use Rattle.facet_json_serde.specs.Ahead.{Gives, Picks, Reads, Stays, Shows, BeginsList};
 
 use crate::fault::{ReadFault, ReadFaultKind, Sort};
-use crate::found::{digits_in, kind_of, number_in, number_key};
+use crate::found::kind_of;
 use crate::json::{Ahead, Json};
-use facet_format::{ParseEvent, ParseEventKind, ScalarValue, Span};
+use crate::one_event::{FieldsStart, OfEvent, Unread};
+use facet_format::{Decimal, ParseEvent, ParseEventKind, Span};
 use facet_json_reader::{ListEnd, ListStart, ObjectStart, Sought, Whole};
 use serde::{Format, Kind, Name};
 use std::alloc::Global;
@@ -33,41 +34,37 @@ fn owned(alloc: Global, text: CowStr<'_>) -> Result<String, ReadFault>
 }
 
 impl<'de> Json<'de> {
-    /// A key as a bool.
-    fn bool_key(&mut self, input: &[u8]) -> Result<bool, ReadFault>
-        requires { self.now.at_key ≡ true }
-        ensures { IfOk result (λ v. Gives self.old input.now (boolean v) self.new) }
+    /// What the next event is read as, as a value or as a key.
+    #[inline(never)]
+    fn one<V: OfEvent>(&mut self, at_key: bool, input: &[u8]) -> Result<V, ReadFault>
+        ensures { IfOk result (λ v. Reads self.old (λ given. V.is input.now given v) self.new) }
     {
-        let text = self.text(input)?;
-        match text.as_str().parse::<bool>() {
-            Ok(b) => Ok(b),
-            Err(_) => Err(self.error(ReadFaultKind::InvalidValue)),
+        let event = self.take()?;
+        match V::of_event(&event.0, at_key, input) {
+            Ok(value) => Ok(value),
+            Err(why) => Err(self.unread(why, &event.0)),
         }
     }
 
-    /// A key as a whole number.
-    fn signed_key(&mut self, input: &[u8]) -> Result<i64, ReadFault>
-        requires { self.now.at_key ≡ true }
-        ensures { IfOk result (λ v. Gives self.old input.now (signed v) self.new) }
+    /// The same of a value that holds no others, by an event.
+    #[inline(never)]
+    fn scalar<V: OfEvent>(&mut self, input: &[u8]) -> Result<V, ReadFault>
+        ensures { IfOk result (λ v. Reads self.old (λ given. V.is input.now given v) self.new) }
     {
-        let text = self.text(input)?;
-        let number = number_key(text.as_str()).ok_or(self.error(ReadFaultKind::InvalidValue))?;
-        match fast_float::parse_i64(number) {
-            Ok(n) => Ok(n),
-            Err(_) => Err(self.error(ReadFaultKind::InvalidValue)),
-        }
+        let at_key = self.at_key;
+        self.at_key = false;
+        self.one(at_key, input)
     }
 
-    /// A key as a whole number without a sign.
-    fn unsigned_key(&mut self, input: &[u8]) -> Result<u64, ReadFault>
-        requires { self.now.at_key ≡ true }
-        ensures { IfOk result (λ v. Gives self.old input.now (unsigned v) self.new) }
-    {
-        let text = self.text(input)?;
-        let number = number_key(text.as_str()).ok_or(self.error(ReadFaultKind::InvalidValue))?;
-        match fast_float::parse_u64(number) {
-            Ok(n) => Ok(n),
-            Err(_) => Err(self.error(ReadFaultKind::InvalidValue)),
+    /// The fault of an event that is not read.
+    #[cold]
+    #[inline(never)]
+    fn unread(&self, why: Unread, event: &ParseEvent<'_>) -> ReadFault {
+        match why {
+            Unread::Other(wanted) => self.mismatch(wanted, &event.kind, event.span),
+            Unread::NoWhole(wanted) => self.no_number(wanted, &event.kind, event.span),
+            Unread::OutOfRange(wanted) => out_of_range(wanted, event.span),
+            Unread::Invalid => self.error(ReadFaultKind::InvalidValue),
         }
     }
 
@@ -84,102 +81,12 @@ impl<'de> Json<'de> {
         }
     }
 
-    /// A truth value, by an event.
-    #[inline(never)]
-    fn bool_slowly(&mut self) -> Result<bool, ReadFault>
-        ensures { IfOk result (λ v. Gives self.old [] (boolean v) self.new) }
-    {
-        let ParseEvent { kind, span } = self.take()?;
-        match kind {
-            ParseEventKind::Scalar(ScalarValue::Bool(b)) => Ok(b),
-            kind => Err(self.mismatch(Sort::Bool, &kind, span)),
-        }
-    }
-
-    /// A whole number, by an event.
-    #[inline(never)]
-    fn i64_slowly(&mut self) -> Result<i64, ReadFault>
-        ensures { IfOk result (λ v. Gives self.old [] (signed v) self.new) }
-    {
-        let ParseEvent { kind, span } = self.take()?;
-        match kind {
-            ParseEventKind::Scalar(ScalarValue::I64(n)) => Ok(n),
-            ParseEventKind::Scalar(ScalarValue::U64(n)) => match i64::try_from(n) {
-                Ok(n) => Ok(n),
-                Err(_) => Err(out_of_range(Sort::I64, span)),
-            },
-            kind => Err(self.no_number(Sort::I64, &kind, span)),
-        }
-    }
-
-    /// A whole number without a sign, by an event.
-    #[inline(never)]
-    fn u64_slowly(&mut self) -> Result<u64, ReadFault>
-        ensures { IfOk result (λ v. Gives self.old [] (unsigned v) self.new) }
-    {
-        let ParseEvent { kind, span } = self.take()?;
-        match kind {
-            ParseEventKind::Scalar(ScalarValue::U64(n)) => Ok(n),
-            ParseEventKind::Scalar(ScalarValue::I64(n)) => match u64::try_from(n) {
-                Ok(n) => Ok(n),
-                Err(_) => Err(out_of_range(Sort::U64, span)),
-            },
-            kind => Err(self.no_number(Sort::U64, &kind, span)),
-        }
-    }
-
-    /// A number as a float, by an event: a whole one, or a key.
-    #[inline(never)]
-    fn f32_slowly(&mut self, input: &[u8]) -> Result<f32, ReadFault>
-        ensures { IfOk result (λ v. Gives self.old input.now (single v) self.new) }
-    {
-        let at_key = self.at_key;
-        self.at_key = false;
-        let event = self.take()?;
-        let Some(text) = number_in(&event, at_key, input) else {
-            return Err(self.mismatch(Sort::F32, &event.kind, event.span));
-        };
-        match fast_float::parse::<f32, _>(text) {
-            Ok(x) if x.is_finite() => Ok(x),
-            _ => Err(out_of_range(Sort::F32, event.span)),
-        }
-    }
-
-    /// The same of 64 bits.
-    #[inline(never)]
-    fn f64_slowly(&mut self, input: &[u8]) -> Result<f64, ReadFault>
-        ensures { IfOk result (λ v. Gives self.old input.now (double v) self.new) }
-    {
-        let at_key = self.at_key;
-        self.at_key = false;
-        let event = self.take()?;
-        let Some(text) = number_in(&event, at_key, input) else {
-            return Err(self.mismatch(Sort::F64, &event.kind, event.span));
-        };
-        match fast_float::parse::<f64, _>(text) {
-            Ok(x) if x.is_finite() => Ok(x),
-            _ => Err(out_of_range(Sort::F64, event.span)),
-        }
-    }
-
     /// A text in memory of its own, as a value or as a key, by an event.
     #[inline(never)]
     fn string_slowly(&mut self, alloc: Global, input: &[u8]) -> Result<String, ReadFault>
         ensures { IfOk result (λ v. Gives self.old [] (text (string_bytes v)) self.new) }
     {
         owned(alloc, self.text(input)?)
-    }
-
-    /// The beginning of a list, by an event.
-    #[inline(never)]
-    fn begin_seq_slowly(&mut self) -> Result<(), ReadFault>
-        ensures { OnOk result (Gives self.old [] (seq_begins None) self.new) }
-    {
-        let ParseEvent { kind, span } = self.take()?;
-        match kind {
-            ParseEventKind::SequenceStart(_) => Ok(()),
-            kind => Err(self.mismatch(Sort::Array, &kind, span)),
-        }
     }
 
     /// Whether an item comes, which stays the next one, by an event.
@@ -189,36 +96,11 @@ impl<'de> Json<'de> {
             (Gives self.old [] seq_ends self.new)) }
     {
         let item = self.take()?;
-        if let ParseEventKind::SequenceEnd = item.kind {
+        if let ParseEventKind::SequenceEnd = item.0.kind {
             return Ok(false);
         }
         self.ahead = Ahead::Event(item);
         Ok(true)
-    }
-
-    /// The beginning of a map, by an event.
-    #[inline(never)]
-    fn begin_map_slowly(&mut self) -> Result<(), ReadFault>
-        ensures { OnOk result (Gives self.old [] (map_begins None) self.new) }
-    {
-        let ParseEvent { kind, span } = self.take()?;
-        match kind {
-            ParseEventKind::StructStart(_) => Ok(()),
-            kind => Err(self.mismatch(Sort::Object, &kind, span)),
-        }
-    }
-
-    /// The beginning of a map, or of a list, by an event.
-    #[inline(never)]
-    fn begin_struct_slowly(&mut self) -> Result<bool, ReadFault>
-        ensures { IfOk result (λ b. Gives self.old [] (struct_begins b) self.new) }
-    {
-        let ParseEvent { kind, span } = self.take()?;
-        match kind {
-            ParseEventKind::StructStart(_) => Ok(false),
-            ParseEventKind::SequenceStart(_) => Ok(true),
-            kind => Err(self.mismatch(Sort::Object, &kind, span)),
-        }
     }
 
     /// The next byte of a list of bytes, or `None` at its end, which it takes.
@@ -264,87 +146,48 @@ impl<'de> Format for Json<'de> {
 
     #[inline(always)]
     fn bool(&mut self, input: &[u8]) -> Result<bool, ReadFault> {
-        if self.at_key {
-            return Ok(self.bool_key(input)?);
-        }
-        match self.wanted() {
+        match self.plain() {
             Some(truth) => Ok(truth),
-            None => Ok(self.bool_slowly()?),
+            None => Ok(self.scalar(input)?),
         }
     }
 
     #[inline(always)]
     fn i64(&mut self, input: &[u8]) -> Result<i64, ReadFault> {
-        if self.at_key {
-            return Ok(self.signed_key(input)?);
-        }
-        match self.wanted() {
+        match self.plain() {
             Some(Whole::Signed(n)) => Ok(n),
             Some(Whole::Unsigned(n)) => match i64::try_from(n) {
                 Ok(n) => Ok(n),
                 Err(_) => Err(out_of_range(Sort::I64, self.last)),
             },
-            None => Ok(self.i64_slowly()?),
+            None => Ok(self.scalar(input)?),
         }
     }
 
     #[inline(always)]
     fn u64(&mut self, input: &[u8]) -> Result<u64, ReadFault> {
-        if self.at_key {
-            return Ok(self.unsigned_key(input)?);
-        }
-        match self.wanted() {
+        match self.plain() {
             Some(Whole::Unsigned(n)) => Ok(n),
             Some(Whole::Signed(n)) => match u64::try_from(n) {
                 Ok(n) => Ok(n),
                 Err(_) => Err(out_of_range(Sort::U64, self.last)),
             },
-            None => Ok(self.u64_slowly()?),
+            None => Ok(self.scalar(input)?),
         }
     }
 
     fn i128(&mut self, input: &[u8]) -> Result<i128, ReadFault> {
-        let at_key = self.at_key;
-        self.at_key = false;
-        let event = self.take()?;
-        match &event.kind {
-            ParseEventKind::Scalar(ScalarValue::U64(n)) => return Ok(i128::from(*n)),
-            ParseEventKind::Scalar(ScalarValue::I64(n)) => return Ok(i128::from(*n)),
-            _ => {}
-        }
-        let Some(text) = digits_in(&event, at_key, input) else {
-            return Err(self.mismatch(Sort::I128, &event.kind, event.span));
-        };
-        match text.parse::<i128>() {
-            Ok(n) => Ok(n),
-            Err(_) => Err(out_of_range(Sort::I128, event.span)),
-        }
+        self.scalar(input)
     }
 
     fn u128(&mut self, input: &[u8]) -> Result<u128, ReadFault> {
-        let at_key = self.at_key;
-        self.at_key = false;
-        let event = self.take()?;
-        match &event.kind {
-            ParseEventKind::Scalar(ScalarValue::U64(n)) => return Ok(u128::from(*n)),
-            ParseEventKind::Scalar(ScalarValue::I64(_)) => {
-                return Err(out_of_range(Sort::U128, event.span));
-            }
-            _ => {}
-        }
-        let Some(text) = digits_in(&event, at_key, input) else {
-            return Err(self.mismatch(Sort::U128, &event.kind, event.span));
-        };
-        match text.parse::<u128>() {
-            Ok(n) => Ok(n),
-            Err(_) => Err(out_of_range(Sort::U128, event.span)),
-        }
+        self.scalar(input)
     }
 
     #[inline(always)]
     fn f32(&mut self, input: &[u8]) -> Result<f32, ReadFault> {
-        let Some(decimal) = self.decimal() else {
-            return Ok(self.f32_slowly(input)?);
+        let Some(decimal) = self.plain::<Decimal<'_>>() else {
+            return Ok(self.scalar(input)?);
         };
         match fast_float::parse::<f32, _>(decimal.as_str()) {
             Ok(x) if x.is_finite() => Ok(x),
@@ -354,8 +197,8 @@ impl<'de> Format for Json<'de> {
 
     #[inline(always)]
     fn f64(&mut self, input: &[u8]) -> Result<f64, ReadFault> {
-        let Some(decimal) = self.decimal() else {
-            return Ok(self.f64_slowly(input)?);
+        let Some(decimal) = self.plain::<Decimal<'_>>() else {
+            return Ok(self.scalar(input)?);
         };
         match fast_float::parse::<f64, _>(decimal.as_str()) {
             Ok(x) if x.is_finite() => Ok(x),
@@ -402,7 +245,7 @@ impl<'de> Format for Json<'de> {
     fn peek(&mut self, input: &[u8]) -> Result<Kind, ReadFault> {
         self.look()?;
         let found = match &self.ahead {
-            Ahead::Event(event) => kind_of(event, self.at_key, input),
+            Ahead::Event(event) => kind_of(&event.0, self.at_key, input),
             Ahead::Stopped(kind, span) => return Err(ReadFault::at(*kind, *span)),
             Ahead::Nothing | Ahead::Back => None,
         };
@@ -423,10 +266,13 @@ impl<'de> Format for Json<'de> {
     }
 
     #[inline(always)]
-    fn begin_seq(&mut self, _input: &[u8]) -> Result<(), ReadFault> {
+    fn begin_seq(&mut self, input: &[u8]) -> Result<(), ReadFault> {
         match self.wanted() {
             Some(ListStart) => Ok(()),
-            None => Ok(self.begin_seq_slowly()?),
+            None => {
+                let ListStart = self.one(self.at_key, input)?;
+                Ok(())
+            }
         }
     }
 
@@ -451,18 +297,24 @@ impl<'de> Format for Json<'de> {
     }
 
     #[inline(always)]
-    fn begin_map(&mut self, _input: &[u8]) -> Result<(), ReadFault> {
+    fn begin_map(&mut self, input: &[u8]) -> Result<(), ReadFault> {
         match self.wanted() {
             Some(ObjectStart) => Ok(()),
-            None => Ok(self.begin_map_slowly()?),
+            None => {
+                let ObjectStart = self.one(self.at_key, input)?;
+                Ok(())
+            }
         }
     }
 
     #[inline(always)]
-    fn begin_struct(&mut self, _input: &[u8]) -> Result<bool, ReadFault> {
+    fn begin_struct(&mut self, input: &[u8]) -> Result<bool, ReadFault> {
         match self.wanted() {
             Some(ObjectStart) => Ok(false),
-            None => Ok(self.begin_struct_slowly()?),
+            None => {
+                let FieldsStart { is_list } = self.one(self.at_key, input)?;
+                Ok(is_list)
+            }
         }
     }
 
@@ -476,14 +328,14 @@ impl<'de> Format for Json<'de> {
 
     fn next_entry(&mut self, _input: &[u8]) -> Result<bool, ReadFault> {
         let event = self.take()?;
-        match &event.kind {
+        match &event.0.kind {
             ParseEventKind::FieldKey(_) => {
                 self.ahead = Ahead::Event(event);
                 self.at_key = true;
                 Ok(true)
             }
             ParseEventKind::StructEnd => Ok(false),
-            _ => Err(self.mismatch(Sort::Key, &event.kind, event.span)),
+            _ => Err(self.mismatch(Sort::Key, &event.0.kind, event.0.span)),
         }
     }
 

@@ -2,7 +2,6 @@
 
 ghost use Rattle.std.specs.Prelude.{◌≡◌, true, [], IfOk, OnOk, MatchBool, MatchOption};
 ghost use Rattle.std.specs.Cow.{cow_str_bytes};
-ghost use Rattle.facet_format.specs.Event.{scalar, decimal};
 ghost use Rattle.facet_format.specs.Views.{event_of, span_of};
 ghost use Rattle.facet_json_document.specs.Move.{with_kept};
 ghost use Rattle.facet_json_document.specs.Next.{PassesNext};
@@ -13,13 +12,32 @@ ghost use Rattle.facet_json_serde.specs.Ahead.{Stands, Stays, Reads, Passes, Giv
 use crate::error::Error;
 use crate::fault::{ReadFault, ReadFaultKind, Sort};
 use crate::found::{found_in, is_quoted};
-use facet_format::{
-    Decimal, FormatParser, ParseEvent, ParseEventKind, SavePoint, ScalarValue, Span,
-};
+use facet_format::{FormatParser, ParseEvent, ParseEventKind, SavePoint, ScalarValue, Span};
 use facet_json_parser::{JsonParser, comes_other, next_wanted};
 use facet_json_reader::{Member, Null, Sought, Wanted, Whole};
 use std::alloc::Global;
 use std::borrow::CowStr;
+
+/// An event that came. It is dropped by a call, so that a proof about a function that owns one need not take it apart.
+pub(crate) struct Came<'de>(pub(crate) ParseEvent<'de>);
+
+impl<'de> Came<'de> {
+    /// The event.
+    #[inline(always)]
+    fn event(self) -> ParseEvent<'de>
+        ensures { result ≡ self.entry.0 }
+    {
+        let Came(event) = self;
+        event
+    }
+}
+
+impl Drop for Came<'_> {
+    #[inline(always)]
+    fn drop(self) {
+        let Came(_) = self;
+    }
+}
 
 /// What stands before the parser's next event.
 #[derive(Drop)]
@@ -27,7 +45,7 @@ pub(crate) enum Ahead<'de> {
     /// Nothing: the parser's next event comes.
     Nothing,
     /// This event, which the parser has passed.
-    Event(ParseEvent<'de>),
+    Event(Came<'de>),
     /// Nothing, after a return to the last mark, which is kept again before anything is read.
     Back,
     /// No event ever: reading failed so, and no rewind brings it back.
@@ -38,7 +56,7 @@ pub(crate) enum Ahead<'de> {
 #[derive(Drop)]
 struct Marked<'de> {
     point: SavePoint,
-    ahead: Option<ParseEvent<'de>>,
+    ahead: Option<Came<'de>>,
     last: Span,
     at_key: bool,
 }
@@ -134,14 +152,17 @@ impl<'de> Json<'de> {
             Ahead::Nothing | Ahead::Back => {}
             Ahead::Event(event) => return Err(self.mismatch(
                 Sort::EndOfInput,
-                &event.kind,
-                event.span,
+                &event.0.kind,
+                event.0.span,
             )),
             Ahead::Stopped(kind, span) => return Err(ReadFault::at(*kind, *span)),
         }
         match self.parser.next_event() {
             Ok(None) => Ok(()),
-            Ok(Some(event)) => Err(self.mismatch(Sort::EndOfInput, &event.kind, event.span)),
+            Ok(Some(event)) => {
+                let event = Came(event);
+                Err(self.mismatch(Sort::EndOfInput, &event.0.kind, event.0.span))
+            }
             Err(refused) => Err(self.stop(ReadFaultKind::Parser, refused.span)),
         }
     }
@@ -233,14 +254,14 @@ impl<'de> Json<'de> {
 
     /// The parser's next event.
     #[inline(always)]
-    fn read(&mut self) -> Result<ParseEvent<'de>, ReadFault>
-        ensures passes { IfOk result (λ e. PassesNext self.old.parser (event_of e) self.new.parser) }
+    fn read(&mut self) -> Result<Came<'de>, ReadFault>
+        ensures passes { IfOk result (λ e. PassesNext self.old.parser (event_of e.0) self.new.parser) }
         ensures ahead { OnOk result (self.new.ahead ≡ self.old.ahead) }
     {
         match self.parser.next_event() {
             Ok(Some(event)) => {
                 self.last = event.span;
-                Ok(event)
+                Ok(Came(event))
             }
             Ok(None) => Err(self.stop(ReadFaultKind::Ended, Span::new(self.last.end(), 0))),
             Err(refused) => Err(self.stop(ReadFaultKind::Parser, refused.span)),
@@ -261,11 +282,11 @@ impl<'de> Json<'de> {
         Some(wanted)
     }
 
-    /// Takes a number with a fraction or an exponent, where a few bytes decide that it comes. Else nothing changes.
+    /// The same of a value that is no key.
     #[inline(always)]
-    pub(crate) fn decimal(&mut self) -> Option<Decimal<'de>>
+    pub(crate) fn plain<W: Wanted<'de>>(&mut self) -> Option<W>
         ensures { MatchOption result (self.new ≡ self.old)
-            (λ d. Passes self.old (record { kind = scalar (decimal d); span = span_of self.new.last }) self.new × (self.new.ahead ≡ Ahead.Nothing)) }
+            (λ w. Passes self.old (record { kind = W.kind w; span = span_of self.new.last }) self.new × (self.new.ahead ≡ Ahead.Nothing)) }
     {
         if self.at_key {
             return None;
@@ -284,8 +305,8 @@ impl<'de> Json<'de> {
 
     /// Takes the next event.
     #[inline(always)]
-    pub(crate) fn take(&mut self) -> Result<ParseEvent<'de>, ReadFault>
-        ensures passes { IfOk result (λ e. Passes self.old (event_of e) self.new) }
+    pub(crate) fn take(&mut self) -> Result<Came<'de>, ReadFault>
+        ensures passes { IfOk result (λ e. Passes self.old (event_of e.0) self.new) }
         ensures free { OnOk result (self.new.ahead ≡ Ahead.Nothing) }
     {
         if let Ahead::Nothing = &self.ahead {
@@ -296,13 +317,13 @@ impl<'de> Json<'de> {
 
     /// Takes the event that is ahead, or keeps the mark to which it returned before it reads one.
     #[tactic(auto, using(crate::proofs::StepsRead::kept_passes))]
-    fn take_ahead(&mut self) -> Result<ParseEvent<'de>, ReadFault>
-        ensures passes { IfOk result (λ e. Passes self.old (event_of e) self.new) }
+    fn take_ahead(&mut self) -> Result<Came<'de>, ReadFault>
+        ensures passes { IfOk result (λ e. Passes self.old (event_of e.0) self.new) }
         ensures free { OnOk result (self.new.ahead ≡ Ahead.Nothing) }
     {
         match std::mem::replace(&mut self.ahead, Ahead::Nothing) {
             Ahead::Event(event) => {
-                self.last = event.span;
+                self.last = event.0.span;
                 Ok(event)
             }
             Ahead::Nothing => self.read(),
@@ -353,7 +374,7 @@ impl<'de> Json<'de> {
         self.look()?;
         match &self.ahead {
             Ahead::Event(event) => {
-                if !matches!(event.kind, ParseEventKind::Scalar(ScalarValue::Null)) {
+                if !matches!(event.0.kind, ParseEventKind::Scalar(ScalarValue::Null)) {
                     return Ok(false);
                 }
             }
@@ -390,7 +411,7 @@ impl<'de> Json<'de> {
     {
         let at_key = self.at_key;
         self.at_key = false;
-        let ParseEvent { kind, span } = self.take()?;
+        let ParseEvent { kind, span } = self.take()?.event();
         match kind {
             ParseEventKind::Scalar(ScalarValue::Str(text)) if !at_key => quoted(text, input, span),
             ParseEventKind::FieldKey(key) if at_key => Ok(key.name),
@@ -426,7 +447,7 @@ impl<'de> Json<'de> {
         ensures { IfOk result (λ o. MatchOption o (Gives self.old [] map_ends self.new)
             (λ key. Reads self.old (λ given. IsKey given.kind (cow_str_bytes key)) self.new)) }
     {
-        let ParseEvent { kind, span } = self.take()?;
+        let ParseEvent { kind, span } = self.take()?.event();
         match kind {
             ParseEventKind::FieldKey(key) => Ok(Some(key.name)),
             ParseEventKind::StructEnd => Ok(None),
@@ -437,12 +458,12 @@ impl<'de> Json<'de> {
     /// Passes a value, of which one event is ahead.
     #[inline(never)]
     pub(crate) fn skip_ahead(&mut self) -> Result<(), ReadFault> {
-        let ParseEvent { kind, span } = self.take()?;
+        let event = self.take()?;
         self.at_key = false;
-        match kind {
+        match &event.0.kind {
             ParseEventKind::Scalar(_) | ParseEventKind::FieldKey(_) => Ok(()),
             ParseEventKind::StructStart(_) | ParseEventKind::SequenceStart(_) => self.skip_rest(),
-            kind => Err(self.mismatch(Sort::Value, &kind, span)),
+            kind => Err(self.mismatch(Sort::Value, kind, event.0.span)),
         }
     }
 
@@ -450,7 +471,7 @@ impl<'de> Json<'de> {
     fn skip_rest(&mut self) -> Result<(), ReadFault> {
         let mut depth = 1u64;
         for _ in 0..u64::MAX {
-            match self.read()?.kind {
+            match self.read()?.0.kind {
                 ParseEventKind::StructStart(_) | ParseEventKind::SequenceStart(_) => {
                     depth = depth.saturating_add(1);
                 }
@@ -481,7 +502,7 @@ impl<'de> Json<'de> {
 
     /// Keeps where the parser stands, and the event that is ahead, as the last mark. Without memory for it the answer is no.
     #[inline(always)]
-    fn keep_point(&mut self, ahead: Option<ParseEvent<'de>>) -> bool
+    fn keep_point(&mut self, ahead: Option<Came<'de>>) -> bool
         ensures { result ≡ true → (self.new.parser ≡ with_kept self.old.parser) × (self.new.ahead ≡ self.old.ahead) }
     {
         let Ok(point) = self.parser.save() else {
@@ -504,8 +525,8 @@ impl<'de> Json<'de> {
         let Ahead::Event(event) = &self.ahead else {
             return false;
         };
-        match event.clone(self.alloc) {
-            Ok(event) => self.keep_point(Some(event)),
+        match event.0.clone(self.alloc) {
+            Ok(event) => self.keep_point(Some(Came(event))),
             Err(_) => false,
         }
     }

@@ -9,6 +9,7 @@ mod fault;
 mod format;
 mod found;
 mod json;
+mod one_event;
 mod one_value;
 mod reading;
 mod stage;

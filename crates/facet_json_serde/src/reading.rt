@@ -7,7 +7,7 @@ use crate::error::Error;
 use crate::fault::ReadFault;
 use crate::json::Json;
 use facet_json_parser::JsonParser;
-use serde::{Deserialize, Deserializer};
+use serde::{Deserialize, Deserializer, Format};
 use std::alloc::Global;
 
 /// Reads the value of the document that the bytes begin with (RFC 8259, sections 2 to 7, with lenient readings such as a trailing comma). It may
@@ -185,6 +185,16 @@ impl Json<'_> {
     ///
     /// As `from_slice`; `told` says where.
     pub fn value<'de, T: Deserialize<'de>>(&mut self, input: &'de [u8]) -> Result<T, ReadFault> {
-        T::deserialize(self.alloc, &mut Deserializer::new(input, self))
+        read_by(self.alloc, input, self)
     }
+}
+
+/// Reads the value that comes, by any format.
+#[inline(always)]
+fn read_by<'de, F: Format, T: Deserialize<'de>>(
+    alloc: Global,
+    input: &'de [u8],
+    format: &mut F,
+) -> Result<T, F::Error> {
+    T::deserialize(alloc, &mut Deserializer::new(input, format))
 }

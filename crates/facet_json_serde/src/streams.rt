@@ -9,12 +9,10 @@ ghost use Rattle.facet_json_serde.specs.OneValue.{WritesTree};
 ghost use Rattle.facet_json_serde.specs.Within.{IsRefused, LiesWithin, TellsWithin};
 
 use crate::error::Error;
-use crate::fault::ReadFault;
-use crate::json::Json;
+use crate::reading::from_slice;
 use crate::writing::to_vec_with_options;
-use facet_json_parser::JsonParser;
 use facet_json_serializer::SerializeOptions;
-use serde::{DeserializeOwned, Deserializer, Serialize};
+use serde::{Deserialize, DeserializeOwned, Deserializer, Format, Serialize};
 use std::alloc::Global;
 use std::io::{Read, Write};
 use std::{fmt, io};
@@ -71,38 +69,21 @@ pub fn from_reader<'t, R: Read, T: DeserializeOwned>(
 {
     let mut input = Vec::new(alloc);
     reader.read_to_end(&mut input)?;
-    Ok(owned_value(alloc, input.as_slice())?)
-}
-
-/// Reads the value of the document that the input begins with, which borrows nothing of it.
-fn owned_value<'t, T: DeserializeOwned>(alloc: Global, input: &[u8]) -> Result<T, Error<'t>>
-    ensures { IfErr result (λ e. LiesWithin (length input.now) e.span) }
-{
-    let mut json = Json::new(alloc, JsonParser::new(alloc, input));
-    match first_owned(alloc, input, &mut json) {
-        Ok(value) => Ok(value),
-        Err(fault) => Err(json.told(fault).within(input)),
-    }
-}
-
-/// Reads a value, and the end of the document.
-fn first_owned<T: DeserializeOwned>(
-    alloc: Global,
-    input: &[u8],
-    json: &mut Json<'_>,
-) -> Result<T, ReadFault> {
-    let value = one_owned(alloc, input, json)?;
-    json.finish()?;
+    let Owned(value) = from_slice(alloc, input.as_slice())?;
     Ok(value)
 }
 
-/// Reads a value.
-fn one_owned<T: DeserializeOwned>(
-    alloc: Global,
-    input: &[u8],
-    json: &mut Json<'_>,
-) -> Result<T, ReadFault> {
-    T::deserialize_owned(alloc, &mut Deserializer::new(input, json))
+/// A value that borrows nothing, as one that may borrow.
+#[derive(Drop)]
+struct Owned<T: Drop>(T);
+
+impl<'de, T: DeserializeOwned> Deserialize<'de> for Owned<T> {
+    fn deserialize<F: Format>(
+        alloc: Global,
+        from: &mut Deserializer<'de, '_, F>,
+    ) -> Result<Owned<T>, F::Error> {
+        Ok(Owned(T::deserialize_owned(alloc, from)?))
+    }
 }
 
 /// Writes the compact text of a value to the writer, which is not flushed: what `to_vec` gives.

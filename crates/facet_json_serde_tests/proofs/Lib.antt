@@ -1,1 +1,1 @@
-pub mod PairRead
+pub mod FigureRead

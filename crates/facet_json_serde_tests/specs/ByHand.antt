@@ -7,6 +7,8 @@ use Rattle.serde.specs.Event.{Event, unsigned, seq_begins, seq_ends}
 use Rattle.serde.specs.Steps.{Gives, Stays}
 use Rattle.serde.specs.declared.deserializer.Deserializer.{Deserializer}
 use Rattle.facet_json_serde.specs.Ahead.{BeginsList, IsUnsigned}
+use Rattle.facet_json_serde_tests.specs.declared.by_hand.Figure.{Figure}
+use Rattle.facet_json_serde_tests.specs.declared.by_hand.Figure.TheVariants.{Percent, Range}
 
 -- A whole number's event came next, in a parser of JSON.
 abbrev pub PassesNumber : Now → ℕ → Type 0
@@ -23,3 +25,13 @@ abbrev pub PassesPair : Now → ℕ → ℕ → Type 0
 PassesPair now low high =
     (begins first second ends : ParserEvent) × (begun between last after : Now) × PassesNext now begins begun × PassesNext begun first between
     × PassesNext between second last × PassesNext last ends after × BeginsList begins.kind × IsUnsigned first.kind low × IsUnsigned second.kind high
+
+-- Such a number or such a list was read after a look, in the words of any format.
+abbrev pub GivesFigure : {F E M : Type 0} → (F → List ℕ → Event → F → Type 0) → (F → F → Type 0) → Deserializer F E M → Figure → Deserializer F E M → Type 0
+GivesFigure {F} {E} {M} gives stays old (Percent p) new = (looked : Deserializer F E M) × Stays stays old looked × Gives gives looked (unsigned p.0) new
+GivesFigure {F} {E} {M} gives stays old (Range r) new = (looked : Deserializer F E M) × Stays stays old looked × GivesPair gives stays looked r.low r.high new
+
+-- Its events came next, in a parser of JSON.
+abbrev pub PassesFigure : Now → Figure → Type 0
+PassesFigure now (Percent p) = PassesNumber now p.0
+PassesFigure now (Range r) = PassesPair now r.low r.high

@@ -3,10 +3,10 @@
 ghost use Rattle.std.specs.Prelude.{◌≤◌, IfOk};
 ghost use Rattle.serde.specs.Event.{unsigned};
 ghost use Rattle.serde.specs.Steps.{Gives};
-ghost use Rattle.facet_json_serde_tests.specs.ByHand.{GivesPair, PassesNumber, PassesPair};
+ghost use Rattle.facet_json_serde_tests.specs.ByHand.{GivesFigure, GivesPair, PassesFigure};
 
 use facet_json_serde::{Json, JsonParser, ReadFault};
-use serde::{Deserialize, Deserializer, Format};
+use serde::{Deserialize, Deserializer, Format, Kind};
 use std::alloc::Global;
 
 /// A part of a hundred.
@@ -61,26 +61,38 @@ impl<'de> Deserialize<'de> for Range {
     }
 }
 
-/// The parser's next event is that number.
-pub fn read_percent<'de>(
-    alloc: Global,
-    input: &'de [u8],
-    parser: JsonParser<'de>,
-) -> Result<Percent, ReadFault>
-    ensures { IfOk result (λ p. PassesNumber parser.entry p.0) }
-{
-    let mut json = Json::new(alloc, parser);
-    Percent::deserialize(alloc, &mut Deserializer::new(input, &mut json))
+/// Such a part or such a range, as what comes is no list or is one.
+#[derive(Clone, Copy)]
+pub enum Figure {
+    /// A part of a hundred.
+    Percent(Percent),
+    /// A list of two numbers.
+    Range(Range),
 }
 
-/// The parser's next events are that list.
-pub fn read_range<'de>(
+impl<'de> Deserialize<'de> for Figure {
+    fn deserialize<F: Format>(
+        alloc: Global,
+        from: &mut Deserializer<'de, '_, F>,
+    ) -> Result<Figure, F::Error>
+        ensures { IfOk result (λ f. GivesFigure F.gives F.stays from.old f from.new) }
+    {
+        if let Kind::Seq = from.peek()? {
+            Ok(Figure::Range(Range::deserialize(alloc, from)?))
+        } else {
+            Ok(Figure::Percent(Percent::deserialize(alloc, from)?))
+        }
+    }
+}
+
+/// The parser's next events are that number, or that list.
+pub fn read_figure<'de>(
     alloc: Global,
     input: &'de [u8],
     parser: JsonParser<'de>,
-) -> Result<Range, ReadFault>
-    ensures { IfOk result (λ r. PassesPair parser.entry r.low r.high) }
+) -> Result<Figure, ReadFault>
+    ensures { IfOk result (λ f. PassesFigure parser.entry f) }
 {
     let mut json = Json::new(alloc, parser);
-    Range::deserialize(alloc, &mut Deserializer::new(input, &mut json))
+    Figure::deserialize(alloc, &mut Deserializer::new(input, &mut json))
 }

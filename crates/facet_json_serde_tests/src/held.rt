@@ -1,6 +1,6 @@
 //! A parser and a writer that the caller holds.
 
-use crate::by_hand::{read_percent, read_range};
+use crate::by_hand::{Figure, read_figure};
 use facet_json_serde::{Error, Json, JsonParser, JsonWriter, ReadFault, SerializeOptions};
 use serde::Serialize;
 use std::alloc::Global;
@@ -76,17 +76,17 @@ fn a_writer_gives_its_text(rt: HostRuntime) {
 
 /// The part of a hundred that the input has.
 fn percent(alloc: Global, input: &[u8]) -> Option<u64> {
-    match read_percent(alloc, input, JsonParser::new(alloc, input)) {
-        Ok(part) => Some(part.0),
-        Err(_) => None,
+    match read_figure(alloc, input, JsonParser::new(alloc, input)) {
+        Ok(Figure::Percent(part)) => Some(part.0),
+        _ => None,
     }
 }
 
 /// The two numbers that the input has, the lower one first.
 fn range(alloc: Global, input: &[u8]) -> Option<(u64, u64)> {
-    match read_range(alloc, input, JsonParser::new(alloc, input)) {
-        Ok(range) => Some((range.low, range.high)),
-        Err(_) => None,
+    match read_figure(alloc, input, JsonParser::new(alloc, input)) {
+        Ok(Figure::Range(range)) => Some((range.low, range.high)),
+        _ => None,
     }
 }
 
